@@ -1,6 +1,6 @@
 -- Each kind of step keeps the rule of the cell's table, from `opens`, where it is made, to `closes`, where it is closed.
-use Rattle.std.proofs.Common.{◌≡◌, ℕ, ◌<◌, ◌≤◌, ◌≢◌, ◌⊎◌, true, false, List, [], ◌∷◌, ◌++◌, length, get_or, set, refl, sym, ap, ◌∙◌, inl, inr, ⊎_elim, subst, arith}
-use Rattle.std.specs.Prelude.{Option, Some, None, ◌==◌, slice_index, slice_set}
+use Rattle.std.proofs.Common.{◌≡◌, ℕ, ◌<◌, ◌≤◌, ◌≢◌, ◌⊎◌, true, false, List, [], ◌∷◌, ◌++◌, get_or, set, refl, sym, ap, ◌∙◌, inl, inr, ⊎_elim, subst, arith}
+use Rattle.std.specs.Prelude.{Option, Some, ◌==◌, slice_index, slice_set}
 use mathlib.Core.Option.{some, none, some-injective}
 use mathlib.Core.Option as maybe
 use lib.ListN.{get_elem?}
@@ -10,7 +10,7 @@ use Rattle.atomic_table.proofs.Lists.{at_set, set_else, set_again, at_longer}
 use Rattle.turn_cell.specs.declared.known.Known.{Known}
 use Rattle.turn_cell.specs.declared.known.Owners.{Owners}
 use Rattle.turn_cell.specs.declared.known.Sight.{Sight}
-use Rattle.turn_cell.specs.Owners.{IsOwner, Adjoins, all_owners, lower_part, upper_part}
+use Rattle.turn_cell.specs.Owners.{IsOwner, Adjoins, lower_part, upper_part}
 use Rattle.turn_cell.specs.Logs.{Follows, Grows, starting, joined, nothing}
 use Rattle.turn_cell.specs.Hands.{hands}
 use Rattle.turn_cell.specs.Turns.{plain, AllApart, Agrees, Home, Out, Kept, took, gave, looked}

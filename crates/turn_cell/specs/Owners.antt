@@ -1,5 +1,5 @@
 -- Owner numbers. All of it is this project's own.
-use Rattle.std.specs.Prelude.{◌≡◌, ℕ, ◌<◌, ◌≤◌, Option, Some, None, IfSome}
+use Rattle.std.specs.Prelude.{◌≡◌, ℕ, ◌<◌, ◌≤◌, Some, None, IfSome}
 use Rattle.turn_cell.specs.declared.known.Owners.{Owners}
 
 -- n is one of the owner numbers

@@ -1,4 +1,4 @@
-use Rattle.std.proofs.Common.{rules, ap, sym, ◌∙◌}
+use Rattle.std.proofs.Common.{rules, ap, ◌∙◌}
 use Rattle.turn_cell.specs.Hands.{hands}
 use Rattle.turn_cell.proofs.Steps.{joins, looks}
 use Rattle.turn_cell.proofs.cell.TurnCell.join.Goals as goal
