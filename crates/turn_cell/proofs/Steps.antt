@@ -127,7 +127,7 @@ module _ {T E : Type 0} (log_of : T → List E) (owner : E → ℕ) (count_of : 
   -- the turn is given back: the new value's log begins with the log at the taking, and goes on with entries of the holder's range
 
   give_back : (n id : ℕ) (v : V) (y : T) → v.known.has_turn ≡ true → Grows owner v.known.owners v.known.log (log_of y) → v.known.count ≤ count_of y
-      → Allows K n id (v, (0, Some y) ∷ []) 0 (λ _. 0) (λ _. gave log_of count_of (step n 0 0 0 none) (v, (0, Some y) ∷ []) 0)
+      → Allows K n id (v, (0, Some y) ∷ []) 0 (λ _. 0) (λ _. gave log_of owner count_of (step n 0 0 0 none) (v, (0, Some y) ∷ []) 0)
   give_back n id v y on grows more s k long at small =
       let w : V = given v y in (
         w,
@@ -166,12 +166,12 @@ module _ {T E : Type 0} (log_of : T → List E) (owner : E → ℕ) (count_of : 
       )
 
   pub gives_back : (n id : ℕ) (me : Me S V) (v : V) (y : T) → me ≡ (v, (0, Some y) ∷ []) → v.known.has_turn ≡ true → Grows owner v.known.owners v.known.log (log_of y) → v.known.count ≤ count_of y
-      → Allows K n id me 0 (λ _. 0) (λ _. gave log_of count_of (step n 0 0 0 none) me 0)
-  gives_back n id me v y is on grows more = subst (λ (m : Me S V). Allows K n id m 0 (λ _. 0) (λ _. gave log_of count_of (step n 0 0 0 none) m 0)) (sym is) (give_back n id v y on grows more)
+      → Allows K n id me 0 (λ _. 0) (λ _. gave log_of owner count_of (step n 0 0 0 none) me 0)
+  gives_back n id me v y is on grows more = subst (λ (m : Me S V). Allows K n id m 0 (λ _. 0) (λ _. gave log_of owner count_of (step n 0 0 0 none) m 0)) (sym is) (give_back n id v y on grows more)
 
   -- a pass is told what the two passes knew of which it was joined
 
-  look : (n id : ℕ) (v : V) → Allows K n id (v, []) 0 (λ n. n) (looked owner (step n 0 0 0 none) (v, []))
+  look : (n id : ℕ) (v : V) → Allows K n id (v, []) 0 (λ n. n) (looked log_of owner count_of (step n 0 0 0 none) (v, []))
   look n id v s k long at small =
       let same : set s.views id v ≡ s.views = set_again s.views id v at in
       let words : set s.words 0 (get_or s.words 0 0) ≡ s.words = set_first s.words in (
@@ -182,8 +182,8 @@ module _ {T E : Type 0} (log_of : T → List E) (owner : E → ℕ) (count_of : 
         (refl, (k.agree id v at).joined),
       )
 
-  pub looks : (n id : ℕ) (me : Me S V) (v : V) (hs : List (ℕ × S)) → me ≡ (v, hs) → hs ≡ [] → Allows K n id me 0 (λ n. n) (looked owner (step n 0 0 0 none) me)
-  looks n id me v hs is empty = subst (λ (m : Me S V). Allows K n id m 0 (λ n. n) (looked owner (step n 0 0 0 none) m)) (sym (is ∙ ap (λ (l : List (ℕ × S)). (v, l)) empty)) (look n id v)
+  pub looks : (n id : ℕ) (me : Me S V) (v : V) (hs : List (ℕ × S)) → me ≡ (v, hs) → hs ≡ [] → Allows K n id me 0 (λ n. n) (looked log_of owner count_of (step n 0 0 0 none) me)
+  looks n id me v hs is empty = subst (λ (m : Me S V). Allows K n id m 0 (λ n. n) (looked log_of owner count_of (step n 0 0 0 none) m)) (sym (is ∙ ap (λ (l : List (ℕ × S)). (v, l)) empty)) (look n id v)
 
   -- the place does not depend on the views without the turn
   place_stays : (words : List ℕ) (homes : List (maybe.Option S)) (views views' : List V) (log : List E) (count : ℕ)

@@ -28,7 +28,12 @@ module _ {E : Type 0} where
 
   -- it has seen the longer log and the greater count, and has both ranges of owner numbers
   abbrev pub joined : Known E → Known E → Known E
-  joined a b = record { log = longer a.log b.log; count = max a.count b.count; owners = united a.owners b.owners; has_turn = false }
+  joined a b = record {
+    log = longer a.log b.log;
+    count = max a.count b.count;
+    owners = united a.owners b.owners;
+    has_turn = false;
+  }
 
   abbrev pub nothing : Known E
   nothing = record { log = []; count = 0; owners = no_owners; has_turn = false }

@@ -32,8 +32,8 @@ impl<T: Logged> TurnCell<T> {
     ghost use Rattle.turn_cell.specs.Logs.{Follows, Grows, starting, joined};
     ghost use Rattle.turn_cell.specs.Passes.{known, IsPassOf};
 
-    /// A cell with this value. The pass has seen the value's log and count, and it has all owner numbers. Where there is
-    /// no memory, the value comes back.
+    /// A cell with this value. The pass has seen the value's log and count, and it has all owner numbers. Where there
+    /// is no memory, the value comes back.
     pub fn new(alloc: Global, value: T) -> Result<(TurnCell<T>, Pass<T>), (T, AllocError)>
         ensures cell { IfOk result (λ made. IsPassOf made.0 made.1) }
         ensures pass { IfOk result (λ made. known made.1 ≡ starting (T.log value) (T.count value)) }
@@ -50,6 +50,7 @@ impl<T: Logged> TurnCell<T> {
         }
     }
 
+    // What cuts a view in two is a type and sees no argument, so `C` has the place of the cut as a ghost member.
     fn split_at<C: Cut>(&self, pass: &mut Pass<T>, at: u32) -> Pass<T>
         requires here { at ≡ C.at }
         requires cell { IsPassOf self.now pass.old }

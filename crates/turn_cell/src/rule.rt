@@ -29,14 +29,14 @@ impl<T: Logged> Play<Option<T>, Sight<T::Entry>> for Take {
 pub struct Give;
 
 impl<T: Logged> Play<Option<T>, Sight<T::Entry>> for Give {
-    ghost then = { gave T.log T.count };
+    ghost then = { gave T.log T.owner T.count };
 }
 
 /// What two passes knew, after they were joined.
 pub struct Look;
 
 impl<T: Logged> Play<Option<T>, Sight<T::Entry>> for Look {
-    ghost then = { looked T.owner };
+    ghost then = { looked T.log T.owner T.count };
 }
 
 /// Where a range of owner numbers is cut. Each call of `split` picks it.
