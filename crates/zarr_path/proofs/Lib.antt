@@ -1,2 +1,6 @@
 pub mod FaultLaws
+pub mod FolderTests
+pub mod OrderLaws
 pub mod PartLaws
+pub mod PathLaws
+pub mod SpellLaws

@@ -1,7 +1,36 @@
 //! Paths of Zarr nodes, indices of chunks, and the keys under which a Zarr store keeps them.
 #![tactic(auto)]
 
+mod indices;
 mod parts;
 mod paths;
 
+ghost use Rattle.zarr_path.specs.Laws.{WithinReflexive, WithinTransitive, ParentLaw, BeneathLaw, OrderLaw};
+
+pub use indices::Index;
 pub use paths::{Path, PathFault};
+
+/// A path is within itself.
+pub fn within_reflexive()
+    ensures { WithinReflexive }
+{}
+
+/// What is within a path that is within another is within that.
+pub fn within_transitive()
+    ensures { WithinTransitive }
+{}
+
+/// A path is within its parent, which is a path.
+pub fn parent_law()
+    ensures { ParentLaw }
+{}
+
+/// A path is beneath another exactly where it isn't `/` and its parent is within the other; the parent is shorter.
+pub fn beneath_law()
+    ensures { BeneathLaw }
+{}
+
+/// The order of paths by bytes is total, and ties only what is the same.
+pub fn order_law()
+    ensures { OrderLaw }
+{}

@@ -3,7 +3,7 @@
 ghost use Rattle.std.specs.Prelude.{◌≡◌, ℕ, ◌+◌, ◌^◌, ◌<◌, List, Option, length, MatchOption, option_map};
 ghost use Rattle.std.specs.Prelude.{◌==◌, nat_eq, codes, IfOk, ◌↔◌};
 ghost use Rattle.std.specs.List.{list_all, starts_with};
-ghost use Rattle.zarr_path.specs.Paths.{is_name, first_bad, parts_of, path_fault, parent_of, folder};
+ghost use Rattle.zarr_path.specs.Paths.{is_name, first_bad, parts_of, path_fault, parent_of, folder, is_within, same_path};
 
 use crate::parts::{cut_first, cut_last};
 use std::alloc::{AllocError, Global};
@@ -175,16 +175,28 @@ impl Path {
     pub fn is_within(&self, of: &Path) -> bool
         ensures { result ≡ is_within of.now self.now }
     {
-        self.text.as_str() == of.text.as_str()
-            || begins_with_folder(of.as_str().as_bytes(), self.as_str().as_bytes())
+        stands_within(of.as_str().as_bytes(), self.as_str().as_bytes())
     }
 
     /// Whether this path is beneath another one, and not that one itself.
     pub fn is_beneath(&self, of: &Path) -> bool
         ensures { result ≡ is_beneath of.now self.now }
     {
-        self.is_within(of) && self.as_str() != of.as_str()
+        self.is_within(of) && !same_text(self.as_str(), of.as_str())
     }
+}
+
+fn same_text(path: &str, other: &str) -> bool
+    ensures { result ≡ same_path path.now other.now }
+{
+    path == other
+}
+
+/// Whether a path is another one, or beneath it.
+fn stands_within(of: &[u8], path: &[u8]) -> bool
+    ensures { result ≡ is_within of.now path.now }
+{
+    path == of || begins_with_folder(of, path)
 }
 
 /// The text before the last slash, or `/`.
