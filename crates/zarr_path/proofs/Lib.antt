@@ -1,5 +1,6 @@
 pub mod FaultLaws
 pub mod FolderTests
+pub mod IndexLaws
 pub mod OrderLaws
 pub mod PartLaws
 pub mod PathLaws

@@ -1,6 +1,7 @@
 //! Indices of chunks.
 
-ghost use Rattle.std.specs.Prelude.{◌≡◌, IfOk};
+ghost use Rattle.std.specs.Prelude.{◌≡◌, IfOk, IsTrue};
+ghost use Rattle.zarr_path.specs.Indices.{is_index};
 
 use std::alloc::{AllocError, Global};
 use std::cmp::Ordering;
@@ -24,13 +25,11 @@ impl Model for Index {
 }
 
 impl Index {
-    ghost use Rattle.std.specs.Prelude.{IsTrue};
-    ghost use Rattle.zarr_path.specs.Indices.{is_index};
-
     /// The index of these numbers, one for each dimension. It takes no memory.
     pub fn from_parts(numbers: Vec<u32>) -> Index
         ensures { result ≡ numbers.items }
     {
+        numbers_fit(numbers.as_slice());
         Index { numbers }
     }
 
@@ -58,6 +57,11 @@ impl Index {
         })
     }
 }
+
+/// Numbers of 32 bits are those of an index; this is said for contracts alone.
+fn numbers_fit(numbers: &[u32])
+    ensures { IsTrue (is_index numbers.now) }
+{}
 
 impl PartialEq for Index {
     ghost use Rattle.std.specs.Prelude.{nat_eq};
