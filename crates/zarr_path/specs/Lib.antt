@@ -1,3 +1,4 @@
 pub mod Indices
+pub mod Keys
 pub mod Laws
 pub mod Paths

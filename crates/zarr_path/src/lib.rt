@@ -2,12 +2,14 @@
 #![tactic(auto)]
 
 mod indices;
+mod keys;
 mod parts;
 mod paths;
 
 ghost use Rattle.zarr_path.specs.Laws.{WithinReflexive, WithinTransitive, ParentLaw, BeneathLaw, OrderLaw};
 
 pub use indices::Index;
+pub use keys::{KeyFault, ZarrKey, chunk_key, meta_key, read_key};
 pub use paths::{Path, PathFault};
 
 /// A path is within itself.

@@ -1,7 +1,8 @@
 //! Paths of nodes.
 
 ghost use Rattle.std.specs.Prelude.{◌≡◌, ℕ, ◌+◌, ◌^◌, ◌<◌, List, Option, length, MatchOption, option_map};
-ghost use Rattle.std.specs.Prelude.{◌==◌, nat_eq, codes, IfOk, ◌↔◌};
+ghost use Rattle.std.specs.Prelude.{◌==◌, nat_eq, codes, IfOk, ◌↔◌, MatchResult, ◌∷◌, ◌≢◌};
+ghost use Rattle.std.specs.String.{string_bytes};
 ghost use Rattle.std.specs.List.{list_all, starts_with};
 ghost use Rattle.zarr_path.specs.Paths.{is_name, first_bad, parts_of, path_fault, parent_of, folder, is_within, same_path};
 
@@ -127,6 +128,23 @@ impl Path {
         }
     }
 
+    /// Reads a text as a path, and keeps it. It takes no memory.
+    pub fn from_string(text: String) -> Result<Path, PathFault>
+        ensures { MatchResult result (λ p. (p ≡ string_bytes text) × IsTrue (is_path p)) (λ fault. path_fault (string_bytes text) ≡ Some fault) }
+    {
+        match fault_of(text.as_str()) {
+            Some(fault) => Err(fault),
+            None => Ok(Path { text }),
+        }
+    }
+
+    /// The text, given back without memory.
+    pub fn into_string(self) -> String
+        ensures { string_bytes result ≡ self }
+    {
+        self.text
+    }
+
     /// The text of the path.
     pub fn as_str(&self) -> &str
         ensures value { result.now ≡ self.now }
@@ -151,6 +169,17 @@ impl Path {
         Ok(Path {
             text: String::from_str(alloc, self.as_str())?,
         })
+    }
+
+    /// The names, joined by slashes, and None of `/`.
+    pub fn names(&self) -> Option<&str>
+        ensures { MatchOption result (self.now ≡ root) (λ names. (self.now ≢ root) × (self.now ≡ 47 ∷ names.now)) }
+    {
+        if self.is_root() {
+            None
+        } else {
+            self.as_str().strip_prefix('/')
+        }
     }
 
     /// Whether this is `/`.
