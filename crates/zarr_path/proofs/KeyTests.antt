@@ -16,6 +16,7 @@ use Rattle.std.specs.Str.Pattern.{FindsCharPrefix}
 use Rattle.std.proofs.lemmas.Str.Pattern.{strip_prefix_char}
 use Rattle.zarr_path.proofs.OrderLaws.{same_path-false}
 use Rattle.zarr_path.proofs.SpellLaws.{path_parts}
+use Rattle.zarr_path.proofs.PartLaws.{NoSlash, no_slash}
 use denote.Ref.{Bor}
 
 -- ---- fronts
@@ -93,7 +94,7 @@ pub number_of-none : (part : List ℕ) → ((n : ℕ) → n < 2 ^ 32 → decimal
 number_of-none part h = none_or (number_of part) (λ n e. let found = number_of-some n part e in h n found.0 found.1)
 
 -- the first byte of a number
-first_digit : (n : ℕ) → n < 2 ^ 32 → (48 ≤ get_or (decimal n) 0 0) × (get_or (decimal n) 0 0 ≤ 57)
+pub first_digit : (n : ℕ) → n < 2 ^ 32 → (48 ≤ get_or (decimal n) 0 0) × (get_or (decimal n) 0 0 ≤ 57)
 first_digit n l = digit_at (decimal n) 0 (digits_decimal own n (small n l)) (decimal_nonempty n (small n l))
 
 -- no needless zero
@@ -132,3 +133,6 @@ parsed part (Err e) plain h =
 pub number_of-parsed : {E : Type 0} (part : List ℕ) (r : Result ℕ E) → ((get_or part 0 0 ≡ 43) ⊎ ((get_or part 0 0 ≡ 48) × (1 < length part)) → ⊥)
     → ParsesUnsigned 32 10 part r → result_ok r ≡ number_of part
 number_of-parsed part r plain h = parsed part r (λ z l. plain (inr (z, l))) (parse_plain own 32 part r h (λ plus. plain (inl plus)))
+
+pub decimal-no_slash : (n : ℕ) → n < 2 ^ 32 → NoSlash (decimal n)
+decimal-no_slash n l = no_slash (decimal n) (λ i h e. let d = digit_at (decimal n) i (digits_decimal own n (small n l)) h in omega (arith, d.0, e))

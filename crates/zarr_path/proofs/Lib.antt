@@ -1,8 +1,10 @@
 pub mod FaultLaws
 pub mod FolderTests
 pub mod IndexLaws
+pub mod KeyLaws
 pub mod KeyTests
 pub mod OrderLaws
 pub mod PartLaws
 pub mod PathLaws
+pub mod ReadLaws
 pub mod SpellLaws

@@ -1,4 +1,5 @@
 pub mod Indices
+pub mod KeyLaw
 pub mod Keys
 pub mod Laws
 pub mod Paths

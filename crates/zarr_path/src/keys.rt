@@ -167,7 +167,8 @@ fn read_chunk(alloc: Global, key: &str) -> Result<ZarrKey, KeyFault>
         (before, part) = last_part(rest);
     }
     numbers.reverse();
-    Ok(ZarrKey::Chunk(path_before(alloc, before)?, Index::from_parts(numbers)))
+    let path = path_before(alloc, before)?;
+    Ok(ZarrKey::Chunk(path, Index::from_parts(numbers)))
 }
 
 /// What a key of a store names.
@@ -177,7 +178,8 @@ pub fn read_key(alloc: Global, key: &str) -> Result<ZarrKey, KeyFault>
 {
     let (before, part) = last_part(key);
     if part == "zarr.json" {
-        return Ok(ZarrKey::Meta(path_before(alloc, before)?));
+        let path = path_before(alloc, before)?;
+        return Ok(ZarrKey::Meta(path));
     }
     read_chunk(alloc, key)
 }

@@ -36,3 +36,20 @@ pub fn beneath_law()
 pub fn order_law()
     ensures { OrderLaw }
 {}
+
+ghost use Rattle.zarr_path.specs.KeyLaw.{KeyLaw, RoundTripLaw, OneKeyLaw};
+
+/// The function that tells whose key a text is tells exactly that.
+pub fn key_law()
+    ensures { KeyLaw }
+{}
+
+/// Reading the key of a path, or of a path and an index, gives them back.
+pub fn round_trip_law()
+    ensures { RoundTripLaw }
+{}
+
+/// What has one key is the same.
+pub fn one_key_law()
+    ensures { OneKeyLaw }
+{}
