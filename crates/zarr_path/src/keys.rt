@@ -7,11 +7,13 @@ ghost use Rattle.zarr_path.specs.Keys.{meta_key, chunk_key, key_front, SaysWhose
 
 use crate::indices::Index;
 use crate::parts::cut_last;
-use crate::paths::{Path, PathFault};
+use crate::paths::Path;
 use std::alloc::{AllocError, AllocFailed, Global};
+use std::error::Error;
+use std::fmt;
 
 /// What a key of a store names.
-#[derive(Debug, Drop)]
+#[derive(Debug, Drop, PartialEq, Eq)]
 pub enum ZarrKey {
     /// The metadata of the node at a path.
     Meta(Path),
@@ -27,6 +29,17 @@ pub enum KeyFault {
     /// Memory ran out.
     NoMemory,
 }
+
+impl fmt::Display for KeyFault {
+    fn fmt<W: fmt::Write>(&self, f: &mut fmt::Formatter<W>) -> fmt::Result {
+        match self {
+            KeyFault::NotAKey => write!(f, "not a key of metadata or of a chunk"),
+            KeyFault::NoMemory => write!(f, "out of memory"),
+        }
+    }
+}
+
+impl Error for KeyFault {}
 
 impl From<AllocError> for KeyFault {
     ghost use Rattle.std.specs.Prelude.{◌≡◌};

@@ -5,12 +5,14 @@ mod indices;
 mod keys;
 mod parts;
 mod paths;
+#[cfg(test)]
+mod tests;
 
 ghost use Rattle.zarr_path.specs.Laws.{WithinReflexive, WithinTransitive, ParentLaw, BeneathLaw, OrderLaw};
 
 pub use indices::Index;
 pub use keys::{KeyFault, ZarrKey, chunk_key, meta_key, read_key};
-pub use paths::{Path, PathFault};
+pub use paths::{MOST_PATH_BYTES, Path, PathFault, is_within, parent_text, path_fault};
 
 /// A path is within itself.
 pub fn within_reflexive()

@@ -9,6 +9,7 @@ ghost use Rattle.zarr_path.specs.Paths.{is_name, first_bad, parts_of, path_fault
 use crate::parts::{cut_first, cut_last};
 use std::alloc::{AllocError, Global};
 use std::cmp::Ordering;
+use std::error::Error;
 use std::fmt;
 use std::marker::Model;
 
@@ -27,6 +28,19 @@ pub enum PathFault {
     /// Memory ran out.
     NoMemory,
 }
+
+impl fmt::Display for PathFault {
+    fn fmt<W: fmt::Write>(&self, f: &mut fmt::Formatter<W>) -> fmt::Result {
+        match self {
+            PathFault::Long(bytes) => write!(f, "a path of {bytes} bytes is too long"),
+            PathFault::Relative => write!(f, "a path begins with a slash"),
+            PathFault::Name(at) => write!(f, "no name at byte {at} of a path"),
+            PathFault::NoMemory => write!(f, "out of memory"),
+        }
+    }
+}
+
+impl Error for PathFault {}
 
 impl From<AllocError> for PathFault {
     ghost use Rattle.std.specs.Prelude.{◌≡◌};
@@ -76,9 +90,9 @@ fn bad_name(names: &str) -> Option<usize>
     if is_name(rest) { None } else { Some(at) }
 }
 
-/// Why a text is no path.
+/// Why a text is no path, and None where it is one. It takes no memory.
 #[tactic(auto, unfolding(crate::specs::Paths::path_fault, crate::specs::Paths::names_of))]
-fn fault_of(text: &str) -> Option<PathFault>
+pub fn path_fault(text: &str) -> Option<PathFault>
     ensures { result ≡ path_fault text.now }
 {
     if text.len() > MOST_PATH_BYTES {
@@ -120,7 +134,7 @@ impl Path {
     pub fn read(alloc: Global, text: &str) -> Result<Path, PathFault>
         ensures { ReadsPath text.now result }
     {
-        match fault_of(text) {
+        match path_fault(text) {
             Some(fault) => Err(fault),
             None => Ok(Path {
                 text: String::from_str(alloc, text)?,
@@ -132,7 +146,7 @@ impl Path {
     pub fn from_string(text: String) -> Result<Path, PathFault>
         ensures { MatchResult result (λ p. (p ≡ string_bytes text) × IsTrue (is_path p)) (λ fault. path_fault (string_bytes text) ≡ Some fault) }
     {
-        match fault_of(text.as_str()) {
+        match path_fault(text.as_str()) {
             Some(fault) => Err(fault),
             None => Ok(Path { text }),
         }
@@ -204,7 +218,7 @@ impl Path {
     pub fn is_within(&self, of: &Path) -> bool
         ensures { result ≡ is_within of.now self.now }
     {
-        stands_within(of.as_str().as_bytes(), self.as_str().as_bytes())
+        is_within(of.as_str(), self.as_str())
     }
 
     /// Whether this path is beneath another one, and not that one itself.
@@ -221,16 +235,22 @@ fn same_text(path: &str, other: &str) -> bool
     path == other
 }
 
-/// Whether a path is another one, or beneath it.
+/// Whether the text of a path is that of another one, or of one beneath it. It takes no memory.
+pub fn is_within(of: &str, path: &str) -> bool
+    ensures { result ≡ is_within of.now path.now }
+{
+    stands_within(of.as_bytes(), path.as_bytes())
+}
+
 fn stands_within(of: &[u8], path: &[u8]) -> bool
     ensures { result ≡ is_within of.now path.now }
 {
     path == of || begins_with_folder(of, path)
 }
 
-/// The text before the last slash, or `/`.
+/// The text of a path's parent, and `/` of `/`. It takes no memory.
 #[tactic(auto, unfolding(crate::specs::Paths::parent_of))]
-fn parent_text(text: &str) -> &str
+pub fn parent_text(text: &str) -> &str
     ensures { result.now ≡ parent_of text.now }
 {
     match cut_last(text) {
