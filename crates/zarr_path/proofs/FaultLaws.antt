@@ -8,7 +8,7 @@ use lib.Utf8.{encode}
 use Rattle.zarr_path.specs.declared.paths.PathFault.TheVariants as f
 use Rattle.zarr_path.specs.Paths.{most_bytes, root, path_fault}
 
-no_first : (text : List ℕ) → ((rest : List ℕ) → text ≢ 47 ∷ rest) → starts_with nat_eq text root ≡ false
+pub no_first : (text : List ℕ) → ((rest : List ℕ) → text ≢ 47 ∷ rest) → starts_with nat_eq text root ≡ false
 no_first [] h = refl
 no_first (b ∷ bs) h = by_test (eqb 47 b) refl
   where

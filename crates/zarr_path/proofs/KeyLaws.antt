@@ -13,36 +13,16 @@ use Rattle.zarr_path.specs.declared.keys.KeyFault.{KeyFault}
 use Rattle.zarr_path.specs.declared.keys.KeyFault.TheVariants as f
 use Rattle.zarr_path.specs.declared.keys.ZarrKey.{ZarrKey}
 use Rattle.zarr_path.specs.declared.keys.ZarrKey.TheVariants as k
-use Rattle.zarr_path.specs.Paths.{root, is_path, same_path, folder, parts_of, names_of}
+use Rattle.zarr_path.specs.Paths.{root, is_path, same_path, folder, parts_of, names_of, joined}
 use Rattle.zarr_path.specs.Indices.{is_index}
-use Rattle.zarr_path.specs.Keys.{joined, key_front, meta_key, chunk_key, number_of, path_spelled, parts_back, chunk_at, key_at, key_of, before_back, path_before, IsKeyOf, ReadsKey, SaysWhose}
+use Rattle.zarr_path.specs.Keys.{key_front, meta_key, chunk_key, number_of, path_spelled, parts_back, chunk_at, key_at, key_of, before_back, path_before, IsKeyOf, ReadsKey, SaysWhose}
 use Rattle.zarr_path.specs.KeyLaw.{KeyLaw, Gives, RoundTripLaw, OneKeyLaw}
 use Rattle.zarr_path.proofs.IndexLaws.{index-nil, index-cons, index_parts}
 use Rattle.zarr_path.proofs.OrderLaws.{same_path-false, same_path-refl, same_path-true}
-use Rattle.zarr_path.proofs.PartLaws.{NoSlash, parts_alone, parts_first, parts-append}
-use Rattle.zarr_path.proofs.SpellLaws.{path_parts, IsSpelled, names_of-root, names_of-cons, root-path}
+use Rattle.zarr_path.proofs.PartLaws.{NoSlash, parts-append}
+use Rattle.zarr_path.proofs.JoinLaws.{joined-parts, AllNoSlash, parts-joined}
+use Rattle.zarr_path.proofs.SpellLaws.{path_parts, Spelling, names_of-root, names_of-cons, root-path}
 use Rattle.zarr_path.proofs.KeyTests.{front-root, front-inner, spelled, number_of-decimal, number_of-some, first_digit, decimal-no_slash}
-
--- ---- parts and the text that they are joined to
-joined-onto : (b : ℕ) (parts : List (List ℕ)) (text : List ℕ) → joined parts ≡ 47 ∷ text → joined (onto_first b parts) ≡ 47 ∷ b ∷ text
-joined-onto b [] text h = cc
-joined-onto b (part ∷ parts) text h = ap (λ x. 47 ∷ b ∷ drop 1 x) h
-
-pub joined-parts : (text : List ℕ) → joined (parts_of text) ≡ 47 ∷ text
-joined-parts [] = refl
-joined-parts (b ∷ bs) = by_test (eqb b 47) refl (joined-parts bs)
-  where
-    by_test : (t : Bool) → eqb b 47 ≡ t → joined (parts_of bs) ≡ 47 ∷ bs → joined (cond t ([] ∷ parts_of bs) (onto_first b (parts_of bs))) ≡ 47 ∷ b ∷ bs
-    by_test true e h = ap (λ x. 47 ∷ x) h ∙ ap (λ x. 47 ∷ x ∷ bs) (sym (eqb-true b 47 e))
-    by_test false e h = joined-onto b (parts_of bs) bs h
-
-abbrev pub AllNoSlash : List (List ℕ) → Type 0
-AllNoSlash [] = Unit {0}
-AllNoSlash (name ∷ names) = NoSlash name × AllNoSlash names
-
-pub parts-joined : (x : List ℕ) (names : List (List ℕ)) → NoSlash x → AllNoSlash names → parts_of (x ++ joined names) ≡ x ∷ names
-parts-joined x [] h all = ap parts_of (append-nil x) ∙ parts_alone x h
-parts-joined x (name ∷ names) h all = parts_first x (name ++ joined names) h ∙ ap (λ y. x ∷ y) (parts-joined name names all.0 all.1)
 
 -- ---- the path in front
 path_case : (P : List ℕ → Type 0) (p : List ℕ) → is_path p ≡ true → P root → ((b : ℕ) (bs : List ℕ) → is_path (47 ∷ b ∷ bs) ≡ true → P (47 ∷ b ∷ bs)) → P p

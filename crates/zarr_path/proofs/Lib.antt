@@ -1,6 +1,8 @@
 pub mod FaultLaws
 pub mod FolderTests
+pub mod GrammarLaws
 pub mod IndexLaws
+pub mod JoinLaws
 pub mod KeyLaws
 pub mod KeyTests
 pub mod OrderLaws

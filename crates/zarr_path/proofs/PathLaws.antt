@@ -8,7 +8,7 @@ use Rattle.std.proofs.lemmas.Bool.{eqb-true, eq-eqb, and_parts, and_from, not-tr
 use Rattle.zarr_path.specs.Paths.{is_name, parts_of, names_of, is_path, same_path, root, folder, is_within, is_beneath, before_slash, before_slash_after, or_root, parent_of}
 use Rattle.zarr_path.proofs.OrderLaws.{same_path-true, same_path-refl, same_path-false}
 use Rattle.zarr_path.proofs.PartLaws.{parts-append}
-use Rattle.zarr_path.proofs.SpellLaws.{IsSpelled, path_parts, path_made, root-path, names_of-root, names_of-cons, list_all-append}
+use Rattle.zarr_path.proofs.SpellLaws.{Spelling, path_parts, path_made, root-path, names_of-root, names_of-cons, list_all-append}
 use Rattle.zarr_path.specs.Laws.{IsBeneath, BeneathLaw, ParentLaw}
 
 pub by_numbers : (a b : ℕ) → Decides (eqb a b) (a ≡ b)
@@ -157,7 +157,7 @@ unfolding tail
 parent-path p h = let spelled = path_parts p h in
     by_case spelled (before_slash spelled.rest) refl (ap parent_of spelled.slash ∙ parent_of-head spelled.rest)
   where
-    by_case : (spelled : IsSpelled p) (o : Option (List ℕ)) → before_slash spelled.rest ≡ o
+    by_case : (spelled : Spelling p) (o : Option (List ℕ)) → before_slash spelled.rest ≡ o
         → parent_of p ≡ 47 ∷ drop 1 (tail (before_slash spelled.rest)) → is_path (parent_of p) ≡ true
     by_case spelled None f up = ap is_path (up ∙ ap (λ o. 47 ∷ drop 1 (tail o)) f) ∙ root-path
     by_case spelled (Some s) f up =

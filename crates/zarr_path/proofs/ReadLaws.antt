@@ -7,9 +7,9 @@ use Rattle.zarr_path.specs.declared.keys.KeyFault.{KeyFault}
 use Rattle.zarr_path.specs.declared.keys.KeyFault.TheVariants as f
 use Rattle.zarr_path.specs.declared.keys.ZarrKey.{ZarrKey}
 use Rattle.zarr_path.specs.declared.keys.ZarrKey.TheVariants as k
-use Rattle.zarr_path.specs.Paths.{root, parts_of}
-use Rattle.zarr_path.specs.Keys.{joined, number_of, path_spelled, parts_back, chunk_at, key_at, key_of, before_back, path_before, ReadsBefore, ReadsChunk, ReadsKey}
-use Rattle.zarr_path.proofs.KeyLaws.{joined-parts}
+use Rattle.zarr_path.specs.Paths.{root, parts_of, joined}
+use Rattle.zarr_path.specs.Keys.{number_of, path_spelled, parts_back, chunk_at, key_at, key_of, before_back, path_before, ReadsBefore, ReadsChunk, ReadsKey}
+use Rattle.zarr_path.proofs.JoinLaws.{joined-parts}
 
 before_path : (before : Option (List ℕ)) → path_spelled (joined (reverse (before_back before))) ≡ path_before before
 unfolding path_spelled

@@ -9,7 +9,7 @@ use Rattle.zarr_path.specs.Paths.{most_bytes, root, is_name, parts_of, names_of,
 use Rattle.zarr_path.proofs.PartLaws.{parts-append}
 
 -- a text that begins with a slash, isn't too long, and has names alone
-pub record IsSpelled (p : List ℕ) : Type 0 where
+pub record Spelling (p : List ℕ) : Type 0 where
   pub short : length p ≤ 1024
   pub rest : List ℕ
   pub slash : p ≡ 47 ∷ rest
@@ -29,7 +29,7 @@ none_bad at (name ∷ names) h =
     let both = and_parts (is_name name) (list_all is_name names) h in
     ap (λ t. cond t (first_bad (at + length name + 1) names) (Some at)) both.0 ∙ none_bad (at + length name + 1) names both.1
 
-rooted : (p : List ℕ) → starts_with nat_eq p root ≡ true → (rest : List ℕ) × (p ≡ 47 ∷ rest)
+pub rooted : (p : List ℕ) → starts_with nat_eq p root ≡ true → (rest : List ℕ) × (p ≡ 47 ∷ rest)
 rooted [] h = cc
 rooted (b ∷ bs) h = (bs, ap (λ x. x ∷ bs) (sym (eqb-true 47 b (and_parts (eqb 47 b) true h).0)))
 
@@ -41,14 +41,14 @@ chain false false n o h = cc
 chain false true n (Some at) h = cc
 chain false true n None h = (refl, refl, refl)
 
-pub path_parts : (p : List ℕ) → is_path p ≡ true → IsSpelled p
+pub path_parts : (p : List ℕ) → is_path p ≡ true → Spelling p
 unfolding path_fault
 path_parts p h =
     let all = chain (ltb most_bytes (length p)) (starts_with nat_eq p root) (length p) (first_bad 1 (names_of p)) h in
     let front = rooted p all.1 in
     record { short = ltb-false 1024 (length p) all.0; rest = front.0; slash = front.1; named = all_names 1 (names_of p) all.2 }
 
-pub path_made : (p : List ℕ) → IsSpelled p → is_path p ≡ true
+pub path_made : (p : List ℕ) → Spelling p → is_path p ≡ true
 unfolding path_fault
 path_made p s =
     let short : ltb most_bytes (length p) ≡ false = le-ltb 1024 (length p) s.short in

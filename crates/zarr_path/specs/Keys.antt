@@ -1,19 +1,14 @@
 -- The keys under which a Zarr store keeps the metadata and the chunks of a node.
 use Rattle.std.specs.Prelude.{◌≡◌, ℕ, ◌^◌, Bool, not, ◌&&◌, nat_lt, if◌then◌else◌, List, [], ◌∷◌, ◌++◌, drop, map, reverse, Option, Some, None, option_map, option_and_then, Result, Ok, Err, IsTrue, codes}
 use Rattle.std.specs.Fmt.{decimal}
-use Rattle.std.specs.List.{flat_map}
 use Rattle.std.specs.Str.{bytes_eq}
 use Rattle.std.specs.Str.Parse.{digits_value}
 use Rattle.zarr_path.specs.declared.keys.KeyFault.{KeyFault}
 use Rattle.zarr_path.specs.declared.keys.KeyFault.TheVariants as f
 use Rattle.zarr_path.specs.declared.keys.ZarrKey.{ZarrKey}
 use Rattle.zarr_path.specs.declared.keys.ZarrKey.TheVariants as k
-use Rattle.zarr_path.specs.Paths.{root, same_path, folder, is_path, parts_of}
+use Rattle.zarr_path.specs.Paths.{root, same_path, folder, is_path, parts_of, joined}
 use Rattle.zarr_path.specs.Indices.{is_index}
-
--- these parts, each behind a slash
-abbrev pub joined : List (List ℕ) → List ℕ
-joined parts = flat_map (λ part. 47 ∷ part) parts
 
 -- Zarr v3 core specification, "Stores": what a node's keys begin with, the path without its first slash, and a slash where names stand
 abbrev pub key_front : List ℕ → List ℕ

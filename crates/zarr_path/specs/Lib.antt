@@ -1,3 +1,4 @@
+pub mod Grammar
 pub mod Indices
 pub mod KeyLaw
 pub mod Keys

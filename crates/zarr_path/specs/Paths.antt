@@ -3,7 +3,7 @@ use Rattle.std.specs.Prelude.{◌≡◌, ℕ, ◌+◌, Bool, false, not, ◌&&�
 use Rattle.std.specs.declared.cmp.Ordering.{Ordering}
 use Rattle.std.specs.Ordering.{nat_cmp, eq_by_cmp}
 use Rattle.std.specs.Cmp.Lexicographic.{slice_cmp}
-use Rattle.std.specs.List.{starts_with, list_all, slice_split}
+use Rattle.std.specs.List.{starts_with, list_all, slice_split, flat_map}
 use Rattle.zarr_path.specs.declared.paths.PathFault.{PathFault}
 use Rattle.zarr_path.specs.declared.paths.PathFault.TheVariants as f
 
@@ -23,7 +23,11 @@ is_name name = not (length name == 0) && not (list_all (λ b. b == 46) name) && 
 abbrev pub parts_of : List ℕ → List (List ℕ)
 parts_of text = slice_split (λ b. b == 47) text
 
--- whether two paths are the same, by the order of paths
+-- these parts, each behind a slash
+abbrev pub joined : List (List ℕ) → List ℕ
+joined parts = flat_map (λ part. 47 ∷ part) parts
+
+-- the order of paths by their bytes, and whether it ties two
 abbrev pub path_cmp : List ℕ → List ℕ → Ordering
 path_cmp = slice_cmp nat_cmp
 

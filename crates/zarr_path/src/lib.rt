@@ -55,3 +55,10 @@ pub fn round_trip_law()
 pub fn one_key_law()
     ensures { OneKeyLaw }
 {}
+
+ghost use Rattle.zarr_path.specs.Grammar.{GrammarLaw};
+
+/// The tests of paths, and the faults of texts, are those of the grammar.
+pub fn grammar_law()
+    ensures { GrammarLaw }
+{}

@@ -2,7 +2,8 @@ use Rattle.std.proofs.Common.{◌≡◌, ◌++◌, drop, map}
 use Rattle.std.specs.Prelude.{codes}
 use Rattle.std.specs.Fmt.{decimal}
 use Rattle.std.specs.String.{string_bytes}
-use Rattle.zarr_path.specs.Keys.{key_front, joined}
+use Rattle.zarr_path.specs.Keys.{key_front}
+use Rattle.zarr_path.specs.Paths.{joined}
 use Rattle.zarr_path.proofs.keys.chunk_key.Given as goal
 
 abbrev pub invariant-loop-number : goal.invariant-loop-number
