@@ -13,7 +13,7 @@ use std::error::Error;
 use std::fmt;
 use std::marker::Model;
 
-/// How many bytes a path may have.
+/// How many bytes a path may have at most.
 pub const MOST_PATH_BYTES: usize = 1024;
 
 /// Why a text is no path, the first that holds in this order.
@@ -127,12 +127,15 @@ impl Model for Path {
 }
 
 impl Path {
+    ghost use Rattle.zarr_path.specs.Grammar.{ReadsSpelled};
     ghost use Rattle.zarr_path.specs.Paths.{ReadsPath, is_path, root, parent, is_within, is_beneath};
     ghost use Rattle.std.specs.Prelude.{IsTrue};
 
-    /// Reads a text as a path.
+    /// Reads a text as a path (Zarr v3 core specification, "Node names"): `/`, or `/` and names joined by `/`, of at most
+    /// [`MOST_PATH_BYTES`] bytes. A name isn't empty, isn't made of periods alone and doesn't begin with `__`.
     pub fn read(alloc: Global, text: &str) -> Result<Path, PathFault>
-        ensures { ReadsPath text.now result }
+        ensures value { ReadsPath text.now result }
+        ensures spelled { ReadsSpelled text.now result }
     {
         match path_fault(text) {
             Some(fault) => Err(fault),
