@@ -6,6 +6,7 @@ pub mod JoinLaws
 pub mod KeyLaws
 pub mod KeyTests
 pub mod OrderLaws
+pub mod ParentNames
 pub mod PartLaws
 pub mod PathLaws
 pub mod ReadLaws

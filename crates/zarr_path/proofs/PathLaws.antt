@@ -121,7 +121,7 @@ within_of p q r e = by_case (under_of p q r e)
     by_case (inr f) = ap (λ x. is_within x q) f ∙ in_root q (47 ∷ r) (e ∙ ap (λ x. x ++ 47 ∷ r) f)
 
 -- the parent of a path below `/`
-parent_of-head : (r : List ℕ) → parent_of (47 ∷ r) ≡ 47 ∷ drop 1 (tail (before_slash r))
+pub parent_of-head : (r : List ℕ) → parent_of (47 ∷ r) ≡ 47 ∷ drop 1 (tail (before_slash r))
 unfolding parent_of tail
 parent_of-head r = ap or_root (before_slash-head r) ∙ by_case (before_slash r)
   where

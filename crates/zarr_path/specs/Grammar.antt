@@ -3,7 +3,7 @@ use Rattle.std.specs.Prelude.{◌≡◌, ◌≢◌, ℕ, ◌+◌, ◌<◌, ◌�
 use Rattle.std.specs.List.{All, AllByRecursion}
 use Rattle.zarr_path.specs.declared.paths.PathFault.{PathFault}
 use Rattle.zarr_path.specs.declared.paths.PathFault.TheVariants as f
-use Rattle.zarr_path.specs.Paths.{root, joined, is_path, path_fault}
+use Rattle.zarr_path.specs.Paths.{root, joined, is_name, is_path, path_fault, folder, parent_of}
 
 -- what stands between two slashes
 abbrev pub IsPart : List ℕ → Type 0
@@ -57,3 +57,12 @@ GrammarLaw = (text : List ℕ) → ((is_path text ≡ true) ↔ IsSpelled text) 
 abbrev pub ReadsSpelled : List ℕ → Result (List ℕ) PathFault → Type 0
 ReadsSpelled text (Ok path) = (path ≡ text) × IsSpelled text
 ReadsSpelled text (Err fault) = (fault ≡ f.NoMemory) ⊎ IsFault text fault
+
+-- Zarr v3 core specification, "Concepts and terminology": a path other than `/` is its parent's, a slash unless that is `/`, and the node's name
+pub record IsNamed (path : List ℕ) : Type 0 where
+  pub name : List ℕ
+  pub valid : is_name name ≡ true
+  pub whole : path ≡ folder (parent_of path) ++ name
+
+abbrev pub ParentNameLaw : Type 0
+ParentNameLaw = (path : List ℕ) → is_path path ≡ true → path ≢ root → IsNamed path

@@ -34,7 +34,7 @@ path_cmp = slice_cmp nat_cmp
 abbrev pub same_path : List ℕ → List ℕ → Bool
 same_path p q = eq_by_cmp path_cmp p q
 
--- Zarr v3 core specification, "Hierarchy": the names of a path stand behind its slashes, and `/` has none
+-- Zarr v3 core specification, "Concepts and terminology": the names of a path stand behind its slashes, and `/` has none
 unfoldable pub names_of : List ℕ → List (List ℕ)
 names_of path = if same_path path root then [] else parts_of (drop 1 path)
 

@@ -56,9 +56,14 @@ pub fn one_key_law()
     ensures { OneKeyLaw }
 {}
 
-ghost use Rattle.zarr_path.specs.Grammar.{GrammarLaw};
+ghost use Rattle.zarr_path.specs.Grammar.{GrammarLaw, ParentNameLaw};
 
 /// The tests of paths, and the faults of texts, are those of the grammar.
 pub fn grammar_law()
     ensures { GrammarLaw }
+{}
+
+/// A path other than `/` is its parent's, a slash unless that is `/`, and a name.
+pub fn parent_name_law()
+    ensures { ParentNameLaw }
 {}
