@@ -1,5 +1,5 @@
 -- Drawing ids that were never drawn before (own).
-use Rattle.std.specs.Prelude.{ℕ, ◌+◌, ◌-◌, ◌^◌, ◌==◌, ◌++◌, Bool, if◌then◌else◌, Option, Some, None}
+use Rattle.std.specs.Prelude.{ℕ, ◌+◌, ◌-◌, ◌^◌, ◌==◌, ◌<◌, ◌++◌, Bool, if◌then◌else◌, Option, Some, None}
 use Rattle.std.specs.Int.{w32, w64, to_be_bytes}
 use Rattle.ice_ids.specs.declared.Id12.{Id12}
 use Rattle.ice_ids.specs.declared.Id8.{Id8}
@@ -45,3 +45,13 @@ after8 (Count ids) = Count (count_after ids)
 -- the ids of a client
 abbrev pub ids_of : Draw → ℕ → AnyIds
 ids_of D.Count client = Count (record { client = client; counter = 0 })
+
+-- the client's number and the number of draws so far are u32
+abbrev pub IsAnyIds : AnyIds → Type 0
+IsAnyIds (Count ids) = (ids.client < 2 ^ 32) × (ids.counter < 2 ^ 32)
+
+abbrev pub client_of : AnyIds → ℕ
+client_of (Count ids) = ids.client
+
+abbrev pub counter_of : AnyIds → ℕ
+counter_of (Count ids) = ids.counter

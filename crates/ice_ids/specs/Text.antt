@@ -1,5 +1,5 @@
 -- Ids and their texts: Icechunk specification version 1, object ids, in Crockford's base 32.
-use Rattle.std.specs.Prelude.{ℕ, ◌≡◌, ◌<◌, ◌*◌, ◌/◌, ◌%◌, ◌^◌, ◌==◌, List, [], ◌∷◌, ◌++◌, length, map, slice_index, Bool, not, if◌then◌else◌, Option, Some, None, is_none, unwrap_or, Result, Ok, Err, All, codes, position, bytes_eq}
+use Rattle.std.specs.Prelude.{ℕ, ◌≡◌, ◌<◌, ◌*◌, ◌/◌, ◌%◌, ◌^◌, ◌==◌, List, [], ◌∷◌, length, map, slice_index, Bool, if◌then◌else◌, Option, Some, None, is_none, unwrap_or, Result, Ok, Err, All, codes, position, bytes_eq}
 use Rattle.std.specs.Int.Digits.{number_from_digits}
 use Rattle.std.specs.Ordering.{nat_cmp}
 use Rattle.std.specs.Cmp.Lexicographic.{slice_cmp}
@@ -23,6 +23,13 @@ letter_of digit = slice_index alphabet digit
 unfoldable pub digit_of : ℕ → Option ℕ
 digit_of letter = position (λ a. a == letter) alphabet
 
+-- a letter's worth in a text, and the test that a byte is no letter
+unfoldable pub value_of : ℕ → ℕ
+value_of letter = unwrap_or (digit_of letter) 0
+
+unfoldable pub is_foreign : ℕ → Bool
+is_foreign letter = is_none (digit_of letter)
+
 -- Bytes are one number, the most significant byte first. The text writes that number, with zero
 -- bits added at its end, in base 32, the most significant digit first.
 unfoldable pub text_of_bytes : (characters added : ℕ) → List ℕ → List ℕ
@@ -30,11 +37,12 @@ text_of_bytes characters added bytes =
     map letter_of (digits_in 32 characters (number_from_digits 256 bytes * 2 ^ added))
 
 -- the number that the letters of a text write, or the place of the first byte that is no letter
+unfoldable pub number_unless : Option ℕ → List ℕ → Result ℕ IdFault
+number_unless (Some at) text = Err (F.Digit at)
+number_unless None text = Ok (number_from_digits 32 (map value_of text))
+
 unfoldable pub number_of_letters : List ℕ → Result ℕ IdFault
-number_of_letters text = elim (position (λ c. is_none (digit_of c)) text) [
-    Some at ↦ Err (F.Digit at)
-  | None ↦ Ok (number_from_digits 32 (map (λ c. unwrap_or (digit_of c) 0) text))
-]
+number_of_letters text = number_unless (position is_foreign text) text
 
 -- the number without its added bits, which must be zero (own)
 unfoldable pub without_added : (added : ℕ) → Result ℕ IdFault → Result ℕ IdFault
@@ -61,6 +69,10 @@ id12_of_number (Err fault) = Err fault
 
 abbrev pub id12_of_text : List ℕ → Result Id12 IdFault
 id12_of_text text = id12_of_number (number_of_text 20 4 text)
+
+-- the id of the initial snapshot (own)
+abbrev pub initial_id : Id12
+initial_id = record { 0 = 0x0b ∷ 0x1c ∷ 0xc8 ∷ 0xd6 ∷ 0x78 ∷ 0x75 ∷ 0x80 ∷ 0xf0 ∷ 0xe3 ∷ 0x3a ∷ 0x65 ∷ 0x34 ∷ [] }
 
 -- a node id: 8 bytes, 13 letters, 1 added bit
 abbrev pub IsId8 : Id8 → Type 0

@@ -1,6 +1,6 @@
 //! Numbers as bytes and as letters of base 32, the most significant first.
 
-ghost use Rattle.std.specs.Prelude.{◌≡◌, ◌<◌, ◌≤◌, ◌^◌, ◌*◌, ◌/◌, ◌%◌, ◌==◌, length, map, is_none, position, codes, Option};
+ghost use Rattle.std.specs.Prelude.{◌≡◌, ◌<◌, ◌≤◌, ◌^◌, ◌*◌, ◌/◌, ◌%◌, ◌==◌, length, map, All, is_none, position, codes, Option};
 ghost use Rattle.std.specs.Int.Digits.{number_from_digits};
 ghost use Rattle.ice_ids.specs.Digits.{digits_in};
 ghost use Rattle.ice_ids.specs.Text.{letter_of, digit_of, number_of_letters, number_of_text};
@@ -15,6 +15,7 @@ pub fn number_of_bytes(bytes: &[u8]) -> u128
     requires { length bytes.now ≤ 12 }
     ensures value { result ≡ number_from_digits 256 bytes.now }
     ensures bound { result < 2 ^ 96 }
+    ensures bytes { All (λ byte. byte < 256) bytes.now }
 {
     let mut number: u128 = 0;
     for byte in bytes {
@@ -24,6 +25,7 @@ pub fn number_of_bytes(bytes: &[u8]) -> u128
 }
 
 /// Writes the number as so many bytes as there is room for.
+#[tactic(auto, unfolding(crate::specs::Digits::digits_in))]
 pub fn write_bytes(number: u128, bytes: &mut [u8])
     ensures { bytes.new ≡ digits_in 256 (length bytes.old) number }
 {
@@ -35,6 +37,7 @@ pub fn write_bytes(number: u128, bytes: &mut [u8])
 }
 
 /// Writes the number as so many letters as there is room for.
+#[tactic(auto, unfolding(crate::specs::Digits::digits_in))]
 pub fn write_letters(number: u128, text: &mut [u8])
     ensures { text.new ≡ map letter_of (digits_in 32 (length text.old) number) }
 {
@@ -46,6 +49,7 @@ pub fn write_letters(number: u128, text: &mut [u8])
 }
 
 /// The digit that a letter stands for.
+#[tactic(auto, unfolding(crate::specs::Text::digit_of, crate::specs::Text::alphabet))]
 fn digit_of(letter: u8) -> Option<usize>
     ensures { result ≡ digit_of letter }
 {
@@ -68,6 +72,7 @@ fn number_of_letters(text: &[u8]) -> Result<u128, IdFault>
 }
 
 /// The number of a text of so many letters, without the bits that were added to it.
+#[tactic(auto, unfolding(crate::specs::Text::number_of_text, crate::specs::Text::without_added), using(std::proofs::lemmas::Nat::pow_below))]
 pub fn number_of_text(text: &[u8], characters: usize, added: u32) -> Result<u128, IdFault>
     requires letters { characters ≤ 20 }
     requires bits { added < 128 }

@@ -5,7 +5,7 @@ ghost use Rattle.ice_ids.specs.declared.Id12.{Id12};
 ghost use Rattle.ice_ids.specs.declared.Id8.{Id8};
 ghost use Rattle.ice_ids.specs.Drawing.{is_spent, count_drawn12, count_drawn8, count_after, drawn12, after12, drawn8, after8, ids_of};
 
-use crate::{Id12, Id8};
+use crate::{Id8, Id12};
 
 /// A source of ids that were not drawn from it before.
 pub trait Ids {

@@ -8,10 +8,10 @@ use std::fmt;
 
 mod base32;
 mod drawing;
-
-pub use drawing::{AnyIds, CountIds, Draw, Ids};
+pub mod laws;
 
 use base32::{number_of_bytes, number_of_text, write_bytes, write_letters};
+pub use drawing::{AnyIds, CountIds, Draw, Ids};
 
 /// The id of an object: a snapshot, a manifest, a transaction log or a chunk. Ids are ordered by
 /// their bytes. (Icechunk specification version 1, object ids.)
@@ -43,6 +43,7 @@ impl Id12 {
 
     /// The id's text: 20 letters of Crockford's base 32, of which the last carries 4 added zero
     /// bits.
+    #[tactic(auto, unfolding(crate::specs::Text::text_of_bytes))]
     pub fn text(&self) -> [u8; 20]
         ensures text { result ≡ id12_text self.now }
         ensures id { IsId12 self.now }
@@ -67,6 +68,7 @@ impl Id12 {
 impl Id8 {
     /// The id's text: 13 letters of Crockford's base 32, of which the last carries 1 added zero
     /// bit.
+    #[tactic(auto, unfolding(crate::specs::Text::text_of_bytes))]
     pub fn text(&self) -> [u8; 13]
         ensures text { result ≡ id8_text self.now }
         ensures id { IsId8 self.now }
