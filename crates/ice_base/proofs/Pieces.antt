@@ -1,7 +1,7 @@
 -- What is read and written piece by piece.
-use Rattle.std.proofs.Common.{◌≡◌, ℕ, ◌+◌, ◌-◌, ◌<◌, ◌≤◌, List, [], ◌∷◌, ◌++◌, length, take, drop, Option, Some, None, refl, sym, ◌∙◌, ap, subst, append_assoc, length-drop, arith}
+use Rattle.std.proofs.Common.{◌≡◌, ℕ, ◌+◌, ◌-◌, ◌<◌, ◌≤◌, List, [], ◌∷◌, ◌++◌, length, take, drop, Option, Some, None, refl, sym, ◌∙◌, ap, subst, append_assoc, length-drop, length-append, min, arith}
 use Rattle.std.proofs.Math.Seq.{take-add}
-use Rattle.std.proofs.lemmas.List.{append-nil, take_all, append_cancel_left}
+use Rattle.std.proofs.lemmas.List.{append-nil, take_all, take_at, take-append-drop, length-take-le, nil_from_length}
 use Rattle.ice_base.specs.Ends.{Taken, IsAtEnd, Appended}
 
 abbrev value_in : List ℕ → Option (List ℕ) → List ℕ
@@ -28,7 +28,7 @@ Taken-kept old between new xs first same = subst (λ (left : Option (List ℕ)).
 
 -- nothing was taken at the end, so it is still the end
 pub IsAtEnd-after : (old new : Option (List ℕ)) → IsAtEnd old → Taken old new [] → IsAtEnd new
-IsAtEnd-after None new ended taken = subst IsAtEnd (sym taken) refl
+IsAtEnd-after None new ended taken = subst IsAtEnd (sym taken) tt
 IsAtEnd-after (Some xs) new ended taken = subst IsAtEnd (sym taken.1) (sym taken.2 ∙ ended)
 
 -- ## Sinks
@@ -46,7 +46,7 @@ pub Appended-kept : (old between new : Option (List ℕ)) (xs : List ℕ) → Ap
 Appended-kept old between new xs first same = subst (λ (written : Option (List ℕ)). Appended old written xs) (sym same) first
 
 -- the rest of a list from a place on, as a slice up to its end
-rest-is : (bytes : List ℕ) (at : ℕ) → take (length bytes - at) (drop at bytes) ≡ drop at bytes
+pub rest-is : (bytes : List ℕ) (at : ℕ) → take (length bytes - at) (drop at bytes) ≡ drop at bytes
 rest-is bytes at = take_all (length bytes - at) (drop at bytes) (omega (arith, length-drop at bytes))
 
 -- one more piece
@@ -61,3 +61,20 @@ pub within-piece : (bytes : List ℕ) (at count : ℕ) → at < length bytes →
 within-piece bytes at count inside fits =
     let long : length (take (length bytes - at) (drop at bytes)) ≡ length (drop at bytes) = ap length (rest-is bytes at) in
     omega (arith, length-drop at bytes)
+
+-- what a list gives to the front of a buffer
+pub record IsFront (left new : List ℕ) (count : ℕ) : Type 0 where
+  pub within : count ≤ length new
+  pub split : left ≡ take count new ++ drop count left
+  pub whole : count ≡ 0 → left ≡ []
+
+pub front_of : (left into new : List ℕ) (count : ℕ) → 0 < length into → count ≡ min (length into) (length left) → new ≡ take count left ++ drop count into → IsFront left new count
+front_of left into new count room is filled =
+    let long : length (take count left) ≡ count = length-take-le count left (omega arith) in
+    let front : take count new ≡ take count left = ap (take count) filled ∙ take_at (take count left) (drop count into) count long in
+    let all : length new ≡ length (take count left) + length (drop count into) = ap length filled ∙ length-append (take count left) (drop count into) in
+    record {
+      within = omega arith;
+      split = sym (take-append-drop count left) ∙ ap (λ xs. xs ++ drop count left) (sym front);
+      whole = λ none. nil_from_length left (omega arith);
+    }

@@ -1,5 +1,5 @@
 -- Names of branches and tags (Icechunk specification version 1, refs; which bytes a name has: own).
-use Rattle.std.specs.Prelude.{ℕ, ◌≡◌, ◌==◌, ◌||◌, nat_lt, List, length, Bool, if◌then◌else◌, Option, Some, None, option_map, position, codes, bytes_eq}
+use Rattle.std.specs.Prelude.{ℕ, ◌≡◌, ◌==◌, ◌||◌, ◌<◌, ◌≤◌, nat_lt, List, length, All, Bool, false, if◌then◌else◌, Option, Some, None, option_map, position, codes, bytes_eq}
 use Rattle.std.specs.Ordering.{nat_cmp}
 use Rattle.std.specs.Cmp.Lexicographic.{slice_cmp}
 use Rattle.std.specs.declared.cmp.Ordering.{Ordering}
@@ -19,6 +19,12 @@ name_fault bytes =
 
 abbrev pub IsRefName : List ℕ → Type 0
 IsRefName bytes = name_fault bytes ≡ None
+
+-- the same in plain words: 1 to 200 bytes, none of them barred
+pub record IsPlainName (bytes : List ℕ) : Type 0 where
+  pub filled : 0 < length bytes
+  pub short : length bytes ≤ 200
+  pub plain : All (λ byte. is_barred byte ≡ false) bytes
 
 -- a text is refused with the first fault; want of memory may come at any text
 abbrev pub RefusesName : List ℕ → NameFault → Type 0

@@ -16,6 +16,8 @@ impl Model for Bytes {
     ghost Value = { List ℕ };
 
     ghost view = { λ b. b.items.items };
+
+    ghost invariant = { λ b. IsBytes b.items.items };
 }
 
 impl Bytes {

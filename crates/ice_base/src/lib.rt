@@ -5,6 +5,7 @@ mod byte_list;
 mod clocks;
 mod ends;
 mod in_memory;
+pub mod laws;
 mod names;
 mod standard;
 
