@@ -1,8 +1,7 @@
 -- The nodes that changes touch. (Icechunk specification version 1, transaction logs: the lists of ids.)
 use Rattle.std.specs.Prelude.{◌≡◌, ℕ, Bool, true, false, ◌==◌, List, length, map, Option, Some, None}
 use Rattle.std.specs.List.{list_any}
-use Rattle.std.specs.FinMap.{entries}
-use Rattle.std.specs.FinSet.{items, from_list}
+use Rattle.std.specs.FinMap.{entries, keys, from_entries}
 use Rattle.ice_ids.specs.declared.Id8.{Id8}
 use Rattle.ice_ids.specs.Text.{same_id8, id8_cmp}
 use Rattle.tree_model.specs.declared.node.Node.{Node}
@@ -10,9 +9,9 @@ pub use Rattle.tree_model.specs.declared.lists.Touched.{Touched}
 use Rattle.tree_model.specs.Trees.{Tree, node_at}
 use Rattle.tree_model.specs.Changes.{Changes, IsFree, apply}
 
--- these ids in the strict order of their bytes, each once
+-- these ids in the strict order of their bytes, each once: the keys of a finite map
 abbrev pub in_order : List Id8 → List Id8
-in_order ids = items (from_list {R = id8_cmp} ids)
+in_order ids = keys (from_entries {R = id8_cmp} (map (λ id. (id, tt {0})) ids))
 
 -- the ids of the nodes of rows
 abbrev pub ids_of : List (List ℕ × Node) → List Id8

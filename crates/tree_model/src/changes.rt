@@ -20,6 +20,7 @@ pub struct Changes {
 }
 
 /// The tree under the changes. At an added path the added node stands, also where the tree has one there.
+#[tactic(auto, unfolding(crate::specs::Changes::nodes_after))]
 pub fn apply(alloc: Global, changes: &Changes, tree: &Tree) -> Result<Tree, AllocError>
     ensures { IfOk result (λ after. tree_of after ≡ apply (changes_of changes.now) (tree_of tree.now)) }
 {

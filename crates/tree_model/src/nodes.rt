@@ -2,11 +2,13 @@
 
 ghost use Rattle.std.specs.Prelude.{◌≡◌, ◌++◌, is_ok, if◌then◌else◌, IfOk, OnOk, OnErr};
 ghost use Rattle.std.specs.FinMap as map;
+ghost use Rattle.zarr_path.specs.Paths.{path_cmp};
 ghost use Rattle.tree_model.specs.Places.{IsInOrder, IsPlace, is_behind, overlay};
 
 use crate::node::Node;
 use crate::overlay::Overlay;
 use std::alloc::{AllocError, Global};
+use std::cmp::Ordering;
 use std::marker::Model;
 use zarr_path::Path;
 
@@ -122,7 +124,14 @@ fn place(rows: &[(Path, Node)], path: &str) -> Result<usize, usize>
     requires { IsInOrder rows.now }
     ensures { IsPlace rows.now path.now result }
 {
-    rows.binary_search_by(|(key, _)| key.as_str().cmp(path))
+    rows.binary_search_by(|row| compare(row, path))
+}
+
+/// How a row's path compares with another.
+fn compare(row: &(Path, Node), path: &str) -> Ordering
+    ensures { result ≡ path_cmp row.now.0 path.now }
+{
+    row.0.as_str().cmp(path)
 }
 
 /// Whether a path comes after those of the rows.
@@ -131,7 +140,7 @@ fn is_behind(rows: &[(Path, Node)], path: &str) -> bool
     ensures { result ≡ is_behind path.now (map.from_entries rows.now) }
 {
     match rows.last() {
-        Some((key, _)) => key.as_str().cmp(path).is_lt(),
+        Some(row) => compare(row, path).is_lt(),
         None => true,
     }
 }

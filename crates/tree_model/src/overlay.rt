@@ -41,27 +41,27 @@ impl<'a> Overlay<'a> {
     pub fn next(&mut self) -> Option<&'a (Path, Node)>
         ensures { MatchOption result (self.old ≡ []) (λ row. self.old ≡ row.now ∷ self.new) }
     {
-        let Some(other) = self.second.first() else {
-            let (row, rest) = self.first.split_first()?;
-            self.first = rest;
-            return Some(row);
-        };
-        let Some(row) = self.first.first() else {
-            self.second = &self.second[1..];
+        let Some((row, after)) = self.first.split_first() else {
+            let (other, after) = self.second.split_first()?;
+            self.second = after;
             return Some(other);
+        };
+        let Some((other, after_other)) = self.second.split_first() else {
+            self.first = after;
+            return Some(row);
         };
         match row.0.as_str().cmp(other.0.as_str()) {
             Ordering::Less => {
-                self.first = &self.first[1..];
+                self.first = after;
                 Some(row)
             }
             Ordering::Equal => {
-                self.first = &self.first[1..];
-                self.second = &self.second[1..];
+                self.first = after;
+                self.second = after_other;
                 Some(row)
             }
             Ordering::Greater => {
-                self.second = &self.second[1..];
+                self.second = after_other;
                 Some(other)
             }
         }
