@@ -5,3 +5,6 @@ pub mod Overlaying
 pub mod ParentLaws
 pub mod Refusing
 pub mod TouchedLaws
+pub mod Applied
+pub mod Normal
+pub mod Differing

@@ -29,13 +29,13 @@ id_exact x y e = let bytes : x.0 ≡ y.0 = slice_cmp-IsAntisymmetric nat_cmp-IsA
 tied : (r : Ordering) → is_eq r ≡ true → r ≡ Equal
 tied r e = (Equal-is r).0 e
 
-abbrev same : Id8 → Id8 → Bool
+abbrev pub same : Id8 → Id8 → Bool
 same = eq_by_cmp id8_cmp
 
-same-true : (x y : Id8) → same x y ≡ true → x ≡ y
+pub same-true : (x y : Id8) → same x y ≡ true → x ≡ y
 same-true x y e = id_exact x y (tied (id8_cmp x y) e)
 
-same-refl : (x y : Id8) → y ≡ x → same x y ≡ true
+pub same-refl : (x y : Id8) → y ≡ x → same x y ≡ true
 same-refl x y e = ap (same x) e ∙ ap is_eq (tied_itself id_total x)
 
 or-right : (a b : Bool) → b ≡ true → (a || b) ≡ true
@@ -54,11 +54,11 @@ any_contains (x ∷ xs) q h = elim (same q x) as (λ b. same q x ≡ b → (b ||
   | false ↦ λ s k. let rest = any_contains xs q k in (suc rest.0, omega (arith, rest.1), rest.2)
 ] refl h
 
-abbrev pairs : List Id8 → List (Id8 × Unit {0})
+abbrev pub pairs : List Id8 → List (Id8 × Unit {0})
 pairs xs = map (λ (x : Id8). (x, tt {0})) xs
 
 -- what is found among ids is nothing but that the id is there
-find-pairs : (xs : List Id8) (q : Id8) → find id8_cmp q (pairs xs) ≡ cond (list_any (same q) xs) (Some tt) None
+pub find-pairs : (xs : List Id8) (q : Id8) → find id8_cmp q (pairs xs) ≡ cond (list_any (same q) xs) (Some tt) None
 find-pairs [] q = refl
 find-pairs (x ∷ xs) q = elim (same q x) as (λ b. cond b (Some tt) (find id8_cmp q (pairs xs)) ≡ cond (b || list_any (same q) xs) (Some tt) None) [ true ↦ refl | false ↦ find-pairs xs q ]
 
