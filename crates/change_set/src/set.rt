@@ -1,8 +1,11 @@
 //! The set of changes.
 
-ghost use Rattle.std.specs.Prelude.{◌≡◌, IfOk, nat_le};
+ghost use Rattle.std.specs.Prelude.{◌≡◌, IfOk, nat_le, map as list_map};
+ghost use Rattle.std.specs.List.{filter};
+ghost use Rattle.zarr_path.specs.Paths.{is_beneath};
 ghost use Rattle.std.specs.FinMap as map;
 ghost use Rattle.ice_ids.specs.declared.Id8.{Id8 as NodeId};
+ghost use Rattle.tree_model.specs.declared.edit.Edit.TheVariants.{Add};
 ghost use Rattle.tree_model.specs.Trees.{Tree as AnyTree, node_at, refusal, unless, most_nodes, paths_beneath};
 ghost use Rattle.tree_model.specs.Changes.{none, apply};
 ghost use Rattle.tree_model.specs.Touched.{touched, is_untouched};
@@ -12,7 +15,7 @@ ghost use Rattle.change_set.specs.Sets.{changes_in, Extends};
 use ice_ids::Id8;
 use std::alloc::{AllocError, Global};
 use tree_model::{
-    Changes, EditFault, MOST_NODES, Node, Nodes, Touched, Tree, apply, parent_text, touched,
+    Changes, EditFault, MOST_NODES, Node, Nodes, Overlay, Touched, Tree, apply, parent_text, touched,
 };
 use zarr_path::Path;
 
@@ -70,7 +73,7 @@ impl ChangeSet {
 
     /// Refuses as `add` at this path would, whatever the id. It takes no memory.
     pub fn may_add(&self, base: &Tree, path: &Path) -> Result<(), EditFault>
-        ensures { (id : NodeId) → result ≡ unless (refusal (apply (changes_in self.now) (tree_of base.now)) (Edit.Add path.now id)) tt }
+        ensures { (id : NodeId) → result ≡ unless (refusal (apply (changes_in self.now) (tree_of base.now)) (Add path.now id)) tt }
     {
         if self.lookup(base, path.as_str()).is_some() {
             return Err(EditFault::NodeExists);
@@ -87,7 +90,7 @@ impl ChangeSet {
     /// Adds a node. It doesn't ask whether the id is a new one: where it isn't, the node is entered all the same, and the
     /// changes then aren't normal. After a refusal, and where memory runs out, the set is as before.
     pub fn add(&mut self, alloc: Global, base: &Tree, path: &Path, id: Id8) -> Result<(), EditFault>
-        ensures { Extends (changes_in self.old) (tree_of base.now) (Edit.Add path.now id) result (changes_in self.new) }
+        ensures { Extends (changes_in self.old) (tree_of base.now) (Add path.now id) result (changes_in self.new) }
     {
         self.may_add(base, path)?;
         let path = path.copy(alloc)?;
@@ -113,14 +116,7 @@ impl ChangeSet {
     pub fn beneath(&self, alloc: Global, base: &Tree, path: &Path) -> Result<Vec<Path>, AllocError>
         ensures { IfOk result (λ paths. paths.items ≡ paths_beneath (apply (changes_in self.now) (tree_of base.now)) path.now) }
     {
-        let mut paths = Vec::new(alloc);
-        let mut overlay = self.changes.added.over(&base.nodes);
-        while let Some((key, _)) = overlay.next() {
-            if key.is_beneath(path) {
-                paths.push(key.copy(alloc)?)?;
-            }
-        }
-        Ok(paths)
+        paths_of(alloc, self.changes.added.over(&base.nodes), path)
     }
 
     /// The overlay as a tree.
@@ -129,4 +125,17 @@ impl ChangeSet {
     {
         apply(alloc, &self.changes, base)
     }
+}
+
+/// The paths of an overlay beneath a path.
+fn paths_of(alloc: Global, mut overlay: Overlay<'_>, of: &Path) -> Result<Vec<Path>, AllocError>
+    ensures { IfOk result (λ paths. paths.items ≡ filter (is_beneath of.now) (list_map (λ row. row.0) overlay.entry)) }
+{
+    let mut paths = Vec::new(alloc);
+    while let Some((path, _)) = overlay.next() {
+        if path.is_beneath(of) {
+            paths.push(path.copy(alloc)?)?;
+        }
+    }
+    Ok(paths)
 }

@@ -1,7 +1,7 @@
 -- The tree under changes: what stands at a path, and how many nodes there are.
-use Rattle.std.proofs.Common.{◌≡◌, ◌⊎◌, inl, inr, ℕ, ◌+◌, ◌≤◌, Bool, true, false, cond, T, List, [], ◌∷◌, ◌++◌, length, Option, Some, None, is_some, refl, sym, ap, ◌∙◌, arith}
+use Rattle.std.proofs.Common.{◌≡◌, ◌⊎◌, inl, inr, ℕ, ◌+◌, ◌≤◌, Bool, true, false, cond, T, List, [], ◌∷◌, ◌++◌, map, length, Option, Some, None, is_some, refl, sym, ap, ◌∙◌, arith}
 use Rattle.std.specs.Option.{option_or}
-use Rattle.std.specs.FinMap.{FinMap, find, get, insert, len, entries, entries_sorted, from_entries, is_sorted, get-entries, len-entries, len-insert}
+use Rattle.std.specs.FinMap.{FinMap, find, get, insert, len, keys, entries, entries_sorted, from_entries, is_sorted, get-entries, len-entries, len-insert}
 use Rattle.zarr_path.specs.Paths.{path_cmp, same_path}
 use Rattle.zarr_path.proofs.OrderLaws.{total, same_path-true, same_path-refl}
 use Rattle.ice_ids.specs.declared.Id8.{Id8}
@@ -135,3 +135,17 @@ len-apply c t free = omega (arith, len-overlay (entries c.added) (entries t.node
 
     apart : (q : List ℕ) → is_some (find path_cmp q (entries c.added)) ≡ true → find path_cmp q (entries t.nodes) ≡ None
     apart q h = let n = there (get c.added q) (ap is_some (get-entries c.added q) ∙ h) in sym (get-entries t.nodes q) ∙ free q n.0 n.1
+
+-- how many rows an overlay has
+pub length-over : (c : Changes) (t : Tree) → length (entries (overlay (entries c.added) (entries t.nodes))) ≡ len (apply c t).nodes
+unfolding nodes_after
+length-over c t = sym (len-entries (overlay (entries c.added) (entries t.nodes)))
+
+-- and their paths
+pub keys-over : (c : Changes) (t : Tree) → map (λ (e : List ℕ × Node). e.0) (entries (overlay (entries c.added) (entries t.nodes))) ≡ keys (apply c t).nodes
+unfolding nodes_after
+keys-over c t = refl
+
+-- where nothing is added, what the tree has
+pub other_node : (c : Changes) (t : Tree) (p : List ℕ) → get c.added p ≡ None → node_at (apply c t) p ≡ node_at t p
+other_node c t p a = node-apply c t p ∙ ap (λ o. option_or o (node_at t p)) a

@@ -4,7 +4,7 @@ use Rattle.std.specs.Prelude.{◌==◌, bytes_eq}
 use Rattle.std.specs.List.{list_any}
 use Rattle.std.specs.List.Sorted.{IsStrictlySortedBy}
 use Rattle.std.specs.Cmp.{both_ways}
-use Rattle.std.specs.FinMap.{FinMap, find, get, entries, keys, from_entries, contains_key-keys, get-entries, get-from_entries, entries_sorted}
+use Rattle.std.specs.FinMap.{FinMap, find, get, len, len-entries, entries, keys, from_entries, contains_key-keys, get-entries, get-from_entries, entries_sorted}
 use Rattle.std.proofs.lemmas.Slice.Eq.{bytes_eq-Decides}
 use Rattle.std.proofs.lemmas.Bool.{eqb-true, eq-eqb}
 use Rattle.ice_ids.specs.declared.Id8.{Id8}
@@ -15,7 +15,7 @@ use Rattle.tree_model.specs.declared.node.Node.{Node}
 use Rattle.tree_model.specs.Places.{Rows}
 use Rattle.tree_model.specs.Trees.{Tree, node_at}
 use Rattle.tree_model.specs.Changes.{Changes, IsFree, apply}
-use Rattle.tree_model.specs.Touched.{Touched, touched, in_order, ids_of, lists, has_id, DiffersIn, DiffersLaw}
+use Rattle.tree_model.specs.Touched.{Touched, touched, in_order, ids_of, lists, has_id, is_untouched, DiffersIn, DiffersLaw}
 use Rattle.tree_model.proofs.Applied.{node_cases, Own, own_node}
 use Rattle.tree_model.proofs.TouchedLaws.{id_total, same, same-true, same-refl, pairs, find-pairs}
 
@@ -93,3 +93,11 @@ pub length-in_order : (xs : List Id8) → (length (in_order xs) == 0) ≡ (lengt
 length-in_order xs = both_ways _ _
   (λ e. eq-eqb _ _ (empty_any xs (λ q. sym (lists-in_order xs q) ∙ some_any (in_order xs) (eqb-true _ _ e) q)))
   (λ e. eq-eqb _ _ (empty_any (in_order xs) (λ q. lists-in_order xs q ∙ some_any xs (eqb-true _ _ e) q)))
+
+length_ids : (rows : Rows) → length (ids_of rows) ≡ length rows
+length_ids [] = refl
+length_ids (r ∷ rs) = omega (arith, length_ids rs)
+
+-- changes touch nothing exactly where nothing is added
+pub untouched : (c : Changes) (t : Tree) → is_untouched (touched c t) ≡ (len c.added == 0)
+untouched c t = length-in_order (ids_of (entries c.added)) ∙ ap (λ n. n == 0) (length_ids (entries c.added) ∙ sym (len-entries c.added))
