@@ -1,0 +1,7 @@
+pub mod Words
+pub mod Parts
+pub mod Values
+pub mod Forms
+pub mod Places
+pub mod Reading
+pub mod Well
