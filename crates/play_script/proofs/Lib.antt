@@ -4,4 +4,7 @@ pub mod Earliest
 pub mod Cuts
 pub mod Utf8
 pub mod NextLine
+pub mod Inversions
+pub mod WellLines
+pub mod WellTasks
 pub mod WellRead

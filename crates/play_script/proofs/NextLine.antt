@@ -1,8 +1,8 @@
 -- One line after the other.
-use Rattle.std.proofs.Common.{◌≡◌, ℕ, ◌+◌, List, [], ◌∷◌, Result, Ok, Err, refl, sym, ◌∙◌}
+use Rattle.std.proofs.Common.{◌≡◌, ℕ, ◌+◌, List, [], ◌∷◌, Result, Ok, Err, length, arith, refl, sym, ◌∙◌}
 use Rattle.play_script.specs.declared.faults.ScriptKind.{ScriptKind}
 use Rattle.play_script.specs.declared.scripts.Script.{Script}
-use Rattle.play_script.specs.Words.{Text}
+use Rattle.play_script.specs.Words.{Text, lines_of}
 use Rattle.play_script.specs.Places.{line_at}
 use Rattle.play_script.specs.Reading.{lines_from}
 
@@ -19,6 +19,7 @@ line_ok s t n lines rest line whole r h split e f =
     let step : lines_from s n lines ≡ lines_from t (n + 1) rest = rw (split, ← e, f) refl in
     sym step ∙ h
 
-pub no_lines : (s : Script) (n : ℕ) → lines_from s n [] ≡ Ok s
-unfolding lines_from
-no_lines s n = refl
+pub no_lines : (s : Script) (n : ℕ) (text : Text) → length text ≡ 0 → lines_from s n (lines_of text) ≡ Ok s
+unfolding lines_of lines_from
+no_lines s n [] none = refl
+no_lines s n (b ∷ bs) none = absurd (omega (arith, none))

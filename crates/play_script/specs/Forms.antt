@@ -30,7 +30,7 @@ list_of rest = taken (one rest) (λ path. made call.List (path_of path))
 unfoldable pub commit_of : Option Text → Result Call ScriptKind
 commit_of rest = taken rest (λ message. Ok (call.Commit message))
 
-abbrev form : Class → Result Call ScriptKind → Form
+abbrev pub form : Class → Result Call ScriptKind → Form
 form class call = record { class = class; call = call }
 
 -- a body line by its first word

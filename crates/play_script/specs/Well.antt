@@ -1,5 +1,5 @@
 -- Own: what holds of every script that was read.
-use Rattle.std.specs.Prelude.{◌≡◌, ◌≢◌, ℕ, ◌≤◌, ◌<◌, List, [], ◌∷◌, length, IfSome, IsTrue, All, AllPairs}
+use Rattle.std.specs.Prelude.{◌≡◌, ◌≢◌, ℕ, ◌≤◌, ◌<◌, List, [], ◌∷◌, length, map, IfSome, IsTrue, All, AllPairs}
 use Rattle.zarr_path.specs.Paths.{is_path}
 use Rattle.play_script.specs.declared.scripts.Call.{Call}
 use Rattle.play_script.specs.declared.scripts.Call.TheVariants as call
@@ -66,5 +66,5 @@ pub record IsWellTurn (clients : ℕ) (t : Turn) : Type 0 where
 pub record IsWell (s : Script) : Type 0 where
   pub few : length s.tasks ≤ MOST_TASKS
   pub tasks : All IsWellTask s.tasks
-  pub names : AllPairs (λ t u. t.name ≢ u.name) s.tasks
+  pub names : AllPairs (λ a b. a ≢ b) (map (λ t. t.name) s.tasks)
   pub turns : IfSome s.turns (All (IsWellTurn (length s.tasks)))

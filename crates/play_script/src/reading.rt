@@ -117,7 +117,7 @@ fn lines_in(alloc: Global, text: &[u8]) -> Result<Script, ScriptFault>
 
 impl Script {
     /// Reads a text as a script.
-    #[tactic(auto, unfolding(crate::specs::Reading::script_of), using(crate::proofs::WellRead::well))]
+    #[tactic(auto, unfolding(crate::specs::Reading::script_of))]
     pub fn read(alloc: Global, text: &[u8]) -> Result<Script, ScriptFault>
         ensures reads { IsReading (script_of text.now) result }
         ensures well { IfOk result IsWell }
