@@ -23,7 +23,7 @@ use Rattle.play_script.specs.Forms.{taken, form_of, head_of}
 use Rattle.play_script.specs.Places.{last, is_open, takes, onto_last, with_line, body_line, is_used, with_task, may_begin, task_line, head_line, turn_of, turns_line, words_line, line_at}
 use Rattle.play_script.specs.declared.faults.ScriptFault.{ScriptFault}
 use Rattle.play_script.specs.Reading.{at_line, lines_from, empty, feeds, script_of, IsReading}
-use Rattle.play_script.specs.Well.{IsNumber, AreTaken, IsWellTask, IsWellTurn, IsWell}
+use Rattle.play_script.specs.Well.{IsLineNumber, AreTaken, IsWellTask, IsWellTurn, IsWell}
 use Rattle.play_script.proofs.Inversions.{made_ok, both_ok, only_if_ok, taken_ok, each_ok, task_name_ok}
 use Rattle.play_script.proofs.Utf8.{text_bytes}
 use Rattle.play_script.proofs.WellLines.{AreLeft, cut_left, form_ok, head_ok, turn_ok}
@@ -33,7 +33,7 @@ use Rattle.play_script.proofs.WellTasks.{tasks_more, length-onto_last, names-ont
 abbrev IsWellIfRead : Result Script ScriptKind → Type 0
 IsWellIfRead r = (t : Script) → r ≡ Ok t → IsWell t
 
-body_well : (s : Script) (n : ℕ) (first : Text) (rest : Option Text) → IsWell s → IsNumber n → AreLeft rest → IsWellIfRead (body_line s n first rest)
+body_well : (s : Script) (n : ℕ) (first : Text) (rest : Option Text) → IsWell s → IsLineNumber n → AreLeft rest → IsWellIfRead (body_line s n first rest)
 unfolding body_line
 body_well s n first rest w number left t h =
     let f = form_of first rest in
@@ -53,7 +53,7 @@ none_taken : (h : Head) → AreTaken h []
 none_taken (head.Write branch) = tt
 none_taken (head.Read branch) = All-nil _
 
-task_well : (s : Script) (n : ℕ) (name word : Text) (rest : Option Text) → IsWell s → IsNumber n → IsWellIfRead (task_line s n name word rest)
+task_well : (s : Script) (n : ℕ) (name word : Text) (rest : Option Text) → IsWell s → IsLineNumber n → IsWellIfRead (task_line s n name word rest)
 unfolding task_line may_begin
 task_well s n name word rest w number t h =
     let m = made_ok (λ (v : ((((Unit {0} × Unit {0}) × Unit {0}) × Text) × Head)). with_task s n v.0.1 v.1) (may_begin s name & task_name_of name & head_of word rest) t h in
@@ -73,7 +73,7 @@ task_well s n name word rest w number t h =
       turns = no_turns s.turns _ waiting;
     })
 
-head_well : (s : Script) (n : ℕ) (rest : Option Text) → IsWell s → IsNumber n → IsWellIfRead (head_line s n rest)
+head_well : (s : Script) (n : ℕ) (rest : Option Text) → IsWell s → IsLineNumber n → IsWellIfRead (head_line s n rest)
 unfolding head_line
 head_well s n rest w number t h =
     let p = taken_ok (next rest) (λ p. taken (next p.1) (λ q. task_line s n p.0 q.0 q.1)) t h in
@@ -88,7 +88,7 @@ turns_well s rest w t h =
     let turns = each_ok (IsWellTurn (length s.tasks)) (turn_of s.tasks) (pieces 32 rest) m.0.1 (turn_ok s.tasks) b.1 in
     subst IsWell m.2 (record { few = w.few; tasks = w.tasks; names = w.names; turns = turns })
 
-words_well : (s : Script) (n : ℕ) (first : Text) (rest : Option Text) → IsWell s → IsNumber n → AreLeft rest → IsWellIfRead (words_line s n first rest)
+words_well : (s : Script) (n : ℕ) (first : Text) (rest : Option Text) → IsWell s → IsLineNumber n → AreLeft rest → IsWellIfRead (words_line s n first rest)
 unfolding words_line
 words_well s n first rest w number left =
     cond_both (first reads codes "task") _ _ IsWellIfRead (λ _. head_well s n rest w number) (λ _.

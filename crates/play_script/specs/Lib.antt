@@ -5,3 +5,4 @@ pub mod Forms
 pub mod Places
 pub mod Reading
 pub mod Well
+pub mod SoFar

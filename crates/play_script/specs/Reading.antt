@@ -1,14 +1,12 @@
 -- Own: the script that a text stands for, or its first fault.
-use Rattle.std.specs.Prelude.{◌≡◌, ℕ, ◌+◌, List, [], ◌∷◌, ◌++◌, ◌==◌, nat_le, if◌then◌else◌, None, Result, Ok, Err, length, take, count_by, Vec}
+use Rattle.std.specs.Prelude.{◌≡◌, ℕ, ◌+◌, List, [], ◌∷◌, ◌==◌, nat_le, if◌then◌else◌, None, Result, Ok, Err, length, take, count_by}
 use Rattle.play_script.specs.declared.faults.ScriptKind.{ScriptKind}
 use Rattle.play_script.specs.declared.faults.ScriptKind.TheVariants.{Long}
 use Rattle.play_script.specs.declared.faults.ScriptFault.{ScriptFault}
 use Rattle.play_script.specs.declared.faults.ScriptFault.TheVariants.{At, NoMemory}
 use Rattle.play_script.specs.declared.scripts.Script.{Script}
-use Rattle.play_script.specs.declared.scripts.Turn.{Turn}
 use Rattle.play_script.specs.declared.reading.TheConstants.{MOST_BYTES}
 use Rattle.play_script.specs.Words.{Text, lines_of}
-use Rattle.play_script.specs.Parts.{made}
 use Rattle.play_script.specs.Places.{line_at}
 
 -- what a line is read as, if it can be, and then more; else its number and kind
@@ -39,10 +37,3 @@ abbrev pub IsReading : Result Script (ℕ × ScriptKind) → Result Script Scrip
 IsReading reading (Ok s) = reading ≡ Ok s
 IsReading reading (Err (At line kind)) = reading ≡ Err (line, kind)
 IsReading reading (Err NoMemory) = Unit {0}
-
--- turns read so far, or the earliest fault so far
-abbrev pub turns_seen : {Z : Type 0} → Result (Vec Turn Z) ScriptKind → Result (List Turn) ScriptKind
-turns_seen turns = made (λ v. v.items) turns
-
-abbrev pub one_more : List Turn × Turn → List Turn
-one_more v = v.0 ++ v.1 ∷ []

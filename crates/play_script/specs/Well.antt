@@ -22,11 +22,11 @@ IsWellCall (call.List path) = IsTrue (is_path path)
 IsWellCall (call.Commit message) = All (λ b. b < 256) message
 
 -- a number of a line
-abbrev pub IsNumber : ℕ → Type 0
-IsNumber n = (1 ≤ n) × (n ≤ MOST_LINES)
+abbrev pub IsLineNumber : ℕ → Type 0
+IsLineNumber n = (1 ≤ n) × (n ≤ MOST_LINES)
 
 pub record IsWellLine (l : Line) : Type 0 where
-  pub number : IsNumber l.number
+  pub number : IsLineNumber l.number
   pub call : IsWellCall l.call
 
 -- a commit has no line behind it
@@ -50,7 +50,7 @@ AreTaken (head.Read branch) body = All (λ l. IsListCall l.call) body
 
 pub record IsWellTask (t : Task) : Type 0 where
   pub name : IsTrue (is_task_name t.name)
-  pub line : IsNumber t.line
+  pub line : IsLineNumber t.line
   pub branch : head_branch t.head ≡ main_branch
   pub body : All IsWellLine t.body
   pub taken : AreTaken t.head t.body

@@ -4,7 +4,7 @@ ghost use Rattle.std.specs.Prelude.{◌≡◌, ◌≤◌, IfOk, length};
 ghost use Rattle.play_script.specs.Words.{seen, pieces};
 ghost use Rattle.play_script.specs.Parts.{◌&◌, made, each};
 ghost use Rattle.play_script.specs.Places.{client_from, turn_of, turns_line};
-ghost use Rattle.play_script.specs.Reading.{turns_seen, one_more};
+ghost use Rattle.play_script.specs.SoFar.{turns_seen, one_more};
 
 use crate::bodies::is_open;
 use crate::faults::{ScriptKind, both, only_if};

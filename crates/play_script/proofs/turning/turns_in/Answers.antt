@@ -1,7 +1,7 @@
 use Rattle.std.proofs.Common.{rules}
 use Rattle.play_script.specs.Words.{pieces, seen}
 use Rattle.play_script.specs.Places.{turn_of}
-use Rattle.play_script.specs.Reading.{turns_seen}
+use Rattle.play_script.specs.SoFar.{turns_seen}
 use Rattle.play_script.proofs.Earliest.{one_more_part}
 use Rattle.play_script.proofs.turning.turns_in.Goals as goal
 

@@ -2,7 +2,7 @@ use Rattle.std.proofs.Common.{◌≡◌}
 use Rattle.play_script.specs.Words.{pieces, seen}
 use Rattle.play_script.specs.Parts.{each}
 use Rattle.play_script.specs.Places.{turn_of}
-use Rattle.play_script.specs.Reading.{turns_seen}
+use Rattle.play_script.specs.SoFar.{turns_seen}
 use Rattle.play_script.proofs.Earliest.{joined, left_size}
 use Rattle.play_script.proofs.turning.turns_in.Given as goal
 
