@@ -134,9 +134,9 @@ one_beneath slots i s e lt is = rw (at_slot slots i s lt is) (omega (arith, leng
 -- the greatest number stays the greatest
 pub capped_on : (f : ℕ → ℕ) (b : ℕ) → capped (capped b + f (capped b)) ≡ capped (b + f b)
 capped_on f b = elim (cases_lt (2 ^ 64 - 1) b) [
-    | inl over ↦ let e : capped b ≡ 2 ^ 64 - 1 = omega arith in rw e (omega arith)
-    | inr within ↦ let e : capped b ≡ b = omega arith in rw e refl
-  ]
+  | inl over ↦ let e : capped b ≡ 2 ^ 64 - 1 = omega arith in rw e (omega arith)
+  | inr within ↦ let e : capped b ≡ b = omega arith in rw e refl
+]
 
 -- what is beneath the slots from number i on, behind what is beneath slot i
 pub beneath_on : (slots : List Slot) (i : ℕ) (s : Slot) (e total : ℕ) → i < length slots → s ≡ get_or slots i s → capped (e + length (all_beneath (map part_of (drop i slots)) e)) ≡ total

@@ -6,3 +6,5 @@ pub mod Tables
 pub mod Vectors
 pub mod Folds
 pub mod Lengths
+pub mod Again
+pub mod Building
