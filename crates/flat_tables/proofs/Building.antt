@@ -11,7 +11,7 @@ use Rattle.flat_tables.specs.declared.flat.Slot.{Slot, Absent, Scalar, Struct, T
 use Rattle.flat_tables.specs.declared.flat.Flat.{Flat}
 use Rattle.flat_tables.specs.Layout.{Part, Block, inline, offset_to, vector_block, tables_block, table_block}
 use Rattle.flat_tables.specs.Trees.{layout, part_of, is_align, all_true, is_writable, is_writable_slot}
-use Rattle.flat_tables.proofs.Folds.{layout_is, part_structs, part_tables, sound_struct, sound_structs, sound_tables, is_writable_is}
+use Rattle.flat_tables.proofs.Folds.{layout_is, part_structs, part_tables, writable_struct_is, writable_structs_is, writable_tables_is, is_writable_is}
 
 -- ---- a table
 
@@ -19,9 +19,9 @@ pub built_table : (f : Flat) (ss : List Slot) → f.slots.items ≡ ss → layou
 built_table f ss is = layout_is f ∙ ap (λ xs. table_block (map part_of xs)) is
 
 pub writable_table : (f : Flat) (ss : List Slot) → f.slots.items ≡ ss → leb (length ss) 64 ≡ true → all_true (map is_writable_slot ss) ≡ true → IsTrue (is_writable f)
-writable_table f ss is few sound =
+writable_table f ss is few writable =
     let n : length (map is_writable_slot ss) ≡ length ss = length-map ss is_writable_slot in
-    is_writable_is f ∙ rw (is, n, few) sound
+    is_writable_is f ∙ rw (is, n, few) writable
 
 -- ---- a vector of tables, in a loop over what they are made of
 
@@ -39,12 +39,12 @@ all_true-push (true ∷ bs) b h e = all_true-push bs b h e
 all_true-push (false ∷ bs) b h e = h
 
 pub one_more_table : {X A : Type 0} (block : A → Block) (view : X → A) (xs : List X) (i : ℕ) (x : X) (made : List Flat) (f : Flat) → i < length xs → x ≡ get_or xs i x → TablesBuilt block view xs i made → layout f ≡ block (view x) → IsTrue (is_writable f) → TablesBuilt block view xs (i + 1) (made ++ f ∷ [])
-one_more_table block view xs i x made f lt is built here sound =
+one_more_table block view xs i x made f lt is built here writable =
     let more : take (i + 1) xs ≡ take i xs ++ x ∷ [] = take_more xs i x lt ∙ ap (λ y. take i xs ++ y ∷ []) (sym is) in
     let left : map layout (made ++ f ∷ []) ≡ map block (map view (take i xs)) ++ block (view x) ∷ [] = map-append layout made (f ∷ []) ∙ rw (built.blocks, here) refl in
     record {
       blocks = left ∙ sym (rw (more, map-append view (take i xs) (x ∷ []), map-append block (map view (take i xs)) (view x ∷ [])) refl);
-      writable = rw (map-append is_writable made (f ∷ [])) (all_true-push (map is_writable made) (is_writable f) built.writable sound);
+      writable = rw (map-append is_writable made (f ∷ [])) (all_true-push (map is_writable made) (is_writable f) built.writable writable);
     }
 
 pub tables_part : {X A : Type 0} (block : A → Block) (view : X → A) (xs : List X) (i : ℕ) (made : Vec Flat Global) → length xs ≤ i → TablesBuilt block view xs i made.items → part_of (Tables made) ≡ offset_to (tables_block (map block (map view xs)))
@@ -52,7 +52,7 @@ tables_part block view xs i made le built =
     part_tables made ∙ ap (λ bs. offset_to (tables_block bs)) (built.blocks ∙ ap (λ ys. map block (map view ys)) (take_all i xs le))
 
 pub tables_writable : {X A : Type 0} (block : A → Block) (view : X → A) (xs : List X) (i : ℕ) (made : Vec Flat Global) → TablesBuilt block view xs i made.items → IsTrue (is_writable_slot (Tables made))
-tables_writable block view xs i made built = sound_tables made ∙ built.writable
+tables_writable block view xs i made built = writable_tables_is made ∙ built.writable
 
 -- ---- a vector of elements of one size, in a loop over what they are made of
 
@@ -86,16 +86,16 @@ structs_part bytes view align size xs i made some all built =
 pub structs_writable : {X A : Type 0} (bytes : A → List ℕ) (view : X → A) (align size : ℕ) (xs : List X) (i : ℕ) (made : Vec ℕ Global) → IsTrue (is_align align) → 0 < size → BytesBuilt bytes view size xs i made.items → IsTrue (is_writable_slot (Structs align size made))
 structs_writable bytes view align size xs i made aligned some built =
     let whole : length made.items % size ≡ 0 = ap (λ n. n % size) built.len ∙ mul-mod_left i size in
-    sound_structs align size made ∙ rw (aligned, lt-ltb 0 size some, eq-eqb (length made.items % size) 0 whole) refl
+    writable_structs_is align size made ∙ rw (aligned, lt-ltb 0 size some, eq-eqb (length made.items % size) 0 whole) refl
 
 -- ---- single fields
 
 pub struct_writable : (align : ℕ) (bytes : Vec ℕ Global) → IsTrue (is_align align) → length bytes.items ≤ 255 → IsTrue (is_writable_slot (Struct align bytes))
-struct_writable align bytes aligned short = sound_struct align bytes ∙ rw (aligned, le-leb (length bytes.items) 255 short) refl
+struct_writable align bytes aligned short = writable_struct_is align bytes ∙ rw (aligned, le-leb (length bytes.items) 255 short) refl
 
 -- a vector of bytes
 pub bytes_part : (align : ℕ) (made : Vec ℕ Global) → part_of (Structs align 1 made) ≡ offset_to (vector_block align (length made.items) made.items)
 bytes_part align made = let e : length made.items / 1 ≡ length made.items = omega arith in part_structs align 1 made ∙ rw e refl
 
 pub bytes_writable : (align : ℕ) (made : Vec ℕ Global) → IsTrue (is_align align) → IsTrue (is_writable_slot (Structs align 1 made))
-bytes_writable align made aligned = let e : length made.items % 1 ≡ 0 = omega arith in sound_structs align 1 made ∙ rw (aligned, eq-eqb (length made.items % 1) 0 e) refl
+bytes_writable align made aligned = let e : length made.items % 1 ≡ 0 = omega arith in writable_structs_is align 1 made ∙ rw (aligned, eq-eqb (length made.items % 1) 0 e) refl

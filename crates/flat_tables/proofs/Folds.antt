@@ -41,8 +41,8 @@ part_tables fs = ap part_of (sym (rolls-Tables fs)) ∙ fold-roll-Slot Part Bloc
 pub is_writable_is : (f : Flat) → is_writable f ≡ (leb (length (map is_writable_slot f.slots.items)) 64 && all_true (map is_writable_slot f.slots.items))
 is_writable_is f = fold_out-Flat Bool Bool writable_step writable_table_step f
 
-pub sound_scalar : (size value : ℕ) → is_writable_slot (Scalar size value) ≡ ((eqb size 1 || eqb size 2 || eqb size 4 || eqb size 8) && ltb value (256 ^ size))
-sound_scalar size value = ap is_writable_slot (sym (rolls-Scalar size value)) ∙ fold-roll-Slot Bool Bool writable_step writable_table_step (open_slot.Scalar size value)
+pub writable_scalar_is : (size value : ℕ) → is_writable_slot (Scalar size value) ≡ ((eqb size 1 || eqb size 2 || eqb size 4 || eqb size 8) && ltb value (256 ^ size))
+writable_scalar_is size value = ap is_writable_slot (sym (rolls-Scalar size value)) ∙ fold-roll-Slot Bool Bool writable_step writable_table_step (open_slot.Scalar size value)
 
 first_true : (a b : Bool) → (a && b) ≡ true → a ≡ true
 first_true true b h = refl
@@ -57,7 +57,7 @@ four_sizes false false false d h = inr (inr (inr h))
 -- what the size of a scalar can be
 pub scalar_size : (size value : ℕ) → IsTrue (is_writable_slot (Scalar size value)) → (0 < size) × (size ≤ 8)
 scalar_size size value h =
-    elim (four_sizes (eqb size 1) (eqb size 2) (eqb size 4) (eqb size 8) (first_true _ _ (sym (sound_scalar size value) ∙ h))) [
+    elim (four_sizes (eqb size 1) (eqb size 2) (eqb size 4) (eqb size 8) (first_true _ _ (sym (writable_scalar_is size value) ∙ h))) [
       | inl e ↦ (omega (arith, eqb-true size 1 e), omega (arith, eqb-true size 1 e))
       | inr r ↦ elim r [
         | inl e ↦ (omega (arith, eqb-true size 2 e), omega (arith, eqb-true size 2 e))
@@ -74,16 +74,16 @@ scalar_shape s size value h is =
     let k = scalar_size size value (subst (λ s. IsTrue (is_writable_slot s)) is h) in
     subst (λ (p : Part). HasShape (Some (size, size)) p) (sym (ap part_of is ∙ part_scalar size value)) (refl, refl, omega (arith, k.0, k.1, length-take size (to_le_bytes w64 value)), k.0, k.1, omega (arith, k.1))
 
-pub sound_struct : (align : ℕ) (bytes : Vec ℕ Global) → is_writable_slot (Struct align bytes) ≡ (is_align align && leb (length bytes.items) 255)
-sound_struct align bytes = ap is_writable_slot (sym (rolls-Struct align bytes)) ∙ fold-roll-Slot Bool Bool writable_step writable_table_step (open_slot.Struct align bytes)
+pub writable_struct_is : (align : ℕ) (bytes : Vec ℕ Global) → is_writable_slot (Struct align bytes) ≡ (is_align align && leb (length bytes.items) 255)
+writable_struct_is align bytes = ap is_writable_slot (sym (rolls-Struct align bytes)) ∙ fold-roll-Slot Bool Bool writable_step writable_table_step (open_slot.Struct align bytes)
 
-pub sound_structs : (align size : ℕ) (bytes : Vec ℕ Global) → is_writable_slot (Structs align size bytes) ≡ (is_align align && ltb 0 size && eqb (length bytes.items % size) 0)
-sound_structs align size bytes = ap is_writable_slot (sym (rolls-Structs align size bytes)) ∙ fold-roll-Slot Bool Bool writable_step writable_table_step (open_slot.Structs align size bytes)
+pub writable_structs_is : (align size : ℕ) (bytes : Vec ℕ Global) → is_writable_slot (Structs align size bytes) ≡ (is_align align && ltb 0 size && eqb (length bytes.items % size) 0)
+writable_structs_is align size bytes = ap is_writable_slot (sym (rolls-Structs align size bytes)) ∙ fold-roll-Slot Bool Bool writable_step writable_table_step (open_slot.Structs align size bytes)
 
-pub sound_table : (f : Flat) → is_writable_slot (Table f) ≡ is_writable f
-sound_table f = ap is_writable_slot (sym (rolls-Table f)) ∙ fold-roll-Slot Bool Bool writable_step writable_table_step (open_slot.Table f)
+pub writable_table_is : (f : Flat) → is_writable_slot (Table f) ≡ is_writable f
+writable_table_is f = ap is_writable_slot (sym (rolls-Table f)) ∙ fold-roll-Slot Bool Bool writable_step writable_table_step (open_slot.Table f)
 
-pub sound_tables : (fs : Vec Flat Global) → is_writable_slot (Tables fs) ≡ all_true (map is_writable fs.items)
-sound_tables fs = ap is_writable_slot (sym (rolls-Tables fs)) ∙ fold-roll-Slot Bool Bool writable_step writable_table_step (open_slot.Tables fs)
+pub writable_tables_is : (fs : Vec Flat Global) → is_writable_slot (Tables fs) ≡ all_true (map is_writable fs.items)
+writable_tables_is fs = ap is_writable_slot (sym (rolls-Tables fs)) ∙ fold-roll-Slot Bool Bool writable_step writable_table_step (open_slot.Tables fs)
 
-pub ruleset shapes = (part_absent, part_text, part_struct, part_structs, part_table, part_tables, sound_struct, scalar_shape)
+pub ruleset shapes = (part_absent, part_text, part_struct, part_structs, part_table, part_tables, writable_struct_is, scalar_shape)

@@ -15,9 +15,9 @@ use Rattle.flat_tables.specs.declared.flat.Slot.TheFolds.{fold_out-Slot}
 use Rattle.flat_tables.specs.declared.flat.Flat.{Flat}
 use Rattle.flat_tables.specs.Layout.{Part, Block, gap_to, zeros, fields, fields_end, entries, all_beneath, blocks, offsets, table_place, table_block, tables_block, text_block, vector_block, table_head, tables_head, payload}
 use Rattle.flat_tables.specs.Trees.{part_step, table_step, layout, part_of, all_true, is_writable, is_writable_slot, capped}
-use Rattle.flat_tables.proofs.Tables.{IsSized, length_fields, length_entries, fields_end_ge}
-use Rattle.flat_tables.proofs.Vectors.{length_offsets}
-use Rattle.flat_tables.proofs.Folds.{layout_is, part_scalar, part_text, part_structs, part_table, part_tables, is_writable_is, sound_tables}
+use Rattle.flat_tables.proofs.Tables.{IsSized, length_fields, length_entries, fields_end_ge, table_bytes}
+use Rattle.flat_tables.proofs.Vectors.{length_offsets, tables_bytes}
+use Rattle.flat_tables.proofs.Folds.{layout_is, part_scalar, part_text, part_structs, part_table, part_tables, is_writable_is, writable_tables_is}
 
 first_true : (a b : Bool) → (a && b) ≡ true → a ≡ true
 first_true true b h = refl
@@ -31,14 +31,14 @@ each_true : {X : Type 0} (test : X → Bool) (xs : List X) → all_true (map tes
 each_true test [] h = tt
 each_true test (x ∷ xs) h = (first_true (test x) _ h, each_true test xs (second_true (test x) _ h))
 
-pub slots_sound : (f : Flat) → IsTrue (is_writable f) → All (λ s. IsTrue (is_writable_slot s)) f.slots.items
-slots_sound f h = All-from_recursion (λ s. IsTrue (is_writable_slot s)) f.slots.items (each_true is_writable_slot f.slots.items (second_true (leb (length (map is_writable_slot f.slots.items)) 64) _ (sym (is_writable_is f) ∙ h)))
+pub slots_writable : (f : Flat) → IsTrue (is_writable f) → All (λ s. IsTrue (is_writable_slot s)) f.slots.items
+slots_writable f h = All-from_recursion (λ s. IsTrue (is_writable_slot s)) f.slots.items (each_true is_writable_slot f.slots.items (second_true (leb (length (map is_writable_slot f.slots.items)) 64) _ (sym (is_writable_is f) ∙ h)))
 
 pub slots_few : (f : Flat) → IsTrue (is_writable f) → length f.slots.items ≤ 64
 slots_few f h = let e : leb (length (map is_writable_slot f.slots.items)) 64 ≡ true = first_true _ _ (sym (is_writable_is f) ∙ h) in omega (arith, leb-true _ _ e, length-map f.slots.items is_writable_slot)
 
-pub tables_sound : (fs : Vec Flat Global) → IsTrue (is_writable_slot (Tables fs)) → All (λ f. IsTrue (is_writable f)) fs.items
-tables_sound fs h = All-from_recursion (λ f. IsTrue (is_writable f)) fs.items (each_true is_writable fs.items (sym (sound_tables fs) ∙ h))
+pub each_table_writable : (fs : Vec Flat Global) → IsTrue (is_writable_slot (Tables fs)) → All (λ f. IsTrue (is_writable f)) fs.items
+each_table_writable fs h = All-from_recursion (λ f. IsTrue (is_writable f)) fs.items (each_true is_writable fs.items (sym (writable_tables_is fs) ∙ h))
 
 -- each field has its size
 step_sized : (x : Slot-F Part Block) → IsSized (part_step x)
@@ -70,7 +70,7 @@ table_length ps e sized =
     let fs = fields ps 4 t (t + m) in
     let bs = all_beneath ps (t + m) in
     let tail = to_le_bytes w32 (4 + 2 * n) ++ (fs ++ bs) in
-    omega (arith, length-append (zeros g) (to_le_bytes w16 (4 + 2 * n) ++ (to_le_bytes w16 m ++ (es ++ tail))), length-replicate {A = ℕ} g 0, length-append es tail, length_entries ps 4, length-append fs bs, length_fields ps t sized 4 (t + m))
+    rw (table_bytes ps e) (omega (arith, length-append (zeros g) (to_le_bytes w16 (4 + 2 * n) ++ (to_le_bytes w16 m ++ (es ++ tail))), length-replicate {A = ℕ} g 0, length-append es tail, length_entries ps 4, length-append fs bs, length_fields ps t sized 4 (t + m)))
 
 -- the table of a tree ends where its fields and all beneath them end
 pub flat_length : (f : Flat) (e : ℕ) → e + length ((layout f).bytes e) ≡ table_place (length f.slots.items) e + fields_end (map part_of f.slots.items) 4 + length (all_beneath (map part_of f.slots.items) (table_place (length f.slots.items) e + fields_end (map part_of f.slots.items) 4))
@@ -83,7 +83,7 @@ tables_length bs e =
     let q = e + g in
     let os = offsets bs (q + 4) (q + 4 + 4 * length bs) in
     let xs = blocks bs (q + 4 + 4 * length bs) in
-    omega (arith, length-append (zeros g) (to_le_bytes w32 (length bs) ++ (os ++ xs)), length-replicate {A = ℕ} g 0, length-append os xs, length_offsets bs (q + 4) (q + 4 + 4 * length bs))
+    rw (tables_bytes bs e) (omega (arith, length-append (zeros g) (to_le_bytes w32 (length bs) ++ (os ++ xs)), length-replicate {A = ℕ} g 0, length-append os xs, length_offsets bs (q + 4) (q + 4 + 4 * length bs)))
 
 pub vector_length : (align n : ℕ) (items : List ℕ) (e : ℕ) → e + length ((vector_block align n items).bytes e) ≡ e + gap_to (max 4 align) (e + 4) + 4 + length items
 unfolding vector_block
@@ -188,7 +188,7 @@ unfolding table_block
 table_split f e =
     let ps = map part_of f.slots.items in
     let len : e + length (table_head ps e) ≡ table_place (length ps) e + fields_end ps 4 = head_length f e ∙ ap (λ n. table_place n e + fields_end ps 4) (sym (length-map f.slots.items part_of)) in
-    ap (λ (b : Block). b.bytes e) (layout_is f) ∙ rw len (simp append_assoc)
+    ap (λ (b : Block). b.bytes e) (layout_is f) ∙ rw len refl
 
 pub tables_split : (bs : List Block) (e : ℕ) → (tables_block bs).bytes e ≡ tables_head bs e ++ blocks bs (e + length (tables_head bs e))
 unfolding tables_block
@@ -198,7 +198,7 @@ tables_split bs e =
     let os = offsets bs (q + 4) (q + 4 + 4 * length bs) in
     let a = zeros g ++ to_le_bytes w32 (length bs) in
     let len : e + length (tables_head bs e) ≡ q + 4 + 4 * length bs = omega (arith, length-append a os, length-append (zeros g) (to_le_bytes w32 (length bs)), length-replicate {A = ℕ} g 0, length_offsets bs (q + 4) (q + 4 + 4 * length bs)) in
-    rw len (simp append_assoc)
+    rw len refl
 
 pub place_is : (f : Flat) (e : ℕ) → (layout f).place e ≡ table_place (length f.slots.items) e
 unfolding table_block

@@ -1,5 +1,5 @@
 -- A table that was written is read: its head, and each of its slots.
-use Rattle.std.proofs.Common.{◌≡◌, ℕ, zero, suc, ◌+◌, ◌-◌, ◌*◌, ◌^◌, ◌≤◌, ◌<◌, Bool, true, false, cond, eqb, List, [], ◌∷◌, ◌++◌, length, Option, Some, None, Result, Ok, Err, refl, sym, ap, ◌∙◌, arith, add_assoc}
+use Rattle.std.proofs.Common.{◌≡◌, ℕ, zero, suc, ◌+◌, ◌-◌, ◌*◌, ◌^◌, ◌≤◌, ◌<◌, Bool, true, false, cond, eqb, List, [], ◌∷◌, ◌++◌, length, Option, Some, None, Result, Ok, Err, refl, sym, ap, ◌∙◌, arith, append_assoc}
 use Rattle.std.specs.Prelude.{MatchBool}
 use Rattle.std.specs.List.{AllByRecursion}
 use Rattle.std.specs.Int.{w16, w32, to_le_bytes}
@@ -106,6 +106,12 @@ pub length_entries : (ps : List Part) (o : ℕ) → length (entries ps o) ≡ 2 
 length_entries [] o = refl
 length_entries (p ∷ ps) o = length_entries_cases p.present (o + gap_to p.align o) 0 (entries ps (o + gap_to p.align o + p.size)) (entries ps o) (length ps) (length_entries ps (o + gap_to p.align o + p.size)) (length_entries ps o)
 
+-- the bytes of a table one after another
+pub table_bytes : (ps : List Part) (e : ℕ) → let n = length ps in let m = fields_end ps 4 in let t = table_place n e in
+    (table_block ps).bytes e ≡ zeros (gap_to 8 (e + (4 + 2 * n))) ++ (to_le_bytes w16 (4 + 2 * n) ++ (to_le_bytes w16 m ++ (entries ps 4 ++ (to_le_bytes w32 (4 + 2 * n) ++ (fields ps 4 t (t + m) ++ all_beneath ps (t + m))))))
+unfolding table_block
+table_bytes ps e = simp append_assoc
+
 -- what a table of n slots that stands at t and has this size is read as
 abbrev pub head : List ℕ → ℕ → ℕ → ℕ → TableIn
 head all t n size = record { bytes = all; at = t; vtable = t - (4 + 2 * n); entries = 4 + 2 * n; size = size }
@@ -151,7 +157,7 @@ table_read all ps e sized small_n small_m h =
     let len_es = length_entries ps 4 in
     let len_fs = length_fields ps t sized 4 (t + m) in
     let v = e + g in
-    let d0 = At-to all _ v (to_le_bytes w16 (4 + 2 * n) ++ (to_le_bytes w16 m ++ (es ++ (to_le_bytes w32 (4 + 2 * n) ++ (fs ++ bs))))) (omega (arith, length-replicate {A = ℕ} g 0)) (At-right all e (zeros g) _ h) in
+    let d0 = At-to all _ v (to_le_bytes w16 (4 + 2 * n) ++ (to_le_bytes w16 m ++ (es ++ (to_le_bytes w32 (4 + 2 * n) ++ (fs ++ bs))))) (omega (arith, length-replicate {A = ℕ} g 0)) (At-right all e (zeros g) _ (rw (table_bytes ps e) at h)) in
     let d1 = At-right all v (to_le_bytes w16 (4 + 2 * n)) (to_le_bytes w16 m ++ (es ++ (to_le_bytes w32 (4 + 2 * n) ++ (fs ++ bs)))) d0 in
     let d2 = At-to all _ (v + 4) (es ++ (to_le_bytes w32 (4 + 2 * n) ++ (fs ++ bs))) (omega arith) (At-right all (v + 2) (to_le_bytes w16 m) (es ++ (to_le_bytes w32 (4 + 2 * n) ++ (fs ++ bs))) d1) in
     let d3 = At-to all _ t (to_le_bytes w32 (4 + 2 * n) ++ (fs ++ bs)) (omega arith) (At-right all (v + 4) es (to_le_bytes w32 (4 + 2 * n) ++ (fs ++ bs)) d2) in

@@ -1,12 +1,12 @@
 -- Vectors, tables behind offsets and inline structs that were written are read.
-use Rattle.std.proofs.Common.{◌≡◌, ℕ, zero, suc, ◌+◌, ◌-◌, ◌*◌, ◌^◌, ◌≤◌, ◌<◌, max, Bool, true, false, cond, List, [], ◌∷◌, ◌++◌, length, take, drop, Option, Some, None, Result, Ok, Err, refl, sym, ap, ◌∙◌, arith}
+use Rattle.std.proofs.Common.{◌≡◌, ℕ, zero, suc, ◌+◌, ◌-◌, ◌*◌, ◌^◌, ◌≤◌, ◌<◌, max, Bool, true, false, cond, List, [], ◌∷◌, ◌++◌, length, take, drop, Option, Some, None, Result, Ok, Err, refl, sym, ap, ◌∙◌, arith, append_assoc}
 use Rattle.std.specs.List.{AllByRecursion, flat_map}
 use Rattle.std.specs.Int.{w16, w32, to_le_bytes}
 use Rattle.std.proofs.lemmas.List.{length-append, length-replicate}
 use Rattle.flat_tables.specs.Places.{TableIn, VectorIn, span, number_at, target_of, table_at, field_of, struct_of, vector_at, vector_of, item_of, items_from}
 use Rattle.flat_tables.specs.Layout.{Part, Block, gap_to, zeros, inline, offset_to, vector_block, tables_block, offsets, blocks, fields, fields_end, entries, all_beneath, table_place, table_block}
 use Rattle.flat_tables.proofs.Spans.{At, At-left, At-right, At-to, At-span, At-long, At-16, At-32, At-offset}
-use Rattle.flat_tables.proofs.Tables.{Has, IsSized, length_entries}
+use Rattle.flat_tables.proofs.Tables.{Has, IsSized, length_entries, table_bytes}
 
 -- a block stands among the bytes that are appended for it
 pub record IsPlaced (b : Block) : Type 0 where
@@ -24,7 +24,7 @@ table_placed ps = record {
       let t = table_place n e in
       let es = entries ps 4 in
       let tail = to_le_bytes w32 (4 + 2 * n) ++ (fields ps 4 t (t + m) ++ all_beneath ps (t + m)) in
-      omega (arith, length-append (zeros g) (to_le_bytes w16 (4 + 2 * n) ++ (to_le_bytes w16 m ++ (es ++ tail))), length-replicate {A = ℕ} g 0, length-append es tail, length_entries ps 4);
+      rw (table_bytes ps e) (omega (arith, length-append (zeros g) (to_le_bytes w16 (4 + 2 * n) ++ (to_le_bytes w16 m ++ (es ++ tail))), length-replicate {A = ℕ} g 0, length-append es tail, length_entries ps 4));
 }
 
 pub offset_sized : (b : Block) → IsSized (offset_to b)
@@ -103,11 +103,17 @@ pub length_offsets : (bs : List Block) (a e : ℕ) → length (offsets bs a e) �
 length_offsets [] a e = refl
 length_offsets (b ∷ bs) a e = omega (arith, length-append (to_le_bytes w32 (b.place e - a)) (offsets bs (a + 4) (e + length (b.bytes e))), length_offsets bs (a + 4) (e + length (b.bytes e)))
 
+-- the bytes of a vector of tables one after another
+pub tables_bytes : (bs : List Block) (e : ℕ) → let q = e + gap_to 4 (e + 4) in let n = length bs in
+    (tables_block bs).bytes e ≡ zeros (gap_to 4 (e + 4)) ++ (to_le_bytes w32 n ++ (offsets bs (q + 4) (q + 4 + 4 * n) ++ blocks bs (q + 4 + 4 * n)))
+unfolding tables_block
+tables_bytes bs e = simp append_assoc
+
 pub tables_placed : (bs : List Block) → IsPlaced (tables_block bs)
 unfolding tables_block
 tables_placed bs = record {
   after = λ e. omega arith;
-  within = λ e. let g = gap_to 4 (e + 4) in omega (arith, length-append (zeros g) (to_le_bytes w32 (length bs) ++ (offsets bs (e + g + 4) (e + g + 4 + 4 * length bs) ++ blocks bs (e + g + 4 + 4 * length bs))), length-replicate {A = ℕ} g 0);
+  within = λ e. let g = gap_to 4 (e + 4) in rw (tables_bytes bs e) (omega (arith, length-append (zeros g) (to_le_bytes w32 (length bs) ++ (offsets bs (e + g + 4) (e + g + 4 + 4 * length bs) ++ blocks bs (e + g + 4 + 4 * length bs))), length-replicate {A = ℕ} g 0));
 }
 
 tables_at : (v : VectorIn) (bs : List Block) (i e : ℕ) → AllByRecursion IsPlaced bs → length v.bytes < 2 ^ 32 → v.first + i * 4 + 4 * length bs ≤ e → At v.bytes (v.first + i * 4) (offsets bs (v.first + i * 4) e) → At v.bytes e (blocks bs e) → TablesAt v i bs e
@@ -138,7 +144,7 @@ tables_read all bs e placed small h =
     let os = offsets bs (q + 4) (q + 4 + 4 * n) in
     let xs = blocks bs (q + 4 + 4 * n) in
     let len_os = length_offsets bs (q + 4) (q + 4 + 4 * n) in
-    let d0 = At-to all _ q (to_le_bytes w32 n ++ (os ++ xs)) (omega (arith, length-replicate {A = ℕ} g 0)) (At-right all e (zeros g) _ h) in
+    let d0 = At-to all _ q (to_le_bytes w32 n ++ (os ++ xs)) (omega (arith, length-replicate {A = ℕ} g 0)) (At-right all e (zeros g) _ (rw (tables_bytes bs e) at h)) in
     let d1 = At-right all q (to_le_bytes w32 n) (os ++ xs) d0 in
     let d2 = At-left all (q + 4) os xs d1 in
     let d3 = At-to all _ (q + 4 + 4 * n) xs (omega arith) (At-right all (q + 4) os xs d1) in

@@ -1,5 +1,4 @@
--- Own: the header of a file, 39 bytes. The twelve bytes that it begins with are those of the Icechunk
--- specification, version 1, "File layout".
+-- Own: the header of a file, 39 bytes, after the manner of the Icechunk specification, version 1.
 use Rattle.std.specs.Prelude.{◌≡◌, ℕ, List, [], ◌∷◌, ◌++◌, length, slice_index, replicate, Result, Ok, Err, Bool, nat_lt, nat_eq, ◌==◌, if◌then◌else◌}
 use Rattle.std.specs.List.{starts_with}
 use Rattle.flat_tables.specs.declared.header.Kind.{Kind}
@@ -7,6 +6,7 @@ use Rattle.flat_tables.specs.declared.header.Kind.TheVariants.{Snapshot, Manifes
 use Rattle.flat_tables.specs.declared.header.HeaderFault.{HeaderFault}
 use Rattle.flat_tables.specs.declared.header.HeaderFault.TheVariants.{Short, Magic, Version, FileType, Compression}
 
+-- the bytes that each file begins with
 abbrev pub magic : List ℕ
 magic = 0x49 ∷ 0x43 ∷ 0x45 ∷ 0xf0 ∷ 0x9f ∷ 0xa7 ∷ 0x8a ∷ 0x43 ∷ 0x48 ∷ 0x55 ∷ 0x4e ∷ 0x4b ∷ []
 

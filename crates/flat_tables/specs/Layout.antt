@@ -70,16 +70,16 @@ abbrev pub blocks : List Block → ℕ → List ℕ
 blocks [] e = []
 blocks (b ∷ bs) e = b.bytes e ++ blocks bs (e + length (b.bytes e))
 
+-- a vector of tables but for these: its offsets
+abbrev pub tables_head : List Block → ℕ → List ℕ
+tables_head bs e = let q = e + gap_to 4 (e + 4) in zeros (gap_to 4 (e + 4)) ++ to_le_bytes w32 (length bs) ++ offsets bs (q + 4) (q + 4 + 4 * length bs)
+
 -- a vector of tables: its offsets, and then each table with all beneath it
 unfoldable pub tables_block : List Block → Block
 tables_block bs = record {
   place = λ e. e + gap_to 4 (e + 4);
-  bytes = λ e. let q = e + gap_to 4 (e + 4) in zeros (gap_to 4 (e + 4)) ++ (to_le_bytes w32 (length bs) ++ (offsets bs (q + 4) (q + 4 + 4 * length bs) ++ blocks bs (q + 4 + 4 * length bs)));
+  bytes = λ e. tables_head bs e ++ blocks bs (e + gap_to 4 (e + 4) + 4 + 4 * length bs);
 }
-
--- all of it but the tables
-abbrev pub tables_head : List Block → ℕ → List ℕ
-tables_head bs e = let q = e + gap_to 4 (e + 4) in zeros (gap_to 4 (e + 4)) ++ to_le_bytes w32 (length bs) ++ offsets bs (q + 4) (q + 4 + 4 * length bs)
 
 -- where the fields end, from offset o on; each stands at the next multiple of its alignment
 abbrev pub fields_end : List Part → ℕ → ℕ
@@ -105,17 +105,16 @@ all_beneath (p ∷ ps) e = p.beneath e ++ all_beneath ps (e + length (p.beneath 
 abbrev pub table_place : ℕ → ℕ → ℕ
 table_place n e = e + gap_to 8 (e + (4 + 2 * n)) + (4 + 2 * n)
 
--- all of a table but what is beneath it
+-- the vtable, and the table with its fields from offset 4 on
 abbrev pub table_head : List Part → ℕ → List ℕ
 table_head ps e = let t = table_place (length ps) e in
     zeros (gap_to 8 (e + (4 + 2 * length ps))) ++ to_le_bytes w16 (4 + 2 * length ps) ++ to_le_bytes w16 (fields_end ps 4) ++ entries ps 4 ++ to_le_bytes w32 (4 + 2 * length ps) ++ fields ps 4 t (t + fields_end ps 4)
 
--- the vtable, the table with its fields from offset 4 on, and all that is beneath them
+-- a table with all beneath it
 unfoldable pub table_block : List Part → Block
 table_block ps = record {
   place = table_place (length ps);
-  bytes = λ e. let t = table_place (length ps) e in
-      zeros (gap_to 8 (e + (4 + 2 * length ps))) ++ (to_le_bytes w16 (4 + 2 * length ps) ++ (to_le_bytes w16 (fields_end ps 4) ++ (entries ps 4 ++ (to_le_bytes w32 (4 + 2 * length ps) ++ (fields ps 4 t (t + fields_end ps 4) ++ all_beneath ps (t + fields_end ps 4))))));
+  bytes = λ e. table_head ps e ++ all_beneath ps (table_place (length ps) e + fields_end ps 4);
 }
 
 -- a payload with this root table

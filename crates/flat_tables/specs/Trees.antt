@@ -42,8 +42,8 @@ writable_step (Scalar size value) = (size == 1 || size == 2 || size == 4 || size
 writable_step (Text text) = true
 writable_step (Struct align bytes) = is_align align && nat_le (length bytes.items) 255
 writable_step (Structs align size bytes) = is_align align && nat_lt 0 size && length bytes.items % size == 0
-writable_step (Table sound) = sound
-writable_step (Tables sounds) = all_true sounds.items
+writable_step (Table writable) = writable
+writable_step (Tables writables) = all_true writables.items
 
 abbrev pub writable_table_step : Flat-F Bool Bool → Bool
 writable_table_step f = nat_le (length f.slots.items) 64 && all_true f.slots.items

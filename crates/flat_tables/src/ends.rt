@@ -29,7 +29,7 @@ pub fn shape(slot: &Slot) -> Option<(usize, usize)>
 
 /// Where the fields of a table end, from its place.
 pub fn slots_end(slots: &[Slot]) -> usize
-    requires sound { All (λ s. IsTrue (is_writable_slot s)) slots.now }
+    requires writable { All (λ s. IsTrue (is_writable_slot s)) slots.now }
     requires few { length slots.now ≤ 64 }
     ensures end { result ≡ fields_end (map part_of slots.now) 4 }
     ensures small { result < 20000 }

@@ -178,7 +178,7 @@ fn one_field(alloc: Global, slot: Slot) -> Result<Flat, AllocError>
 }
 
 /// A vector of two tables.
-#[tactic(auto, using(crate::proofs::Folds::sound_tables))]
+#[tactic(auto, using(crate::proofs::Folds::writable_tables_is))]
 fn two_tables(alloc: Global, first: Flat, second: Flat) -> Result<Slot, AllocError>
     requires first { IsTrue (is_writable first) }
     requires second { IsTrue (is_writable second) }

@@ -43,7 +43,7 @@ fn push_scalar(out: &mut Vec<u8>, size: usize, value: u64) -> Result<(), AllocEr
 
 /// The vtable's entries.
 fn put_entries(out: &mut Vec<u8>, slots: &[Slot]) -> Result<(), AllocError>
-    requires sound { All (λ s. IsTrue (is_writable_slot s)) slots.now }
+    requires writable { All (λ s. IsTrue (is_writable_slot s)) slots.now }
     requires few { length slots.now ≤ 64 }
     ensures { OnOk result (out.new.items ≡ out.old.items ++ entries (map part_of slots.now) 4) }
 {
@@ -63,7 +63,7 @@ fn put_entries(out: &mut Vec<u8>, slots: &[Slot]) -> Result<(), AllocError>
 
 /// The bytes of a field that stands at this place, with all beneath it appended at `below`.
 fn put_field(out: &mut Vec<u8>, slot: &Slot, at: usize, below: usize) -> Result<(), AllocError>
-    requires sound { IsTrue (is_writable_slot slot.now) }
+    requires writable { IsTrue (is_writable_slot slot.now) }
     requires before { at ≤ below }
     requires fits { below + length ((part_of slot.now).beneath below) ≤ 268435417 }
     ensures { OnOk result (out.new.items ≡ out.old.items ++ (part_of slot.now).field at below) }
@@ -92,7 +92,7 @@ fn put_part(
     end: usize,
     below: usize,
 ) -> Result<usize, AllocError>
-    requires sound { IsTrue (is_writable_slot slot.now) }
+    requires writable { IsTrue (is_writable_slot slot.now) }
     requires small { end < 20000 }
     requires before { place + fields_end (part_of slot.now ∷ []) end ≤ below }
     requires fits { below + length ((part_of slot.now).beneath below) ≤ 268435417 }
@@ -118,7 +118,7 @@ fn put_fields(
     place: usize,
     below: usize,
 ) -> Result<(), AllocError>
-    requires sound { All (λ s. IsTrue (is_writable_slot s)) slots.now }
+    requires writable { All (λ s. IsTrue (is_writable_slot s)) slots.now }
     requires few { length slots.now ≤ 64 }
     requires before { place + fields_end (map part_of slots.now) 4 ≤ below }
     requires fits { below + length (all_beneath (map part_of slots.now) below) ≤ 268435417 }
@@ -135,7 +135,7 @@ fn put_fields(
 
 /// All of a table but what is beneath it.
 fn put_head(out: &mut Vec<u8>, slots: &[Slot]) -> Result<(), AllocError>
-    requires sound { All (λ s. IsTrue (is_writable_slot s)) slots.now }
+    requires writable { All (λ s. IsTrue (is_writable_slot s)) slots.now }
     requires few { length slots.now ≤ 64 }
     requires fits { let end = table_place (length slots.now) (length out.old.items) + fields_end (map part_of slots.now) 4 in end + length (all_beneath (map part_of slots.now) end) ≤ 268435417 }
     ensures { OnOk result (out.new.items ≡ out.old.items ++ table_head (map part_of slots.now) (length out.old.items)) }
@@ -156,7 +156,7 @@ fn put_head(out: &mut Vec<u8>, slots: &[Slot]) -> Result<(), AllocError>
 /// A table with all beneath it.
 #[cycle(put)]
 fn put_table(out: &mut Vec<u8>, flat: &Flat) -> Result<(), AllocError>
-    requires sound { IsTrue (is_writable flat.now) }
+    requires writable { IsTrue (is_writable flat.now) }
     requires fits { length out.old.items + length ((layout flat.now).bytes (length out.old.items)) ≤ 268435417 }
     ensures { OnOk result (out.new.items ≡ out.old.items ++ (layout flat.now).bytes (length out.old.items)) }
 {
@@ -170,7 +170,7 @@ fn put_table(out: &mut Vec<u8>, flat: &Flat) -> Result<(), AllocError>
 /// All that is beneath a field.
 #[cycle(put)]
 fn put_beneath(out: &mut Vec<u8>, slot: &Slot) -> Result<(), AllocError>
-    requires sound { IsTrue (is_writable_slot slot.now) }
+    requires writable { IsTrue (is_writable_slot slot.now) }
     requires fits { length out.old.items + length ((part_of slot.now).beneath (length out.old.items)) ≤ 268435417 }
     ensures { OnOk result (out.new.items ≡ out.old.items ++ (part_of slot.now).beneath (length out.old.items)) }
 {
@@ -217,7 +217,7 @@ fn put_vector(out: &mut Vec<u8>, align: u8, size: u8, bytes: &[u8]) -> Result<()
 
 /// A vector of tables without these.
 fn put_offsets(out: &mut Vec<u8>, flats: &[Flat]) -> Result<(), AllocError>
-    requires sound { All (λ f. IsTrue (is_writable f)) flats.now }
+    requires writable { All (λ f. IsTrue (is_writable f)) flats.now }
     requires fits { length out.old.items + length ((tables_block (map layout flats.now)).bytes (length out.old.items)) ≤ 268435417 }
     ensures { OnOk result (out.new.items ≡ out.old.items ++ tables_head (map layout flats.now) (length out.old.items)) }
 {
@@ -235,7 +235,7 @@ fn put_offsets_from(
     first: usize,
     below: usize,
 ) -> Result<(), AllocError>
-    requires sound { All (λ f. IsTrue (is_writable f)) flats.now }
+    requires writable { All (λ f. IsTrue (is_writable f)) flats.now }
     requires before { first + 4 * length flats.now ≤ below }
     requires fits { below + length (blocks (map layout flats.now) below) ≤ 268435417 }
     ensures { OnOk result (out.new.items ≡ out.old.items ++ offsets (map layout flats.now) first below) }
@@ -252,7 +252,7 @@ fn put_offsets_from(
 
 /// The place of a table that is appended at `from`.
 fn place_of(flat: &Flat, from: usize) -> usize
-    requires sound { IsTrue (is_writable flat.now) }
+    requires writable { IsTrue (is_writable flat.now) }
     requires within { from ≤ 268435417 }
     ensures place { result ≡ (layout flat.now).place from }
     ensures after { from ≤ result }

@@ -3,11 +3,11 @@ use Rattle.std.specs.Prelude.{IsTrue, max, Vec}
 use Rattle.std.specs.String.{string_bytes}
 use Rattle.flat_tables.specs.Layout.{gap_to, fields_end, all_beneath, blocks, table_place}
 use Rattle.flat_tables.specs.Trees.{layout, part_of, is_writable_slot, capped}
-use Rattle.flat_tables.proofs.Lengths.{slots_sound, slots_few, tables_sound, flat_length, structs_beneath, tables_beneath, text_beneath, capped_on}
+use Rattle.flat_tables.proofs.Lengths.{slots_writable, slots_few, each_table_writable, flat_length, structs_beneath, tables_beneath, text_beneath, capped_on}
 use Rattle.flat_tables.proofs.ends.+end.Goals as goal
 
-pub table_end-slots_end-requires-clause-sound : goal.table_end-slots_end-requires-clause-sound
-table_end-slots_end-requires-clause-sound t c = rw c.deref.ensures.value (slots_sound c.args.flat.now c.requires)
+pub table_end-slots_end-requires-clause-writable : goal.table_end-slots_end-requires-clause-writable
+table_end-slots_end-requires-clause-writable t c = rw c.deref.ensures.value (slots_writable c.args.flat.now c.requires)
 
 pub table_end-slots_end-requires-clause-few : goal.table_end-slots_end-requires-clause-few
 table_end-slots_end-requires-clause-few t c = rw c.deref.ensures.value (slots_few c.args.flat.now c.requires)
@@ -24,7 +24,7 @@ table_end-loop-slot-init t c =
     record {
       so_far = rw end (capped_on (λ e. length (all_beneath parts e)) b) ∙ ap capped (sym (flat_length flat from));
       small = omega (arith, end);
-      sound = slots_sound flat c.requires;
+      writable = slots_writable flat c.requires;
     }
 
 pub beneath_end-returns-in-Text : goal.beneath_end-returns-in-Text
@@ -48,5 +48,5 @@ beneath_end-loop-flat-init t c =
     record {
       so_far = rw (c.deref-flat-items.ensures.value, c.offsets_end-end.ensures) (capped_on (λ e. length (blocks (map layout flats.items) e)) b) ∙ ap capped (sym all);
       small = omega (arith, c.offsets_end-end.ensures);
-      sound = rw c.deref-flat-items.ensures.value (tables_sound flats (subst (λ s. IsTrue (is_writable_slot s)) c.in-Tables.is c.requires));
+      writable = rw c.deref-flat-items.ensures.value (each_table_writable flats (subst (λ s. IsTrue (is_writable_slot s)) c.in-Tables.is c.requires));
     }

@@ -8,12 +8,12 @@ abbrev pub invariant-table_end-loop-slot : goal.invariant-table_end-loop-slot
 invariant-table_end-loop-slot l = record {
   so_far : capped (l.end + length (all_beneath (map part_of (drop l.slot-index l.flat.slots.items)) l.end)) ≡ capped (l.from + length ((layout l.flat).bytes l.from));
   small : l.end < 2 ^ 64;
-  sound : All (λ s. IsTrue (is_writable_slot s)) l.flat.slots.items;
+  writable : All (λ s. IsTrue (is_writable_slot s)) l.flat.slots.items;
 }
 
 abbrev pub invariant-beneath_end-loop-flat : goal.invariant-beneath_end-loop-flat
 invariant-beneath_end-loop-flat l = record {
   so_far : capped (l.end + length (blocks (map layout (drop l.flat-index l.flat-items)) l.end)) ≡ capped (l.from + length ((part_of l.slot).beneath l.from));
   small : l.end < 2 ^ 64;
-  sound : All (λ f. IsTrue (is_writable f)) l.flat-items;
+  writable : All (λ f. IsTrue (is_writable f)) l.flat-items;
 }

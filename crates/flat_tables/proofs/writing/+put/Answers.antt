@@ -2,14 +2,14 @@ use Rattle.std.proofs.Common.{rules, arith, ◌≡◌, ◌+◌, length, map, ap,
 use Rattle.std.specs.Prelude.{IsTrue}
 use Rattle.flat_tables.specs.Layout.{all_beneath, blocks, table_head, tables_head}
 use Rattle.flat_tables.specs.Trees.{layout, part_of, is_writable, is_writable_slot}
-use Rattle.flat_tables.proofs.Lengths.{slots_sound, slots_few, tables_sound, flat_length, structs_beneath, text_beneath, tables_beneath_is, table_split, begun}
+use Rattle.flat_tables.proofs.Lengths.{slots_writable, slots_few, each_table_writable, flat_length, structs_beneath, text_beneath, tables_beneath_is, table_split, begun}
 use Rattle.flat_tables.proofs.writing.+put.Goals as goal
 
 pub put_beneath-put_vector-requires-clause-fits : goal.put_beneath-put_vector-requires-clause-fits
 put_beneath-put_vector-requires-clause-fits t c = rw c.deref.ensures.value (omega (arith, structs_beneath c.args.slot.now c.in-Structs.align c.in-Structs.size c.in-Structs.bytes (length c.args.out.now.items) c.in-Structs.is, c.requires.fits))
 
-pub put_beneath-put_offsets-requires-clause-sound : goal.put_beneath-put_offsets-requires-clause-sound
-put_beneath-put_offsets-requires-clause-sound t c = rw c.deref-in-Tables.ensures.value (tables_sound c.in-Tables.flats (subst (λ s. IsTrue (is_writable_slot s)) c.in-Tables.is c.requires.sound))
+pub put_beneath-put_offsets-requires-clause-writable : goal.put_beneath-put_offsets-requires-clause-writable
+put_beneath-put_offsets-requires-clause-writable t c = rw c.deref-in-Tables.ensures.value (each_table_writable c.in-Tables.flats (subst (λ s. IsTrue (is_writable_slot s)) c.in-Tables.is c.requires.writable))
 
 pub put_beneath-loop-flat-init : goal.put_beneath-loop-flat-init
 put_beneath-loop-flat-init t c =
@@ -20,14 +20,14 @@ put_beneath-loop-flat-init t c =
     record {
       bytes = rw c.deref-flat-items.ensures.value b.bytes;
       fits = rw c.deref-flat-items.ensures.value (omega (arith, b.len, c.requires.fits));
-      sound = rw c.deref-flat-items.ensures.value (tables_sound fs (subst (λ s. IsTrue (is_writable_slot s)) c.in-Tables.is c.requires.sound));
+      writable = rw c.deref-flat-items.ensures.value (each_table_writable fs (subst (λ s. IsTrue (is_writable_slot s)) c.in-Tables.is c.requires.writable));
     }
 
-pub put_table-put_head-requires-clause-sound : goal.put_table-put_head-requires-clause-sound
-put_table-put_head-requires-clause-sound t c = rw c.deref.ensures.value (slots_sound c.args.flat.now c.requires.sound)
+pub put_table-put_head-requires-clause-writable : goal.put_table-put_head-requires-clause-writable
+put_table-put_head-requires-clause-writable t c = rw c.deref.ensures.value (slots_writable c.args.flat.now c.requires.writable)
 
 pub put_table-put_head-requires-clause-few : goal.put_table-put_head-requires-clause-few
-put_table-put_head-requires-clause-few t c = rw c.deref.ensures.value (slots_few c.args.flat.now c.requires.sound)
+put_table-put_head-requires-clause-few t c = rw c.deref.ensures.value (slots_few c.args.flat.now c.requires.writable)
 
 pub put_table-put_head-requires-clause-fits : goal.put_table-put_head-requires-clause-fits
 put_table-put_head-requires-clause-fits t c = rw c.deref.ensures.value (omega (arith, flat_length c.args.flat.now (length c.args.out.now.items), c.requires.fits))
@@ -41,7 +41,7 @@ put_table-loop-slot-init t c =
     record {
       bytes = b.bytes;
       fits = omega (arith, b.len, c.requires.fits);
-      sound = slots_sound c.args.flat.now c.requires.sound;
+      writable = slots_writable c.args.flat.now c.requires.writable;
     }
 
 pub put_beneath-put_text-requires : goal.put_beneath-put_text-requires

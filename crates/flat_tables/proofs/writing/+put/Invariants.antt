@@ -8,12 +8,12 @@ abbrev pub invariant-put_table-loop-slot : goal.invariant-put_table-loop-slot
 invariant-put_table-loop-slot l = record {
   bytes : l.out.items ++ all_beneath (map part_of (drop l.slot-index l.flat.slots.items)) (length l.out.items) ≡ l.fn.out.items ++ (layout l.flat).bytes (length l.fn.out.items);
   fits : length l.out.items + length (all_beneath (map part_of (drop l.slot-index l.flat.slots.items)) (length l.out.items)) ≤ 268435417;
-  sound : All (λ s. IsTrue (is_writable_slot s)) l.flat.slots.items;
+  writable : All (λ s. IsTrue (is_writable_slot s)) l.flat.slots.items;
 }
 
 abbrev pub invariant-put_beneath-loop-flat : goal.invariant-put_beneath-loop-flat
 invariant-put_beneath-loop-flat l = record {
   bytes : l.out.items ++ blocks (map layout (drop l.flat-index l.flat-items)) (length l.out.items) ≡ l.fn.out.items ++ (part_of l.slot).beneath (length l.fn.out.items);
   fits : length l.out.items + length (blocks (map layout (drop l.flat-index l.flat-items)) (length l.out.items)) ≤ 268435417;
-  sound : All (λ f. IsTrue (is_writable f)) l.flat-items;
+  writable : All (λ f. IsTrue (is_writable f)) l.flat-items;
 }

@@ -10,4 +10,4 @@ returns-clause-place c =
 pub returns-clause-small : goal.returns-clause-small
 returns-clause-small c =
     let n : c.len.result ≡ length c.args.flat.now.slots.items = search rules in
-    omega (arith, slots_few c.args.flat.now c.requires.sound)
+    omega (arith, slots_few c.args.flat.now c.requires.writable)
