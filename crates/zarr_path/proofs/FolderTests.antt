@@ -5,8 +5,7 @@ use Rattle.std.specs.Cmp.{both_ways}
 use Rattle.std.specs.Cmp.Lexicographic.{pointwise}
 use Rattle.std.specs.List.{starts_with}
 use Rattle.std.proofs.lemmas.Slice.Eq.{starts_is, bytes_eq-Decides}
-use Rattle.zarr_path.specs.Paths.{same_path, root, folder}
-use Rattle.zarr_path.proofs.OrderLaws.{same_path-true, same_path-refl}
+use Rattle.zarr_path.specs.Paths.{root, folder}
 use Rattle.zarr_path.proofs.PathLaws.{by_numbers, folder_cases}
 
 folder-other : (p : List ℕ) → pointwise eqb p root ≡ false → folder p ≡ p ++ 47 ∷ []

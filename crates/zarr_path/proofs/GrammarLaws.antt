@@ -1,19 +1,19 @@
 -- The tests of paths against the grammar's own words.
-use Rattle.std.proofs.Common.{◌≡◌, ◌≢◌, ℕ, ◌+◌, ◌<◌, ◌≤◌, Bool, true, false, cond, not, ◌&&◌, eqb, ltb, List, [], ◌∷◌, ◌++◌, length, drop, Option, Some, None, is_none, option_map, Result, Ok, Err, refl, sym, ap, subst, ◌∙◌, arith, ◌⊎◌, inl, inr, length-append, add-zero}
+use Rattle.std.proofs.Common.{◌≡◌, ◌≢◌, ℕ, ◌+◌, Bool, true, false, cond, not, ◌&&◌, eqb, ltb, List, [], ◌∷◌, ◌++◌, length, drop, Option, Some, None, is_none, option_map, Result, Ok, Err, refl, sym, ap, subst, ◌∙◌, arith, inl, inr, length-append, add-zero}
 use Rattle.std.specs.Prelude.{nat_eq, codes}
 use Rattle.std.specs.Bool.{Decides}
 use Rattle.std.specs.List.{All, starts_with, list_all}
-use Rattle.std.proofs.lemmas.Bool.{and_parts, and_from, ltb-true, ltb-false, lt-ltb, le-ltb, eqb-true, eqb-false, ne_eqb, not-true, not_from_false, false_from_ne_true, false≢true}
+use Rattle.std.proofs.lemmas.Bool.{and_parts, and_from, ltb-true, ltb-false, lt-ltb, le-ltb, eqb-false, ne_eqb, not-true, false_from_ne_true, false≢true}
 use Rattle.std.proofs.lemmas.Bool.Decides.{Decides-by_and, Decides-eqb}
 use Rattle.std.proofs.lemmas.List.Elements.{All-weaker}
 use Rattle.std.proofs.lemmas.Slice.Eq.{starts_is}
 use Rattle.zarr_path.specs.declared.paths.PathFault.{PathFault}
 use Rattle.zarr_path.specs.declared.paths.PathFault.TheVariants as f
-use Rattle.zarr_path.specs.Paths.{most_bytes, root, is_name, parts_of, names_of, first_bad, joined, path_fault, is_path, ReadsPath}
+use Rattle.zarr_path.specs.Paths.{most_bytes, root, is_name, parts_of, names_of, first_bad, joined, path_fault, ReadsPath}
 use Rattle.zarr_path.specs.Grammar.{IsPart, IsName, AllNames, text_of, IsSpelled, IsFirstBad, IsFault, GrammarLaw, ReadsSpelled}
 use Rattle.zarr_path.proofs.PartLaws.{NoSlash, parts_first}
 use Rattle.zarr_path.proofs.JoinLaws.{joined-parts, AllNoSlash, parts-joined, parts-no_slash, parts-head}
-use Rattle.zarr_path.proofs.SpellLaws.{Spelling, path_parts, path_made, root-path, rooted, names_of-root, names_of-cons}
+use Rattle.zarr_path.proofs.SpellLaws.{Spelling, path_parts, path_made, rooted, names_of-root, names_of-cons}
 use Rattle.zarr_path.proofs.FaultLaws.{no_first}
 
 -- ---- names

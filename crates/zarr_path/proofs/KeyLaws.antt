@@ -1,10 +1,9 @@
 -- Whose key a text is.
-use Rattle.std.proofs.Common.{◌≡◌, ◌≢◌, ℕ, ◌^◌, ◌<◌, ◌≤◌, Bool, true, false, cond, not, ◌&&◌, eqb, List, [], ◌∷◌, ◌++◌, length, get_or, drop, map, reverse, Option, Some, None, option_map, option_and_then, Result, Ok, Err, refl, sym, ap, subst, ◌∙◌, arith, ◌⊎◌, inl, inr, append_assoc, length-append}
+use Rattle.std.proofs.Common.{◌≡◌, ◌≢◌, ℕ, ◌^◌, ◌<◌, Bool, true, false, cond, not, ◌&&◌, eqb, List, [], ◌∷◌, ◌++◌, length, get_or, drop, map, reverse, Option, Some, None, option_map, option_and_then, Result, Ok, Err, refl, sym, ap, subst, ◌∙◌, arith, inl, inr, append_assoc}
 use Rattle.std.specs.Prelude.{codes}
 use Rattle.std.specs.Fmt.{decimal}
-use Rattle.std.specs.List.{All, flat_map, onto_first, slice_split}
 use Rattle.std.specs.Str.{bytes_eq}
-use Rattle.std.proofs.lemmas.Bool.{and_parts, and_from, not-true, eqb-true, false_from_ne_true, true≢false}
+use Rattle.std.proofs.lemmas.Bool.{false_from_ne_true, true≢false}
 use Rattle.std.proofs.lemmas.List.{append-nil, reverse-append, reverse-reverse, map-append}
 use Rattle.std.proofs.lemmas.List.Concat.{flat_map-append}
 use Rattle.std.proofs.lemmas.List.Elements.{All-from_recursion}
@@ -13,16 +12,16 @@ use Rattle.zarr_path.specs.declared.keys.KeyFault.{KeyFault}
 use Rattle.zarr_path.specs.declared.keys.KeyFault.TheVariants as f
 use Rattle.zarr_path.specs.declared.keys.ZarrKey.{ZarrKey}
 use Rattle.zarr_path.specs.declared.keys.ZarrKey.TheVariants as k
-use Rattle.zarr_path.specs.Paths.{root, is_path, same_path, folder, parts_of, names_of, joined}
+use Rattle.zarr_path.specs.Paths.{root, is_path, same_path, parts_of, names_of, joined}
 use Rattle.zarr_path.specs.Indices.{is_index}
-use Rattle.zarr_path.specs.Keys.{key_front, meta_key, chunk_key, number_of, path_spelled, parts_back, chunk_at, key_at, key_of, before_back, path_before, IsKeyOf, ReadsKey, SaysWhose}
+use Rattle.zarr_path.specs.Keys.{key_front, meta_key, chunk_key, number_of, path_spelled, parts_back, chunk_at, key_at, key_of, IsKeyOf, ReadsKey, SaysWhose}
 use Rattle.zarr_path.specs.KeyLaw.{KeyLaw, Gives, RoundTripLaw, OneKeyLaw}
 use Rattle.zarr_path.proofs.IndexLaws.{index-nil, index-cons, index_parts}
-use Rattle.zarr_path.proofs.OrderLaws.{same_path-false, same_path-refl, same_path-true}
+use Rattle.zarr_path.proofs.OrderLaws.{same_path-refl}
 use Rattle.zarr_path.proofs.PartLaws.{NoSlash, parts-append}
 use Rattle.zarr_path.proofs.JoinLaws.{joined-parts, AllNoSlash, parts-joined}
-use Rattle.zarr_path.proofs.SpellLaws.{path_parts, Spelling, names_of-root, names_of-cons, root-path}
-use Rattle.zarr_path.proofs.KeyTests.{front-root, front-inner, spelled, number_of-decimal, number_of-some, first_digit, decimal-no_slash}
+use Rattle.zarr_path.proofs.SpellLaws.{path_parts, names_of-root, names_of-cons, root-path}
+use Rattle.zarr_path.proofs.KeyTests.{front-inner, spelled, number_of-decimal, number_of-some, first_digit, decimal-no_slash}
 
 -- ---- the path in front
 path_case : (P : List ℕ → Type 0) (p : List ℕ) → is_path p ≡ true → P root → ((b : ℕ) (bs : List ℕ) → is_path (47 ∷ b ∷ bs) ≡ true → P (47 ∷ b ∷ bs)) → P p

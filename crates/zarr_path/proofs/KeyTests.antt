@@ -1,15 +1,15 @@
 -- What the code's tests of keys say.
-use Rattle.std.proofs.Common.{◌≡◌, ◌≢◌, ℕ, ◌+◌, ◌^◌, ◌<◌, ◌≤◌, Bool, true, false, cond, not, ◌&&◌, ltb, List, [], ◌∷◌, ◌++◌, length, get_or, drop, Option, Some, None, is_none, Result, Ok, Err, OkIff, IfOk, MatchOption, String, Global, refl, sym, ap, subst, ◌∙◌, arith, ◌⊎◌, inl, inr}
+use Rattle.std.proofs.Common.{◌≡◌, ◌≢◌, ℕ, ◌+◌, ◌^◌, ◌<◌, ◌≤◌, Bool, true, false, cond, ◌&&◌, ltb, List, [], ◌∷◌, ◌++◌, length, get_or, drop, Option, Some, None, is_none, Result, Ok, Err, OkIff, IfOk, MatchOption, String, Global, refl, sym, ap, subst, ◌∙◌, arith, ◌⊎◌, inl, inr}
 use Rattle.std.specs.Fmt.{decimal}
 use Rattle.std.specs.Result.{result_ok}
 use Rattle.std.specs.Str.{bytes_eq}
 use Rattle.std.specs.Str.Parse.{digits_value, AllDigits, ParsesUnsigned}
-use Rattle.std.proofs.lemmas.Bool.{and_from, and_parts, lt-ltb, ltb-true, false_from_ne_true, cases_lt}
+use Rattle.std.proofs.lemmas.Bool.{lt-ltb, ltb-true, cases_lt}
 use Rattle.std.proofs.lemmas.Fmt.{digits_decimal, digits_value-decimal, decimal_nonempty, first_decimal, decimal-digits_value, decimal_digit}
 use Rattle.std.proofs.lemmas.Slice.Eq.{bytes_eq-Decides}
 use Rattle.std.proofs.lemmas.Str.Parse.{IsNumeralModel, numerals_by_value, tells_digits, digit_at, parse_plain}
 use Rattle.zarr_path.specs.declared.paths.PathFault.{PathFault}
-use Rattle.zarr_path.specs.Paths.{root, folder, same_path, is_path, path_fault, names_of}
+use Rattle.zarr_path.specs.Paths.{root, is_path, path_fault, names_of}
 use Rattle.zarr_path.specs.Keys.{key_front, number_of, path_spelled, path_before}
 use Rattle.std.specs.String.{string_bytes}
 use Rattle.std.specs.Str.Pattern.{FindsCharPrefix}

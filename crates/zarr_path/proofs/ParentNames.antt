@@ -1,9 +1,9 @@
 -- The name of a node, behind its parent.
-use Rattle.std.proofs.Common.{◌≡◌, ◌≢◌, ℕ, Bool, true, false, cond, not, ◌&&◌, eqb, List, [], ◌∷◌, ◌++◌, length, drop, Option, Some, None, refl, sym, ap, ◌∙◌, arith, append_assoc}
+use Rattle.std.proofs.Common.{◌≡◌, ℕ, Bool, true, false, cond, eqb, List, [], ◌∷◌, ◌++◌, length, drop, Option, Some, None, refl, sym, ap, ◌∙◌, arith, append_assoc}
 use Rattle.std.specs.List.{list_all}
 use Rattle.std.proofs.lemmas.Bool.{and_parts, eqb-true, false≢true}
 use Rattle.std.proofs.lemmas.List.Elements.{All-nil, All-cons}
-use Rattle.zarr_path.specs.Paths.{root, is_name, is_path, parts_of, names_of, folder, before_slash, before_slash_after, parent_of, same_path}
+use Rattle.zarr_path.specs.Paths.{root, is_name, parts_of, names_of, folder, before_slash, before_slash_after, parent_of}
 use Rattle.zarr_path.specs.Grammar.{IsNamed, ParentNameLaw}
 use Rattle.zarr_path.proofs.OrderLaws.{same_path-false}
 use Rattle.zarr_path.proofs.PartLaws.{NoSlash, parts_alone, parts-append}

@@ -1,11 +1,11 @@
 -- The parts between the slashes of a text, and what stands before its last slash.
-use Rattle.std.proofs.Common.{◌≡◌, ◌≢◌, ℕ, ◌+◌, ◌<◌, ◌≤◌, Bool, true, false, cond, eqb, List, [], ◌∷◌, ◌++◌, length, get_or, take, drop, Option, Some, None, option_map, MatchOption, refl, sym, ap, ◌∙◌, arith, length-append}
-use Rattle.std.specs.List.{All, slice_split, onto_first}
+use Rattle.std.proofs.Common.{◌≡◌, ◌≢◌, ℕ, ◌<◌, true, false, cond, eqb, List, [], ◌∷◌, ◌++◌, length, get_or, take, drop, Option, Some, None, option_map, MatchOption, refl, sym, ap, ◌∙◌, arith}
+use Rattle.std.specs.List.{All, onto_first}
 use Rattle.std.specs.Str.Pattern.{RFindsChar, SplitsAroundMatch}
-use Rattle.std.proofs.lemmas.List.{take-append-drop, append_assoc}
+use Rattle.std.proofs.lemmas.List.{take-append-drop}
 use Rattle.std.proofs.lemmas.List.Elements.{All-from_get_or, All-tail, All-head}
 use Rattle.std.proofs.lemmas.List.Splits.{slice_split_none, slice_split_at, length-slice_split}
-use Rattle.std.proofs.lemmas.Str.Pattern.{NoCharPasses-char, drop_at_char, IsSplitOnceResult, split_parts, strip_prefix_char}
+use Rattle.std.proofs.lemmas.Str.Pattern.{NoCharPasses-char, drop_at_char, IsSplitOnceResult, split_parts}
 use Rattle.std.proofs.lemmas.Bool.{ne_eqb}
 use Rattle.zarr_path.specs.Paths.{parts_of, before_slash, before_slash_after}
 use denote.Ref.{Bor}

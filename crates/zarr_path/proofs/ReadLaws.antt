@@ -1,5 +1,5 @@
 -- What the reader of keys answers.
-use Rattle.std.proofs.Common.{◌≡◌, ℕ, Bool, true, false, cond, List, [], ◌∷◌, reverse, Option, Some, None, option_map, option_and_then, Result, Ok, Err, refl, sym, ap, subst, ◌∙◌}
+use Rattle.std.proofs.Common.{◌≡◌, ℕ, true, false, cond, List, [], ◌∷◌, reverse, Option, Some, None, option_map, option_and_then, Result, Ok, Err, refl, sym, ap, subst, ◌∙◌}
 use Rattle.std.specs.Prelude.{codes}
 use Rattle.std.specs.Str.{bytes_eq}
 use Rattle.std.proofs.lemmas.List.{reverse-reverse}
@@ -7,7 +7,7 @@ use Rattle.zarr_path.specs.declared.keys.KeyFault.{KeyFault}
 use Rattle.zarr_path.specs.declared.keys.KeyFault.TheVariants as f
 use Rattle.zarr_path.specs.declared.keys.ZarrKey.{ZarrKey}
 use Rattle.zarr_path.specs.declared.keys.ZarrKey.TheVariants as k
-use Rattle.zarr_path.specs.Paths.{root, parts_of, joined}
+use Rattle.zarr_path.specs.Paths.{parts_of, joined}
 use Rattle.zarr_path.specs.Keys.{number_of, path_spelled, parts_back, chunk_at, key_at, key_of, before_back, path_before, ReadsBefore, ReadsChunk, ReadsKey}
 use Rattle.zarr_path.proofs.JoinLaws.{joined-parts}
 

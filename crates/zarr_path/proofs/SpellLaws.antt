@@ -1,12 +1,10 @@
 -- What a text has that is a path, and what makes it one.
-use Rattle.std.proofs.Common.{◌≡◌, ◌≢◌, ℕ, ◌+◌, ◌<◌, ◌≤◌, Bool, true, false, cond, not, ◌&&◌, eqb, ltb, List, [], ◌∷◌, ◌++◌, length, drop, Option, Some, None, is_none, option_map, refl, sym, ap, ◌∙◌, arith, length-append}
+use Rattle.std.proofs.Common.{◌≡◌, ℕ, ◌+◌, ◌≤◌, Bool, true, false, cond, not, ◌&&◌, eqb, ltb, List, [], ◌∷◌, ◌++◌, length, Option, Some, None, is_none, option_map, refl, sym, ap, ◌∙◌}
 use Rattle.std.specs.Prelude.{nat_eq}
 use Rattle.std.specs.List.{starts_with, list_all}
-use Rattle.std.proofs.lemmas.Bool.{and_parts, and_from, ltb-false, le-ltb, eqb-true, not-true, false_from_ne_true, false≢true}
-use Rattle.zarr_path.specs.declared.paths.PathFault.{PathFault}
+use Rattle.std.proofs.lemmas.Bool.{and_parts, and_from, ltb-false, le-ltb, eqb-true}
 use Rattle.zarr_path.specs.declared.paths.PathFault.TheVariants as f
-use Rattle.zarr_path.specs.Paths.{most_bytes, root, is_name, parts_of, names_of, first_bad, path_fault, is_path, before_slash, before_slash_after, or_root, parent_of}
-use Rattle.zarr_path.proofs.PartLaws.{parts-append}
+use Rattle.zarr_path.specs.Paths.{most_bytes, root, is_name, parts_of, names_of, first_bad, path_fault, is_path}
 
 -- a text that begins with a slash, isn't too long, and has names alone
 pub record Spelling (p : List ℕ) : Type 0 where

@@ -9,13 +9,15 @@ use Rattle.zarr_path.specs.Paths.{root, joined, is_name, is_path, path_fault, fo
 abbrev pub IsPart : List ℕ → Type 0
 IsPart part = All (λ b. b ≢ 47) part
 
--- Zarr v3 core specification, "Node names": a name isn't empty, has no slash, isn't made of periods alone and doesn't begin with `__`
+-- Zarr v3 core specification, "Node names": a name isn't empty, has no slash, isn't made of periods alone, and doesn't
+-- begin with `__`
 pub record IsName (name : List ℕ) : Type 0 where
   pub not_empty : name ≢ []
   pub no_slash : IsPart name
   pub not_periods : ¬ All (λ b. b ≡ 46) name
   pub not_reserved : (rest : List ℕ) → name ≢ codes "__" ++ rest
 
+-- these are names
 abbrev pub AllNames : List (List ℕ) → Type 0
 AllNames names = AllByRecursion IsName names
 
@@ -51,18 +53,21 @@ IsFault text f.NoMemory = ⊥
 
 -- `is_path` and `path_fault` say exactly this
 abbrev pub GrammarLaw : Type 0
-GrammarLaw = (text : List ℕ) → ((is_path text ≡ true) ↔ IsSpelled text) × ((fault : PathFault) → (path_fault text ≡ Some fault) ↔ IsFault text fault)
+GrammarLaw = (text : List ℕ)
+    → ((is_path text ≡ true) ↔ IsSpelled text) × ((fault : PathFault) → (path_fault text ≡ Some fault) ↔ IsFault text fault)
 
 -- what reading a text answers, in these words: itself, or its fault; want of memory may come instead
 abbrev pub ReadsSpelled : List ℕ → Result (List ℕ) PathFault → Type 0
 ReadsSpelled text (Ok path) = (path ≡ text) × IsSpelled text
 ReadsSpelled text (Err fault) = (fault ≡ f.NoMemory) ⊎ IsFault text fault
 
--- Zarr v3 core specification, "Concepts and terminology": a path other than `/` is its parent's, a slash unless that is `/`, and the node's name
+-- Zarr v3 core specification, "Concepts and terminology": a path other than `/` is its parent's, a slash unless that is
+-- `/`, and the node's name
 pub record IsNamed (path : List ℕ) : Type 0 where
   pub name : List ℕ
   pub valid : is_name name ≡ true
   pub whole : path ≡ folder (parent_of path) ++ name
 
+-- so `parent_of` is the parent of the standard
 abbrev pub ParentNameLaw : Type 0
 ParentNameLaw = (path : List ℕ) → is_path path ≡ true → path ≢ root → IsNamed path

@@ -20,7 +20,8 @@ Gives z result = (result ≡ Ok z) ⊎ (result ≡ Err f.NoMemory)
 abbrev pub RoundTripLaw : Type 0
 RoundTripLaw = (path : List ℕ) → IsTrue (is_path path)
     → ((result : Result ZarrKey KeyFault) → ReadsKey (meta_key path) result → Gives (k.Meta path) result)
-    × ((index : List ℕ) → IsTrue (is_index index) → (result : Result ZarrKey KeyFault) → ReadsKey (chunk_key path index) result → Gives (k.Chunk path index) result)
+    × ((index : List ℕ) → IsTrue (is_index index)
+    → (result : Result ZarrKey KeyFault) → ReadsKey (chunk_key path index) result → Gives (k.Chunk path index) result)
 
 -- what has one key is the same
 abbrev pub OneKeyLaw : Type 0

@@ -1,5 +1,5 @@
 -- The keys under which a Zarr store keeps the metadata and the chunks of a node.
-use Rattle.std.specs.Prelude.{◌≡◌, ℕ, ◌^◌, Bool, not, ◌&&◌, nat_lt, if◌then◌else◌, List, [], ◌∷◌, ◌++◌, drop, map, reverse, Option, Some, None, option_map, option_and_then, Result, Ok, Err, IsTrue, codes}
+use Rattle.std.specs.Prelude.{◌≡◌, ℕ, ◌^◌, not, ◌&&◌, nat_lt, if◌then◌else◌, List, [], ◌∷◌, ◌++◌, drop, map, reverse, Option, Some, None, option_map, option_and_then, Result, Ok, Err, IsTrue, codes}
 use Rattle.std.specs.Fmt.{decimal}
 use Rattle.std.specs.Str.{bytes_eq}
 use Rattle.std.specs.Str.Parse.{digits_value}
@@ -10,7 +10,7 @@ use Rattle.zarr_path.specs.declared.keys.ZarrKey.TheVariants as k
 use Rattle.zarr_path.specs.Paths.{root, same_path, folder, is_path, parts_of, joined}
 use Rattle.zarr_path.specs.Indices.{is_index}
 
--- Zarr v3 core specification, "Stores": what a node's keys begin with, the path without its first slash, and a slash where names stand
+-- Zarr v3 core specification, "Stores": what a node's keys begin with: nothing for `/`, else its names and a slash
 abbrev pub key_front : List ℕ → List ℕ
 key_front path = drop 1 (folder path)
 
@@ -37,7 +37,9 @@ SaysWhose key (Err f.NoMemory) = Unit {0}
 
 -- the number of 32 bits that a part spells as `decimal` writes it
 unfoldable pub number_of : List ℕ → Option ℕ
-number_of part = if bytes_eq (decimal (digits_value 10 part)) part && nat_lt (digits_value 10 part) (2 ^ 32) then Some (digits_value 10 part) else None
+number_of part =
+    if bytes_eq (decimal (digits_value 10 part)) part && nat_lt (digits_value 10 part) (2 ^ 32) then Some (digits_value 10 part)
+    else None
 
 -- the path of names that stand each behind a slash
 unfoldable pub path_spelled : List ℕ → Option (List ℕ)
@@ -55,9 +57,12 @@ chunk_at (part ∷ before) index =
     if bytes_eq part (codes "c") then option_map (λ path. k.Chunk path index) (path_spelled (joined (reverse before)))
     else option_and_then (λ n. chunk_at before (n ∷ index)) (number_of part)
 
+-- whose key a text of these parts is, the last one first
 abbrev pub key_at : List (List ℕ) → Option ZarrKey
 key_at [] = None
-key_at (part ∷ before) = if bytes_eq part (codes "zarr.json") then option_map k.Meta (path_spelled (joined (reverse before))) else chunk_at (part ∷ before) []
+key_at (part ∷ before) =
+    if bytes_eq part (codes "zarr.json") then option_map k.Meta (path_spelled (joined (reverse before)))
+    else chunk_at (part ∷ before) []
 
 -- whose key a text is
 unfoldable pub key_of : List ℕ → Option ZarrKey
@@ -81,11 +86,13 @@ abbrev pub path_before : Option (List ℕ) → Option (List ℕ)
 path_before None = Some root
 path_before (Some text) = path_spelled (47 ∷ text)
 
+-- what reading that path answers
 abbrev pub ReadsBefore : Option (List ℕ) → Result (List ℕ) KeyFault → Type 0
 ReadsBefore before (Ok path) = path_before before ≡ Some path
 ReadsBefore before (Err f.NotAKey) = path_before before ≡ None
 ReadsBefore before (Err f.NoMemory) = Unit {0}
 
+-- what reading a key as a chunk's answers
 abbrev pub ReadsChunk : List ℕ → Result ZarrKey KeyFault → Type 0
 ReadsChunk key (Ok found) = chunk_at (parts_back key) [] ≡ Some found
 ReadsChunk key (Err f.NotAKey) = chunk_at (parts_back key) [] ≡ None

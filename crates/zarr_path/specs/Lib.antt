@@ -4,3 +4,4 @@ pub mod KeyLaw
 pub mod Keys
 pub mod Laws
 pub mod Paths
+pub mod Told

@@ -1,5 +1,5 @@
--- Paths of nodes, as the bytes of their texts.
-use Rattle.std.specs.Prelude.{◌≡◌, ℕ, ◌+◌, Bool, false, not, ◌&&◌, ◌||◌, ◌==◌, nat_eq, nat_lt, if◌then◌else◌, List, [], ◌∷◌, ◌++◌, length, drop, Option, Some, None, is_none, option_map, Result, Ok, Err, ◌⊎◌, IsTrue, codes}
+-- Paths of nodes, as the bytes of their texts: tests and functions that compute. `Grammar` says the same in words.
+use Rattle.std.specs.Prelude.{◌≡◌, ℕ, ◌+◌, Bool, not, ◌&&◌, ◌||◌, ◌==◌, nat_eq, nat_lt, if◌then◌else◌, List, [], ◌∷◌, ◌++◌, length, drop, Option, Some, None, is_none, option_map, Result, Ok, Err, ◌⊎◌, codes}
 use Rattle.std.specs.declared.cmp.Ordering.{Ordering}
 use Rattle.std.specs.Ordering.{nat_cmp, eq_by_cmp}
 use Rattle.std.specs.Cmp.Lexicographic.{slice_cmp}
@@ -15,7 +15,7 @@ most_bytes = 1024
 abbrev pub root : List ℕ
 root = 47 ∷ []
 
--- Zarr v3 core specification, "Node names": a name isn't empty, isn't made of periods alone and doesn't begin with `__`
+-- whether what stands between two slashes is a name (Zarr v3 core specification, "Node names")
 unfoldable pub is_name : List ℕ → Bool
 is_name name = not (length name == 0) && not (list_all (λ b. b == 46) name) && not (starts_with nat_eq name (codes "__"))
 
@@ -34,7 +34,7 @@ path_cmp = slice_cmp nat_cmp
 abbrev pub same_path : List ℕ → List ℕ → Bool
 same_path p q = eq_by_cmp path_cmp p q
 
--- Zarr v3 core specification, "Concepts and terminology": the names of a path stand behind its slashes, and `/` has none
+-- the names of a path stand behind its slashes, and `/` has none (Zarr v3 core specification, "Concepts and terminology")
 unfoldable pub names_of : List ℕ → List (List ℕ)
 names_of path = if same_path path root then [] else parts_of (drop 1 path)
 

@@ -31,6 +31,11 @@ pub enum KeyFault {
 }
 
 impl fmt::Display for KeyFault {
+    ghost use Rattle.std.specs.Prelude.{Some};
+    ghost use Rattle.zarr_path.specs.Told.{key_fault_text};
+
+    ghost output = { λ fault. Some (key_fault_text fault) };
+
     fn fmt<W: fmt::Write>(&self, f: &mut fmt::Formatter<W>) -> fmt::Result {
         match self {
             KeyFault::NotAKey => write!(f, "not a key of metadata or of a chunk"),
@@ -82,7 +87,8 @@ fn front_of(alloc: Global, path: &Path) -> Result<String, AllocError>
     }
 }
 
-/// The key of a node's metadata: `zarr.json`, or `x/zarr.json` of `/x`.
+/// The key of a node's metadata (Zarr v3 core specification, "Stores"): `zarr.json` of `/`, and
+/// `x/zarr.json` of `/x`.
 #[tactic(auto, unfolding(crate::specs::Keys::meta_key))]
 pub fn meta_key(alloc: Global, path: &Path) -> Result<String, AllocError>
     ensures { IfOk result (λ key. string_bytes key ≡ meta_key path.now) }
@@ -98,7 +104,8 @@ fn push_number(key: &mut String, number: u32) -> Result<(), AllocError>
     write!(key, "/{number}")
 }
 
-/// The key of a chunk: `x/c/1/0` of `/x` and the index 1, 0, and `x/c` where the array has no dimensions.
+/// The key of a chunk (Zarr v3 core specification, "Chunk key encoding"): `x/c/1/0` of `/x` and the
+/// index 1, 0, and `x/c` where the array has no dimensions.
 #[tactic(auto, unfolding(crate::specs::Keys::chunk_key))]
 pub fn chunk_key(alloc: Global, path: &Path, index: &Index) -> Result<String, AllocError>
     ensures { IfOk result (λ key. string_bytes key ≡ chunk_key path.now index.now) }
@@ -113,7 +120,8 @@ pub fn chunk_key(alloc: Global, path: &Path, index: &Index) -> Result<String, Al
 
 /// Whether a part begins with a plus or with a needless zero.
 fn is_dressed(part: &str) -> bool
-    ensures { IsTrue result ↔ ((slice_index part.now 0 ≡ 43) ⊎ ((slice_index part.now 0 ≡ 48) × (1 < length part.now))) }
+    ensures { IsTrue result
+        ↔ ((slice_index part.now 0 ≡ 43) ⊎ ((slice_index part.now 0 ≡ 48) × (1 < length part.now))) }
 {
     matches!(part.as_bytes(), [b'+', ..] | [b'0', _, ..])
 }
@@ -184,7 +192,8 @@ fn read_chunk(alloc: Global, key: &str) -> Result<ZarrKey, KeyFault>
     Ok(ZarrKey::Chunk(path, Index::from_parts(numbers)))
 }
 
-/// What a key of a store names.
+/// Whose key a text is: that of the metadata of a path, or of the chunk at a path and an index. The
+/// last part that is `c` counts, so `c/c` is the chunk of `/c`.
 pub fn read_key(alloc: Global, key: &str) -> Result<ZarrKey, KeyFault>
     ensures value { ReadsKey key.now result }
     ensures whose { SaysWhose key.now result }

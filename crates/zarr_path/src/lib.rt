@@ -1,4 +1,6 @@
 //! Paths of Zarr nodes, indices of chunks, and the keys under which a Zarr store keeps them.
+//!
+//! The functions that end in `law` do nothing: the contract of each is a law on which other crates may stand.
 #![tactic(auto)]
 
 mod indices;
@@ -8,6 +10,8 @@ mod paths;
 #[cfg(test)]
 mod tests;
 
+ghost use Rattle.zarr_path.specs.Grammar.{GrammarLaw, ParentNameLaw};
+ghost use Rattle.zarr_path.specs.KeyLaw.{KeyLaw, RoundTripLaw, OneKeyLaw};
 ghost use Rattle.zarr_path.specs.Laws.{WithinReflexive, WithinTransitive, ParentLaw, BeneathLaw, OrderLaw};
 
 pub use indices::Index;
@@ -15,12 +19,12 @@ pub use keys::{KeyFault, ZarrKey, chunk_key, meta_key, read_key};
 pub use paths::{MOST_PATH_BYTES, Path, PathFault, is_within, parent_text, path_fault};
 
 /// A path is within itself.
-pub fn within_reflexive()
+pub fn within_reflexive_law()
     ensures { WithinReflexive }
 {}
 
 /// What is within a path that is within another is within that.
-pub fn within_transitive()
+pub fn within_transitive_law()
     ensures { WithinTransitive }
 {}
 
@@ -39,8 +43,6 @@ pub fn order_law()
     ensures { OrderLaw }
 {}
 
-ghost use Rattle.zarr_path.specs.KeyLaw.{KeyLaw, RoundTripLaw, OneKeyLaw};
-
 /// The function that tells whose key a text is tells exactly that.
 pub fn key_law()
     ensures { KeyLaw }
@@ -55,8 +57,6 @@ pub fn round_trip_law()
 pub fn one_key_law()
     ensures { OneKeyLaw }
 {}
-
-ghost use Rattle.zarr_path.specs.Grammar.{GrammarLaw, ParentNameLaw};
 
 /// The tests of paths, and the faults of texts, are those of the grammar.
 pub fn grammar_law()

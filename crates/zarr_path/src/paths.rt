@@ -23,13 +23,18 @@ pub enum PathFault {
     Long(usize),
     /// The text doesn't begin with `/`.
     Relative,
-    /// The first name that isn't one begins at this byte.
+    /// The first name that isn't one begins at this byte, counted from 0: 3 in `/a//b`.
     Name(usize),
     /// Memory ran out.
     NoMemory,
 }
 
 impl fmt::Display for PathFault {
+    ghost use Rattle.std.specs.Prelude.{Some};
+    ghost use Rattle.zarr_path.specs.Told.{path_fault_text};
+
+    ghost output = { λ fault. Some (path_fault_text fault) };
+
     fn fmt<W: fmt::Write>(&self, f: &mut fmt::Formatter<W>) -> fmt::Result {
         match self {
             PathFault::Long(bytes) => write!(f, "a path of {bytes} bytes is too long"),
@@ -107,7 +112,9 @@ pub fn path_fault(text: &str) -> Option<PathFault>
     bad_name(names).map(PathFault::Name)
 }
 
-/// The path of a node in a hierarchy: `/`, or `/` and names joined by `/`. Contracts see it as the bytes of its text.
+/// The path of a node in a hierarchy: `/`, or `/` and names joined by `/`. Contracts see it as the
+/// bytes of its text. Paths are ordered by these bytes, so what is beneath `/a` stands together but
+/// not next to it: `/a-b` stands between `/a` and `/a/b`.
 #[derive(Debug, Drop)]
 pub struct Path {
     text: String,
@@ -131,8 +138,10 @@ impl Path {
     ghost use Rattle.zarr_path.specs.Paths.{ReadsPath, is_path, root, parent, is_within, is_beneath};
     ghost use Rattle.std.specs.Prelude.{IsTrue};
 
-    /// Reads a text as a path (Zarr v3 core specification, "Node names"): `/`, or `/` and names joined by `/`, of at most
-    /// [`MOST_PATH_BYTES`] bytes. A name isn't empty, isn't made of periods alone and doesn't begin with `__`.
+    /// Reads a text as a path (Zarr v3 core specification, "Node names"): `/`, or `/` and names
+    /// joined by `/`, of at most [`MOST_PATH_BYTES`] bytes. A name isn't empty, isn't made of
+    /// periods alone and doesn't begin with `__`. The first fault is told, in the order of
+    /// [`PathFault`].
     pub fn read(alloc: Global, text: &str) -> Result<Path, PathFault>
         ensures value { ReadsPath text.now result }
         ensures spelled { ReadsSpelled text.now result }
@@ -147,7 +156,9 @@ impl Path {
 
     /// Reads a text as a path, and keeps it. It takes no memory.
     pub fn from_string(text: String) -> Result<Path, PathFault>
-        ensures { MatchResult result (λ p. (p ≡ string_bytes text) × IsTrue (is_path p)) (λ fault. path_fault (string_bytes text) ≡ Some fault) }
+        ensures { MatchResult result
+            (λ p. (p ≡ string_bytes text) × IsTrue (is_path p))
+            (λ fault. path_fault (string_bytes text) ≡ Some fault) }
     {
         match path_fault(text.as_str()) {
             Some(fault) => Err(fault),
@@ -190,7 +201,9 @@ impl Path {
 
     /// The names, joined by slashes, and None of `/`.
     pub fn names(&self) -> Option<&str>
-        ensures { MatchOption result (self.now ≡ root) (λ names. (self.now ≢ root) × (self.now ≡ 47 ∷ names.now)) }
+        ensures { MatchOption result
+            (self.now ≡ root)
+            (λ names. (self.now ≢ root) × (self.now ≡ 47 ∷ names.now)) }
     {
         if self.is_root() {
             None

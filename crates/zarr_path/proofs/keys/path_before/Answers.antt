@@ -1,5 +1,4 @@
-use Rattle.std.proofs.Common.{◌≡◌, ◌∷◌, List, ℕ, Some, length, arith, ap, sym, ◌∙◌, option_map}
-use Rattle.std.specs.String.{string_bytes}
+use Rattle.std.proofs.Common.{◌≡◌, ◌∷◌, Some, length, arith, ap, sym, ◌∙◌, option_map}
 use Rattle.std.proofs.lemmas.Bool.{eqb-true, eqb-false}
 use Rattle.zarr_path.specs.Keys.{path_before}
 use Rattle.zarr_path.specs.Paths.{is_path, path_fault}

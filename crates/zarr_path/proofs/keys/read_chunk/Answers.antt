@@ -1,4 +1,4 @@
-use Rattle.std.proofs.Common.{Some, Err, List, ℕ, Option, option_map, reverse, sym, ap, ◌∙◌}
+use Rattle.std.proofs.Common.{Some, Err, option_map, reverse, sym, ap, ◌∙◌}
 use Rattle.std.proofs.lemmas.Bool.{not-false}
 use Rattle.std.proofs.lemmas.Result.{err_from_is_err_and}
 use Rattle.zarr_path.specs.declared.keys.ZarrKey.TheVariants as k

@@ -1,4 +1,4 @@
-use Rattle.std.proofs.Common.{◌≡◌, ◌+◌, ◌∷◌, [], length, option_map, reverse}
+use Rattle.std.proofs.Common.{◌≡◌, ◌∷◌, [], length, option_map, reverse}
 use denote.Text.{Utf8}
 use denote.Shadow.{shadow}
 use Rattle.zarr_path.specs.Keys.{parts_back, chunk_at, before_back}

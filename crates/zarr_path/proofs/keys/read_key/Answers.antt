@@ -1,4 +1,4 @@
-use Rattle.std.proofs.Common.{Err, List, ℕ, Option, option_map, sym, ap, ◌∙◌}
+use Rattle.std.proofs.Common.{Err, option_map, sym, ap, ◌∙◌}
 use Rattle.std.proofs.lemmas.Result.{err_from_is_err_and}
 use Rattle.zarr_path.specs.declared.keys.ZarrKey.TheVariants as k
 use Rattle.zarr_path.proofs.KeyLaws.{says, key_of-some}

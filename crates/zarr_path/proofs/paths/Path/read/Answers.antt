@@ -1,4 +1,4 @@
-use Rattle.std.proofs.Common.{Ok, Err, inr, sym, ◌∙◌}
+use Rattle.std.proofs.Common.{Ok, Err, inr, sym}
 use Rattle.std.specs.String.{string_bytes}
 use Rattle.zarr_path.proofs.GrammarLaws.{reads_words}
 use Rattle.zarr_path.proofs.paths.Path.read.Goals as goal
