@@ -1,7 +1,7 @@
 -- What the names of refs are.
-use Rattle.std.proofs.Common.{◌≡◌, ◌≢◌, ℕ, ◌+◌, ◌-◌, ◌^◌, ◌<◌, ◌≤◌, ◌↔◌, ◌==◌, nat_lt, Bool, true, false, cond, List, [], length, get_or, All, Option, Some, None, option_map, refl, sym, ap, ◌∙◌, arith}
+use Rattle.std.proofs.Common.{◌≡◌, ◌≢◌, ℕ, ◌≤◌, ◌==◌, nat_lt, Bool, true, false, cond, List, length, All, Option, Some, None, option_map, refl, ap, ◌∙◌, arith}
 use Rattle.std.specs.List.{position, position_or_len}
-use Rattle.std.proofs.lemmas.Bool.{eqb-false, ltb-false, le-ltb}
+use Rattle.std.proofs.lemmas.Bool.{eqb-false, ne_eqb, ltb-false, le-ltb}
 use Rattle.std.proofs.lemmas.List.Elements.{All-from_get_or}
 use Rattle.std.proofs.lemmas.List.Sums.{fails_before_first, position_or_len_is}
 use Rattle.ice_base.specs.Names.{is_barred, name_fault, IsRefName, IsPlainName, main_name}
@@ -24,7 +24,7 @@ position-None p xs none =
 position-all : (p : ℕ → Bool) (xs : List ℕ) → All (λ x. p x ≡ false) xs → position p xs ≡ None
 position-all p xs all =
     let first : position_or_len p xs ≡ length xs =
-        position_or_len_is p xs (length xs) 0 (omega arith) (λ k inside. all k 0 inside) (λ below. absurd (omega arith)) in
+    position_or_len_is p xs (length xs) 0 (omega arith) (λ k inside. all k 0 inside) (λ below. absurd (omega arith)) in
     let test : nat_lt (length xs) (length xs) ≡ false = le-ltb (length xs) (length xs) (omega arith) in
     rw (first, test) refl
 
@@ -44,7 +44,12 @@ IsPlainName-IsRefName bytes named =
 -- and each such list of bytes is one
 pub IsRefName-IsPlainName : (bytes : List ℕ) → IsPlainName bytes → IsRefName bytes
 unfolding name_fault
-IsRefName-IsPlainName bytes named = ?
+IsRefName-IsPlainName bytes named =
+    let barred : Option NameFault = option_map (λ at. F.Byte at) (position is_barred bytes) in
+    let long : Option NameFault = cond (nat_lt 200 (length bytes)) (Some (F.Long (length bytes))) barred in
+    ap (λ test. cond test (Some F.Empty) long) (ne_eqb (length bytes) 0 (λ is. omega (arith, named.filled)))
+    ∙ ap (λ test. cond test (Some (F.Long (length bytes))) barred) (le-ltb 200 (length bytes) named.short)
+    ∙ ap (option_map (λ at. F.Byte at)) (position-all is_barred bytes named.plain)
 
 pub IsRefName-main : IsRefName main_name
 unfolding name_fault

@@ -1,5 +1,5 @@
 -- What is read and written piece by piece.
-use Rattle.std.proofs.Common.{◌≡◌, ℕ, ◌+◌, ◌-◌, ◌<◌, ◌≤◌, List, [], ◌∷◌, ◌++◌, length, take, drop, Option, Some, None, refl, sym, ◌∙◌, ap, subst, append_assoc, length-drop, length-append, min, arith}
+use Rattle.std.proofs.Common.{◌≡◌, ℕ, ◌+◌, ◌-◌, ◌<◌, ◌≤◌, List, [], ◌++◌, length, take, drop, Option, Some, None, refl, sym, ◌∙◌, ap, subst, append_assoc, length-drop, length-append, min, arith}
 use Rattle.std.proofs.Math.Seq.{take-add}
 use Rattle.std.proofs.lemmas.List.{append-nil, take_all, take_at, take-append-drop, length-take-le, nil_from_length}
 use Rattle.ice_base.specs.Ends.{Taken, IsAtEnd, Appended}
@@ -53,7 +53,7 @@ rest-is bytes at = take_all (length bytes - at) (drop at bytes) (omega (arith, l
 pub Appended-piece : (old between new : Option (List ℕ)) (bytes : List ℕ) (at count : ℕ) → Appended old between (take at bytes) → Appended between new (take count (take (length bytes - at) (drop at bytes))) → Appended old new (take (at + count) bytes)
 Appended-piece old between new bytes at count first then' =
     let piece : Appended between new (take count (drop at bytes)) =
-        subst (λ (rest : List ℕ). Appended between new (take count rest)) (rest-is bytes at) then' in
+    subst (λ (rest : List ℕ). Appended between new (take count rest)) (rest-is bytes at) then' in
     subst (λ (xs : List ℕ). Appended old new xs) (sym (take-add at count bytes))
     (Appended-append old between new (take at bytes) (take count (drop at bytes)) first piece)
 

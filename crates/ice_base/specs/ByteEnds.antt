@@ -1,5 +1,5 @@
 -- Ends in memory, some of whose calls are to fail (own).
-use Rattle.std.specs.Prelude.{ℕ, ◌≡◌, ◌-◌, ◌==◌, ◌++◌, ◌||◌, min, List, length, take, drop, Bool, if◌then◌else◌, nat_le, Some}
+use Rattle.std.specs.Prelude.{ℕ, ◌-◌, ◌==◌, ◌++◌, ◌||◌, min, List, length, take, drop, Bool, if◌then◌else◌, nat_le, Some}
 use Rattle.std.specs.List.{list_any}
 use Rattle.ice_base.specs.Ends.{InputAt, OutputAt, raised}
 

@@ -5,10 +5,15 @@ ghost use Rattle.ice_base.specs.Ends.{raised};
 
 use std::marker::Model;
 
-/// A clock that can't fail. Nothing is promised of its moments: they may repeat and go back.
+/// A clock that can't fail. By itself it promises nothing of its moments: they may repeat and go
+/// back.
 pub trait Clock {
+    // How a clock may answer: itself before, the moment, itself after. By default nothing is said.
+    ghost gives: { Self → ℕ → Self → Type 0 } = { λ _ _ _. Unit {0} };
+
     /// A moment, in microseconds.
-    fn now(&mut self) -> u64;
+    fn now(&mut self) -> u64
+        ensures { gives self.old result self.new };
 }
 
 /// A clock that counts how often it was asked, seen as its next answer.
@@ -35,11 +40,10 @@ impl TickClock {
 }
 
 impl Clock for TickClock {
+    ghost gives = { λ old moment new. (moment ≡ old) × (new ≡ raised old) };
+
     /// One more at each call; after the greatest u64 that number again.
-    fn now(&mut self) -> u64
-        ensures answer { result ≡ self.old }
-        ensures after { self.new ≡ raised self.old }
-    {
+    fn now(&mut self) -> u64 {
         let now = self.next;
         self.next = now.saturating_add(1);
         now

@@ -7,5 +7,4 @@ ghost use Rattle.ice_base.specs.Names.{IsRefName, IsPlainName, main_name};
 pub fn names_of_refs()
     ensures plain { (bytes : List ℕ) → (IsRefName bytes ↔ IsPlainName bytes) }
     ensures main { IsRefName main_name }
-{
-}
+{}

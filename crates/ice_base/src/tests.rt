@@ -17,7 +17,10 @@ fn byte_lists(rt: HostRuntime) -> Result<(), Fail> {
     bytes.extend(b"bc")?;
     assert_eq!(rt; bytes.len(), 3);
     assert_eq!(rt; bytes.copy(rt.alloc())?, Bytes::of(rt.alloc(), b"abc")?);
-    assert_eq!(rt; Bytes::from_vec(bytes.into_vec()).as_slice(), b"abc".as_slice());
+    assert_eq!(rt;
+        Bytes::from_vec(bytes.into_vec()).as_slice(),
+        b"abc".as_slice()
+    );
     Ok(())
 }
 
@@ -27,7 +30,10 @@ fn names(rt: HostRuntime) -> Result<(), Fail> {
     assert_eq!(rt; main.as_str(), "main");
     assert_eq!(rt; main.as_bytes(), b"main".as_slice());
     let longest = "n".repeat(rt.alloc(), 200)?;
-    assert_eq!(rt; RefName::read(rt.alloc(), longest.as_str())?.as_str(), longest.as_str());
+    assert_eq!(rt;
+        RefName::read(rt.alloc(), longest.as_str())?.as_str(),
+        longest.as_str()
+    );
     let spaced = RefName::read(rt.alloc(), "v 1.0")?;
     assert!(rt; main < spaced);
     assert_eq!(rt; spaced.copy(rt.alloc())?, spaced);
@@ -54,13 +60,25 @@ fn refused_names(rt: HostRuntime) -> Result<(), Fail> {
 #[test]
 fn input_up_to_a_bound(rt: HostRuntime) -> Result<(), Fail> {
     let mut source = ByteSource::new(b"abcdef".to_vec(rt.alloc())?, Vec::new(rt.alloc()));
-    assert_eq!(rt; read_input(rt.alloc(), &mut source, 4)?.as_slice(), b"abcd".as_slice());
-    assert_eq!(rt; read_input(rt.alloc(), &mut source, 4)?.as_slice(), b"ef".as_slice());
+    assert_eq!(rt;
+        read_input(rt.alloc(), &mut source, 4)?.as_slice(),
+        b"abcd".as_slice()
+    );
+    assert_eq!(rt;
+        read_input(rt.alloc(), &mut source, 4)?.as_slice(),
+        b"ef".as_slice()
+    );
     let long = vec![in rt.alloc(); 7u8; 10_000]?;
     let second = [1].to_vec(rt.alloc())?;
     let mut failing = ByteSource::new(long, second);
-    assert_eq!(rt; read_input(rt.alloc(), &mut failing, 10_000), Err(InputFault::Fault));
-    assert_eq!(rt; read_input(rt.alloc(), &mut failing, 10_000)?.len(), 10_000 - 4096);
+    assert_eq!(rt;
+        read_input(rt.alloc(), &mut failing, 10_000),
+        Err(InputFault::Fault)
+    );
+    assert_eq!(rt;
+        read_input(rt.alloc(), &mut failing, 10_000)?.len(),
+        10_000 - 4096
+    );
     Ok(())
 }
 
@@ -77,7 +95,10 @@ fn output_with_faults(rt: HostRuntime) -> Result<(), Fail> {
 
 #[test]
 fn standard_ends(rt: HostRuntime) -> Result<(), Fail> {
-    assert_eq!(rt; write_whole(&mut StdSink::new(rt), b"standard output\n"), Ok(()));
+    assert_eq!(rt;
+        write_whole(&mut StdSink::new(rt), b"standard output\n"),
+        Ok(())
+    );
     assert!(rt; read_input(rt.alloc(), &mut StdSource::new(rt), 10).is_ok());
     Ok(())
 }

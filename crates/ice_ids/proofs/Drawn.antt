@@ -9,8 +9,10 @@ use Rattle.ice_ids.specs.declared.Id8.{Id8}
 use Rattle.ice_ids.specs.declared.drawing.CountIds.{CountIds}
 use Rattle.ice_ids.specs.declared.drawing.AnyIds.{AnyIds}
 use Rattle.ice_ids.specs.declared.drawing.AnyIds.TheVariants.{Count}
+use Rattle.ice_ids.specs.declared.drawing.Draw.{Draw}
+use Rattle.ice_ids.specs.declared.drawing.Draw.TheVariants as D
 use Rattle.ice_ids.specs.Text.{IsId12, IsId8, initial_id}
-use Rattle.ice_ids.specs.Drawing.{counted12, counted8, is_spent, count_drawn12, count_drawn8, count_after, drawn12, drawn8, after12, after8, IsAnyIds, client_of, counter_of}
+use Rattle.ice_ids.specs.Drawing.{counted12, counted8, is_spent, count_drawn12, count_drawn8, count_after, drawn12, drawn8, after12, after8, ids_of, IsAnyIds, client_of, counter_of}
 
 byte_at-below : (i n : ℕ) → byte_at i n < 256
 byte_at-below zero n = mod_below n 256 (omega arith)
@@ -91,15 +93,18 @@ count_drawn8-Some ids id fits is = taken counted8 ids id (is_spent ids) refl fit
 
 -- ## Any ids
 
-pub drawn12-IsId12 : (ids : AnyIds) (id : Id12) → IsAnyIds ids → drawn12 ids ≡ Some id → IsId12 id
-drawn12-IsId12 (Count ids) id known is =
-    let draw : IsDraw counted12 ids (count_after ids) id = count_drawn12-Some ids id known.1 is in
-    subst (λ (i : Id12). IsId12 i) (sym draw.is) (counted12-IsId12 ids.client ids.counter)
+counted-holds : {I : Type 0} (P : I → Type 0) (spent : Bool) (counted id : I) → P counted → cond spent None (Some counted) ≡ Some id → P id
+counted-holds P true counted id holds is = cc
+counted-holds P false counted id holds is = subst P (ap (λ drawn. unwrap_or drawn id) is) holds
 
-pub drawn8-IsId8 : (ids : AnyIds) (id : Id8) → IsAnyIds ids → drawn8 ids ≡ Some id → IsId8 id
-drawn8-IsId8 (Count ids) id known is =
-    let draw : IsDraw counted8 ids (count_after ids) id = count_drawn8-Some ids id known.1 is in
-    subst (λ (i : Id8). IsId8 i) (sym draw.is) (counted8-IsId8 ids.client ids.counter)
+pub drawn12-IsId12 : (ids : AnyIds) (id : Id12) → drawn12 ids ≡ Some id → IsId12 id
+drawn12-IsId12 (Count ids) id is = counted-holds IsId12 (is_spent ids) _ id (counted12-IsId12 ids.client ids.counter) is
+
+pub drawn8-IsId8 : (ids : AnyIds) (id : Id8) → drawn8 ids ≡ Some id → IsId8 id
+drawn8-IsId8 (Count ids) id is = counted-holds IsId8 (is_spent ids) _ id (counted8-IsId8 ids.client ids.counter) is
+
+pub ids_of-IsAnyIds : (draw : Draw) (client : ℕ) → client < 2 ^ 32 → IsAnyIds (ids_of draw client) × (client_of (ids_of draw client) ≡ client)
+ids_of-IsAnyIds D.Count client small = ((small, omega arith), refl)
 
 pub drawn12-not_initial : (ids : AnyIds) (id : Id12) → IsAnyIds ids → drawn12 ids ≡ Some id → id ≢ initial_id
 drawn12-not_initial (Count ids) id known is initial =

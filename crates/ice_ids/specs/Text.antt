@@ -36,11 +36,12 @@ unfoldable pub text_of_bytes : (characters added : ℕ) → List ℕ → List �
 text_of_bytes characters added bytes =
     map letter_of (digits_in 32 characters (number_from_digits 256 bytes * 2 ^ added))
 
--- the number that the letters of a text write, or the place of the first byte that is no letter
+-- the number that a text writes, unless a byte of it was found that is no letter
 unfoldable pub number_unless : Option ℕ → List ℕ → Result ℕ IdFault
 number_unless (Some at) text = Err (F.Digit at)
 number_unless None text = Ok (number_from_digits 32 (map value_of text))
 
+-- the number that the letters of a text write, or the place of the first byte that is no letter
 unfoldable pub number_of_letters : List ℕ → Result ℕ IdFault
 number_of_letters text = number_unless (position is_foreign text) text
 

@@ -1,13 +1,13 @@
 //! Laws of ids: functions that do nothing, whose contracts are the laws.
 
-ghost use Rattle.std.specs.Prelude.{◌≡◌, ◌≢◌, ◌<◌, ◌^◌, ◌-◌, ℕ, List, Option, Some, Ok, length, All, true};
+ghost use Rattle.std.specs.Prelude.{◌≡◌, ◌≢◌, ◌<◌, ◌+◌, ℕ, List, Option, Some, Ok, length, All, true};
 ghost use Rattle.ice_ids.specs.declared.Id12.{Id12};
 ghost use Rattle.ice_ids.specs.declared.Id8.{Id8};
 ghost use Rattle.ice_ids.specs.declared.drawing.AnyIds.{AnyIds};
-ghost use Rattle.ice_ids.specs.Text.{IsId12, IsId8, id12_text, id8_text, id12_of_text, id8_of_text, initial_id, same_id12, same_id8};
-ghost use Rattle.ice_ids.specs.Drawing.{IsAnyIds, client_of, counter_of, drawn12, drawn8};
+ghost use Rattle.ice_ids.specs.Text.{IsId12, IsId8, id12_text, id8_text, id12_of_text, id8_of_text, initial_id, id12_cmp, id8_cmp, same_id12, same_id8};
+ghost use Rattle.ice_ids.specs.Drawing.{IsAnyIds, client_of, counter_of, drawn12, after12, drawn8, after8};
 
-use crate::Id12;
+use crate::{Id8, Id12};
 
 /// The text of an object id and its reading undo each other: each text that is read is the text of
 /// the id that it is read as. A text has 20 letters, and no space, quote or line feed.
@@ -27,11 +27,21 @@ pub fn texts_of_node_ids()
     ensures plain { (id : Id8) → All (λ letter. (47 < letter) × (letter < 91)) (id8_text id) }
 {}
 
+/// Ids are compared by their bytes.
+pub fn compared_by_bytes()
+    ensures same_objects { (a b : Id12) → ⟦<Id12 as PartialEq>⟧.eq a b ≡ same_id12 a b }
+    ensures same_nodes { (a b : Id8) → ⟦<Id8 as PartialEq>⟧.eq a b ≡ same_id8 a b }
+    ensures objects { (a b : Id12) → ⟦<Id12 as Ord>⟧.cmp a b ≡ id12_cmp a b }
+    ensures nodes { (a b : Id8) → ⟦<Id8 as Ord>⟧.cmp a b ≡ id8_cmp a b }
+{}
+
 /// No id is drawn twice: two draws of one id are draws of one client, at one number of its counter,
 /// which each draw raises. No object id that is drawn is that of the initial snapshot.
 pub fn drawn_ids()
     ensures objects { (a b : AnyIds) (id : Id12) → IsAnyIds a → IsAnyIds b → drawn12 a ≡ Some id → drawn12 b ≡ Some id → (client_of a ≡ client_of b) × (counter_of a ≡ counter_of b) }
     ensures nodes { (a b : AnyIds) (id : Id8) → IsAnyIds a → IsAnyIds b → drawn8 a ≡ Some id → drawn8 b ≡ Some id → (client_of a ≡ client_of b) × (counter_of a ≡ counter_of b) }
     ensures initial { (ids : AnyIds) (id : Id12) → IsAnyIds ids → drawn12 ids ≡ Some id → id ≢ initial_id }
+    ensures raised { (ids : AnyIds) (id : Id12) → IsAnyIds ids → drawn12 ids ≡ Some id → counter_of (after12 ids) ≡ counter_of ids + 1 }
+    ensures raised_too { (ids : AnyIds) (id : Id8) → IsAnyIds ids → drawn8 ids ≡ Some id → counter_of (after8 ids) ≡ counter_of ids + 1 }
     ensures spelled { Id12.INITIAL ≡ initial_id }
 {}

@@ -1,4 +1,4 @@
-use Rattle.ice_ids.proofs.Drawn.{drawn12-same, drawn8-same, drawn12-not_initial}
+use Rattle.ice_ids.proofs.Drawn.{drawn12-same, drawn8-same, drawn12-not_initial, drawn12-raises, drawn8-raises}
 use Rattle.ice_ids.proofs.laws.drawn_ids.Goals as goal
 
 pub returns-clause-objects : goal.returns-clause-objects
@@ -9,3 +9,9 @@ returns-clause-nodes c = drawn8-same
 
 pub returns-clause-initial : goal.returns-clause-initial
 returns-clause-initial c = drawn12-not_initial
+
+pub returns-clause-raised : goal.returns-clause-raised
+returns-clause-raised c = drawn12-raises
+
+pub returns-clause-raised_too : goal.returns-clause-raised_too
+returns-clause-raised_too c = drawn8-raises
