@@ -1,12 +1,11 @@
 -- What adding a node answers.
-use Rattle.std.proofs.Common.{◌≡◌, ℕ, List, Option, Some, None, Result, Ok, Err, refl, sym, ap, ◌∙◌}
+use Rattle.std.proofs.Common.{◌≡◌, Option, Some, None, Result, Ok, Err, refl, ap, ◌∙◌}
 use Rattle.std.specs.Prelude.{IsErrAnd}
-use Rattle.ice_ids.specs.declared.Id8.{Id8}
 use Rattle.tree_model.specs.declared.edit.Edit.{Edit}
 use Rattle.tree_model.specs.declared.edit.EditFault.{EditFault}
 use Rattle.tree_model.specs.declared.edit.EditFault.TheVariants.{NodeExists, NoParent, Full, NoMemory}
 use Rattle.tree_model.specs.Trees.{Tree, refusal, unless}
-use Rattle.tree_model.specs.Changes.{Changes, apply, extend, extended}
+use Rattle.tree_model.specs.Changes.{Changes, apply, extended}
 use Rattle.change_set.specs.Sets.{Extends}
 
 -- what asking whether a node may be added answers

@@ -15,9 +15,9 @@ ghost use Rattle.change_set.specs.Sets.{changes_in, Extends};
 use ice_ids::Id8;
 use std::alloc::{AllocError, Global};
 use tree_model::{
-    Changes, EditFault, MOST_NODES, Node, Nodes, Overlay, Touched, Tree, apply, parent_text, touched,
+    Changes, EditFault, MOST_NODES, Node, Nodes, Overlay, Touched, Tree, apply, touched,
 };
-use zarr_path::Path;
+use zarr_path::{Path, parent_text};
 
 /// What a session has changed of its base, the tree that it began with. Each call is passed the same base, and speaks of
 /// the overlay: the base under the changes. `changes_in` in contracts is what the set stands for.

@@ -1,7 +1,7 @@
 -- The tree under changes: what stands at a path, and how many nodes there are.
 use Rattle.std.proofs.Common.{◌≡◌, ◌⊎◌, inl, inr, ℕ, ◌+◌, ◌≤◌, Bool, true, false, cond, T, List, [], ◌∷◌, ◌++◌, map, length, Option, Some, None, is_some, refl, sym, ap, ◌∙◌, arith}
 use Rattle.std.specs.Option.{option_or}
-use Rattle.std.specs.FinMap.{FinMap, find, get, insert, len, keys, entries, entries_sorted, from_entries, is_sorted, get-entries, len-entries, len-insert}
+use Rattle.std.specs.FinMap.{find, get, insert, len, keys, entries, entries_sorted, from_entries, is_sorted, get-entries, len-entries, len-insert}
 use Rattle.zarr_path.specs.Paths.{path_cmp, same_path}
 use Rattle.zarr_path.proofs.OrderLaws.{total, same_path-true, same_path-refl}
 use Rattle.ice_ids.specs.declared.Id8.{Id8}
@@ -100,7 +100,7 @@ len-overlay : (xs ys : Rows) → T (is_sorted path_cmp xs) → ((q : List ℕ) �
 len-overlay [] ys h apart = omega arith
 len-overlay (x ∷ xs) ys h apart =
     let fresh : get (overlay xs ys) x.0 ≡ None =
-        get-made (xs ++ ys) x.0 ∙ find-append x.0 xs ys ∙ ap (λ o. option_or o (find path_cmp x.0 ys)) (below-none x.0 xs (first (is_below x.0 xs) (is_sorted path_cmp xs) h)) ∙ apart x.0 (here x xs) in
+    get-made (xs ++ ys) x.0 ∙ find-append x.0 xs ys ∙ ap (λ o. option_or o (find path_cmp x.0 ys)) (below-none x.0 xs (first (is_below x.0 xs) (is_sorted path_cmp xs) h)) ∙ apart x.0 (here x xs) in
     let rest = len-overlay xs ys (second (is_below x.0 xs) (is_sorted path_cmp xs) h) (λ q f. apart q (later x xs q f)) in
     let more = len-insert total (overlay xs ys) x.0 x.1 ∙ one_more (get (overlay xs ys) x.0) (len (overlay xs ys)) fresh in
     omega (arith, rest, more)

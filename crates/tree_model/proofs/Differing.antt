@@ -1,22 +1,20 @@
 -- What the lists of touched nodes tell.
-use Rattle.std.proofs.Common.{◌≡◌, ◌⊎◌, inl, inr, ℕ, Bool, true, false, ◌||◌, cond, List, [], ◌∷◌, map, length, Option, Some, None, is_some, refl, sym, ap, ◌∙◌, arith}
-use Rattle.std.specs.Prelude.{◌==◌, bytes_eq}
+use Rattle.std.proofs.Common.{◌≡◌, inl, inr, ℕ, Bool, true, false, ◌||◌, cond, List, [], ◌∷◌, length, Option, Some, None, is_some, refl, sym, ap, ◌∙◌, arith}
+use Rattle.std.specs.Prelude.{◌==◌}
 use Rattle.std.specs.List.{list_any}
-use Rattle.std.specs.List.Sorted.{IsStrictlySortedBy}
 use Rattle.std.specs.Cmp.{both_ways}
-use Rattle.std.specs.FinMap.{FinMap, find, get, len, len-entries, entries, keys, from_entries, contains_key-keys, get-entries, get-from_entries, entries_sorted}
+use Rattle.std.specs.FinMap.{find, get, len, len-entries, entries, from_entries, contains_key-keys, get-entries, get-from_entries}
 use Rattle.std.proofs.lemmas.Slice.Eq.{bytes_eq-Decides}
 use Rattle.std.proofs.lemmas.Bool.{eqb-true, eq-eqb}
 use Rattle.ice_ids.specs.declared.Id8.{Id8}
 use Rattle.ice_ids.specs.Text.{same_id8, id8_cmp}
 use Rattle.zarr_path.specs.Paths.{path_cmp, same_path}
-use Rattle.zarr_path.proofs.OrderLaws.{same_path-true}
 use Rattle.tree_model.specs.declared.node.Node.{Node}
 use Rattle.tree_model.specs.Places.{Rows}
 use Rattle.tree_model.specs.Trees.{Tree, node_at}
-use Rattle.tree_model.specs.Changes.{Changes, IsFree, apply}
-use Rattle.tree_model.specs.Touched.{Touched, touched, in_order, ids_of, lists, has_id, is_untouched, DiffersIn, DiffersLaw}
-use Rattle.tree_model.proofs.Applied.{node_cases, Own, own_node}
+use Rattle.tree_model.specs.Changes.{Changes, apply}
+use Rattle.tree_model.specs.Touched.{touched, in_order, ids_of, lists, has_id, is_untouched, DiffersLaw}
+use Rattle.tree_model.proofs.Applied.{node_cases, own_node}
 use Rattle.tree_model.proofs.TouchedLaws.{id_total, same, same-true, same-refl, pairs, find-pairs}
 
 pub same_id8-refl : (a : Id8) → same_id8 a a ≡ true
@@ -91,8 +89,8 @@ some_any (x ∷ xs) h q = absurd (omega arith)
 -- no ids in order are no ids
 pub length-in_order : (xs : List Id8) → (length (in_order xs) == 0) ≡ (length xs == 0)
 length-in_order xs = both_ways _ _
-  (λ e. eq-eqb _ _ (empty_any xs (λ q. sym (lists-in_order xs q) ∙ some_any (in_order xs) (eqb-true _ _ e) q)))
-  (λ e. eq-eqb _ _ (empty_any (in_order xs) (λ q. lists-in_order xs q ∙ some_any xs (eqb-true _ _ e) q)))
+    (λ e. eq-eqb _ _ (empty_any xs (λ q. sym (lists-in_order xs q) ∙ some_any (in_order xs) (eqb-true _ _ e) q)))
+    (λ e. eq-eqb _ _ (empty_any (in_order xs) (λ q. lists-in_order xs q ∙ some_any xs (eqb-true _ _ e) q)))
 
 length_ids : (rows : Rows) → length (ids_of rows) ≡ length rows
 length_ids [] = refl

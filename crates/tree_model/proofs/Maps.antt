@@ -1,5 +1,5 @@
 -- Finite maps by paths: what is found in their entries.
-use Rattle.std.proofs.Common.{◌≡◌, ℕ, Bool, true, false, cond, List, [], ◌∷◌, ◌++◌, Some, refl, ◌∙◌, sym, ap}
+use Rattle.std.proofs.Common.{◌≡◌, ℕ, true, false, cond, List, [], ◌∷◌, ◌++◌, Some, refl}
 use Rattle.std.specs.Option.{option_or}
 use Rattle.std.specs.FinMap.{FinMap, find, get, insert, from_entries, get-insert, get-from_entries, same_map}
 use Rattle.zarr_path.specs.Paths.{path_cmp, same_path}

@@ -1,10 +1,10 @@
 -- The laws of changes.
-use Rattle.std.proofs.Common.{◌≡◌, ◌≢◌, ◌⊎◌, inl, inr, ℕ, Bool, true, false, cond, not, ◌&&◌, List, Option, Some, None, Result, Ok, Err, is_some, refl, sym, ap, subst, ◌∙◌}
-use Rattle.std.specs.FinMap.{FinMap, get, empty, insert, len, get-empty}
+use Rattle.std.proofs.Common.{◌≡◌, ◌≢◌, ◌⊎◌, inl, inr, ℕ, Bool, true, false, cond, not, ◌&&◌, List, Option, Some, None, Ok, is_some, refl, sym, ap, subst, ◌∙◌}
+use Rattle.std.specs.FinMap.{get, len, get-empty}
 use Rattle.std.specs.Prelude.{nat_le}
 use Rattle.std.specs.Option.{option_or}
 use Rattle.zarr_path.specs.Paths.{path_cmp, same_path, root, is_path, parent_of}
-use Rattle.zarr_path.proofs.OrderLaws.{same_path-true, same_path-false}
+use Rattle.zarr_path.proofs.OrderLaws.{same_path-true}
 use Rattle.ice_ids.specs.declared.Id8.{Id8}
 use Rattle.tree_model.specs.declared.node.Node.{Node}
 use Rattle.tree_model.specs.declared.edit.Edit.{Edit}
@@ -146,9 +146,12 @@ pub apply-none : (t : Tree) → apply none t ≡ t
 apply-none t = same_tree _ _ (λ q. node-apply none t q ∙ ap (λ o. option_or o (node_at t q)) (get-empty path_cmp q))
 
 pub none-law : NoneLaw
-none-law t wt = (apply-none t, record {
-  distinct = λ p q m n f g e. absurd (none_added p m f);
-  fresh = λ p q m n f g e. none_added p m f;
-  free = none-free t;
-  well_formed = subst IsWellFormed (sym (apply-none t)) wt;
-})
+none-law t wt = (
+  apply-none t,
+  record {
+    distinct = λ p q m n f g e. absurd (none_added p m f);
+    fresh = λ p q m n f g e. none_added p m f;
+    free = none-free t;
+    well_formed = subst IsWellFormed (sym (apply-none t)) wt;
+  },
+)

@@ -1,8 +1,6 @@
 -- The nodes of two lists, walked as one.
 use Rattle.std.proofs.Common.{◌≡◌, ℕ, Bool, true, false, cond, T, List, [], ◌∷◌, ◌++◌, length, Option, Some, None, is_some, refl, sym, ap, subst, ◌∙◌, ◌⊎◌, inl, inr, arith}
-use Rattle.std.specs.declared.cmp.Ordering.{Ordering}
 use Rattle.std.specs.declared.cmp.Ordering.TheVariants.{Less, Equal, Greater}
-use Rattle.std.specs.Ordering.{is_eq}
 use Rattle.std.specs.Option.{option_or}
 use Rattle.std.specs.FinMap.{find, get, entries, is_sorted, from_entries}
 use Rattle.zarr_path.specs.Paths.{path_cmp, same_path}

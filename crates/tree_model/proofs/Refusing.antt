@@ -1,7 +1,7 @@
 -- Refusals of an added node.
-use Rattle.std.proofs.Common.{◌≡◌, ◌≢◌, ℕ, true, false, List, Option, Some, None, is_some, refl}
+use Rattle.std.proofs.Common.{◌≡◌, ◌≢◌, ℕ, false, List, Option, Some, None, is_some, refl}
 use Rattle.ice_ids.specs.declared.Id8.{Id8}
-use Rattle.zarr_path.specs.Paths.{same_path, root, parent_of}
+use Rattle.zarr_path.specs.Paths.{root, parent_of}
 use Rattle.zarr_path.proofs.OrderLaws.{same_path-false}
 use Rattle.tree_model.specs.declared.node.Node.{Node}
 use Rattle.tree_model.specs.declared.edit.Edit.TheVariants.{Add}

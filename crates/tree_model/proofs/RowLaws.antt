@@ -1,13 +1,13 @@
 -- Rows in the order of their paths, and the map that they make.
-use Rattle.std.proofs.Common.{◌≡◌, ℕ, Bool, true, false, cond, ◌&&◌, T, List, [], ◌∷◌, ◌++◌, map, length, get_or, Option, Some, None, is_some, refl, sym, ap, subst, ◌∙◌}
+use Rattle.std.proofs.Common.{◌≡◌, ℕ, Bool, true, false, cond, ◌&&◌, T, List, [], ◌∷◌, length, Option, Some, None, is_some, refl, sym, ap, subst, ◌∙◌}
 use Rattle.std.specs.declared.cmp.Ordering.{Ordering}
 use Rattle.std.specs.declared.cmp.Ordering.TheVariants.{Less, Equal, Greater}
-use Rattle.std.specs.Ordering.{is_lt, is_eq, ordering_reverse}
+use Rattle.std.specs.Ordering.{is_lt, ordering_reverse}
 use Rattle.std.specs.List.{list_all}
 use Rattle.std.specs.Cmp.{tied_itself}
 use Rattle.std.specs.FinMap.{FinMap, find, put, get, insert, is_sorted, entries, entries_sorted, entries-insert, from_entries, from_sorted, len, len-entries, get-entries, entries-from_sorted, get-from_sorted}
 use Rattle.zarr_path.specs.Paths.{path_cmp, same_path}
-use Rattle.zarr_path.proofs.OrderLaws.{total, exact, same_path-true, same_path-refl}
+use Rattle.zarr_path.proofs.OrderLaws.{total, same_path-true, same_path-refl}
 use Rattle.tree_model.proofs.Maps.{same, get-made}
 
 pub both : (a b : Bool) → T a → T b → T (a && b)
@@ -79,7 +79,7 @@ module _ {X : Type 0} where
   found-below x [] h = tt
   found-below x (e ∷ es) h =
       both (is_lt (path_cmp x e.0)) (is_below x es) (T-true _ (ap is_lt (h e.0 (ap (λ b. is_some (cond b (Some e.1) (find path_cmp e.0 es))) (same_path-refl e.0)))))
-        (found-below x es (λ q f. h q (elim (same_path q e.0) as (λ b. is_some (cond b (Some e.1) (find path_cmp q es)) ≡ true) [ true ↦ refl | false ↦ f ])))
+      (found-below x es (λ q f. h q (elim (same_path q e.0) as (λ b. is_some (cond b (Some e.1) (find path_cmp q es)) ≡ true) [ true ↦ refl | false ↦ f ])))
 
   -- what is below the keys isn't found
   pub below-none : (x : List ℕ) (es : List (List ℕ × X)) → T (is_below x es) → find path_cmp x es ≡ None

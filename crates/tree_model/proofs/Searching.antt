@@ -1,15 +1,15 @@
 -- Where a search finds the place of a path.
-use Rattle.std.proofs.Common.{◌≡◌, ℕ, zero, suc, ◌+◌, ◌-◌, ◌<◌, ◌≤◌, Bool, true, false, cond, ◌&&◌, T, List, [], ◌∷◌, ◌++◌, map as list_map, length, get_or, Option, Some, None, is_some, option_map, Result, Ok, Err, refl, sym, ap, subst, ◌∙◌, arith}
+use Rattle.std.proofs.Common.{◌≡◌, ℕ, zero, suc, ◌+◌, ◌-◌, ◌<◌, ◌≤◌, Bool, true, false, cond, ◌&&◌, T, List, [], ◌∷◌, ◌++◌, map as list_map, length, get_or, Some, None, option_map, Result, Ok, Err, refl, sym, ap, subst, ◌∙◌, arith}
 use Rattle.std.specs.declared.cmp.Ordering.{Ordering}
 use Rattle.std.specs.declared.cmp.Ordering.TheVariants.{Less, Equal, Greater}
-use Rattle.std.specs.Ordering.{is_lt, is_eq, ordering_index, ordering_reverse}
-use Rattle.std.specs.List.{insert, list_all}
-use Rattle.std.specs.Prelude.{slice_get, slice_set}
+use Rattle.std.specs.Ordering.{is_lt, is_eq, ordering_index}
+use Rattle.std.specs.List.{list_all}
+use Rattle.std.specs.Prelude.{slice_get}
 use Rattle.std.specs.List.Sorted.{IsSearchInRange, IsBinarySearchResult, IsNonDecreasingBy}
 use Rattle.std.specs.FinMap as map
 use Rattle.std.specs.FinMap.{find, put, is_sorted, from_entries}
 use Rattle.zarr_path.specs.Paths.{path_cmp, same_path}
-use Rattle.zarr_path.proofs.OrderLaws.{total, exact, same_path-true, same_path-refl}
+use Rattle.zarr_path.proofs.OrderLaws.{total, exact}
 use Rattle.tree_model.specs.declared.node.Node.{Node}
 use Rattle.tree_model.specs.Places.{Rows, IsAt, IsGap, IsPlace, IsInOrder, is_behind}
 use Rattle.tree_model.proofs.Maps.{get-made}
@@ -120,7 +120,7 @@ last_decides p (r ∷ []) (suc n) row h l e = absurd (omega arith)
 last_decides p (r ∷ s ∷ rs) zero row h l e = absurd (omega arith)
 last_decides p (r ∷ s ∷ rs) (suc n) row h l e =
     absorbed (is_lt (path_cmp r.0 p)) _ _ (last_decides p (s ∷ rs) n row (second (is_below r.0 (s ∷ rs)) (is_sorted path_cmp (s ∷ rs)) h) (omega arith) e)
-      (λ k. ap is_lt (total.trans r.0 row.0 p (below-get r.0 (s ∷ rs) n row (first (is_below r.0 (s ∷ rs)) (is_sorted path_cmp (s ∷ rs)) h) e) (less _ (T-true _ k))))
+    (λ k. ap is_lt (total.trans r.0 row.0 p (below-get r.0 (s ∷ rs) n row (first (is_below r.0 (s ∷ rs)) (is_sorted path_cmp (s ∷ rs)) h) e) (less _ (T-true _ k))))
 
 pub behind_last : (p : List ℕ) (rows : Rows) (row : List ℕ × Node) → IsInOrder rows → slice_get rows (length rows - 1) ≡ Some row → is_behind p (from_entries rows) ≡ is_lt (path_cmp row.0 p)
 behind_last p [] row h e = cc

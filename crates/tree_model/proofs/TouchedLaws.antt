@@ -1,20 +1,20 @@
 -- Ids in the strict order of their bytes.
-use Rattle.std.proofs.Common.{◌≡◌, ℕ, zero, suc, ◌<◌, Bool, true, false, cond, ◌&&◌, ◌||◌, T, eqb, List, [], ◌∷◌, map, length, get_or, Option, Some, None, refl, sym, ap, subst, ◌∙◌, arith}
+use Rattle.std.proofs.Common.{◌≡◌, zero, suc, Bool, true, false, cond, ◌||◌, T, eqb, List, [], ◌∷◌, map, Some, None, refl, sym, ap, subst, ◌∙◌, arith}
 use Rattle.std.specs.declared.cmp.Ordering.{Ordering}
 use Rattle.std.specs.declared.cmp.Ordering.TheVariants.{Less, Equal}
-use Rattle.std.specs.Ordering.{nat_cmp, eq_by_cmp, is_eq, is_lt}
+use Rattle.std.specs.Ordering.{eq_by_cmp, is_eq, is_lt}
 use Rattle.std.specs.Cmp.{IsTotalOrder, Equal-is, on_equiv, both_ways, tied_itself}
-use Rattle.std.specs.Cmp.Lexicographic.{slice_cmp, pointwise, nat_list_cmp_total, nat_list_eq_equiv}
+use Rattle.std.specs.Cmp.Lexicographic.{pointwise, nat_list_cmp_total, nat_list_eq_equiv}
 use Rattle.std.specs.List.{list_any, list_all, dedup, Contains, AllByRecursion}
 use Rattle.std.specs.List.Sorted.{IsPermutation, IsSorted, IsStrictlySortedBy}
-use Rattle.std.specs.FinMap.{FinMap, IsAntisymmetric, find, get, is_sorted, entries, keys, from_entries, from_sorted, same_map, get-from_entries, get-from_sorted, entries-from_sorted, slice_cmp-IsAntisymmetric, nat_cmp-IsAntisymmetric}
+use Rattle.std.specs.FinMap.{IsAntisymmetric, find, get, is_sorted, entries, keys, from_entries, from_sorted, same_map, get-from_entries, get-from_sorted, entries-from_sorted, entries_sorted, slice_cmp-IsAntisymmetric, nat_cmp-IsAntisymmetric}
 use Rattle.std.proofs.lemmas.List.Kept.{Contains-dedup, Contains-from_dedup, IsStrictlySortedBy-dedup}
 use Rattle.std.proofs.lemmas.List.Sorted.{Contains-permutation, IsPermutation-sym}
 use Rattle.ice_ids.specs.declared.Id8.{Id8}
-use Rattle.ice_ids.specs.Text.{id8_cmp, same_id8}
+use Rattle.ice_ids.specs.Text.{id8_cmp}
 use Rattle.zarr_path.proofs.OrderLaws.{pointwise-same}
 use Rattle.tree_model.specs.Touched.{in_order}
-use Rattle.tree_model.proofs.RowLaws.{both}
+use Rattle.tree_model.proofs.RowLaws.{both, first, second, less}
 
 pub id_total : IsTotalOrder id8_cmp
 id_total = record {
@@ -94,8 +94,29 @@ same_bytes x y = pointwise eqb x.0 y.0
 pub sorted_ids : (xs ys zs : List Id8) → IsPermutation xs ys → IsSorted id8_cmp ys → zs ≡ dedup same_bytes ys → zs ≡ in_order xs
 sorted_ids xs ys zs moved rises is =
     is ∙ in_order_is xs (dedup same_bytes ys) (IsStrictlySortedBy-dedup id_total (λ x y. pointwise-same x.0 y.0) ys rises)
-      (λ q h. Contains-dedup (on_equiv (λ (x : Id8). x.0) nat_list_eq_equiv) exact_bytes ys q (Contains-permutation xs ys q moved h))
-      (λ q h. Contains-permutation ys xs q (IsPermutation-sym xs ys moved) (Contains-from_dedup same_bytes ys q h))
+    (λ q h. Contains-dedup (on_equiv (λ (x : Id8). x.0) nat_list_eq_equiv) exact_bytes ys q (Contains-permutation xs ys q moved h))
+    (λ q h. Contains-permutation ys xs q (IsPermutation-sym xs ys moved) (Contains-from_dedup same_bytes ys q h))
   where
     exact_bytes : (x y : Id8) → same_bytes x y ≡ true → x ≡ y
     exact_bytes x y e = same-true x y (sym (pointwise-same x.0 y.0) ∙ e)
+
+-- ---- ids in order
+below_keys : (x : Id8) (es : List (Id8 × Unit {0})) → T (list_all (λ (e : Id8 × Unit {0}). is_lt (id8_cmp x e.0)) es) → AllByRecursion (λ y. id8_cmp x y ≡ Less) (map (λ (e : Id8 × Unit {0}). e.0) es)
+below_keys x [] h = tt
+below_keys x (e ∷ es) h = (less (id8_cmp x e.0) (first (is_lt (id8_cmp x e.0)) _ h), below_keys x es (second (is_lt (id8_cmp x e.0)) _ h))
+
+rising_keys : (es : List (Id8 × Unit {0})) → T (is_sorted id8_cmp es) → IsStrictlySortedBy id8_cmp (map (λ (e : Id8 × Unit {0}). e.0) es)
+unfolding IsStrictlySortedBy
+rising_keys [] h = tt
+rising_keys (e ∷ es) h = (below_keys e.0 es (first (list_all (λ (x : Id8 × Unit {0}). is_lt (id8_cmp e.0 x.0)) es) _ h), rising_keys es (second (list_all (λ (x : Id8 × Unit {0}). is_lt (id8_cmp e.0 x.0)) es) _ h))
+
+-- they rise
+pub in_order-rises : (xs : List Id8) → IsStrictlySortedBy id8_cmp (in_order xs)
+in_order-rises xs = rising_keys (entries (from_entries {R = id8_cmp} (pairs xs))) (entries_sorted (from_entries {R = id8_cmp} (pairs xs)))
+
+-- and stay as they are
+pub in_order-rising : (xs : List Id8) → IsStrictlySortedBy id8_cmp xs → in_order xs ≡ xs
+in_order-rising xs h = sym (in_order_is xs xs h (λ q c. c) (λ q c. c))
+
+pub in_order-in_order : (xs : List Id8) → in_order (in_order xs) ≡ in_order xs
+in_order-in_order xs = in_order-rising (in_order xs) (in_order-rises xs)

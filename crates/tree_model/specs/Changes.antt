@@ -1,5 +1,5 @@
 -- Changes: what edits have done to a tree. (Own.)
-use Rattle.std.specs.Prelude.{◌≡◌, ◌≢◌, ℕ, true, List, Option, Some, None, Result, Ok, Err}
+use Rattle.std.specs.Prelude.{◌≡◌, ◌≢◌, ℕ, true, List, Some, None, Result, Ok, Err}
 use Rattle.std.specs.FinMap.{FinMap, empty, get, insert, entries}
 use Rattle.ice_ids.specs.declared.Id8.{Id8}
 use Rattle.zarr_path.specs.Paths.{path_cmp, is_path}
@@ -8,7 +8,7 @@ use Rattle.tree_model.specs.declared.edit.Edit.{Edit}
 use Rattle.tree_model.specs.declared.edit.Edit.TheVariants.{Add}
 use Rattle.tree_model.specs.declared.edit.EditFault.{EditFault}
 use Rattle.tree_model.specs.Places.{overlay}
-use Rattle.tree_model.specs.Trees.{Tree, node_at, IsWellFormed, refusal, edited, unless, change}
+use Rattle.tree_model.specs.Trees.{Tree, node_at, IsWellFormed, refusal, unless, change}
 
 -- the added nodes, by their paths
 pub record Changes : Type 0 where

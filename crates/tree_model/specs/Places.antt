@@ -1,5 +1,5 @@
 -- Rows of paths and nodes, in the order of the paths.
-use Rattle.std.specs.Prelude.{◌≡◌, ℕ, Bool, ◌<◌, ◌≤◌, List, length, slice_get, slice_set, option_map, Option, Some, None, Result, Ok, Err, T, ◌++◌}
+use Rattle.std.specs.Prelude.{◌≡◌, ℕ, Bool, ◌<◌, ◌≤◌, List, length, slice_get, slice_set, option_map, None, Result, Ok, Err, T, ◌++◌}
 use Rattle.std.specs.List.{insert, list_all}
 use Rattle.std.specs.Ordering.{is_lt}
 use Rattle.std.specs.FinMap.{FinMap, find, put, keys, from_entries, is_sorted}

@@ -2,7 +2,6 @@
 use Rattle.std.specs.Prelude.{◌≡◌, ◌≢◌, ℕ, Bool, true, false, not, ◌&&◌, nat_le, if◌then◌else◌, List, Option, Some, None, Result, Ok, Err, is_some}
 use Rattle.std.specs.List.{filter}
 use Rattle.std.specs.FinMap.{FinMap, empty, get, insert, len, keys}
-use Rattle.ice_ids.specs.declared.Id8.{Id8}
 use Rattle.zarr_path.specs.Paths.{path_cmp, same_path, root, is_path, is_beneath, parent_of}
 use Rattle.tree_model.specs.declared.node.Node.{Node}
 use Rattle.tree_model.specs.declared.edit.Edit.{Edit}

@@ -30,8 +30,8 @@ pub fn apply(alloc: Global, changes: &Changes, tree: &Tree) -> Result<Tree, Allo
 }
 
 /// What the changes touch of a tree.
-pub fn touched(alloc: Global, changes: &Changes, _tree: &Tree) -> Result<Touched, AllocError>
-    ensures { IfOk result (λ t. t ≡ touched (changes_of changes.now) (tree_of _tree.now)) }
+pub fn touched(alloc: Global, changes: &Changes, tree: &Tree) -> Result<Touched, AllocError>
+    ensures { IfOk result (λ t. t ≡ touched (changes_of changes.now) (tree_of tree.now)) }
 {
     Ok(Touched {
         new_groups: ids_in_order(alloc, changes.added.rows())?,

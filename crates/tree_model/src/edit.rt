@@ -1,15 +1,12 @@
 //! Edits on a whole tree, in the plain slow form.
 
-ghost use Rattle.std.specs.Prelude.{◌≡◌, nat_le, IfOk};
-ghost use Rattle.std.specs.FinMap as map;
-ghost use Rattle.zarr_path.specs.Paths.{parent_of};
 ghost use Rattle.tree_model.specs.Plain.{tree_of, IsChange};
 
 use crate::node::Node;
 use crate::tree::Tree;
 use ice_ids::Id8;
 use std::alloc::{AllocError, Global};
-use zarr_path::Path;
+use zarr_path::{Path, parent_text};
 
 /// The most nodes that a tree may have.
 pub const MOST_NODES: usize = 65536;
@@ -47,16 +44,6 @@ impl From<AllocError> for EditFault {
 
     fn from(_error: AllocError) -> EditFault {
         EditFault::NoMemory
-    }
-}
-
-/// The text of the path of a node's parent; of `/`, `/` itself.
-pub fn parent_text(path: &str) -> &str
-    ensures { result.now ≡ parent_of path.now }
-{
-    match path.rsplit_once('/') {
-        Some((before, _)) if !before.is_empty() => before,
-        _ => "/",
     }
 }
 

@@ -11,10 +11,13 @@ mod overlay;
 mod tree;
 
 pub use changes::{Changes, apply, touched};
-pub use edit::{Edit, EditFault, MOST_NODES, change, parent_text};
+pub use edit::{Edit, EditFault, MOST_NODES, change};
 pub use laws::{change_law, differs_law, none_law, normal_law};
 pub use lists::{Ids, Touched};
 pub use node::Node;
 pub use nodes::Nodes;
 pub use overlay::Overlay;
 pub use tree::Tree;
+
+#[cfg(test)]
+mod tests;

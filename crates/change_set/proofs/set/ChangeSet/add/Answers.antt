@@ -11,7 +11,7 @@ use Rattle.change_set.proofs.set.ChangeSet.add.Goals as goal
 pub returns-in_err-may_add : goal.returns-in_err-may_add
 returns-in_err-may_add c =
     handed_on (changes_in c.args.self.now) (tree_of c.args.base.now) (Add c.args.path.now c.args.id) c.from_residual.result c.in_err-may_add.field-0.0
-      c.from_residual.ensures.1 (c.in_err-may_add.ensures c.args.id)
+    c.from_residual.ensures.1 (c.in_err-may_add.ensures c.args.id)
 
 pub returns : goal.returns
 returns c =

@@ -9,4 +9,4 @@ use Rattle.change_set.proofs.set.ChangeSet.beneath.Goals as goal
 pub returns : goal.returns
 returns c =
     subst (λ (keys : List (List ℕ)). IfOk c.paths_of.result (λ paths. paths.items ≡ filter (is_beneath c.args.path.now) keys))
-      (ap (map (λ row. row.0)) c.over.ensures ∙ keys-over (changes_in c.args.self.now) (tree_of c.args.base.now)) c.paths_of.ensures
+    (ap (map (λ row. row.0)) c.over.ensures ∙ keys-over (changes_in c.args.self.now) (tree_of c.args.base.now)) c.paths_of.ensures

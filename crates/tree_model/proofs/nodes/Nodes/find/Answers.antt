@@ -1,4 +1,4 @@
-use Rattle.std.proofs.Common.{sym, ap, subst, ◌∙◌}
+use Rattle.std.proofs.Common.{ap, subst, ◌∙◌}
 use Rattle.std.specs.FinMap as map
 use Rattle.tree_model.specs.Places.{IsAt, IsGap}
 use Rattle.tree_model.proofs.Searching.{found_at, found_gap}

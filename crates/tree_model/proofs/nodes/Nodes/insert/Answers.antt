@@ -1,6 +1,5 @@
-use Rattle.std.proofs.Common.{◌≡◌, sym, ap, subst, ◌∙◌}
+use Rattle.std.proofs.Common.{sym, ap, subst, ◌∙◌}
 use Rattle.std.specs.FinMap as map
-use Rattle.zarr_path.specs.Paths.{path_cmp}
 use Rattle.tree_model.specs.Places.{IsAt, IsGap}
 use Rattle.tree_model.proofs.Searching.{written_in_order, written_map}
 use Rattle.tree_model.proofs.nodes.Nodes.insert.Goals as goal

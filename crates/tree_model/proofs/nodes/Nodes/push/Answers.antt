@@ -1,7 +1,7 @@
 use Rattle.std.proofs.Common.{◌≡◌, true, sym, ap, ◌∙◌}
 use Rattle.std.specs.FinMap as map
 use Rattle.zarr_path.specs.Paths.{path_cmp}
-use Rattle.tree_model.specs.Places.{IsInOrder, is_behind}
+use Rattle.tree_model.specs.Places.{is_behind}
 use Rattle.tree_model.proofs.Searching.{pushed_in_order, pushed_map}
 use Rattle.tree_model.proofs.nodes.Nodes.push.Goals as goal
 
@@ -16,7 +16,7 @@ invariant_of-self-2 c = rw c.in_ok-push.ensures.items (pushed_in_order _ c.self.
 
 pub returns-clause-ok : goal.returns-clause-ok
 returns-clause-ok c = (
-    sym (behind c) ∙ ap (is_behind c.args.path) c.self.view_is,
-    ap (map.from_entries {R = path_cmp}) c.in_ok-push.ensures.items ∙ pushed_map _ c.self.invariant c.args.path c.args.node (behind c)
-    ∙ ap (λ m. map.insert m c.args.path c.args.node) c.self.view_is,
-  )
+  sym (behind c) ∙ ap (is_behind c.args.path) c.self.view_is,
+  ap (map.from_entries {R = path_cmp}) c.in_ok-push.ensures.items ∙ pushed_map _ c.self.invariant c.args.path c.args.node (behind c)
+      ∙ ap (λ m. map.insert m c.args.path c.args.node) c.self.view_is,
+)

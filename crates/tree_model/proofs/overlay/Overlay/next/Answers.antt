@@ -1,4 +1,4 @@
-use Rattle.std.proofs.Common.{◌≡◌, ap, sym, ◌∙◌}
+use Rattle.std.proofs.Common.{sym, ◌∙◌}
 use Rattle.zarr_path.specs.Paths.{path_cmp}
 use Rattle.tree_model.proofs.Overlaying.{step_none, step_first, step_second, step_less, step_equal, step_greater}
 use Rattle.tree_model.proofs.overlay.Overlay.next.Goals as goal
