@@ -1,9 +1,10 @@
 -- What a word stands for, or the kind of its fault.
-use Rattle.std.specs.Prelude.{◌≡◌, ℕ, List, [], ◌∷◌, ◌==◌, if◌then◌else◌, Option, Some, None, Result, Ok, Err, Bool, true, false, not, ◌&&◌, ◌||◌, nat_eq, nat_le, length, codes}
+use Rattle.std.specs.Prelude.{◌≡◌, ℕ, List, [], ◌∷◌, ◌==◌, if◌then◌else◌, Option, Some, None, Result, Ok, Err, Bool, true, false, not, ◌&&◌, ◌||◌, nat_eq, nat_le, length}
 use Rattle.std.specs.List.{list_all}
 use Rattle.std.specs.Cmp.Lexicographic.{pointwise}
 use Rattle.std.specs.Char.{is_ascii_digit, is_ascii_lowercase}
 use Rattle.std.specs.Str.Parse.{digits_value}
+use Rattle.ice_base.specs.Names.{main_name}
 use Rattle.zarr_path.specs.Paths.{is_path}
 use Rattle.play_script.specs.declared.faults.ScriptKind.{ScriptKind}
 use Rattle.play_script.specs.declared.faults.ScriptKind.TheVariants as k
@@ -34,11 +35,8 @@ unfoldable pub path_of : Text → Result Text ScriptKind
 path_of w = if is_path w then Ok w else Err k.Unbuilt
 
 -- own: the one branch that is built so far
-abbrev pub main_branch : Text
-main_branch = codes "main"
-
 unfoldable pub branch_of : Text → Result Text ScriptKind
-branch_of w = if w reads main_branch then Ok main_branch else Err k.Unbuilt
+branch_of w = if w reads main_name then Ok main_name else Err k.Unbuilt
 
 -- own: a number is decimal digits alone, and may begin with zeros
 abbrev pub is_digits : Text → Bool
