@@ -10,7 +10,7 @@ use Rattle.play_script.specs.declared.faults.ScriptKind.{ScriptKind}
 use Rattle.play_script.specs.declared.faults.ScriptKind.TheVariants as k
 use Rattle.play_script.specs.Words.{Text}
 use Rattle.play_script.specs.Parts.{◌&◌, made, each, only_if}
-use Rattle.play_script.specs.Values.{◌reads◌, is_task_name, task_name_of, path_of, branch_of, is_digits, is_number, number_of, count_of}
+use Rattle.play_script.specs.Values.{◌reads◌, is_task_name, task_name_of, path_of, branch_of, is_number, number_of, count_of}
 use Rattle.play_script.specs.Forms.{taken}
 
 pub made_ok : {A B : Type 0} (f : A → B) (r : Result A ScriptKind) (t : B) → made f r ≡ Ok t → (x : A) × (r ≡ Ok x) × (f x ≡ t)

@@ -1,13 +1,11 @@
 -- What heads, body lines and turns are where they are read.
-use Rattle.std.proofs.Common.{◌≡◌, ℕ, ◌+◌, ◌<◌, ◌≤◌, Bool, true, false, cond, nat_eq, List, [], ◌∷◌, ◌++◌, length, Option, None, Some, Result, Ok, Err, refl, sym, ap, subst, ◌∙◌, arith}
-use Rattle.std.specs.Prelude.{IfSome, codes, ◌&&◌}
-use Rattle.std.specs.List.{All}
+use Rattle.std.proofs.Common.{◌≡◌, ℕ, ◌+◌, ◌<◌, ◌≤◌, Bool, true, false, cond, nat_eq, List, [], ◌∷◌, length, Option, None, Some, Result, Ok, sym, ap, subst, ◌∙◌, arith}
+use Rattle.std.specs.Prelude.{IfSome, codes}
 use Rattle.std.proofs.lemmas.Bool.{cond_both}
-use Rattle.std.proofs.lemmas.List.Elements.{All-nil, All-cons, All-head, All-tail}
+use Rattle.std.proofs.lemmas.List.Elements.{All-tail}
 use Rattle.ice_base.specs.Lists.{IsBytes}
 use Rattle.ice_base.specs.Names.{main_name}
 use Rattle.play_script.specs.declared.faults.ScriptKind.{ScriptKind}
-use Rattle.play_script.specs.declared.faults.ScriptKind.TheVariants as k
 use Rattle.play_script.specs.declared.scripts.Call.{Call}
 use Rattle.play_script.specs.declared.scripts.Call.TheVariants as call
 use Rattle.play_script.specs.declared.scripts.Head.{Head}
@@ -20,7 +18,7 @@ use Rattle.play_script.specs.declared.forms.Form.{Form}
 use Rattle.play_script.specs.Words.{Text, cut_of, one, two, three}
 use Rattle.play_script.specs.Parts.{◌&◌, made}
 use Rattle.play_script.specs.Values.{◌reads◌, fixed, path_of, branch_of, count_of}
-use Rattle.play_script.specs.Forms.{taken, form, group_of, list_of, commit_of, form_of, write_of, read_of, head_of}
+use Rattle.play_script.specs.Forms.{group_of, list_of, commit_of, form_of, write_of, read_of, head_of}
 use Rattle.play_script.specs.Places.{client_from, turn, turn_of}
 use Rattle.play_script.specs.Well.{IsWellCall, IsListCall, head_branch, IsWellTurn}
 use Rattle.play_script.proofs.Inversions.{made_ok, both_ok, taken_ok, path_ok, branch_ok, count_ok}

@@ -1,7 +1,6 @@
 -- A script that was read is well.
-use Rattle.std.proofs.Common.{◌≡◌, ℕ, ◌+◌, ◌<◌, ◌≤◌, Bool, true, false, cond, List, [], ◌∷◌, ◌++◌, length, Option, None, Some, Result, Ok, Err, refl, sym, ap, subst, ◌∙◌, arith, length-append}
+use Rattle.std.proofs.Common.{◌≡◌, ℕ, ◌+◌, ◌≤◌, true, false, List, [], ◌∷◌, length, Option, Some, Result, Ok, Err, refl, subst, arith, length-append}
 use Rattle.std.specs.Prelude.{IfOk, ◌&&◌, ◌||◌, not, nat_lt, nat_le, codes, take}
-use Rattle.std.specs.List.{All}
 use Rattle.std.specs.Str.{is_utf8}
 use Rattle.std.proofs.lemmas.Bool.{and_parts, or_parts, not-true, not-false, ltb-true, ltb-false, cond_both}
 use Rattle.std.proofs.lemmas.List.Elements.{All-nil, All-push}
@@ -17,7 +16,7 @@ use Rattle.play_script.specs.declared.scripts.Script.{Script}
 use Rattle.play_script.specs.declared.heads.TheConstants.{MOST_TASKS}
 use Rattle.play_script.specs.declared.reading.TheConstants.{MOST_LINES, MOST_BYTES}
 use Rattle.play_script.specs.Words.{Text, cut_of, pieces, next, lines_of}
-use Rattle.play_script.specs.Parts.{◌&◌, made, each, only_if}
+use Rattle.play_script.specs.Parts.{◌&◌, each, only_if}
 use Rattle.play_script.specs.Values.{◌reads◌, task_name_of}
 use Rattle.play_script.specs.Forms.{taken, form_of, head_of}
 use Rattle.play_script.specs.Places.{last, is_open, takes, onto_last, with_line, body_line, is_used, with_task, may_begin, task_line, head_line, turn_of, turns_line, words_line, line_at}
@@ -56,11 +55,12 @@ none_taken (head.Read branch) = All-nil _
 task_well : (s : Script) (n : ℕ) (name word : Text) (rest : Option Text) → IsWell s → IsLineNumber n → IsWellIfRead (task_line s n name word rest)
 unfolding task_line may_begin
 task_well s n name word rest w number t h =
-    let m = made_ok (λ (v : ((((Unit {0} × Unit {0}) × Unit {0}) × Text) × Head)). with_task s n v.0.1 v.1) (may_begin s name & task_name_of name & head_of word rest) t h in
+    let m = made_ok (λ (v : ((Unit {0} × Text) × Head)). with_task s n v.0.1 v.1) (may_begin s name & task_name_of name & head_of word rest) t h in
     let all = both_ok (may_begin s name & task_name_of name) (head_of word rest) m.0 m.1 in
     let named = both_ok (may_begin s name) (task_name_of name) m.0.0 all.0 in
-    let before = both_ok (only_if (is_open s) k.Unbuilt & only_if (nat_lt (length s.tasks) MOST_TASKS) k.Unbuilt) (only_if (not (is_used s.tasks name)) k.Unbuilt) m.0.0.0 named.0 in
-    let placed = both_ok (only_if (is_open s) k.Unbuilt) (only_if (nat_lt (length s.tasks) MOST_TASKS) k.Unbuilt) m.0.0.0.0 before.0 in
+    let begin = made_ok (λ (v : (Unit {0} × Unit {0}) × Unit {0}). v.1) (only_if (is_open s) k.Unbuilt & only_if (nat_lt (length s.tasks) MOST_TASKS) k.Unbuilt & only_if (not (is_used s.tasks name)) k.Unbuilt) m.0.0.0 named.0 in
+    let before = both_ok (only_if (is_open s) k.Unbuilt & only_if (nat_lt (length s.tasks) MOST_TASKS) k.Unbuilt) (only_if (not (is_used s.tasks name)) k.Unbuilt) begin.0 begin.1 in
+    let placed = both_ok (only_if (is_open s) k.Unbuilt) (only_if (nat_lt (length s.tasks) MOST_TASKS) k.Unbuilt) begin.0.0 before.0 in
     let waiting : is_open s ≡ true = only_if_ok _ _ _ placed.0 in
     let room = ltb-true (length s.tasks) MOST_TASKS (only_if_ok _ _ _ placed.1) in
     let free : is_used s.tasks name ≡ false = not-true _ (only_if_ok _ _ _ before.1) in

@@ -1,5 +1,5 @@
 -- Own: where a line may stand, in view of the script before it and nothing else.
-use Rattle.std.specs.Prelude.{◌≡◌, ℕ, ◌+◌, ◌-◌, List, [], ◌∷◌, ◌++◌, nat_lt, nat_le, if◌then◌else◌, Option, Some, None, is_some, Result, Ok, Err, Bool, true, false, not, ◌&&◌, ◌||◌, length, slice_get, codes}
+use Rattle.std.specs.Prelude.{ℕ, ◌+◌, ◌-◌, List, [], ◌∷◌, ◌++◌, nat_lt, if◌then◌else◌, Option, Some, None, is_some, Result, Ok, Err, Bool, true, false, not, ◌&&◌, ◌||◌, length, slice_get, codes}
 use Rattle.std.specs.List.{list_any}
 use Rattle.std.specs.Str.{is_utf8}
 use Rattle.play_script.specs.declared.faults.ScriptKind.{ScriptKind}
@@ -72,11 +72,11 @@ abbrev pub with_task : Script → ℕ → Text → Head → Script
 with_task s n name head = record s { tasks = s.tasks ++ record { name = name; line = n; head = head; body = [] } ∷ [] }
 
 -- what a head asks of the script before it
-unfoldable pub may_begin : Script → Text → Result ((Unit {0} × Unit {0}) × Unit {0}) ScriptKind
-may_begin s name =
+unfoldable pub may_begin : Script → Text → Result (Unit {0}) ScriptKind
+may_begin s name = made (λ v. v.1) (
     only_if (is_open s) k.Unbuilt
     & only_if (nat_lt (length s.tasks) MOST_TASKS) k.Unbuilt
-    & only_if (not (is_used s.tasks name)) k.Unbuilt
+    & only_if (not (is_used s.tasks name)) k.Unbuilt)
 
 unfoldable pub task_line : Script → ℕ → Text → Text → Option Text → Result Script ScriptKind
 task_line s n name word rest =

@@ -48,7 +48,7 @@ fn with_task(
 
 /// What a head asks of the script before it.
 #[tactic(auto, unfolding(crate::specs::Places::may_begin))]
-fn may_begin(script: &Script, name: &str) -> Result<(((), ()), ()), ScriptKind>
+fn may_begin(script: &Script, name: &str) -> Result<(), ScriptKind>
     ensures value { result ≡ may_begin script.now name.now }
     ensures few { IfOk result (λ _. length script.now.tasks < MOST_TASKS) }
 {
@@ -56,7 +56,10 @@ fn may_begin(script: &Script, name: &str) -> Result<(((), ()), ()), ScriptKind>
     let placed = only_if(is_open(script), ScriptKind::Unbuilt);
     let few = only_if(tasks.len() < MOST_TASKS, ScriptKind::Unbuilt);
     let unused = only_if(!is_used(tasks, name), ScriptKind::Unbuilt);
-    both(both(placed, few), unused)
+    match both(both(placed, few), unused) {
+        Ok(_) => Ok(()),
+        Err(kind) => Err(kind),
+    }
 }
 
 /// The script with a task of this name, and the head that its word and the rest of its line give.
@@ -76,7 +79,7 @@ fn task_line(
     let name = task_name_in(alloc, name)?;
     let head = head_in(alloc, word, rest)?;
     match both(both(before, name), head) {
-        Ok(((_, name), head)) => {
+        Ok((((), name), head)) => {
             let script = with_task(alloc, script, number, name, head)?;
             Ok(Ok(script))
         }

@@ -15,7 +15,7 @@ use crate::turning::turns_line;
 use crate::words::{cut, cut_line};
 use std::alloc::{AllocError, Global};
 
-/// How many bytes a script may have.
+/// How many bytes a script may have; who reads one needs the next byte too, to see that it is too long.
 pub const MOST_BYTES: usize = 1_048_576;
 
 /// How many lines a script may have.
@@ -116,7 +116,9 @@ fn lines_in(alloc: Global, text: &[u8]) -> Result<Script, ScriptFault>
 }
 
 impl Script {
-    /// Reads a text as a script.
+    /// Reads a text as a script. It is refused at its first line that isn't of a form that is built, at its place; a text
+    /// of too many bytes is refused before all that, at the line of the first byte too many. A script that was read is
+    /// well, as the workers above take it to be.
     #[tactic(auto, unfolding(crate::specs::Reading::script_of))]
     pub fn read(alloc: Global, text: &[u8]) -> Result<Script, ScriptFault>
         ensures reads { IsReading (script_of text.now) result }
