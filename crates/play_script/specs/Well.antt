@@ -11,11 +11,9 @@ use Rattle.play_script.specs.declared.scripts.Line.{Line}
 use Rattle.play_script.specs.declared.scripts.Task.{Task}
 use Rattle.play_script.specs.declared.scripts.Turn.{Turn}
 use Rattle.play_script.specs.declared.scripts.Script.{Script}
-use Rattle.play_script.specs.declared.heads.TheConstants.{MOST_TASKS}
-use Rattle.play_script.specs.declared.reading.TheConstants.{MOST_LINES}
 use Rattle.play_script.specs.Words.{Text}
 use Rattle.play_script.specs.Values.{is_task_name}
-use Rattle.play_script.specs.Places.{is_commit_call}
+use Rattle.play_script.specs.Places.{most_tasks, most_lines, is_commit_call}
 
 -- the values of a call are of their grammars
 abbrev pub IsWellCall : Call → Type 0
@@ -25,7 +23,7 @@ IsWellCall (call.Commit message) = IsBytes message
 
 -- a number of a line
 abbrev pub IsLineNumber : ℕ → Type 0
-IsLineNumber n = (1 ≤ n) × (n ≤ MOST_LINES)
+IsLineNumber n = (1 ≤ n) × (n ≤ most_lines)
 
 pub record IsWellLine (l : Line) : Type 0 where
   pub number : IsLineNumber l.number
@@ -66,7 +64,7 @@ pub record IsWellTurn (clients : ℕ) (t : Turn) : Type 0 where
   pub few_steps : t.count ≤ 9999
 
 pub record IsWell (s : Script) : Type 0 where
-  pub few : length s.tasks ≤ MOST_TASKS
+  pub few : length s.tasks ≤ most_tasks
   pub tasks : All IsWellTask s.tasks
   pub names : AllPairs (λ a b. a ≢ b) (map (λ t. t.name) s.tasks)
   pub turns : IfSome s.turns (All (IsWellTurn (length s.tasks)))
