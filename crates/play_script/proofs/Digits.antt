@@ -1,5 +1,5 @@
 -- What `parse` reads of digits alone.
-use Rattle.std.proofs.Common.{◌≡◌, ℕ, ◌<◌, ◌≤◌, ◌^◌, Bool, true, false, nat_eq, List, [], ◌∷◌, length, Result, Ok, Err, refl, arith, rules}
+use Rattle.std.proofs.Common.{◌≡◌, ℕ, ◌<◌, ◌^◌, Bool, true, false, nat_eq, List, length, Result, refl, rules}
 use Rattle.std.specs.Prelude.{not, ◌&&◌}
 use Rattle.std.specs.Result.{OkIff}
 use Rattle.std.specs.List.{list_all}

@@ -4,12 +4,13 @@ use Rattle.std.specs.List.{All}
 use Rattle.std.specs.Str.Parse.{digits_value}
 use Rattle.std.proofs.lemmas.Bool.{and_parts, leb-true}
 use Rattle.std.proofs.lemmas.List.Elements.{All-nil, All-cons}
+use Rattle.ice_base.specs.Names.{main_name}
 use Rattle.zarr_path.specs.Paths.{is_path}
 use Rattle.play_script.specs.declared.faults.ScriptKind.{ScriptKind}
 use Rattle.play_script.specs.declared.faults.ScriptKind.TheVariants as k
 use Rattle.play_script.specs.Words.{Text}
 use Rattle.play_script.specs.Parts.{◌&◌, made, each, only_if}
-use Rattle.play_script.specs.Values.{◌reads◌, is_task_name, task_name_of, path_of, main_branch, branch_of, is_digits, is_number, number_of, count_of}
+use Rattle.play_script.specs.Values.{◌reads◌, is_task_name, task_name_of, path_of, branch_of, is_number, number_of, count_of}
 use Rattle.play_script.specs.Forms.{taken}
 
 pub made_ok : {A B : Type 0} (f : A → B) (r : Result A ScriptKind) (t : B) → made f r ≡ Ok t → (x : A) × (r ≡ Ok x) × (f x ≡ t)
@@ -55,9 +56,9 @@ task_name_ok w name h =
     let t = tested_ok (is_task_name w) w name h in
     (subst (λ (p : Text). is_task_name p ≡ true) t.1 t.0, t.1)
 
-pub branch_ok : (w branch : Text) → branch_of w ≡ Ok branch → branch ≡ main_branch
+pub branch_ok : (w branch : Text) → branch_of w ≡ Ok branch → branch ≡ main_name
 unfolding branch_of
-branch_ok w branch h = sym (tested_ok (w reads main_branch) main_branch branch h).1
+branch_ok w branch h = sym (tested_ok (w reads main_name) main_name branch h).1
 
 number_ok : (least most : ℕ) (w : Text) (n : ℕ) → number_of least most w ≡ Ok n → (least ≤ n) × (n ≤ most)
 unfolding number_of

@@ -1,11 +1,11 @@
 -- What heads, body lines and turns are where they are read.
-use Rattle.std.proofs.Common.{◌≡◌, ℕ, ◌+◌, ◌<◌, ◌≤◌, Bool, true, false, cond, nat_eq, List, [], ◌∷◌, ◌++◌, length, Option, None, Some, Result, Ok, Err, refl, sym, ap, subst, ◌∙◌, arith}
-use Rattle.std.specs.Prelude.{IfSome, codes, ◌&&◌}
-use Rattle.std.specs.List.{All}
+use Rattle.std.proofs.Common.{◌≡◌, ℕ, ◌+◌, ◌<◌, ◌≤◌, Bool, true, false, cond, nat_eq, List, [], ◌∷◌, length, Option, None, Some, Result, Ok, sym, ap, subst, ◌∙◌, arith}
+use Rattle.std.specs.Prelude.{IfSome, codes}
 use Rattle.std.proofs.lemmas.Bool.{cond_both}
-use Rattle.std.proofs.lemmas.List.Elements.{All-nil, All-cons, All-head, All-tail}
+use Rattle.std.proofs.lemmas.List.Elements.{All-tail}
+use Rattle.ice_base.specs.Lists.{IsBytes}
+use Rattle.ice_base.specs.Names.{main_name}
 use Rattle.play_script.specs.declared.faults.ScriptKind.{ScriptKind}
-use Rattle.play_script.specs.declared.faults.ScriptKind.TheVariants as k
 use Rattle.play_script.specs.declared.scripts.Call.{Call}
 use Rattle.play_script.specs.declared.scripts.Call.TheVariants as call
 use Rattle.play_script.specs.declared.scripts.Head.{Head}
@@ -17,24 +17,21 @@ use Rattle.play_script.specs.declared.forms.Class.TheVariants as c
 use Rattle.play_script.specs.declared.forms.Form.{Form}
 use Rattle.play_script.specs.Words.{Text, cut_of, one, two, three}
 use Rattle.play_script.specs.Parts.{◌&◌, made}
-use Rattle.play_script.specs.Values.{◌reads◌, fixed, path_of, branch_of, main_branch, count_of}
-use Rattle.play_script.specs.Forms.{taken, form, group_of, list_of, commit_of, form_of, write_of, read_of, head_of}
+use Rattle.play_script.specs.Values.{◌reads◌, fixed, path_of, branch_of, count_of}
+use Rattle.play_script.specs.Forms.{group_of, list_of, commit_of, form_of, write_of, read_of, head_of}
 use Rattle.play_script.specs.Places.{client_from, turn, turn_of}
 use Rattle.play_script.specs.Well.{IsWellCall, IsListCall, head_branch, IsWellTurn}
 use Rattle.play_script.proofs.Inversions.{made_ok, both_ok, taken_ok, path_ok, branch_ok, count_ok}
 
-abbrev pub AreBytes : List ℕ → Type 0
-AreBytes bs = All (λ b. b < 256) bs
-
 -- what is left of a line of bytes is bytes
 abbrev pub AreLeft : Option Text → Type 0
-AreLeft rest = IfSome rest AreBytes
+AreLeft rest = IfSome rest IsBytes
 
-by_cut : (t : Bool) (b : ℕ) (bs : Text) → AreBytes bs → AreLeft (cut_of 32 bs).1 → AreLeft (cond {A = Text × Option Text} t ([], Some bs) (b ∷ (cut_of 32 bs).0, (cut_of 32 bs).1)).1
+by_cut : (t : Bool) (b : ℕ) (bs : Text) → IsBytes bs → AreLeft (cut_of 32 bs).1 → AreLeft (cond {A = Text × Option Text} t ([], Some bs) (b ∷ (cut_of 32 bs).0, (cut_of 32 bs).1)).1
 by_cut true b bs h left = h
 by_cut false b bs h left = left
 
-pub cut_left : (line : Text) → AreBytes line → AreLeft (cut_of 32 line).1
+pub cut_left : (line : Text) → IsBytes line → AreLeft (cut_of 32 line).1
 unfolding cut_of
 cut_left [] h = tt
 cut_left (b ∷ bs) h =
@@ -78,7 +75,7 @@ form_ok first rest left =
 
 -- a head names the branch that is built
 abbrev pub IsOnMain : Result Head ScriptKind → Type 0
-IsOnMain r = (v : Head) → r ≡ Ok v → head_branch v ≡ main_branch
+IsOnMain r = (v : Head) → r ≡ Ok v → head_branch v ≡ main_name
 
 write_ok : (rest : Option Text) → IsOnMain (write_of rest)
 unfolding write_of

@@ -1,7 +1,6 @@
 -- A script that was read is well.
-use Rattle.std.proofs.Common.{◌≡◌, ℕ, ◌+◌, ◌<◌, ◌≤◌, Bool, true, false, cond, List, [], ◌∷◌, ◌++◌, length, Option, None, Some, Result, Ok, Err, refl, sym, ap, subst, ◌∙◌, arith, length-append}
+use Rattle.std.proofs.Common.{◌≡◌, ℕ, ◌+◌, ◌≤◌, true, false, List, [], ◌∷◌, length, Option, Some, Result, Ok, Err, refl, subst, arith, length-append}
 use Rattle.std.specs.Prelude.{IfOk, ◌&&◌, ◌||◌, not, nat_lt, nat_le, codes, take}
-use Rattle.std.specs.List.{All}
 use Rattle.std.specs.Str.{is_utf8}
 use Rattle.std.proofs.lemmas.Bool.{and_parts, or_parts, not-true, not-false, ltb-true, ltb-false, cond_both}
 use Rattle.std.proofs.lemmas.List.Elements.{All-nil, All-push}
@@ -14,15 +13,13 @@ use Rattle.play_script.specs.declared.scripts.Line.{Line}
 use Rattle.play_script.specs.declared.scripts.Task.{Task}
 use Rattle.play_script.specs.declared.scripts.Turn.{Turn}
 use Rattle.play_script.specs.declared.scripts.Script.{Script}
-use Rattle.play_script.specs.declared.heads.TheConstants.{MOST_TASKS}
-use Rattle.play_script.specs.declared.reading.TheConstants.{MOST_LINES, MOST_BYTES}
 use Rattle.play_script.specs.Words.{Text, cut_of, pieces, next, lines_of}
-use Rattle.play_script.specs.Parts.{◌&◌, made, each, only_if}
+use Rattle.play_script.specs.Parts.{◌&◌, each, only_if}
 use Rattle.play_script.specs.Values.{◌reads◌, task_name_of}
 use Rattle.play_script.specs.Forms.{taken, form_of, head_of}
-use Rattle.play_script.specs.Places.{last, is_open, takes, onto_last, with_line, body_line, is_used, with_task, may_begin, task_line, head_line, turn_of, turns_line, words_line, line_at}
+use Rattle.play_script.specs.Places.{most_tasks, most_lines, last, is_open, takes, onto_last, with_line, body_line, is_used, with_task, may_begin, task_line, head_line, turn_of, turns_line, words_line, line_at}
 use Rattle.play_script.specs.declared.faults.ScriptFault.{ScriptFault}
-use Rattle.play_script.specs.Reading.{at_line, lines_from, empty, feeds, script_of, IsReading}
+use Rattle.play_script.specs.Reading.{most_bytes, at_line, lines_from, empty, feeds, script_of, IsReading}
 use Rattle.play_script.specs.Well.{IsLineNumber, AreTaken, IsWellTask, IsWellTurn, IsWell}
 use Rattle.play_script.proofs.Inversions.{made_ok, both_ok, only_if_ok, taken_ok, each_ok, task_name_ok}
 use Rattle.play_script.proofs.Utf8.{text_bytes}
@@ -56,13 +53,14 @@ none_taken (head.Read branch) = All-nil _
 task_well : (s : Script) (n : ℕ) (name word : Text) (rest : Option Text) → IsWell s → IsLineNumber n → IsWellIfRead (task_line s n name word rest)
 unfolding task_line may_begin
 task_well s n name word rest w number t h =
-    let m = made_ok (λ (v : ((((Unit {0} × Unit {0}) × Unit {0}) × Text) × Head)). with_task s n v.0.1 v.1) (may_begin s name & task_name_of name & head_of word rest) t h in
+    let m = made_ok (λ (v : ((Unit {0} × Text) × Head)). with_task s n v.0.1 v.1) (may_begin s name & task_name_of name & head_of word rest) t h in
     let all = both_ok (may_begin s name & task_name_of name) (head_of word rest) m.0 m.1 in
     let named = both_ok (may_begin s name) (task_name_of name) m.0.0 all.0 in
-    let before = both_ok (only_if (is_open s) k.Unbuilt & only_if (nat_lt (length s.tasks) MOST_TASKS) k.Unbuilt) (only_if (not (is_used s.tasks name)) k.Unbuilt) m.0.0.0 named.0 in
-    let placed = both_ok (only_if (is_open s) k.Unbuilt) (only_if (nat_lt (length s.tasks) MOST_TASKS) k.Unbuilt) m.0.0.0.0 before.0 in
+    let begin = made_ok (λ (v : (Unit {0} × Unit {0}) × Unit {0}). v.1) (only_if (is_open s) k.Unbuilt & only_if (nat_lt (length s.tasks) most_tasks) k.Unbuilt & only_if (not (is_used s.tasks name)) k.Unbuilt) m.0.0.0 named.0 in
+    let before = both_ok (only_if (is_open s) k.Unbuilt & only_if (nat_lt (length s.tasks) most_tasks) k.Unbuilt) (only_if (not (is_used s.tasks name)) k.Unbuilt) begin.0 begin.1 in
+    let placed = both_ok (only_if (is_open s) k.Unbuilt) (only_if (nat_lt (length s.tasks) most_tasks) k.Unbuilt) begin.0.0 before.0 in
     let waiting : is_open s ≡ true = only_if_ok _ _ _ placed.0 in
-    let room = ltb-true (length s.tasks) MOST_TASKS (only_if_ok _ _ _ placed.1) in
+    let room = ltb-true (length s.tasks) most_tasks (only_if_ok _ _ _ placed.1) in
     let free : is_used s.tasks name ≡ false = not-true _ (only_if_ok _ _ _ before.1) in
     let is_name = task_name_ok name m.0.0.1 named.1 in
     let task : Task = record { name = m.0.0.1; line = n; head = m.0.1; body = [] } in
@@ -98,9 +96,9 @@ words_well s n first rest w number left =
 line_well : (s : Script) (n : ℕ) (line : Text) → IsWell s → 1 ≤ n → IsWellIfRead (line_at s n line)
 unfolding line_at
 line_well s n line w some =
-    cond_both (nat_lt MOST_LINES n || not (is_utf8 line)) _ _ IsWellIfRead (λ _ t h. absurd (cc)) (λ placed.
-    let parts = or_parts (nat_lt MOST_LINES n) (not (is_utf8 line)) placed in
-    words_well s n (cut_of 32 line).0 (cut_of 32 line).1 w (some, ltb-false MOST_LINES n parts.0) (cut_left line (text_bytes line (not-false _ parts.1))))
+    cond_both (nat_lt most_lines n || not (is_utf8 line)) _ _ IsWellIfRead (λ _ t h. absurd (cc)) (λ placed.
+    let parts = or_parts (nat_lt most_lines n) (not (is_utf8 line)) placed in
+    words_well s n (cut_of 32 line).0 (cut_of 32 line).1 w (some, ltb-false most_lines n parts.0) (cut_left line (text_bytes line (not-false _ parts.1))))
 
 -- what more lines make of it
 more_lines : (n : ℕ) (r : Result Script ScriptKind) (more : Script → Result Script (ℕ × ScriptKind)) (t : Script) → IsWellIfRead r → ((s : Script) → IsWell s → more s ≡ Ok t → IsWell t) → at_line n r more ≡ Ok t → IsWell t
@@ -119,7 +117,7 @@ empty_well = record { few = omega arith; tasks = All-nil _; names = λ i j d lt 
 pub well : (text : List ℕ) (s : Script) → script_of text ≡ Ok s → IsWell s
 unfolding script_of
 well text s h =
-    cond_both (nat_le (length text) MOST_BYTES) (lines_from empty 1 (lines_of text)) (Err (feeds (take MOST_BYTES text) + 1, k.Long)) (λ r. r ≡ Ok s → IsWell s) (λ _ h. lines_well empty 1 (lines_of text) s empty_well (omega arith) h) (λ _ h. absurd (cc)) h
+    cond_both (nat_le (length text) most_bytes) (lines_from empty 1 (lines_of text)) (Err (feeds (take most_bytes text) + 1, k.Long)) (λ r. r ≡ Ok s → IsWell s) (λ _ h. lines_well empty 1 (lines_of text) s empty_well (omega arith) h) (λ _ h. absurd (cc)) h
 
 -- the script of a call that read these lines
 pub read_well : (text : List ℕ) (r : Result Script ScriptFault) → IsReading (lines_from empty 1 (lines_of text)) r → IfOk r IsWell

@@ -1,9 +1,9 @@
--- Parts of a line: all of their values, or the earliest kind of fault.
-use Rattle.std.specs.Prelude.{◌≡◌, ℕ, Bool, true, false, Result, Ok, Err, List, [], ◌∷◌, nat_le, if◌then◌else◌, codes}
+-- Own: parts of a line, all of their values, or the earliest kind of fault.
+use Rattle.std.specs.Prelude.{ℕ, Bool, true, false, Result, Ok, Err, List, [], ◌∷◌, nat_le, if◌then◌else◌, codes}
 use Rattle.play_script.specs.declared.faults.ScriptKind.{ScriptKind}
 use Rattle.play_script.specs.declared.faults.ScriptKind.TheVariants.{Long, Unbuilt}
 
--- own: the order in which kinds are told
+-- the order in which kinds are told
 abbrev pub rank : ScriptKind → ℕ
 rank Long = 0
 rank Unbuilt = 1
@@ -11,7 +11,7 @@ rank Unbuilt = 1
 abbrev pub earlier : ScriptKind → ScriptKind → ScriptKind
 earlier k j = if nat_le (rank k) (rank j) then k else j
 
--- own: how a kind is printed
+-- how a kind is printed
 abbrev pub kind_text : ScriptKind → List ℕ
 kind_text Long = codes "long"
 kind_text Unbuilt = codes "unbuilt"

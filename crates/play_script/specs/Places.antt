@@ -1,5 +1,5 @@
 -- Own: where a line may stand, in view of the script before it and nothing else.
-use Rattle.std.specs.Prelude.{◌≡◌, ℕ, ◌+◌, ◌-◌, List, [], ◌∷◌, ◌++◌, nat_lt, nat_le, if◌then◌else◌, Option, Some, None, is_some, Result, Ok, Err, Bool, true, false, not, ◌&&◌, ◌||◌, length, slice_get, codes}
+use Rattle.std.specs.Prelude.{ℕ, ◌+◌, ◌-◌, List, [], ◌∷◌, ◌++◌, nat_lt, if◌then◌else◌, Option, Some, None, is_some, Result, Ok, Err, Bool, true, false, not, ◌&&◌, ◌||◌, length, slice_get, codes}
 use Rattle.std.specs.List.{list_any}
 use Rattle.std.specs.Str.{is_utf8}
 use Rattle.play_script.specs.declared.faults.ScriptKind.{ScriptKind}
@@ -14,12 +14,17 @@ use Rattle.play_script.specs.declared.scripts.Turn.{Turn}
 use Rattle.play_script.specs.declared.scripts.Script.{Script}
 use Rattle.play_script.specs.declared.forms.Class.{Class}
 use Rattle.play_script.specs.declared.forms.Class.TheVariants as c
-use Rattle.play_script.specs.declared.heads.TheConstants.{MOST_TASKS}
-use Rattle.play_script.specs.declared.reading.TheConstants.{MOST_LINES}
 use Rattle.play_script.specs.Words.{Text, cut_of, pieces, next}
 use Rattle.play_script.specs.Parts.{◌&◌, made, each, only_if}
 use Rattle.play_script.specs.Values.{◌reads◌, task_name_of, count_of}
 use Rattle.play_script.specs.Forms.{taken, form_of, head_of}
+
+-- how many tasks and lines a script may have
+abbrev pub most_tasks : ℕ
+most_tasks = 64
+
+abbrev pub most_lines : ℕ
+most_lines = 1000
 
 abbrev pub last : {A : Type 0} → List A → Option A
 last xs = slice_get xs (length xs - 1)
@@ -72,11 +77,11 @@ abbrev pub with_task : Script → ℕ → Text → Head → Script
 with_task s n name head = record s { tasks = s.tasks ++ record { name = name; line = n; head = head; body = [] } ∷ [] }
 
 -- what a head asks of the script before it
-unfoldable pub may_begin : Script → Text → Result ((Unit {0} × Unit {0}) × Unit {0}) ScriptKind
-may_begin s name =
+unfoldable pub may_begin : Script → Text → Result (Unit {0}) ScriptKind
+may_begin s name = made (λ v. v.1) (
     only_if (is_open s) k.Unbuilt
-    & only_if (nat_lt (length s.tasks) MOST_TASKS) k.Unbuilt
-    & only_if (not (is_used s.tasks name)) k.Unbuilt
+    & only_if (nat_lt (length s.tasks) most_tasks) k.Unbuilt
+    & only_if (not (is_used s.tasks name)) k.Unbuilt)
 
 unfoldable pub task_line : Script → ℕ → Text → Text → Option Text → Result Script ScriptKind
 task_line s n name word rest =
@@ -113,5 +118,5 @@ words_line s n first rest =
 -- line n behind the lines of s
 unfoldable pub line_at : Script → ℕ → Text → Result Script ScriptKind
 line_at s n line =
-    if nat_lt MOST_LINES n || not (is_utf8 line) then Err k.Unbuilt else
+    if nat_lt most_lines n || not (is_utf8 line) then Err k.Unbuilt else
     words_line s n (cut_of 32 line).0 (cut_of 32 line).1

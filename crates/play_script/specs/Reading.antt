@@ -5,9 +5,12 @@ use Rattle.play_script.specs.declared.faults.ScriptKind.TheVariants.{Long}
 use Rattle.play_script.specs.declared.faults.ScriptFault.{ScriptFault}
 use Rattle.play_script.specs.declared.faults.ScriptFault.TheVariants.{At, NoMemory}
 use Rattle.play_script.specs.declared.scripts.Script.{Script}
-use Rattle.play_script.specs.declared.reading.TheConstants.{MOST_BYTES}
 use Rattle.play_script.specs.Words.{Text, lines_of}
 use Rattle.play_script.specs.Places.{line_at}
+
+-- how many bytes a script may have
+abbrev pub most_bytes : ℕ
+most_bytes = 1048576
 
 -- what a line is read as, if it can be, and then more; else its number and kind
 abbrev pub at_line : ℕ → Result Script ScriptKind → (Script → Result Script (ℕ × ScriptKind)) → Result Script (ℕ × ScriptKind)
@@ -29,8 +32,8 @@ feeds text = count_by (λ b. b == 10) text
 -- the script that a text stands for, or the number of the first line that is refused, and why
 unfoldable pub script_of : Text → Result Script (ℕ × ScriptKind)
 script_of text =
-    if nat_le (length text) MOST_BYTES then lines_from empty 1 (lines_of text)
-    else Err (feeds (take MOST_BYTES text) + 1, Long)
+    if nat_le (length text) most_bytes then lines_from empty 1 (lines_of text)
+    else Err (feeds (take most_bytes text) + 1, Long)
 
 -- a call answers what a text stands for; want of memory may come instead
 abbrev pub IsReading : Result Script (ℕ × ScriptKind) → Result Script ScriptFault → Type 0

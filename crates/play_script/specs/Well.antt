@@ -1,5 +1,7 @@
 -- Own: what holds of every script that was read.
-use Rattle.std.specs.Prelude.{◌≡◌, ◌≢◌, ℕ, ◌≤◌, ◌<◌, List, [], ◌∷◌, length, map, IfSome, IsTrue, All, AllPairs}
+use Rattle.std.specs.Prelude.{◌≡◌, ◌≢◌, ℕ, ◌≤◌, List, [], ◌∷◌, length, map, IfSome, IsTrue, All, AllPairs}
+use Rattle.ice_base.specs.Lists.{IsBytes}
+use Rattle.ice_base.specs.Names.{main_name}
 use Rattle.zarr_path.specs.Paths.{is_path}
 use Rattle.play_script.specs.declared.scripts.Call.{Call}
 use Rattle.play_script.specs.declared.scripts.Call.TheVariants as call
@@ -9,21 +11,19 @@ use Rattle.play_script.specs.declared.scripts.Line.{Line}
 use Rattle.play_script.specs.declared.scripts.Task.{Task}
 use Rattle.play_script.specs.declared.scripts.Turn.{Turn}
 use Rattle.play_script.specs.declared.scripts.Script.{Script}
-use Rattle.play_script.specs.declared.heads.TheConstants.{MOST_TASKS}
-use Rattle.play_script.specs.declared.reading.TheConstants.{MOST_LINES}
 use Rattle.play_script.specs.Words.{Text}
-use Rattle.play_script.specs.Values.{is_task_name, main_branch}
-use Rattle.play_script.specs.Places.{is_commit_call}
+use Rattle.play_script.specs.Values.{is_task_name}
+use Rattle.play_script.specs.Places.{most_tasks, most_lines, is_commit_call}
 
 -- the values of a call are of their grammars
 abbrev pub IsWellCall : Call → Type 0
 IsWellCall (call.Group path) = IsTrue (is_path path)
 IsWellCall (call.List path) = IsTrue (is_path path)
-IsWellCall (call.Commit message) = All (λ b. b < 256) message
+IsWellCall (call.Commit message) = IsBytes message
 
 -- a number of a line
 abbrev pub IsLineNumber : ℕ → Type 0
-IsLineNumber n = (1 ≤ n) × (n ≤ MOST_LINES)
+IsLineNumber n = (1 ≤ n) × (n ≤ most_lines)
 
 pub record IsWellLine (l : Line) : Type 0 where
   pub number : IsLineNumber l.number
@@ -51,7 +51,7 @@ AreTaken (head.Read branch) body = All (λ l. IsListCall l.call) body
 pub record IsWellTask (t : Task) : Type 0 where
   pub name : IsTrue (is_task_name t.name)
   pub line : IsLineNumber t.line
-  pub branch : head_branch t.head ≡ main_branch
+  pub branch : head_branch t.head ≡ main_name
   pub body : All IsWellLine t.body
   pub taken : AreTaken t.head t.body
   pub commit : EndsAtCommit t.body
@@ -64,7 +64,7 @@ pub record IsWellTurn (clients : ℕ) (t : Turn) : Type 0 where
   pub few_steps : t.count ≤ 9999
 
 pub record IsWell (s : Script) : Type 0 where
-  pub few : length s.tasks ≤ MOST_TASKS
+  pub few : length s.tasks ≤ most_tasks
   pub tasks : All IsWellTask s.tasks
   pub names : AllPairs (λ a b. a ≢ b) (map (λ t. t.name) s.tasks)
   pub turns : IfSome s.turns (All (IsWellTurn (length s.tasks)))

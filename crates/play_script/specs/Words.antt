@@ -1,12 +1,12 @@
--- Lines, and the words of a line.
-use Rattle.std.specs.Prelude.{◌≡◌, ℕ, List, [], ◌∷◌, ◌==◌, if◌then◌else◌, Option, Some, None, option_map, option_and_then}
+-- Own: lines, and the words of a line.
+use Rattle.std.specs.Prelude.{ℕ, List, [], ◌∷◌, ◌==◌, if◌then◌else◌, Option, Some, None, option_map, option_and_then}
 use Rattle.std.specs.List.{slice_split, onto_first}
 use denote.Ref.{Bor}
 
 abbrev pub Text : Type 0
 Text = List ℕ
 
--- own: a line ends with a line feed, which the last line may lack
+-- a line ends with a line feed, which the last line may lack
 unfoldable pub lines_of : Text → List Text
 lines_of [] = []
 lines_of (b ∷ bs) = if b == 10 then [] ∷ lines_of bs else onto_first b (lines_of bs)
@@ -29,7 +29,7 @@ pieces c (Some text) = parts c text
 abbrev pub seen : Option (Bor Text) → Option Text
 seen rest = option_map (λ r. r.now) rest
 
--- own: words stand between single spaces, and none is empty
+-- words stand between single spaces, and none is empty
 abbrev solid : Text × Option Text → Option (Text × Option Text)
 solid ([], rest) = None
 solid (b ∷ bs, rest) = Some (b ∷ bs, rest)

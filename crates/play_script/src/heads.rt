@@ -2,7 +2,7 @@
 
 ghost use Rattle.std.specs.Prelude.{◌≡◌, ◌+◌, ◌<◌, ◌≤◌, IfOk, length};
 ghost use Rattle.play_script.specs.Words.{seen};
-ghost use Rattle.play_script.specs.Places.{is_used, with_task, may_begin, task_line, head_line};
+ghost use Rattle.play_script.specs.Places.{most_tasks, is_used, with_task, may_begin, task_line, head_line};
 
 use crate::bodies::is_open;
 use crate::faults::{ScriptKind, both, only_if};
@@ -48,15 +48,18 @@ fn with_task(
 
 /// What a head asks of the script before it.
 #[tactic(auto, unfolding(crate::specs::Places::may_begin))]
-fn may_begin(script: &Script, name: &str) -> Result<(((), ()), ()), ScriptKind>
+fn may_begin(script: &Script, name: &str) -> Result<(), ScriptKind>
     ensures value { result ≡ may_begin script.now name.now }
-    ensures few { IfOk result (λ _. length script.now.tasks < MOST_TASKS) }
+    ensures few { IfOk result (λ _. length script.now.tasks < most_tasks) }
 {
     let tasks = script.tasks.as_slice();
     let placed = only_if(is_open(script), ScriptKind::Unbuilt);
     let few = only_if(tasks.len() < MOST_TASKS, ScriptKind::Unbuilt);
     let unused = only_if(!is_used(tasks, name), ScriptKind::Unbuilt);
-    both(both(placed, few), unused)
+    match both(both(placed, few), unused) {
+        Ok(_) => Ok(()),
+        Err(kind) => Err(kind),
+    }
 }
 
 /// The script with a task of this name, and the head that its word and the rest of its line give.
@@ -70,13 +73,13 @@ fn task_line(
     rest: Option<&str>,
 ) -> Result<Result<Script, ScriptKind>, AllocError>
     ensures value { IfOk result (λ r. r ≡ task_line script number name.now word.now (seen rest.entry)) }
-    ensures few { IfOk result (λ r. IfOk r (λ s. length s.tasks ≤ MOST_TASKS)) }
+    ensures few { IfOk result (λ r. IfOk r (λ s. length s.tasks ≤ most_tasks)) }
 {
     let before = may_begin(&script, name);
     let name = task_name_in(alloc, name)?;
     let head = head_in(alloc, word, rest)?;
     match both(both(before, name), head) {
-        Ok(((_, name), head)) => {
+        Ok((((), name), head)) => {
             let script = with_task(alloc, script, number, name, head)?;
             Ok(Ok(script))
         }
@@ -93,7 +96,7 @@ pub fn head_line(
     rest: Option<&str>,
 ) -> Result<Result<Script, ScriptKind>, AllocError>
     ensures value { IfOk result (λ r. r ≡ head_line script number (seen rest.entry)) }
-    ensures few { IfOk result (λ r. IfOk r (λ s. length s.tasks ≤ MOST_TASKS)) }
+    ensures few { IfOk result (λ r. IfOk r (λ s. length s.tasks ≤ most_tasks)) }
 {
     let Some((name, rest)) = next(rest) else {
         return Ok(Err(ScriptKind::Unbuilt));

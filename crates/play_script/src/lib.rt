@@ -1,4 +1,14 @@
 //! Scripts: the tasks that clients play against a repository, and the turns that they take.
+//!
+//! A script is UTF-8 text of at most 1,048,576 bytes and 1,000 lines. A line ends with a line feed, which the last one may
+//! lack; words stand between single spaces. It is any number of tasks, at most 64, then at most one line of turns:
+//!
+//! - `task NAME write main 0 fail`, a task that edits: lines `group PATH` and `list PATH`, then at most one
+//!   `commit MESSAGE`, whose message is the rest of the line and may be empty;
+//! - `task NAME read branch main`, a task that reads: lines `list PATH`;
+//! - `turns WORDS`, each word a task's `NAME`, or `NAME*COUNT` with a count of 1 to 9,999; perhaps no word.
+//!
+//! Names are 1 to 16 bytes of `a` to `z`, `0` to `9` and `_`, and distinct.
 #![tactic(auto)]
 
 mod bodies;

@@ -1,21 +1,21 @@
 //! Whole scripts, line by line.
 
-ghost use Rattle.std.specs.Prelude.{◌≡◌, ◌≤◌, ◌<◌, ◌+◌, IfOk, Err, MatchOption, length, false, true, count_by, ◌==◌, take};
+ghost use Rattle.std.specs.Prelude.{◌≡◌, ◌≤◌, ◌<◌, ◌+◌, IfOk, MatchOption, length, false, true, take};
 ghost use Rattle.std.specs.Str.{is_utf8};
 ghost use Rattle.play_script.specs.Words.{seen, lines_of};
-ghost use Rattle.play_script.specs.Places.{words_line, line_at};
-ghost use Rattle.play_script.specs.Reading.{feeds, lines_from, empty, script_of, IsReading};
+ghost use Rattle.play_script.specs.Places.{most_tasks, words_line, line_at};
+ghost use Rattle.play_script.specs.Reading.{most_bytes, feeds, lines_from, empty, script_of, IsReading};
 ghost use Rattle.play_script.specs.Well.{IsWell};
 
 use crate::bodies::body_line;
 use crate::faults::{ScriptFault, ScriptKind};
-use crate::heads::{MOST_TASKS, head_line};
+use crate::heads::head_line;
 use crate::scripts::{Script, Tasks};
 use crate::turning::turns_line;
 use crate::words::{cut, cut_line};
 use std::alloc::{AllocError, Global};
 
-/// How many bytes a script may have.
+/// How many bytes a script may have; who reads one needs the next byte too, to see that it is too long.
 pub const MOST_BYTES: usize = 1_048_576;
 
 /// How many lines a script may have.
@@ -30,9 +30,9 @@ fn words_line(
     first: &str,
     rest: Option<&str>,
 ) -> Result<Result<Script, ScriptKind>, AllocError>
-    requires { length script.tasks ≤ MOST_TASKS }
+    requires { length script.tasks ≤ most_tasks }
     ensures value { IfOk result (λ r. r ≡ words_line script number first.now (seen rest.entry)) }
-    ensures few { IfOk result (λ r. IfOk r (λ s. length s.tasks ≤ MOST_TASKS)) }
+    ensures few { IfOk result (λ r. IfOk r (λ s. length s.tasks ≤ most_tasks)) }
 {
     if first == "task" {
         return head_line(alloc, script, number, rest);
@@ -62,9 +62,9 @@ fn line_at(
     number: u32,
     line: &[u8],
 ) -> Result<Result<Script, ScriptKind>, AllocError>
-    requires { length script.tasks ≤ MOST_TASKS }
+    requires { length script.tasks ≤ most_tasks }
     ensures value { IfOk result (λ r. r ≡ line_at script number line.now) }
-    ensures few { IfOk result (λ r. IfOk r (λ s. length s.tasks ≤ MOST_TASKS)) }
+    ensures few { IfOk result (λ r. IfOk r (λ s. length s.tasks ≤ most_tasks)) }
 {
     if number > MOST_LINES {
         return Ok(Err(ScriptKind::Unbuilt));
@@ -77,7 +77,7 @@ fn line_at(
 }
 
 fn feeds(text: &[u8]) -> u32
-    requires { length text.now ≤ MOST_BYTES }
+    requires { length text.now ≤ most_bytes }
     ensures count { result ≡ feeds text.now }
     ensures within { result ≤ length text.now }
 {
@@ -86,15 +86,15 @@ fn feeds(text: &[u8]) -> u32
 
 /// The line of the first byte too many.
 fn long_line(text: &[u8]) -> u32
-    requires { MOST_BYTES < length text.now }
-    ensures { result ≡ feeds (take MOST_BYTES text.now) + 1 }
+    requires { most_bytes < length text.now }
+    ensures { result ≡ feeds (take most_bytes text.now) + 1 }
 {
     let (front, _) = text.split_at(MOST_BYTES);
     feeds(front) + 1
 }
 
 fn lines_in(alloc: Global, text: &[u8]) -> Result<Script, ScriptFault>
-    requires { length text.now ≤ MOST_BYTES }
+    requires { length text.now ≤ most_bytes }
     ensures { IsReading (lines_from empty 1 (lines_of text.now)) result }
 {
     let mut script = Script {
@@ -116,7 +116,9 @@ fn lines_in(alloc: Global, text: &[u8]) -> Result<Script, ScriptFault>
 }
 
 impl Script {
-    /// Reads a text as a script.
+    /// Reads a text as a script. It is refused at its first line that isn't of a form that is built, at its place; a text
+    /// of too many bytes is refused before all that, at the line of the first byte too many. A script that was read is
+    /// well, as the workers above take it to be.
     #[tactic(auto, unfolding(crate::specs::Reading::script_of))]
     pub fn read(alloc: Global, text: &[u8]) -> Result<Script, ScriptFault>
         ensures reads { IsReading (script_of text.now) result }

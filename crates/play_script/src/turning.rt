@@ -3,12 +3,11 @@
 ghost use Rattle.std.specs.Prelude.{◌≡◌, ◌≤◌, IfOk, length};
 ghost use Rattle.play_script.specs.Words.{seen, pieces};
 ghost use Rattle.play_script.specs.Parts.{◌&◌, made, each};
-ghost use Rattle.play_script.specs.Places.{client_from, turn_of, turns_line};
+ghost use Rattle.play_script.specs.Places.{most_tasks, client_from, turn_of, turns_line};
 ghost use Rattle.play_script.specs.SoFar.{turns_seen, one_more};
 
 use crate::bodies::is_open;
 use crate::faults::{ScriptKind, both, only_if};
-use crate::heads::MOST_TASKS;
 use crate::scripts::{Script, Task, Turn, Turns};
 use crate::values::count_in;
 use crate::words::cut;
@@ -16,7 +15,7 @@ use std::alloc::{AllocError, Global};
 
 /// The number of the task of this name, from 1.
 fn client_of(tasks: &[Task], name: &str) -> Result<u32, ScriptKind>
-    requires { length tasks.now ≤ MOST_TASKS }
+    requires { length tasks.now ≤ most_tasks }
     ensures { result ≡ client_from 1 tasks.now name.now }
 {
     let mut client = 1;
@@ -32,7 +31,7 @@ fn client_of(tasks: &[Task], name: &str) -> Result<u32, ScriptKind>
 /// The turn that a word stands for.
 #[tactic(auto, unfolding(crate::specs::Places::turn_of))]
 fn turn_in(tasks: &[Task], word: &str) -> Result<Turn, ScriptKind>
-    requires { length tasks.now ≤ MOST_TASKS }
+    requires { length tasks.now ≤ most_tasks }
     ensures { result ≡ turn_of tasks.now word.now }
 {
     let (name, count) = cut(word, '*');
@@ -64,7 +63,7 @@ fn turns_in(
     tasks: &[Task],
     rest: Option<&str>,
 ) -> Result<Result<Vec<Turn>, ScriptKind>, AllocError>
-    requires { length tasks.now ≤ MOST_TASKS }
+    requires { length tasks.now ≤ most_tasks }
     ensures { IfOk result (λ r. turns_seen r ≡ each (turn_of tasks.now) (pieces 32 (seen rest.entry))) }
 {
     let mut turns = Ok(Vec::new(alloc));
@@ -84,7 +83,7 @@ pub fn turns_line(
     script: Script,
     rest: Option<&str>,
 ) -> Result<Result<Script, ScriptKind>, AllocError>
-    requires { length script.tasks ≤ MOST_TASKS }
+    requires { length script.tasks ≤ most_tasks }
     ensures value { IfOk result (λ r. r ≡ turns_line script (seen rest.entry)) }
     ensures few { IfOk result (λ r. IfOk r (λ s. s.tasks ≡ script.tasks)) }
 {

@@ -1,6 +1,6 @@
 //! What a word stands for.
 
-ghost use Rattle.std.specs.Prelude.{◌≡◌, ◌<◌, ◌^◌, IfOk};
+ghost use Rattle.std.specs.Prelude.{◌≡◌, IfOk};
 ghost use Rattle.std.specs.List.{list_all};
 ghost use Rattle.std.specs.Char.{is_ascii_digit};
 ghost use Rattle.play_script.specs.Values.{is_digits, number_of, is_task_name, is_task_byte, task_name_of, path_of, branch_of, fixed, count_of};

@@ -1,4 +1,3 @@
-use Rattle.std.proofs.Common.{rules}
 use Rattle.play_script.specs.Words.{pieces, seen}
 use Rattle.play_script.specs.Places.{turn_of}
 use Rattle.play_script.specs.SoFar.{turns_seen}
