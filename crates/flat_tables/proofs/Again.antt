@@ -42,6 +42,10 @@ pub field_if : {A : Type 0} (part : A → Part) (o : Option A) → ((x : A) → 
 field_if part None each = absent_field
 field_if part (Some x) each = each x
 
+pub struct_field_if : (align n : ℕ) (o : Option (List ℕ)) → align ≤ 8 → n ≤ 255 → IfSome o (λ bytes. length bytes ≡ n) → IsField (part_if (inline align) o)
+struct_field_if align n None aligned short len = absent_field
+struct_field_if align n (Some bytes) aligned short len = inline_field align bytes aligned (omega (arith, len))
+
 -- the parts of a table: its fields, of which there are few
 pub record IsTable (ps : List Part) : Type 0 where
   pub fields : AllByRecursion IsField ps
@@ -310,6 +314,14 @@ structs_again t k align size bytes xs some sized small slot =
     record { vector = v.vector; is = v.is; count = v.count; items = items; reads = items_read v.vector (map bytes xs) 0 (length (map bytes xs)) refl again }
 
 -- numbers
+pub four_bytes : (ns : List ℕ) → AllByRecursion (λ n. length (to_le_bytes w32 n) ≡ 4) ns
+four_bytes [] = tt
+four_bytes (n ∷ ns) = (refl, four_bytes ns)
+
+pub eight_bytes : (ns : List ℕ) → AllByRecursion (λ n. length (to_le_bytes w64 n) ≡ 8) ns
+eight_bytes [] = tt
+eight_bytes (n ∷ ns) = (refl, eight_bytes ns)
+
 pub numbers_again_32 : (ns : List ℕ) → AllByRecursion (λ n. n < 2 ^ 32) ns → map (from_le_bytes w32) (map (to_le_bytes w32) ns) ≡ ns
 numbers_again_32 [] small = refl
 numbers_again_32 (n ∷ ns) small = rw (from_le_bytes-to_le_bytes_4 n small.0, numbers_again_32 ns small.1) refl
