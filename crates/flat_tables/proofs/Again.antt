@@ -1,22 +1,21 @@
 -- What was written is read again: a payload, a table, and each of its slots. A file kind proves, for each of its tables,
 -- that a table with the parts that it writes is read as the value that they were made of; the rest stands here.
-use Rattle.std.proofs.Common.{◌≡◌, ℕ, zero, suc, ◌+◌, ◌-◌, ◌*◌, ◌^◌, ◌≤◌, ◌<◌, ◌⊎◌, inl, inr, lit≤, Bool, true, false, cond, List, [], ◌∷◌, ◌++◌, length, take, drop, map, lit<, mul-suc, Option, Some, None, Result, Ok, Err, refl, sym, ap, subst, ◌∙◌, arith}
+use Rattle.std.proofs.Common.{◌≡◌, ℕ, zero, suc, ◌+◌, ◌*◌, ◌^◌, ◌≤◌, ◌<◌, lit≤, Bool, true, false, cond, List, [], ◌∷◌, ◌++◌, length, take, drop, map, mul-suc, Option, Some, None, Result, Ok, refl, sym, ap, ◌∙◌, arith}
 use Rattle.std.specs.Prelude.{MatchBool, IfSome}
-use Rattle.std.specs.Str.{IsUtf8, is_utf8}
+use Rattle.std.specs.Str.{IsUtf8}
 use Rattle.std.specs.List.{AllByRecursion, flat_map}
-use Rattle.std.specs.Int.{w8, w16, w32, w64, to_le_bytes, from_le_bytes}
-use Rattle.std.proofs.lemmas.Bool.{le-ltb}
-use Rattle.std.proofs.lemmas.List.{length-append, length-map, length-replicate, length-take, length_push, take_all}
+use Rattle.std.specs.Int.{w32, w64, to_le_bytes, from_le_bytes}
+use Rattle.std.proofs.lemmas.List.{length-append, length-map, length-replicate, length-take, length_push}
 use Rattle.std.proofs.lemmas.Nat.{from_le_bytes-to_le_bytes_4, from_le_bytes-to_le_bytes_8}
 use Rattle.flat_tables.specs.declared.fault.FileFault.{FileFault}
-use Rattle.flat_tables.specs.Step.{◌>>=◌, on_some}
-use Rattle.flat_tables.specs.Places.{TableIn, VectorIn, span, number_at, target_of, table_at, table_of, root_of, field_of, struct_of, scalar_of, width_of, child_of, text_at, text_of, vector_at, vector_of, item_of, items_from, items_of, all_of}
+use Rattle.flat_tables.specs.Step.{◌>>=◌}
+use Rattle.flat_tables.specs.Places.{TableIn, VectorIn, target_of, table_at, table_of, root_of, field_of, struct_of, scalar_of, child_of, text_at, text_of, vector_at, vector_of, item_of, items_from, items_of, all_of}
 use Rattle.flat_tables.specs.Rows.{flat}
 use Rattle.flat_tables.specs.Layout.{Part, Block, gap_to, zeros, absent, inline, scalar, offset_to, part_if, text_block, vector_block, tables_block, table_block, table_place, fields_end, payload}
 use Rattle.flat_tables.proofs.Text.{is_text}
-use Rattle.flat_tables.proofs.Spans.{At, At-all, At-left, At-right, At-to, At-span, At-8, At-16, At-32, At-64, At-long}
-use Rattle.flat_tables.proofs.Tables.{Has, Slots, IsSized, TableRead, table_read, head}
-use Rattle.flat_tables.proofs.Vectors.{IsPlaced, table_placed, offset_sized, inline_sized, offset_read, vector_placed, vector_read, vector_of_read, vector_long, vector_in, items_again, tables_read, tables_of_read, tables_placed, TablesAt}
+use Rattle.flat_tables.proofs.Spans.{At, At-all, At-left, At-right, At-to, At-span, At-8, At-16, At-32, At-64}
+use Rattle.flat_tables.proofs.Tables.{Has, Slots, IsSized, table_read, head}
+use Rattle.flat_tables.proofs.Vectors.{IsPlaced, table_placed, offset_sized, inline_sized, offset_read, vector_read, vector_of_read, vector_long, vector_in, items_again, tables_read, tables_of_read, TablesAt}
 use Rattle.flat_tables.proofs.Loop.{ReadsFrom, ReadsAll}
 
 -- ---- parts of a table
@@ -42,6 +41,10 @@ scalar_field size value small = inline_field size (take size (to_le_bytes w64 va
 pub field_if : {A : Type 0} (part : A → Part) (o : Option A) → ((x : A) → IsField (part x)) → IsField (part_if part o)
 field_if part None each = absent_field
 field_if part (Some x) each = each x
+
+pub struct_field_if : (align n : ℕ) (o : Option (List ℕ)) → align ≤ 8 → n ≤ 255 → IfSome o (λ bytes. length bytes ≡ n) → IsField (part_if (inline align) o)
+struct_field_if align n None aligned short len = absent_field
+struct_field_if align n (Some bytes) aligned short len = inline_field align bytes aligned (omega (arith, len))
 
 -- the parts of a table: its fields, of which there are few
 pub record IsTable (ps : List Part) : Type 0 where
@@ -311,6 +314,14 @@ structs_again t k align size bytes xs some sized small slot =
     record { vector = v.vector; is = v.is; count = v.count; items = items; reads = items_read v.vector (map bytes xs) 0 (length (map bytes xs)) refl again }
 
 -- numbers
+pub four_bytes : (ns : List ℕ) → AllByRecursion (λ n. length (to_le_bytes w32 n) ≡ 4) ns
+four_bytes [] = tt
+four_bytes (n ∷ ns) = (refl, four_bytes ns)
+
+pub eight_bytes : (ns : List ℕ) → AllByRecursion (λ n. length (to_le_bytes w64 n) ≡ 8) ns
+eight_bytes [] = tt
+eight_bytes (n ∷ ns) = (refl, eight_bytes ns)
+
 pub numbers_again_32 : (ns : List ℕ) → AllByRecursion (λ n. n < 2 ^ 32) ns → map (from_le_bytes w32) (map (to_le_bytes w32) ns) ≡ ns
 numbers_again_32 [] small = refl
 numbers_again_32 (n ∷ ns) small = rw (from_le_bytes-to_le_bytes_4 n small.0, numbers_again_32 ns small.1) refl

@@ -1,15 +1,14 @@
 -- Fields that are built have the parts that are wanted, and can be written.
-use Rattle.std.proofs.Common.{◌≡◌, ℕ, suc, ◌/◌, ◌%◌, ◌*◌, ◌^◌, ◌&&◌, ◌<◌, ◌≤◌, Bool, true, false, ltb, eqb, leb, List, [], ◌∷◌, ◌++◌, length, map, take, get_or, ◌+◌, refl, sym, ap, ◌∙◌, arith, eq-eqb, append_assoc}
-use Rattle.std.specs.Prelude.{IsTrue, Vec, String}
+use Rattle.std.proofs.Common.{◌≡◌, ℕ, ◌/◌, ◌%◌, ◌*◌, ◌<◌, ◌≤◌, Bool, true, false, leb, List, [], ◌∷◌, ◌++◌, length, map, take, get_or, ◌+◌, refl, sym, ap, ◌∙◌, arith, eq-eqb, append_assoc}
+use Rattle.std.specs.Prelude.{IsTrue, Vec}
 use Rattle.std.specs.Global.{Global}
 use Rattle.std.specs.List.{flat_map}
-use Rattle.std.specs.String.{string_bytes}
 use Rattle.std.proofs.Math.Nat.{mul-div_cancel, mul-mod_left}
 use Rattle.std.proofs.lemmas.Bool.{le-leb, lt-ltb}
 use Rattle.std.proofs.lemmas.List.{append-nil, length-append, length-map, map-append, take_more, take_all}
-use Rattle.flat_tables.specs.declared.flat.Slot.{Slot, Absent, Scalar, Struct, Text, Structs, Table, Tables}
+use Rattle.flat_tables.specs.declared.flat.Slot.{Slot, Struct, Structs, Tables}
 use Rattle.flat_tables.specs.declared.flat.Flat.{Flat}
-use Rattle.flat_tables.specs.Layout.{Part, Block, inline, offset_to, vector_block, tables_block, table_block}
+use Rattle.flat_tables.specs.Layout.{Block, offset_to, vector_block, tables_block, table_block}
 use Rattle.flat_tables.specs.Trees.{layout, part_of, is_align, all_true, is_writable, is_writable_slot}
 use Rattle.flat_tables.proofs.Folds.{layout_is, part_structs, part_tables, writable_struct_is, writable_structs_is, writable_tables_is, is_writable_is}
 

@@ -1,5 +1,5 @@
 -- The layout of a tree, level by level.
-use Rattle.std.proofs.Common.{◌≡◌, ℕ, ◌/◌, ◌%◌, ◌&&◌, ◌^◌, ◌<◌, ◌≤◌, ◌⊎◌, inl, inr, true, false, take, arith, subst, Bool, leb, ltb, eqb, List, length, map, refl, sym, ap, ◌∙◌}
+use Rattle.std.proofs.Common.{◌≡◌, ℕ, ◌/◌, ◌%◌, ◌&&◌, ◌^◌, ◌<◌, ◌≤◌, ◌⊎◌, inl, inr, true, false, take, arith, subst, Bool, leb, ltb, eqb, length, map, refl, sym, ap, ◌∙◌}
 use Rattle.std.specs.Prelude.{Vec, String, IsTrue, Some, ◌||◌}
 use Rattle.std.specs.Int.{w64, to_le_bytes}
 use Rattle.std.specs.String.{string_bytes}
@@ -9,7 +9,7 @@ use Rattle.std.specs.Global.{Global}
 use Rattle.flat_tables.specs.declared.flat.Slot.{Slot, Absent, Scalar, Struct, Text, Structs, Table, Tables}
 use Rattle.flat_tables.specs.declared.flat.Slot.TheOpen as open_slot
 use Rattle.flat_tables.specs.declared.flat.Flat.{Flat}
-use Rattle.flat_tables.specs.declared.flat.Slot.TheFolds.{fold_out-Flat, fold_out-Slot, fold-roll-Slot}
+use Rattle.flat_tables.specs.declared.flat.Slot.TheFolds.{fold_out-Flat, fold-roll-Slot}
 use Rattle.flat_tables.specs.declared.flat.Slot.TheViews.{rolls-Absent, rolls-Scalar, rolls-Text, rolls-Struct, rolls-Structs, rolls-Table, rolls-Tables}
 use Rattle.flat_tables.specs.Layout.{Part, Block, absent, inline, offset_to, text_block, vector_block, tables_block, table_block}
 use Rattle.flat_tables.specs.Trees.{part_step, table_step, layout, part_of, all_true, is_align, writable_step, writable_table_step, is_writable, is_writable_slot, HasShape}

@@ -1,11 +1,12 @@
 -- Reading rows one after the other, as a loop does, and what rows that were read are.
 use Rattle.std.proofs.Common.{◌≡◌, ℕ, zero, suc, ◌-◌, ◌+◌, ◌≤◌, ◌<◌, Bool, true, false, cond, List, [], ◌∷◌, ◌++◌, length, get_or, Option, Some, None, Result, Ok, Err, refl, sym, ap, subst, ◌∙◌, append_assoc, arith, ◌⊎◌, inl, inr}
 use Rattle.std.specs.Prelude.{option_map, slice_get, map}
+use Rattle.std.proofs.lemmas.Bool.{le-ltb}
 use Rattle.std.proofs.lemmas.List.{append-nil, length_push, length-map}
 use Rattle.flat_tables.specs.declared.fault.FileFault.{FileFault}
 use Rattle.flat_tables.specs.declared.fault.FileFault.TheVariants.{Order, NoMemory}
 use Rattle.flat_tables.specs.Step.{◌>>=◌}
-use Rattle.flat_tables.specs.Rows.{follows, last_key, in_order, each, rows, Ascends}
+use Rattle.flat_tables.specs.Rows.{at_most, follows, last_key, in_order, each, rows, Ascends}
 
 -- ---- a loop over count rows
 
@@ -75,12 +76,20 @@ ordered_disordered key slot f count front i x so_far lt is after =
     let e : in_order key slot (each f) front ≡ Err (Order slot i) = not_in_order key slot (each f) front x (each_is f front i (Ok x) so_far.len is) after ∙ rw so_far.len refl in
     faults (in_order key slot (each f)) count front i (Order slot i) so_far lt e
 
+pub in_order_cases : {A : Type 0} (key : A → List ℕ) (slot : ℕ) (read : List A → Result A FileFault) (front : List A) (fault : FileFault) → (fault ≡ NoMemory) ⊎ (read front ≡ Err fault) → (fault ≡ NoMemory) ⊎ (in_order key slot read front ≡ Err fault)
+in_order_cases key slot read front fault (inl memory) = inl memory
+in_order_cases key slot read front fault (inr is) = inr (in_order_err key slot read front fault is)
+
 ordered_cases : {A : Type 0} (key : A → List ℕ) (slot : ℕ) (f : ℕ → Result A FileFault) (front : List A) (i : ℕ) (fault : FileFault) → length front ≡ i → (fault ≡ NoMemory) ⊎ (f i ≡ Err fault) → (fault ≡ NoMemory) ⊎ (in_order key slot (each f) front ≡ Err fault)
 ordered_cases key slot f front i fault len (inl memory) = inl memory
 ordered_cases key slot f front i fault len (inr is) = inr (in_order_err key slot (each f) front fault (each_is f front i (Err fault) len is))
 
 pub ordered_faulty : {A : Type 0} (key : A → List ℕ) (slot : ℕ) (f : ℕ → Result A FileFault) (count : ℕ) (front : List A) (i : ℕ) (fault : FileFault) → SoFar (in_order key slot (each f)) count front i → i < count → (fault ≡ NoMemory) ⊎ (f i ≡ Err fault) → (fault ≡ NoMemory) ⊎ (rows (in_order key slot (each f)) [] count ≡ Err fault)
 ordered_faulty key slot f count front i fault so_far lt is = faulty (in_order key slot (each f)) count front i fault so_far lt (ordered_cases key slot f front i fault so_far.len is)
+
+-- a count within the limit
+pub at_most_ok : (limit n m : ℕ) → n ≡ m → m ≤ limit → at_most limit n ≡ Ok n
+at_most_ok limit n m is within = rw (le-ltb limit n (omega (arith, is, within))) refl
 
 -- ---- the test against the row before
 

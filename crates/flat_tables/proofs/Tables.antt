@@ -1,13 +1,13 @@
 -- A table that was written is read: its head, and each of its slots.
-use Rattle.std.proofs.Common.{◌≡◌, ℕ, zero, suc, ◌+◌, ◌-◌, ◌*◌, ◌^◌, ◌≤◌, ◌<◌, Bool, true, false, cond, eqb, List, [], ◌∷◌, ◌++◌, length, Option, Some, None, Result, Ok, Err, refl, sym, ap, ◌∙◌, arith, append_assoc}
+use Rattle.std.proofs.Common.{◌≡◌, ℕ, suc, ◌+◌, ◌-◌, ◌*◌, ◌^◌, ◌≤◌, ◌<◌, Bool, true, false, cond, eqb, List, [], ◌∷◌, ◌++◌, length, Some, None, Ok, refl, arith, append_assoc}
 use Rattle.std.specs.Prelude.{MatchBool}
 use Rattle.std.specs.List.{AllByRecursion}
 use Rattle.std.specs.Int.{w16, w32, to_le_bytes}
 use Rattle.std.proofs.lemmas.Bool.{le-ltb, lt-ltb}
 use Rattle.std.proofs.lemmas.List.{length-append, length-replicate}
-use Rattle.flat_tables.specs.Places.{TableIn, span, number_at, back_from, table_at, field_of}
-use Rattle.flat_tables.specs.Layout.{Part, Block, gap_to, zeros, fields_end, entries, fields, all_beneath, table_place, table_block}
-use Rattle.flat_tables.proofs.Spans.{At, At-left, At-right, At-to, At-span, At-long, At-16, At-32}
+use Rattle.flat_tables.specs.Places.{TableIn, span, number_at, table_at, field_of}
+use Rattle.flat_tables.specs.Layout.{Part, gap_to, zeros, fields_end, entries, fields, all_beneath, table_place, table_block}
+use Rattle.flat_tables.proofs.Spans.{At, At-left, At-right, At-to, At-long, At-16, At-32}
 
 -- the field of a slot stands at a, and what is beneath it at e
 pub record Has (h : TableIn) (k : ℕ) (p : Part) (a e : ℕ) : Type 0 where

@@ -1,11 +1,11 @@
 -- Vectors, tables behind offsets and inline structs that were written are read.
-use Rattle.std.proofs.Common.{◌≡◌, ℕ, zero, suc, ◌+◌, ◌-◌, ◌*◌, ◌^◌, ◌≤◌, ◌<◌, max, Bool, true, false, cond, List, [], ◌∷◌, ◌++◌, length, take, drop, Option, Some, None, Result, Ok, Err, refl, sym, ap, ◌∙◌, arith, append_assoc}
+use Rattle.std.proofs.Common.{◌≡◌, ℕ, ◌+◌, ◌-◌, ◌*◌, ◌^◌, ◌≤◌, ◌<◌, max, List, [], ◌∷◌, ◌++◌, length, take, drop, Some, Ok, refl, sym, ap, ◌∙◌, arith, append_assoc}
 use Rattle.std.specs.List.{AllByRecursion, flat_map}
 use Rattle.std.specs.Int.{w16, w32, to_le_bytes}
 use Rattle.std.proofs.lemmas.List.{length-append, length-replicate}
-use Rattle.flat_tables.specs.Places.{TableIn, VectorIn, span, number_at, target_of, table_at, field_of, struct_of, vector_at, vector_of, item_of, items_from}
+use Rattle.flat_tables.specs.Places.{TableIn, VectorIn, target_of, struct_of, vector_at, vector_of, item_of, items_from}
 use Rattle.flat_tables.specs.Layout.{Part, Block, gap_to, zeros, inline, offset_to, vector_block, tables_block, offsets, blocks, fields, fields_end, entries, all_beneath, table_place, table_block}
-use Rattle.flat_tables.proofs.Spans.{At, At-left, At-right, At-to, At-span, At-long, At-16, At-32, At-offset}
+use Rattle.flat_tables.proofs.Spans.{At, At-left, At-right, At-to, At-span, At-32, At-offset}
 use Rattle.flat_tables.proofs.Tables.{Has, IsSized, length_entries, table_bytes}
 
 -- a block stands among the bytes that are appended for it

@@ -1,5 +1,5 @@
 -- Own: a file is a header and a payload.
-use Rattle.std.specs.Prelude.{◌≡◌, ℕ, ◌+◌, ◌-◌, ◌^◌, ◌<◌, ◌≤◌, min, ◌++◌, List, length, drop, Result, Ok, Err, Vec, Bool, nat_lt, ◌==◌, if◌then◌else◌}
+use Rattle.std.specs.Prelude.{◌≡◌, ℕ, ◌-◌, ◌^◌, ◌<◌, ◌≤◌, min, List, length, drop, Result, Ok, Err, Vec, nat_lt, ◌==◌, if◌then◌else◌}
 use Rattle.std.specs.Global.{Global}
 use Rattle.flat_tables.specs.declared.header.Kind.{Kind}
 use Rattle.flat_tables.specs.declared.header.HeaderFault.{HeaderFault}

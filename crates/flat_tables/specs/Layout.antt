@@ -1,6 +1,6 @@
 -- Own: the one layout of a payload, of the many that the FlatBuffers internals allow. A block is what is
 -- appended to the bytes that stand already.
-use Rattle.std.specs.Prelude.{◌≡◌, ℕ, ◌+◌, ◌-◌, ◌*◌, ◌%◌, max, List, [], ◌∷◌, ◌++◌, length, replicate, take, Option, Some, None, Bool, true, false, if◌then◌else◌}
+use Rattle.std.specs.Prelude.{ℕ, ◌+◌, ◌-◌, ◌*◌, ◌%◌, max, List, [], ◌∷◌, ◌++◌, length, replicate, take, Option, Some, None, Bool, true, false, if◌then◌else◌}
 use Rattle.std.specs.Int.{w16, w32, w64, to_le_bytes}
 
 -- a table, vector or string: its place, and the bytes that are appended, where so many bytes stand already

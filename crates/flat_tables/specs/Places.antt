@@ -1,6 +1,6 @@
 -- Where the parts of a payload lie, as the FlatBuffers internals have them: each is found by an offset
 -- from an earlier one. Places are counted from the payload's first byte, and sums don't wrap.
-use Rattle.std.specs.Prelude.{◌≡◌, ℕ, zero, suc, ◌+◌, ◌-◌, ◌*◌, ◌^◌, List, [], ◌∷◌, length, take, drop, Option, Some, None, Result, Ok, Err, Bool, nat_lt, ◌==◌, if◌then◌else◌}
+use Rattle.std.specs.Prelude.{ℕ, zero, suc, ◌+◌, ◌-◌, ◌*◌, ◌^◌, List, [], ◌∷◌, length, take, drop, Option, Some, None, Result, Ok, Err, nat_lt, ◌==◌, if◌then◌else◌}
 use Rattle.std.specs.Int.{Width, w8, w16, w32, w64, byte_len, from_le_bytes}
 use Rattle.std.specs.Str.{is_utf8}
 use Rattle.flat_tables.specs.declared.fault.FlatFault.{FlatFault}

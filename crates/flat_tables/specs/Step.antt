@@ -1,5 +1,5 @@
 -- Own: steps that may fail, in order. The first fault is the answer.
-use Rattle.std.specs.Prelude.{◌≡◌, ℕ, Option, Some, None, Result, Ok, Err}
+use Rattle.std.specs.Prelude.{◌≡◌, Option, Some, None, Result, Ok, Err}
 
 -- a step, and what follows with its value
 infixl 10 ◌>>=◌

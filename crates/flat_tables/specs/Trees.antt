@@ -1,5 +1,5 @@
 -- Own: the layout of a tree of tables, and what can be laid out.
-use Rattle.std.specs.Prelude.{◌≡◌, ℕ, ◌-◌, min, ◌/◌, ◌%◌, ◌^◌, ◌<◌, ◌≤◌, List, [], ◌∷◌, length, map, if◌then◌else◌, ◌==◌, ◌||◌, ◌&&◌, nat_lt, nat_le, Bool, true, false, Option, Some, None}
+use Rattle.std.specs.Prelude.{◌≡◌, ℕ, ◌-◌, min, ◌/◌, ◌%◌, ◌^◌, ◌<◌, ◌≤◌, List, [], ◌∷◌, length, ◌==◌, ◌||◌, ◌&&◌, nat_lt, nat_le, Bool, true, false, Option, Some, None}
 use Rattle.std.specs.String.{string_bytes}
 use Rattle.flat_tables.specs.declared.flat.Slot.{Slot}
 use Rattle.flat_tables.specs.declared.flat.Flat.{Flat}

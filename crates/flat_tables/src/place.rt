@@ -1,4 +1,4 @@
-ghost use Rattle.std.specs.Prelude.{◌≡◌, ◌+◌, ◌^◌, ◌<◌, ◌≤◌, length, IfOk};
+ghost use Rattle.std.specs.Prelude.{◌≡◌, ◌^◌, ◌<◌};
 ghost use Rattle.std.specs.Int.{w16, w32, w64};
 ghost use Rattle.flat_tables.specs.Step.{Gives};
 ghost use Rattle.flat_tables.specs.Places.{span, number_at, back_from};

@@ -1,6 +1,6 @@
-ghost use Rattle.std.specs.Prelude.{IfOk, Err, ◌↔◌, List, [], ◌∷◌, ◌≡◌, ◌+◌, ◌-◌, ◌*◌, ◌/◌, ◌<◌, ◌≤◌, ◌++◌, ◌^◌, length, map, take, true, max, IsTrue, OnOk, All};
+ghost use Rattle.std.specs.Prelude.{◌≡◌, ◌+◌, ◌*◌, ◌/◌, ◌^◌, ◌<◌, ◌≤◌, ◌++◌, List, [], ◌∷◌, length, map, take, IfOk, OnOk, IsTrue, All};
 ghost use Rattle.std.specs.Int.{w16, w32, w64, to_le_bytes};
-ghost use Rattle.flat_tables.specs.Layout.{Part, payload, gap_to, zeros, fields_end, entries, fields, all_beneath, table_place, text_block, vector_block, tables_block, offsets, blocks, table_head, tables_head};
+ghost use Rattle.flat_tables.specs.Layout.{Part, payload, zeros, fields_end, entries, fields, all_beneath, table_place, text_block, vector_block, tables_block, offsets, blocks, table_head, tables_head};
 ghost use Rattle.flat_tables.specs.Trees.{layout, part_of, is_writable, is_writable_slot, capped};
 ghost use Rattle.flat_tables.specs.File.{Writes};
 
@@ -10,6 +10,7 @@ use crate::flat::{Flat, Slot};
 use crate::header::{FILE_LIMIT, HEADER};
 use std::alloc::{AllocError, Global};
 
+/// Appends so many zero bytes.
 fn push_zeros(out: &mut Vec<u8>, count: usize) -> Result<(), AllocError>
     ensures { OnOk result (out.new.items ≡ out.old.items ++ zeros count) }
 {
@@ -19,6 +20,7 @@ fn push_zeros(out: &mut Vec<u8>, count: usize) -> Result<(), AllocError>
     Ok(())
 }
 
+/// Appends a little-endian number of 16 bits.
 fn push_u16(out: &mut Vec<u8>, n: usize) -> Result<(), AllocError>
     requires { n < 2 ^ 16 }
     ensures { OnOk result (out.new.items ≡ out.old.items ++ to_le_bytes w16 n) }
@@ -26,6 +28,7 @@ fn push_u16(out: &mut Vec<u8>, n: usize) -> Result<(), AllocError>
     out.extend_from_slice(&(n as u16).to_le_bytes())
 }
 
+/// Appends a little-endian number of 32 bits.
 fn push_u32(out: &mut Vec<u8>, n: usize) -> Result<(), AllocError>
     requires { n < 2 ^ 32 }
     ensures { OnOk result (out.new.items ≡ out.old.items ++ to_le_bytes w32 n) }
@@ -33,6 +36,7 @@ fn push_u32(out: &mut Vec<u8>, n: usize) -> Result<(), AllocError>
     out.extend_from_slice(&(n as u32).to_le_bytes())
 }
 
+/// Appends a little-endian number of `size` bytes.
 fn push_scalar(out: &mut Vec<u8>, size: usize, value: u64) -> Result<(), AllocError>
     requires { size ≤ 8 }
     ensures { OnOk result (out.new.items ≡ out.old.items ++ take size (to_le_bytes w64 value)) }
@@ -84,7 +88,8 @@ fn put_field(out: &mut Vec<u8>, slot: &Slot, at: usize, below: usize) -> Result<
     }
 }
 
-/// The field of a slot, where one is there, behind the fields that end at `end` from the table's place. It answers the end of this one.
+/// The field of a slot, where one is there, behind the fields that end at `end` from the table's place. It answers
+/// the end of this one.
 fn put_part(
     out: &mut Vec<u8>,
     slot: &Slot,

@@ -1,5 +1,5 @@
-use Rattle.std.proofs.Common.{rules, arith, ◌≡◌, ◌+◌, ◌*◌, length, map, ap, sym, subst, ◌∙◌, refl}
-use Rattle.std.specs.Prelude.{IsTrue, max, Vec}
+use Rattle.std.proofs.Common.{rules, arith, ◌≡◌, ◌+◌, ◌*◌, length, map, ap, sym, subst, ◌∙◌}
+use Rattle.std.specs.Prelude.{IsTrue}
 use Rattle.std.specs.String.{string_bytes}
 use Rattle.flat_tables.specs.Layout.{gap_to, fields_end, all_beneath, blocks, table_place}
 use Rattle.flat_tables.specs.Trees.{layout, part_of, is_writable_slot, capped}

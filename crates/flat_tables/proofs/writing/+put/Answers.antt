@@ -1,7 +1,7 @@
-use Rattle.std.proofs.Common.{rules, arith, ◌≡◌, ◌+◌, length, map, ap, subst, ◌∙◌, ◌++◌}
+use Rattle.std.proofs.Common.{arith, ◌≡◌, length, map, ap, subst, ◌∙◌, ◌++◌}
 use Rattle.std.specs.Prelude.{IsTrue}
 use Rattle.flat_tables.specs.Layout.{all_beneath, blocks, table_head, tables_head}
-use Rattle.flat_tables.specs.Trees.{layout, part_of, is_writable, is_writable_slot}
+use Rattle.flat_tables.specs.Trees.{layout, part_of, is_writable_slot}
 use Rattle.flat_tables.proofs.Lengths.{slots_writable, slots_few, each_table_writable, flat_length, structs_beneath, text_beneath, tables_beneath_is, table_split, begun}
 use Rattle.flat_tables.proofs.writing.+put.Goals as goal
 

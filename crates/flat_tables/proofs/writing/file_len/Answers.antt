@@ -1,6 +1,5 @@
-use Rattle.std.proofs.Common.{rules, arith, ◌≡◌, ◌+◌, length}
-use Rattle.flat_tables.specs.Layout.{payload}
-use Rattle.flat_tables.specs.Trees.{layout, capped}
+use Rattle.std.proofs.Common.{arith}
+use Rattle.flat_tables.specs.Trees.{layout}
 use Rattle.flat_tables.proofs.Lengths.{payload_length}
 use Rattle.flat_tables.proofs.writing.file_len.Goals as goal
 

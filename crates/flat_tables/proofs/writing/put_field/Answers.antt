@@ -1,7 +1,4 @@
-use Rattle.std.proofs.Common.{rules, arith, ◌≡◌, ◌+◌, ◌-◌, ◌*◌, ◌++◌, length, max, ap, sym, ◌∙◌, refl}
-use Rattle.std.specs.Prelude.{OnOk}
-use Rattle.std.specs.Int.{w32, to_le_bytes}
-use Rattle.flat_tables.specs.Layout.{gap_to, table_place}
+use Rattle.std.proofs.Common.{rules, ◌≡◌, length}
 use Rattle.flat_tables.proofs.Lengths.{text_field, structs_field, table_field, tables_field}
 use Rattle.flat_tables.proofs.writing.put_field.Goals as goal
 

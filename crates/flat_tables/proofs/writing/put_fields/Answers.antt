@@ -1,4 +1,4 @@
-use Rattle.std.proofs.Common.{arith, ◌≤◌, ◌+◌, length}
+use Rattle.std.proofs.Common.{arith}
 use Rattle.flat_tables.proofs.Lengths.{one_end}
 use Rattle.flat_tables.proofs.writing.put_fields.Goals as goal
 

@@ -1,7 +1,6 @@
-use Rattle.std.proofs.Common.{rules, arith, ◌≡◌, ◌+◌, ◌*◌, length, map}
-use Rattle.std.specs.Int.{w32, to_le_bytes}
+use Rattle.std.proofs.Common.{rules, arith, ◌≡◌, ◌+◌, length, map}
 use Rattle.std.proofs.lemmas.List.{length-map, length-append, length-replicate}
-use Rattle.flat_tables.specs.Layout.{gap_to, zeros}
+use Rattle.flat_tables.specs.Layout.{gap_to}
 use Rattle.flat_tables.specs.Trees.{layout}
 use Rattle.flat_tables.proofs.Lengths.{tables_length}
 use Rattle.flat_tables.proofs.writing.put_offsets.Goals as goal
