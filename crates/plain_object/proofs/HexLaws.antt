@@ -3,11 +3,14 @@ use Rattle.std.proofs.Common.{◌≡◌, ℕ, suc, ◌+◌, ◌*◌, ◌/◌, �
 use Rattle.std.specs.Prelude.{nat_lt}
 use Rattle.std.specs.List.{list_all}
 use Rattle.std.specs.Result.{result_ok}
-use Rattle.std.proofs.lemmas.Bool.{and_parts, and_from, agree_below_at, eqb-true, ltb-true}
+use Rattle.std.proofs.lemmas.Bool.{and_parts, and_from, agree_below_at, eqb-true, ltb-true, false_from_ne_true}
 use Rattle.hex.specs.Hex.{IsBytes, decode_of, decode_pairs, digit_or_error, encode_lower, encode_with, hex_digit_value, lower_digits, ◌>>=◌}
 use Rattle.hex.specs.declared.error.FromHexError.{FromHexError}
 use Rattle.hex.proofs.HexLemmas.{decode_of-encode_lower, decode_of-even, decode_of-ok}
-use Rattle.plain_object.specs.Values.{is_lower_digit, hex_of}
+use Rattle.std.specs.Str.{IsUtf8, is_utf8}
+use Rattle.std.proofs.lemmas.Str.{IsUtf8-from_is_utf8, is_utf8-from_IsUtf8}
+use Rattle.zarr_path.specs.Paths.{is_path}
+use Rattle.plain_object.specs.Values.{is_lower_digit, hex_of, path_of}
 use Rattle.plain_object.proofs.LineLaws.{is_line}
 
 pub list_all-weaker : {X : Type 0} (p q : X → Bool) → ((x : X) → p x ≡ true → q x ≡ true) → (xs : List X) → list_all p xs ≡ true → list_all q xs ≡ true
@@ -112,3 +115,28 @@ encode_lower-hex_of text bytes h = by_test (list_all is_lower_digit text) refl h
         let ok = ok_of (decode_of text) h in
         let read = decode_of-ok text bytes ok in
         (encode-pairs 0 text bytes e (sym (decode_of-even text read.0) ∙ ok), read.3)
+
+-- ---- paths
+pub path_of-no_digits : (digits : List ℕ) → hex_of digits ≡ None → path_of digits ≡ None
+unfolding path_of
+path_of-no_digits digits h = rw h refl
+
+no_text : (path : List ℕ) → (IsUtf8 path → ⊥) → is_utf8 path ≡ false
+no_text path h = false_from_ne_true (is_utf8 path) (λ t. h (IsUtf8-from_is_utf8 path t))
+
+pub path_of-no_text : (digits path : List ℕ) → hex_of digits ≡ Some path → (IsUtf8 path → ⊥) → path_of digits ≡ None
+unfolding path_of
+path_of-no_text digits path h never = rw (h, no_text path never) refl
+
+-- what reading the text as a path answers
+pub path_of-None : (digits path : List ℕ) → hex_of digits ≡ Some path → is_path path ≡ false → path_of digits ≡ None
+unfolding path_of
+path_of-None digits path h is = rw (h, is) (by_test (is_utf8 path))
+  where
+    by_test : (b : Bool) → cond (b && false) (Some path) None ≡ None
+    by_test true = refl
+    by_test false = refl
+
+pub path_of-Some : (digits path : List ℕ) → hex_of digits ≡ Some path → IsUtf8 path → is_path path ≡ true → path_of digits ≡ Some path
+unfolding path_of
+path_of-Some digits path h text is = rw (h, is_utf8-from_IsUtf8 path text, is) refl

@@ -18,6 +18,7 @@ use std::alloc::{AllocError, Global};
 use tree_model::{Ids, Touched};
 
 /// Reads the line of a new group.
+#[tactic(auto, unfolding(crate::specs::Objects::group_of_line))]
 fn group_read(line: &[u8]) -> Option<Id8>
     ensures { result ≡ group_of_line line.now }
 {
@@ -30,7 +31,7 @@ fn is_behind(ids: &[Id8], id: Id8) -> bool
     ensures { result ≡ list_all (λ other. is_lt (id8_cmp other id)) ids.now }
 {
     match ids.last() {
-        Some(last) => *last < id,
+        Some(last) => last.cmp(&id).is_lt(),
         None => true,
     }
 }

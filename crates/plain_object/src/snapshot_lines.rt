@@ -15,6 +15,7 @@ use tree_model::Node;
 use zarr_path::Path;
 
 /// Reads the line of the parent.
+#[tactic(auto, unfolding(crate::specs::Objects::parent_of_line))]
 pub fn parent_read(line: &[u8]) -> Option<Option<Id12>>
     ensures { result ≡ parent_of_line line.now }
 {
@@ -29,6 +30,7 @@ pub fn parent_read(line: &[u8]) -> Option<Option<Id12>>
 }
 
 /// Reads the line of the time.
+#[tactic(auto, unfolding(crate::specs::Objects::flushed_of_line))]
 pub fn flushed_read(line: &[u8]) -> Option<u64>
     ensures { result ≡ flushed_of_line line.now }
 {
@@ -36,6 +38,7 @@ pub fn flushed_read(line: &[u8]) -> Option<u64>
 }
 
 /// The id on the line of a node, and the digits of its path.
+#[tactic(auto, unfolding(crate::specs::Objects::node_of_line))]
 fn node_parts(line: &[u8]) -> Option<(Id8, &[u8])>
     ensures { MatchOption result (node_of_line line.now ≡ None) (λ parts. node_of_line line.now ≡ option_and_then (with_path parts.0) (path_of parts.1.now)) }
 {
@@ -61,6 +64,7 @@ pub fn node_read(alloc: Global, line: &[u8]) -> Result<(Path, Node), PlainFault>
 }
 
 /// Reads the line of the message.
+#[tactic(auto, unfolding(crate::specs::Objects::message_of_line))]
 pub fn message_read(alloc: Global, line: &[u8]) -> Result<Bytes, PlainFault>
     ensures { Reads (λ message. message) (message_of_line line.now) result }
 {

@@ -4,7 +4,7 @@ ghost use Rattle.std.specs.Prelude.{◌≡◌};
 ghost use Rattle.std.specs.List.{list_all};
 ghost use Rattle.std.specs.Char.{is_ascii_digit};
 ghost use Rattle.plain_object.specs.Values.{is_numeral, number_of, is_lower_digit, hex_of, path_of};
-ghost use Rattle.plain_object.specs.Reading.{Reads};
+ghost use Rattle.plain_object.specs.Reading.{Reads, fault_of_path};
 
 use crate::fault::PlainFault;
 use hex::FromHexError;
@@ -38,7 +38,9 @@ pub fn number_read(text: &[u8]) -> Option<u64>
     if !is_numeral(text) {
         return None;
     }
-    let text = str::from_utf8(text).ok()?;
+    let Ok(text) = str::from_utf8(text) else {
+        return None;
+    };
     text.parse::<u64>().ok()
 }
 
@@ -50,6 +52,7 @@ fn are_lower_digits(text: &[u8]) -> bool
 }
 
 /// Reads bytes from pairs of digits.
+#[tactic(auto, unfolding(crate::specs::Values::hex_of))]
 pub fn hex_read(alloc: Global, text: &[u8]) -> Result<Vec<u8>, PlainFault>
     ensures { Reads (λ bytes. bytes.items) (hex_of text.now) result }
 {
@@ -63,6 +66,16 @@ pub fn hex_read(alloc: Global, text: &[u8]) -> Result<Vec<u8>, PlainFault>
     }
 }
 
+/// What a path's fault says of the object that the path stands in.
+fn path_fault(fault: PathFault) -> PlainFault
+    ensures { result ≡ fault_of_path fault }
+{
+    match fault {
+        PathFault::NoMemory => PlainFault::NoMemory,
+        _ => PlainFault::Malformed,
+    }
+}
+
 /// Reads a path from pairs of digits.
 pub fn path_read(alloc: Global, digits: &[u8]) -> Result<Path, PlainFault>
     ensures { Reads (λ path. path) (path_of digits.now) result }
@@ -73,7 +86,6 @@ pub fn path_read(alloc: Global, digits: &[u8]) -> Result<Path, PlainFault>
     };
     match Path::read(alloc, text) {
         Ok(path) => Ok(path),
-        Err(PathFault::NoMemory) => Err(PlainFault::NoMemory),
-        Err(_) => Err(PlainFault::Malformed),
+        Err(fault) => Err(path_fault(fault)),
     }
 }
