@@ -1,6 +1,6 @@
 -- Texts as pairs of lower-case hexadecimal digits.
 use Rattle.std.proofs.Common.{◌≡◌, ℕ, suc, ◌+◌, ◌*◌, ◌/◌, ◌%◌, ◌<◌, Bool, true, false, cond, not, ◌&&◌, ◌||◌, nat_eq, ltb, List, [], ◌∷◌, ◌++◌, length, slice_index, Option, Some, None, unwrap_or, Result, Ok, Err, refl, sym, ap, ◌∙◌, arith}
-use Rattle.std.specs.Prelude.{nat_lt}
+use Rattle.std.specs.Prelude.{nat_lt, is_none}
 use Rattle.std.specs.List.{list_all}
 use Rattle.std.specs.Result.{result_ok}
 use Rattle.std.proofs.lemmas.Bool.{and_parts, and_from, agree_below_at, eqb-true, ltb-true, false_from_ne_true}
@@ -9,7 +9,8 @@ use Rattle.hex.specs.declared.error.FromHexError.{FromHexError}
 use Rattle.hex.proofs.HexLemmas.{decode_of-encode_lower, decode_of-even, decode_of-ok}
 use Rattle.std.specs.Str.{IsUtf8, is_utf8}
 use Rattle.std.proofs.lemmas.Str.{IsUtf8-from_is_utf8, is_utf8-from_IsUtf8}
-use Rattle.zarr_path.specs.Paths.{is_path}
+use Rattle.zarr_path.specs.Paths.{is_path, path_fault}
+use Rattle.zarr_path.specs.declared.paths.PathFault.{PathFault}
 use Rattle.plain_object.specs.Values.{is_lower_digit, hex_of, path_of}
 use Rattle.plain_object.proofs.LineLaws.{is_line}
 
@@ -128,14 +129,20 @@ pub path_of-no_text : (digits path : List ℕ) → hex_of digits ≡ Some path �
 unfolding path_of
 path_of-no_text digits path h never = rw (h, no_text path never) refl
 
--- what reading the text as a path answers
-pub path_of-None : (digits path : List ℕ) → hex_of digits ≡ Some path → is_path path ≡ false → path_of digits ≡ None
+path_of-None : (digits path : List ℕ) → hex_of digits ≡ Some path → is_path path ≡ false → path_of digits ≡ None
 unfolding path_of
 path_of-None digits path h is = rw (h, is) (by_test (is_utf8 path))
   where
     by_test : (b : Bool) → cond (b && false) (Some path) None ≡ None
     by_test true = refl
     by_test false = refl
+
+no_fault : (o : Option PathFault) (fault : PathFault) → o ≡ Some fault → is_none o ≡ false
+no_fault None fault h = cc
+no_fault (Some other) fault h = refl
+
+pub path_of-refused : (digits path : List ℕ) (fault : PathFault) → hex_of digits ≡ Some path → path_fault path ≡ Some fault → path_of digits ≡ None
+path_of-refused digits path fault h is = path_of-None digits path h (no_fault (path_fault path) fault is)
 
 pub path_of-Some : (digits path : List ℕ) → hex_of digits ≡ Some path → IsUtf8 path → is_path path ≡ true → path_of digits ≡ Some path
 unfolding path_of

@@ -33,7 +33,7 @@ Pair = Id8 × Unit {0}
 abbrev pub pairs : List Id8 → List Pair
 pairs ids = list_map (λ (id : Id8). (id, tt {0})) ids
 
-keys-pairs : (ids : List Id8) → list_map (λ (e : Pair). e.0) (pairs ids) ≡ ids
+pub keys-pairs : (ids : List Id8) → list_map (λ (e : Pair). e.0) (pairs ids) ≡ ids
 keys-pairs [] = refl
 keys-pairs (id ∷ ids) = ap (λ (rest : List Id8). id ∷ rest) (keys-pairs ids)
 

@@ -6,3 +6,8 @@ pub mod ReadLaws
 pub mod StepLaws
 pub mod OrderLaws
 pub mod IdLaws
+pub mod TextLaws
+pub mod WordLaws
+pub mod RefLaws
+pub mod LogLaws
+pub mod SnapshotLaws

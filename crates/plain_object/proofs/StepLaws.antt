@@ -98,6 +98,7 @@ at_row tree line None some = no_row (node_of_line line)
     by_test : (b : Bool) → None ≡ cond {A = Option (Tree × List ℕ)} b None None
     by_test true = refl
     by_test false = refl
+
     no_row : (o : Option (List ℕ × Node)) → None ≡ option_and_then (λ (row : List ℕ × Node). cond {A = Option (Tree × List ℕ)} (is_behind row.0 tree.nodes) None None) o
     no_row None = refl
     no_row (Some row) = by_test (is_behind row.0 tree.nodes)

@@ -7,6 +7,7 @@ use Rattle.std.specs.Result.{result_ok}
 use Rattle.std.specs.Str.{bytes_eq, is_utf8}
 use Rattle.std.specs.FinMap.{entries}
 use Rattle.hex.specs.Hex.{encode_lower}
+use Rattle.ice_base.specs.Lists.{IsBytes}
 use Rattle.ice_ids.specs.declared.Id12.{Id12}
 use Rattle.ice_ids.specs.declared.Id8.{Id8}
 use Rattle.ice_ids.specs.Text.{IsId12, IsId8, id12_text, id12_of_text, id8_text, id8_of_text, id8_cmp}
@@ -106,7 +107,7 @@ pub record IsWritable (s : Snapshot) : Type 0 where
   pub ids : (p : List ℕ) (n : Node) → node_at s.tree p ≡ Some n → IsId8 n.id
   pub paths : (p : List ℕ) (n : Node) → node_at s.tree p ≡ Some n → is_path p ≡ true
   pub texts : (p : List ℕ) (n : Node) → node_at s.tree p ≡ Some n → is_utf8 p ≡ true
-  pub message : All (λ byte. byte < 256) s.message
+  pub message : IsBytes s.message
 
 -- the initial snapshot of each repository and its id, `1CECHNKREP0F1RSTCMT0`
 abbrev pub initial_id : Id12

@@ -1,8 +1,6 @@
 -- What the readers answer, and what their values stand for.
 use Rattle.std.specs.Prelude.{◌≡◌, ⊤, Option, Some, None, Result, Ok, Err}
 use Rattle.tree_model.specs.Plain.{tree_of}
-use Rattle.zarr_path.specs.declared.paths.PathFault.{PathFault}
-use Rattle.zarr_path.specs.declared.paths.PathFault.TheVariants as path
 use Rattle.plain_object.specs.declared.snapshot.SnapshotFile.{SnapshotFile}
 use Rattle.plain_object.specs.declared.fault.PlainFault.{PlainFault}
 use Rattle.plain_object.specs.declared.fault.PlainFault.TheVariants.{Malformed, NoMemory}
@@ -17,8 +15,3 @@ abbrev pub Reads : {A B : Type 0} → (A → B) → Option B → Result A PlainF
 Reads view expected (Ok value) = expected ≡ Some (view value)
 Reads view expected (Err Malformed) = expected ≡ None
 Reads view expected (Err NoMemory) = ⊤
-
--- what a path's fault says of the object that the path stands in
-abbrev pub fault_of_path : PathFault → PlainFault
-fault_of_path path.NoMemory = NoMemory
-fault_of_path _ = Malformed

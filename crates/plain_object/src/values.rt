@@ -4,12 +4,12 @@ ghost use Rattle.std.specs.Prelude.{◌≡◌};
 ghost use Rattle.std.specs.List.{list_all};
 ghost use Rattle.std.specs.Char.{is_ascii_digit};
 ghost use Rattle.plain_object.specs.Values.{is_numeral, number_of, is_lower_digit, hex_of, path_of};
-ghost use Rattle.plain_object.specs.Reading.{Reads, fault_of_path};
+ghost use Rattle.plain_object.specs.Reading.{Reads};
 
 use crate::fault::PlainFault;
 use hex::FromHexError;
 use std::alloc::Global;
-use zarr_path::{Path, PathFault};
+use zarr_path::Path;
 
 /// Whether all bytes are decimal digits.
 fn are_digits(text: &[u8]) -> bool
@@ -66,26 +66,16 @@ pub fn hex_read(alloc: Global, text: &[u8]) -> Result<Vec<u8>, PlainFault>
     }
 }
 
-/// What a path's fault says of the object that the path stands in.
-fn path_fault(fault: PathFault) -> PlainFault
-    ensures { result ≡ fault_of_path fault }
-{
-    match fault {
-        PathFault::NoMemory => PlainFault::NoMemory,
-        _ => PlainFault::Malformed,
-    }
-}
-
 /// Reads a path from pairs of digits.
 pub fn path_read(alloc: Global, digits: &[u8]) -> Result<Path, PlainFault>
     ensures { Reads (λ path. path) (path_of digits.now) result }
 {
     let bytes = hex_read(alloc, digits)?;
-    let Ok(text) = str::from_utf8(&bytes) else {
+    let Ok(text) = String::from_utf8(bytes) else {
         return Err(PlainFault::Malformed);
     };
-    match Path::read(alloc, text) {
+    match Path::from_string(text) {
         Ok(path) => Ok(path),
-        Err(fault) => Err(path_fault(fault)),
+        Err(_) => Err(PlainFault::Malformed),
     }
 }

@@ -33,8 +33,8 @@ loop-line-preserved c =
     let put = pushed (c.in-Some-group_read.id ∷ []) refl c.in_ok-push.was c.push.ensures.items in
     record {
       left = ap (λ (ids : List Id8). option_and_then (ids_behind ids) (lines_of c.in-Some.after.now)) put
-      ∙ sym (group_more c.loop-line.ids.items c.loop-line.rest.now c.in-Some.line.now c.in-Some.after.now c.in-Some-group_read.id c.in-Some.ensures is test)
-      ∙ c.loop-line.invariant.left;
+          ∙ sym (group_more c.loop-line.ids.items c.loop-line.rest.now c.in-Some.line.now c.in-Some.after.now c.in-Some-group_read.id c.in-Some.ensures is test)
+          ∙ c.loop-line.invariant.left;
       ordered = rw put (in_order-push c.loop-line.ids.items c.in-Some-group_read.id c.loop-line.invariant.ordered test);
     }
 

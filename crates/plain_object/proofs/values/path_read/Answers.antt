@@ -1,7 +1,10 @@
-use Rattle.std.proofs.Common.{sym, ◌∙◌}
+use Rattle.std.proofs.Common.{◌≡◌, ℕ, List, false, true, Some, sym, ap, subst, ◌∙◌}
+use Rattle.std.specs.Str.{IsUtf8}
+use Rattle.std.specs.String.{string_bytes}
 use Rattle.std.proofs.lemmas.Result.{err_from_is_err_and}
-use Rattle.plain_object.proofs.HexLaws.{path_of-no_digits, path_of-no_text}
-use Rattle.plain_object.proofs.ReadLaws.{Reads-Err, path_of-refused, path_of-read}
+use Rattle.std.proofs.lemmas.Str.{IsUtf8-string_bytes}
+use Rattle.plain_object.proofs.HexLaws.{path_of-no_digits, path_of-no_text, path_of-refused, path_of-Some}
+use Rattle.plain_object.proofs.ReadLaws.{Reads-Err}
 use Rattle.plain_object.proofs.values.path_read.Goals as goal
 
 pub returns-in_err-bytes : goal.returns-in_err-bytes
@@ -10,16 +13,18 @@ returns-in_err-bytes c =
     rw (p.1, p.2) (Reads-Err _ _ c.in_err-bytes.field-0.0 (path_of-no_digits c.args.digits.now) c.in_err-bytes.ensures)
 
 pub returns-in_default : goal.returns-in_default
-returns-in_default c = path_of-no_text c.args.digits.now c.in_ok-bytes.bytes.items c.in_ok-bytes.ensures (rw c.deref.ensures.value at c.in_default.ensures.cases.0)
+returns-in_default c =
+    path_of-no_text c.args.digits.now c.in_ok-bytes.bytes.items c.in_ok-bytes.ensures (λ text. let bad : false ≡ true = c.in_default.ensures.succeeds text in cc)
 
-pub returns-in-Ok-read : goal.returns-in-Ok-read
-returns-in-Ok-read c =
-    let path = c.in-Ok-read.ensures in
-    let text = c.in-Ok.ensures.cases in
-    path_of-read c.args.digits.now c.deref.result.now c.in-Ok-read.path (rw c.deref.ensures.value c.in_ok-bytes.ensures) text.1 (path.0 ∙ text.0) (rw path.0 path.1)
+pub returns-in-Ok-from_string : goal.returns-in-Ok-from_string
+returns-in-Ok-from_string c =
+    let text = string_bytes c.in-Ok.text in
+    let same : text ≡ c.in_ok-bytes.bytes.items = ap (λ v. v.items) c.in-Ok.ensures.ok in
+    let is = c.in-Ok-from_string.ensures in
+    path_of-Some c.args.digits.now c.in-Ok-from_string.path (c.in_ok-bytes.ensures ∙ ap (λ bytes. Some bytes) (sym (is.0 ∙ same))) (subst IsUtf8 (sym is.0) (IsUtf8-string_bytes c.in-Ok.text)) is.1
 
-pub returns : goal.returns
-returns c =
-    let read = c.in-Err.ensures in
-    let text = c.in-Ok.ensures.cases in
-    rw c.path_fault.ensures (path_of-refused c.args.digits.now c.in-Ok.text.now c.in-Err.fault (rw (text.0, c.deref.ensures.value) c.in_ok-bytes.ensures) read)
+pub returns-in-Err : goal.returns-in-Err
+returns-in-Err c =
+    let text = string_bytes c.in-Ok.text in
+    let same : text ≡ c.in_ok-bytes.bytes.items = ap (λ v. v.items) c.in-Ok.ensures.ok in
+    path_of-refused c.args.digits.now text c.in-Err.field-0 (c.in_ok-bytes.ensures ∙ ap (λ bytes. Some bytes) (sym same)) c.in-Err.ensures
