@@ -1,37 +1,19 @@
 -- Ids in the strict order of their bytes.
-use Rattle.std.proofs.Common.{◌≡◌, ℕ, suc, ◌-◌, Bool, true, false, cond, ◌&&◌, T, List, [], ◌∷◌, ◌++◌, map as list_map, length, Option, None, Some, refl, sym, ap, subst, ◌∙◌, arith}
+use Rattle.std.proofs.Common.{◌≡◌, suc, ◌-◌, Bool, true, false, ◌&&◌, T, List, [], ◌∷◌, ◌++◌, map as list_map, length, Some, refl, sym, ap, subst, ◌∙◌, arith}
 use Rattle.std.specs.Prelude.{slice_get}
 use Rattle.std.specs.List.{list_all}
-use Rattle.std.specs.declared.cmp.Ordering.{Ordering}
-use Rattle.std.specs.declared.cmp.Ordering.TheVariants.{Less, Equal, Greater}
-use Rattle.std.specs.Ordering.{is_lt, nat_cmp}
-use Rattle.std.specs.Cmp.{IsTotalOrder}
-use Rattle.std.specs.Cmp.Lexicographic.{nat_list_cmp_total}
-use Rattle.std.specs.FinMap.{FinMap, IsAntisymmetric, entries, keys, is_sorted, entries_sorted, from_entries, from_entries_push, len-entries, len-empty, slice_cmp-IsAntisymmetric, nat_cmp-IsAntisymmetric}
-use Rattle.std.proofs.lemmas.Bool.{and_parts, and_from, cases_Bool}
+use Rattle.std.specs.Ordering.{is_lt}
+use Rattle.std.specs.FinMap.{FinMap, entries, keys, is_sorted, entries_sorted, from_entries, from_entries_push, len-entries, len-empty}
+use Rattle.std.proofs.lemmas.Bool.{and_parts}
 use Rattle.std.proofs.lemmas.List.{map-append, nil_from_length}
 use Rattle.ice_ids.specs.declared.Id8.{Id8}
 use Rattle.ice_ids.specs.Text.{id8_cmp}
 use Rattle.tree_model.specs.Touched.{in_order}
+use Rattle.tree_model.proofs.TouchedLaws.{id_total, id_exact, pairs}
 use Rattle.plain_object.proofs.OrderLaws.{all_before, entries-behind, find-behind, T-true, true-T, less}
-
-pub id_total : IsTotalOrder id8_cmp
-id_total = record {
-  antisymm = λ x y. nat_list_cmp_total.antisymm x.0 y.0;
-  trans = λ x y z. nat_list_cmp_total.trans x.0 y.0 z.0;
-  congr = λ x y z. nat_list_cmp_total.congr x.0 y.0 z.0;
-}
-
-pub id_exact : IsAntisymmetric id8_cmp
-id_exact x y e =
-    let bytes : x.0 ≡ y.0 = slice_cmp-IsAntisymmetric nat_cmp-IsAntisymmetric x.0 y.0 e in
-    λ i. record { 0 = bytes i }
 
 abbrev pub Pair : Type 0
 Pair = Id8 × Unit {0}
-
-abbrev pub pairs : List Id8 → List Pair
-pairs ids = list_map (λ (id : Id8). (id, tt {0})) ids
 
 pub keys-pairs : (ids : List Id8) → list_map (λ (e : Pair). e.0) (pairs ids) ≡ ids
 keys-pairs [] = refl

@@ -1,5 +1,5 @@
 -- Transaction logs.
-use Rattle.std.proofs.Common.{◌≡◌, ℕ, Bool, true, false, cond, T, List, [], ◌∷◌, ◌++◌, map as list_map, Option, None, Some, refl, sym, ap, subst, ◌∙◌, append_assoc}
+use Rattle.std.proofs.Common.{◌≡◌, ℕ, Bool, true, false, cond, T, List, [], ◌∷◌, ◌++◌, map as list_map, None, Some, refl, sym, ap, subst, ◌∙◌, append_assoc}
 use Rattle.std.specs.Prelude.{option_and_then}
 use Rattle.std.specs.List.{All, list_all}
 use Rattle.std.specs.FinMap.{is_sorted}
@@ -14,7 +14,8 @@ use Rattle.plain_object.specs.Lines.{Line, bytes_of_lines, lines_of}
 use Rattle.plain_object.specs.Objects.{group_line, group_of_line, ids_behind, IsWritableLog, log_bytes, log_of}
 use Rattle.plain_object.proofs.LineLaws.{is_line, lines_of-bytes, bytes-lines_of}
 use Rattle.plain_object.proofs.OrderLaws.{all_before, before_entry}
-use Rattle.plain_object.proofs.IdLaws.{Pair, pairs, keys-pairs, id_total, in_order-rises, in_order-push, in_order-nil}
+use Rattle.tree_model.proofs.TouchedLaws.{id_total, pairs}
+use Rattle.plain_object.proofs.IdLaws.{Pair, keys-pairs, in_order-rises, in_order-push, in_order-nil}
 use Rattle.plain_object.proofs.WordLaws.{group_of_line-line, line-group, group_is_line, both_some}
 
 groups_are_lines : (ids : List Id8) → list_all is_line (list_map group_line ids) ≡ true

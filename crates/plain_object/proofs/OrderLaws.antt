@@ -1,14 +1,12 @@
 -- Finite maps and lists of ids whose keys rise: one key behind all others.
-use Rattle.std.proofs.Common.{◌≡◌, ℕ, suc, ◌-◌, Bool, true, false, cond, ◌&&◌, T, List, [], ◌∷◌, ◌++◌, map as list_map, length, Option, None, Some, refl, sym, ap, subst, ◌∙◌, arith}
-use Rattle.std.specs.Prelude.{slice_get, option_copied}
+use Rattle.std.proofs.Common.{◌≡◌, Bool, true, false, cond, T, List, [], ◌∷◌, ◌++◌, map as list_map, None, Some, refl, sym, ap, subst, ◌∙◌}
 use Rattle.std.specs.List.{list_all}
 use Rattle.std.specs.declared.cmp.Ordering.{Ordering}
 use Rattle.std.specs.declared.cmp.Ordering.TheVariants.{Less, Equal, Greater}
 use Rattle.std.specs.Ordering.{is_lt, is_eq, ordering_reverse, eq_by_cmp}
 use Rattle.std.specs.Cmp.{IsTotalOrder, tied_itself}
-use Rattle.std.specs.FinMap.{FinMap, IsAntisymmetric, find, put, insert, entries, keys, is_sorted, entries_sorted, entries-insert, from_entries, from_entries_push}
+use Rattle.std.specs.FinMap.{FinMap, IsAntisymmetric, find, put, insert, entries, keys, is_sorted, entries-insert}
 use Rattle.std.proofs.lemmas.Bool.{and_parts, and_from}
-use Rattle.std.proofs.lemmas.List.{map-append}
 
 pub less : (o : Ordering) → is_lt o ≡ true → o ≡ Less
 less Less e = refl

@@ -1,11 +1,11 @@
 -- What one reader answers from what another has answered.
-use Rattle.std.proofs.Common.{◌≡◌, ◌≢◌, ℕ, ◌<◌, Bool, nat_eq, List, [], ◌∷◌, length, take, codes, arith, false, true, Option, None, Some, Result, Ok, Err, ◌⊎◌, inl, inr, refl, sym, ap, ◌∙◌}
+use Rattle.std.proofs.Common.{◌≡◌, ◌≢◌, ℕ, ◌<◌, Bool, nat_eq, List, [], ◌∷◌, length, take, codes, arith, false, true, Option, None, Some, Result, Ok, Err, refl, sym, ap, ◌∙◌}
 use Rattle.std.specs.Result.{result_ok}
 use Rattle.std.proofs.lemmas.Bool.{eqb-true}
 use Rattle.std.proofs.lemmas.List.{length-take}
 use Rattle.ice_ids.specs.declared.Id8.{Id8}
 use Rattle.ice_ids.specs.declared.IdFault.{IdFault}
-use Rattle.ice_ids.specs.Text.{id8_of_text, id8_text}
+use Rattle.ice_ids.specs.Text.{id8_of_text}
 use Rattle.ice_ids.proofs.TextLaws.{id8_of_text-Ok, length-id8_text}
 use Rattle.plain_object.specs.declared.fault.PlainFault.{PlainFault}
 use Rattle.plain_object.specs.declared.fault.PlainFault.TheVariants.{Malformed, NoMemory}

@@ -1,8 +1,8 @@
 -- Snapshots.
-use Rattle.std.proofs.Common.{◌≡◌, ◌≢◌, ℕ, ◌^◌, ◌<◌, Bool, true, false, cond, T, List, [], ◌∷◌, ◌++◌, map as list_map, length, Option, None, Some, codes, refl, sym, ap, subst, ◌∙◌, append_assoc, lit<}
-use Rattle.std.specs.Prelude.{option_map, option_and_then, IfSome}
+use Rattle.std.proofs.Common.{◌≡◌, ◌≢◌, ℕ, Bool, true, false, cond, T, List, [], ◌∷◌, ◌++◌, map as list_map, Option, None, Some, codes, refl, sym, ap, subst, ◌∙◌, append_assoc, lit<}
+use Rattle.std.specs.Prelude.{option_map, option_and_then}
 use Rattle.std.specs.List.{list_all}
-use Rattle.std.specs.FinMap.{FinMap, find, entries, empty, is_sorted, entries_sorted, get-entries, len-entries, len-empty, same_entries_map}
+use Rattle.std.specs.FinMap.{find, entries, is_sorted, entries_sorted, get-entries, len-entries, len-empty, same_entries_map}
 use Rattle.std.proofs.lemmas.Bool.{and_from}
 use Rattle.std.proofs.lemmas.List.{append-nil, nil_from_length}
 use Rattle.std.proofs.lemmas.List.Folds.{list_all-append}

@@ -1,8 +1,7 @@
-use Rattle.std.proofs.Common.{◌≡◌, ℕ, List, ◌∷◌, [], ◌++◌, Option, refl, sym, ap, ◌∙◌}
+use Rattle.std.proofs.Common.{List, ◌∷◌, [], refl, sym, ap, ◌∙◌}
 use Rattle.std.specs.Prelude.{option_and_then}
 use Rattle.std.proofs.lemmas.Slice.{pushed}
 use Rattle.ice_ids.specs.declared.Id8.{Id8}
-use Rattle.tree_model.specs.Touched.{in_order}
 use Rattle.plain_object.specs.Lines.{lines_of}
 use Rattle.plain_object.specs.Objects.{ids_behind}
 use Rattle.plain_object.proofs.IdLaws.{in_order-nil, in_order-push}

@@ -1,4 +1,4 @@
-use Rattle.std.proofs.Common.{sym, ap, ◌∙◌}
+use Rattle.std.proofs.Common.{sym, ◌∙◌}
 use Rattle.plain_object.proofs.NumberLaws.{number_of-other, number_of-parsed, numeral_is_utf8}
 use Rattle.plain_object.proofs.values.number_read.Goals as goal
 
