@@ -19,7 +19,7 @@ pub keys-pairs : (ids : List Id8) → list_map (λ (e : Pair). e.0) (pairs ids) 
 keys-pairs [] = refl
 keys-pairs (id ∷ ids) = ap (λ (rest : List Id8). id ∷ rest) (keys-pairs ids)
 
-pairs-keys : (es : List Pair) → pairs (list_map (λ (e : Pair). e.0) es) ≡ es
+pub pairs-keys : (es : List Pair) → pairs (list_map (λ (e : Pair). e.0) es) ≡ es
 pairs-keys [] = refl
 pairs-keys (e ∷ es) = ap (λ (rest : List Pair). e ∷ rest) (pairs-keys es)
 

@@ -2,20 +2,24 @@
 use Rattle.std.proofs.Common.{◌≡◌, ℕ, Bool, true, false, cond, T, List, [], ◌∷◌, ◌++◌, map as list_map, None, Some, refl, sym, ap, subst, ◌∙◌, append_assoc}
 use Rattle.std.specs.Prelude.{option_and_then}
 use Rattle.std.specs.List.{All, list_all}
-use Rattle.std.specs.FinMap.{is_sorted}
+use Rattle.std.specs.FinMap.{is_sorted, get, entries, entries_sorted, from_entries, get-entries, get-from_entries, keys, same_map}
 use Rattle.std.proofs.lemmas.Bool.{and_from}
 use Rattle.std.proofs.lemmas.List.{append-nil, map-append}
 use Rattle.std.proofs.lemmas.List.Elements.{All-nil, All-cons, All-head, All-tail}
 use Rattle.ice_ids.specs.declared.Id8.{Id8}
 use Rattle.ice_ids.specs.Text.{IsId8, id8_cmp}
 use Rattle.tree_model.specs.declared.lists.Touched.{Touched}
-use Rattle.tree_model.specs.Touched.{in_order}
+use Rattle.tree_model.specs.Touched.{in_order, ids_of, touched}
+use Rattle.tree_model.specs.Changes.{Changes}
+use Rattle.tree_model.specs.Trees.{Tree}
+use Rattle.tree_model.specs.declared.node.Node.{Node}
+use Rattle.zarr_path.proofs.OrderLaws.{total, exact}
 use Rattle.plain_object.specs.Lines.{Line, bytes_of_lines, lines_of}
 use Rattle.plain_object.specs.Objects.{group_line, group_of_line, ids_behind, IsWritableLog, log_bytes, log_of}
 use Rattle.plain_object.proofs.LineLaws.{is_line, lines_of-bytes, bytes-lines_of}
-use Rattle.plain_object.proofs.OrderLaws.{all_before, before_entry}
-use Rattle.tree_model.proofs.TouchedLaws.{id_total, pairs}
-use Rattle.plain_object.proofs.IdLaws.{Pair, keys-pairs, in_order-rises, in_order-push, in_order-nil}
+use Rattle.plain_object.proofs.OrderLaws.{all_before, before_entry, AllRows, found_all, found_one}
+use Rattle.tree_model.proofs.TouchedLaws.{id_total, pairs, id_exact}
+use Rattle.plain_object.proofs.IdLaws.{Pair, keys-pairs, in_order-rises, in_order-push, in_order-nil, set_of, pairs-keys}
 use Rattle.plain_object.proofs.WordLaws.{group_of_line-line, line-group, group_is_line, both_some}
 
 groups_are_lines : (ids : List Id8) → list_all is_line (list_map group_line ids) ≡ true
@@ -93,3 +97,37 @@ log_bytes-log_of bytes s h =
       record { ids = subst (All IsId8) (sym read.ids_are) read.are_ids; ordered = read.ordered },
       bytes-lines_of bytes first.0 first.1 ∙ ap bytes_of_lines lines,
     )
+
+-- ---- the logs of changes
+all_rows : (ids : List Id8) → All IsId8 ids → AllRows (λ id _. IsId8 id) (pairs ids)
+all_rows [] are = tt
+all_rows (id ∷ ids) are = (All-head IsId8 id ids are, all_rows ids (All-tail IsId8 id ids are))
+
+all_keys : (es : List Pair) → AllRows (λ id _. IsId8 id) es → All IsId8 (list_map (λ (e : Pair). e.0) es)
+all_keys [] are = All-nil IsId8
+all_keys (e ∷ es) are = All-cons IsId8 e.0 (list_map (λ (e : Pair). e.0) es) are.0 (all_keys es are.1)
+
+-- what is put in order are the same ids
+pub in_order-All : (ids : List Id8) → All IsId8 ids → All IsId8 (in_order ids)
+in_order-All ids are =
+    all_keys (entries (set_of ids))
+    (found_all id_total id_exact (λ id _. IsId8 id) (entries (set_of ids)) (entries_sorted (set_of ids))
+    (λ id mark found. found_one id_total id_exact (λ id _. IsId8 id) (pairs ids) id mark (all_rows ids are)
+    (sym (get-from_entries id_total (pairs ids) id) ∙ get-entries (set_of ids) id ∙ found)))
+
+-- and what is in order stays
+pub in_order-in_order : (ids : List Id8) → in_order (in_order ids) ≡ in_order ids
+in_order-in_order ids =
+    let es = entries (set_of ids) in
+    let made : from_entries {R = id8_cmp} es ≡ set_of ids = same_map id_total id_exact (from_entries es) (set_of ids) (λ id. get-from_entries id_total es id ∙ sym (get-entries (set_of ids) id)) in
+    ap (λ (es : List Pair). keys (from_entries {R = id8_cmp} es)) (pairs-keys es) ∙ ap keys made
+
+all_ids : (rows : List (List ℕ × Node)) → AllRows (λ path node. IsId8 node.id) rows → All IsId8 (ids_of rows)
+all_ids [] are = All-nil IsId8
+all_ids (row ∷ rows) are = All-cons IsId8 row.1.id (ids_of rows) are.0 (all_ids rows are.1)
+
+-- what changes touch can be written
+pub touched-IsWritableLog : (c : Changes) (t : Tree) → ((path : List ℕ) (node : Node) → get c.added path ≡ Some node → IsId8 node.id) → IsWritableLog (touched c t)
+touched-IsWritableLog c t are =
+    let rows = found_all total exact (λ path node. IsId8 node.id) (entries c.added) (entries_sorted c.added) (λ path node found. are path node (get-entries c.added path ∙ found)) in
+    record { ids = in_order-All (ids_of (entries c.added)) (all_ids (entries c.added) rows); ordered = in_order-in_order (ids_of (entries c.added)) }
