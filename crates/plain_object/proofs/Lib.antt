@@ -1,0 +1,13 @@
+pub mod LineLaws
+pub mod HexLaws
+pub mod NumberLaws
+pub mod WriteLaws
+pub mod ReadLaws
+pub mod StepLaws
+pub mod OrderLaws
+pub mod IdLaws
+pub mod TextLaws
+pub mod WordLaws
+pub mod RefLaws
+pub mod LogLaws
+pub mod SnapshotLaws

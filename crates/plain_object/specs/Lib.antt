@@ -1,0 +1,5 @@
+pub mod Lines
+pub mod Values
+pub mod Objects
+pub mod Reading
+pub mod Laws
