@@ -1,0 +1,9 @@
+//! The changes of a session, over the tree that it began with.
+#![tactic(auto)]
+
+mod set;
+
+pub use set::ChangeSet;
+
+#[cfg(test)]
+mod tests;

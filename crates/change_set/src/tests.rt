@@ -1,0 +1,6 @@
+use super::*;
+
+#[test]
+fn new_is_empty(rt: HostRuntime) {
+    assert!(rt; ChangeSet::new(rt.alloc()).is_empty());
+}

@@ -1,0 +1,7 @@
+pub mod Step
+pub mod Places
+pub mod Rows
+pub mod Header
+pub mod File
+pub mod Layout
+pub mod Trees

@@ -1,0 +1,108 @@
+ghost use Rattle.std.specs.Prelude.{◌≡◌, ◌+◌, ◌-◌, ◌*◌, ◌<◌, ◌≤◌, ◌^◌, length, map, max, IsTrue, All};
+ghost use Rattle.flat_tables.specs.Layout.{gap_to, fields_end};
+ghost use Rattle.flat_tables.specs.Trees.{layout, part_of, is_writable, is_writable_slot, capped, HasShape};
+
+use crate::flat::{Flat, Slot};
+
+/// How many bytes lead from `at` to a multiple of `align`.
+pub fn gap_to(align: usize, at: usize) -> usize
+    requires { 0 < align }
+    ensures gap { result ≡ gap_to align at }
+    ensures less { result < align }
+{
+    (align - at % align) % align
+}
+
+/// The alignment and the size of a field, where it is there.
+#[tactic(auto, using(crate::proofs::Folds::shapes))]
+pub fn shape(slot: &Slot) -> Option<(usize, usize)>
+    requires { IsTrue (is_writable_slot slot.now) }
+    ensures { HasShape result (part_of slot.now) }
+{
+    match slot {
+        Slot::Absent => None,
+        Slot::Scalar { size, .. } => Some((*size as usize, *size as usize)),
+        Slot::Struct { align, bytes } => Some((*align as usize, bytes.len())),
+        _ => Some((4, 4)),
+    }
+}
+
+/// Where the fields of a table end, from its place.
+pub fn slots_end(slots: &[Slot]) -> usize
+    requires writable { All (λ s. IsTrue (is_writable_slot s)) slots.now }
+    requires few { length slots.now ≤ 64 }
+    ensures end { result ≡ fields_end (map part_of slots.now) 4 }
+    ensures small { result < 20000 }
+{
+    let mut end = 4;
+    for slot in slots {
+        if let Some((align, size)) = shape(slot) {
+            end = end + gap_to(align, end) + size;
+        }
+    }
+    end
+}
+
+/// What the place behind a vector's count is a multiple of.
+pub fn vector_align(align: u8) -> usize
+    ensures { result ≡ max 4 align }
+{
+    if align > 4 { align as usize } else { 4 }
+}
+
+/// Where a block of `len` bytes ends that is appended at `from`, so that what stands `ahead` bytes behind its begin
+/// is aligned.
+fn block_end(from: usize, align: usize, ahead: usize, len: usize) -> usize
+    requires aligned { 0 < align }
+    requires within { ahead ≤ len }
+    ensures { result ≡ capped (from + gap_to align (from + ahead) + len) }
+{
+    let gap = gap_to(align, from.saturating_add(ahead));
+    from.saturating_add(gap).saturating_add(len)
+}
+
+/// Where a table with all beneath it ends that is appended at `from`.
+#[cycle(end)]
+pub fn table_end(flat: &Flat, from: usize) -> usize
+    requires { IsTrue (is_writable flat.now) }
+    ensures { result ≡ capped (from + length ((layout flat.now).bytes from)) }
+{
+    let head = 4 + 2 * flat.slots.len();
+    let mut end = block_end(from, 8, head, head + slots_end(&flat.slots));
+    for slot in &flat.slots {
+        end = beneath_end(slot, end);
+    }
+    end
+}
+
+/// Where all that is beneath a field ends, if it is appended at `from`.
+#[cycle(end)]
+pub fn beneath_end(slot: &Slot, from: usize) -> usize
+    requires { IsTrue (is_writable_slot slot.now) }
+    ensures { result ≡ capped (from + length ((part_of slot.now).beneath from)) }
+{
+    match slot {
+        Slot::Absent => from,
+        Slot::Scalar { .. } => from,
+        Slot::Struct { .. } => from,
+        Slot::Text(text) => block_end(from, 4, 0, 4 + text.len() + 1),
+        Slot::Structs { align, bytes, .. } => {
+            block_end(from, vector_align(*align), 4, 4 + bytes.len())
+        }
+        Slot::Table(flat) => table_end(flat, from),
+        Slot::Tables(flats) => {
+            let mut end = offsets_end(flats.len(), from);
+            for flat in flats {
+                end = table_end(flat, end);
+            }
+            end
+        }
+    }
+}
+
+/// Where the offsets of a vector of so many tables end, if it is appended at `from`.
+fn offsets_end(count: usize, from: usize) -> usize
+    ensures { result ≡ capped (from + gap_to 4 (from + 4) + 4 + 4 * count) }
+{
+    block_end(from, 4, 4, count.saturating_mul(4).saturating_add(4))
+}

@@ -1,0 +1,4 @@
+pub mod DigitLaws
+pub mod LetterLaws
+pub mod TextLaws
+pub mod Drawn

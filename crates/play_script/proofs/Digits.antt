@@ -1,0 +1,26 @@
+-- What `parse` reads of digits alone.
+use Rattle.std.proofs.Common.{◌≡◌, ℕ, ◌<◌, ◌≤◌, ◌^◌, Bool, true, false, nat_eq, List, [], ◌∷◌, length, Result, Ok, Err, refl, arith, rules}
+use Rattle.std.specs.Prelude.{not, ◌&&◌}
+use Rattle.std.specs.Result.{OkIff}
+use Rattle.std.specs.List.{list_all}
+use Rattle.std.specs.Char.{is_ascii_digit}
+use Rattle.std.specs.Str.Parse.{ParsesUnsigned, digits_value}
+use Rattle.std.proofs.lemmas.Str.Parse.{IsNumeralModel, IsDigitsTest, numerals_by_value, parse_digits}
+use Rattle.play_script.specs.Values.{is_digits}
+
+abbrev all_digits : List ℕ → Bool
+all_digits ds = list_all is_ascii_digit ds
+
+tells : IsDigitsTest (λ ds. all_digits ds ≡ true)
+tells = search rules
+
+own : IsNumeralModel (λ ds. all_digits ds ≡ true) (digits_value 10)
+own = numerals_by_value _ tells
+
+split : (b d : Bool) → (b && d) ≡ true → (b ≡ true) × (d ≡ true)
+split true true h = (refl, refl)
+split true false h = absurd (search (rules, h))
+split false d h = absurd (search (rules, h))
+
+pub parsed : {E : Type 0} (bs : List ℕ) (r : Result ℕ E) → ParsesUnsigned 32 10 bs r → is_digits bs ≡ true → OkIff r ((0 < length bs) × (digits_value 10 bs < 2 ^ 32)) (digits_value 10 bs)
+parsed bs r h d = parse_digits own 32 bs r h (split (not (nat_eq (length bs) 0)) (all_digits bs) d).1

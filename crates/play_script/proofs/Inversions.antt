@@ -1,0 +1,73 @@
+-- What parts are where a line is read.
+use Rattle.std.proofs.Common.{◌≡◌, ℕ, ◌≤◌, Bool, true, false, cond, List, [], ◌∷◌, Option, None, Some, Result, Ok, Err, refl, sym, ap, subst, arith}
+use Rattle.std.specs.List.{All}
+use Rattle.std.specs.Str.Parse.{digits_value}
+use Rattle.std.proofs.lemmas.Bool.{and_parts, leb-true}
+use Rattle.std.proofs.lemmas.List.Elements.{All-nil, All-cons}
+use Rattle.zarr_path.specs.Paths.{is_path}
+use Rattle.play_script.specs.declared.faults.ScriptKind.{ScriptKind}
+use Rattle.play_script.specs.declared.faults.ScriptKind.TheVariants as k
+use Rattle.play_script.specs.Words.{Text}
+use Rattle.play_script.specs.Parts.{◌&◌, made, each, only_if}
+use Rattle.play_script.specs.Values.{◌reads◌, is_task_name, task_name_of, path_of, main_branch, branch_of, is_digits, is_number, number_of, count_of}
+use Rattle.play_script.specs.Forms.{taken}
+
+pub made_ok : {A B : Type 0} (f : A → B) (r : Result A ScriptKind) (t : B) → made f r ≡ Ok t → (x : A) × (r ≡ Ok x) × (f x ≡ t)
+made_ok f (Ok x) t h = (x, refl, cc)
+made_ok f (Err k) t h = absurd (cc)
+
+pub both_ok : {A B : Type 0} (a : Result A ScriptKind) (b : Result B ScriptKind) (v : A × B) → (a & b) ≡ Ok v → (a ≡ Ok v.0) × (b ≡ Ok v.1)
+both_ok {A} {B} (Ok x) (Ok y) v h = let e : (x, y) ≡ v = cc in (ap (λ (w : A × B). Ok w.0) e, ap (λ (w : A × B). Ok w.1) e)
+both_ok (Ok x) (Err k) v h = absurd (cc)
+both_ok (Err k) (Ok y) v h = absurd (cc)
+both_ok (Err k) (Err j) v h = absurd (cc)
+
+pub only_if_ok : (b : Bool) (kind : ScriptKind) (u : Unit {0}) → only_if b kind ≡ Ok u → b ≡ true
+only_if_ok true kind u h = refl
+only_if_ok false kind u h = absurd (cc)
+
+pub taken_ok : {A B : Type 0} (o : Option A) (f : A → Result B ScriptKind) (t : B) → taken o f ≡ Ok t → (w : A) × (o ≡ Some w) × (f w ≡ Ok t)
+taken_ok None f t h = absurd (cc)
+taken_ok (Some w) f t h = (w, refl, h)
+
+-- each part is well where each is well that could be read
+pub each_ok : {A B : Type 0} (P : B → Type 0) (f : A → Result B ScriptKind) (words : List A) (ts : List B) → ((w : A) (t : B) → f w ≡ Ok t → P t) → each f words ≡ Ok ts → All P ts
+each_ok {A} {B} P f [] ts one h = let e : [] ≡ ts = cc in subst (All P) e (All-nil P)
+each_ok {A} {B} P f (w ∷ ws) ts one h =
+    let m = made_ok (λ (p : B × List B). p.0 ∷ p.1) (f w & each f ws) ts h in
+    let b = both_ok (f w) (each f ws) m.0 m.1 in
+    subst (All P) m.2 (All-cons P m.0.0 m.0.1 (one w m.0.0 b.0) (each_ok P f ws m.0.1 one b.1))
+
+-- a value that is tested
+pub tested_ok : {A : Type 0} (b : Bool) (x t : A) → cond b (Ok x) (Err k.Unbuilt) ≡ Ok t → (b ≡ true) × (x ≡ t)
+tested_ok true x t h = (refl, cc)
+tested_ok false x t h = absurd (cc)
+
+pub path_ok : (w path : Text) → path_of w ≡ Ok path → is_path path ≡ true
+unfolding path_of
+path_ok w path h =
+    let t = tested_ok (is_path w) w path h in
+    subst (λ (p : Text). is_path p ≡ true) t.1 t.0
+
+pub task_name_ok : (w name : Text) → task_name_of w ≡ Ok name → (is_task_name name ≡ true) × (w ≡ name)
+unfolding task_name_of
+task_name_ok w name h =
+    let t = tested_ok (is_task_name w) w name h in
+    (subst (λ (p : Text). is_task_name p ≡ true) t.1 t.0, t.1)
+
+pub branch_ok : (w branch : Text) → branch_of w ≡ Ok branch → branch ≡ main_branch
+unfolding branch_of
+branch_ok w branch h = sym (tested_ok (w reads main_branch) main_branch branch h).1
+
+number_ok : (least most : ℕ) (w : Text) (n : ℕ) → number_of least most w ≡ Ok n → (least ≤ n) × (n ≤ most)
+unfolding number_of
+number_ok least most w n h =
+    let t = tested_ok (is_number least most w) (digits_value 10 w) n h in
+    let outer = and_parts _ _ t.0 in
+    let inner = and_parts _ _ outer.0 in
+    (subst (λ (m : ℕ). least ≤ m) t.1 (leb-true _ _ inner.1), subst (λ (m : ℕ). m ≤ most) t.1 (leb-true _ _ outer.1))
+
+pub count_ok : (text : Option Text) (n : ℕ) → count_of text ≡ Ok n → (1 ≤ n) × (n ≤ 9999)
+unfolding count_of
+count_ok None n h = let e : 1 ≡ n = cc in subst (λ (m : ℕ). (1 ≤ m) × (m ≤ 9999)) e (omega arith, omega arith)
+count_ok (Some w) n h = number_ok 1 9999 w n h

@@ -1,0 +1,10 @@
+pub mod Digits
+pub mod LastTask
+pub mod Earliest
+pub mod Cuts
+pub mod Utf8
+pub mod NextLine
+pub mod Inversions
+pub mod WellLines
+pub mod WellTasks
+pub mod WellRead

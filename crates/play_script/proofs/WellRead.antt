@@ -1,0 +1,127 @@
+-- A script that was read is well.
+use Rattle.std.proofs.Common.{◌≡◌, ℕ, ◌+◌, ◌<◌, ◌≤◌, Bool, true, false, cond, List, [], ◌∷◌, ◌++◌, length, Option, None, Some, Result, Ok, Err, refl, sym, ap, subst, ◌∙◌, arith, length-append}
+use Rattle.std.specs.Prelude.{IfOk, ◌&&◌, ◌||◌, not, nat_lt, nat_le, codes, take}
+use Rattle.std.specs.List.{All}
+use Rattle.std.specs.Str.{is_utf8}
+use Rattle.std.proofs.lemmas.Bool.{and_parts, or_parts, not-true, not-false, ltb-true, ltb-false, cond_both}
+use Rattle.std.proofs.lemmas.List.Elements.{All-nil, All-push}
+use Rattle.play_script.specs.declared.faults.ScriptKind.{ScriptKind}
+use Rattle.play_script.specs.declared.faults.ScriptKind.TheVariants as k
+use Rattle.play_script.specs.declared.scripts.Call.{Call}
+use Rattle.play_script.specs.declared.scripts.Head.{Head}
+use Rattle.play_script.specs.declared.scripts.Head.TheVariants as head
+use Rattle.play_script.specs.declared.scripts.Line.{Line}
+use Rattle.play_script.specs.declared.scripts.Task.{Task}
+use Rattle.play_script.specs.declared.scripts.Turn.{Turn}
+use Rattle.play_script.specs.declared.scripts.Script.{Script}
+use Rattle.play_script.specs.declared.heads.TheConstants.{MOST_TASKS}
+use Rattle.play_script.specs.declared.reading.TheConstants.{MOST_LINES, MOST_BYTES}
+use Rattle.play_script.specs.Words.{Text, cut_of, pieces, next, lines_of}
+use Rattle.play_script.specs.Parts.{◌&◌, made, each, only_if}
+use Rattle.play_script.specs.Values.{◌reads◌, task_name_of}
+use Rattle.play_script.specs.Forms.{taken, form_of, head_of}
+use Rattle.play_script.specs.Places.{last, is_open, takes, onto_last, with_line, body_line, is_used, with_task, may_begin, task_line, head_line, turn_of, turns_line, words_line, line_at}
+use Rattle.play_script.specs.declared.faults.ScriptFault.{ScriptFault}
+use Rattle.play_script.specs.Reading.{at_line, lines_from, empty, feeds, script_of, IsReading}
+use Rattle.play_script.specs.Well.{IsLineNumber, AreTaken, IsWellTask, IsWellTurn, IsWell}
+use Rattle.play_script.proofs.Inversions.{made_ok, both_ok, only_if_ok, taken_ok, each_ok, task_name_ok}
+use Rattle.play_script.proofs.Utf8.{text_bytes}
+use Rattle.play_script.proofs.WellLines.{AreLeft, cut_left, form_ok, head_ok, turn_ok}
+use Rattle.play_script.proofs.WellTasks.{tasks_more, length-onto_last, names-onto_last, names_more, no_turns}
+
+-- a script that is read, if one is
+abbrev IsWellIfRead : Result Script ScriptKind → Type 0
+IsWellIfRead r = (t : Script) → r ≡ Ok t → IsWell t
+
+body_well : (s : Script) (n : ℕ) (first : Text) (rest : Option Text) → IsWell s → IsLineNumber n → AreLeft rest → IsWellIfRead (body_line s n first rest)
+unfolding body_line
+body_well s n first rest w number left t h =
+    let f = form_of first rest in
+    let m = made_ok (λ (v : Unit {0} × Call). with_line s n v.1) (only_if (is_open s && takes (last s.tasks) f.class) k.Unbuilt & f.call) t h in
+    let b = both_ok (only_if (is_open s && takes (last s.tasks) f.class) k.Unbuilt) f.call m.0 m.1 in
+    let placed = and_parts (is_open s) (takes (last s.tasks) f.class) (only_if_ok _ _ _ b.0) in
+    let call = form_ok first rest left m.0.1 b.1 in
+    let line : Line = record { number = n; call = m.0.1 } in
+    subst IsWell m.2 (record {
+      few = rw (length-onto_last line s.tasks) w.few;
+      tasks = tasks_more line f.class s.tasks placed.1 call.1 (record { number = number; call = call.0 }) w.tasks;
+      names = rw (names-onto_last line s.tasks) w.names;
+      turns = no_turns s.turns (length (onto_last line s.tasks)) placed.0;
+    })
+
+none_taken : (h : Head) → AreTaken h []
+none_taken (head.Write branch) = tt
+none_taken (head.Read branch) = All-nil _
+
+task_well : (s : Script) (n : ℕ) (name word : Text) (rest : Option Text) → IsWell s → IsLineNumber n → IsWellIfRead (task_line s n name word rest)
+unfolding task_line may_begin
+task_well s n name word rest w number t h =
+    let m = made_ok (λ (v : ((((Unit {0} × Unit {0}) × Unit {0}) × Text) × Head)). with_task s n v.0.1 v.1) (may_begin s name & task_name_of name & head_of word rest) t h in
+    let all = both_ok (may_begin s name & task_name_of name) (head_of word rest) m.0 m.1 in
+    let named = both_ok (may_begin s name) (task_name_of name) m.0.0 all.0 in
+    let before = both_ok (only_if (is_open s) k.Unbuilt & only_if (nat_lt (length s.tasks) MOST_TASKS) k.Unbuilt) (only_if (not (is_used s.tasks name)) k.Unbuilt) m.0.0.0 named.0 in
+    let placed = both_ok (only_if (is_open s) k.Unbuilt) (only_if (nat_lt (length s.tasks) MOST_TASKS) k.Unbuilt) m.0.0.0.0 before.0 in
+    let waiting : is_open s ≡ true = only_if_ok _ _ _ placed.0 in
+    let room = ltb-true (length s.tasks) MOST_TASKS (only_if_ok _ _ _ placed.1) in
+    let free : is_used s.tasks name ≡ false = not-true _ (only_if_ok _ _ _ before.1) in
+    let is_name = task_name_ok name m.0.0.1 named.1 in
+    let task : Task = record { name = m.0.0.1; line = n; head = m.0.1; body = [] } in
+    subst IsWell m.2 (record {
+      few = omega (arith, length-append s.tasks (task ∷ []), room);
+      tasks = All-push IsWellTask s.tasks task w.tasks (record { name = is_name.0; line = number; branch = head_ok word rest m.0.1 all.1; body = All-nil _; taken = none_taken m.0.1; commit = tt });
+      names = names_more s.tasks task (subst (λ (x : Text). is_used s.tasks x ≡ false) is_name.1 free) w.names;
+      turns = no_turns s.turns _ waiting;
+    })
+
+head_well : (s : Script) (n : ℕ) (rest : Option Text) → IsWell s → IsLineNumber n → IsWellIfRead (head_line s n rest)
+unfolding head_line
+head_well s n rest w number t h =
+    let p = taken_ok (next rest) (λ p. taken (next p.1) (λ q. task_line s n p.0 q.0 q.1)) t h in
+    let q = taken_ok (next p.0.1) (λ q. task_line s n p.0.0 q.0 q.1) t p.2 in
+    task_well s n p.0.0 q.0.0 q.0.1 w number t q.2
+
+turns_well : (s : Script) (rest : Option Text) → IsWell s → IsWellIfRead (turns_line s rest)
+unfolding turns_line
+turns_well s rest w t h =
+    let m = made_ok (λ (v : Unit {0} × List Turn). record s { turns = Some v.1 }) (only_if (is_open s) k.Unbuilt & each (turn_of s.tasks) (pieces 32 rest)) t h in
+    let b = both_ok (only_if (is_open s) k.Unbuilt) (each (turn_of s.tasks) (pieces 32 rest)) m.0 m.1 in
+    let turns = each_ok (IsWellTurn (length s.tasks)) (turn_of s.tasks) (pieces 32 rest) m.0.1 (turn_ok s.tasks) b.1 in
+    subst IsWell m.2 (record { few = w.few; tasks = w.tasks; names = w.names; turns = turns })
+
+words_well : (s : Script) (n : ℕ) (first : Text) (rest : Option Text) → IsWell s → IsLineNumber n → AreLeft rest → IsWellIfRead (words_line s n first rest)
+unfolding words_line
+words_well s n first rest w number left =
+    cond_both (first reads codes "task") _ _ IsWellIfRead (λ _. head_well s n rest w number) (λ _.
+    cond_both (first reads codes "turns") _ _ IsWellIfRead (λ _. turns_well s rest w) (λ _.
+    body_well s n first rest w number left))
+
+line_well : (s : Script) (n : ℕ) (line : Text) → IsWell s → 1 ≤ n → IsWellIfRead (line_at s n line)
+unfolding line_at
+line_well s n line w some =
+    cond_both (nat_lt MOST_LINES n || not (is_utf8 line)) _ _ IsWellIfRead (λ _ t h. absurd (cc)) (λ placed.
+    let parts = or_parts (nat_lt MOST_LINES n) (not (is_utf8 line)) placed in
+    words_well s n (cut_of 32 line).0 (cut_of 32 line).1 w (some, ltb-false MOST_LINES n parts.0) (cut_left line (text_bytes line (not-false _ parts.1))))
+
+-- what more lines make of it
+more_lines : (n : ℕ) (r : Result Script ScriptKind) (more : Script → Result Script (ℕ × ScriptKind)) (t : Script) → IsWellIfRead r → ((s : Script) → IsWell s → more s ≡ Ok t → IsWell t) → at_line n r more ≡ Ok t → IsWell t
+more_lines n (Ok s) more t w rest h = rest s (w s refl) h
+more_lines n (Err kind) more t w rest h = absurd (cc)
+
+lines_well : (s : Script) (n : ℕ) (lines : List Text) (t : Script) → IsWell s → 1 ≤ n → lines_from s n lines ≡ Ok t → IsWell t
+unfolding lines_from
+lines_well s n [] t w some h = let e : s ≡ t = cc in subst IsWell e w
+lines_well s n (l ∷ ls) t w some h =
+    more_lines n (line_at s n l) (λ s. lines_from s (n + 1) ls) t (line_well s n l w some) (λ s w h. lines_well s (n + 1) ls t w (omega arith) h) h
+
+empty_well : IsWell empty
+empty_well = record { few = omega arith; tasks = All-nil _; names = λ i j d lt within. absurd (omega (arith, within)); turns = tt }
+
+pub well : (text : List ℕ) (s : Script) → script_of text ≡ Ok s → IsWell s
+unfolding script_of
+well text s h =
+    cond_both (nat_le (length text) MOST_BYTES) (lines_from empty 1 (lines_of text)) (Err (feeds (take MOST_BYTES text) + 1, k.Long)) (λ r. r ≡ Ok s → IsWell s) (λ _ h. lines_well empty 1 (lines_of text) s empty_well (omega arith) h) (λ _ h. absurd (cc)) h
+
+-- the script of a call that read these lines
+pub read_well : (text : List ℕ) (r : Result Script ScriptFault) → IsReading (lines_from empty 1 (lines_of text)) r → IfOk r IsWell
+read_well text (Ok s) h = lines_well empty 1 (lines_of text) s empty_well (omega arith) h
+read_well text (Err fault) h = tt

@@ -1,0 +1,15 @@
+use Rattle.std.proofs.Common.{◌≡◌, ◌≤◌, ◌+◌, length}
+use Rattle.play_script.specs.declared.heads.TheConstants.{MOST_TASKS}
+use Rattle.play_script.specs.Words.{lines_of}
+use Rattle.play_script.specs.Reading.{lines_from, empty}
+use Rattle.play_script.proofs.reading.lines_in.Given as goal
+
+abbrev pub invariant-loop-left : goal.invariant-loop-left
+invariant-loop-left l = record {
+  left : lines_from l.script l.number (lines_of l.left) ≡ lines_from empty 1 (lines_of l.fn.text);
+  few : length l.script.tasks ≤ MOST_TASKS;
+  counted : l.number + length l.left ≤ 1048577;
+}
+
+abbrev pub decreases-loop-left : goal.decreases-loop-left
+decreases-loop-left l = length l.left

@@ -1,0 +1,117 @@
+-- Own: where a line may stand, in view of the script before it and nothing else.
+use Rattle.std.specs.Prelude.{◌≡◌, ℕ, ◌+◌, ◌-◌, List, [], ◌∷◌, ◌++◌, nat_lt, nat_le, if◌then◌else◌, Option, Some, None, is_some, Result, Ok, Err, Bool, true, false, not, ◌&&◌, ◌||◌, length, slice_get, codes}
+use Rattle.std.specs.List.{list_any}
+use Rattle.std.specs.Str.{is_utf8}
+use Rattle.play_script.specs.declared.faults.ScriptKind.{ScriptKind}
+use Rattle.play_script.specs.declared.faults.ScriptKind.TheVariants as k
+use Rattle.play_script.specs.declared.scripts.Call.{Call}
+use Rattle.play_script.specs.declared.scripts.Call.TheVariants as call
+use Rattle.play_script.specs.declared.scripts.Head.{Head}
+use Rattle.play_script.specs.declared.scripts.Head.TheVariants as head
+use Rattle.play_script.specs.declared.scripts.Line.{Line}
+use Rattle.play_script.specs.declared.scripts.Task.{Task}
+use Rattle.play_script.specs.declared.scripts.Turn.{Turn}
+use Rattle.play_script.specs.declared.scripts.Script.{Script}
+use Rattle.play_script.specs.declared.forms.Class.{Class}
+use Rattle.play_script.specs.declared.forms.Class.TheVariants as c
+use Rattle.play_script.specs.declared.heads.TheConstants.{MOST_TASKS}
+use Rattle.play_script.specs.declared.reading.TheConstants.{MOST_LINES}
+use Rattle.play_script.specs.Words.{Text, cut_of, pieces, next}
+use Rattle.play_script.specs.Parts.{◌&◌, made, each, only_if}
+use Rattle.play_script.specs.Values.{◌reads◌, task_name_of, count_of}
+use Rattle.play_script.specs.Forms.{taken, form_of, head_of}
+
+abbrev pub last : {A : Type 0} → List A → Option A
+last xs = slice_get xs (length xs - 1)
+
+-- the line of turns hasn't come yet
+abbrev pub is_open : Script → Bool
+is_open s = not (is_some s.turns)
+
+-- a task's head takes the line, and its commit hasn't come yet
+
+abbrev pub head_takes : Head → Class → Bool
+head_takes (head.Write branch) class = true
+head_takes (head.Read branch) c.Read = true
+head_takes (head.Read branch) c.Edit = false
+
+abbrev pub is_commit_call : Call → Bool
+is_commit_call (call.Commit message) = true
+is_commit_call (call.Group path) = false
+is_commit_call (call.List path) = false
+
+abbrev pub is_commit : Option Line → Bool
+is_commit None = false
+is_commit (Some l) = is_commit_call l.call
+
+abbrev pub takes : Option Task → Class → Bool
+takes None class = false
+takes (Some t) class = head_takes t.head class && not (is_commit (last t.body))
+
+-- one more line in the last task
+
+abbrev pub onto_last : Line → List Task → List Task
+onto_last l [] = []
+onto_last l (t ∷ []) = record t { body = t.body ++ l ∷ [] } ∷ []
+onto_last l (t ∷ u ∷ ts) = t ∷ onto_last l (u ∷ ts)
+
+abbrev pub with_line : Script → ℕ → Call → Script
+with_line s n call = record s { tasks = onto_last (record { number = n; call = call }) s.tasks }
+
+unfoldable pub body_line : Script → ℕ → Text → Option Text → Result Script ScriptKind
+body_line s n first rest =
+    let f = form_of first rest in
+    made (λ v. with_line s n v.1) (only_if (is_open s && takes (last s.tasks) f.class) k.Unbuilt & f.call)
+
+-- one more task
+
+abbrev pub is_used : List Task → Text → Bool
+is_used tasks name = list_any (λ t. t.name reads name) tasks
+
+abbrev pub with_task : Script → ℕ → Text → Head → Script
+with_task s n name head = record s { tasks = s.tasks ++ record { name = name; line = n; head = head; body = [] } ∷ [] }
+
+-- what a head asks of the script before it
+unfoldable pub may_begin : Script → Text → Result ((Unit {0} × Unit {0}) × Unit {0}) ScriptKind
+may_begin s name =
+    only_if (is_open s) k.Unbuilt
+    & only_if (nat_lt (length s.tasks) MOST_TASKS) k.Unbuilt
+    & only_if (not (is_used s.tasks name)) k.Unbuilt
+
+unfoldable pub task_line : Script → ℕ → Text → Text → Option Text → Result Script ScriptKind
+task_line s n name word rest =
+    made (λ v. with_task s n v.0.1 v.1) (may_begin s name & task_name_of name & head_of word rest)
+
+-- `task NAME HEAD`
+unfoldable pub head_line : Script → ℕ → Option Text → Result Script ScriptKind
+head_line s n rest = taken (next rest) (λ p. taken (next p.1) (λ q. task_line s n p.0 q.0 q.1))
+
+-- the turns: each word is `NAME` or `NAME*COUNT`
+
+-- the number of the task of this name
+abbrev pub client_from : ℕ → List Task → Text → Result ℕ ScriptKind
+client_from i [] name = Err k.Unbuilt
+client_from i (t ∷ ts) name = if t.name reads name then Ok i else client_from (i + 1) ts name
+
+abbrev pub turn : ℕ × ℕ → Turn
+turn v = record { client = v.0; count = v.1 }
+
+unfoldable pub turn_of : List Task → Text → Result Turn ScriptKind
+turn_of tasks w = made turn (client_from 1 tasks (cut_of 42 w).0 & count_of (cut_of 42 w).1)
+
+-- `turns WORDS`
+unfoldable pub turns_line : Script → Option Text → Result Script ScriptKind
+turns_line s rest = made (λ v. record s { turns = Some v.1 }) (only_if (is_open s) k.Unbuilt & each (turn_of s.tasks) (pieces 32 rest))
+
+-- a line by its first word
+unfoldable pub words_line : Script → ℕ → Text → Option Text → Result Script ScriptKind
+words_line s n first rest =
+    if first reads codes "task" then head_line s n rest else
+    (if first reads codes "turns" then turns_line s rest else
+    body_line s n first rest)
+
+-- line n behind the lines of s
+unfoldable pub line_at : Script → ℕ → Text → Result Script ScriptKind
+line_at s n line =
+    if nat_lt MOST_LINES n || not (is_utf8 line) then Err k.Unbuilt else
+    words_line s n (cut_of 32 line).0 (cut_of 32 line).1

@@ -1,0 +1,70 @@
+-- Own: what holds of every script that was read.
+use Rattle.std.specs.Prelude.{◌≡◌, ◌≢◌, ℕ, ◌≤◌, ◌<◌, List, [], ◌∷◌, length, map, IfSome, IsTrue, All, AllPairs}
+use Rattle.zarr_path.specs.Paths.{is_path}
+use Rattle.play_script.specs.declared.scripts.Call.{Call}
+use Rattle.play_script.specs.declared.scripts.Call.TheVariants as call
+use Rattle.play_script.specs.declared.scripts.Head.{Head}
+use Rattle.play_script.specs.declared.scripts.Head.TheVariants as head
+use Rattle.play_script.specs.declared.scripts.Line.{Line}
+use Rattle.play_script.specs.declared.scripts.Task.{Task}
+use Rattle.play_script.specs.declared.scripts.Turn.{Turn}
+use Rattle.play_script.specs.declared.scripts.Script.{Script}
+use Rattle.play_script.specs.declared.heads.TheConstants.{MOST_TASKS}
+use Rattle.play_script.specs.declared.reading.TheConstants.{MOST_LINES}
+use Rattle.play_script.specs.Words.{Text}
+use Rattle.play_script.specs.Values.{is_task_name, main_branch}
+use Rattle.play_script.specs.Places.{is_commit_call}
+
+-- the values of a call are of their grammars
+abbrev pub IsWellCall : Call → Type 0
+IsWellCall (call.Group path) = IsTrue (is_path path)
+IsWellCall (call.List path) = IsTrue (is_path path)
+IsWellCall (call.Commit message) = All (λ b. b < 256) message
+
+-- a number of a line
+abbrev pub IsLineNumber : ℕ → Type 0
+IsLineNumber n = (1 ≤ n) × (n ≤ MOST_LINES)
+
+pub record IsWellLine (l : Line) : Type 0 where
+  pub number : IsLineNumber l.number
+  pub call : IsWellCall l.call
+
+-- a commit has no line behind it
+abbrev pub EndsAtCommit : List Line → Type 0
+EndsAtCommit [] = Unit {0}
+EndsAtCommit (l ∷ ls) = (IsTrue (is_commit_call l.call) → ls ≡ []) × EndsAtCommit ls
+
+abbrev pub head_branch : Head → Text
+head_branch (head.Write branch) = branch
+head_branch (head.Read branch) = branch
+
+abbrev pub IsListCall : Call → Type 0
+IsListCall (call.List path) = Unit {0}
+IsListCall (call.Group path) = ⊥
+IsListCall (call.Commit message) = ⊥
+
+-- the lines are such as the head takes
+abbrev pub AreTaken : Head → List Line → Type 0
+AreTaken (head.Write branch) body = Unit {0}
+AreTaken (head.Read branch) body = All (λ l. IsListCall l.call) body
+
+pub record IsWellTask (t : Task) : Type 0 where
+  pub name : IsTrue (is_task_name t.name)
+  pub line : IsLineNumber t.line
+  pub branch : head_branch t.head ≡ main_branch
+  pub body : All IsWellLine t.body
+  pub taken : AreTaken t.head t.body
+  pub commit : EndsAtCommit t.body
+
+-- a turn of one of so many clients
+pub record IsWellTurn (clients : ℕ) (t : Turn) : Type 0 where
+  pub at_least : 1 ≤ t.client
+  pub at_most : t.client ≤ clients
+  pub some_steps : 1 ≤ t.count
+  pub few_steps : t.count ≤ 9999
+
+pub record IsWell (s : Script) : Type 0 where
+  pub few : length s.tasks ≤ MOST_TASKS
+  pub tasks : All IsWellTask s.tasks
+  pub names : AllPairs (λ a b. a ≢ b) (map (λ t. t.name) s.tasks)
+  pub turns : IfSome s.turns (All (IsWellTurn (length s.tasks)))

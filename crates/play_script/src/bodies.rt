@@ -1,0 +1,100 @@
+//! Body lines, each in view of the script before it.
+
+ghost use Rattle.std.specs.Prelude.{◌≡◌, IfOk, length, option_map};
+ghost use Rattle.play_script.specs.Words.{seen};
+ghost use Rattle.play_script.specs.Places.{head_takes, is_commit, takes, is_open, with_line, body_line};
+
+use crate::faults::{ScriptKind, both, only_if};
+use crate::forms::{Class, form_in};
+use crate::scripts::{Call, Head, Line, Lines, Script, Task, Tasks};
+use std::alloc::{AllocError, Global};
+
+fn head_takes(head: &Head, class: Class) -> bool
+    ensures { result ≡ head_takes head.now class }
+{
+    match head {
+        Head::Write { .. } => true,
+        Head::Read { .. } => class == Class::Read,
+    }
+}
+
+fn is_commit(line: Option<&Line>) -> bool
+    ensures { result ≡ is_commit (option_map (λ l. l.now) line.entry) }
+{
+    match line {
+        None => false,
+        Some(line) => match &line.call {
+            Call::Commit { .. } => true,
+            _ => false,
+        },
+    }
+}
+
+fn takes(task: Option<&Task>, class: Class) -> bool
+    ensures { result ≡ takes (option_map (λ t. t.now) task.entry) class }
+{
+    match task {
+        None => false,
+        Some(task) => { head_takes(&task.head, class) && !is_commit(task.body.as_slice().last()) }
+    }
+}
+
+/// The `turns` line hasn't come yet.
+pub fn is_open(script: &Script) -> bool
+    ensures { result ≡ is_open script.now }
+{
+    script.turns.is_none()
+}
+
+/// The script with one more line in its last task.
+#[tactic(auto, using(crate::proofs::LastTask::onto_last_append))]
+fn with_line(script: Script, number: u32, call: Call) -> Result<Script, AllocError>
+    ensures value { IfOk result (λ s. s ≡ with_line script number call) }
+    ensures few { IfOk result (λ s. length s.tasks ≡ length script.tasks) }
+{
+    let Script { tasks, turns } = script;
+    let mut tasks = tasks.into_vec();
+    if let Some(task) = tasks.pop() {
+        let Task {
+            name,
+            line,
+            head,
+            body,
+        } = task;
+        let mut body = body.into_vec();
+        body.push(Line { number, call })?;
+        tasks.push(Task {
+            name,
+            line,
+            head,
+            body: Lines::from_vec(body),
+        })?;
+    }
+    Ok(Script {
+        tasks: Tasks::from_vec(tasks),
+        turns,
+    })
+}
+
+/// The script with this body line, where its last task takes it.
+#[tactic(auto, unfolding(crate::specs::Places::body_line))]
+pub fn body_line(
+    alloc: Global,
+    script: Script,
+    number: u32,
+    first: &str,
+    rest: Option<&str>,
+) -> Result<Result<Script, ScriptKind>, AllocError>
+    ensures value { IfOk result (λ r. r ≡ body_line script number first.now (seen rest.entry)) }
+    ensures few { IfOk result (λ r. IfOk r (λ s. length s.tasks ≡ length script.tasks)) }
+{
+    let form = form_in(alloc, first, rest)?;
+    let placed = is_open(&script) && takes(script.tasks.as_slice().last(), form.class);
+    match both(only_if(placed, ScriptKind::Unbuilt), form.call) {
+        Ok(((), call)) => {
+            let script = with_line(script, number, call)?;
+            Ok(Ok(script))
+        }
+        Err(kind) => Ok(Err(kind)),
+    }
+}

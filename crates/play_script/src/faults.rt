@@ -1,0 +1,96 @@
+//! Why a text is no script.
+
+ghost use Rattle.std.specs.Prelude.{◌≡◌};
+ghost use Rattle.play_script.specs.Parts.{rank, earlier, ◌&◌, only_if};
+
+use std::alloc::AllocError;
+use std::fmt;
+
+/// What is wrong with a script, in the order in which it is told.
+#[derive(Clone, Copy, Debug, PartialEq, Eq)]
+pub enum ScriptKind {
+    /// The script has more bytes than a script may have.
+    Long,
+    /// The line isn't of a form that is built so far, at its place.
+    Unbuilt,
+}
+
+impl fmt::Display for ScriptKind {
+    ghost use Rattle.std.specs.Prelude.{Some};
+    ghost use Rattle.play_script.specs.Parts.{kind_text};
+
+    ghost output = { λ kind. Some (kind_text kind) };
+
+    fn fmt<W: fmt::Write>(&self, f: &mut fmt::Formatter<W>) -> fmt::Result {
+        match *self {
+            ScriptKind::Long => f.write_str("long"),
+            ScriptKind::Unbuilt => f.write_str("unbuilt"),
+        }
+    }
+}
+
+/// Why a text is no script.
+#[derive(Clone, Copy, Debug, PartialEq, Eq)]
+pub enum ScriptFault {
+    /// The first line that is refused, counted from 1, and the first kind of its faults.
+    At {
+        /// The number of the line.
+        line: u32,
+        /// What is wrong with it.
+        kind: ScriptKind,
+    },
+    /// Memory ran out.
+    NoMemory,
+}
+
+impl From<AllocError> for ScriptFault {
+    ghost use Rattle.std.specs.Prelude.{◌≡◌};
+    ghost use Rattle.play_script.specs.declared.faults.ScriptFault.TheVariants.{NoMemory};
+
+    ghost from_gives = { λ _ fault. fault ≡ NoMemory };
+
+    fn from(_error: AllocError) -> ScriptFault {
+        ScriptFault::NoMemory
+    }
+}
+
+impl ScriptKind {
+    fn rank(self) -> u8
+        ensures { result ≡ rank self }
+    {
+        self as u8
+    }
+
+    /// The one of two kinds that is told.
+    fn earlier(self, other: ScriptKind) -> ScriptKind
+        ensures { result ≡ earlier self other }
+    {
+        if self.rank() <= other.rank() {
+            self
+        } else {
+            other
+        }
+    }
+}
+
+/// Two parts of a line, or the earlier of their faults.
+pub fn both<A: Drop, B: Drop>(
+    first: Result<A, ScriptKind>,
+    second: Result<B, ScriptKind>,
+) -> Result<(A, B), ScriptKind>
+    ensures { result ≡ (first & second) }
+{
+    match (first, second) {
+        (Ok(first), Ok(second)) => Ok((first, second)),
+        (Ok(_), Err(kind)) => Err(kind),
+        (Err(kind), Ok(_)) => Err(kind),
+        (Err(kind), Err(other)) => Err(kind.earlier(other)),
+    }
+}
+
+/// A part without a value: a condition that the line must meet.
+pub fn only_if(holds: bool, kind: ScriptKind) -> Result<(), ScriptKind>
+    ensures { result ≡ only_if holds kind }
+{
+    if holds { Ok(()) } else { Err(kind) }
+}

@@ -1,0 +1,133 @@
+//! Whole scripts, line by line.
+
+ghost use Rattle.std.specs.Prelude.{◌≡◌, ◌≤◌, ◌<◌, ◌+◌, IfOk, Err, MatchOption, length, false, true, count_by, ◌==◌, take};
+ghost use Rattle.std.specs.Str.{is_utf8};
+ghost use Rattle.play_script.specs.Words.{seen, lines_of};
+ghost use Rattle.play_script.specs.Places.{words_line, line_at};
+ghost use Rattle.play_script.specs.Reading.{feeds, lines_from, empty, script_of, IsReading};
+ghost use Rattle.play_script.specs.Well.{IsWell};
+
+use crate::bodies::body_line;
+use crate::faults::{ScriptFault, ScriptKind};
+use crate::heads::{MOST_TASKS, head_line};
+use crate::scripts::{Script, Tasks};
+use crate::turning::turns_line;
+use crate::words::{cut, cut_line};
+use std::alloc::{AllocError, Global};
+
+/// How many bytes a script may have.
+pub const MOST_BYTES: usize = 1_048_576;
+
+/// How many lines a script may have.
+pub const MOST_LINES: u32 = 1000;
+
+/// The script with a line whose first word and rest are these.
+#[tactic(auto, unfolding(crate::specs::Places::words_line))]
+fn words_line(
+    alloc: Global,
+    script: Script,
+    number: u32,
+    first: &str,
+    rest: Option<&str>,
+) -> Result<Result<Script, ScriptKind>, AllocError>
+    requires { length script.tasks ≤ MOST_TASKS }
+    ensures value { IfOk result (λ r. r ≡ words_line script number first.now (seen rest.entry)) }
+    ensures few { IfOk result (λ r. IfOk r (λ s. length s.tasks ≤ MOST_TASKS)) }
+{
+    if first == "task" {
+        return head_line(alloc, script, number, rest);
+    }
+    if first == "turns" {
+        return turns_line(alloc, script, rest);
+    }
+    body_line(alloc, script, number, first, rest)
+}
+
+/// The line as text.
+#[tactic(auto, using(crate::proofs::Utf8::not_text, crate::proofs::Utf8::is_text))]
+fn text_of(line: &[u8]) -> Option<&str>
+    ensures { MatchOption result (is_utf8 line.now ≡ false) (λ t. (is_utf8 line.now ≡ true) × (t.now ≡ line.now)) }
+{
+    match str::from_utf8(line) {
+        Ok(text) => Some(text),
+        Err(_) => None,
+    }
+}
+
+/// The script with one more line.
+#[tactic(auto, unfolding(crate::specs::Places::line_at))]
+fn line_at(
+    alloc: Global,
+    script: Script,
+    number: u32,
+    line: &[u8],
+) -> Result<Result<Script, ScriptKind>, AllocError>
+    requires { length script.tasks ≤ MOST_TASKS }
+    ensures value { IfOk result (λ r. r ≡ line_at script number line.now) }
+    ensures few { IfOk result (λ r. IfOk r (λ s. length s.tasks ≤ MOST_TASKS)) }
+{
+    if number > MOST_LINES {
+        return Ok(Err(ScriptKind::Unbuilt));
+    }
+    let Some(text) = text_of(line) else {
+        return Ok(Err(ScriptKind::Unbuilt));
+    };
+    let (first, rest) = cut(text, ' ');
+    words_line(alloc, script, number, first, rest)
+}
+
+fn feeds(text: &[u8]) -> u32
+    requires { length text.now ≤ MOST_BYTES }
+    ensures count { result ≡ feeds text.now }
+    ensures within { result ≤ length text.now }
+{
+    text.iter().filter(|byte| **byte == b'\n').count() as u32
+}
+
+/// The line of the first byte too many.
+fn long_line(text: &[u8]) -> u32
+    requires { MOST_BYTES < length text.now }
+    ensures { result ≡ feeds (take MOST_BYTES text.now) + 1 }
+{
+    let (front, _) = text.split_at(MOST_BYTES);
+    feeds(front) + 1
+}
+
+fn lines_in(alloc: Global, text: &[u8]) -> Result<Script, ScriptFault>
+    requires { length text.now ≤ MOST_BYTES }
+    ensures { IsReading (lines_from empty 1 (lines_of text.now)) result }
+{
+    let mut script = Script {
+        tasks: Tasks::from_vec(Vec::new(alloc)),
+        turns: None,
+    };
+    let mut number = 1;
+    let mut left = text;
+    while !left.is_empty() {
+        let (line, after) = cut_line(left);
+        script = match line_at(alloc, script, number, line)? {
+            Ok(script) => script,
+            Err(kind) => return Err(ScriptFault::At { line: number, kind }),
+        };
+        left = after;
+        number += 1;
+    }
+    Ok(script)
+}
+
+impl Script {
+    /// Reads a text as a script.
+    #[tactic(auto, unfolding(crate::specs::Reading::script_of))]
+    pub fn read(alloc: Global, text: &[u8]) -> Result<Script, ScriptFault>
+        ensures reads { IsReading (script_of text.now) result }
+        ensures well { IfOk result IsWell }
+    {
+        if text.len() > MOST_BYTES {
+            return Err(ScriptFault::At {
+                line: long_line(text),
+                kind: ScriptKind::Long,
+            });
+        }
+        lines_in(alloc, text)
+    }
+}

@@ -1,0 +1,101 @@
+//! The line of turns.
+
+ghost use Rattle.std.specs.Prelude.{◌≡◌, ◌≤◌, IfOk, length};
+ghost use Rattle.play_script.specs.Words.{seen, pieces};
+ghost use Rattle.play_script.specs.Parts.{◌&◌, made, each};
+ghost use Rattle.play_script.specs.Places.{client_from, turn_of, turns_line};
+ghost use Rattle.play_script.specs.SoFar.{turns_seen, one_more};
+
+use crate::bodies::is_open;
+use crate::faults::{ScriptKind, both, only_if};
+use crate::heads::MOST_TASKS;
+use crate::scripts::{Script, Task, Turn, Turns};
+use crate::values::count_in;
+use crate::words::cut;
+use std::alloc::{AllocError, Global};
+
+/// The number of the task of this name, from 1.
+fn client_of(tasks: &[Task], name: &str) -> Result<u32, ScriptKind>
+    requires { length tasks.now ≤ MOST_TASKS }
+    ensures { result ≡ client_from 1 tasks.now name.now }
+{
+    let mut client = 1;
+    for task in tasks {
+        if task.name.as_str() == name {
+            return Ok(client);
+        }
+        client += 1;
+    }
+    Err(ScriptKind::Unbuilt)
+}
+
+/// The turn that a word stands for.
+#[tactic(auto, unfolding(crate::specs::Places::turn_of))]
+fn turn_in(tasks: &[Task], word: &str) -> Result<Turn, ScriptKind>
+    requires { length tasks.now ≤ MOST_TASKS }
+    ensures { result ≡ turn_of tasks.now word.now }
+{
+    let (name, count) = cut(word, '*');
+    match both(client_of(tasks, name), count_in(count)) {
+        Ok((client, count)) => Ok(Turn { client, count }),
+        Err(kind) => Err(kind),
+    }
+}
+
+/// The turns so far and one more, or the earlier of their faults.
+fn with_turn(
+    turns: Result<Vec<Turn>, ScriptKind>,
+    turn: Result<Turn, ScriptKind>,
+) -> Result<Result<Vec<Turn>, ScriptKind>, AllocError>
+    ensures { IfOk result (λ r. turns_seen r ≡ made one_more (turns_seen turns & turn)) }
+{
+    match both(turns, turn) {
+        Ok((mut turns, turn)) => {
+            turns.push(turn)?;
+            Ok(Ok(turns))
+        }
+        Err(kind) => Ok(Err(kind)),
+    }
+}
+
+/// All turns, or the earliest fault of their words.
+fn turns_in(
+    alloc: Global,
+    tasks: &[Task],
+    rest: Option<&str>,
+) -> Result<Result<Vec<Turn>, ScriptKind>, AllocError>
+    requires { length tasks.now ≤ MOST_TASKS }
+    ensures { IfOk result (λ r. turns_seen r ≡ each (turn_of tasks.now) (pieces 32 (seen rest.entry))) }
+{
+    let mut turns = Ok(Vec::new(alloc));
+    let mut left = rest;
+    while let Some(rest) = left {
+        let (word, after) = cut(rest, ' ');
+        turns = with_turn(turns, turn_in(tasks, word))?;
+        left = after;
+    }
+    Ok(turns)
+}
+
+/// The script with these turns.
+#[tactic(auto, unfolding(crate::specs::Places::turns_line))]
+pub fn turns_line(
+    alloc: Global,
+    script: Script,
+    rest: Option<&str>,
+) -> Result<Result<Script, ScriptKind>, AllocError>
+    requires { length script.tasks ≤ MOST_TASKS }
+    ensures value { IfOk result (λ r. r ≡ turns_line script (seen rest.entry)) }
+    ensures few { IfOk result (λ r. IfOk r (λ s. s.tasks ≡ script.tasks)) }
+{
+    let placed = only_if(is_open(&script), ScriptKind::Unbuilt);
+    let turns = turns_in(alloc, script.tasks.as_slice(), rest)?;
+    let Script { tasks, turns: _ } = script;
+    match both(placed, turns) {
+        Ok(((), turns)) => Ok(Ok(Script {
+            tasks,
+            turns: Some(Turns::from_vec(turns)),
+        })),
+        Err(kind) => Ok(Err(kind)),
+    }
+}

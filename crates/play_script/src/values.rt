@@ -1,0 +1,156 @@
+//! What a word stands for.
+
+ghost use Rattle.std.specs.Prelude.{◌≡◌, ◌<◌, ◌^◌, IfOk};
+ghost use Rattle.std.specs.List.{list_all};
+ghost use Rattle.std.specs.Char.{is_ascii_digit};
+ghost use Rattle.play_script.specs.Values.{is_digits, number_of, is_task_name, is_task_byte, task_name_of, path_of, branch_of, fixed, count_of};
+ghost use Rattle.play_script.specs.Words.{seen};
+
+use crate::faults::ScriptKind;
+use ice_base::RefName;
+use std::alloc::{AllocError, Global};
+use std::marker::Model;
+use zarr_path::{Path, PathFault};
+
+/// The name of a task: 1 to 16 bytes of `a` to `z`, `0` to `9` and `_`. Contracts see it as the bytes of its text.
+#[derive(Debug, Drop)]
+pub struct TaskName {
+    text: String,
+}
+
+impl Model for TaskName {
+    ghost use Rattle.std.specs.Prelude.{ℕ, List, IsTrue};
+    ghost use Rattle.std.specs.String.{string_bytes};
+
+    ghost Value = { List ℕ };
+
+    ghost use Rattle.play_script.specs.Values.{is_task_name};
+
+    ghost view = { λ name. string_bytes name.text };
+
+    ghost invariant = { λ name. IsTrue (is_task_name (string_bytes name.text)) };
+}
+
+impl TaskName {
+    ghost use Rattle.std.specs.Prelude.{IsTrue};
+    ghost use Rattle.play_script.specs.Values.{is_task_name};
+
+    /// The text of the name.
+    pub fn as_str(&self) -> &str
+        ensures value { result.now ≡ self.now }
+        ensures name { IsTrue (is_task_name self.now) }
+    {
+        self.text.as_str()
+    }
+}
+
+fn are_task_bytes(word: &str) -> bool
+    ensures { result ≡ list_all is_task_byte word.now }
+{
+    word.bytes().all(|b| b.is_ascii_lowercase() || b.is_ascii_digit() || b == b'_')
+}
+
+fn is_task_name(word: &str) -> bool
+    ensures { result ≡ is_task_name word.now }
+{
+    if word.is_empty() {
+        return false;
+    }
+    if word.len() > 16 {
+        return false;
+    }
+    are_task_bytes(word)
+}
+
+/// The name of a task that a word is.
+#[tactic(auto, unfolding(crate::specs::Values::task_name_of))]
+pub fn task_name_in(alloc: Global, word: &str) -> Result<Result<TaskName, ScriptKind>, AllocError>
+    ensures { IfOk result (λ r. r ≡ task_name_of word.now) }
+{
+    if !is_task_name(word) {
+        return Ok(Err(ScriptKind::Unbuilt));
+    }
+    let text = String::from_str(alloc, word)?;
+    Ok(Ok(TaskName { text }))
+}
+
+/// The path that a word is.
+#[tactic(auto, unfolding(crate::specs::Values::path_of))]
+pub fn path_in(alloc: Global, word: &str) -> Result<Result<Path, ScriptKind>, AllocError>
+    ensures { IfOk result (λ r. r ≡ path_of word.now) }
+{
+    match Path::read(alloc, word) {
+        Ok(path) => Ok(Ok(path)),
+        Err(PathFault::NoMemory) => Err(AllocError),
+        Err(_) => Ok(Err(ScriptKind::Unbuilt)),
+    }
+}
+
+/// The branch that a word names.
+#[tactic(auto, unfolding(crate::specs::Values::branch_of))]
+pub fn branch_in(alloc: Global, word: &str) -> Result<Result<RefName, ScriptKind>, AllocError>
+    ensures { IfOk result (λ r. r ≡ branch_of word.now) }
+{
+    if word != "main" {
+        return Ok(Err(ScriptKind::Unbuilt));
+    }
+    let branch = RefName::main(alloc)?;
+    Ok(Ok(branch))
+}
+
+/// A word that stands as it is.
+pub fn fixed(word: &str, text: &str) -> Result<(), ScriptKind>
+    ensures { result ≡ fixed word.now text.now }
+{
+    if word == text {
+        Ok(())
+    } else {
+        Err(ScriptKind::Unbuilt)
+    }
+}
+
+fn are_digits(word: &str) -> bool
+    ensures { result ≡ list_all is_ascii_digit word.now }
+{
+    word.bytes().all(|b| b.is_ascii_digit())
+}
+
+fn is_digits(word: &str) -> bool
+    ensures { result ≡ is_digits word.now }
+{
+    if word.is_empty() {
+        return false;
+    }
+    are_digits(word)
+}
+
+/// The number from `least` to `most` that a word's decimal digits stand for.
+#[tactic(auto, unfolding(crate::specs::Values::number_of), using(crate::proofs::Digits::parsed))]
+fn number_in(word: &str, least: u32, most: u32) -> Result<u32, ScriptKind>
+    ensures { result ≡ number_of least most word.now }
+{
+    if !is_digits(word) {
+        return Err(ScriptKind::Unbuilt);
+    }
+    match word.parse::<u32>() {
+        Ok(value) => {
+            if least <= value && value <= most {
+                Ok(value)
+            } else {
+                Err(ScriptKind::Unbuilt)
+            }
+        }
+        Err(_) => Err(ScriptKind::Unbuilt),
+    }
+}
+
+/// The count of a turn, which is 1 where none stands.
+#[tactic(auto, unfolding(crate::specs::Values::count_of))]
+pub fn count_in(text: Option<&str>) -> Result<u32, ScriptKind>
+    ensures { result ≡ count_of (seen text.entry) }
+{
+    match text {
+        None => Ok(1),
+        Some(word) => number_in(word, 1, 9999),
+    }
+}

@@ -1,0 +1,10 @@
+pub mod Maps
+pub mod RowLaws
+pub mod Searching
+pub mod Overlaying
+pub mod ParentLaws
+pub mod Refusing
+pub mod TouchedLaws
+pub mod Applied
+pub mod Normal
+pub mod Differing

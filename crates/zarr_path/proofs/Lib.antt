@@ -1,0 +1,13 @@
+pub mod FaultLaws
+pub mod FolderTests
+pub mod GrammarLaws
+pub mod IndexLaws
+pub mod JoinLaws
+pub mod KeyLaws
+pub mod KeyTests
+pub mod OrderLaws
+pub mod ParentNames
+pub mod PartLaws
+pub mod PathLaws
+pub mod ReadLaws
+pub mod SpellLaws
