@@ -1,17 +1,17 @@
 -- What an operation of a store in memory does is what the trait of a store asks.
-use Rattle.std.proofs.Common.{◌≡◌, ℕ, ◌+◌, ◌<◌, ◌≤◌, ◌^◌, max, Bool, true, false, List, [], ◌∷◌, ◌++◌, length, refl, sym, ◌∙◌, ap, subst, arith}
-use Rattle.std.specs.Prelude.{Result, Ok, Err, IsTrue, IfOk}
+use Rattle.std.proofs.Common.{◌≡◌, ℕ, ◌≤◌, List, [], ◌∷◌, ◌++◌, length, sym, ◌∙◌, ap, subst, arith}
+use Rattle.std.specs.Prelude.{Result, Ok, Err, IfOk}
 use Rattle.store_api.specs.declared.events.Op.{Op}
 use Rattle.store_api.specs.declared.events.Reply.{Reply}
 use Rattle.store_api.specs.declared.events.Reply.TheVariants.{Got, New, Over, Gone, GoneAt, Listed, Failed as Reply_failed}
 use Rattle.store_api.specs.declared.events.Event.{Event}
 use Rattle.store_api.specs.declared.events.StoreFault.{StoreFault}
 use Rattle.store_api.specs.declared.events.StoreFault.TheVariants.{Failed, NoMemory}
-use Rattle.store_api.specs.Machine.{found, last_time, IsHonest, UnlessFailed, IsAnswered}
-use Rattle.store_api.specs.Callers.{View, Makes, Called, own_event}
+use Rattle.store_api.specs.Machine.{found, last_time, IsHonest, UnlessFailed}
+use Rattle.store_api.specs.Callers.{Makes, Called, own_event}
 use Rattle.store_api.proofs.Programs.{Waits-same, Makes-alone}
 use Rattle.mem_store.specs.declared.mem.MemStore.{MemStore}
-use Rattle.mem_store.specs.Memory.{sole, journal_of, client_of, clock_of, view_of, IsTime, Adds, Answers, IsUnchanged, IsBegun, Exactly}
+use Rattle.mem_store.specs.Memory.{sole, journal_of, client_of, clock_of, view_of, Adds, Answers, IsUnchanged, IsBegun, Exactly}
 
 pub unless-holds : (P : Reply → Type 0) (reply : Reply) → P reply → UnlessFailed P reply
 unless-holds P (Reply_failed done) p = tt

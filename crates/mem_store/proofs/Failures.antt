@@ -1,7 +1,6 @@
 -- What an operation by plan does is what the trait of a store asks.
-use Rattle.std.proofs.Common.{◌≡◌, ℕ, ◌+◌, ◌<◌, ◌≤◌, inl, Bool, true, false, List, [], ◌∷◌, ◌++◌, length, drop, refl, sym, ◌∙◌, ap, subst, arith}
-use Rattle.std.specs.Prelude.{Option, Some, None, Result, Ok, Err, IsTrue, count_by}
-use Rattle.std.specs.List.{sum_by}
+use Rattle.std.proofs.Common.{◌≡◌, ℕ, ◌+◌, ◌≤◌, inl, Bool, List, [], ◌∷◌, ◌++◌, length, drop, ◌∙◌, ap, arith}
+use Rattle.std.specs.Prelude.{Option, Some, None, Result, Ok, Err, count_by}
 use Rattle.std.proofs.lemmas.List.{drop-append-le}
 use Rattle.std.proofs.lemmas.List.Sums.{sum_by-append}
 use Rattle.store_api.specs.declared.events.Op.{Op}
@@ -10,14 +9,13 @@ use Rattle.store_api.specs.declared.events.Reply.TheVariants.{Failed as Reply_fa
 use Rattle.store_api.specs.declared.events.Event.{Event}
 use Rattle.store_api.specs.declared.events.StoreFault.{StoreFault}
 use Rattle.store_api.specs.declared.events.StoreFault.TheVariants.{Failed, NoMemory}
-use Rattle.store_api.specs.Machine.{found, last_time, IsHonest}
-use Rattle.store_api.specs.Callers.{View, Called, own_event}
+use Rattle.store_api.specs.Machine.{found, IsHonest}
+use Rattle.store_api.specs.Callers.{Called, own_event}
 use Rattle.store_api.proofs.Programs.{Waits-same}
-use Rattle.mem_store.specs.declared.mem.MemStore.{MemStore}
 use Rattle.mem_store.specs.declared.faults.FaultStore.{FaultStore}
-use Rattle.mem_store.specs.Memory.{sole, journal_of, client_of, clock_of, Adds, Answers, IsUnchanged, Exactly}
+use Rattle.mem_store.specs.Memory.{sole, journal_of, client_of, Adds, IsUnchanged}
 use Rattle.mem_store.specs.Plans.{planned}
-use Rattle.mem_store.specs.Failing.{is_failed, plan_of, inner_of, since_making, faulty_view, Fails, ByPlan, GoesByPlan}
+use Rattle.mem_store.specs.Failing.{is_failed, plan_of, inner_of, since_making, faulty_view, ByPlan, GoesByPlan}
 use Rattle.mem_store.proofs.Calls.{Makes-adds, same_caller, unless-holds}
 
 count-added : (from : ℕ) (xs : List Event) (event : Event) → from ≤ length xs → count_by is_failed (drop from (xs ++ event ∷ [])) ≡ count_by is_failed (drop from xs) + count_by is_failed (event ∷ [])

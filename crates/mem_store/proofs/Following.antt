@@ -1,22 +1,19 @@
 -- What one more event of a journal does to the rows of a part.
-use Rattle.std.proofs.Common.{◌≡◌, ◌≢◌, ℕ, ◌+◌, ◌<◌, ◌≤◌, ◌⊎◌, inl, inr, Bool, true, false, List, length, take, get_or, set, refl, sym, ◌∙◌, ap, subst, arith}
+use Rattle.std.proofs.Common.{◌≡◌, ◌≢◌, ℕ, ◌+◌, ◌<◌, inl, inr, Bool, true, false, List, length, take, get_or, set, refl, sym, ◌∙◌, ap, subst}
 use Rattle.std.specs.Prelude.{Option, Some, None, ◌&&◌, insert, remove}
-use Rattle.std.specs.declared.cmp.Ordering.TheVariants.{Less, Equal, Greater}
 use Rattle.std.proofs.lemmas.Bool.{cases_lt}
-use Rattle.std.proofs.lemmas.Cmp.{tied_itself}
 use Rattle.store_api.specs.declared.keys.Key.{Key}
 use Rattle.store_api.specs.declared.keys.Part.{Part}
 use Rattle.store_api.specs.declared.events.Op.{Op}
 use Rattle.store_api.specs.declared.events.Op.TheVariants.{Get, PutNew, PutOver, Remove, RemoveAt, List as ListPart}
 use Rattle.store_api.specs.declared.events.Event.{Event}
-use Rattle.store_api.specs.Machine.{Stored, same_key, is_on, was_done, effect, found, part_of, listing_cmp}
+use Rattle.store_api.specs.Machine.{Stored, same_key, is_on, was_done, effect, found, part_of}
 use Rattle.store_api.proofs.Slots.{same_key-true}
-use Rattle.mem_store.specs.declared.answers.Held.{Held}
 use Rattle.mem_store.specs.declared.listing.Row.{Row}
-use Rattle.mem_store.specs.Held.{slot_with, stored_of, stored_at}
-use Rattle.mem_store.specs.Rows.{key_in, IsRight, IsAscending, IsPart, IsRowOf, IsGap}
+use Rattle.mem_store.specs.Held.{slot_with, stored_of}
+use Rattle.mem_store.specs.Rows.{key_in, IsRight, IsPart, IsRowOf, IsGap}
 use Rattle.mem_store.proofs.HeldLemmas.{found-more, effect-none}
-use Rattle.mem_store.proofs.Orders.{listing_total, tied-same, greater-flip, less-differ, key_default}
+use Rattle.mem_store.proofs.Orders.{tied-same, greater-flip, less-differ}
 use Rattle.mem_store.proofs.Parts.{OthersStay, part-same, part-set, part-remove, part-insert}
 
 on-none : (key : Key) (op : Op) → key_in op ≡ None → is_on key op ≡ false

@@ -1,7 +1,7 @@
 -- The rows of a part after one more event.
-use Rattle.std.proofs.Common.{◌≡◌, ◌≢◌, ℕ, ◌+◌, ◌-◌, ◌<◌, ◌≤◌, ◌⊎◌, inl, inr, Bool, true, false, List, [], ◌∷◌, ◌++◌, length, take, drop, get_or, set, refl, sym, ◌∙◌, ap, subst, arith, length-set, get_or-set_same, get_or-set_other}
-use Rattle.std.specs.Prelude.{Option, Some, None, All, Any, AllPairs, insert, remove}
-use Rattle.std.specs.declared.cmp.Ordering.TheVariants.{Less, Equal, Greater}
+use Rattle.std.proofs.Common.{◌≡◌, ◌≢◌, ℕ, ◌+◌, ◌-◌, ◌<◌, ◌⊎◌, inl, inr, Bool, true, false, List, length, get_or, set, refl, sym, ◌∙◌, ap, subst, arith, length-set, get_or-set_same, get_or-set_other}
+use Rattle.std.specs.Prelude.{Option, Some, None, All, Any, insert, remove}
+use Rattle.std.specs.declared.cmp.Ordering.TheVariants.{Less}
 use Rattle.std.proofs.lemmas.Bool.{cases_lt, cases_eq}
 use Rattle.std.proofs.lemmas.List.{get_or_default}
 use Rattle.std.proofs.lemmas.List.Edits.{length-insert, get_or-insert_below, get_or-insert_at, get_or-insert_above, length-remove, get_or-remove_below, get_or-remove_above}
@@ -11,9 +11,8 @@ use Rattle.store_api.specs.declared.keys.Part.{Part}
 use Rattle.store_api.specs.Machine.{Stored, same_key, part_of, listing_cmp}
 use Rattle.store_api.proofs.Slots.{same_key-true, same_key-refl}
 use Rattle.mem_store.specs.declared.listing.Row.{Row}
-use Rattle.mem_store.specs.Held.{stored_of}
-use Rattle.mem_store.specs.Rows.{IsRight, IsAscending, IsPart, IsRowOf, IsGap}
-use Rattle.mem_store.proofs.Orders.{apart, less-differ, greater-flip, less-flip}
+use Rattle.mem_store.specs.Rows.{IsRight, IsAscending, IsPart, IsGap}
+use Rattle.mem_store.proofs.Orders.{apart, less-differ, greater-flip}
 
 -- what stands changed at this key alone
 abbrev pub OthersStay : Key → (Key → Option Stored) → (Key → Option Stored) → Type 0

@@ -1,6 +1,4 @@
-use Rattle.std.proofs.Common.{◌≡◌, List, Some, refl, sym, subst}
-use Rattle.std.specs.Prelude.{remove, insert}
-use Rattle.store_api.specs.Machine.{found, part_of}
+use Rattle.std.proofs.Common.{List, refl, sym, subst}
 use Rattle.mem_store.specs.declared.listing.Row.{Row}
 use Rattle.mem_store.specs.Rows.{IsPart, IsRowOf, IsGap}
 use Rattle.mem_store.proofs.Following.{IsAt, after, follow-none, follow-other, follow-gone, follow-set, follow-insert, follow-absent}

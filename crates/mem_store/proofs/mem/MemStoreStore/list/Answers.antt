@@ -1,5 +1,4 @@
-use Rattle.std.proofs.Common.{◌≡◌, ◌∙◌, List, [], ◌∷◌, ◌++◌, Ok, refl, ap, sym, subst, rules}
-use Rattle.store_api.specs.declared.events.Op.{Op}
+use Rattle.std.proofs.Common.{◌≡◌, List, [], ◌∷◌, ◌++◌, Ok, refl, subst, rules}
 use Rattle.store_api.specs.declared.events.Op.TheVariants.{List as Asked}
 use Rattle.store_api.specs.declared.events.Listed.{Listed as Answer}
 use Rattle.store_api.specs.declared.events.Reply.TheVariants.{Listed as Told}

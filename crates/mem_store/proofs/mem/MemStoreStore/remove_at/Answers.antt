@@ -1,4 +1,4 @@
-use Rattle.std.proofs.Common.{◌≡◌, ◌∙◌, List, length, Ok, ap, rules}
+use Rattle.std.proofs.Common.{◌≡◌, ◌∙◌, List, Ok, ap, rules}
 use Rattle.store_api.specs.declared.events.Op.{Op}
 use Rattle.store_api.specs.declared.events.Op.TheVariants.{RemoveAt as Asked}
 use Rattle.store_api.specs.declared.events.GoneAt.{GoneAt as Answer}
