@@ -1,0 +1,29 @@
+-- What stands at a key, as the code holds it (own).
+use Rattle.std.specs.Prelude.{ℕ, ◌==◌, Bool, false, Option, None, Some, option_map}
+use Rattle.store_api.specs.declared.events.Got.{Got}
+use Rattle.store_api.specs.declared.events.Got.TheVariants.{Found, Absent}
+use Rattle.store_api.specs.Machine.{Stored, Slot, version_at}
+use Rattle.mem_store.specs.declared.answers.Held.{Held}
+use Rattle.mem_store.specs.declared.answers.Content.{Content}
+
+abbrev pub stored_of : Held → Stored
+stored_of s = record { bytes = s.bytes.now; version = s.version; created = s.created }
+
+abbrev pub stored_at : Option Held → Option Stored
+stored_at at = option_map stored_of at
+
+-- this version stands
+abbrev pub stands : Option Stored → ℕ → Bool
+stands None old = false
+stands (Some s) old = s.version == old
+
+-- a key at which this stands
+abbrev pub slot_with : Option Stored → Slot
+slot_with at = record { first = None; last = None; stands = at }
+
+abbrev pub copy_of : Stored → Content
+copy_of s = record { bytes = s.bytes; version = version_at s.version }
+
+abbrev pub got_from : ℕ → Option Content → Got
+got_from now None = Absent now
+got_from now (Some c) = Found c.bytes c.version now

@@ -1,0 +1,5 @@
+pub mod Held
+pub mod Rows
+pub mod Memory
+pub mod Plans
+pub mod Failing

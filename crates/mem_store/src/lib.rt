@@ -1,0 +1,16 @@
+//! Stores in memory: one that answers as the store machine does, and one over it that fails the
+//! planned calls.
+#![tactic(auto)]
+
+mod answers;
+mod faults;
+mod listing;
+mod mem;
+mod plans;
+mod requests;
+
+pub use faults::FaultStore;
+pub use mem::MemStore;
+
+#[cfg(test)]
+mod tests;
