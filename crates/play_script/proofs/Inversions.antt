@@ -1,10 +1,12 @@
 -- What parts are where a line is read.
+use Rattle.std.specs.Prelude.{◌&&◌}
 use Rattle.std.proofs.Common.{◌≡◌, ℕ, ◌≤◌, Bool, true, false, cond, List, [], ◌∷◌, Option, None, Some, Result, Ok, Err, refl, sym, ap, subst, arith}
 use Rattle.std.specs.List.{All}
 use Rattle.std.specs.Str.Parse.{digits_value}
 use Rattle.std.proofs.lemmas.Bool.{and_parts, leb-true}
 use Rattle.std.proofs.lemmas.List.Elements.{All-nil, All-cons}
 use Rattle.ice_base.specs.Names.{main_name}
+use Rattle.std.specs.Str.{is_utf8}
 use Rattle.zarr_path.specs.Paths.{is_path}
 use Rattle.play_script.specs.declared.faults.ScriptKind.{ScriptKind}
 use Rattle.play_script.specs.declared.faults.ScriptKind.TheVariants as k
@@ -44,11 +46,15 @@ pub tested_ok : {A : Type 0} (b : Bool) (x t : A) → cond b (Ok x) (Err k.Unbui
 tested_ok true x t h = (refl, cc)
 tested_ok false x t h = absurd (cc)
 
-pub path_ok : (w path : Text) → path_of w ≡ Ok path → is_path path ≡ true
+pub path_ok : (w path : Text) → path_of w ≡ Ok path → (is_path path ≡ true) × (is_utf8 path ≡ true)
 unfolding path_of
 path_ok w path h =
-    let t = tested_ok (is_path w) w path h in
-    subst (λ (p : Text). is_path p ≡ true) t.1 t.0
+    let t = tested_ok (is_path w && is_utf8 w) w path h in
+    subst (λ (p : Text). (is_path p ≡ true) × (is_utf8 p ≡ true)) t.1 (both_true (is_path w) (is_utf8 w) t.0)
+  where
+    both_true : (a b : Bool) → (a && b) ≡ true → (a ≡ true) × (b ≡ true)
+    both_true true b e = (refl, e)
+    both_true false b e = absurd (cc)
 
 pub task_name_ok : (w name : Text) → task_name_of w ≡ Ok name → (is_task_name name ≡ true) × (w ≡ name)
 unfolding task_name_of

@@ -4,6 +4,7 @@ use Rattle.std.specs.List.{list_all}
 use Rattle.std.specs.Char.{is_ascii_digit, is_ascii_lowercase}
 use Rattle.std.specs.Str.Parse.{digits_value}
 use Rattle.ice_base.specs.Names.{main_name}
+use Rattle.std.specs.Str.{is_utf8}
 use Rattle.zarr_path.specs.Paths.{is_path}
 use Rattle.play_script.specs.declared.faults.ScriptKind.{ScriptKind}
 use Rattle.play_script.specs.declared.faults.ScriptKind.TheVariants as k
@@ -29,9 +30,9 @@ is_task_name w = not (length w == 0) && nat_le (length w) 16 && list_all is_task
 unfoldable pub task_name_of : Text → Result Text ScriptKind
 task_name_of w = if is_task_name w then Ok w else Err k.Unbuilt
 
--- the path of a node
+-- the path of a node: UTF-8, as any text is
 unfoldable pub path_of : Text → Result Text ScriptKind
-path_of w = if is_path w then Ok w else Err k.Unbuilt
+path_of w = if is_path w && is_utf8 w then Ok w else Err k.Unbuilt
 
 -- the one branch that is built so far
 unfoldable pub branch_of : Text → Result Text ScriptKind

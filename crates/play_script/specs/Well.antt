@@ -2,6 +2,7 @@
 use Rattle.std.specs.Prelude.{◌≡◌, ◌≢◌, ℕ, ◌≤◌, List, [], ◌∷◌, length, map, IfSome, IsTrue, All, AllPairs}
 use Rattle.ice_base.specs.Lists.{IsBytes}
 use Rattle.ice_base.specs.Names.{main_name}
+use Rattle.std.specs.Str.{is_utf8}
 use Rattle.zarr_path.specs.Paths.{is_path}
 use Rattle.play_script.specs.declared.scripts.Call.{Call}
 use Rattle.play_script.specs.declared.scripts.Call.TheVariants as call
@@ -17,8 +18,8 @@ use Rattle.play_script.specs.Places.{most_tasks, most_lines, is_commit_call}
 
 -- the values of a call are of their grammars
 abbrev pub IsWellCall : Call → Type 0
-IsWellCall (call.Group path) = IsTrue (is_path path)
-IsWellCall (call.List path) = IsTrue (is_path path)
+IsWellCall (call.Group path) = IsTrue (is_path path) × IsTrue (is_utf8 path)
+IsWellCall (call.List path) = IsTrue (is_path path) × IsTrue (is_utf8 path)
 IsWellCall (call.Commit message) = IsBytes message
 
 -- a number of a line

@@ -1,0 +1,5 @@
+pub mod Rows
+pub mod Telling
+pub mod Owing
+pub mod Steps
+pub mod Opened

@@ -1,0 +1,93 @@
+-- What a client that commits sessions owes of each of its operations.
+use Rattle.std.specs.Prelude.{◌≡◌, ℕ, List, Some}
+use Rattle.ice_ids.specs.declared.Id12.{Id12}
+use Rattle.tree_model.specs.Touched.{touched}
+use Rattle.plain_object.specs.Objects.{Snapshot as Snap, snapshot_of, ref_of}
+use Rattle.store_api.specs.declared.keys.Key.{Key}
+use Rattle.store_api.specs.declared.keys.Key.TheVariants.{Snapshot, Manifest, Txn, Chunk, Branch, Tag, TagGone}
+use Rattle.store_api.specs.declared.keys.Why.{Why}
+use Rattle.store_api.specs.declared.keys.Why.TheVariants.{Commit}
+use Rattle.store_api.specs.declared.events.Op.{Op}
+use Rattle.store_api.specs.declared.events.Op.TheVariants.{Get, PutNew, PutOver, Remove, RemoveAt, List as ListPart}
+use Rattle.store_api.specs.declared.events.Event.{Event}
+use Rattle.store_api.specs.Journal.{WasPut, tree_of, snap_made, log_made, IsOnce, IsPolite, IsGood}
+use Rattle.session.specs.Sessions.{SessionState, overlay}
+
+-- The client's sessions at their commits, with the id that each commit draws.
+abbrev pub Sessions : Type 1
+Sessions = SessionState → Id12 → Type 0
+
+-- The snapshot is a session's: the parent that it first named is the base, its log lists exactly what
+-- the session's changes touch, and its tree is the base's under them.
+pub record IsMade (s : SessionState) (id : Id12) (journal : List Event) : Type 0 where
+  pub base_put : WasPut journal (Snapshot s.base)
+  pub base_tree : tree_of journal s.base ≡ Some s.tree
+  pub snap : Snap
+  pub made : snap_made journal id ≡ Some snap
+  pub parent : snap.parent ≡ Some s.base
+  pub logged : log_made journal id ≡ Some (touched s.changes s.tree)
+  pub tree : tree_of journal id ≡ Some (overlay s)
+
+-- a branch is put over for a commit of one of the client's sessions, on its branch, with its snapshot
+pub record OwesOver (mine : Sessions) (journal : List Event) (branch bytes : List ℕ) (why : Why) : Type 0 where
+  pub session : SessionState
+  pub id : Id12
+  pub is_mine : mine session id
+  pub branch_is : branch ≡ session.branch
+  pub names : ref_of bytes ≡ Some id
+  pub why_is : why ≡ Commit
+  pub made : IsOnce journal → IsMade session id journal
+
+-- a snapshot is put that is one of the client's sessions'
+pub record OwesSnap (mine : Sessions) (journal : List Event) (id : Id12) (bytes : List ℕ) : Type 0 where
+  pub session : SessionState
+  pub is_mine : mine session id
+  pub snap : Snap
+  pub read : snapshot_of bytes ≡ Some snap
+  pub parent : snap.parent ≡ Some session.base
+  pub tree : snap.tree ≡ overlay session
+  pub base_put : WasPut journal (Snapshot session.base)
+  pub base_tree : IsOnce journal → tree_of journal session.base ≡ Some session.tree
+  pub logged : IsOnce journal → log_made journal id ≡ Some (touched session.changes session.tree)
+
+-- a log is put under an id that one of the client's sessions drew
+pub record OwesLog (mine : Sessions) (id : Id12) : Type 0 where
+  pub session : SessionState
+  pub is_mine : mine session id
+
+abbrev pub OwesNew : Sessions → List Event → List ℕ → Key → Type 0
+OwesNew mine journal bytes (Snapshot id) = OwesSnap mine journal id bytes
+OwesNew mine journal bytes (Txn id) = OwesLog mine id
+OwesNew mine journal bytes (Manifest id) = ⊥
+OwesNew mine journal bytes (Chunk id) = ⊥
+OwesNew mine journal bytes (Branch name) = ⊥
+OwesNew mine journal bytes (Tag name) = ⊥
+OwesNew mine journal bytes (TagGone name) = ⊥
+
+abbrev pub OwesPutOver : Sessions → List Event → List ℕ → Why → Key → Type 0
+OwesPutOver mine journal bytes why (Branch name) = OwesOver mine journal name bytes why
+OwesPutOver mine journal bytes why (Snapshot id) = ⊥
+OwesPutOver mine journal bytes why (Txn id) = ⊥
+OwesPutOver mine journal bytes why (Manifest id) = ⊥
+OwesPutOver mine journal bytes why (Chunk id) = ⊥
+OwesPutOver mine journal bytes why (Tag name) = ⊥
+OwesPutOver mine journal bytes why (TagGone name) = ⊥
+
+-- a client that opens sessions and commits them reads, puts objects and puts branches over
+abbrev pub Owes : Sessions → List Event → Op → Type 0
+Owes mine journal (Get key) = Unit {0}
+Owes mine journal (ListPart part) = Unit {0}
+Owes mine journal (PutNew key bytes why) = OwesNew mine journal bytes key
+Owes mine journal (PutOver key bytes old why) = OwesPutOver mine journal bytes why key
+Owes mine journal (Remove key why) = ⊥
+Owes mine journal (RemoveAt key old why) = ⊥
+
+-- each operation is polite, and owed
+pub record IsCareful (mine : Sessions) (journal : List Event) (client : ℕ) (op : Op) : Type 0 where
+  pub polite : IsPolite journal op
+  pub owes : Owes mine journal op
+
+-- the event is good, and owed
+pub record IsCarefulEvent (mine : Sessions) (journal : List Event) (event : Event) : Type 0 where
+  pub good : IsGood journal event
+  pub owes : Owes mine journal event.op

@@ -1,0 +1,5 @@
+pub mod Playing
+pub mod Solving
+pub mod Ending
+pub mod Working
+pub mod Workers

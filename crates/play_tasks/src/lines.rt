@@ -1,0 +1,118 @@
+//! The lines of a task's body, played on its session.
+
+ghost use Rattle.std.specs.Prelude.{◌≡◌, ◌++◌, [], true, map, IfOk};
+ghost use Rattle.play_tasks.specs.Playing.{node_shown, play_call, play_lines, after_list, after_start, refused};
+ghost use Rattle.play_tasks.specs.Working.{is_working, is_clean, working_left, Comes, Leaves};
+ghost use Rattle.session.specs.Editing.{listed};
+ghost use Rattle.commit_path.specs.Committing.{started};
+
+use crate::working::{Step, Working};
+use commit_path::Commit;
+use ice_base::Bytes;
+use play_report::{End, Outcome, Shown, Shows};
+use play_script::{Call, Line};
+use session::{Listing, Session};
+use std::alloc::{AllocError, Global};
+use store_api::Refusal;
+use zarr_path::Path;
+
+/// The task was refused at this line of the script.
+pub(crate) fn refuse(line: u32, shown: Vec<Shown>, why: Refusal) -> Working
+    ensures { result ≡ Working.Ended (record { shown = shown.items; end = End.Refused line why }) }
+{
+    Working::Ended {
+        outcome: Outcome {
+            shown: Shows::from_vec(shown),
+            end: End::Refused { line, why },
+        },
+    }
+}
+
+/// Shows the nodes of a listing that this line of the script asked for.
+fn show(line: u32, nodes: Vec<Listing>, shown: &mut Vec<Shown>) -> Result<(), AllocError>
+    ensures { IfOk result (λ done. shown.new.items ≡ shown.old.items ++ map (node_shown line) nodes.items) }
+{
+    for node in nodes {
+        let Listing { path, array } = node;
+        shown.push(Shown::Node { line, array, path })?;
+    }
+    Ok(())
+}
+
+fn play_list(line: u32, path: &Path, session: Session, mut shown: Vec<Shown>) -> Step
+    ensures comes { Comes (after_list line session shown.items (listed session path.now)) result }
+    ensures clean { is_clean result ≡ true }
+{
+    match session.list_beneath(path) {
+        Ok(nodes) => match show(line, nodes.into_vec(), &mut shown) {
+            Ok(()) => Step::On { session, shown },
+            Err(_) => Step::Stop(refuse(line, shown, Refusal::NoMemory)),
+        },
+        Err(why) => Step::Stop(refuse(line, shown, why)),
+    }
+}
+
+fn play_commit(
+    alloc: Global,
+    line: u32,
+    message: &Bytes,
+    session: Session,
+    shown: Vec<Shown>,
+) -> Step
+    ensures comes { Comes (after_start line message.now shown.items (started session)) result }
+    ensures clean { is_clean result ≡ true }
+{
+    let Ok(message) = message.copy(alloc) else {
+        return Step::Stop(refuse(line, shown, Refusal::NoMemory));
+    };
+    match Commit::start(alloc, session, message) {
+        Ok(commit) => Step::Stop(Working::Committing {
+            line,
+            shown: Shows::from_vec(shown),
+            commit,
+        }),
+        Err((_, why)) => Step::Stop(refuse(line, shown, why)),
+    }
+}
+
+fn play_line(alloc: Global, line: &Line, mut session: Session, shown: Vec<Shown>) -> Step
+    ensures comes { Comes (play_call line.now.number line.now.call session shown.items) result }
+    ensures clean { is_clean result ≡ true }
+{
+    let number = line.number;
+    match &line.call {
+        Call::Group { path } => match session.add_group(path) {
+            Ok(_) => Step::On { session, shown },
+            Err(why) => Step::Stop(refuse(number, shown, why)),
+        },
+        Call::List { path } => play_list(number, path, session, shown),
+        Call::Commit { message } => play_commit(alloc, number, message, session, shown),
+    }
+}
+
+/// Plays these lines on a session, up to the commit that ends them, or the first that is refused.
+pub(crate) fn play_lines(alloc: Global, lines: &[Line], session: Session) -> Working
+    ensures leaves { Leaves (play_lines lines.now session []) result }
+    ensures clean { is_clean (Step.Stop result) ≡ true }
+{
+    let mut session = session;
+    let mut shown = Vec::new(alloc);
+    for line in lines {
+        match play_line(alloc, line, session, shown) {
+            Step::On {
+                session: next,
+                shown: more,
+            } => {
+                session = next;
+                shown = more;
+            }
+            Step::Stop(working) => return working,
+        }
+    }
+    Working::Ended {
+        outcome: Outcome {
+            shown: Shows::from_vec(shown),
+            end: End::Done,
+        },
+    }
+}

@@ -1,0 +1,102 @@
+//! Workers.
+
+ghost use Rattle.std.specs.Prelude.{◌≡◌, true};
+ghost use Rattle.play_tasks.specs.Working.{is_working};
+
+use crate::steps::{after_committing, after_opening};
+use crate::working::Working;
+use ice_ids::AnyIds;
+use play_report::{End, Outcome, Shows};
+use play_script::{Head, Task};
+use session::Open;
+use std::alloc::{AllocError, Global};
+use std::mem;
+use store_api::Store;
+
+/// One task: it opens a session, plays the task's lines on it, and commits. Each step makes one
+/// operation of the store, and the local work that follows from its answer.
+#[derive(Drop)]
+pub struct Worker<'a> {
+    alloc: Global,
+    task: &'a Task,
+    state: Working,
+    ghost works: { is_working state ≡ true },
+}
+
+impl<'a> Worker<'a> {
+    ghost use Rattle.std.specs.Prelude.{◌≡◌, ◌<◌, false, IsTrue, IfOk, MatchOption};
+    ghost use Rattle.store_api.specs.Program.{Done, IsAsk, IsDone, Turns, NextIsPolite};
+    ghost use Rattle.play_tasks.specs.Playing.{task_program};
+    ghost use Rattle.play_tasks.specs.Ending.{is_starved, is_failed};
+    ghost use Rattle.play_tasks.specs.Workers.{worker_rest, worker_left};
+
+    /// A worker for a task whose session draws these ids.
+    pub fn new(alloc: Global, task: &'a Task, ids: AnyIds) -> Result<Worker<'a>, AllocError>
+        ensures { IfOk result (λ worker. worker_rest worker ≡ task_program ids task.now) }
+    {
+        let opener = match &task.head {
+            Head::Write { branch } => Open::write(alloc, branch.copy(alloc)?, ids),
+            Head::Read { branch } => Open::read(alloc, branch.copy(alloc)?, ids),
+        };
+        Ok(Worker {
+            alloc,
+            task,
+            state: Working::Opening { opener },
+        })
+    }
+
+    /// Whether the worker has ended.
+    pub fn has_ended(&self) -> bool
+        ensures ended { IsTrue result → IsDone (worker_rest self.now) }
+        ensures live { result ≡ false → IsAsk (worker_rest self.now) }
+    {
+        match &self.state {
+            Working::Ended { .. } => true,
+            _ => false,
+        }
+    }
+
+    /// What the task showed and how it ended, once it has.
+    pub fn outcome(&self) -> Option<&Outcome>
+        ensures { MatchOption result (IsAsk (worker_rest self.now)) (λ outcome. worker_rest self.now ≡ Done outcome.now) }
+    {
+        match &self.state {
+            Working::Ended { outcome } => Some(outcome),
+            _ => None,
+        }
+    }
+
+    /// One operation of the store.
+    pub fn step<S: Store>(&mut self, store: &mut S)
+        requires live { IsAsk (worker_rest self.old) }
+        requires polite { IsTrue (S.view store.old).caller.tells → NextIsPolite (worker_rest self.old) (S.view store.old).seen }
+        ensures turn { Turns is_starved is_failed (S.view store.old) (S.view store.new) (worker_rest self.old) (worker_rest self.new) }
+        ensures falls { worker_left self.new < worker_left self.old }
+    {
+        // The old state is taken out.
+        let state = mem::replace(
+            &mut self.state,
+            Working::Ended {
+                outcome: Outcome {
+                    shown: Shows::from_vec(Vec::new(self.alloc)),
+                    end: End::Done,
+                },
+            },
+        );
+        match state {
+            Working::Opening { mut opener } => {
+                let answer = opener.step(store);
+                self.state = after_opening(self.alloc, self.task, opener, answer);
+            }
+            Working::Committing {
+                line,
+                shown,
+                mut commit,
+            } => {
+                let answer = commit.step(store);
+                self.state = after_committing(line, shown, commit, answer);
+            }
+            Working::Ended { .. } => unreachable!(),
+        }
+    }
+}

@@ -1,0 +1,4 @@
+pub mod Sessions
+pub mod Editing
+pub mod Opening
+pub mod Viewed

@@ -1,0 +1,5 @@
+pub mod Slots
+pub mod Journals
+pub mod Standing
+pub mod Naming
+pub mod Programs

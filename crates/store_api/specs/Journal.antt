@@ -1,0 +1,201 @@
+-- Legal and polite journals.
+use Rattle.std.specs.Prelude.{◌≡◌, ◌≢◌, ◌⊎◌, ℕ, ◌+◌, true, List, [], ◌∷◌, ◌++◌, take, Option, Some, None, option_map, codes}
+use Rattle.std.specs.Option.{option_and_then}
+use Rattle.ice_ids.specs.declared.Id12.{Id12}
+use Rattle.ice_ids.specs.Text.{IsId12}
+use Rattle.tree_model.specs.Trees.{Tree}
+use Rattle.tree_model.specs.declared.lists.Touched.{Touched}
+use Rattle.tree_model.specs.Touched.{DiffersIn}
+use Rattle.plain_object.specs.Objects.{Snapshot as Snap, snapshot_of, log_of, ref_of, initial_id, initial_bytes}
+use Rattle.store_api.specs.declared.keys.Key.{Key}
+use Rattle.store_api.specs.declared.keys.Key.TheVariants.{Snapshot, Manifest, Txn, Chunk, Branch, Tag, TagGone}
+use Rattle.store_api.specs.declared.keys.Why.{Why}
+use Rattle.store_api.specs.declared.keys.Why.TheVariants.{Init, Commit, Create, Reset, Collect, Tag as For_tag}
+use Rattle.store_api.specs.declared.events.Op.{Op}
+use Rattle.store_api.specs.declared.events.Op.TheVariants.{Get, PutNew, PutOver, Remove, RemoveAt, List as ListPart}
+use Rattle.store_api.specs.declared.events.Event.{Event}
+use Rattle.store_api.specs.Machine.{Stored, found, first_put, last_put, was_done, IsAnswered}
+
+-- P holds of each event and the journal before it
+unfoldable pub Each : (List Event → Event → Type 0) → List Event → List Event → Type 0
+Each P old [] = Unit {0}
+Each P old (event ∷ events) = P old event × Each P (old ++ event ∷ []) events
+
+-- something was put at the key, removed since or not
+abbrev pub WasPut : List Event → Key → Type 0
+WasPut journal key = (bytes : List ℕ) × (first_put journal key ≡ Some bytes)
+
+-- the put at this position left these bytes at the key
+pub record StoodAt (journal : List Event) (key : Key) (version : ℕ) (bytes : List ℕ) : Type 0 where
+  pub created : ℕ
+  pub stood : found (take (version + 1) journal) key ≡ Some (record { bytes = bytes; version = version; created = created })
+
+-- ---- trees of snapshots
+-- the snapshot that bytes stand for, if there are any
+abbrev pub snap_in : Option (List ℕ) → Option Snap
+snap_in bytes = option_and_then snapshot_of bytes
+
+abbrev pub tree_in : Option (List ℕ) → Option Tree
+tree_in bytes = option_map (λ (s : Snap). s.tree) (snap_in bytes)
+
+-- The tree that a snapshot's last done put stands for, removed since or not. It has none where it
+-- wasn't put or isn't readable.
+abbrev pub tree_of : List Event → Id12 → Option Tree
+tree_of journal id = tree_in (last_put journal (Snapshot id))
+
+-- the snapshot and its log, as they were first put
+abbrev pub snap_made : List Event → Id12 → Option Snap
+snap_made journal id = snap_in (first_put journal (Snapshot id))
+
+abbrev pub log_made : List Event → Id12 → Option Touched
+log_made journal id = option_and_then log_of (first_put journal (Txn id))
+
+-- the branch that a repository begins with (Icechunk specification version 1, "Refs")
+abbrev pub main : List ℕ
+main = codes "main"
+
+-- ---- no object is put again
+-- The initial snapshot is put with its own bytes alone; another one isn't put where it was put before.
+pub record PutsSnap (journal : List Event) (id : Id12) (bytes : List ℕ) : Type 0 where
+  pub initial : id ≡ initial_id → bytes ≡ initial_bytes
+  pub other : id ≢ initial_id → found journal (Snapshot id) ≡ None → first_put journal (Snapshot id) ≡ None
+
+-- where nothing stands, nothing was put
+abbrev pub IsUnused : List Event → Key → Type 0
+IsUnused journal key = found journal key ≡ None → first_put journal key ≡ None
+
+abbrev pub PutsFirst : List Event → List ℕ → Key → Type 0
+PutsFirst journal bytes (Snapshot id) = PutsSnap journal id bytes
+PutsFirst journal bytes (Manifest id) = IsUnused journal (Manifest id)
+PutsFirst journal bytes (Txn id) = IsUnused journal (Txn id)
+PutsFirst journal bytes (Chunk id) = IsUnused journal (Chunk id)
+PutsFirst journal bytes (Branch name) = Unit {0}
+PutsFirst journal bytes (Tag name) = Unit {0}
+PutsFirst journal bytes (TagGone name) = Unit {0}
+
+abbrev pub PutsOver : List ℕ → Key → Type 0
+PutsOver bytes (Snapshot id) = id ≡ initial_id → bytes ≡ initial_bytes
+PutsOver bytes (Manifest id) = Unit {0}
+PutsOver bytes (Txn id) = Unit {0}
+PutsOver bytes (Chunk id) = Unit {0}
+PutsOver bytes (Branch name) = Unit {0}
+PutsOver bytes (Tag name) = Unit {0}
+PutsOver bytes (TagGone name) = Unit {0}
+
+abbrev pub IsFirstOp : List Event → Op → Type 0
+IsFirstOp journal (Get key) = Unit {0}
+IsFirstOp journal (PutNew key bytes why) = PutsFirst journal bytes key
+IsFirstOp journal (PutOver key bytes old why) = PutsOver bytes key
+IsFirstOp journal (Remove key why) = Unit {0}
+IsFirstOp journal (RemoveAt key old why) = Unit {0}
+IsFirstOp journal (ListPart part) = Unit {0}
+
+-- where the event puts a snapshot, log, manifest or chunk, none was put there before
+abbrev pub IsFirst : List Event → Event → Type 0
+IsFirst journal event = was_done event.reply ≡ true → IsFirstOp journal event.op
+
+-- No snapshot, log, manifest or chunk is put again but the initial snapshot, and that with its own
+-- bytes alone.
+abbrev pub IsOnce : List Event → Type 0
+IsOnce journal = Each IsFirst [] journal
+
+-- ---- politeness
+-- The snapshot is a commit over this version of the branch: it was first put with the snapshot that
+-- was named there as its parent, from whose tree its own differs only in what its log lists.
+pub record IsCommitOver (journal : List Event) (branch : List ℕ) (old : ℕ) (id : Id12) : Type 0 where
+  pub base : Id12
+  pub named_by : List ℕ
+  pub named : StoodAt journal (Branch branch) old named_by
+  pub names : ref_of named_by ≡ Some base
+  pub base_put : WasPut journal (Snapshot base)
+  pub snap : Snap
+  pub made : snap_made journal id ≡ Some snap
+  pub parent : snap.parent ≡ Some base
+  pub log : Touched
+  pub logged : log_made journal id ≡ Some log
+  pub differs : (t u : Tree) → tree_of journal base ≡ Some t → tree_of journal id ≡ Some u → DiffersIn log t u
+
+-- the bytes are a reference to a snapshot that was put
+pub record NamesPut (journal : List Event) (bytes : List ℕ) : Type 0 where
+  pub id : Id12
+  pub reference : ref_of bytes ≡ Some id
+  pub put : WasPut journal (Snapshot id)
+
+-- the parent that a snapshot names was put
+abbrev pub ParentPut : List Event → Option Snap → Type 0
+ParentPut journal None = Unit {0}
+ParentPut journal (Some s) = (id : Id12) → s.parent ≡ Some id → WasPut journal (Snapshot id)
+
+-- A snapshot is put after its log (the initial one needs none) and its parent; a branch with a
+-- reference to a snapshot that was put, as a new one or as `main` with the initial snapshot; a tag
+-- likewise; a tombstone after its tag. Manifests and chunks aren't put as yet.
+abbrev pub MayPutNew : List Event → List ℕ → Why → Key → Type 0
+MayPutNew journal bytes why (Snapshot id) = ((id ≡ initial_id) ⊎ WasPut journal (Txn id)) × ParentPut journal (snapshot_of bytes)
+MayPutNew journal bytes why (Txn id) = Unit {0}
+MayPutNew journal bytes why (Manifest id) = ⊥
+MayPutNew journal bytes why (Chunk id) = ⊥
+MayPutNew journal bytes why (Branch name) = NamesPut journal bytes × ((why ≡ Create) ⊎ ((why ≡ Init) × (name ≡ main) × (ref_of bytes ≡ Some initial_id)))
+MayPutNew journal bytes why (Tag name) = NamesPut journal bytes × (why ≡ For_tag)
+MayPutNew journal bytes why (TagGone name) = WasPut journal (Tag name)
+
+-- A snapshot but the initial one is put over with only its parent changed, to the initial snapshot.
+pub record IsCut (journal : List Event) (id : Id12) (old : ℕ) (bytes : List ℕ) : Type 0 where
+  pub before : List ℕ
+  pub stood : StoodAt journal (Snapshot id) old before
+  pub snap : Snap
+  pub was : snapshot_of before ≡ Some snap
+  pub is : snapshot_of bytes ≡ Some (record snap { parent = Some initial_id })
+  pub not_initial : id ≢ initial_id
+
+-- A branch is put over as a reset, or as a commit over the version that was read.
+pub record IsMoved (journal : List Event) (name : List ℕ) (old : ℕ) (bytes : List ℕ) (why : Why) : Type 0 where
+  pub names : NamesPut journal bytes
+  pub cause : (why ≡ Reset) ⊎ ((why ≡ Commit) × (IsOnce journal → IsCommitOver journal name old names.id))
+
+abbrev pub MayPutOver : List Event → List ℕ → ℕ → Why → Key → Type 0
+MayPutOver journal bytes old why (Snapshot id) = IsCut journal id old bytes
+MayPutOver journal bytes old why (Txn id) = ⊥
+MayPutOver journal bytes old why (Manifest id) = ⊥
+MayPutOver journal bytes old why (Chunk id) = ⊥
+MayPutOver journal bytes old why (Branch name) = IsMoved journal name old bytes why
+MayPutOver journal bytes old why (Tag name) = ⊥
+MayPutOver journal bytes old why (TagGone name) = ⊥
+
+-- A collection alone removes snapshots, logs, manifests and chunks; tags and tombstones stay, and a
+-- branch is removed at a version alone.
+abbrev pub MayRemove : Why → Key → Type 0
+MayRemove why (Snapshot id) = why ≡ Collect
+MayRemove why (Txn id) = why ≡ Collect
+MayRemove why (Manifest id) = why ≡ Collect
+MayRemove why (Chunk id) = why ≡ Collect
+MayRemove why (Branch name) = ⊥
+MayRemove why (Tag name) = ⊥
+MayRemove why (TagGone name) = ⊥
+
+-- ... and never `main`
+abbrev pub MayRemoveAt : Why → Key → Type 0
+MayRemoveAt why (Snapshot id) = why ≡ Collect
+MayRemoveAt why (Txn id) = why ≡ Collect
+MayRemoveAt why (Manifest id) = why ≡ Collect
+MayRemoveAt why (Chunk id) = why ≡ Collect
+MayRemoveAt why (Branch name) = name ≢ main
+MayRemoveAt why (Tag name) = ⊥
+MayRemoveAt why (TagGone name) = ⊥
+
+-- an operation after the journal is polite
+abbrev pub IsPolite : List Event → Op → Type 0
+IsPolite journal (Get key) = Unit {0}
+IsPolite journal (PutNew key bytes why) = MayPutNew journal bytes why key
+IsPolite journal (PutOver key bytes old why) = MayPutOver journal bytes old.0 why key
+IsPolite journal (Remove key why) = MayRemove why key
+IsPolite journal (RemoveAt key old why) = MayRemoveAt why key
+IsPolite journal (ListPart part) = Unit {0}
+
+-- answered as the machine does, and polite
+pub record IsGood (journal : List Event) (event : Event) : Type 0 where
+  pub legal : IsAnswered journal event
+  pub polite : IsPolite journal event.op
+
+-- a journal in which each event is legal and polite
+abbrev pub IsGoodJournal : List Event → Type 0
+IsGoodJournal journal = Each IsGood [] journal

@@ -1,0 +1,5 @@
+pub mod Machine
+pub mod Journal
+pub mod Callers
+pub mod Program
+pub mod Laws

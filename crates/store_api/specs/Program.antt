@@ -1,0 +1,152 @@
+-- Programs of store operations: what a machine has still to do.
+use Rattle.std.specs.Prelude.{◌≡◌, ◌⊎◌, ℕ, ◌+◌, ◌≤◌, ◌==◌, List, [], ◌∷◌, ◌++◌, filter, Bool, true, false, IsTrue, Result, Ok, Err}
+use Rattle.ice_base.specs.Ends.{Rose}
+use Rattle.store_api.specs.declared.events.Op.{Op}
+use Rattle.store_api.specs.declared.events.Reply.{Reply}
+use Rattle.store_api.specs.declared.events.Event.{Event}
+use Rattle.store_api.specs.declared.events.StoreFault.{StoreFault}
+use Rattle.store_api.specs.declared.events.StoreFault.TheVariants.{Failed as Store_failed, NoMemory as Store_no_memory}
+use Rattle.store_api.specs.declared.machines.Next.{Next}
+use Rattle.store_api.specs.declared.machines.Next.TheVariants.{Again, Ready}
+use Rattle.store_api.specs.declared.machines.Refusal.{Refusal}
+use Rattle.store_api.specs.declared.machines.Refusal.TheVariants.{NoMemory, StoreFault as Refused_fault}
+use Rattle.store_api.specs.Journal.{Each, IsGood, IsPolite}
+use Rattle.store_api.specs.Callers.{Caller, View, Makes, Waits}
+
+-- what is still to be done: an answer, or an operation and what follows each reply
+pub data Prog (A : Type 0) : Type 0 where
+  Done : A → Prog A
+  Ask : Op → (Reply → Prog A) → Prog A
+
+-- first p, and then what follows its answer
+abbrev pub bind : {A B : Type 0} → Prog A → (A → Prog B) → Prog B
+bind (Done a) f = f a
+bind (Ask op k) f = Ask op (λ reply. bind (k reply) f)
+
+abbrev pub is_ask : {A : Type 0} → Prog A → Bool
+is_ask (Done a) = false
+is_ask (Ask op k) = true
+
+abbrev pub IsAsk : {A : Type 0} → Prog A → Type 0
+IsAsk (Done a) = ⊥
+IsAsk (Ask op k) = Unit {0}
+
+abbrev pub IsDone : {A : Type 0} → Prog A → Type 0
+IsDone (Done a) = Unit {0}
+IsDone (Ask op k) = ⊥
+
+-- the operations of these events, with their replies, lead from one program to the other
+unfoldable pub Path : {A : Type 0} → Prog A → List Event → Prog A → Type 0
+Path p [] q = p ≡ q
+Path (Done a) (event ∷ events) q = ⊥
+Path (Ask op k) (event ∷ events) q = (event.op ≡ op) × Path (k event.reply) events q
+
+-- the client's events
+abbrev pub events_of : ℕ → List Event → List Event
+events_of client journal = filter (λ event. event.client == client) journal
+
+-- the operation that comes next is polite
+abbrev pub NextIsPolite : {A : Type 0} → Prog A → List Event → Type 0
+NextIsPolite (Done a) journal = Unit {0}
+NextIsPolite (Ask op k) journal = IsPolite journal op
+
+-- ---- two weakest preconditions
+-- P, a fact on a journal, a client and its operation, holds of each operation that the program comes
+-- to, whatever others do.
+unfoldable pub Keeps : {A : Type 0} → (List Event → ℕ → Op → Type 0) → Caller → Prog A → List Event → Type 0
+Keeps P by (Done a) journal = Unit {0}
+Keeps P by (Ask op k) journal = P journal by.number op × ((reply : Reply) (new : List Event) → Makes by op reply journal new → Keeps P by (k reply) new)
+
+-- Q, a fact on an answer and a journal, holds of whatever the program answers, whatever others do.
+unfoldable pub Leads : {A : Type 0} → (A → List Event → Type 0) → Caller → Prog A → List Event → Type 0
+Leads Q by (Done a) journal = Q a journal
+Leads Q by (Ask op k) journal = (reply : Reply) (new : List Event) → Makes by op reply journal new → Leads Q by (k reply) new
+
+-- ---- steps of machines
+abbrev pub is_no_memory : Refusal → Bool
+is_no_memory NoMemory = true
+is_no_memory _ = false
+
+abbrev pub is_fault : Refusal → Bool
+is_fault Refused_fault = true
+is_fault _ = false
+
+-- What a step answered and what it left to do, where the program had come to next. Want of memory is free.
+abbrev pub Lands : {T : Type 0} → Prog (Result T Refusal) → Prog (Result T Refusal) → Result (Next T) Refusal → Type 0
+Lands next rest (Ok Again) = (next ≡ rest) × IsAsk rest
+Lands next rest (Ok (Ready t)) = (next ≡ Done (Ok t)) × IsDone rest
+Lands next rest (Err refusal) = IsDone rest × (is_no_memory refusal ≡ false → next ≡ Done (Err refusal))
+
+-- a step with an operation: this caller's own event was made
+pub record Moves {T : Type 0} (old new : View) (p q : Prog (Result T Refusal)) (result : Result (Next T) Refusal) : Type 0 where
+  pub op : Op
+  pub next : Reply → Prog (Result T Refusal)
+  pub reply : Reply
+  pub asks : p ≡ Ask op next
+  pub made : IsTrue old.caller.tells → Makes old.caller op reply old.seen new.seen
+  pub lands : Lands (next reply) q result
+
+-- a step for which the store had no memory
+pub record Stops {T : Type 0} (old new : View) (q : Prog (Result T Refusal)) (result : Result (Next T) Refusal) : Type 0 where
+  pub result_is : result ≡ Err NoMemory
+  pub waits : IsTrue old.caller.tells → Waits old.caller old.seen new.seen
+  pub ended : IsDone q
+
+-- the faults of the store never fall, and where a step tells one, they rose
+abbrev pub Blames : {T : Type 0} → Result (Next T) Refusal → ℕ → ℕ → Type 0
+Blames (Ok t) m n = m ≤ n
+Blames (Err refusal) m n = (m ≤ n) × (is_fault refusal ≡ true → Rose m n)
+
+-- One step of a machine that had p to do and has q now.
+pub record Steps {T : Type 0} (old new : View) (p q : Prog (Result T Refusal)) (result : Result (Next T) Refusal) : Type 0 where
+  pub same : new.caller ≡ old.caller
+  pub blames : Blames result old.faults new.faults
+  pub went : Moves old new p q result ⊎ Stops old new q result
+
+-- what a machine answers where the store failed
+abbrev pub refusal_of : StoreFault → Refusal
+refusal_of Store_failed = Refused_fault
+refusal_of Store_no_memory = NoMemory
+
+-- ---- turns of workers
+-- what is left to do after a step of p, where q is left of p
+abbrev pub settled : {A B : Type 0} → (Result A Refusal → Prog B) → Prog (Result A Refusal) → Result (Next A) Refusal → Prog B
+settled f q (Ok Again) = bind q f
+settled f q (Ok (Ready a)) = f (Ok a)
+settled f q (Err refusal) = f (Err refusal)
+
+-- the program has ended for want of memory
+abbrev pub IsStarved : {A : Type 0} → (A → Bool) → Prog A → Type 0
+IsStarved starved (Done a) = starved a ≡ true
+IsStarved starved (Ask op k) = ⊥
+
+-- One turn of a worker whose outcomes are of type A: `starved` are those that want of memory brings.
+pub record Works {A : Type 0} (starved : A → Bool) (old new : View) (p q : Prog A) : Type 0 where
+  pub op : Op
+  pub next : Reply → Prog A
+  pub reply : Reply
+  pub asks : p ≡ Ask op next
+  pub made : IsTrue old.caller.tells → Makes old.caller op reply old.seen new.seen
+  pub goes : (next reply ≡ q) ⊎ IsStarved starved q
+
+-- a turn for which the store had no memory
+pub record Rests {A : Type 0} (starved : A → Bool) (old new : View) (q : Prog A) : Type 0 where
+  pub waits : IsTrue old.caller.tells → Waits old.caller old.seen new.seen
+  pub ended : IsStarved starved q
+
+-- an outcome that tells a fault of the store comes only where the faults rose
+abbrev pub BlamesEnd : {A : Type 0} → (A → Bool) → Prog A → ℕ → ℕ → Type 0
+BlamesEnd failed (Done a) m n = (m ≤ n) × (failed a ≡ true → Rose m n)
+BlamesEnd failed (Ask op k) m n = m ≤ n
+
+pub record Turns {A : Type 0} (starved failed : A → Bool) (old new : View) (p q : Prog A) : Type 0 where
+  pub same : new.caller ≡ old.caller
+  pub blames : BlamesEnd failed q old.faults new.faults
+  pub went : Works starved old new p q ⊎ Rests starved old new q
+
+-- From old to new there were good events, of which these are the client's own.
+pub record Grows (client : ℕ) (own : List Event) (old new : List Event) : Type 0 where
+  pub more : List Event
+  pub is : new ≡ old ++ more
+  pub good : Each IsGood old more
+  pub owned : events_of client more ≡ own

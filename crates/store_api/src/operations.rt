@@ -1,0 +1,59 @@
+//! The trait of a store.
+
+ghost use Rattle.std.specs.Prelude.{◌≡◌};
+ghost use Rattle.store_api.specs.Callers.{View, Called, MayCall, HasAll, as_client};
+
+use crate::{Gone, GoneAt, Got, Key, Listed, New, Op, Over, Part, Reply, StoreFault, Version, Why};
+
+/// A store of objects. Each operation is one event of its journal, after good events of other
+/// clients. An operation may find no memory; then it is no event and has changed nothing. It answers
+/// `Failed` only where the store's count of faults rose, and it was then done or not done. A caller
+/// that is told the journal makes an operation only where it is polite.
+pub trait Store {
+    /// Who calls, the journal that this caller knows, and how often the store has failed.
+    ghost view: { Self → View };
+
+    /// Reads an object.
+    fn get(&mut self, key: &Key) -> Result<Got, StoreFault>
+        ensures { Called (λ got. Reply.Got got) (Op.Get key.now) result (view self.old) (view self.new) };
+
+    /// Puts an object where its key is free.
+    fn put_new(&mut self, key: &Key, bytes: &[u8], why: Why) -> Result<New, StoreFault>
+        requires { MayCall (view self.old) (Op.PutNew key.now bytes.now why) }
+        ensures { Called (λ new. Reply.New new) (Op.PutNew key.now bytes.now why) result (view self.old) (view self.new) };
+
+    /// Puts an object over the version that stands there.
+    fn put_over(
+        &mut self,
+        key: &Key,
+        bytes: &[u8],
+        old: Version,
+        why: Why,
+    ) -> Result<Over, StoreFault>
+        requires { MayCall (view self.old) (Op.PutOver key.now bytes.now old why) }
+        ensures { Called (λ over. Reply.Over over) (Op.PutOver key.now bytes.now old why) result (view self.old) (view self.new) };
+
+    /// Removes an object.
+    fn remove(&mut self, key: &Key, why: Why) -> Result<Gone, StoreFault>
+        requires { MayCall (view self.old) (Op.Remove key.now why) }
+        ensures { Called (λ gone. Reply.Gone gone) (Op.Remove key.now why) result (view self.old) (view self.new) };
+
+    /// Removes the version that stands there.
+    fn remove_at(&mut self, key: &Key, old: Version, why: Why) -> Result<GoneAt, StoreFault>
+        requires { MayCall (view self.old) (Op.RemoveAt key.now old why) }
+        ensures { Called (λ gone. Reply.GoneAt gone) (Op.RemoveAt key.now old why) result (view self.old) (view self.new) };
+
+    /// Lists a part, in the order of ids or names, a tag before its tombstone.
+    fn list(&mut self, part: Part) -> Result<Listed, StoreFault>
+        ensures { Called (λ listed. Reply.Listed listed) (Op.List part) result (view self.old) (view self.new) };
+}
+
+/// A whole store: nobody else has part in its journal.
+pub trait Base: Store {
+    /// Makes the next operations those of this client.
+    fn set_client(&mut self, client: u32)
+        ensures { Self.view self.new ≡ as_client client (Self.view self.old) };
+
+    /// Its caller has every client number.
+    ghost alone: { (s : Self) → HasAll (Self.view s).caller };
+}
