@@ -57,7 +57,7 @@ Exactly gives reply op (Ok a) old new = Answers gives op (reply a) old new
 Exactly gives reply op (Err Failed) old new = ⊥
 Exactly gives reply op (Err NoMemory) old new = IsUnchanged old new
 
--- An operation is begun: its time is known, nothing has come yet, and there is room for its event.
+-- An operation is begun: its time is known, and no event has come yet.
 pub record IsBegun {C : Type 0} (gives : C → ℕ → C → Type 0) (old new : MemStore C) (time : ℕ) : Type 0 where
   pub timely : IsTime gives (clock_of old) (clock_of new) (last_time (journal_of old)) time
   pub fits : time < 2 ^ 64
