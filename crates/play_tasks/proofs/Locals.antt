@@ -68,7 +68,7 @@ by_refusal s p (Some E.NoMemory) why e = let x : R.NoMemory ≡ why = cc in sym 
 
 writes_or : Bool → Result (Id8 × SessionState) Refusal → Result (Id8 × SessionState) Refusal
 writes_or b r = elim b [
-    true ↦ r
+  | true ↦ r
   | false ↦ Err R.ReadOnly
 ]
 

@@ -35,13 +35,13 @@ module _ {T : Type 0} (old new : View) (p q : Prog (Result T Refusal)) (result :
     blames = by_blame result r old.faults new.faults s.blames b;
     went = elim s.went [
       | inl m ↦ inl (record {
-          op = m.op;
-          next = λ reply. bind (m.next reply) f;
-          reply = m.reply;
-          asks = ap (λ (x : Prog (Result T Refusal)). bind x f) m.asks;
-          made = m.made;
-          goes = weaker (bind (m.next m.reply) f) (settled f q result) r (lands-settled is_starved f st (m.next m.reply) q result m.lands) g;
-        })
+        op = m.op;
+        next = λ reply. bind (m.next reply) f;
+        reply = m.reply;
+        asks = ap (λ (x : Prog (Result T Refusal)). bind x f) m.asks;
+        made = m.made;
+        goes = weaker (bind (m.next m.reply) f) (settled f q result) r (lands-settled is_starved f st (m.next m.reply) q result m.lands) g;
+      })
       | inr n ↦ inr (record { waits = n.waits; ended = starved_still (settled f q result) r (subst (λ (x : Result (Next T) Refusal). IsStarved is_starved (settled f q x)) (sym n.result_is) st) g })
     ];
   }
