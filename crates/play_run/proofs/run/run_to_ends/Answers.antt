@@ -1,0 +1,14 @@
+use Rattle.std.proofs.Common.{[], refl, map, arith}
+use Rattle.play_tasks.specs.Workers.{worker_rest}
+use Rattle.play_run.proofs.Turning.{Went-none}
+use Rattle.play_run.proofs.Rounds.{Went-worker, Below-more}
+use Rattle.play_run.proofs.run.run_to_ends.Goals as goal
+
+pub loop-t-init : goal.loop-t-init
+loop-t-init g c = (([], refl, Went-none (g.S.Store.view c.args.store.now) (map worker_rest c.args.workers.now)), λ k less. absurd (omega (arith, less)))
+
+pub loop-t-preserved : goal.loop-t-preserved
+loop-t-preserved g c = (
+  Went-worker c.loop-t.t (g.S.Store.view c.args.store.now) (g.S.Store.view c.loop-t.store) (g.S.Store.view c.run_to_end.new.store) (map worker_rest c.args.workers.now) (map worker_rest c.loop-t.workers) (map worker_rest c.run_to_end.new.workers) c.loop-t.invariant.0 c.run_to_end.ensures.went,
+  Below-more c.loop-t.t (map worker_rest c.loop-t.workers) (map worker_rest c.run_to_end.new.workers) c.run_to_end.ensures.went.1.others c.loop-t.invariant.1 c.run_to_end.ensures.ended,
+)

@@ -1,0 +1,7 @@
+//! Workers that take turns over one store on which nobody else acts.
+#![tactic(auto)]
+
+mod run;
+mod workers;
+
+pub use run::run_tasks;
