@@ -1,14 +1,14 @@
 -- The histories run beside the journal.
-use Rattle.std.proofs.Common.{◌≡◌, ◌⊎◌, inl, inr, ℕ, ◌+◌, Bool, true, false, cond, List, [], ◌∷◌, ◌++◌, length, refl, sym, ◌∙◌, ap, subst, arith, add-zero, append_assoc, append-nil, eqb-true}
+use Rattle.std.proofs.Common.{◌≡◌, inl, inr, ℕ, ◌+◌, Bool, true, false, cond, List, [], ◌∷◌, ◌++◌, length, refl, sym, ◌∙◌, ap, subst, arith, add-zero, append_assoc, append-nil, eqb-true}
 use Rattle.std.specs.Prelude.{Option, Some, None, option_map, ◌==◌}
 use Rattle.ice_ids.specs.declared.Id12.{Id12}
 use Rattle.tree_model.specs.Trees.{Tree}
 use Rattle.tree_model.specs.Changes.{Changes, apply}
-use Rattle.plain_object.specs.Objects.{Snapshot as Snap, ref_of}
+use Rattle.plain_object.specs.Objects.{ref_of}
 use Rattle.store_api.specs.declared.keys.Key.{Key}
 use Rattle.store_api.specs.declared.keys.Key.TheVariants.{Branch}
 use Rattle.store_api.specs.declared.keys.Why.{Why}
-use Rattle.store_api.specs.declared.keys.Why.TheVariants.{Commit as For_commit, Reset as For_reset}
+use Rattle.store_api.specs.declared.keys.Why.TheVariants.{Commit as For_commit}
 use Rattle.store_api.specs.declared.events.Version.{Version}
 use Rattle.store_api.specs.declared.events.Op.{Op}
 use Rattle.store_api.specs.declared.events.Op.TheVariants.{Get, PutNew, PutOver, Remove, RemoveAt, List as ListPart}
@@ -18,11 +18,11 @@ use Rattle.store_api.specs.declared.events.Reply.{Reply}
 use Rattle.store_api.specs.declared.events.Reply.TheVariants.{Got as Is_got, New as Is_new, Over as Is_over, Gone as Is_gone, GoneAt as Is_gone_at, Listed as Is_listed, Failed}
 use Rattle.store_api.specs.declared.events.Event.{Event}
 use Rattle.store_api.specs.Machine.{Stored, Slot, slot_of, effect, leaves, put_at, where_free, where_old, found, over_of, gone_at_of, new_of, got_of, version_at, IsHonest, UnlessFailed, is_on, was_done}
-use Rattle.store_api.specs.Journal.{Each, StoodAt, IsGood, IsOnce, IsFirst, IsCommitOver, IsMoved, NamesPut, IsPolite, MayPutNew, MayPutOver, MayRemove, tree_of}
+use Rattle.store_api.specs.Journal.{Each, StoodAt, IsGood, IsOnce, IsFirst, IsCommitOver, IsMoved, IsPolite, MayPutNew, MayPutOver, MayRemove, tree_of}
 use Rattle.store_api.proofs.Journals.{Each-append}
 use Rattle.store_api.proofs.Slots.{same_key-true, slot-append_one, slot-none, stood-is}
-use Rattle.histories.specs.Repository.{Entry, RefHistory, last, Call, Commit, Reset, Answer, Appended, Moved, answer_of, opened, created, at_version, after_answer, tree_at}
-use Rattle.histories.specs.Calls.{is_commit, call_of, called_if, entered, going, history_of, Spells, TellsCall, Agrees, AllHaveTheirTrees, LeadsThere, IsGiven, IsCommitted, CommitsApply, StandsAs, BranchesStand, HistoryLaw}
+use Rattle.histories.specs.Repository.{Entry, RefHistory, last, Commit, Reset, Appended, Moved, answer_of, opened, created, at_version, after_answer, tree_at}
+use Rattle.histories.specs.Calls.{is_commit, call_of, called_if, entered, going, history_of, Spells, TellsCall, Agrees, AllHaveTheirTrees, LeadsThere, IsGiven, IsCommitted, CommitsApply, StandsAs, HistoryLaw}
 
 module _ (trees : Id12 → Option Tree) (given : ℕ → Changes) where
   going-append : (branch : List ℕ) (n : ℕ) (h : RefHistory) (xs ys : List Event) → going trees given branch n h (xs ++ ys) ≡ going trees given branch (n + length xs) (going trees given branch n h xs) ys

@@ -3,14 +3,14 @@ use Rattle.std.proofs.Common.{◌≡◌, ◌⊎◌, inl, inr, ℕ, true, List, [
 use Rattle.std.specs.Prelude.{Option, Some, None}
 use Rattle.std.specs.Option.{option_or}
 use Rattle.ice_ids.specs.declared.Id12.{Id12}
-use Rattle.plain_object.specs.Objects.{Snapshot as Snap, snapshot_of, initial_id}
+use Rattle.plain_object.specs.Objects.{snapshot_of, initial_id}
 use Rattle.store_api.specs.declared.keys.Key.{Key}
 use Rattle.store_api.specs.declared.keys.Key.TheVariants.{Snapshot, Txn, Branch, Tag}
 use Rattle.store_api.specs.declared.keys.Why.{Why}
 use Rattle.store_api.specs.declared.events.Op.{Op}
 use Rattle.store_api.specs.declared.events.Op.TheVariants.{Get, PutNew, PutOver, Remove, RemoveAt, List as ListPart}
 use Rattle.store_api.specs.declared.events.Event.{Event}
-use Rattle.store_api.specs.Machine.{Stored, Slot, fresh_slot, effect, leaves, put_at, slot_of, found, first_put, is_on}
+use Rattle.store_api.specs.Machine.{Stored, Slot, fresh_slot, leaves, put_at, slot_of, found, first_put, is_on}
 use Rattle.store_api.specs.Journal.{Each, IsGood, IsPolite, MayPutNew, MayPutOver, WasPut, NamesPut, ParentPut, IsMoved, snap_in, snap_made}
 use Rattle.store_api.specs.Laws.{AllNamed, NamesLaw}
 use Rattle.store_api.proofs.Slots.{same_key-true, effect-cases, free-cases, old-cases, slot-append_one, slot-none, sound, WasPut-append}

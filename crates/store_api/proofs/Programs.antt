@@ -1,9 +1,8 @@
 -- Laws of programs.
-use Rattle.std.proofs.Common.{◌≡◌, ℕ, ◌+◌, ◌≤◌, ◌⊎◌, inl, inr, Bool, true, false, List, [], ◌∷◌, ◌++◌, refl, sym, ◌∙◌, ap, subst, append_assoc, append-nil, ne_eqb, eq-eqb, arith, ltb, leb}
-use Rattle.std.specs.Prelude.{◌==◌, ◌&&◌, nat_le, nat_lt, IsTrue, Result, Ok, Err, Option, Some, None}
+use Rattle.std.proofs.Common.{◌≡◌, ℕ, ◌⊎◌, inl, inr, Bool, true, false, List, [], ◌∷◌, ◌++◌, refl, sym, ◌∙◌, ap, subst, append_assoc, append-nil, ne_eqb, eq-eqb, arith}
+use Rattle.std.specs.Prelude.{◌==◌, nat_le, IsTrue, Result, Ok, Err}
 use Rattle.std.proofs.lemmas.List.Elements.{filter-append}
 use Rattle.std.proofs.lemmas.Bool.Decides.{nat_tests}
-use Rattle.ice_base.specs.Ends.{Rose}
 use Rattle.store_api.specs.declared.events.Op.{Op}
 use Rattle.store_api.specs.declared.events.Reply.{Reply}
 use Rattle.store_api.specs.declared.events.Reply.TheVariants.{Failed}
@@ -16,8 +15,8 @@ use Rattle.store_api.specs.declared.machines.Refusal.{Refusal}
 use Rattle.store_api.specs.declared.machines.Refusal.TheVariants.{StoreFault, NoMemory}
 use Rattle.store_api.specs.Machine.{IsAnswered}
 use Rattle.store_api.specs.Journal.{Each, IsPolite, IsGood}
-use Rattle.store_api.specs.Callers.{Caller, View, IsOther, Waits, Makes, Did, Counted, Called, own_event, owns, only, HasAll}
-use Rattle.store_api.specs.Program.{Prog, Done, IsDone, Path, events_of, Keeps, Leads, Ask, bind, settled, Works, Rests, Turns, IsStarved, Blames, BlamesEnd, Lands, Moves, Stops, Steps, Grows, refusal_of, is_no_memory, is_fault}
+use Rattle.store_api.specs.Callers.{Caller, View, IsOther, Waits, Makes, Did, Called, own_event, owns, HasAll}
+use Rattle.store_api.specs.Program.{Prog, Done, IsDone, Path, events_of, Keeps, Leads, Ask, bind, settled, Turns, IsStarved, Blames, BlamesEnd, Lands, Steps, Grows, refusal_of, is_no_memory, is_fault}
 use Rattle.store_api.proofs.Journals.{Each-append, Each-weaker, Each-one, Each-none}
 use Rattle.store_api.proofs.Standing.{IsPolite-append}
 

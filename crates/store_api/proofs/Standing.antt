@@ -11,8 +11,8 @@ use Rattle.store_api.specs.declared.keys.Key.TheVariants.{Snapshot, Manifest, Tx
 use Rattle.store_api.specs.declared.events.Op.{Op}
 use Rattle.store_api.specs.declared.events.Op.TheVariants.{Get, PutNew, PutOver, Remove, RemoveAt, List as ListPart}
 use Rattle.store_api.specs.declared.events.Event.{Event}
-use Rattle.store_api.specs.Machine.{Stored, Slot, through, leaves, put_at, slot_of, found, first_put, last_put, is_on}
-use Rattle.store_api.specs.Journal.{Each, WasPut, StoodAt, tree_of, tree_in, snap_in, snap_made, log_made, IsFirst, IsFirstOp, PutsFirst, PutsSnap, PutsOver, IsOnce, IsCommitOver, ParentPut, NamesPut, IsCut, IsMoved, MayPutOver, IsPolite, IsGood}
+use Rattle.store_api.specs.Machine.{Stored, Slot, leaves, put_at, slot_of, found, first_put, last_put, is_on}
+use Rattle.store_api.specs.Journal.{Each, WasPut, StoodAt, tree_of, tree_in, snap_in, snap_made, log_made, IsFirst, IsFirstOp, PutsFirst, PutsSnap, PutsOver, IsOnce, IsCommitOver, ParentPut, NamesPut, IsCut, MayPutOver, IsPolite, IsGood}
 use Rattle.store_api.specs.Laws.{TreesLaw, PoliteLaw}
 use Rattle.store_api.proofs.Slots.{same_key-true, bytes-same, id-true, effect-cases, free-cases, old-cases, slot-append_one, slot-none, sound, stood-is, first-append, WasPut-append, StoodAt-append}
 use Rattle.store_api.proofs.Journals.{Each-append, Each-back}

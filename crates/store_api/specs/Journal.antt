@@ -2,7 +2,6 @@
 use Rattle.std.specs.Prelude.{◌≡◌, ◌≢◌, ◌⊎◌, ℕ, ◌+◌, true, List, [], ◌∷◌, ◌++◌, take, Option, Some, None, option_map, codes}
 use Rattle.std.specs.Option.{option_and_then}
 use Rattle.ice_ids.specs.declared.Id12.{Id12}
-use Rattle.ice_ids.specs.Text.{IsId12}
 use Rattle.tree_model.specs.Trees.{Tree}
 use Rattle.tree_model.specs.declared.lists.Touched.{Touched}
 use Rattle.tree_model.specs.Touched.{DiffersIn}
@@ -14,7 +13,7 @@ use Rattle.store_api.specs.declared.keys.Why.TheVariants.{Init, Commit, Create, 
 use Rattle.store_api.specs.declared.events.Op.{Op}
 use Rattle.store_api.specs.declared.events.Op.TheVariants.{Get, PutNew, PutOver, Remove, RemoveAt, List as ListPart}
 use Rattle.store_api.specs.declared.events.Event.{Event}
-use Rattle.store_api.specs.Machine.{Stored, found, first_put, last_put, was_done, IsAnswered}
+use Rattle.store_api.specs.Machine.{found, first_put, last_put, was_done, IsAnswered}
 
 -- P holds of each event and the journal before it
 unfoldable pub Each : (List Event → Event → Type 0) → List Event → List Event → Type 0
