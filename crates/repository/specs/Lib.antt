@@ -1,0 +1,3 @@
+pub mod Running
+pub mod Beginning
+pub mod Refs

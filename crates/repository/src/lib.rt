@@ -1,0 +1,9 @@
+//! What is done with a repository as a whole: it is begun where there is none, and its refs are read.
+#![tactic(auto)]
+
+mod beginning;
+mod faults;
+mod refs;
+
+pub use beginning::begin;
+pub use refs::read_refs;
