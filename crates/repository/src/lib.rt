@@ -3,7 +3,12 @@
 
 mod beginning;
 mod faults;
+mod laws;
 mod refs;
 
 pub use beginning::begin;
+pub use laws::live_law;
 pub use refs::read_refs;
+
+#[cfg(test)]
+mod tests;
