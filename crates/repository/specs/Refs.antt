@@ -1,4 +1,4 @@
--- The program that reads all refs (Icechunk specification version 1, "References"; tombstones of tags
+-- The program that reads all refs (Icechunk specification version 1, "Reference Files"; tombstones of tags
 -- are objects of their own).
 use Rattle.std.specs.Prelude.{Bool, true, false, if◌then◌else◌, List, [], ◌∷◌, ◌++◌, Option, Some, None, Result, Ok, Err}
 use Rattle.ice_ids.specs.declared.Id12.{Id12}
