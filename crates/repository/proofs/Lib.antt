@@ -1,0 +1,4 @@
+pub mod Running
+pub mod Puts
+pub mod Listed
+pub mod Live

@@ -1,0 +1,125 @@
+-- What is put at the beginning is polite, whatever others do.
+use Rattle.std.proofs.Common.{◌≡◌, ◌<◌, ltb, true, inl, inr, ℕ, List, [], ◌∷◌, length, refl, sym, ◌∙◌, ap, subst}
+use Rattle.std.specs.Prelude.{Option, Some, None, Result, Ok, IsTrue}
+use Rattle.std.specs.Option.{option_or}
+use Rattle.std.specs.List.{All, list_all}
+use Rattle.std.proofs.lemmas.Bool.{and_parts, ltb-true}
+use Rattle.std.proofs.lemmas.List.Elements.{All-nil, All-cons}
+use Rattle.ice_ids.specs.Text.{IsId12}
+use Rattle.plain_object.specs.Objects.{Snapshot as Snap, initial_id, initial_bytes, initial_snapshot, snapshot_of, ref_of, ref_bytes}
+use Rattle.plain_object.specs.Laws.{InitialLaw, RefLaw}
+use Rattle.store_api.specs.declared.keys.Key.{Key}
+use Rattle.store_api.specs.declared.keys.Key.TheVariants.{Snapshot, Branch}
+use Rattle.store_api.specs.declared.keys.Why.{Why}
+use Rattle.store_api.specs.declared.keys.Why.TheVariants.{Init}
+use Rattle.store_api.specs.declared.events.Op.{Op}
+use Rattle.store_api.specs.declared.events.Op.TheVariants.{PutNew}
+use Rattle.store_api.specs.declared.events.New.{New}
+use Rattle.store_api.specs.declared.events.Reply.{Reply}
+use Rattle.store_api.specs.declared.events.Reply.TheVariants.{Got as Is_got, New as Is_new, Over as Is_over, Gone as Is_gone, GoneAt as Is_gone_at, Listed as Is_listed, Failed}
+use Rattle.store_api.specs.declared.events.StoreFault.{StoreFault as Fault}
+use Rattle.store_api.specs.declared.events.Event.{Event}
+use Rattle.store_api.specs.Machine.{Stored, Slot, slot_of, found, effect, put_at, where_free}
+use Rattle.store_api.specs.Journal.{WasPut, ParentPut, IsPolite, main}
+use Rattle.store_api.specs.Callers.{Caller, View, Makes, Called, own_event}
+use Rattle.store_api.specs.Program.{Keeps}
+use Rattle.store_api.proofs.Slots.{same_key-refl, slot-append_one, sound}
+use Rattle.repository.specs.Running.{Asks, ◌>>=◌}
+use Rattle.repository.specs.Beginning.{begin_program, put_main, after_put}
+
+-- ---- a put of a free key tells that something was put there
+put-slot : (by : Caller) (key : Key) (bytes : List ℕ) (why : Why) (answer : New) (n time : ℕ) (slot : Slot) → effect key n slot (own_event by (PutNew key bytes why) (Is_new answer) time) ≡ where_free slot.stands (put_at n time bytes slot) slot
+unfolding effect
+put-slot by key bytes why answer n time slot = rw (same_key-refl key) refl
+
+or-some : (o : Option (List ℕ)) (bytes : List ℕ) → (b : List ℕ) × (option_or o (Some bytes) ≡ Some b)
+or-some None bytes = (bytes, refl)
+or-some (Some b) bytes = (b, refl)
+
+free-put : (stands : Option Stored) (slot : Slot) → slot.stands ≡ stands → ((s : Stored) → slot.stands ≡ Some s → (b : List ℕ) × (slot.first ≡ Some b)) → (n time : ℕ) (bytes : List ℕ) → (b : List ℕ) × ((where_free stands (put_at n time bytes slot) slot).first ≡ Some b)
+free-put None slot e first n time bytes = or-some slot.first bytes
+free-put (Some s) slot e first n time bytes = first s e
+
+pub put-told : (by : Caller) (key : Key) (bytes : List ℕ) (why : Why) (answer : New) (old new : List Event) → Makes by (PutNew key bytes why) (Is_new answer) old new → WasPut new key
+put-told by key bytes why answer old new m =
+    let event : Event = own_event by (PutNew key bytes why) (Is_new answer) m.time in
+    let slot : slot_of new key ≡ where_free (found m.middle key) (put_at (length m.middle) m.time bytes (slot_of m.middle key)) (slot_of m.middle key) =
+    ap (λ (h : List Event). slot_of h key) m.is ∙ slot-append_one m.middle event key ∙ put-slot by key bytes why answer (length m.middle) m.time (slot_of m.middle key)
+    in
+    let put = free-put (found m.middle key) (slot_of m.middle key) refl ((sound m.middle key).first) (length m.middle) m.time bytes in
+    (put.0, ap (λ (s : Slot). s.first) slot ∙ put.1)
+
+-- the same of a call
+pub call-told : (key : Key) (bytes : List ℕ) (why : Why) (call : Result New Fault) (answer : New) (old new : View) → call ≡ Ok answer → Called (λ (x : New). Is_new x) (PutNew key bytes why) call old new → IsTrue new.caller.tells → WasPut new.seen key
+call-told key bytes why call answer old new e c t =
+    let c' : Called (λ (x : New). Is_new x) (PutNew key bytes why) (Ok answer) old new = subst (λ (x : Result New Fault). Called (λ (y : New). Is_new y) (PutNew key bytes why) x old new) e c in
+    put-told old.caller key bytes why answer old.seen new.seen (c'.did (subst (λ (b : Caller). IsTrue b.tells) c'.same t))
+
+-- ---- what is written is read again
+-- the laws of what is written here
+pub record Spelled : Type 0 where
+  pub initial : InitialLaw
+  pub reference : RefLaw
+
+-- a test that computes
+all-bytes : (bytes : List ℕ) → list_all (λ b. ltb b 256) bytes ≡ true → All (λ b. b < 256) bytes
+all-bytes [] e = All-nil (λ b. b < 256)
+all-bytes (b ∷ bytes) e =
+    let parts = and_parts (ltb b 256) (list_all (λ x. ltb x 256) bytes) e in
+    All-cons (λ x. x < 256) b bytes (ltb-true b 256 parts.0) (all-bytes bytes parts.1)
+
+initial_id-IsId12 : IsId12 initial_id
+initial_id-IsId12 = (refl, all-bytes initial_id.0 refl)
+
+no-parent : (journal : List Event) (o : Option Snap) → o ≡ Some initial_snapshot → ParentPut journal o
+unfolding initial_snapshot
+no-parent journal o e = subst (λ (x : Option Snap). ParentPut journal x) (sym e) (λ id k. cc)
+
+-- ---- politeness
+pub snapshot-polite : InitialLaw → (journal : List Event) (bytes : List ℕ) → bytes ≡ initial_bytes → IsPolite journal (PutNew (Snapshot initial_id) bytes Init)
+snapshot-polite law journal bytes e = (inl refl, no-parent journal (snapshot_of bytes) (ap snapshot_of e ∙ law))
+
+pub main-polite : RefLaw → (journal : List Event) (name bytes : List ℕ) → name ≡ main → bytes ≡ ref_bytes initial_id → WasPut journal (Snapshot initial_id) → IsPolite journal (PutNew (Branch name) bytes Init)
+main-polite law journal name bytes n e put =
+    let read : ref_of bytes ≡ Some initial_id = ap ref_of e ∙ law.written initial_id initial_id-IsId12 in
+    (record { id = initial_id; reference = read; put = put }, inr (refl, n, read))
+
+pub main-said : (name bytes : List ℕ) → name ≡ main → bytes ≡ ref_bytes initial_id → PutNew (Branch name) bytes Init ≡ PutNew (Branch main) (ref_bytes initial_id) Init
+main-said name bytes n e = ap (λ (x : List ℕ). PutNew (Branch x) bytes Init) n ∙ ap (λ (x : List ℕ). PutNew (Branch main) x Init) e
+
+done-keeps : (P : List Event → ℕ → Op → Type 0) (by : Caller) (reply : Reply) (journal : List Event) → Keeps P by (after_put reply) journal
+unfolding Keeps
+done-keeps P by (Is_new x) journal = tt
+done-keeps P by (Is_over x) journal = tt
+done-keeps P by (Is_got x) journal = tt
+done-keeps P by (Is_gone x) journal = tt
+done-keeps P by (Is_gone_at x) journal = tt
+done-keeps P by (Is_listed x) journal = tt
+done-keeps P by (Failed d) journal = tt
+
+abbrev snapshot_put : Op
+snapshot_put = PutNew (Snapshot initial_id) initial_bytes Init
+
+-- what is put after the initial snapshot
+abbrev then_main : Reply → Asks (Unit {0})
+then_main reply = after_put reply >>= λ _. put_main
+
+module _ (P : List Event → ℕ → Op → Type 0) (by : Caller) where
+  second-keeps : ((journal : List Event) → WasPut journal (Snapshot initial_id) → P journal by.number (PutNew (Branch main) (ref_bytes initial_id) Init)) → (reply : Reply) (old new : List Event) → Makes by snapshot_put reply old new → Keeps P by (then_main reply) new
+  unfolding Keeps
+  second-keeps p (Is_new x) old new m = (p new (put-told by (Snapshot initial_id) initial_bytes Init x old new m), λ reply next n. done-keeps P by reply next)
+  second-keeps p (Is_over x) old new m = tt
+  second-keeps p (Is_got x) old new m = tt
+  second-keeps p (Is_gone x) old new m = tt
+  second-keeps p (Is_gone_at x) old new m = tt
+  second-keeps p (Is_listed x) old new m = tt
+  second-keeps p (Failed d) old new m = tt
+
+  -- what holds of both puts, of the second where the snapshot was put, holds of each operation to come
+  pub begin-keeps : ((journal : List Event) → P journal by.number snapshot_put) → ((journal : List Event) → WasPut journal (Snapshot initial_id) → P journal by.number (PutNew (Branch main) (ref_bytes initial_id) Init)) → (journal : List Event) → Keeps P by begin_program journal
+  unfolding Keeps
+  begin-keeps s p journal = (s journal, λ reply new m. second-keeps p reply journal new m)
+
+-- Whatever others do, each put at the beginning is polite.
+pub begin-polite : Spelled → (by : Caller) (journal : List Event) → Keeps (λ journal client op. IsPolite journal op) by begin_program journal
+begin-polite laws by journal = begin-keeps (λ h client op. IsPolite h op) by (λ h. snapshot-polite laws.initial h initial_bytes refl) (λ h put. main-polite laws.reference h main (ref_bytes initial_id) refl refl put) journal

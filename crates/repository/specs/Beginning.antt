@@ -1,0 +1,37 @@
+-- The program that makes a repository (Icechunk specification version 1, "Initialize New Repository").
+use Rattle.std.specs.Prelude.{ℕ, List, Ok, Err}
+use Rattle.plain_object.specs.Objects.{initial_id, initial_bytes, ref_bytes}
+use Rattle.store_api.specs.declared.keys.Key.{Key}
+use Rattle.store_api.specs.declared.keys.Key.TheVariants.{Snapshot, Branch}
+use Rattle.store_api.specs.declared.keys.Why.TheVariants.{Init}
+use Rattle.store_api.specs.declared.events.Op.TheVariants.{PutNew}
+use Rattle.store_api.specs.declared.events.Reply.{Reply}
+use Rattle.store_api.specs.declared.events.Reply.TheVariants.{New as Is_new}
+use Rattle.store_api.specs.declared.machines.Refusal.{Refusal}
+use Rattle.store_api.specs.declared.machines.Refusal.TheVariants.{StoreFault, NoMemory}
+use Rattle.store_api.specs.Journal.{main}
+use Rattle.store_api.specs.Program.{Done, Ask}
+use Rattle.repository.specs.Running.{Asks, ◌>>=◌}
+
+abbrev pub after_put : Reply → Asks (Unit {0})
+after_put (Is_new answer) = Done (Ok tt)
+after_put _ = Done (Err StoreFault)
+
+-- puts an object where its key is free, and leaves what stands there
+abbrev pub put_where_free : Key → List ℕ → Asks (Unit {0})
+put_where_free key bytes = Ask (PutNew key bytes Init) after_put
+
+abbrev pub put_initial : Asks (Unit {0})
+put_initial = put_where_free (Snapshot initial_id) initial_bytes
+
+abbrev pub put_main : Asks (Unit {0})
+put_main = put_where_free (Branch main) (ref_bytes initial_id)
+
+-- the initial snapshot, and then `main` with a reference to it
+abbrev pub begin_program : Asks (Unit {0})
+begin_program = put_initial >>= λ _. put_main
+
+abbrev pub MayRefuseBegin : Refusal → Type 0
+MayRefuseBegin StoreFault = Unit {0}
+MayRefuseBegin NoMemory = Unit {0}
+MayRefuseBegin _ = ⊥

@@ -1,0 +1,4 @@
+pub mod Running
+pub mod Beginning
+pub mod Refs
+pub mod Laws

@@ -1,0 +1,87 @@
+-- The program that reads all refs (Icechunk specification version 1, "Reference Files"; tombstones of tags
+-- are objects of their own).
+use Rattle.std.specs.Prelude.{Bool, true, false, if◌then◌else◌, List, [], ◌∷◌, ◌++◌, Option, Some, None, Result, Ok, Err}
+use Rattle.ice_ids.specs.declared.Id12.{Id12}
+use Rattle.plain_object.specs.Objects.{ref_of}
+use Rattle.store_api.specs.declared.keys.Key.{Key}
+use Rattle.store_api.specs.declared.keys.Key.TheVariants.{Branch, Tag, TagGone}
+use Rattle.store_api.specs.declared.keys.Part.{Part}
+use Rattle.store_api.specs.declared.keys.Part.TheVariants.{Branches, Tags}
+use Rattle.store_api.specs.declared.events.Op.TheVariants.{Get, List as ListPart}
+use Rattle.store_api.specs.declared.events.Got.TheVariants.{Found, Absent}
+use Rattle.store_api.specs.declared.events.Entry.{Entry}
+use Rattle.store_api.specs.declared.events.Reply.{Reply}
+use Rattle.store_api.specs.declared.events.Reply.TheVariants.{Got as Is_got, Listed as Is_listed}
+use Rattle.store_api.specs.declared.machines.Bad.TheVariants.{Plain}
+use Rattle.store_api.specs.declared.machines.Refusal.{Refusal}
+use Rattle.store_api.specs.declared.machines.Refusal.TheVariants.{BadFile, StoreFault, NoMemory}
+use Rattle.store_api.specs.Machine.{same_key}
+use Rattle.store_api.specs.Program.{Done, Ask}
+use Rattle.play_report.specs.declared.outcome.RefLine.{RefLine}
+use Rattle.repository.specs.Running.{Asks, ◌>>=◌}
+
+-- ---- a listing
+abbrev pub on_listed : Reply → Asks (List Entry)
+on_listed (Is_listed listed) = Done (Ok listed.entries)
+on_listed _ = Done (Err StoreFault)
+
+abbrev pub list_part : Part → Asks (List Entry)
+list_part part = Ask (ListPart part) on_listed
+
+-- a tombstone, or the tag of the tombstone that is listed right behind it
+abbrev pub is_gone : Key → List Entry → Bool
+is_gone (TagGone name) behind = true
+is_gone (Tag name) (next ∷ behind) = same_key next.key (TagGone name)
+is_gone _ _ = false
+
+-- the keys of a listing whose refs stand
+abbrev pub live : List Entry → List Key
+live [] = []
+live (entry ∷ behind) = if is_gone entry.key behind then live behind else entry.key ∷ live behind
+
+-- ---- a ref
+-- the line of a branch or a tag
+abbrev pub line_of : Key → Id12 → Option RefLine
+line_of (Branch name) id = Some (record { tag = false; name = name; id = id })
+line_of (Tag name) id = Some (record { tag = true; name = name; id = id })
+line_of _ id = None
+
+-- bytes that are no reference are a bad file
+abbrev pub on_id : Key → Option Id12 → Result (Option RefLine) Refusal
+on_id key None = Err (BadFile key Plain)
+on_id key (Some id) = Ok (line_of key id)
+
+-- a ref that is gone by now is passed over
+abbrev pub on_got : Key → Reply → Asks (Option RefLine)
+on_got key (Is_got (Found bytes version now)) = Done (on_id key (ref_of bytes))
+on_got key (Is_got (Absent now)) = Done (Ok None)
+on_got key _ = Done (Err StoreFault)
+
+abbrev pub read_ref : Key → Asks (Option RefLine)
+read_ref key = Ask (Get key) (on_got key)
+
+-- ---- all refs
+abbrev pub with_line : List RefLine → Option RefLine → List RefLine
+with_line lines None = lines
+with_line lines (Some line) = lines ++ line ∷ []
+
+-- gets each, behind the lines so far
+abbrev pub read_each : List RefLine → List Key → Asks (List RefLine)
+read_each lines [] = Done (Ok lines)
+read_each lines (key ∷ keys) = do
+  line ← read_ref key
+  read_each (with_line lines line) keys
+
+-- the branches, and then the tags that have no tombstone
+abbrev pub refs_program : Asks (List RefLine)
+refs_program = do
+  branches ← list_part Branches
+  lines ← read_each [] (live branches)
+  tags ← list_part Tags
+  read_each lines (live tags)
+
+abbrev pub MayRefuseRefs : Refusal → Type 0
+MayRefuseRefs (BadFile key bad) = Unit {0}
+MayRefuseRefs StoreFault = Unit {0}
+MayRefuseRefs NoMemory = Unit {0}
+MayRefuseRefs _ = ⊥
