@@ -1,0 +1,77 @@
+use super::*;
+use play_script::ScriptKind;
+use std::alloc::Global;
+use std::test::Fail;
+
+fn said(alloc: Global, texts: &[&str]) -> Result<Result<Command, UsageFault>, Fail> {
+    let mut words = Vec::new(alloc);
+    for text in texts {
+        words.push(Word::new(String::from_str(alloc, text)?))?;
+    }
+    Ok(read_words(words.as_slice()))
+}
+
+#[test]
+fn words_of_the_command_line(rt: HostRuntime) -> Result<(), Fail> {
+    let alloc = rt.alloc();
+    assert_eq!(rt; said(alloc, &["play"])?, Ok(Command::Play));
+    assert_eq!(rt; said(alloc, &[])?, Err(UsageFault::NoCommand));
+    for word in ["", "Play", "playa", "pla", "grow", "--help", "mirror"] {
+        assert_eq!(rt;
+            said(alloc, &[word, "--dir"])?,
+            Err(UsageFault::Unknown),
+            "{word:?}"
+        );
+    }
+    assert_eq!(rt; said(alloc, &["play", ""])?, Err(UsageFault::Words));
+    assert_eq!(rt;
+        said(alloc, &["play", "--dir", "x"])?,
+        Err(UsageFault::Words)
+    );
+    Ok(())
+}
+
+#[test]
+fn arguments_of_a_program(rt: HostRuntime) -> Result<(), Fail> {
+    let alloc = rt.alloc();
+    let name = String::from_str(alloc, "icerepo")?;
+    let first = String::from_str(alloc, "play")?;
+    let words = words_of(alloc, vec![in alloc; name, first]?.into_iter())?;
+    assert_eq!(rt; words.len(), 1);
+    assert_eq!(rt; read_words(words.as_slice()), Ok(Command::Play));
+    let none = words_of(alloc, Vec::new(alloc).into_iter())?;
+    assert_eq!(rt; none.len(), 0);
+    Ok(())
+}
+
+#[test]
+fn numbers_and_lines(rt: HostRuntime) -> Result<(), Fail> {
+    let script = Status::Script {
+        line: 12,
+        kind: ScriptKind::Unbuilt,
+    };
+    let long = Status::Script {
+        line: 1,
+        kind: ScriptKind::Long,
+    };
+    let cases = [
+        (Status::Ok, 0, ""),
+        (Status::Refused, 1, ""),
+        (Status::Usage(UsageFault::NoCommand), 2, "icerepo: usage"),
+        (Status::Usage(UsageFault::Unknown), 2, "icerepo: usage"),
+        (Status::Usage(UsageFault::Words), 2, "icerepo: usage"),
+        (script, 3, "icerepo: script line 12: unbuilt"),
+        (long, 3, "icerepo: script line 1: long"),
+        (Status::ReadFault, 4, "icerepo: read fault"),
+        (Status::WriteFault, 5, "icerepo: write fault"),
+        (Status::StoreFault, 6, "icerepo: store fault"),
+        (Status::NoMemory, 7, "icerepo: no memory"),
+    ];
+    for (status, number, line) in cases {
+        assert_eq!(rt; status.number(), number, "{status:?}");
+        let text = status.to_string(rt.alloc())?;
+        assert_eq!(rt; text.as_str(), line);
+        assert_eq!(rt; status.is_told(), !line.is_empty(), "{status:?}");
+    }
+    Ok(())
+}
