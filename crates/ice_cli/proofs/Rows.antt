@@ -1,9 +1,7 @@
 -- The laws of statuses.
-use Rattle.std.proofs.Common.{◌≡◌, ℕ, Bool, true, false, refl}
-use Rattle.ice_cli.specs.declared.statuses.Causes.{Causes}
-use Rattle.ice_cli.specs.declared.statuses.Status.{Status}
+use Rattle.std.proofs.Common.{Bool, true, false, refl}
 use Rattle.ice_cli.specs.declared.statuses.Status.TheVariants as S
-use Rattle.ice_cli.specs.Statuses.{Rows, RowsLaw, NumbersLaw, status_of, number_of, plain_of}
+use Rattle.ice_cli.specs.Statuses.{Rows, RowsLaw, NumbersLaw}
 
 -- by the first cause that holds
 rows-of : (n s u r : Bool) → Rows (record { no_memory = n; store_fault = s; unwritten = u; refused = r })

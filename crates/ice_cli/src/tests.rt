@@ -1,4 +1,5 @@
-use super::*;
+use crate::statuses::Status;
+use crate::words::{Command, UsageFault, Word, read_words, words_of};
 use play_script::ScriptKind;
 use std::alloc::Global;
 use std::test::Fail;
