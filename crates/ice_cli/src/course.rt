@@ -47,7 +47,13 @@ pub fn play<'a, S: Base>(
     store.set_client(0);
     let opening = begin(alloc, store);
     let workers = match &opening {
-        Ok(()) => run_tasks(alloc, script.tasks.as_slice(), draw, turns_of(script), store)?,
+        Ok(()) => run_tasks(
+            alloc,
+            script.tasks.as_slice(),
+            draw,
+            turns_of(script),
+            store,
+        )?,
         Err(_) => Vec::new(alloc),
     };
     store.set_client(0);
@@ -69,7 +75,10 @@ pub fn names_of<'a>(alloc: Global, tasks: &'a [Task]) -> Result<Vec<&'a [u8]>, A
 }
 
 /// The outcomes of the workers that have ended.
-pub fn outcomes_of<'a>(alloc: Global, workers: &'a [Worker<'_>]) -> Result<Vec<&'a Outcome>, AllocError> {
+pub fn outcomes_of<'a>(
+    alloc: Global,
+    workers: &'a [Worker<'_>],
+) -> Result<Vec<&'a Outcome>, AllocError> {
     let mut outcomes = Vec::new(alloc);
     for worker in workers {
         if let Some(outcome) = worker.outcome() {
