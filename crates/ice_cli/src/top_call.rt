@@ -1,5 +1,12 @@
 //! The top call.
 
+ghost use Rattle.std.specs.Prelude.{◌≡◌, ℕ, List, Err};
+ghost use Rattle.ice_base.specs.Ends.{IsInput};
+ghost use Rattle.play_script.specs.declared.faults.ScriptKind.{ScriptKind};
+ghost use Rattle.play_script.specs.Reading.{script_of};
+ghost use Rattle.ice_cli.specs.declared.words.UsageFault.{UsageFault};
+ghost use Rattle.ice_cli.specs.Words.{command_of};
+
 use crate::course::{Played, causes_of, names_of, outcomes_of, play};
 use crate::ending::Ended;
 use crate::statuses::Status;
@@ -50,7 +57,10 @@ pub fn run<I: Source, S: Base, K: Sink>(
     input: &mut I,
     store: S,
     out: &mut K,
-) -> Ended<S> {
+) -> Ended<S>
+    // Where the words are no command, that is what the status tells, and nothing has been read, done or written.
+    ensures usage { (fault : UsageFault) → command_of words.now ≡ Err fault → (result.status ≡ Status.Usage fault) × (S.view result.store ≡ S.view store) × (I.at input.new ≡ I.at input.old) × (K.at out.new ≡ K.at out.old) }
+{
     let mut store = store;
     if let Err(fault) = read_words(words) {
         return Ended {
