@@ -1,0 +1,59 @@
+-- What the top call reads (own).
+use Rattle.std.specs.Prelude.{◌≡◌, ℕ, List, Result, Ok, Err}
+use Rattle.ice_base.specs.Ends.{InputAt, OutputAt, IsInput, Rose}
+use Rattle.play_script.specs.declared.faults.ScriptKind.{ScriptKind}
+use Rattle.play_script.specs.declared.scripts.Script.{Script}
+use Rattle.play_script.specs.Reading.{script_of}
+use Rattle.store_api.specs.Callers.{View}
+use Rattle.ice_cli.specs.declared.statuses.Status.{Status}
+use Rattle.ice_cli.specs.declared.statuses.Status.TheVariants as S
+
+-- the longest input that is read: one byte more than a script may have
+abbrev pub most_input : ℕ
+most_input = 1048577
+
+-- the input is the text of this script
+pub record HasScript (old new : InputAt) (script : Script) : Type 0 where
+  pub text : List ℕ
+  pub input : IsInput most_input old new text
+  pub reads : script_of text ≡ Ok script
+
+-- the first line of the input that is refused
+pub record HasFault (old new : InputAt) (line : ℕ) (kind : ScriptKind) : Type 0 where
+  pub text : List ℕ
+  pub input : IsInput most_input old new text
+  pub reads : script_of text ≡ Err (line, kind)
+
+-- why there is no script: the source failed, or a line is refused; want of memory is free
+abbrev pub HasNone : InputAt → InputAt → Status → Type 0
+HasNone old new S.ReadFault = Rose old.faults new.faults
+HasNone old new (S.Script line kind) = HasFault old new line kind
+HasNone old new S.NoMemory = Unit {0}
+HasNone old new _ = ⊥
+
+-- the statuses of what was played
+abbrev pub IsPlayed : Status → Type 0
+IsPlayed S.Ok = Unit {0}
+IsPlayed S.Refused = Unit {0}
+IsPlayed S.WriteFault = Unit {0}
+IsPlayed S.StoreFault = Unit {0}
+IsPlayed S.NoMemory = Unit {0}
+IsPlayed _ = ⊥
+
+-- the input is the text of a script
+pub record IsRead (old new : InputAt) : Type 0 where
+  pub script : Script
+  pub is : HasScript old new script
+
+-- nothing was done, and nothing written
+pub record IsUntouched (store_old store_new : View) (out_old out_new : OutputAt) : Type 0 where
+  pub store : store_new ≡ store_old
+  pub out : out_new ≡ out_old
+
+-- what each status says where the words are a command
+abbrev pub Ends : InputAt → InputAt → View → View → OutputAt → OutputAt → Status → Type 0
+Ends in_old in_new s t out_old out_new S.ReadFault = Rose in_old.faults in_new.faults × IsUntouched s t out_old out_new
+Ends in_old in_new s t out_old out_new (S.Script line kind) = HasFault in_old in_new line kind × IsUntouched s t out_old out_new
+Ends in_old in_new s t out_old out_new (S.Usage fault) = ⊥
+Ends in_old in_new s t out_old out_new S.NoMemory = Unit {0}
+Ends in_old in_new s t out_old out_new _ = IsRead in_old in_new
