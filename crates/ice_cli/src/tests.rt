@@ -1,5 +1,9 @@
 use crate::statuses::Status;
+use crate::top_call::run;
 use crate::words::{Command, UsageFault, Word, read_words, words_of};
+use ice_base::{ByteSink, ByteSource, TickClock};
+use ice_ids::Draw;
+use mem_store::{FaultStore, MemStore};
 use play_script::ScriptKind;
 use std::alloc::Global;
 use std::test::Fail;
@@ -74,5 +78,40 @@ fn numbers_and_lines(rt: HostRuntime) -> Result<(), Fail> {
         assert_eq!(rt; text.as_str(), line);
         assert_eq!(rt; status.is_told(), !line.is_empty(), "{status:?}");
     }
+    Ok(())
+}
+
+/// The status of the smallest commit over a store that fails these calls, and whether this was printed.
+fn smallest_commit(
+    alloc: Global,
+    plan: Vec<(u64, bool)>,
+    printed: &[u8],
+) -> Result<(Status, bool), Fail> {
+    let mut script = Vec::new(alloc);
+    script.extend_from_slice(b"task a write main 0 fail\ngroup /\ncommit first\n")?;
+    let mut words = Vec::new(alloc);
+    words.push(Word::new(String::from_str(alloc, "play")?))?;
+    let mut input = ByteSource::new(script, Vec::new(alloc));
+    let mut output = ByteSink::new(alloc, 200, Vec::new(alloc))?;
+    let store = FaultStore::new(MemStore::new(alloc, TickClock::new()), plan);
+    let ended = run(alloc, &words, Draw::Count, &mut input, store, &mut output);
+    Ok((ended.status, output.written() == printed))
+}
+
+#[test]
+fn smallest_commit_in_memory(rt: HostRuntime) -> Result<(), Fail> {
+    let printed = b"a committed 0000008000000000000G\nbranch main 0000008000000000000G\n";
+    let told = smallest_commit(rt.alloc(), Vec::new(rt.alloc()), printed)?;
+    assert_eq!(rt; told, (Status::Ok, true));
+    Ok(())
+}
+
+#[test]
+fn store_that_fails_the_opening_of_a_session(rt: HostRuntime) -> Result<(), Fail> {
+    let printed = b"a refused 1 storefault\nbranch main 1CECHNKREP0F1RSTCMT0\n";
+    let mut plan = Vec::new(rt.alloc());
+    plan.push((2, false))?;
+    let told = smallest_commit(rt.alloc(), plan, printed)?;
+    assert_eq!(rt; told, (Status::StoreFault, true));
     Ok(())
 }
