@@ -233,18 +233,3 @@ started-opened s t id journal a o = subst (λ (x : SessionState). IsOpened x jou
 
 pub started-spelled : (s t : SessionState) (id : Id12) → Started s t id → IsSpelled s → IsSpelled t
 started-spelled s t id a w = subst IsSpelled (sym a.is) (record { base = w.base; tree = w.tree; added = w.added; free = w.free })
-
--- ---- drawn ids are ids
-by_count12 : (b : Bool) (client counter : ℕ) (id : Id12) → ◌≡◌ {A = Option Id12} (if b then None else Some (counted12 client counter)) (Some id) → IsId12 id
-by_count12 true client counter id e = absurd (cc)
-by_count12 false client counter id e = let same : counted12 client counter ≡ id = cc in subst IsId12 same (counted12-IsId12 client counter)
-
-pub drawn12-is : (ids : AnyIds) (id : Id12) → drawn12 ids ≡ Some id → IsId12 id
-drawn12-is (Count c) id e = by_count12 (is_spent c) c.client c.counter id e
-
-by_count8 : (b : Bool) (client counter : ℕ) (id : Id8) → ◌≡◌ {A = Option Id8} (if b then None else Some (counted8 client counter)) (Some id) → IsId8 id
-by_count8 true client counter id e = absurd (cc)
-by_count8 false client counter id e = let same : counted8 client counter ≡ id = cc in subst IsId8 same (counted8-IsId8 client counter)
-
-pub drawn8-is : (ids : AnyIds) (id : Id8) → drawn8 ids ≡ Some id → IsId8 id
-drawn8-is (Count c) id e = by_count8 (is_spent c) c.client c.counter id e

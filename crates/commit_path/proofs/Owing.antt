@@ -10,7 +10,8 @@ use Rattle.tree_model.specs.Trees.{Tree}
 use Rattle.tree_model.specs.Changes.{IsFree, apply}
 use Rattle.tree_model.specs.Touched.{touched, DiffersIn}
 use Rattle.tree_model.proofs.Differing.{differs-law}
-use Rattle.plain_object.specs.Objects.{Snapshot as Snap, IsWritable, initial_id, initial_bytes, initial_snapshot, snapshot_of, snapshot_bytes, log_of, log_bytes, ref_of, ref_bytes}
+use Rattle.ice_ids.specs.Text.{initial_id}
+use Rattle.plain_object.specs.Objects.{Snapshot as Snap, IsWritable, initial_bytes, initial_snapshot, snapshot_of, snapshot_bytes, log_of, log_bytes, ref_of, ref_bytes}
 use Rattle.plain_object.specs.Laws.{SnapshotLaw, LogLaw, RefLaw, InitialLaw}
 use Rattle.store_api.specs.declared.keys.Key.{Key}
 use Rattle.store_api.specs.declared.keys.Key.TheVariants.{Snapshot, Manifest, Txn, Chunk, Branch, Tag, TagGone}

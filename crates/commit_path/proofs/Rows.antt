@@ -18,8 +18,8 @@ use Rattle.tree_model.specs.Trees.{Tree, node_at}
 use Rattle.tree_model.specs.Changes.{Changes, apply}
 use Rattle.tree_model.specs.Touched.{touched, in_order, ids_of}
 use Rattle.tree_model.proofs.Applied.{node_cases}
-use Rattle.tree_model.proofs.TouchedLaws.{id_total, id_exact, same, same-true, pairs, find-pairs}
 use Rattle.plain_object.specs.Objects.{IsWritableLog}
+use Rattle.plain_object.proofs.LogLaws.{touched-IsWritableLog}
 
 -- a path and a node that can be written
 pub record IsFine (p : List ℕ) (n : Node) : Type 0 where
@@ -60,43 +60,9 @@ no-rows (r ∷ rs) e = absurd (omega arith)
 pub fine-none : AllFine (entries (empty {X = Node} {R = path_cmp}))
 fine-none = no-rows (entries (empty {X = Node} {R = path_cmp})) (sym (len-entries (empty {X = Node} {R = path_cmp})) ∙ len-empty path_cmp Node)
 
--- ---- ids
-ids-fine : (rows : List (List ℕ × Node)) (x : Id8) → AllFine rows → list_any (same x) (ids_of rows) ≡ true → IsId8 x
-ids-fine [] x a e = cc
-ids-fine (r ∷ rs) x a e = elim (same x r.1.id) as (λ b. same x r.1.id ≡ b → (b || list_any (same x) (ids_of rs)) ≡ true → IsId8 x) [
-  | true ↦ λ s k. let is : x ≡ r.1.id = same-true x r.1.id s in subst (λ (i : Id8). IsId8 i) (sym is) a.0.id
-  | false ↦ λ s k. ids-fine rs x a.1 k
-] refl e
-
-marked : (b : Bool) → is_some (cond b (Some (tt {0})) None) ≡ b
-marked true = refl
-marked false = refl
-
-marks : (o : Option (Unit {0})) → o ≡ cond (is_some o) (Some tt) None
-marks None = refl
-marks (Some u) = refl
-
-in-order-any : (xs : List Id8) (x : Id8) → list_any (same x) (in_order xs) ≡ list_any (same x) xs
-in-order-any xs x =
-    sym (contains_key-keys (from_entries {R = id8_cmp} (pairs xs)) x)
-    ∙ ap is_some (get-from_entries id_total (pairs xs) x ∙ find-pairs xs x) ∙ marked (list_any (same x) xs)
-
--- ids in order are in order
-pub in-order-again : (xs : List Id8) → in_order (in_order xs) ≡ in_order xs
-in-order-again xs = ap (λ (m : FinMap id8_cmp (Unit {0})). keys m) (same_map id_total id_exact _ _ gets)
-  where
-    gets : (q : Id8) → get (from_entries {R = id8_cmp} (pairs (keys (from_entries {R = id8_cmp} (pairs xs))))) q ≡ get (from_entries {R = id8_cmp} (pairs xs)) q
-    gets q = get-from_entries id_total (pairs (in_order xs)) q ∙ find-pairs (in_order xs) q ∙ ap (λ b. cond b (Some (tt {0})) None) (sym (contains_key-keys (from_entries {R = id8_cmp} (pairs xs)) q)) ∙ sym (marks (get (from_entries {R = id8_cmp} (pairs xs)) q))
-
-contained-any : (zs : List Id8) (x : Id8) → Contains zs x → list_any (same x) zs ≡ true
-contained-any zs x has = list_any-from_Contains (eq_by_cmp_equiv id_total) x zs has
-
 -- what changes touch can be written as a log
 pub touched-writable : (c : Changes) (t : Tree) → AllFine (entries c.added) → IsWritableLog (touched c t)
-touched-writable c t a = record {
-  ids = All-weaker (Contains (in_order (ids_of (entries c.added)))) IsId8 (λ x has. ids-fine (entries c.added) x a (sym (in-order-any (ids_of (entries c.added)) x) ∙ contained-any (in_order (ids_of (entries c.added))) x has)) (in_order (ids_of (entries c.added))) (All-contains_itself (in_order (ids_of (entries c.added))));
-  ordered = in-order-again (ids_of (entries c.added));
-}
+touched-writable c t a = touched-IsWritableLog c t (λ p n e. (fine-get c.added p n a e).id)
 
 -- each node of a tree can be written
 abbrev pub TreeFine : Tree → Type 0

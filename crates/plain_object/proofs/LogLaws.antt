@@ -2,7 +2,7 @@
 use Rattle.std.proofs.Common.{◌≡◌, ℕ, Bool, true, false, cond, T, List, [], ◌∷◌, ◌++◌, map as list_map, None, Some, refl, sym, ap, subst, ◌∙◌, append_assoc}
 use Rattle.std.specs.Prelude.{option_and_then}
 use Rattle.std.specs.List.{All, list_all}
-use Rattle.std.specs.FinMap.{is_sorted, get, entries, entries_sorted, from_entries, get-entries, get-from_entries, keys, same_map}
+use Rattle.std.specs.FinMap.{is_sorted, get, entries, entries_sorted, get-entries, get-from_entries}
 use Rattle.std.proofs.lemmas.Bool.{and_from}
 use Rattle.std.proofs.lemmas.List.{append-nil, map-append}
 use Rattle.std.proofs.lemmas.List.Elements.{All-nil, All-cons, All-head, All-tail}
@@ -18,8 +18,8 @@ use Rattle.plain_object.specs.Lines.{Line, bytes_of_lines, lines_of}
 use Rattle.plain_object.specs.Objects.{group_line, group_of_line, ids_behind, IsWritableLog, log_bytes, log_of}
 use Rattle.plain_object.proofs.LineLaws.{is_line, lines_of-bytes, bytes-lines_of}
 use Rattle.plain_object.proofs.OrderLaws.{all_before, before_entry, AllRows, found_all, found_one}
-use Rattle.tree_model.proofs.TouchedLaws.{id_total, pairs, id_exact}
-use Rattle.plain_object.proofs.IdLaws.{Pair, keys-pairs, in_order-rises, in_order-push, in_order-nil, set_of, pairs-keys}
+use Rattle.tree_model.proofs.TouchedLaws.{id_total, pairs, id_exact, in_order-in_order}
+use Rattle.plain_object.proofs.IdLaws.{Pair, keys-pairs, in_order-rises, in_order-push, in_order-nil, set_of}
 use Rattle.plain_object.proofs.WordLaws.{group_of_line-line, line-group, group_is_line, both_some}
 
 groups_are_lines : (ids : List Id8) → list_all is_line (list_map group_line ids) ≡ true
@@ -114,13 +114,6 @@ in_order-All ids are =
     (found_all id_total id_exact (λ id _. IsId8 id) (entries (set_of ids)) (entries_sorted (set_of ids))
     (λ id mark found. found_one id_total id_exact (λ id _. IsId8 id) (pairs ids) id mark (all_rows ids are)
     (sym (get-from_entries id_total (pairs ids) id) ∙ get-entries (set_of ids) id ∙ found)))
-
--- and what is in order stays
-pub in_order-in_order : (ids : List Id8) → in_order (in_order ids) ≡ in_order ids
-in_order-in_order ids =
-    let es = entries (set_of ids) in
-    let made : from_entries {R = id8_cmp} es ≡ set_of ids = same_map id_total id_exact (from_entries es) (set_of ids) (λ id. get-from_entries id_total es id ∙ sym (get-entries (set_of ids) id)) in
-    ap (λ (es : List Pair). keys (from_entries {R = id8_cmp} es)) (pairs-keys es) ∙ ap keys made
 
 all_ids : (rows : List (List ℕ × Node)) → AllRows (λ path node. IsId8 node.id) rows → All IsId8 (ids_of rows)
 all_ids [] are = All-nil IsId8

@@ -109,10 +109,7 @@ pub record IsWritable (s : Snapshot) : Type 0 where
   pub texts : (p : List ℕ) (n : Node) → node_at s.tree p ≡ Some n → is_utf8 p ≡ true
   pub message : IsBytes s.message
 
--- the initial snapshot of each repository and its id, `1CECHNKREP0F1RSTCMT0`
-abbrev pub initial_id : Id12
-initial_id = record { 0 = 0x0b ∷ 0x1c ∷ 0xc8 ∷ 0xd6 ∷ 0x78 ∷ 0x75 ∷ 0x80 ∷ 0xf0 ∷ 0xe3 ∷ 0x3a ∷ 0x65 ∷ 0x34 ∷ [] }
-
+-- the initial snapshot of each repository; its id is `initial_id`
 unfoldable pub initial_snapshot : Snapshot
 initial_snapshot = record { parent = None; flushed = 0; tree = no_tree; message = codes "Repository initialized" }
 

@@ -3,6 +3,7 @@ use Rattle.std.proofs.Common.{◌≡◌, ℕ, ◌<◌, refl, sym, ap, subst, ◌
 use Rattle.std.specs.Prelude.{map, All}
 use Rattle.std.proofs.lemmas.List.Elements.{All-head, All-tail}
 use Rattle.ice_ids.specs.declared.Id8.{Id8}
+use Rattle.ice_ids.proofs.Drawn.{drawn8-IsId8, drawn12-IsId12}
 use Rattle.ice_ids.specs.declared.Id12.{Id12}
 use Rattle.ice_ids.specs.declared.drawing.AnyIds.{AnyIds}
 use Rattle.store_api.specs.declared.events.Event.{Event}
@@ -18,7 +19,7 @@ use Rattle.commit_path.specs.declared.commit.Committed.{Committed}
 use Rattle.commit_path.specs.Committing.{commit_program, started}
 use Rattle.commit_path.specs.Owed.{Sessions, IsCareful}
 use Rattle.commit_path.proofs.Owing.{Spellings, IsOpened, IsSpelled, commit-careful}
-use Rattle.commit_path.proofs.Opened.{open-careful, open-leads, Opens, IsReady, Added, group-added, group-opened, group-spelled, Started, start-started, started-opened, started-spelled, drawn8-is, drawn12-is}
+use Rattle.commit_path.proofs.Opened.{open-careful, open-leads, Opens, IsReady, Added, group-added, group-opened, group-spelled, Started, start-started, started-opened, started-spelled}
 use Rattle.play_script.specs.declared.scripts.Call.{Call}
 use Rattle.play_script.specs.declared.scripts.Call.TheVariants as call
 use Rattle.play_script.specs.declared.scripts.Line.{Line}
@@ -54,7 +55,7 @@ module _ (L : Spellings) (by : Caller) (mine : Sessions) where
   group-careful line path s shown journal R next well o w own go (Err why) e = tt
   group-careful line path s shown journal R next well o w own go (Ok p) e =
       let a = group-added s p.1 path p.0 e in
-      go p.1 shown (group-opened s p.1 path p.0 journal a o) (group-spelled s p.1 path p.0 a (record { id = drawn8-is s.ids p.0 a.drawn; path = well.0; text = well.1 }) w) (λ t id reaches. own t id (p.0, p.1, e, reaches))
+      go p.1 shown (group-opened s p.1 path p.0 journal a o) (group-spelled s p.1 path p.0 a (record { id = drawn8-IsId8 s.ids p.0 a.drawn; path = well.0; text = well.1 }) w) (λ t id reaches. own t id (p.0, p.1, e, reaches))
 
   list-careful : (line : ℕ) (path : List ℕ) (s : SessionState) (shown : List Shown) (journal : List Event) (R : Leading) (next : SessionState → List Shown → Prog Outcome) → IsOpened s journal → IsSpelled s
       → ((t : SessionState) (id : Id12) → R s t id → mine t id) → GoesOn R next journal → (r : Result (List Listing) Refusal) → Keeps (IsCareful mine) by (goes_on (after_list line s shown r) next) journal
@@ -69,7 +70,7 @@ module _ (L : Spellings) (by : Caller) (mine : Sessions) where
   start-careful line message s shown journal next m o w own (Ok p) e =
       let a = start-started s p.1 p.0 e in
       Keeps-bind (IsCareful mine) (λ made h. Unit {0}) by (commit_program p.1 message p.0) (after_commit line shown) journal
-      (commit-careful L by mine p.1 message p.0 (own p.1 p.0 e) (drawn12-is s.ids p.0 a.drawn) (started-spelled s p.1 p.0 a w) m journal (started-opened s p.1 p.0 journal a o))
+      (commit-careful L by mine p.1 message p.0 (own p.1 p.0 e) (drawn12-IsId12 s.ids p.0 a.drawn) (started-spelled s p.1 p.0 a w) m journal (started-opened s p.1 p.0 journal a o))
       (leads-any by (commit_program p.1 message p.0) journal)
       (λ made h q. commit_ended line shown made h)
 

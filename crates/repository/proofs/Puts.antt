@@ -6,7 +6,8 @@ use Rattle.std.specs.List.{All, list_all}
 use Rattle.std.proofs.lemmas.Bool.{and_parts, ltb-true}
 use Rattle.std.proofs.lemmas.List.Elements.{All-nil, All-cons}
 use Rattle.ice_ids.specs.Text.{IsId12}
-use Rattle.plain_object.specs.Objects.{Snapshot as Snap, initial_id, initial_bytes, initial_snapshot, snapshot_of, ref_of, ref_bytes}
+use Rattle.ice_ids.specs.Text.{initial_id}
+use Rattle.plain_object.specs.Objects.{Snapshot as Snap, initial_bytes, initial_snapshot, snapshot_of, ref_of, ref_bytes}
 use Rattle.plain_object.specs.Laws.{InitialLaw, RefLaw}
 use Rattle.store_api.specs.declared.keys.Key.{Key}
 use Rattle.store_api.specs.declared.keys.Key.TheVariants.{Snapshot, Branch}
@@ -20,7 +21,8 @@ use Rattle.store_api.specs.declared.events.Reply.TheVariants.{Got as Is_got, New
 use Rattle.store_api.specs.declared.events.StoreFault.{StoreFault as Fault}
 use Rattle.store_api.specs.declared.events.Event.{Event}
 use Rattle.store_api.specs.Machine.{Stored, Slot, slot_of, found, effect, put_at, where_free}
-use Rattle.store_api.specs.Journal.{WasPut, ParentPut, IsPolite, main}
+use Rattle.store_api.specs.Journal.{WasPut, ParentPut, IsPolite}
+use Rattle.ice_base.specs.Names.{main_name}
 use Rattle.store_api.specs.Callers.{Caller, View, Makes, Called, own_event}
 use Rattle.store_api.specs.Program.{Keeps}
 use Rattle.store_api.proofs.Slots.{same_key-refl, slot-append_one, sound}
@@ -79,13 +81,13 @@ no-parent journal o e = subst (λ (x : Option Snap). ParentPut journal x) (sym e
 pub snapshot-polite : InitialLaw → (journal : List Event) (bytes : List ℕ) → bytes ≡ initial_bytes → IsPolite journal (PutNew (Snapshot initial_id) bytes Init)
 snapshot-polite law journal bytes e = (inl refl, no-parent journal (snapshot_of bytes) (ap snapshot_of e ∙ law))
 
-pub main-polite : RefLaw → (journal : List Event) (name bytes : List ℕ) → name ≡ main → bytes ≡ ref_bytes initial_id → WasPut journal (Snapshot initial_id) → IsPolite journal (PutNew (Branch name) bytes Init)
+pub main-polite : RefLaw → (journal : List Event) (name bytes : List ℕ) → name ≡ main_name → bytes ≡ ref_bytes initial_id → WasPut journal (Snapshot initial_id) → IsPolite journal (PutNew (Branch name) bytes Init)
 main-polite law journal name bytes n e put =
     let read : ref_of bytes ≡ Some initial_id = ap ref_of e ∙ law.written initial_id initial_id-IsId12 in
     (record { id = initial_id; reference = read; put = put }, inr (refl, n, read))
 
-pub main-said : (name bytes : List ℕ) → name ≡ main → bytes ≡ ref_bytes initial_id → PutNew (Branch name) bytes Init ≡ PutNew (Branch main) (ref_bytes initial_id) Init
-main-said name bytes n e = ap (λ (x : List ℕ). PutNew (Branch x) bytes Init) n ∙ ap (λ (x : List ℕ). PutNew (Branch main) x Init) e
+pub main-said : (name bytes : List ℕ) → name ≡ main_name → bytes ≡ ref_bytes initial_id → PutNew (Branch name) bytes Init ≡ PutNew (Branch main_name) (ref_bytes initial_id) Init
+main-said name bytes n e = ap (λ (x : List ℕ). PutNew (Branch x) bytes Init) n ∙ ap (λ (x : List ℕ). PutNew (Branch main_name) x Init) e
 
 done-keeps : (P : List Event → ℕ → Op → Type 0) (by : Caller) (reply : Reply) (journal : List Event) → Keeps P by (after_put reply) journal
 unfolding Keeps
@@ -105,7 +107,7 @@ abbrev then_main : Reply → Asks (Unit {0})
 then_main reply = after_put reply >>= λ _. put_main
 
 module _ (P : List Event → ℕ → Op → Type 0) (by : Caller) where
-  second-keeps : ((journal : List Event) → WasPut journal (Snapshot initial_id) → P journal by.number (PutNew (Branch main) (ref_bytes initial_id) Init)) → (reply : Reply) (old new : List Event) → Makes by snapshot_put reply old new → Keeps P by (then_main reply) new
+  second-keeps : ((journal : List Event) → WasPut journal (Snapshot initial_id) → P journal by.number (PutNew (Branch main_name) (ref_bytes initial_id) Init)) → (reply : Reply) (old new : List Event) → Makes by snapshot_put reply old new → Keeps P by (then_main reply) new
   unfolding Keeps
   second-keeps p (Is_new x) old new m = (p new (put-told by (Snapshot initial_id) initial_bytes Init x old new m), λ reply next n. done-keeps P by reply next)
   second-keeps p (Is_over x) old new m = tt
@@ -116,10 +118,10 @@ module _ (P : List Event → ℕ → Op → Type 0) (by : Caller) where
   second-keeps p (Failed d) old new m = tt
 
   -- what holds of both puts, of the second where the snapshot was put, holds of each operation to come
-  pub begin-keeps : ((journal : List Event) → P journal by.number snapshot_put) → ((journal : List Event) → WasPut journal (Snapshot initial_id) → P journal by.number (PutNew (Branch main) (ref_bytes initial_id) Init)) → (journal : List Event) → Keeps P by begin_program journal
+  pub begin-keeps : ((journal : List Event) → P journal by.number snapshot_put) → ((journal : List Event) → WasPut journal (Snapshot initial_id) → P journal by.number (PutNew (Branch main_name) (ref_bytes initial_id) Init)) → (journal : List Event) → Keeps P by begin_program journal
   unfolding Keeps
   begin-keeps s p journal = (s journal, λ reply new m. second-keeps p reply journal new m)
 
 -- Whatever others do, each put at the beginning is polite.
 pub begin-polite : Spelled → (by : Caller) (journal : List Event) → Keeps (λ journal client op. IsPolite journal op) by begin_program journal
-begin-polite laws by journal = begin-keeps (λ h client op. IsPolite h op) by (λ h. snapshot-polite laws.initial h initial_bytes refl) (λ h put. main-polite laws.reference h main (ref_bytes initial_id) refl refl put) journal
+begin-polite laws by journal = begin-keeps (λ h client op. IsPolite h op) by (λ h. snapshot-polite laws.initial h initial_bytes refl) (λ h put. main-polite laws.reference h main_name (ref_bytes initial_id) refl refl put) journal

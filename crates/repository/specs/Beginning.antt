@@ -1,6 +1,7 @@
 -- The program that makes a repository (Icechunk specification version 1, "Initialize New Repository").
 use Rattle.std.specs.Prelude.{ℕ, List, Ok, Err}
-use Rattle.plain_object.specs.Objects.{initial_id, initial_bytes, ref_bytes}
+use Rattle.ice_ids.specs.Text.{initial_id}
+use Rattle.plain_object.specs.Objects.{initial_bytes, ref_bytes}
 use Rattle.store_api.specs.declared.keys.Key.{Key}
 use Rattle.store_api.specs.declared.keys.Key.TheVariants.{Snapshot, Branch}
 use Rattle.store_api.specs.declared.keys.Why.TheVariants.{Init}
@@ -9,7 +10,7 @@ use Rattle.store_api.specs.declared.events.Reply.{Reply}
 use Rattle.store_api.specs.declared.events.Reply.TheVariants.{New as Is_new}
 use Rattle.store_api.specs.declared.machines.Refusal.{Refusal}
 use Rattle.store_api.specs.declared.machines.Refusal.TheVariants.{StoreFault, NoMemory}
-use Rattle.store_api.specs.Journal.{main}
+use Rattle.ice_base.specs.Names.{main_name}
 use Rattle.store_api.specs.Program.{Done, Ask}
 use Rattle.repository.specs.Running.{Asks, ◌>>=◌}
 
@@ -25,7 +26,7 @@ abbrev pub put_initial : Asks (Unit {0})
 put_initial = put_where_free (Snapshot initial_id) initial_bytes
 
 abbrev pub put_main : Asks (Unit {0})
-put_main = put_where_free (Branch main) (ref_bytes initial_id)
+put_main = put_where_free (Branch main_name) (ref_bytes initial_id)
 
 -- the initial snapshot, and then `main` with a reference to it
 abbrev pub begin_program : Asks (Unit {0})

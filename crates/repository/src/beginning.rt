@@ -1,7 +1,7 @@
 //! The beginning of a repository.
 
 ghost use Rattle.std.specs.Prelude.{◌≡◌, IfErr, OnOk, IsTrue};
-ghost use Rattle.plain_object.specs.Objects.{initial_id};
+ghost use Rattle.ice_ids.specs.Text.{initial_id};
 ghost use Rattle.store_api.specs.Journal.{WasPut};
 ghost use Rattle.repository.specs.Running.{Runs};
 ghost use Rattle.repository.specs.Beginning.{begin_program, put_initial, put_main, MayRefuseBegin};

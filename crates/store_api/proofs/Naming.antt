@@ -3,7 +3,8 @@ use Rattle.std.proofs.Common.{◌≡◌, ◌⊎◌, inl, inr, ℕ, true, List, [
 use Rattle.std.specs.Prelude.{Option, Some, None}
 use Rattle.std.specs.Option.{option_or}
 use Rattle.ice_ids.specs.declared.Id12.{Id12}
-use Rattle.plain_object.specs.Objects.{snapshot_of, initial_id}
+use Rattle.ice_ids.specs.Text.{initial_id}
+use Rattle.plain_object.specs.Objects.{snapshot_of}
 use Rattle.store_api.specs.declared.keys.Key.{Key}
 use Rattle.store_api.specs.declared.keys.Key.TheVariants.{Snapshot, Txn, Branch, Tag}
 use Rattle.store_api.specs.declared.keys.Why.{Why}

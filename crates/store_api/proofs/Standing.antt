@@ -5,7 +5,8 @@ use Rattle.std.specs.Option.{option_and_then}
 use Rattle.ice_ids.specs.declared.Id12.{Id12}
 use Rattle.tree_model.specs.Trees.{Tree}
 use Rattle.tree_model.specs.declared.lists.Touched.{Touched}
-use Rattle.plain_object.specs.Objects.{Snapshot as Snap, snapshot_of, log_of, initial_id, initial_bytes}
+use Rattle.ice_ids.specs.Text.{initial_id}
+use Rattle.plain_object.specs.Objects.{Snapshot as Snap, snapshot_of, log_of, initial_bytes}
 use Rattle.store_api.specs.declared.keys.Key.{Key}
 use Rattle.store_api.specs.declared.keys.Key.TheVariants.{Snapshot, Manifest, Txn, Chunk, Branch, Tag, TagGone}
 use Rattle.store_api.specs.declared.events.Op.{Op}

@@ -1,11 +1,13 @@
 -- Legal and polite journals.
-use Rattle.std.specs.Prelude.{◌≡◌, ◌≢◌, ◌⊎◌, ℕ, ◌+◌, true, List, [], ◌∷◌, ◌++◌, take, Option, Some, None, option_map, codes}
+use Rattle.std.specs.Prelude.{◌≡◌, ◌≢◌, ◌⊎◌, ℕ, ◌+◌, true, List, [], ◌∷◌, ◌++◌, take, Option, Some, None, option_map}
 use Rattle.std.specs.Option.{option_and_then}
 use Rattle.ice_ids.specs.declared.Id12.{Id12}
 use Rattle.tree_model.specs.Trees.{Tree}
 use Rattle.tree_model.specs.declared.lists.Touched.{Touched}
 use Rattle.tree_model.specs.Touched.{DiffersIn}
-use Rattle.plain_object.specs.Objects.{Snapshot as Snap, snapshot_of, log_of, ref_of, initial_id, initial_bytes}
+use Rattle.ice_base.specs.Names.{main_name}
+use Rattle.ice_ids.specs.Text.{initial_id}
+use Rattle.plain_object.specs.Objects.{Snapshot as Snap, snapshot_of, log_of, ref_of, initial_bytes}
 use Rattle.store_api.specs.declared.keys.Key.{Key}
 use Rattle.store_api.specs.declared.keys.Key.TheVariants.{Snapshot, Manifest, Txn, Chunk, Branch, Tag, TagGone}
 use Rattle.store_api.specs.declared.keys.Why.{Why}
@@ -48,10 +50,6 @@ snap_made journal id = snap_in (first_put journal (Snapshot id))
 
 abbrev pub log_made : List Event → Id12 → Option Touched
 log_made journal id = option_and_then log_of (first_put journal (Txn id))
-
--- the branch that a repository begins with (Icechunk specification version 1, "Refs")
-abbrev pub main : List ℕ
-main = codes "main"
 
 -- ---- no object is put again
 -- The initial snapshot is put with its own bytes alone; another one isn't put where it was put before.
@@ -133,7 +131,7 @@ MayPutNew journal bytes why (Snapshot id) = ((id ≡ initial_id) ⊎ WasPut jour
 MayPutNew journal bytes why (Txn id) = Unit {0}
 MayPutNew journal bytes why (Manifest id) = ⊥
 MayPutNew journal bytes why (Chunk id) = ⊥
-MayPutNew journal bytes why (Branch name) = NamesPut journal bytes × ((why ≡ Create) ⊎ ((why ≡ Init) × (name ≡ main) × (ref_of bytes ≡ Some initial_id)))
+MayPutNew journal bytes why (Branch name) = NamesPut journal bytes × ((why ≡ Create) ⊎ ((why ≡ Init) × (name ≡ main_name) × (ref_of bytes ≡ Some initial_id)))
 MayPutNew journal bytes why (Tag name) = NamesPut journal bytes × (why ≡ For_tag)
 MayPutNew journal bytes why (TagGone name) = WasPut journal (Tag name)
 
@@ -177,7 +175,7 @@ MayRemoveAt why (Snapshot id) = why ≡ Collect
 MayRemoveAt why (Txn id) = why ≡ Collect
 MayRemoveAt why (Manifest id) = why ≡ Collect
 MayRemoveAt why (Chunk id) = why ≡ Collect
-MayRemoveAt why (Branch name) = name ≢ main
+MayRemoveAt why (Branch name) = name ≢ main_name
 MayRemoveAt why (Tag name) = ⊥
 MayRemoveAt why (TagGone name) = ⊥
 

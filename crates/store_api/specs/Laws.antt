@@ -1,7 +1,7 @@
 -- Laws of journals.
 use Rattle.std.specs.Prelude.{◌≡◌, ◌⊎◌, ℕ, List, [], ◌++◌, Some}
 use Rattle.ice_ids.specs.declared.Id12.{Id12}
-use Rattle.plain_object.specs.Objects.{initial_id}
+use Rattle.ice_ids.specs.Text.{initial_id}
 use Rattle.store_api.specs.declared.keys.Key.TheVariants.{Snapshot, Txn, Branch, Tag}
 use Rattle.store_api.specs.declared.events.Op.{Op}
 use Rattle.store_api.specs.declared.events.Event.{Event}

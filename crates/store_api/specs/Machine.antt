@@ -1,12 +1,13 @@
 -- The object store as a machine over the list of its events (own; Icechunk's specification asks of
 -- a store that it puts conditionally, and that what was put can be read).
-use Rattle.std.specs.Prelude.{◌≡◌, ℕ, ◌+◌, ◌<◌, ◌≤◌, ◌^◌, ◌==◌, Bool, true, false, if◌then◌else◌, List, [], ◌∷◌, length, Option, Some, None, slice_get, bytes_eq}
+use Rattle.std.specs.Prelude.{◌≡◌, ℕ, ◌+◌, ◌<◌, ◌≤◌, ◌^◌, ◌==◌, Bool, true, false, if◌then◌else◌, List, [], ◌∷◌, length, Option, Some, None, slice_get}
 use Rattle.std.specs.Option.{option_or}
 use Rattle.std.specs.declared.cmp.Ordering.{Ordering}
 use Rattle.std.specs.declared.cmp.Ordering.TheVariants.{Less}
 use Rattle.std.specs.Ordering.{nat_cmp, ordering_then}
 use Rattle.std.specs.Cmp.Lexicographic.{slice_cmp}
 use Rattle.ice_ids.specs.Text.{same_id12}
+use Rattle.ice_base.specs.Names.{same_name}
 use Rattle.store_api.specs.declared.keys.Key.{Key}
 use Rattle.store_api.specs.declared.keys.Key.TheVariants.{Snapshot, Manifest, Txn, Chunk, Branch, Tag, TagGone}
 use Rattle.store_api.specs.declared.keys.Part.{Part}
@@ -30,9 +31,6 @@ use Rattle.store_api.specs.declared.events.Reply.TheVariants.{Got as Is_got, New
 use Rattle.store_api.specs.declared.events.Event.{Event}
 
 -- ---- keys
-abbrev pub same_name : List ℕ → List ℕ → Bool
-same_name a b = bytes_eq a b
-
 abbrev pub same_key : Key → Key → Bool
 same_key (Snapshot a) (Snapshot b) = same_id12 a b
 same_key (Manifest a) (Manifest b) = same_id12 a b

@@ -16,5 +16,5 @@ pub use events::{
 };
 pub use keys::{Key, Part, Why};
 pub use laws::{names_law, polite_law, trees_law};
-pub use machines::{Bad, Machine, Next, Refusal};
+pub use machines::{Bad, Next, Refusal};
 pub use operations::{Base, Store};

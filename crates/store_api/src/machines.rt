@@ -1,11 +1,6 @@
-//! Step machines over a store, and the refusals that end them.
+//! What step machines over a store answer, and the refusals that end them.
 
-ghost use Rattle.std.specs.Prelude.{◌≡◌, ℕ, ◌<◌, Result, IsTrue};
-ghost use Rattle.store_api.specs.Callers.{View};
-ghost use Rattle.store_api.specs.Program.{Prog, IsAsk, Steps, NextIsPolite};
-ghost use Rattle.store_api.specs.declared.machines.Refusal.{Refusal as TheRefusal};
-
-use crate::{Key, Store, Version};
+use crate::{Key, Version};
 
 /// Whether a machine has more to do.
 #[derive(Debug, Drop)]
@@ -57,24 +52,4 @@ pub enum Refusal {
     },
     /// There are no changes.
     NothingToCommit,
-}
-
-/// A machine over a store: each step makes one operation and the local work that follows from its
-/// answer.
-pub trait Machine {
-    /// What it answers at its end.
-    type Out: Drop;
-
-    /// What it has still to do.
-    ghost rest: { Self → Prog (Result Self.Out TheRefusal) };
-
-    /// A number that each step lowers, whatever the store answers.
-    ghost left: { Self → ℕ };
-
-    /// One operation of the store.
-    fn step<S: Store>(&mut self, store: &mut S) -> Result<Next<Self::Out>, Refusal>
-        requires live { IsAsk (rest self.old) }
-        requires polite { IsTrue (S.view store.old).caller.tells → NextIsPolite (rest self.old) (S.view store.old).seen }
-        ensures step { Steps (S.view store.old) (S.view store.new) (rest self.old) (rest self.new) result }
-        ensures falls { left self.new < left self.old };
 }

@@ -4,10 +4,10 @@ use Rattle.std.specs.Prelude.{◌==◌}
 use Rattle.std.specs.List.{list_any}
 use Rattle.std.specs.Cmp.{both_ways}
 use Rattle.std.specs.FinMap.{find, get, len, len-entries, entries, from_entries, contains_key-keys, get-entries, get-from_entries}
-use Rattle.std.proofs.lemmas.Slice.Eq.{bytes_eq-Decides}
 use Rattle.std.proofs.lemmas.Bool.{eqb-true, eq-eqb}
 use Rattle.ice_ids.specs.declared.Id8.{Id8}
 use Rattle.ice_ids.specs.Text.{same_id8, id8_cmp}
+use Rattle.ice_ids.proofs.TextLaws.{same_id8-true, same_id8-self}
 use Rattle.zarr_path.specs.Paths.{path_cmp, same_path}
 use Rattle.tree_model.specs.declared.node.Node.{Node}
 use Rattle.tree_model.specs.Places.{Rows}
@@ -17,15 +17,9 @@ use Rattle.tree_model.specs.Touched.{touched, in_order, ids_of, lists, has_id, i
 use Rattle.tree_model.proofs.Applied.{node_cases, own_node}
 use Rattle.tree_model.proofs.TouchedLaws.{id_total, same, same-true, same-refl, pairs, find-pairs}
 
-pub same_id8-refl : (a : Id8) → same_id8 a a ≡ true
-same_id8-refl a = (bytes_eq-Decides a.0 a.0).1 refl
-
-pub same_id8-true : (a b : Id8) → same_id8 a b ≡ true → a ≡ b
-same_id8-true a b e = let bytes : a.0 ≡ b.0 = (bytes_eq-Decides a.0 b.0).0 e in λ i. record { 0 = bytes i }
-
 -- the test of lists, in the order's words
 listed-same : (x q : Id8) → same_id8 x q ≡ same q x
-listed-same x q = both_ways _ _ (λ e. same-refl q x (same_id8-true x q e)) (λ e. ap (λ (y : Id8). same_id8 x y) (same-true q x e) ∙ same_id8-refl x)
+listed-same x q = both_ways _ _ (λ e. same-refl q x (same_id8-true x q e)) (λ e. ap (λ (y : Id8). same_id8 x y) (same-true q x e) ∙ same_id8-self x)
 
 lists-any : (xs : List Id8) (q : Id8) → lists xs q ≡ list_any (same q) xs
 lists-any [] q = refl
@@ -53,7 +47,7 @@ or-right false b e = e
 listed_row : (rows : Rows) (p : List ℕ) (n : Node) → find path_cmp p rows ≡ Some n → lists (ids_of rows) n.id ≡ true
 listed_row [] p n h = cc
 listed_row (r ∷ rs) p n h = elim (same_path p r.0) as (λ b. cond b (Some r.1) (find path_cmp p rs) ≡ Some n → (same_id8 r.1.id n.id || lists (ids_of rs) n.id) ≡ true) [
-  | true ↦ λ k. let same : r.1 ≡ n = cc in or-true _ _ (ap (λ (m : Node). same_id8 m.id n.id) same ∙ same_id8-refl n.id)
+  | true ↦ λ k. let same : r.1 ≡ n = cc in or-true _ _ (ap (λ (m : Node). same_id8 m.id n.id) same ∙ same_id8-self n.id)
   | false ↦ λ k. or-right (same_id8 r.1.id n.id) _ (listed_row rs p n k)
 ] h
 
@@ -62,7 +56,7 @@ pub new-listed : (c : Changes) (t : Tree) (p : List ℕ) (n : Node) → get c.ad
 new-listed c t p n h = lists-in_order (ids_of (entries c.added)) n.id ∙ listed_row (entries c.added) p n (sym (get-entries c.added p) ∙ h)
 
 same_node : (n m : Node) → n ≡ m → has_id n.id (Some m) ≡ true
-same_node n m e = ap (λ (x : Node). same_id8 x.id n.id) (sym e) ∙ same_id8-refl n.id
+same_node n m e = ap (λ (x : Node). same_id8 x.id n.id) (sym e) ∙ same_id8-self n.id
 
 pub differs-law : DiffersLaw
 differs-law c t free = record {
@@ -80,7 +74,7 @@ differs-law c t free = record {
 -- ---- empty lists
 empty_any : (xs : List Id8) → ((q : Id8) → lists xs q ≡ false) → length xs ≡ 0
 empty_any [] h = refl
-empty_any (x ∷ xs) h = let k = h x in let l : lists (x ∷ xs) x ≡ true = or-true _ (lists xs x) (same_id8-refl x) in cc
+empty_any (x ∷ xs) h = let k = h x in let l : lists (x ∷ xs) x ≡ true = or-true _ (lists xs x) (same_id8-self x) in cc
 
 some_any : (xs : List Id8) → length xs ≡ 0 → (q : Id8) → lists xs q ≡ false
 some_any [] h q = refl

@@ -1,5 +1,6 @@
 use Rattle.std.proofs.Common.{◌≡◌, List, ℕ, refl, ap, ◌∙◌}
-use Rattle.plain_object.specs.Objects.{initial_id, initial_bytes}
+use Rattle.ice_ids.specs.Text.{initial_id}
+use Rattle.plain_object.specs.Objects.{initial_bytes}
 use Rattle.store_api.specs.declared.keys.Key.TheVariants.{Snapshot}
 use Rattle.store_api.specs.declared.keys.Why.TheVariants.{Init}
 use Rattle.store_api.specs.declared.events.Op.TheVariants.{PutNew}
