@@ -3,3 +3,6 @@ pub mod Telling
 pub mod Owing
 pub mod Steps
 pub mod Opened
+pub mod Answering
+pub mod Reading
+pub mod Lawful

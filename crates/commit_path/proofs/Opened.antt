@@ -1,44 +1,39 @@
 -- What an opening keeps, and what a session knows that was opened and edited.
-use Rattle.std.proofs.Common.{◌≡◌, ℕ, true, false, List, [], ◌∷◌, ◌++◌, refl, sym, ◌∙◌, ap, subst, Bool}
+use Rattle.std.proofs.Common.{◌≡◌, ℕ, true, false, List, ◌++◌, refl, sym, ◌∙◌, ap, subst, Bool}
 use Rattle.std.specs.Prelude.{Option, Some, None, option_map, Result, Ok, Err}
-use Rattle.std.specs.Str.{is_utf8}
-use Rattle.std.specs.FinMap.{entries}
 use Rattle.ice_ids.specs.declared.Id8.{Id8}
 use Rattle.ice_ids.specs.declared.Id12.{Id12}
-use Rattle.ice_ids.specs.declared.drawing.AnyIds.{AnyIds}
-use Rattle.ice_ids.specs.Text.{IsId8, IsId12}
+use Rattle.ice_ids.specs.Text.{IsId12}
 use Rattle.std.specs.Prelude.{if◌then◌else◌}
-use Rattle.ice_ids.specs.declared.drawing.AnyIds.TheVariants.{Count}
-use Rattle.ice_ids.proofs.Drawn.{counted12-IsId12, counted8-IsId8}
-use Rattle.ice_ids.specs.Drawing.{drawn8, after8, drawn12, after12, is_spent, counted12, counted8}
+use Rattle.ice_ids.specs.Drawing.{drawn8, after8, drawn12, after12}
 use Rattle.tree_model.specs.Touched.{touched, is_untouched}
-use Rattle.zarr_path.specs.Paths.{is_path}
 use Rattle.tree_model.specs.declared.edit.Edit.TheVariants.{Add}
 use Rattle.tree_model.specs.declared.edit.EditFault.{EditFault}
-use Rattle.tree_model.specs.Trees.{Tree, refusal}
-use Rattle.tree_model.specs.Changes.{none, extended, IsFree}
+use Rattle.tree_model.specs.Trees.{refusal}
+use Rattle.tree_model.specs.Changes.{extended}
 use Rattle.plain_object.specs.Objects.{Snapshot as Snap, snapshot_of, ref_of}
 use Rattle.store_api.specs.declared.keys.Key.TheVariants.{Snapshot, Branch}
-use Rattle.store_api.specs.declared.events.Version.{Version}
 use Rattle.store_api.specs.declared.events.Op.TheVariants.{Get}
 use Rattle.store_api.specs.declared.events.Got.TheVariants.{Found, Absent}
 use Rattle.store_api.specs.declared.events.Reply.{Reply}
 use Rattle.store_api.specs.declared.events.Reply.TheVariants.{Got as Is_got, New as Is_new, Over as Is_over, Gone as Is_gone, GoneAt as Is_gone_at, Listed as Is_listed, Failed}
 use Rattle.store_api.specs.declared.events.Event.{Event}
 use Rattle.store_api.specs.declared.machines.Refusal.{Refusal}
-use Rattle.store_api.specs.Journal.{Each, WasPut, StoodAt, tree_of, tree_in, IsOnce, IsGood}
+use Rattle.store_api.specs.Journal.{Each, StoodAt, tree_in, IsGood}
 use Rattle.store_api.proofs.Slots.{StoodAt-append}
 use Rattle.store_api.specs.declared.machines.Refusal.TheVariants as R
 use Rattle.store_api.specs.Callers.{Caller, Makes}
 use Rattle.store_api.specs.Program.{Keeps, Leads}
 use Rattle.session.specs.Sessions.{SessionState, overlay}
-use Rattle.session.specs.Opening.{Asked, open_program, after_ref, after_name, after_base, get_base, begun, read_base}
+use Rattle.session.specs.Opening.{Asked, open_program, after_ref, after_name, after_base, begun, read_base}
 use Rattle.session.specs.Editing.{group_added, unless_refused, drawn_group, any_id}
 use Rattle.commit_path.specs.Committing.{started, drawn_start}
 use Rattle.commit_path.specs.Owed.{Sessions, IsCareful}
-use Rattle.commit_path.proofs.Rows.{AllFine, TreeFine, IsFine, fine-insert, fine-none}
+use Rattle.commit_path.specs.Spelled.{IsFine, IsSpelled}
+use Rattle.commit_path.proofs.Rows.{fine-insert, fine-none}
 use Rattle.commit_path.proofs.Telling.{Had, get-had, makes-keeps}
-use Rattle.commit_path.proofs.Owing.{Spellings, IsOpened, IsOpened-append, IsSpelled}
+use Rattle.commit_path.specs.Opened.{IsOpened}
+use Rattle.commit_path.proofs.Owing.{Spellings}
 use Rattle.tree_model.proofs.Normal.{free-extended, none-free}
 
 -- ---- an opening asks for nothing that is owed

@@ -1,23 +1,17 @@
 -- What a commit does is polite and owed, whatever others do.
-use Rattle.std.proofs.Common.{◌≡◌, ◌≢◌, inr, ℕ, ◌<◌, ◌^◌, true, List, [], ◌∷◌, ◌++◌, length, refl, sym, ◌∙◌, ap, subst}
+use Rattle.std.proofs.Common.{◌≡◌, ◌≢◌, inr, ℕ, ◌<◌, ◌^◌, List, [], ◌++◌, refl, sym, ◌∙◌, ap, subst}
 use Rattle.std.specs.Prelude.{Option, Some, None, option_map, All}
 use Rattle.std.specs.Option.{option_and_then}
-use Rattle.std.specs.FinMap.{entries}
 use Rattle.ice_ids.specs.declared.Id12.{Id12}
 use Rattle.ice_ids.specs.Text.{IsId12}
-use Rattle.tree_model.specs.declared.lists.Touched.{Touched}
 use Rattle.tree_model.specs.Trees.{Tree}
-use Rattle.tree_model.specs.Changes.{IsFree, apply}
 use Rattle.tree_model.specs.Touched.{touched, DiffersIn}
 use Rattle.tree_model.proofs.Differing.{differs-law}
 use Rattle.ice_ids.specs.Text.{initial_id}
-use Rattle.plain_object.specs.Objects.{Snapshot as Snap, IsWritable, initial_bytes, initial_snapshot, snapshot_of, snapshot_bytes, log_of, log_bytes, ref_of, ref_bytes}
+use Rattle.plain_object.specs.Objects.{Snapshot as Snap, IsWritable, initial_bytes, initial_snapshot, snapshot_of, snapshot_bytes, log_of, log_bytes, ref_bytes}
 use Rattle.plain_object.specs.Laws.{SnapshotLaw, LogLaw, RefLaw, InitialLaw}
-use Rattle.store_api.specs.declared.keys.Key.{Key}
 use Rattle.store_api.specs.declared.keys.Key.TheVariants.{Snapshot, Manifest, Txn, Chunk, Branch, Tag, TagGone}
-use Rattle.store_api.specs.declared.keys.Why.{Why}
 use Rattle.store_api.specs.declared.keys.Why.TheVariants.{Set, Commit}
-use Rattle.store_api.specs.declared.events.Version.{Version}
 use Rattle.store_api.specs.declared.events.Op.{Op}
 use Rattle.store_api.specs.declared.events.Op.TheVariants.{Get, PutNew, PutOver, Remove, RemoveAt, List as ListPart}
 use Rattle.store_api.specs.declared.events.New.TheVariants.{Done as New_done, Present}
@@ -25,17 +19,19 @@ use Rattle.store_api.specs.declared.events.Over.TheVariants.{Done as Over_done, 
 use Rattle.store_api.specs.declared.events.Reply.{Reply}
 use Rattle.store_api.specs.declared.events.Reply.TheVariants.{Got as Is_got, New as Is_new, Over as Is_over, Gone as Is_gone, GoneAt as Is_gone_at, Listed as Is_listed, Failed}
 use Rattle.store_api.specs.declared.events.Event.{Event}
-use Rattle.store_api.specs.Machine.{found, first_put, version_at}
-use Rattle.store_api.specs.Journal.{Each, WasPut, StoodAt, tree_of, tree_in, snap_in, snap_made, log_made, IsFirst, IsOnce, ParentPut, IsPolite, IsGood}
+use Rattle.store_api.specs.Machine.{version_at}
+use Rattle.store_api.specs.Journal.{Each, WasPut, tree_of, tree_in, snap_in, snap_made, log_made, IsFirst, IsOnce, ParentPut, IsPolite, IsGood}
 use Rattle.store_api.specs.Callers.{Caller, Makes}
 use Rattle.store_api.specs.Program.{Keeps}
 use Rattle.store_api.proofs.Journals.{Each-back}
 use Rattle.store_api.proofs.Slots.{WasPut-append, StoodAt-append}
 use Rattle.store_api.proofs.Standing.{standing, snap_made-append, log_made-append, snap_made-put, IsPolite-append}
 use Rattle.session.specs.Sessions.{SessionState, overlay}
-use Rattle.commit_path.specs.Committing.{commit_program, after_log, after_snapshot, after_branch, put_branch, put_snapshot, snap_for}
-use Rattle.commit_path.specs.Owed.{Sessions, IsMade, OwesOver, OwesSnap, OwesNew, OwesPutOver, Owes, IsCareful}
-use Rattle.commit_path.proofs.Rows.{AllFine, TreeFine, IsFine, apply-fine, touched-writable}
+use Rattle.commit_path.specs.Committing.{commit_program, after_log, after_snapshot, after_branch, snap_for}
+use Rattle.commit_path.specs.Opened.{IsOpened}
+use Rattle.commit_path.specs.Owed.{Sessions, IsMade, OwesSnap, Owes, IsCareful}
+use Rattle.commit_path.specs.Spelled.{TreeFine, IsSpelled}
+use Rattle.commit_path.proofs.Rows.{apply-fine, touched-writable}
 use Rattle.commit_path.proofs.Telling.{DidPut, put-did, put-time, makes-keeps}
 
 -- what is written is read again
@@ -46,21 +42,6 @@ pub record Spellings : Type 0 where
   pub initial : InitialLaw
 
 -- ---- what a session knows
--- it read its base at its version of its branch
-pub record IsOpened (s : SessionState) (journal : List Event) : Type 0 where
-  pub named_by : List ℕ
-  pub named : StoodAt journal (Branch s.branch) s.version named_by
-  pub names : ref_of named_by ≡ Some s.base
-  pub put : WasPut journal (Snapshot s.base)
-  pub tree : IsOnce journal → tree_of journal s.base ≡ Some s.tree
-
--- its tree and its changes can be written, and the changes add nothing where the tree has a node
-pub record IsSpelled (s : SessionState) : Type 0 where
-  pub base : IsId12 s.base
-  pub tree : TreeFine s.tree
-  pub added : AllFine (entries s.changes.added)
-  pub free : IsFree s.changes s.tree
-
 -- it has put its log
 pub record Logged (s : SessionState) (id : Id12) (journal : List Event) : Type 0 where
   pub put : WasPut journal (Txn id)
@@ -87,11 +68,11 @@ IsOpened-append s journal more g o = record {
   tree = λ once. standing s.base journal more (once-front journal more once) o.put g (once-back journal more once) ∙ o.tree (once-front journal more once);
 }
 
-Logged-append : (s : SessionState) (id : Id12) (journal more : List Event) → Each IsGood journal more → Logged s id journal → Logged s id (journal ++ more)
+pub Logged-append : (s : SessionState) (id : Id12) (journal more : List Event) → Each IsGood journal more → Logged s id journal → Logged s id (journal ++ more)
 Logged-append s id journal more g l = record { put = WasPut-append journal more (Txn id) l.put; made = λ once. log_made-append journal more id (touched s.changes s.tree) (l.made (once-front journal more once)) }
 
 module _ (L : Spellings) where
-  log-logged : (s : SessionState) (id : Id12) (journal : List Event) → IsSpelled s → DidPut journal (Txn id) (log_bytes (touched s.changes s.tree)) → Logged s id journal
+  pub log-logged : (s : SessionState) (id : Id12) (journal : List Event) → IsSpelled s → DidPut journal (Txn id) (log_bytes (touched s.changes s.tree)) → Logged s id journal
   log-logged s id journal w d = record { put = d.put; made = λ once. ap (λ (o : Option (List ℕ)). option_and_then log_of o) (d.first once) ∙ L.log.written (touched s.changes s.tree) (touched-writable s.changes s.tree w.added) }
 
   snap-writable : (s : SessionState) (message : List ℕ) (flushed : ℕ) → IsSpelled s → flushed < 2 ^ 64 → All (λ b. b < 256) message → IsWritable (snap_for s message flushed)
@@ -102,7 +83,7 @@ module _ (L : Spellings) where
   pub snap-read : (s : SessionState) (message : List ℕ) (flushed : ℕ) → IsSpelled s → flushed < 2 ^ 64 → All (λ b. b < 256) message → snapshot_of (snapshot_bytes (snap_for s message flushed)) ≡ Some (snap_for s message flushed)
   snap-read s message flushed w f m = L.snap.written (snap_for s message flushed) (snap-writable s message flushed w f m)
 
-  snap-snapped : (s : SessionState) (message : List ℕ) (flushed : ℕ) (id : Id12) (journal : List Event) → IsSpelled s → flushed < 2 ^ 64 → All (λ b. b < 256) message → DidPut journal (Snapshot id) (snapshot_bytes (snap_for s message flushed)) → Snapped s message flushed id journal
+  pub snap-snapped : (s : SessionState) (message : List ℕ) (flushed : ℕ) (id : Id12) (journal : List Event) → IsSpelled s → flushed < 2 ^ 64 → All (λ b. b < 256) message → DidPut journal (Snapshot id) (snapshot_bytes (snap_for s message flushed)) → Snapped s message flushed id journal
   snap-snapped s message flushed id journal w f m d =
       let read = snap-read s message flushed w f m in
       record {
@@ -112,7 +93,7 @@ module _ (L : Spellings) where
       }
 
   -- a snapshot with a parent isn't the initial one
-  not-initial : (s : SessionState) (message : List ℕ) (flushed : ℕ) (id : Id12) → IsSpelled s → flushed < 2 ^ 64 → All (λ b. b < 256) message → (id ≡ initial_id → snapshot_bytes (snap_for s message flushed) ≡ initial_bytes) → id ≢ initial_id
+  pub not-initial : (s : SessionState) (message : List ℕ) (flushed : ℕ) (id : Id12) → IsSpelled s → flushed < 2 ^ 64 → All (λ b. b < 256) message → (id ≡ initial_id → snapshot_bytes (snap_for s message flushed) ≡ initial_bytes) → id ≢ initial_id
   unfolding initial_snapshot
   not-initial s message flushed id w f m same e =
       let snaps : ◌≡◌ {A = Option Snap} (Some (snap_for s message flushed)) (Some initial_snapshot) = sym (snap-read s message flushed w f m) ∙ ap snapshot_of (same e) ∙ L.initial in
@@ -129,7 +110,7 @@ module _ (L : Spellings) where
       subst (λ (i : Id12). WasPut journal (Snapshot i)) base opened.put
 
   module _ (by : Caller) (mine : Sessions) (s : SessionState) (message : List ℕ) (id : Id12) (own : mine s id) (is_id : IsId12 id) (w : IsSpelled s) (m : All (λ b. b < 256) message) where
-    over-careful : (flushed : ℕ) (journal : List Event) → IsOpened s journal → Logged s id journal → Snapped s message flushed id journal → IsCareful mine journal by.number (PutOver (Branch s.branch) (ref_bytes id) (version_at s.version) Commit)
+    pub over-careful : (flushed : ℕ) (journal : List Event) → IsOpened s journal → Logged s id journal → Snapped s message flushed id journal → IsCareful mine journal by.number (PutOver (Branch s.branch) (ref_bytes id) (version_at s.version) Commit)
     over-careful flushed journal o l p = record {
       polite = record {
         names = record { id = id; reference = L.reference.written id is_id; put = p.put };
@@ -177,13 +158,13 @@ module _ (L : Spellings) where
     after_branch-careful (Is_listed g) journal = tt
     after_branch-careful (Failed d) journal = tt
 
-    abbrev snap_put : ℕ → Op
+    abbrev pub snap_put : ℕ → Op
     snap_put flushed = PutNew (Snapshot id) (snapshot_bytes (snap_for s message flushed)) Set
 
-    abbrev log_put : Op
+    abbrev pub log_put : Op
     log_put = PutNew (Txn id) (log_bytes (touched s.changes s.tree)) Set
 
-    snap-polite : (flushed : ℕ) (journal : List Event) → flushed < 2 ^ 64 → IsOpened s journal → Logged s id journal → IsPolite journal (snap_put flushed)
+    pub snap-polite : (flushed : ℕ) (journal : List Event) → flushed < 2 ^ 64 → IsOpened s journal → Logged s id journal → IsPolite journal (snap_put flushed)
     snap-polite flushed journal f o l = (inr l.put, parent-put s (snap_for s message flushed) journal (snapshot_of (snapshot_bytes (snap_for s message flushed))) o refl (snap-read s message flushed w f m))
 
     snap-owed : (flushed : ℕ) (journal : List Event) → flushed < 2 ^ 64 → IsOpened s journal → Logged s id journal → Owes mine journal (snap_put flushed)

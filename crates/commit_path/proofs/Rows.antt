@@ -1,36 +1,19 @@
 -- What can be written of a session's tree.
-use Rattle.std.proofs.Common.{◌≡◌, ◌⊎◌, inl, inr, ℕ, ◌<◌, ◌^◌, Bool, true, false, cond, List, [], ◌∷◌, length, arith, refl, sym, ◌∙◌, ap, subst}
-use Rattle.std.specs.Prelude.{Option, Some, None, is_some, ◌||◌, map, All, Contains}
-use Rattle.std.specs.Str.{is_utf8}
-use Rattle.std.specs.List.{list_any}
-use Rattle.std.specs.FinMap.{FinMap, get, insert, entries, empty, keys, from_entries, find, put, get-entries, entries-insert, len-entries, len-empty, contains_key-keys, get-from_entries, same_map}
+use Rattle.std.proofs.Common.{◌≡◌, inl, inr, ℕ, true, false, cond, List, [], ◌∷◌, length, arith, refl, sym, ◌∙◌, subst}
+use Rattle.std.specs.Prelude.{Some}
+use Rattle.std.specs.FinMap.{FinMap, get, insert, entries, empty, find, put, get-entries, entries-insert, len-entries, len-empty}
 use Rattle.std.specs.FinMap.Entries.{by_order}
 use Rattle.std.specs.declared.cmp.Ordering.TheVariants.{Less, Equal, Greater}
-use Rattle.std.specs.Cmp.{eq_by_cmp_equiv}
-use Rattle.std.proofs.lemmas.List.Elements.{All-weaker, All-contains_itself}
-use Rattle.std.proofs.lemmas.Map.Views.{list_any-from_Contains}
-use Rattle.ice_ids.specs.declared.Id8.{Id8}
-use Rattle.ice_ids.specs.Text.{IsId8, id8_cmp}
-use Rattle.zarr_path.specs.Paths.{path_cmp, same_path, is_path}
+use Rattle.zarr_path.specs.Paths.{path_cmp, same_path}
 use Rattle.zarr_path.proofs.OrderLaws.{total, same_path-true}
 use Rattle.tree_model.specs.declared.node.Node.{Node}
-use Rattle.tree_model.specs.Trees.{Tree, node_at}
+use Rattle.tree_model.specs.Trees.{Tree}
 use Rattle.tree_model.specs.Changes.{Changes, apply}
-use Rattle.tree_model.specs.Touched.{touched, in_order, ids_of}
+use Rattle.tree_model.specs.Touched.{touched}
 use Rattle.tree_model.proofs.Applied.{node_cases}
 use Rattle.plain_object.specs.Objects.{IsWritableLog}
+use Rattle.commit_path.specs.Spelled.{IsFine, AllFine, TreeFine}
 use Rattle.plain_object.proofs.LogLaws.{touched-IsWritableLog}
-
--- a path and a node that can be written
-pub record IsFine (p : List ℕ) (n : Node) : Type 0 where
-  pub id : IsId8 n.id
-  pub path : is_path p ≡ true
-  pub text : is_utf8 p ≡ true
-
--- each row can be written
-abbrev pub AllFine : List (List ℕ × Node) → Type 0
-AllFine [] = Unit {0}
-AllFine (r ∷ rs) = IsFine r.0 r.1 × AllFine rs
 
 fine-find : (rows : List (List ℕ × Node)) (p : List ℕ) (n : Node) → AllFine rows → find path_cmp p rows ≡ Some n → IsFine p n
 fine-find [] p n a e = cc
@@ -63,10 +46,6 @@ fine-none = no-rows (entries (empty {X = Node} {R = path_cmp})) (sym (len-entrie
 -- what changes touch can be written as a log
 pub touched-writable : (c : Changes) (t : Tree) → AllFine (entries c.added) → IsWritableLog (touched c t)
 touched-writable c t a = touched-IsWritableLog c t (λ p n e. (fine-get c.added p n a e).id)
-
--- each node of a tree can be written
-abbrev pub TreeFine : Tree → Type 0
-TreeFine t = (p : List ℕ) (n : Node) → node_at t p ≡ Some n → IsFine p n
 
 pub apply-fine : (c : Changes) (t : Tree) → AllFine (entries c.added) → TreeFine t → TreeFine (apply c t)
 apply-fine c t a f p n e = elim (node_cases c t p n e) [

@@ -1,7 +1,6 @@
 -- An operation of a commit that the store failed or had no memory for.
-use Rattle.std.proofs.Common.{◌≡◌, refl, sym, ap, subst, ◌∙◌, ℕ, List, Result, Ok, Err}
+use Rattle.std.proofs.Common.{◌≡◌, refl, sym, ap, subst, ◌∙◌, ℕ, List, Result, Err}
 use Rattle.std.specs.Prelude.{IsTrue}
-use Rattle.ice_ids.specs.declared.Id12.{Id12}
 use Rattle.tree_model.specs.Touched.{touched}
 use Rattle.plain_object.specs.Objects.{snapshot_bytes, log_bytes, ref_bytes}
 use Rattle.store_api.specs.declared.Version.{Version}
@@ -11,15 +10,13 @@ use Rattle.store_api.specs.declared.events.New.{New}
 use Rattle.store_api.specs.declared.events.Over.{Over}
 use Rattle.store_api.specs.declared.events.Op.{Op}
 use Rattle.store_api.specs.declared.events.Op.TheVariants.{PutNew, PutOver}
-use Rattle.store_api.specs.declared.events.Event.{Event}
-use Rattle.store_api.specs.declared.events.Reply.{Reply}
 use Rattle.store_api.specs.declared.events.Reply.TheVariants as r
 use Rattle.store_api.specs.declared.events.StoreFault.{StoreFault}
 use Rattle.store_api.specs.declared.machines.Refusal.{Refusal}
 use Rattle.store_api.specs.declared.machines.Refusal.TheVariants.{NoMemory}
 use Rattle.store_api.specs.Machine.{version_at}
 use Rattle.store_api.specs.Journal.{IsPolite}
-use Rattle.store_api.specs.Callers.{View, Called, MayCall}
+use Rattle.store_api.specs.Callers.{View, Called}
 use Rattle.store_api.specs.Program.{Steps, IsDone, NextIsPolite, refusal_of}
 use Rattle.store_api.proofs.Programs.{Steps-fault, Steps-none}
 use Rattle.commit_path.specs.declared.commit.Commit.{Commit}

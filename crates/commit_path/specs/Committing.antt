@@ -1,6 +1,6 @@
 -- The program of a commit: it puts the log, then the snapshot, then the branch over the version that
 -- the session had read.
-use Rattle.std.specs.Prelude.{◌≡◌, ℕ, Bool, true, false, if◌then◌else◌, List, Option, Some, None, Result, Ok, Err}
+use Rattle.std.specs.Prelude.{◌≡◌, ℕ, if◌then◌else◌, List, Option, Some, None, Result, Ok, Err}
 use Rattle.ice_ids.specs.declared.Id12.{Id12}
 use Rattle.ice_ids.specs.Drawing.{drawn12, after12}
 use Rattle.tree_model.specs.Touched.{touched, is_untouched}

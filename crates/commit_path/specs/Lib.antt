@@ -1,2 +1,6 @@
 pub mod Committing
 pub mod Owed
+pub mod Answered
+pub mod Opened
+pub mod Spelled
+pub mod Laws

@@ -1,7 +1,9 @@
-//! The machine that commits a session, and what a commit owes.
+//! The machine that commits a session, what a commit owes, and what its answer says.
 #![tactic(auto)]
 
 mod commit;
 mod committing;
+mod laws;
 
 pub use commit::{Commit, Committed};
+pub use laws::{answers_law, commit_law, opening_law, session_law};

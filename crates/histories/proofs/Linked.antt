@@ -22,7 +22,7 @@ use Rattle.store_api.specs.Journal.{Each, StoodAt, IsGood, IsOnce, IsFirst, IsCo
 use Rattle.store_api.proofs.Journals.{Each-append}
 use Rattle.store_api.proofs.Slots.{same_key-true, slot-append_one, slot-none, stood-is}
 use Rattle.histories.specs.Repository.{Entry, RefHistory, last, Commit, Reset, Appended, Moved, answer_of, opened, created, at_version, after_answer, tree_at}
-use Rattle.histories.specs.Calls.{is_commit, call_of, called_if, entered, going, history_of, Spells, TellsCall, Agrees, AllHaveTheirTrees, LeadsThere, IsGiven, IsCommitted, CommitsApply, StandsAs, HistoryLaw}
+use Rattle.histories.specs.Calls.{is_commit, call_of, called_if, entered, going, history_of, Spells, TellsCall, Agrees, AllHaveTheirTrees, LeadsThere, IsGiven, IsChild, IsCommitted, CommitsApply, StandsAs, HistoryLaw}
 
 module _ (trees : Id12 → Option Tree) (given : ℕ → Changes) where
   going-append : (branch : List ℕ) (n : ℕ) (h : RefHistory) (xs ys : List Event) → going trees given branch n h (xs ++ ys) ≡ going trees given branch (n + length xs) (going trees given branch n h xs) ys
@@ -74,14 +74,20 @@ module _ (trees : Id12 → Option Tree) where
   last-tree (None ∷ es) x a e = cc
   last-tree (Some y ∷ es) x a e = let k : y ≡ x = cc in subst (λ (z : Entry). z.tree ≡ trees z.id) k a.0
 
-  -- the tree of a commit over what stands
-  commit-tree : (c : Changes) (journal : List Event) (branch : List ℕ) (old : ℕ) (id : Id12) (s : Stored) (x : Entry) → found journal (Branch branch) ≡ Some s → s.version ≡ old → ref_of s.bytes ≡ Some x.id → (p : IsCommitOver journal branch old id) → trees id ≡ option_map (apply c) (trees p.base) → trees id ≡ option_map (apply c) (trees x.id)
-  commit-tree c journal branch old id s x e v names p leads =
+  -- the base of a commit over what stands
+  commit-base : (journal : List Event) (branch : List ℕ) (old : ℕ) (id : Id12) (s : Stored) (x : Entry) → found journal (Branch branch) ≡ Some s → s.version ≡ old → ref_of s.bytes ≡ Some x.id → (p : IsCommitOver journal branch old id) → p.base ≡ x.id
+  commit-base journal branch old id s x e v names p =
       let stood : StoodAt journal (Branch branch) s.version p.named_by = subst (λ (n : ℕ). StoodAt journal (Branch branch) n p.named_by) (sym v) p.named in
       let bytes : s.bytes ≡ p.named_by = stood-is journal (Branch branch) s p.named_by e stood in
       let base : ref_of s.bytes ≡ Some p.base = subst (λ (b : List ℕ). ref_of b ≡ Some p.base) (sym bytes) p.names in
-      let same : p.base ≡ x.id = cc in
-      leads ∙ ap (λ (b : Id12). option_map (apply c) (trees b)) same
+      cc
+
+  commit-child : (journal : List Event) (branch : List ℕ) (old : ℕ) (id parent : Id12) → (p : IsCommitOver journal branch old id) → p.base ≡ parent → IsChild journal id parent
+  commit-child journal branch old id parent p base = record { snap = p.snap; made = p.made; parent_is = p.parent ∙ ap (λ (i : Id12). Some i) base }
+
+  -- the tree of a commit over what stands
+  commit-tree : (c : Changes) (journal : List Event) (branch : List ℕ) (old : ℕ) (id : Id12) (s : Stored) (x : Entry) → found journal (Branch branch) ≡ Some s → s.version ≡ old → ref_of s.bytes ≡ Some x.id → (p : IsCommitOver journal branch old id) → trees id ≡ option_map (apply c) (trees p.base) → trees id ≡ option_map (apply c) (trees x.id)
+  commit-tree c journal branch old id s x e v names p leads = leads ∙ ap (λ (b : Id12). option_map (apply c) (trees b)) (commit-base journal branch old id s x e v names p)
 
   module _ (c : Changes) (journal : List Event) (once : IsOnce journal) (branch : List ℕ) (h : RefHistory) (link : Link trees (found journal (Branch branch)) h) where
     -- what a put over leaves
@@ -242,7 +248,14 @@ module _ (trees : Id12 → Option Tree) (given : ℕ → Changes) where
       committed : IsMoved journal branch old.0 bytes For_commit → (x : Entry) → last (history_of trees given journal branch) ≡ Some x → s.version ≡ x.version → ref_of s.bytes ≡ Some x.id → IsCommitted trees given journal branch old.0 id
       committed m x l v n =
           let p = over m in
-          record { before = x; is_last = l; version = sym v ∙ version; tree = commit-tree trees (given (length journal)) journal branch old.0 id s x stands version n p (leads' p p) }
+          let base : p.base ≡ x.id = commit-base trees journal branch old.0 id s x stands version n p in
+          record {
+            before = x;
+            is_last = l;
+            version = sym v ∙ version;
+            child = commit-child trees journal branch old.0 id x.id p base;
+            tree = commit-tree trees (given (length journal)) journal branch old.0 id s x stands version n p (leads' p p);
+          }
 
   -- what the run of the histories gives, from a journal on
   pub record Along (old more : List Event) : Type 0 where

@@ -96,11 +96,18 @@ LeadsThere trees c journal op = (branch bytes : List ℕ) (old : Version) (id : 
 abbrev pub IsGiven : (Id12 → Option Tree) → (ℕ → Changes) → List Event → Event → Type 0
 IsGiven trees given journal event = LeadsThere trees (given (length journal)) journal event.op
 
--- where a commit took effect: the entry before it, whose version it had read, and whose tree under its changes is its own
+-- the snapshot was first put with this one as its parent
+pub record IsChild (journal : List Event) (id parent : Id12) : Type 0 where
+  pub snap : Snap
+  pub made : snap_made journal id ≡ Some snap
+  pub parent_is : snap.parent ≡ Some parent
+
+-- where a commit took effect: the entry before it, whose version it had read, whose snapshot is its parent, and whose tree under its changes is its own
 pub record IsCommitted (trees : Id12 → Option Tree) (given : ℕ → Changes) (journal : List Event) (branch : List ℕ) (old : ℕ) (id : Id12) : Type 0 where
   pub before : Entry
   pub is_last : last (history_of trees given journal branch) ≡ Some before
   pub version : before.version ≡ old
+  pub child : IsChild journal id before.id
   pub tree : trees id ≡ option_map (apply (given (length journal))) (trees before.id)
 
 -- where the event is a commit that took effect, also by a lost answer

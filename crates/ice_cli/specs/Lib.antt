@@ -1,3 +1,4 @@
 pub mod Statuses
 pub mod Words
+pub mod Telling
 pub mod Run

@@ -1,12 +1,14 @@
--- What the top call reads (own).
-use Rattle.std.specs.Prelude.{◌≡◌, ℕ, List, Result, Ok, Err}
+-- What the top call reads, does and writes (own).
+use Rattle.std.specs.Prelude.{◌≡◌, ℕ, List, Ok, Err}
 use Rattle.ice_base.specs.Ends.{InputAt, OutputAt, IsInput, Rose}
+use Rattle.ice_ids.specs.declared.drawing.Draw.{Draw}
 use Rattle.play_script.specs.declared.faults.ScriptKind.{ScriptKind}
 use Rattle.play_script.specs.declared.scripts.Script.{Script}
 use Rattle.play_script.specs.Reading.{script_of}
 use Rattle.store_api.specs.Callers.{View}
 use Rattle.ice_cli.specs.declared.statuses.Status.{Status}
 use Rattle.ice_cli.specs.declared.statuses.Status.TheVariants as S
+use Rattle.ice_cli.specs.Telling.{WasPlayed}
 
 -- the longest input that is read: one byte more than a script may have
 abbrev pub most_input : ℕ
@@ -31,19 +33,11 @@ HasNone old new (S.Script line kind) = HasFault old new line kind
 HasNone old new S.NoMemory = Unit {0}
 HasNone old new _ = ⊥
 
--- the statuses of what was played
-abbrev pub IsPlayed : Status → Type 0
-IsPlayed S.Ok = Unit {0}
-IsPlayed S.Refused = Unit {0}
-IsPlayed S.WriteFault = Unit {0}
-IsPlayed S.StoreFault = Unit {0}
-IsPlayed S.NoMemory = Unit {0}
-IsPlayed _ = ⊥
-
--- the input is the text of a script
-pub record IsRead (old new : InputAt) : Type 0 where
+-- the input is the text of a script, which was played, and the report and the status tell of it
+pub record IsRun (draw : Draw) (in_old in_new : InputAt) (s t : View) (out_old out_new : OutputAt) (status : Status) : Type 0 where
   pub script : Script
-  pub is : HasScript old new script
+  pub reads : HasScript in_old in_new script
+  pub played : WasPlayed draw script s t out_old out_new status
 
 -- nothing was done, and nothing written
 pub record IsUntouched (store_old store_new : View) (out_old out_new : OutputAt) : Type 0 where
@@ -51,9 +45,9 @@ pub record IsUntouched (store_old store_new : View) (out_old out_new : OutputAt)
   pub out : out_new ≡ out_old
 
 -- what each status says where the words are a command
-abbrev pub Ends : InputAt → InputAt → View → View → OutputAt → OutputAt → Status → Type 0
-Ends in_old in_new s t out_old out_new S.ReadFault = Rose in_old.faults in_new.faults × IsUntouched s t out_old out_new
-Ends in_old in_new s t out_old out_new (S.Script line kind) = HasFault in_old in_new line kind × IsUntouched s t out_old out_new
-Ends in_old in_new s t out_old out_new (S.Usage fault) = ⊥
-Ends in_old in_new s t out_old out_new S.NoMemory = Unit {0}
-Ends in_old in_new s t out_old out_new _ = IsRead in_old in_new
+abbrev pub Ends : Draw → InputAt → InputAt → View → View → OutputAt → OutputAt → Status → Type 0
+Ends draw in_old in_new s t out_old out_new S.ReadFault = Rose in_old.faults in_new.faults × IsUntouched s t out_old out_new
+Ends draw in_old in_new s t out_old out_new (S.Script line kind) = HasFault in_old in_new line kind × IsUntouched s t out_old out_new
+Ends draw in_old in_new s t out_old out_new (S.Usage fault) = ⊥
+Ends draw in_old in_new s t out_old out_new S.NoMemory = Unit {0}
+Ends draw in_old in_new s t out_old out_new status = IsRun draw in_old in_new s t out_old out_new status

@@ -2,10 +2,10 @@
 //! store in memory, and prints the report.
 #![tactic(auto)]
 
-mod course;
 mod ending;
 pub mod laws;
 mod statuses;
+mod telling;
 #[cfg(test)]
 mod tests;
 mod top_call;

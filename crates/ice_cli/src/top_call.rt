@@ -1,41 +1,27 @@
 //! The top call.
 
 ghost use Rattle.std.specs.Prelude.{◌≡◌, Ok, Err, IfOk, MatchResult};
+ghost use Rattle.ice_base.specs.Ends.{Rose};
 ghost use Rattle.play_script.specs.Well.{IsWell};
-ghost use Rattle.ice_cli.specs.Run.{HasScript, HasNone, IsPlayed, Ends};
+ghost use Rattle.ice_cli.specs.Telling.{WasPlayed};
+ghost use Rattle.ice_cli.specs.Run.{HasScript, HasNone, Ends};
 ghost use Rattle.ice_cli.specs.declared.words.UsageFault.{UsageFault};
 ghost use Rattle.ice_cli.specs.declared.words.Command.{Command};
 ghost use Rattle.ice_cli.specs.Words.{command_of};
 
-use crate::course::{Played, causes_of, names_of, outcomes_of, play};
 use crate::ending::Ended;
 use crate::statuses::Status;
+use crate::telling::finish;
 use crate::words::{Word, read_words};
-use ice_base::{Sink, Source, read_input, write_whole};
+use ice_base::{Sink, Source, read_input};
 use ice_ids::Draw;
-use play_report::report;
+use play_course::play;
 use play_script::Script;
 use std::alloc::{AllocError, Global};
 use store_api::Base;
 
 /// The longest input that is read: one byte more than a script may have.
 const MOST_INPUT: usize = 1_048_577;
-
-/// Writes the report.
-fn finish<K: Sink>(
-    alloc: Global,
-    script: &Script,
-    played: &Played<'_>,
-    out: &mut K,
-) -> Result<Status, AllocError>
-    ensures { IfOk result IsPlayed }
-{
-    let names = names_of(alloc, script.tasks.as_slice())?;
-    let outcomes = outcomes_of(alloc, &played.workers)?;
-    let text = report(alloc, &names, &played.opening, &outcomes, &played.refs)?;
-    let unwritten = write_whole(out, &text).is_err();
-    Ok(causes_of(played, &outcomes, unwritten).status())
-}
 
 /// Plays a script and writes the report.
 fn play_and_report<S: Base, K: Sink>(
@@ -46,7 +32,7 @@ fn play_and_report<S: Base, K: Sink>(
     out: &mut K,
 ) -> Result<Status, AllocError>
     requires { IsWell script.now }
-    ensures { IfOk result IsPlayed }
+    ensures { IfOk result (λ status. WasPlayed draw script.now (S.view store.old) (S.view store.new) (K.at out.old) (K.at out.new) status) }
 {
     let played = play(alloc, script, draw, store)?;
     finish(alloc, script, &played, out)
@@ -69,7 +55,9 @@ fn run_input<I: Source, S: Base, K: Sink>(
     store: &mut S,
     out: &mut K,
 ) -> Status
-    ensures { Ends (I.at input.old) (I.at input.new) (S.view store.old) (S.view store.new) (K.at out.old) (K.at out.new) result }
+    ensures ends { Ends draw (I.at input.old) (I.at input.new) (S.view store.old) (S.view store.new) (K.at out.old) (K.at out.new) result }
+    ensures store_fault { result ≡ Status.StoreFault → Rose (S.view store.old).faults (S.view store.new).faults }
+    ensures write_fault { result ≡ Status.WriteFault → Rose (K.at out.old).faults (K.at out.new).faults }
 {
     match read_script(alloc, input) {
         Ok(script) => match play_and_report(alloc, &script, draw, store, out) {
@@ -93,8 +81,14 @@ pub fn run<I: Source, S: Base, K: Sink>(
     ensures usage { (fault : UsageFault) → command_of words.now ≡ Err fault → (result.status ≡ Status.Usage fault) × (S.view result.store ≡ S.view store) × (I.at input.new ≡ I.at input.old) × (K.at out.new ≡ K.at out.old) }
 
     // Else the status tells of the input: a fault of the source only where it rose; the first line that is refused, exactly; and
-    // then nothing has been done or written. Every other status but want of memory has read a script.
-    ensures ends { (command : Command) → command_of words.now ≡ Ok command → Ends (I.at input.old) (I.at input.new) (S.view store) (S.view result.store) (K.at out.old) (K.at out.new) result.status }
+    // then nothing has been done or written. Every other status but want of memory has read a script, played it over the
+    // store, and written its report, whole, or less where the sink failed.
+    ensures ends { (command : Command) → command_of words.now ≡ Ok command → Ends draw (I.at input.old) (I.at input.new) (S.view store) (S.view result.store) (K.at out.old) (K.at out.new) result.status }
+
+    // A fault of the store or of the sink is told only where their counts of faults rose. So where the words are a command, the
+    // script is well and no count rises, the status is Ok or Refused, or NoMemory.
+    ensures store_fault { result.status ≡ Status.StoreFault → Rose (S.view store).faults (S.view result.store).faults }
+    ensures write_fault { result.status ≡ Status.WriteFault → Rose (K.at out.old).faults (K.at out.new).faults }
 {
     let mut store = store;
     if let Err(fault) = read_words(words) {

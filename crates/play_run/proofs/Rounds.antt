@@ -7,14 +7,17 @@ use Rattle.std.proofs.lemmas.Option.{slice_get_cases, get_or_from_slice_get}
 use Rattle.std.proofs.lemmas.List.{replicate_more, take_more, length-take-le, map-append}
 use Rattle.store_api.specs.declared.events.Event.{Event}
 use Rattle.store_api.specs.Callers.{only}
-use Rattle.store_api.specs.Program.{Keeps, Done, Ask, IsAsk}
+use Rattle.store_api.specs.Program.{Keeps, Leads, Done, Ask, IsAsk}
 use Rattle.commit_path.specs.Owed.{IsCareful}
 use Rattle.commit_path.proofs.Owing.{Spellings}
 use Rattle.play_script.specs.Well.{IsWellTask}
 use Rattle.play_tasks.specs.declared.worker.Worker.{Worker}
 use Rattle.play_tasks.specs.Workers.{worker_rest}
 use Rattle.play_tasks.specs.Solving.{IsOfTask}
+use Rattle.play_tasks.specs.Telling.{TellsOutcome}
 use Rattle.play_tasks.proofs.Careful.{task-careful}
+use Rattle.play_tasks.proofs.Told.{task-told}
+use Rattle.store_api.proofs.Programs.{Leads-weaker, Leads-done}
 use Rattle.ice_ids.specs.declared.drawing.Draw.{Draw}
 use Rattle.store_api.specs.Callers.{View}
 use Rattle.store_api.specs.Program.{Prog}
@@ -22,7 +25,7 @@ use Rattle.play_script.specs.declared.scripts.Task.{Task}
 use Rattle.play_script.specs.declared.scripts.Turn.{Turn}
 use Rattle.play_report.specs.declared.outcome.Outcome.{Outcome}
 use Rattle.play_tasks.specs.Playing.{task_program}
-use Rattle.play_run.specs.Order.{ids_at, programs_from, places_of, turns_of, IsDoneAt, AllStand, AllBlame, Ran, RanWorkers}
+use Rattle.play_run.specs.Order.{ids_at, IsTold, AllTold, programs_from, places_of, turns_of, IsDoneAt, AllStand, AllBlame, Ran, RanWorkers}
 use Rattle.play_run.specs.Taking.{Took}
 use Rattle.play_run.specs.Going.{CanGo, Went}
 use Rattle.play_run.proofs.Turning.{Went-trans, Went-took}
@@ -113,7 +116,7 @@ well_at tasks k task wells e = by_cases (slice_get_cases tasks k).1
     by_cases (inr c) = absurd (cc)
 
 -- tasks that are well begin so that each operation of theirs is polite and owed
-pub AllStand-begin : (L : Spellings) (draw : Draw) (tasks : List Task) (tells : Bool) (journal : List Event) → All IsWellTask tasks → AllStand draw tasks tells (programs_from draw 0 tasks) journal
+pub AllStand-begin : (L : Spellings) (draw : Draw) (tasks : List Task) (tells : Bool) (journal : List Event) → All IsWellTask tasks → AllStand draw tasks journal tells (programs_from draw 0 tasks) journal
 AllStand-begin L draw tasks tells journal wells k p e =
     let r = program_at draw 0 tasks k p e in
     let place : 0 + k ≡ k = zero-add k in
@@ -122,13 +125,16 @@ AllStand-begin L draw tasks tells journal wells k p e =
       task = r.task;
       at = r.at;
       careful = subst (λ (x : Prog Outcome). Keeps (IsCareful (IsOfTask (ids_at draw k) r.task)) (only tells (k + 1)) x journal) (sym is) (task-careful L (only tells (k + 1)) (ids_at draw k) r.task (well_at tasks k r.task wells r.at) journal);
+      leads = subst (λ (x : Prog Outcome). Leads (IsTold draw k r.task journal) (only tells (k + 1)) x journal) (sym is)
+          (Leads-weaker (TellsOutcome (ids_at draw k) r.task (k + 1) journal) (IsTold draw k r.task journal) (λ outcome h t e. t) (only tells (k + 1)) (task_program (ids_at draw k) r.task) journal
+          (task-told L (only tells (k + 1)) (ids_at draw k) r.task journal (well_at tasks k r.task wells r.at)));
     }
 
 pub programs_size : (draw : Draw) (place : ℕ) (tasks : List Task) → length (programs_from draw place tasks) ≡ length tasks
 programs_size draw place [] = refl
 programs_size draw place (t ∷ ts) = ap suc (programs_size draw (place + 1) ts)
 
-size_map : (ws : List Worker) → length (map worker_rest ws) ≡ length ws
+pub size_map : (ws : List Worker) → length (map worker_rest ws) ≡ length ws
 size_map [] = refl
 size_map (x ∷ xs) = ap suc (size_map xs)
 
@@ -150,12 +156,22 @@ none_blamed draw tasks ps m n e k outcome at failed =
 
 -- ---- the whole run
 pub begins : (L : Spellings) (draw : Draw) (tasks : List Task) (view : View) (ps : List (Prog Outcome)) → All IsWellTask tasks → ps ≡ programs_from draw 0 tasks → CanGo view ps
-begins L draw tasks view ps wells e told = record { draw = draw; tasks = tasks; stand = subst (λ (xs : List (Prog Outcome)). AllStand draw tasks view.caller.tells xs view.seen) (sym e) (AllStand-begin L draw tasks view.caller.tells view.seen wells) }
+begins L draw tasks view ps wells e told = record { draw = draw; tasks = tasks; start = view.seen; stand = subst (λ (xs : List (Prog Outcome)). AllStand draw tasks view.seen view.caller.tells xs view.seen) (sym e) (AllStand-begin L draw tasks view.caller.tells view.seen wells) }
 
 pub ran_all : (L : Spellings) (draw : Draw) (tasks : List Task) (turns : List ℕ) (a c : View) (ps qs : List (Prog Outcome)) → All IsWellTask tasks → ps ≡ programs_from draw 0 tasks → ((counts : List ℕ) × Went (turns ++ turns_of 0 counts) a c ps qs) → IsTrue a.caller.tells → RanWorkers draw tasks turns (programs_from draw 0 tasks) qs a.seen c.seen
 ran_all L draw tasks turns a c ps qs wells e w told =
-    let stand = subst (λ (xs : List (Prog Outcome)). AllStand draw tasks a.caller.tells xs a.seen) (sym e) (AllStand-begin L draw tasks a.caller.tells a.seen wells) in
-    record { counts = w.0; ran = subst (λ (xs : List (Prog Outcome)). Ran draw tasks (turns ++ turns_of 0 w.0) xs qs a.seen c.seen) e (w.1.ran draw tasks told stand) }
+    let stand = subst (λ (xs : List (Prog Outcome)). AllStand draw tasks a.seen a.caller.tells xs a.seen) (sym e) (AllStand-begin L draw tasks a.caller.tells a.seen wells) in
+    record { counts = w.0; ran = subst (λ (xs : List (Prog Outcome)). Ran draw tasks (turns ++ turns_of 0 w.0) xs qs a.seen c.seen) e (w.1.ran draw tasks a.seen told stand) }
+
+pub told_all : (L : Spellings) (draw : Draw) (tasks : List Task) (turns : List ℕ) (a c : View) (ps qs : List (Prog Outcome)) → All IsWellTask tasks → ps ≡ programs_from draw 0 tasks → ((counts : List ℕ) × Went (turns ++ turns_of 0 counts) a c ps qs) → IsTrue a.caller.tells → AllTold draw tasks qs a.seen c.seen
+told_all L draw tasks turns a c ps qs wells e w told place task outcome at_task at =
+    let stand = subst (λ (xs : List (Prog Outcome)). AllStand draw tasks a.seen a.caller.tells xs a.seen) (sym e) (AllStand-begin L draw tasks a.caller.tells a.seen wells) in
+    let s = w.1.stands draw tasks a.seen told stand place (Done outcome) at in
+    let same : s.task ≡ task = some_same s.task (sym s.at ∙ at_task) in
+    subst (λ (x : Task). IsTold draw place x a.seen outcome c.seen) same (Leads-done (IsTold draw place s.task a.seen) (only c.caller.tells (place + 1)) outcome c.seen s.leads)
+  where
+    some_same : (x : Task) → Some x ≡ Some task → x ≡ task
+    some_same x h = cc
 
 -- a vector whose items were written in place
 pub written_back : (len : ℕ) (new old : List Worker) → length new ≡ length old → len ≡ length old → take len (new ++ drop (length new) old) ≡ new

@@ -13,14 +13,15 @@ use Rattle.store_api.specs.Journal.{Each, IsGood}
 use Rattle.store_api.specs.Callers.{Caller, View, Waits, Makes, IsOther, HasAll, own_event, owns, only, as_client}
 use Rattle.store_api.specs.Program.{Prog, Done, Ask, IsAsk, IsDone, Keeps, Turns, Works, Rests, BlamesEnd, NextIsPolite}
 use Rattle.store_api.proofs.Journals.{Each-one, Each-none, Each-append}
-use Rattle.store_api.proofs.Programs.{alone, has-all, good-waits, Keeps-turns, Keeps-waits, Keeps-now, Waits-same, Waits-fewer, Makes-fewer, Fewer}
+use Rattle.store_api.proofs.Programs.{alone, has-all, good-waits, Keeps-turns, Keeps-waits, Leads-turns, Keeps-now, Waits-same, Waits-fewer, Makes-fewer, Fewer}
 use Rattle.commit_path.specs.Owed.{Sessions, IsCareful}
 use Rattle.commit_path.proofs.Owing.{IsCareful-append}
 use Rattle.play_script.specs.declared.scripts.Task.{Task}
 use Rattle.play_report.specs.declared.outcome.Outcome.{Outcome}
 use Rattle.play_tasks.specs.Ending.{is_starved, is_failed}
 use Rattle.play_tasks.specs.Solving.{IsOfTask}
-use Rattle.play_run.specs.Order.{ids_at, Stands, AllStand, IsOfClient, Goes, InTurns, Ran, IsDoneAt, AllBlame}
+use Rattle.play_tasks.proofs.Told.{Leads-others, TellsOutcome-others}
+use Rattle.play_run.specs.Order.{ids_at, IsTold, Stands, AllStand, IsOfClient, Goes, InTurns, Ran, IsDoneAt, AllBlame}
 use Rattle.play_run.specs.Taking.{Rested, Stepped, Took}
 use Rattle.play_run.specs.Going.{CanGo, Went}
 use Rattle.play_run.proofs.Places.{at_set}
@@ -95,19 +96,27 @@ Keeps-polite mine by (Ask op next) journal k = k.0.polite
 next_same : (k t : ℕ) → t + 1 ≡ k + 1 → k ≡ t
 next_same k t e = omega (arith, e)
 
--- what holds of each worker, where one of them went on
-AllStand-set : (draw : Draw) (tasks : List Task) (tells : Bool) (ps : List (Prog Outcome)) (t : ℕ) (p q : Prog Outcome) (old new : List Event) → slice_get ps t ≡ Some p → AllStand draw tasks tells ps old → Stands draw tasks tells t q new → ((k : ℕ) → k ≢ t → Waits (only tells (k + 1)) old new) → AllStand draw tasks tells (set ps t q) new
-AllStand-set draw tasks tells ps t p q old new at all mine others =
-    at_set (λ k r. Stands draw tasks tells k r new) ps t p q at mine (λ k r differs e.
-    let s = all k r e in
-    record { task = s.task; at = s.at; careful = Keeps-waits (IsCareful (IsOfTask (ids_at draw k) s.task)) (stable (IsOfTask (ids_at draw k) s.task)) (only tells (k + 1)) r old new (others k differs) s.careful })
+-- what others do changes nothing of what an outcome tells
+told-others : (draw : Draw) (k : ℕ) (task : Task) (start : List Event) (tells : Bool) (outcome : Outcome) (journal more : List Event) → Each (IsOther (only tells (k + 1))) journal more → IsTold draw k task start outcome journal → IsTold draw k task start outcome (journal ++ more)
+told-others draw k task start tells outcome journal more others f e = TellsOutcome-others (only tells (k + 1)) start journal more others (ids_at draw k) task outcome (f e)
 
-module _ (draw : Draw) (tasks : List Task) (t : ℕ) (old new : View) (ps qs : List (Prog Outcome)) (told : IsTrue old.caller.tells) (all : AllStand draw tasks old.caller.tells ps old.seen) where
+-- of a want of memory nothing is told
+told-free : (draw : Draw) (k : ℕ) (task : Task) (start : List Event) (outcome : Outcome) (journal : List Event) → is_starved outcome ≡ true → IsTold draw k task start outcome journal
+told-free draw k task start outcome journal s e = absurd (cc)
+
+-- what holds of each worker, where one of them went on
+AllStand-set : (draw : Draw) (tasks : List Task) (start : List Event) (tells : Bool) (ps : List (Prog Outcome)) (t : ℕ) (p q : Prog Outcome) (old new : List Event) → slice_get ps t ≡ Some p → AllStand draw tasks start tells ps old → Stands draw tasks start tells t q new → ((k : ℕ) → k ≢ t → Waits (only tells (k + 1)) old new) → AllStand draw tasks start tells (set ps t q) new
+AllStand-set draw tasks start tells ps t p q old new at all mine others =
+    at_set (λ k r. Stands draw tasks start tells k r new) ps t p q at mine (λ k r differs e.
+    let s = all k r e in
+    record { task = s.task; at = s.at; careful = Keeps-waits (IsCareful (IsOfTask (ids_at draw k) s.task)) (stable (IsOfTask (ids_at draw k) s.task)) (only tells (k + 1)) r old new (others k differs) s.careful; leads = Leads-others (IsTold draw k s.task start) (only tells (k + 1)) (told-others draw k s.task start tells) r old new (others k differs) s.leads })
+
+module _ (draw : Draw) (tasks : List Task) (start : List Event) (t : ℕ) (old new : View) (ps qs : List (Prog Outcome)) (told : IsTrue old.caller.tells) (all : AllStand draw tasks start old.caller.tells ps old.seen) where
   tells : Bool
   tells = old.caller.tells
 
   -- a turn of a worker that had ended
-  rested : Rested t old new ps qs → Goes draw tasks tells t ps old.seen new.seen qs
+  rested : Rested t old new ps qs → Goes draw tasks start tells t ps old.seen new.seen qs
   unfolding tells
   rested r =
       let same : new.seen ≡ old.seen = ap (λ (v : View). v.seen) r.store in
@@ -116,14 +125,14 @@ module _ (draw : Draw) (tasks : List Task) (t : ℕ) (old new : View) (ps qs : L
         is = same ∙ sym (append-nil old.seen);
         careful = Each-none (IsOfClient draw tasks) old.seen;
         turned = inl (record { p = r.p; at = r.at; ended = r.ended; nothing = refl; same = r.same });
-        all = subst (λ (h : List Event). AllStand draw tasks tells qs h) (sym same) (subst (λ (xs : List (Prog Outcome)). AllStand draw tasks tells xs old.seen) (sym r.same) all);
+        all = subst (λ (h : List Event). AllStand draw tasks start tells qs h) (sym same) (subst (λ (xs : List (Prog Outcome)). AllStand draw tasks start tells xs old.seen) (sym r.same) all);
       }
 
   by : Caller
   by = (as_client (t + 1) old).caller
 
   -- the worker that stepped stands as before
-  stands_still : (s : Stepped t old new ps qs) → Stands draw tasks tells t s.q new.seen
+  stands_still : (s : Stepped t old new ps qs) → Stands draw tasks start tells t s.q new.seen
   unfolding tells by
   stands_still s =
       let mine = all t s.p s.at in
@@ -133,9 +142,10 @@ module _ (draw : Draw) (tasks : List Task) (t : ℕ) (old new : View) (ps qs : L
         task = mine.task;
         at = mine.at;
         careful = Keeps-turns (IsCareful (IsOfTask (ids_at draw t) mine.task)) is_starved is_failed (seen_by (only tells (t + 1)) (as_client (t + 1) old)) (seen_by (only tells (t + 1)) new) s.p s.q told turns mine.careful;
+        leads = Leads-turns (IsTold draw t mine.task start) is_starved is_failed (told-free draw t mine.task start) (seen_by (only tells (t + 1)) (as_client (t + 1) old)) (seen_by (only tells (t + 1)) new) s.p s.q told turns mine.leads;
       }
 
-  acted : (s : Stepped t old new ps qs) → Works is_starved (as_client (t + 1) old) new s.p s.q → Goes draw tasks tells t ps old.seen new.seen qs
+  acted : (s : Stepped t old new ps qs) → Works is_starved (as_client (t + 1) old) new s.p s.q → Goes draw tasks start tells t ps old.seen new.seen qs
   unfolding tells by stands_still
   acted s w =
       let mine = all t s.p s.at in
@@ -149,7 +159,7 @@ module _ (draw : Draw) (tasks : List Task) (t : ℕ) (old new : View) (ps qs : L
         is = added.is;
         careful = Each-one (IsOfClient draw tasks) old.seen event (record { place = t; task = mine.task; client = refl; at = mine.at; careful = record { good = good; owes = owed.owes } });
         turned = inr (inl (record { event = event; next = w.next; q = s.q; at = s.at ∙ ap (λ x. Some x) w.asks; client = refl; one = refl; goes = w.goes; rest = s.rest }));
-        all = subst (λ (xs : List (Prog Outcome)). AllStand draw tasks tells xs new.seen) (sym s.rest) (AllStand-set draw tasks tells ps t s.p s.q old.seen new.seen s.at all (stands_still s) (λ k n. record {
+        all = subst (λ (xs : List (Prog Outcome)). AllStand draw tasks start tells xs new.seen) (sym s.rest) (AllStand-set draw tasks start tells ps t s.p s.q old.seen new.seen s.at all (stands_still s) (λ k n. record {
           between = event ∷ [];
           others = Each-one (IsOther (only tells (k + 1))) old.seen event (record { good = good; other = λ e. n (next_same k t e); not_owned = not_only k (λ e. n (next_same k t e)) });
           is = added.is;
@@ -162,7 +172,7 @@ module _ (draw : Draw) (tasks : List Task) (t : ℕ) (old new : View) (ps qs : L
       not_only : (k : ℕ) → t + 1 ≢ k + 1 → owns (only tells (k + 1)) (t + 1) ≡ false
       not_only k n = both_false (nat_le (k + 1) (t + 1)) (nat_lt (t + 1) (k + 1 + 1)) (λ a b. n (between k (leb-true (k + 1) (t + 1) a) (ltb-true (t + 1) (k + 1 + 1) b)))
 
-  starved : (s : Stepped t old new ps qs) → Rests is_starved (as_client (t + 1) old) new s.q → Goes draw tasks tells t ps old.seen new.seen qs
+  starved : (s : Stepped t old new ps qs) → Rests is_starved (as_client (t + 1) old) new s.q → Goes draw tasks start tells t ps old.seen new.seen qs
   unfolding tells by stands_still
   starved s r =
       let owner : HasAll by = record { low = s.alone.low; end = s.alone.end } in
@@ -172,16 +182,16 @@ module _ (draw : Draw) (tasks : List Task) (t : ℕ) (old new : View) (ps qs : L
         is = same ∙ sym (append-nil old.seen);
         careful = Each-none (IsOfClient draw tasks) old.seen;
         turned = inr (inr (record { p = s.p; at = s.at; live = s.live; nothing = refl; q = s.q; ended = r.ended; rest = s.rest }));
-        all = subst (λ (xs : List (Prog Outcome)). AllStand draw tasks tells xs new.seen) (sym s.rest) (AllStand-set draw tasks tells ps t s.p s.q old.seen new.seen s.at all (stands_still s) (λ k n. Waits-same (only tells (k + 1)) old.seen new.seen same));
+        all = subst (λ (xs : List (Prog Outcome)). AllStand draw tasks start tells xs new.seen) (sym s.rest) (AllStand-set draw tasks start tells ps t s.p s.q old.seen new.seen s.at all (stands_still s) (λ k n. Waits-same (only tells (k + 1)) old.seen new.seen same));
       }
 
-  stepped : Stepped t old new ps qs → Goes draw tasks tells t ps old.seen new.seen qs
+  stepped : Stepped t old new ps qs → Goes draw tasks start tells t ps old.seen new.seen qs
   stepped s = elim s.turn.went [
     | inl w ↦ acted s w
     | inr r ↦ starved s r
   ]
 
-  pub goes : (result : Bool) → Took t old new ps qs result → Goes draw tasks old.caller.tells t ps old.seen new.seen qs
+  pub goes : (result : Bool) → Took t old new ps qs result → Goes draw tasks start old.caller.tells t ps old.seen new.seen qs
   unfolding tells
   goes true s = stepped s
   goes false r = rested r
@@ -206,9 +216,9 @@ Ran-none : (draw : Draw) (tasks : List Task) (ps : List (Prog Outcome)) (old : L
 unfolding InTurns
 Ran-none draw tasks ps old = record { more = []; is = sym (append-nil old); careful = Each-none (IsOfClient draw tasks) old; order = (refl, refl) }
 
-Ran-one : (draw : Draw) (tasks : List Task) (told : Bool) (t : ℕ) (ps qs : List (Prog Outcome)) (old new : List Event) → Goes draw tasks told t ps old new qs → Ran draw tasks (t ∷ []) ps qs old new
+Ran-one : (draw : Draw) (tasks : List Task) (start : List Event) (told : Bool) (t : ℕ) (ps qs : List (Prog Outcome)) (old new : List Event) → Goes draw tasks start told t ps old new qs → Ran draw tasks (t ∷ []) ps qs old new
 unfolding InTurns
-Ran-one draw tasks told t ps qs old new g = record { more = g.more; is = g.is; careful = g.careful; order = (g.more, [], qs, sym (append-nil g.more), g.turned, (refl, refl)) }
+Ran-one draw tasks start told t ps qs old new g = record { more = g.more; is = g.is; careful = g.careful; order = (g.more, [], qs, sym (append-nil g.more), g.turned, (refl, refl)) }
 
 -- ---- turns, whatever tasks' the programs are
 pub Went-none : (view : View) (ps : List (Prog Outcome)) → Went [] view view ps ps
@@ -218,8 +228,8 @@ Went-none view ps = record {
   counted = omega arith;
   blames = λ m below all. all;
   others = λ k done. done;
-  stands = λ draw tasks told all. all;
-  ran = λ draw tasks told all. Ran-none draw tasks ps view.seen;
+  stands = λ draw tasks start told all. all;
+  ran = λ draw tasks start told all. Ran-none draw tasks ps view.seen;
 }
 
 pub Went-trans : (ts us : List ℕ) (a b c : View) (ps mid qs : List (Prog Outcome)) → Went ts a b ps mid → Went us b c mid qs → Went (ts ++ us) a c ps qs
@@ -229,8 +239,8 @@ Went-trans ts us a b c ps mid qs v w = record {
   counted = omega (arith, v.counted, w.counted);
   blames = λ m below all. w.blames m (further m below) (v.blames m below all);
   others = λ k done. w.others k (v.others k done);
-  stands = λ draw tasks told all. w.stands draw tasks (still told) (v.stands draw tasks told all);
-  ran = λ draw tasks told all. Ran-trans draw tasks ts us ps mid qs a.seen b.seen c.seen (v.ran draw tasks told all) (w.ran draw tasks (still told) (v.stands draw tasks told all));
+  stands = λ draw tasks start told all. w.stands draw tasks start (still told) (v.stands draw tasks start told all);
+  ran = λ draw tasks start told all. Ran-trans draw tasks ts us ps mid qs a.seen b.seen c.seen (v.ran draw tasks start told all) (w.ran draw tasks start (still told) (v.stands draw tasks start told all));
 }
   where
     further : (m : ℕ) → m ≤ a.faults → m ≤ b.faults
@@ -259,8 +269,8 @@ took-rested t old new ps qs r = record {
   counted = let same = ap (λ (v : View). v.faults) r.store in omega (arith, same);
   blames = λ m below all. subst (λ (n : ℕ). AllBlame qs m n) (sym (ap (λ (v : View). v.faults) r.store)) (subst (λ (xs : List (Prog Outcome)). AllBlame xs m old.faults) (sym r.same) all);
   others = λ k done. subst (λ (xs : List (Prog Outcome)). IsDoneAt k xs) (sym r.same) done;
-  stands = λ draw tasks told all. subst (λ (b : Bool). AllStand draw tasks b qs new.seen) (sym (ap (λ (v : View). v.caller.tells) r.store)) (goes draw tasks t old new ps qs told all false r).all;
-  ran = λ draw tasks told all. Ran-one draw tasks old.caller.tells t ps qs old.seen new.seen (goes draw tasks t old new ps qs told all false r);
+  stands = λ draw tasks start told all. subst (λ (b : Bool). AllStand draw tasks start b qs new.seen) (sym (ap (λ (v : View). v.caller.tells) r.store)) (goes draw tasks start t old new ps qs told all false r).all;
+  ran = λ draw tasks start told all. Ran-one draw tasks start old.caller.tells t ps qs old.seen new.seen (goes draw tasks start t old new ps qs told all false r);
 }
 
 took-stepped : (t : ℕ) (old new : View) (ps qs : List (Prog Outcome)) → Stepped t old new ps qs → Went (t ∷ []) old new ps qs
@@ -270,8 +280,8 @@ took-stepped t old new ps qs s = record {
   counted = counted_by s.q old.faults new.faults s.turn.blames;
   blames = λ m below all. subst (λ (xs : List (Prog Outcome)). AllBlame xs m new.faults) (sym s.rest) (blame m below all);
   others = λ k done. subst (λ (xs : List (Prog Outcome)). IsDoneAt k xs) (sym s.rest) (done_at k done);
-  stands = λ draw tasks told all. subst (λ (b : Bool). AllStand draw tasks b qs new.seen) (sym tells_same) (goes draw tasks t old new ps qs told all true s).all;
-  ran = λ draw tasks told all. Ran-one draw tasks old.caller.tells t ps qs old.seen new.seen (goes draw tasks t old new ps qs told all true s);
+  stands = λ draw tasks start told all. subst (λ (b : Bool). AllStand draw tasks start b qs new.seen) (sym tells_same) (goes draw tasks start t old new ps qs told all true s).all;
+  ran = λ draw tasks start told all. Ran-one draw tasks start old.caller.tells t ps qs old.seen new.seen (goes draw tasks start t old new ps qs told all true s);
 }
   where
     tells_same : new.caller.tells ≡ old.caller.tells
@@ -297,7 +307,7 @@ pub CanGo-went : (ts : List ℕ) (a b : View) (ps qs : List (Prog Outcome)) → 
 CanGo-went ts a b ps qs w go told =
     let told' = subst (λ (x : Bool). IsTrue x) w.tells told in
     let r = go told' in
-    record { draw = r.draw; tasks = r.tasks; stand = w.stands r.draw r.tasks told' r.stand }
+    record { draw = r.draw; tasks = r.tasks; start = r.start; stand = w.stands r.draw r.tasks r.start told' r.stand }
 
 -- ---- what the step of a worker needs and gives
 pub polite_at : (view now : View) (t : ℕ) (ps : List (Prog Outcome)) (p : Prog Outcome) → now ≡ as_client (t + 1) view → CanGo view ps → slice_get ps t ≡ Some p → IsTrue now.caller.tells → NextIsPolite p now.seen

@@ -1,6 +1,7 @@
 -- What turns do, as the contracts of the code's own functions say it; no public contract cites this.
 use Rattle.std.specs.Prelude.{◌≡◌, ℕ, ◌≤◌, List, IsTrue, length}
 use Rattle.ice_ids.specs.declared.drawing.Draw.{Draw}
+use Rattle.store_api.specs.declared.events.Event.{Event}
 use Rattle.store_api.specs.Callers.{View}
 use Rattle.store_api.specs.Program.{Prog}
 use Rattle.play_script.specs.declared.scripts.Task.{Task}
@@ -11,7 +12,8 @@ use Rattle.play_run.specs.Order.{AllStand, Ran, IsDoneAt, AllBlame}
 pub record IsReady (view : View) (ps : List (Prog Outcome)) : Type 0 where
   pub draw : Draw
   pub tasks : List Task
-  pub stand : AllStand draw tasks view.caller.tells ps view.seen
+  pub start : List Event
+  pub stand : AllStand draw tasks start view.caller.tells ps view.seen
 
 abbrev pub CanGo : View → List (Prog Outcome) → Type 0
 CanGo view ps = IsTrue view.caller.tells → IsReady view ps
@@ -23,5 +25,5 @@ pub record Went (turns : List ℕ) (old new : View) (ps qs : List (Prog Outcome)
   pub counted : old.faults ≤ new.faults
   pub blames : (m : ℕ) → m ≤ old.faults → AllBlame ps m old.faults → AllBlame qs m new.faults
   pub others : (k : ℕ) → IsDoneAt k ps → IsDoneAt k qs
-  pub stands : (draw : Draw) (tasks : List Task) → IsTrue old.caller.tells → AllStand draw tasks old.caller.tells ps old.seen → AllStand draw tasks new.caller.tells qs new.seen
-  pub ran : (draw : Draw) (tasks : List Task) → IsTrue old.caller.tells → AllStand draw tasks old.caller.tells ps old.seen → Ran draw tasks turns ps qs old.seen new.seen
+  pub stands : (draw : Draw) (tasks : List Task) (start : List Event) → IsTrue old.caller.tells → AllStand draw tasks start old.caller.tells ps old.seen → AllStand draw tasks start new.caller.tells qs new.seen
+  pub ran : (draw : Draw) (tasks : List Task) (start : List Event) → IsTrue old.caller.tells → AllStand draw tasks start old.caller.tells ps old.seen → Ran draw tasks turns ps qs old.seen new.seen

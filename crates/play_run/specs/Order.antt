@@ -1,5 +1,5 @@
 -- The order in which workers take turns over one store, and what each of them owes.
-use Rattle.std.specs.Prelude.{◌≡◌, ◌⊎◌, ℕ, ◌+◌, ◌-◌, Bool, true, List, [], ◌∷◌, ◌++◌, Some, slice_get, slice_set, replicate}
+use Rattle.std.specs.Prelude.{◌≡◌, ◌⊎◌, ℕ, ◌+◌, ◌-◌, Bool, true, false, List, [], ◌∷◌, ◌++◌, Some, slice_get, slice_set, replicate}
 use Rattle.ice_base.specs.Ends.{Rose}
 use Rattle.ice_ids.specs.declared.drawing.AnyIds.{AnyIds}
 use Rattle.ice_ids.specs.declared.drawing.Draw.{Draw}
@@ -8,13 +8,14 @@ use Rattle.store_api.specs.declared.events.Reply.{Reply}
 use Rattle.store_api.specs.declared.events.Event.{Event}
 use Rattle.store_api.specs.Journal.{Each}
 use Rattle.store_api.specs.Callers.{only}
-use Rattle.store_api.specs.Program.{Prog, Done, Ask, IsAsk, IsDone, Keeps, IsStarved}
+use Rattle.store_api.specs.Program.{Prog, Done, Ask, IsAsk, IsDone, Keeps, Leads, IsStarved}
 use Rattle.commit_path.specs.Owed.{IsCareful, IsCarefulEvent}
 use Rattle.play_script.specs.declared.scripts.Task.{Task}
 use Rattle.play_script.specs.declared.scripts.Turn.{Turn}
 use Rattle.play_report.specs.declared.outcome.Outcome.{Outcome}
 use Rattle.play_tasks.specs.Playing.{task_program}
 use Rattle.play_tasks.specs.Solving.{IsOfTask}
+use Rattle.play_tasks.specs.Telling.{TellsOutcome}
 use Rattle.play_tasks.specs.Ending.{is_starved, is_failed}
 
 -- the ids of the client of the task at a place, whose number is one more
@@ -26,14 +27,20 @@ abbrev pub programs_from : Draw → ℕ → List Task → List (Prog Outcome)
 programs_from draw place [] = []
 programs_from draw place (t ∷ ts) = task_program (ids_at draw place) t ∷ programs_from draw (place + 1) ts
 
--- Whatever others do, each operation that the worker at this place comes to is polite, and what its task owes.
-pub record Stands (draw : Draw) (tasks : List Task) (tells : Bool) (place : ℕ) (p : Prog Outcome) (journal : List Event) : Type 0 where
+-- unless it tells a want of memory, the outcome of the task at this place tells what outcomes of tasks tell, where the tasks began at `start`
+abbrev pub IsTold : Draw → ℕ → Task → List Event → Outcome → List Event → Type 0
+IsTold draw place task start outcome journal = is_starved outcome ≡ false → TellsOutcome (ids_at draw place) task (place + 1) start outcome journal
+
+-- Whatever others do, each operation that the worker at this place comes to is polite, and what its task owes; and its outcome will tell
+-- the journal, where the tasks began at `start`.
+pub record Stands (draw : Draw) (tasks : List Task) (start : List Event) (tells : Bool) (place : ℕ) (p : Prog Outcome) (journal : List Event) : Type 0 where
   pub task : Task
   pub at : slice_get tasks place ≡ Some task
   pub careful : Keeps (IsCareful (IsOfTask (ids_at draw place) task)) (only tells (place + 1)) p journal
+  pub leads : Leads (IsTold draw place task start) (only tells (place + 1)) p journal
 
-abbrev pub AllStand : Draw → List Task → Bool → List (Prog Outcome) → List Event → Type 0
-AllStand draw tasks tells ps journal = (place : ℕ) (p : Prog Outcome) → slice_get ps place ≡ Some p → Stands draw tasks tells place p journal
+abbrev pub AllStand : Draw → List Task → List Event → Bool → List (Prog Outcome) → List Event → Type 0
+AllStand draw tasks start tells ps journal = (place : ℕ) (p : Prog Outcome) → slice_get ps place ≡ Some p → Stands draw tasks start tells place p journal
 
 -- the event is good, its client's, and what the task of that client owes
 pub record IsOfClient (draw : Draw) (tasks : List Task) (journal : List Event) (event : Event) : Type 0 where
@@ -77,12 +84,12 @@ abbrev pub Turned : ℕ → List (Prog Outcome) → List Event → List (Prog Ou
 Turned t ps events qs = Passed t ps events qs ⊎ (Acted t ps events qs ⊎ Starved t ps events qs)
 
 -- what a turn of a worker adds, where the others stay
-pub record Goes (draw : Draw) (tasks : List Task) (tells : Bool) (t : ℕ) (ps : List (Prog Outcome)) (old new : List Event) (qs : List (Prog Outcome)) : Type 0 where
+pub record Goes (draw : Draw) (tasks : List Task) (start : List Event) (tells : Bool) (t : ℕ) (ps : List (Prog Outcome)) (old new : List Event) (qs : List (Prog Outcome)) : Type 0 where
   pub more : List Event
   pub is : new ≡ old ++ more
   pub careful : Each (IsOfClient draw tasks) old more
   pub turned : Turned t ps more qs
-  pub all : AllStand draw tasks tells qs new
+  pub all : AllStand draw tasks start tells qs new
 
 -- the events stand in the order of the turns
 unfoldable pub InTurns : List ℕ → List (Prog Outcome) → List Event → List (Prog Outcome) → Type 0
@@ -104,6 +111,10 @@ IsDoneAt place ps = (p : Prog Outcome) → slice_get ps place ≡ Some p → IsD
 -- an outcome that tells a fault of the store comes only where the faults rose
 abbrev pub AllBlame : List (Prog Outcome) → ℕ → ℕ → Type 0
 AllBlame ps m n = (place : ℕ) (outcome : Outcome) → slice_get ps place ≡ Some (Done outcome) → is_failed outcome ≡ true → Rose m n
+
+-- each outcome tells the journal, where the tasks began at `start`
+abbrev pub AllTold : Draw → List Task → List (Prog Outcome) → List Event → List Event → Type 0
+AllTold draw tasks ps start journal = (place : ℕ) (task : Task) (outcome : Outcome) → slice_get tasks place ≡ Some task → slice_get ps place ≡ Some (Done outcome) → IsTold draw place task start outcome journal
 
 -- the places of the workers that take these turns of a script
 abbrev pub places_of : List Turn → List ℕ

@@ -3,7 +3,7 @@
 ghost use Rattle.std.specs.Prelude.{◌≡◌, ◌<◌, ◌≤◌, ◌+◌, ◌-◌, ◌^◌, ◌++◌, ℕ, List, IsTrue, IfOk, IfErr, All, replicate, map, length};
 ghost use Rattle.play_script.specs.Well.{IsWellTask, IsWellTurn};
 ghost use Rattle.play_tasks.specs.Workers.{worker_rest};
-ghost use Rattle.play_run.specs.Order.{RanWorkers, programs_from, IsDoneAt, AllBlame, places_of, turns_of};
+ghost use Rattle.play_run.specs.Order.{RanWorkers, programs_from, IsDoneAt, AllTold, AllBlame, places_of, turns_of};
 ghost use Rattle.play_run.specs.Taking.{Took, left_at};
 ghost use Rattle.play_run.specs.Going.{CanGo, Went};
 
@@ -114,6 +114,9 @@ pub fn run_tasks<'a, S: Base>(
     // of turns and then task by task.
     ensures ran { IsTrue (S.view store.old).caller.tells → IfOk result (λ workers. RanWorkers draw tasks.now (places_of turns.now) (programs_from draw 0 tasks.now) (map worker_rest workers.items) (S.view store.old).seen (S.view store.new).seen) }
     ensures ended { IfOk result (λ workers. (k : ℕ) → k < length workers.items → IsDoneAt k (map worker_rest workers.items)) }
+
+    // What each outcome says of the journal: what was opened and shown, and what became of the commit.
+    ensures told { IsTrue (S.view store.old).caller.tells → IfOk result (λ workers. AllTold draw tasks.now (map worker_rest workers.items) (S.view store.old).seen (S.view store.new).seen) }
     ensures size { IfOk result (λ workers. length workers.items ≡ length tasks.now) }
 
     // An outcome tells a fault of the store only where it rose.

@@ -1,5 +1,5 @@
 -- What a task does is polite and owed, whatever others do.
-use Rattle.std.proofs.Common.{◌≡◌, ℕ, ◌<◌, refl, sym, ap, subst, ◌∙◌, List, [], ◌∷◌, ◌++◌, Result, Ok, Err}
+use Rattle.std.proofs.Common.{◌≡◌, ℕ, ◌<◌, refl, subst, List, [], ◌∷◌, ◌++◌, Result, Ok, Err}
 use Rattle.std.specs.Prelude.{map, All}
 use Rattle.std.proofs.lemmas.List.Elements.{All-head, All-tail}
 use Rattle.ice_ids.specs.declared.Id8.{Id8}
@@ -13,13 +13,15 @@ use Rattle.store_api.specs.Program.{Prog, Done, Ask, Keeps, Leads}
 use Rattle.store_api.proofs.Programs.{Keeps-bind}
 use Rattle.session.specs.declared.session.Listing.{Listing}
 use Rattle.session.specs.Sessions.{SessionState}
-use Rattle.session.specs.Opening.{open_program, begun}
+use Rattle.session.specs.Opening.{open_program}
 use Rattle.session.specs.Editing.{group_added, listed}
 use Rattle.commit_path.specs.declared.commit.Committed.{Committed}
 use Rattle.commit_path.specs.Committing.{commit_program, started}
 use Rattle.commit_path.specs.Owed.{Sessions, IsCareful}
-use Rattle.commit_path.proofs.Owing.{Spellings, IsOpened, IsSpelled, commit-careful}
-use Rattle.commit_path.proofs.Opened.{open-careful, open-leads, Opens, IsReady, Added, group-added, group-opened, group-spelled, Started, start-started, started-opened, started-spelled}
+use Rattle.commit_path.specs.Opened.{IsOpened}
+use Rattle.commit_path.specs.Spelled.{IsSpelled}
+use Rattle.commit_path.proofs.Owing.{Spellings, commit-careful}
+use Rattle.commit_path.proofs.Opened.{open-careful, open-leads, Opens, group-added, group-opened, group-spelled, start-started, started-opened, started-spelled}
 use Rattle.play_script.specs.declared.scripts.Call.{Call}
 use Rattle.play_script.specs.declared.scripts.Call.TheVariants as call
 use Rattle.play_script.specs.declared.scripts.Line.{Line}
@@ -27,7 +29,7 @@ use Rattle.play_script.specs.declared.scripts.Task.{Task}
 use Rattle.play_script.specs.Well.{IsWellCall, IsWellLine, IsWellTask}
 use Rattle.play_report.specs.declared.outcome.Shown.{Shown}
 use Rattle.play_report.specs.declared.outcome.Outcome.{Outcome}
-use Rattle.play_tasks.specs.Playing.{Local, play_call, play_lines, goes_on, after_group, after_list, after_start, after_commit, after_open, asked_by, task_program, node_shown}
+use Rattle.play_tasks.specs.Playing.{play_call, play_lines, goes_on, after_group, after_list, after_start, after_commit, after_open, asked_by, task_program, node_shown}
 use Rattle.play_tasks.specs.Solving.{ReachesBy, Reaches, IsOfTask}
 
 leads-any : {A : Type 0} (by : Caller) (p : Prog A) (journal : List Event) → Leads (λ a h. Unit {0}) by p journal
@@ -89,7 +91,7 @@ module _ (L : Spellings) (by : Caller) (mine : Sessions) where
       (λ mid more o' w' own'. lines-careful ls mid more journal (All-tail IsWellLine l ls well) o' w' own')
 
 module _ (L : Spellings) (by : Caller) (ids : AnyIds) (task : Task) where
-  opened-careful : IsWellTask task → (r : Result SessionState Refusal) (journal : List Event) → Opens (asked_by task.head ids) r journal → Keeps (IsCareful (IsOfTask ids task)) by (after_open task r) journal
+  pub opened-careful : IsWellTask task → (r : Result SessionState Refusal) (journal : List Event) → Opens (asked_by task.head ids) r journal → Keeps (IsCareful (IsOfTask ids task)) by (after_open task r) journal
   unfolding Keeps
   opened-careful well (Err why) journal q = tt
   opened-careful well (Ok s) journal q =

@@ -1,3 +1,4 @@
 pub mod Locals
 pub mod TurnLaws
 pub mod Careful
+pub mod Told

@@ -1,9 +1,9 @@
 -- What local calls of a session come to; none of them tells a fault of the store.
-use Rattle.std.proofs.Common.{◌≡◌, refl, sym, ap, subst, ◌∙◌, Bool, true, false, ℕ, List, [], ◌∷◌, ◌++◌, Option, None, Some, Result, Ok, Err}
+use Rattle.std.proofs.Common.{◌≡◌, refl, sym, ap, ◌∙◌, Bool, true, false, ℕ, List, ◌∷◌, Option, None, Some, Result, Ok, Err}
 use Rattle.std.proofs.Common.{suc, arith, ◌+◌, ◌<◌, ◌≤◌, length, drop, slice_index_or}
 use Rattle.std.proofs.Math.Seq.{drop-cons}
 use Rattle.std.proofs.Math.ListN.{drop_of_length-le}
-use Rattle.std.specs.Prelude.{if◌then◌else◌, not, map}
+use Rattle.std.specs.Prelude.{if◌then◌else◌, not}
 use Rattle.ice_ids.specs.declared.Id8.{Id8}
 use Rattle.ice_ids.specs.declared.Id12.{Id12}
 use Rattle.ice_ids.specs.Drawing.{drawn8, drawn12}

@@ -1,13 +1,11 @@
 -- A step of a worker's machine is a turn of the worker.
-use Rattle.std.proofs.Common.{◌≡◌, ◌⊎◌, inl, inr, refl, sym, ap, subst, ◌∙◌, Bool, true, false, ℕ, ◌≤◌, List, Result, Ok, Err}
-use Rattle.ice_base.specs.Ends.{Rose}
+use Rattle.std.proofs.Common.{◌≡◌, ◌⊎◌, inl, inr, sym, ap, subst, ◌∙◌, ℕ, Result, Ok, Err}
 use Rattle.store_api.specs.declared.machines.Next.{Next}
-use Rattle.store_api.specs.declared.machines.Next.TheVariants.{Again, Ready}
 use Rattle.store_api.specs.declared.machines.Refusal.{Refusal}
 use Rattle.store_api.specs.declared.machines.Refusal.TheVariants.{NoMemory}
 use Rattle.store_api.specs.Callers.{View}
-use Rattle.store_api.specs.Program.{Prog, Done, Ask, bind, Steps, Turns, Works, Rests, Blames, BlamesEnd, IsStarved, settled}
-use Rattle.store_api.proofs.Programs.{Turns-steps, lands-settled}
+use Rattle.store_api.specs.Program.{Prog, Done, Ask, bind, Steps, Turns, Blames, BlamesEnd, IsStarved, settled}
+use Rattle.store_api.proofs.Programs.{lands-settled}
 use Rattle.play_report.specs.declared.outcome.Outcome.{Outcome}
 use Rattle.play_tasks.specs.Ending.{is_starved, is_failed}
 use Rattle.play_tasks.specs.Working.{Goes, Faults}

@@ -3,3 +3,5 @@ pub mod Solving
 pub mod Ending
 pub mod Working
 pub mod Workers
+pub mod Telling
+pub mod Laws

@@ -1,9 +1,11 @@
 //! The tasks of a script as step machines over a store.
 #![tactic(auto)]
 
+mod laws;
 mod lines;
 mod steps;
 mod worker;
 mod working;
 
+pub use laws::{outcome_law, task_law};
 pub use worker::Worker;

@@ -68,13 +68,13 @@ pub live-none : (entries : List Entry) (place : ℕ) → length entries ≤ plac
 live-none entries place l = ap live (drop_of_length-le entries l)
 
 -- ---- the parts of a reading
-abbrev after_tags : List RefLine → List Entry → Asks (List RefLine)
+abbrev pub after_tags : List RefLine → List Entry → Asks (List RefLine)
 after_tags lines tags = read_each lines (live tags)
 
-abbrev after_lines : List RefLine → Asks (List RefLine)
+abbrev pub after_lines : List RefLine → Asks (List RefLine)
 after_lines lines = list_part Tags >>= after_tags lines
 
-abbrev after_branches : List Entry → Asks (List RefLine)
+abbrev pub after_branches : List Entry → Asks (List RefLine)
 after_branches branches = read_each [] (live branches) >>= after_lines
 
 -- with the same lines and the same listing

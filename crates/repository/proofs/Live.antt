@@ -35,11 +35,11 @@ within-get (x ∷ xs) zero l = (x, refl)
 within-get (x ∷ xs) (suc place) l = within-get xs place (omega (arith, l))
 
 -- ---- the keys that are got
-live-step : (entry : Entry) (behind : List Entry) (gone : Bool) → is_gone entry.key behind ≡ gone → live (entry ∷ behind) ≡ cond gone (live behind) (entry.key ∷ live behind)
+pub live-step : (entry : Entry) (behind : List Entry) (gone : Bool) → is_gone entry.key behind ≡ gone → live (entry ∷ behind) ≡ cond gone (live behind) (entry.key ∷ live behind)
 live-step entry behind gone e = ap (λ (b : Bool). cond b (live behind) (entry.key ∷ live behind)) e
 
 -- a place in a listing at which this key isn't gone
-record StaysAt (entries : List Entry) (key : Key) : Type 0 where
+pub record StaysAt (entries : List Entry) (key : Key) : Type 0 where
   pub place : ℕ
   pub entry : Entry
   pub here : slice_get entries place ≡ Some entry
@@ -50,7 +50,7 @@ later : (entry : Entry) (entries : List Entry) (key : Key) → StaysAt entries k
 later entry entries key a = record { place = suc a.place; entry = a.entry; here = a.here; same = a.same; stays = a.stays }
 
 -- the keys that are got of the entries behind, each at its place
-abbrev AllStay : List Entry → Key → Type 0
+abbrev pub AllStay : List Entry → Key → Type 0
 AllStay entries key = (place : ℕ) → slice_get (live entries) place ≡ Some key → StaysAt entries key
 
 at_first : (e : Entry) (es : List Entry) (key : Key) → AllStay es key → is_gone e.key es ≡ false → (n : ℕ) → slice_get (e.key ∷ live es) n ≡ Some key → StaysAt (e ∷ es) key
@@ -63,7 +63,7 @@ by_step : (e : Entry) (es : List Entry) (key : Key) → AllStay es key → (b : 
 by_step e es key rest true g place h = later e es key (rest place (subst (λ (l : List Key). slice_get l place ≡ Some key) (live-step e es true g) h))
 by_step e es key rest false g place h = at_first e es key rest g place (subst (λ (l : List Key). slice_get l place ≡ Some key) (live-step e es false g) h)
 
-live-stays : (entries : List Entry) (key : Key) → AllStay entries key
+pub live-stays : (entries : List Entry) (key : Key) → AllStay entries key
 live-stays [] key place h = cc
 live-stays (e ∷ es) key place h = by_step e es key (live-stays es key) (is_gone e.key es) refl place h
 

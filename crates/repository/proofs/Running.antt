@@ -11,12 +11,13 @@ use Rattle.store_api.specs.declared.events.StoreFault.TheVariants.{Failed as Sto
 use Rattle.store_api.specs.declared.events.Event.{Event}
 use Rattle.store_api.specs.declared.machines.Refusal.{Refusal}
 use Rattle.store_api.specs.declared.machines.Refusal.TheVariants.{StoreFault, NoMemory}
-use Rattle.store_api.specs.Journal.{Each, IsGood}
-use Rattle.store_api.specs.Callers.{Caller, View, Waits, Called, MayCall, own_event}
+use Rattle.store_api.specs.Machine.{IsAnswered}
+use Rattle.store_api.specs.Journal.{Each, IsPolite, IsGood}
+use Rattle.store_api.specs.Callers.{Caller, View, Waits, Makes, Called, MayCall, HasAll, own_event}
 use Rattle.store_api.specs.Program.{Prog, Done, Ask, bind, Path, Grows, refusal_of, is_no_memory, is_fault}
-use Rattle.store_api.proofs.Journals.{Each-append, Each-none}
-use Rattle.store_api.proofs.Programs.{Grows-makes, good-waits, events_of-others, Path-append, Path-one, Path-none}
-use Rattle.repository.specs.Running.{Asks, ◌>>=◌, on_answer, Answers, IsCutOff, Ran, Runs}
+use Rattle.store_api.proofs.Journals.{Each-append, Each-none, Each-one}
+use Rattle.store_api.proofs.Programs.{alone, Grows-makes, good-waits, events_of-others, Path-append, Path-one, Path-none}
+use Rattle.repository.specs.Running.{Asks, ◌>>=◌, on_answer, Answers, IsCutOff, Adds, Ran, Runs}
 
 -- ---- journals that grow
 abbrev pub Grows-none : (client : ℕ) (journal : List Event) → Grows client [] journal journal
@@ -31,6 +32,31 @@ Grows-append client xs ys a b c g h = record {
   is = h.is ∙ (ap (λ (j : List Event). j ++ h.more) g.is ∙ append_assoc a g.more h.more);
   good = Each-append IsGood a g.more h.more g.good (subst (λ (j : List Event). Each IsGood j h.more) g.is h.good);
   owned = filter-append (λ e. e.client == client) g.more h.more ∙ rw (g.owned, h.owned) refl;
+}
+
+-- ---- nobody else
+abbrev Adds-none : (journal : List Event) → Adds [] journal journal
+Adds-none journal = record { is = sym (append-nil journal); good = Each-none IsGood journal }
+
+Waits-alone : (by : Caller) (old new : List Event) → HasAll by → Waits by old new → new ≡ old
+Waits-alone by old new all w = w.is ∙ rw (alone by old w.between all w.others) (append-nil old)
+
+Adds-waits : (by : Caller) (old new : List Event) → Waits by old new → HasAll by → Adds [] old new
+Adds-waits by old new w all = subst (λ (j : List Event). Adds [] old j) (sym (Waits-alone by old new all w)) (Adds-none old)
+
+Adds-makes : (by : Caller) (op : Op) (reply : Reply) (old new : List Event) → IsPolite old op → (m : Makes by op reply old new) → HasAll by → Adds (own_event by op reply m.time ∷ []) old new
+Adds-makes by op reply old new p m all =
+    let event : Event = own_event by op reply m.time in
+    let same = Waits-alone by old m.middle all m.waits in
+    record {
+      is = m.is ∙ ap (λ (h : List Event). h ++ event ∷ []) same;
+      good = Each-one IsGood old event (record { legal = subst (λ (h : List Event). IsAnswered h event) same m.answered; polite = p });
+    }
+
+Adds-append : (xs ys : List Event) (a b c : List Event) → Adds xs a b → Adds ys b c → Adds (xs ++ ys) a c
+Adds-append xs ys a b c g h = record {
+  is = h.is ∙ (ap (λ (j : List Event). j ++ ys) g.is ∙ append_assoc a xs ys);
+  good = Each-append IsGood a xs ys g.good (subst (λ (j : List Event). Each IsGood j ys) g.is h.good);
 }
 
 -- ---- paths
@@ -52,10 +78,11 @@ Rose-later : (a b c : ℕ) → a ≤ b → Rose b c → Rose a c
 Rose-later a b c l r = (omega (arith, l, r.0), elim r.1 [ inl s ↦ inl (omega (arith, l, s)) | inr e ↦ inr e ])
 
 -- ---- one program after another
-Ran-then : {A B : Type 0} (client : ℕ) (p : Asks A) (f : A → Asks B) (a : A) (result : Result B Refusal) (h i j : List Event) → Ran client p (Ok a) h i → Ran client (f a) result i j → Ran client (p >>= f) result h j
-Ran-then client p f a result h i j r s = record {
+Ran-then : {A B : Type 0} (by : Caller) (p : Asks A) (f : A → Asks B) (a : A) (result : Result B Refusal) (h i j : List Event) → Ran by p (Ok a) h i → Ran by (f a) result i j → Ran by (p >>= f) result h j
+Ran-then by p f a result h i j r s = record {
   own = r.own ++ s.own;
-  grows = Grows-append client r.own s.own h i j r.grows s.grows;
+  grows = Grows-append by.number r.own s.own h i j r.grows s.grows;
+  alone = λ all. Adds-append r.own s.own h i j (r.alone all) (s.alone all);
   ends = elim r.ends [
     | inl path ↦
         let first : Path (p >>= f) r.own (f a) = Path-bind p (Done (Ok a)) (on_answer f) r.own path in
@@ -75,13 +102,14 @@ Runs-then p f a u v w result r s = record {
   blames = λ e. Rose-later u.faults v.faults w.faults r.faults (s.blames e);
   ran = λ t.
       let t' : IsTrue v.caller.tells = subst (λ (c : Caller). IsTrue c.tells) (sym r.same) t in
-      Ran-then u.caller.number p f a result u.seen v.seen w.seen (r.ran t) (subst (λ (c : Caller). Ran c.number (f a) result v.seen w.seen) r.same (s.ran t'));
+      Ran-then u.caller p f a result u.seen v.seen w.seen (r.ran t) (subst (λ (c : Caller). Ran c (f a) result v.seen w.seen) r.same (s.ran t'));
 }
 
-Ran-refused : {A B : Type 0} (client : ℕ) (p : Asks A) (f : A → Asks B) (refusal : Refusal) (h i : List Event) → Ran client p (Err refusal) h i → Ran {A = B} client (p >>= f) (Err refusal) h i
-Ran-refused client p f refusal h i r = record {
+Ran-refused : {A B : Type 0} (by : Caller) (p : Asks A) (f : A → Asks B) (refusal : Refusal) (h i : List Event) → Ran by p (Err refusal) h i → Ran {A = B} by (p >>= f) (Err refusal) h i
+Ran-refused by p f refusal h i r = record {
   own = r.own;
   grows = r.grows;
+  alone = r.alone;
   ends = elim r.ends [
     | inl path ↦ inl (Path-bind p (Done (Err refusal)) (on_answer f) r.own path)
     | inr cut ↦ inr (record { result_is = ap (λ (x : Refusal). Err x) (err-same refusal NoMemory cut.result_is); left = bind cut.left (on_answer f); path = Path-bind p cut.left (on_answer f) r.own cut.path })
@@ -94,7 +122,7 @@ Runs-refused p f refusal u v r = record {
   same = r.same;
   faults = r.faults;
   blames = λ e. r.blames (ap (λ (x : Refusal). Err x) (err-same refusal StoreFault e));
-  ran = λ t. Ran-refused u.caller.number p f refusal u.seen v.seen (r.ran t);
+  ran = λ t. Ran-refused u.caller p f refusal u.seen v.seen (r.ran t);
 }
 
 -- the result in other words
@@ -107,7 +135,7 @@ Runs-done a view = record {
   same = refl;
   faults = omega arith;
   blames = λ e. cc;
-  ran = λ t. record { own = []; grows = Grows-none view.caller.number view.seen; ends = inl (Path-none (Done (Ok a))) };
+  ran = λ t. record { own = []; grows = Grows-none view.caller.number view.seen; alone = λ all. Adds-none view.seen; ends = inl (Path-none (Done (Ok a))) };
 }
 
 -- there was no memory to go on
@@ -116,7 +144,7 @@ Runs-free p view = record {
   same = refl;
   faults = omega arith;
   blames = λ e. cc;
-  ran = λ t. record { own = []; grows = Grows-none view.caller.number view.seen; ends = inr (record { result_is = refl; left = p; path = Path-none p }) };
+  ran = λ t. record { own = []; grows = Grows-none view.caller.number view.seen; alone = λ all. Adds-none view.seen; ends = inr (record { result_is = refl; left = p; path = Path-none p }) };
 }
 
 -- ---- one operation
@@ -139,7 +167,7 @@ answered wrap op answer old new k result may faultless answers c = record {
   ran = λ t.
       let m = c.did t in
       let event : Event = own_event old.caller op (wrap answer) m.time in
-      record { own = event ∷ []; grows = Grows-makes old.caller op (wrap answer) old.seen new.seen (may t) m; ends = answer-ends op k event refl result answers };
+      record { own = event ∷ []; grows = Grows-makes old.caller op (wrap answer) old.seen new.seen (may t) m; alone = Adds-makes old.caller op (wrap answer) old.seen new.seen (may t) m; ends = answer-ends op k event refl result answers };
 }
 
 failed : {T A : Type 0} (wrap : A → Reply) (op : Op) (fault : Fault) (old new : View) (k : Reply → Asks T) → MayCall old op → ((done : Bool) → k (Failed done) ≡ Done (Err StoreFault)) → Called wrap op (Err fault) old new → Runs old new (Ask op k) (Err (refusal_of fault))
@@ -153,6 +181,7 @@ failed wrap op Store_failed old new k may f c = record {
       record {
         own = event ∷ [];
         grows = Grows-makes old.caller op (Failed did.0) old.seen new.seen (may t) did.1;
+        alone = Adds-makes old.caller op (Failed did.0) old.seen new.seen (may t) did.1;
         ends = inl (subst (λ (q : Prog _). Path (Ask op k) (event ∷ []) q) (f did.0) (Path-one op k event refl));
       };
 }
@@ -160,7 +189,7 @@ failed wrap op Store_no_memory old new k may f c = record {
   same = c.same;
   faults = c.counted;
   blames = λ e. cc;
-  ran = λ t. record { own = []; grows = Grows-waits old.caller old.seen new.seen (c.did t); ends = inr (record { result_is = refl; left = Ask op k; path = Path-none (Ask op k) }) };
+  ran = λ t. record { own = []; grows = Grows-waits old.caller old.seen new.seen (c.did t); alone = Adds-waits old.caller old.seen new.seen (c.did t); ends = inr (record { result_is = refl; left = Ask op k; path = Path-none (Ask op k) }) };
 }
 
 -- an operation that was answered, told in other words

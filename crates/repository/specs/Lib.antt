@@ -2,3 +2,4 @@ pub mod Running
 pub mod Beginning
 pub mod Refs
 pub mod Laws
+pub mod Closing

@@ -1,10 +1,11 @@
 -- What a function did that runs a program of store operations to its end (own).
-use Rattle.std.specs.Prelude.{◌≡◌, ◌⊎◌, ℕ, ◌≤◌, List, Result, Ok, Err, false, IsTrue}
+use Rattle.std.specs.Prelude.{◌≡◌, ◌⊎◌, ℕ, ◌≤◌, List, ◌++◌, Result, Ok, Err, false, IsTrue}
 use Rattle.ice_base.specs.Ends.{Rose}
 use Rattle.store_api.specs.declared.events.Event.{Event}
 use Rattle.store_api.specs.declared.machines.Refusal.{Refusal}
 use Rattle.store_api.specs.declared.machines.Refusal.TheVariants.{NoMemory, StoreFault}
-use Rattle.store_api.specs.Callers.{View}
+use Rattle.store_api.specs.Callers.{Caller, View, HasAll}
+use Rattle.store_api.specs.Journal.{Each, IsGood}
 use Rattle.store_api.specs.Program.{Prog, Done, bind, Path, Grows, is_no_memory}
 
 -- a program that ends with an answer or a refusal
@@ -31,11 +32,17 @@ pub record IsCutOff {A : Type 0} (p : Asks A) (own : List Event) (result : Resul
   pub left : Asks A
   pub path : Path p own left
 
+-- From old to new there were these events alone, all good.
+pub record Adds (own old new : List Event) : Type 0 where
+  pub is : new ≡ old ++ own
+  pub good : Each IsGood old own
+
 -- From old to new there were good events, and the client's own among them are those of the program,
--- up to its end or to where memory ran out.
-pub record Ran {A : Type 0} (client : ℕ) (p : Asks A) (result : Result A Refusal) (old new : List Event) : Type 0 where
+-- up to its end or to where memory ran out. Where it has every number, there were no others.
+pub record Ran {A : Type 0} (by : Caller) (p : Asks A) (result : Result A Refusal) (old new : List Event) : Type 0 where
   pub own : List Event
-  pub grows : Grows client own old new
+  pub grows : Grows by.number own old new
+  pub alone : HasAll by → Adds own old new
   pub ends : Path p own (Done result) ⊎ IsCutOff p own result
 
 -- The program was run, with this result. The caller stays; the faults of the store never fall, and
@@ -44,4 +51,4 @@ pub record Runs {A : Type 0} (old new : View) (p : Asks A) (result : Result A Re
   pub same : new.caller ≡ old.caller
   pub faults : old.faults ≤ new.faults
   pub blames : result ≡ Err StoreFault → Rose old.faults new.faults
-  pub ran : IsTrue old.caller.tells → Ran old.caller.number p result old.seen new.seen
+  pub ran : IsTrue old.caller.tells → Ran old.caller p result old.seen new.seen

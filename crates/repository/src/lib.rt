@@ -7,7 +7,7 @@ mod laws;
 mod refs;
 
 pub use beginning::begin;
-pub use laws::live_law;
+pub use laws::{live_law, refs_law};
 pub use refs::read_refs;
 
 #[cfg(test)]

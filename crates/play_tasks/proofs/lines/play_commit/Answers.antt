@@ -1,4 +1,4 @@
-use Rattle.std.proofs.Common.{◌≡◌, inl, refl, sym, ap, ◌∙◌}
+use Rattle.std.proofs.Common.{inl}
 use Rattle.play_tasks.proofs.Locals.{start_on, well_refused, started_fault}
 use Rattle.play_tasks.proofs.lines.play_commit.Goals as goal
 

@@ -1,4 +1,4 @@
-use Rattle.std.proofs.Common.{◌≡◌, inl, inr, refl, sym, ap, ◌∙◌, List}
+use Rattle.std.proofs.Common.{inl, inr, sym, ap, ◌∙◌, List}
 use Rattle.play_report.specs.declared.outcome.Shown.{Shown}
 use Rattle.play_tasks.specs.Playing.{play_lines}
 use Rattle.play_tasks.specs.Working.{working_rest}

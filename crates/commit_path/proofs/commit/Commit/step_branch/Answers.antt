@@ -1,4 +1,4 @@
-use Rattle.std.proofs.Common.{◌≡◌, ap, ◌∙◌, List, ℕ}
+use Rattle.std.proofs.Common.{◌∙◌}
 use Rattle.commit_path.proofs.Steps.{no_memory, branch_fault, branch_polite}
 use Rattle.commit_path.proofs.commit.Commit.step_branch.Goals as goal
 

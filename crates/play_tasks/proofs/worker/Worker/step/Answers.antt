@@ -1,8 +1,7 @@
-use Rattle.std.proofs.Common.{◌≡◌, inl, sym, ap, ◌∙◌, subst, refl}
-use Rattle.store_api.specs.Program.{Turns, Prog}
+use Rattle.std.proofs.Common.{inl, sym, subst, refl}
+use Rattle.store_api.specs.Program.{Turns}
 use Rattle.session.specs.Opening.{open_rest}
 use Rattle.commit_path.specs.Committing.{commit_rest}
-use Rattle.play_report.specs.declared.outcome.Outcome.{Outcome}
 use Rattle.play_tasks.specs.declared.working.Working.{Working}
 use Rattle.play_tasks.specs.Ending.{is_starved, is_failed}
 use Rattle.play_tasks.specs.Playing.{after_open, after_commit}

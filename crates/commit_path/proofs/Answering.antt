@@ -1,0 +1,406 @@
+-- What the answer of a commit says of the journal, whatever others do.
+use Rattle.std.proofs.Common.{◌≡◌, ◌≢◌, inl, inr, ℕ, ◌+◌, ◌<◌, ◌^◌, Bool, true, false, cond, List, [], ◌∷◌, ◌++◌, length, take, drop, refl, sym, ◌∙◌, ap, subst, arith, append_assoc, append-nil, take-append-drop, eq-eqb, eqb-true}
+use Rattle.std.proofs.lemmas.Bool.{cases_order}
+use Rattle.std.specs.Prelude.{Option, Some, None, Result, Ok, Err, All, ◌==◌}
+use Rattle.ice_ids.specs.declared.Id12.{Id12}
+use Rattle.ice_ids.specs.Text.{IsId12}
+use Rattle.tree_model.specs.Touched.{touched}
+use Rattle.plain_object.specs.Objects.{snapshot_bytes, log_bytes, ref_bytes}
+use Rattle.store_api.specs.declared.keys.Key.{Key}
+use Rattle.store_api.specs.declared.keys.Key.TheVariants.{Snapshot, Txn, Branch}
+use Rattle.store_api.specs.declared.keys.Why.{Why}
+use Rattle.store_api.specs.declared.keys.Why.TheVariants.{Set, Commit}
+use Rattle.store_api.specs.declared.events.Version.{Version}
+use Rattle.store_api.specs.declared.events.Op.{Op}
+use Rattle.store_api.specs.declared.events.Op.TheVariants.{Get, PutNew, PutOver}
+use Rattle.store_api.specs.declared.events.New.TheVariants.{Done as New_done, Present}
+use Rattle.store_api.specs.declared.events.Over.{Over}
+use Rattle.store_api.specs.declared.events.Over.TheVariants.{Done as Over_done, Moved}
+use Rattle.store_api.specs.declared.events.Reply.{Reply}
+use Rattle.store_api.specs.declared.events.Reply.TheVariants.{Got as Is_got, New as Is_new, Over as Is_over, Gone as Is_gone, GoneAt as Is_gone_at, Listed as Is_listed, Failed}
+use Rattle.store_api.specs.declared.events.Event.{Event}
+use Rattle.store_api.specs.declared.machines.Refusal.{Refusal}
+use Rattle.store_api.specs.declared.machines.Refusal.TheVariants as R
+use Rattle.store_api.specs.Machine.{Stored, Slot, slot_of, found, effect, version_at, new_of, over_of, put_at}
+use Rattle.store_api.specs.Journal.{Each, StoodAt, IsOnce, IsGood}
+use Rattle.store_api.specs.Callers.{Caller, IsOther, Waits, Makes, own_event}
+use Rattle.store_api.specs.Program.{Leads}
+use Rattle.store_api.proofs.Journals.{Each-append, Each-weaker, Each-one, Each-none}
+use Rattle.store_api.proofs.Slots.{same_key-true, effect-cases, old-cases, slot-append_one, sound, found-old, found-stood}
+use Rattle.store_api.proofs.Standing.{snap_made-append}
+use Rattle.store_api.proofs.Programs.{good-waits}
+use Rattle.session.specs.Sessions.{SessionState}
+use Rattle.commit_path.specs.declared.commit.Committed.{Committed}
+use Rattle.commit_path.specs.Committing.{commit_program, after_log, after_snapshot, after_branch, snap_for}
+use Rattle.commit_path.specs.Owed.{IsMade}
+use Rattle.commit_path.specs.Answered.{HasOwn, LeavesBranches, ChangedNothing, ChangedOnce, StandsAt, commits_over, HasMessage, TookEffect, IsLater, WasMoved, WasTaken, WasFailed, CommitTells}
+use Rattle.commit_path.proofs.Telling.{put-did, put-time, makes-keeps}
+use Rattle.commit_path.specs.Opened.{IsOpened}
+use Rattle.commit_path.specs.Spelled.{IsSpelled}
+use Rattle.commit_path.proofs.Owing.{Spellings, Logged, Snapped, IsOpened-append, Logged-append, log-logged, snap-snapped, snap-polite, not-initial, over-careful, made-stable, once-front, once-back}
+
+-- ---- what others do changes nothing of it
+pub ChangedNothing-none : (client : ℕ) (start : List Event) → ChangedNothing client start start
+ChangedNothing-none client start = record { more = []; is = sym (append-nil start); each = Each-none (LeavesBranches client) start }
+
+pub ChangedNothing-others : (by : Caller) (start journal more : List Event) → Each (IsOther by) journal more → ChangedNothing by.number start journal → ChangedNothing by.number start (journal ++ more)
+ChangedNothing-others by start journal more others c = record {
+  more = c.more ++ more;
+  is = ap (λ (h : List Event). h ++ more) c.is ∙ append_assoc start c.more more;
+  each = Each-append (LeavesBranches by.number) start c.more more c.each
+      (subst (λ (h : List Event). Each (LeavesBranches by.number) h more) c.is
+      (Each-weaker (IsOther by) (LeavesBranches by.number) (λ h e o k. absurd (o.other k)) journal more others));
+}
+
+pub ChangedNothing-waits : (by : Caller) (start old new : List Event) → Waits by old new → ChangedNothing by.number start old → ChangedNothing by.number start new
+ChangedNothing-waits by start old new w c = subst (λ (h : List Event). ChangedNothing by.number start h) (sym w.is) (ChangedNothing-others by start old w.between w.others c)
+
+-- a client's own event
+abbrev pub own-made : (by : Caller) (start : List Event) (op : Op) (reply : Reply) (old new : List Event) → Makes by op reply old new → ChangedNothing by.number start old → HasOwn by.number op reply start new
+own-made by start op reply old new m c = record {
+  before = m.middle;
+  since = (ChangedNothing-waits by start old m.middle m.waits c).more;
+  before_is = (ChangedNothing-waits by start old m.middle m.waits c).is;
+  event = own_event by op reply m.time;
+  after = [];
+  is = m.is;
+  client_is = refl;
+  op_is = refl;
+  reply_is = refl;
+}
+
+-- an own event that leaves the branches
+pub ChangedNothing-makes : (by : Caller) (start : List Event) (op : Op) (reply : Reply) (old new : List Event) → (m : Makes by op reply old new) → ((branch : List ℕ) → found (m.middle ++ own_event by op reply m.time ∷ []) (Branch branch) ≡ found m.middle (Branch branch)) → ChangedNothing by.number start old → ChangedNothing by.number start new
+ChangedNothing-makes by start op reply old new m leaves c =
+    let w = ChangedNothing-waits by start old m.middle m.waits c in
+    let event : Event = own_event by op reply m.time in
+    record {
+      more = w.more ++ event ∷ [];
+      is = m.is ∙ (ap (λ (h : List Event). h ++ event ∷ []) w.is ∙ append_assoc start w.more (event ∷ []));
+      each = Each-append (LeavesBranches by.number) start w.more (event ∷ []) w.each
+          (subst (λ (h : List Event). Each (LeavesBranches by.number) h (event ∷ [])) w.is
+          (Each-one (LeavesBranches by.number) m.middle event (λ k. leaves)));
+    }
+
+-- ---- which own events leave the branches
+-- what stands at a branch is as it was
+abbrev Same : List Event → List ℕ → Slot → Type 0
+Same journal branch slot = slot.stands ≡ found journal (Branch branch)
+
+leaves-by : (journal : List Event) (event : Event) (branch : List ℕ) → Same journal branch (effect (Branch branch) (length journal) (slot_of journal (Branch branch)) event) → found (journal ++ event ∷ []) (Branch branch) ≡ found journal (Branch branch)
+leaves-by journal event branch e = ap (λ (s : Slot). s.stands) (slot-append_one journal event (Branch branch)) ∙ e
+
+pub get-leaves : (by : Caller) (key : Key) (reply : Reply) (time : ℕ) (journal : List Event) (branch : List ℕ) → found (journal ++ own_event by (Get key) reply time ∷ []) (Branch branch) ≡ found journal (Branch branch)
+get-leaves by key reply time journal branch =
+    leaves-by journal (own_event by (Get key) reply time) branch
+    (effect-cases (Same journal branch) (Branch branch) (length journal) (slot_of journal (Branch branch)) (own_event by (Get key) reply time) refl (λ k d. refl))
+
+log-leaves : (by : Caller) (id : Id12) (bytes : List ℕ) (why : Why) (reply : Reply) (time : ℕ) (journal : List Event) (branch : List ℕ) → found (journal ++ own_event by (PutNew (Txn id) bytes why) reply time ∷ []) (Branch branch) ≡ found journal (Branch branch)
+log-leaves by id bytes why reply time journal branch =
+    leaves-by journal (own_event by (PutNew (Txn id) bytes why) reply time) branch
+    (effect-cases (Same journal branch) (Branch branch) (length journal) (slot_of journal (Branch branch)) (own_event by (PutNew (Txn id) bytes why) reply time) refl (λ k d. absurd (cc)))
+
+snapshot-leaves : (by : Caller) (id : Id12) (bytes : List ℕ) (why : Why) (reply : Reply) (time : ℕ) (journal : List Event) (branch : List ℕ) → found (journal ++ own_event by (PutNew (Snapshot id) bytes why) reply time ∷ []) (Branch branch) ≡ found journal (Branch branch)
+snapshot-leaves by id bytes why reply time journal branch =
+    leaves-by journal (own_event by (PutNew (Snapshot id) bytes why) reply time) branch
+    (effect-cases (Same journal branch) (Branch branch) (length journal) (slot_of journal (Branch branch)) (own_event by (PutNew (Snapshot id) bytes why) reply time) refl (λ k d. absurd (cc)))
+
+-- ---- what a put over was answered
+over-same : (g h : Over) → Is_over g ≡ Is_over h → g ≡ h
+over-same g h e = cc
+
+-- a put over that was done: it stands at its position, over the version that stood
+record WasDone (n old : ℕ) (at : Option Stored) (version : Version) : Type 0 where
+  pub stored : Stored
+  pub stands : at ≡ Some stored
+  pub old_is : stored.version ≡ old
+  pub position : version ≡ version_at n
+
+over-done : (n time old : ℕ) (at : Option Stored) (version : Version) (now : ℕ) → Over_done version now ≡ over_of n time old at → WasDone n old at version
+over-done n time old None version now e = absurd (cc)
+over-done n time old (Some s) version now e = decide (s.version == old) refl e
+  where
+    decide : (b : Bool) → (s.version == old) ≡ b → Over_done version now ≡ cond b (Over_done (version_at n) time) (Moved (Some (version_at s.version)) time) → WasDone n old (Some s) version
+    decide true h d = record { stored = s; stands = refl; old_is = eqb-true s.version old h; position = cc }
+    decide false h d = absurd (cc)
+
+-- a put over that found another version, or nothing
+abbrev Differs : ℕ → Option Stored → Option Version → Type 0
+Differs old at None = at ≡ None
+Differs old at (Some v) = (s : Stored) × (at ≡ Some s) × (v ≡ version_at s.version) × (s.version ≢ old)
+
+over-moved : (n time old : ℕ) (at : Option Stored) (there : Option Version) (now : ℕ) → Moved there now ≡ over_of n time old at → Differs old at there
+over-moved n time old None None now e = refl
+over-moved n time old None (Some v) now e = absurd (cc)
+over-moved n time old (Some s) there now e = decide (s.version == old) refl there e
+  where
+    decide : (b : Bool) → (s.version == old) ≡ b → (t : Option Version) → Moved t now ≡ cond b (Over_done (version_at n) time) (Moved (Some (version_at s.version)) time) → Differs old (Some s) t
+    decide true h t d = absurd (cc)
+    decide false h None d = absurd (cc)
+    decide false h (Some v) d = (s, refl, cc, λ same. let y = eq-eqb s.version old same in cc)
+
+-- ... leaves each branch
+moved-leaves : (by : Caller) (name bytes : List ℕ) (old : Version) (why : Why) (there : Option Version) (now time : ℕ) (journal : List Event) → Differs old.0 (found journal (Branch name)) there → (branch : List ℕ) → found (journal ++ own_event by (PutOver (Branch name) bytes old why) (Is_over (Moved there now)) time ∷ []) (Branch branch) ≡ found journal (Branch branch)
+moved-leaves by name bytes old why there now time journal differs branch =
+    leaves-by journal event branch (effect-cases (Same journal branch) (Branch branch) (length journal) (slot_of journal (Branch branch)) event refl (λ k d.
+    old-cases (Same journal branch) old.0 (found journal (Branch branch)) (put_at (length journal) time bytes (slot_of journal (Branch branch))) (slot_of journal (Branch branch)) refl (λ s e v.
+    absurd (never there differs s (subst (λ (key : Key). found journal key ≡ Some s) (sym (same_key-true (Branch name) (Branch branch) k)) e) v))))
+  where
+    event : Event
+    event = own_event by (PutOver (Branch name) bytes old why) (Is_over (Moved there now)) time
+
+    never : (t : Option Version) → Differs old.0 (found journal (Branch name)) t → (s : Stored) → found journal (Branch name) ≡ Some s → s.version ≡ old.0 → ⊥
+    never None d s e v = cc
+    never (Some w) d s e v = let same : d.0 ≡ s = cc in d.3 (ap (λ (x : Stored). x.version) same ∙ v)
+
+-- ---- what stands
+pub stands-at : (journal : List Event) (key : Key) (s : Stored) → found journal key ≡ Some s → StandsAt journal key s.version
+stands-at journal key s e = record { stored = s; stands = e; version_is = refl; put = found-stood journal key s e }
+
+stands-as : (journal : List Event) (key : Key) (s : Stored) (version : ℕ) → found journal key ≡ Some s → s.version ≡ version → StandsAt journal key version
+stands-as journal key s version e v = subst (λ (n : ℕ). StandsAt journal key n) v (stands-at journal key s e)
+
+-- where a key stood at a version and stands with another one, that is a later one
+later : (journal : List Event) (key : Key) (old : ℕ) (bytes : List ℕ) (s : Stored) → StoodAt journal key old bytes → found journal key ≡ Some s → s.version ≢ old → old < s.version
+later journal key old bytes s stood e differs = elim (cases_order old s.version) [
+  | inl same ↦ absurd (differs (sym same))
+  | inr o ↦ elim o [
+    | inl less ↦ less
+    | inr more ↦ absurd (differs (ap version_in (sym (old_is more) ∙ stood.stood)))
+  ]
+]
+  where
+    version_in : Option Stored → ℕ
+    version_in None = 0
+    version_in (Some x) = x.version
+
+    old_is : s.version < old → found (take (old + 1) journal) key ≡ Some s
+    old_is more =
+        let below = (sound (take (old + 1) journal) key).below _ stood.stood in
+        found-old (take (old + 1) journal) (drop (old + 1) journal) key s (subst (λ (h : List Event). found h key ≡ Some s) (sym (take-append-drop (old + 1) journal)) e) (omega (arith, below, more))
+
+moved-later : (journal : List Event) (branch : List ℕ) (old : ℕ) (bytes : List ℕ) (there : Option Version) → StoodAt journal (Branch branch) old bytes → Differs old (found journal (Branch branch)) there → IsLater journal branch old there
+moved-later journal branch old bytes None stood d = d
+moved-later journal branch old bytes (Some v) stood d =
+    let number : d.0.version ≡ v.0 = ap (λ (x : Version). x.0) (sym d.2) in
+    (subst (λ (n : ℕ). old < n) number (later journal (Branch branch) old bytes d.0 stood d.1 d.3), stands-as journal (Branch branch) d.0 v.0 d.1 number)
+
+-- ---- what a put of a new object was answered
+record WasThere (at : Option Stored) (version : Version) : Type 0 where
+  pub stored : Stored
+  pub stands : at ≡ Some stored
+  pub version_is : stored.version ≡ version.0
+
+new-present : (n time : ℕ) (at : Option Stored) (version : Version) (now : ℕ) → Is_new (Present version now) ≡ Is_new (new_of n time at) → WasThere at version
+new-present n time None version now e = absurd (cc)
+new-present n time (Some s) version now e = let v : version_at s.version ≡ version = cc in record { stored = s; stands = refl; version_is = ap (λ (x : Version). x.0) v }
+
+-- ---- what stays so
+pub made-kept : (s : SessionState) (id : Id12) (journal more : List Event) → Each IsGood journal more → (IsOnce journal → IsMade s id journal) → IsOnce (journal ++ more) → IsMade s id (journal ++ more)
+made-kept s id journal more g f once = made-stable s id journal more (once-front journal more once) g (once-back journal more once) (f (once-front journal more once))
+
+pub message-kept : (id : Id12) (message : List ℕ) (journal more : List Event) → (IsOnce journal → HasMessage id message journal) → IsOnce (journal ++ more) → HasMessage id message (journal ++ more)
+message-kept id message journal more f once = let h = f (once-front journal more once) in record { snap = h.snap; made = snap_made-append journal more id h.snap h.made; is = h.is }
+
+-- the one own event so far that may have changed a branch is the last one
+changed-once : (by : Caller) (start : List Event) (op : Op) (reply : Reply) (old new : List Event) → (n : Makes by op reply old new) → ChangedNothing by.number start old → ChangedOnce by.number start n.middle (own_event by op reply n.time) new
+changed-once by start op reply old new n c = record {
+  earlier = ChangedNothing-waits by start old n.middle n.waits c;
+  later = subst (λ (h : List Event). ChangedNothing by.number h new) n.is (ChangedNothing-none by.number new);
+}
+
+pub failed-made : (by : Caller) (start : List Event) (op : Op) (done : Bool) (old new : List Event) → Makes by op (Failed done) old new → ChangedNothing by.number start old → WasFailed by.number start new
+failed-made by start op done old new n c = record { op = op; done = done; own = own-made by start op (Failed done) old new n c; once = changed-once by start op (Failed done) old new n c }
+
+-- ---- a commit
+module _ (L : Spellings) (by : Caller) (s : SessionState) (message : List ℕ) (id : Id12) (is_id : IsId12 id) (w : IsSpelled s) (m : All (λ b. b < 256) message) (start : List Event) where
+  abbrev Told : Result Committed Refusal → List Event → Type 0
+  Told = CommitTells by.number s message id start
+
+  abbrev over_put : Op
+  over_put = commits_over s (ref_bytes id)
+
+  done-told : (flushed : ℕ) (version : Version) (now : ℕ) (old new : List Event) → IsOpened s old → Logged s id old → Snapped s message flushed id old → ChangedNothing by.number start old → Makes by over_put (Is_over (Over_done version now)) old new → TookEffect by.number s message (record { id = id; version = version }) start new
+  done-told flushed version now old new o l p c n =
+      let polite = (over-careful L by (λ t i. Unit {0}) s message id tt is_id w m flushed old o l p).polite in
+      let did = over-done (length n.middle) n.time s.version (found n.middle (Branch s.branch)) version now (over-same _ _ n.answered.answered) in
+      record {
+        bytes = ref_bytes id;
+        names = L.reference.written id is_id;
+        now = now;
+        own = own-made by start over_put (Is_over (Over_done version now)) old new n c;
+        position = did.position;
+        read = stands-as n.middle (Branch s.branch) did.stored s.version did.stands did.old_is;
+        once = changed-once by start over_put (Is_over (Over_done version now)) old new n c;
+        is_made = makes-keeps (λ h. IsOnce h → IsMade s id h) (made-kept s id) by over_put (Is_over (Over_done version now)) old new polite n
+            (λ once. record { base_put = o.put; base_tree = o.tree once; snap = snap_for s message flushed; made = p.made once; parent = refl; logged = l.made once; tree = p.tree once });
+        message_is = makes-keeps (λ h. IsOnce h → HasMessage id message h) (λ journal more g. message-kept id message journal more) by over_put (Is_over (Over_done version now)) old new polite n
+            (λ once. record { snap = snap_for s message flushed; made = p.made once; is = refl });
+      }
+
+  moved-told : (there : Option Version) (now : ℕ) (old new : List Event) → IsOpened s old → ChangedNothing by.number start old → Makes by over_put (Is_over (Moved there now)) old new → WasMoved by.number s id (version_at s.version) there start new
+  moved-told there now old new o c n =
+      let differs = over-moved (length n.middle) n.time s.version (found n.middle (Branch s.branch)) there now (over-same _ _ n.answered.answered) in
+      let o' = subst (λ (h : List Event). IsOpened s h) (sym n.waits.is) (IsOpened-append s old n.waits.between (good-waits by old n.waits.between n.waits.others) o) in
+      record {
+        old_is = refl;
+        bytes = ref_bytes id;
+        names = L.reference.written id is_id;
+        now = now;
+        own = own-made by start over_put (Is_over (Moved there now)) old new n c;
+        later = moved-later n.middle s.branch s.version o'.named_by there o'.named differs;
+        nothing = ChangedNothing-makes by start over_put (Is_over (Moved there now)) old new n (moved-leaves by s.branch (ref_bytes id) (version_at s.version) Commit there now n.time n.middle differs) c;
+      }
+
+  branch-told : (flushed : ℕ) (reply : Reply) (old new : List Event) → IsOpened s old → Logged s id old → Snapped s message flushed id old → ChangedNothing by.number start old → Makes by over_put reply old new → Leads Told by (after_branch s id reply) new
+  unfolding Leads
+  branch-told flushed (Is_over (Over_done v now)) old new o l p c n = (refl, done-told flushed v now old new o l p c n)
+  branch-told flushed (Is_over (Moved there now)) old new o l p c n = moved-told there now old new o c n
+  branch-told flushed (Is_new x) old new o l p c n = let e = n.answered.answered in absurd (cc)
+  branch-told flushed (Is_got x) old new o l p c n = let e = n.answered.answered in absurd (cc)
+  branch-told flushed (Is_gone x) old new o l p c n = let e = n.answered.answered in absurd (cc)
+  branch-told flushed (Is_gone_at x) old new o l p c n = let e = n.answered.answered in absurd (cc)
+  branch-told flushed (Is_listed x) old new o l p c n = let e = n.answered.answered in absurd (cc)
+  branch-told flushed (Failed d) old new o l p c n = failed-made by start over_put d old new n c
+
+  snapshot-taken : (flushed : ℕ) (version : Version) (now : ℕ) (old new : List Event) → ChangedNothing by.number start old → Makes by (PutNew (Snapshot id) (snapshot_bytes (snap_for s message flushed)) Set) (Is_new (Present version now)) old new → WasTaken by.number id (Snapshot id) start new
+  snapshot-taken flushed version now old new c n =
+      let op = PutNew (Snapshot id) (snapshot_bytes (snap_for s message flushed)) Set in
+      let there = new-present (length n.middle) n.time (found n.middle (Snapshot id)) version now n.answered.answered in
+      record {
+        which = inr refl;
+        bytes = snapshot_bytes (snap_for s message flushed);
+        version = version;
+        now = now;
+        own = own-made by start op (Is_new (Present version now)) old new n c;
+        there = stands-as n.middle (Snapshot id) there.stored version.0 there.stands there.version_is;
+        nothing = ChangedNothing-makes by start op (Is_new (Present version now)) old new n (snapshot-leaves by id (snapshot_bytes (snap_for s message flushed)) Set (Is_new (Present version now)) n.time n.middle) c;
+      }
+
+  log-taken : (version : Version) (now : ℕ) (old new : List Event) → ChangedNothing by.number start old → Makes by (PutNew (Txn id) (log_bytes (touched s.changes s.tree)) Set) (Is_new (Present version now)) old new → WasTaken by.number id (Txn id) start new
+  log-taken version now old new c n =
+      let op = PutNew (Txn id) (log_bytes (touched s.changes s.tree)) Set in
+      let there = new-present (length n.middle) n.time (found n.middle (Txn id)) version now n.answered.answered in
+      record {
+        which = inl refl;
+        bytes = log_bytes (touched s.changes s.tree);
+        version = version;
+        now = now;
+        own = own-made by start op (Is_new (Present version now)) old new n c;
+        there = stands-as n.middle (Txn id) there.stored version.0 there.stands there.version_is;
+        nothing = ChangedNothing-makes by start op (Is_new (Present version now)) old new n (log-leaves by id (log_bytes (touched s.changes s.tree)) Set (Is_new (Present version now)) n.time n.middle) c;
+      }
+
+  snapshot-told : (flushed : ℕ) → flushed < 2 ^ 64 → (reply : Reply) (old new : List Event) → IsOpened s old → Logged s id old → ChangedNothing by.number start old → Makes by (PutNew (Snapshot id) (snapshot_bytes (snap_for s message flushed)) Set) reply old new → Leads Told by (after_snapshot s id reply) new
+  unfolding Leads
+  snapshot-told flushed f (Is_new (New_done v now)) old new o l c n =
+      let op = PutNew (Snapshot id) (snapshot_bytes (snap_for s message flushed)) Set in
+      let mine : SessionState → Id12 → Type 0 = λ t i. Unit {0} in
+      let polite = snap-polite L by mine s message id tt is_id w m flushed old f o l in
+      let o' = makes-keeps (IsOpened s) (IsOpened-append s) by op (Is_new (New_done v now)) old new polite n o in
+      let l' = makes-keeps (Logged s id) (Logged-append s id) by op (Is_new (New_done v now)) old new polite n l in
+      let d = put-did by (Snapshot id) (snapshot_bytes (snap_for s message flushed)) Set v now old new (λ j first free. first.other (not-initial L s message flushed id w f m first.initial) free) n in
+      let c' = ChangedNothing-makes by start op (Is_new (New_done v now)) old new n (snapshot-leaves by id (snapshot_bytes (snap_for s message flushed)) Set (Is_new (New_done v now)) n.time n.middle) c in
+      λ reply next k. branch-told flushed reply new next o' l' (snap-snapped L s message flushed id new w f m d) c' k
+  snapshot-told flushed f (Is_new (Present v now)) old new o l c n = snapshot-taken flushed v now old new c n
+  snapshot-told flushed f (Is_over x) old new o l c n = let e = n.answered.answered in absurd (cc)
+  snapshot-told flushed f (Is_got x) old new o l c n = let e = n.answered.answered in absurd (cc)
+  snapshot-told flushed f (Is_gone x) old new o l c n = let e = n.answered.answered in absurd (cc)
+  snapshot-told flushed f (Is_gone_at x) old new o l c n = let e = n.answered.answered in absurd (cc)
+  snapshot-told flushed f (Is_listed x) old new o l c n = let e = n.answered.answered in absurd (cc)
+  snapshot-told flushed f (Failed d) old new o l c n = failed-made by start (PutNew (Snapshot id) (snapshot_bytes (snap_for s message flushed)) Set) d old new n c
+
+  log-told : (reply : Reply) (old new : List Event) → IsOpened s old → ChangedNothing by.number start old → Makes by (PutNew (Txn id) (log_bytes (touched s.changes s.tree)) Set) reply old new → Leads Told by (after_log s message id reply) new
+  unfolding Leads
+  log-told (Is_new (New_done v now)) old new o c n =
+      let op = PutNew (Txn id) (log_bytes (touched s.changes s.tree)) Set in
+      let o' = makes-keeps (IsOpened s) (IsOpened-append s) by op (Is_new (New_done v now)) old new tt n o in
+      let l = log-logged L s id new w (put-did by (Txn id) (log_bytes (touched s.changes s.tree)) Set v now old new (λ j first free. first free) n) in
+      let f = put-time by (Txn id) (log_bytes (touched s.changes s.tree)) Set v now old new n in
+      let c' = ChangedNothing-makes by start op (Is_new (New_done v now)) old new n (log-leaves by id (log_bytes (touched s.changes s.tree)) Set (Is_new (New_done v now)) n.time n.middle) c in
+      λ reply next k. snapshot-told now f reply new next o' l c' k
+  log-told (Is_new (Present v now)) old new o c n = log-taken v now old new c n
+  log-told (Is_over x) old new o c n = let e = n.answered.answered in absurd (cc)
+  log-told (Is_got x) old new o c n = let e = n.answered.answered in absurd (cc)
+  log-told (Is_gone x) old new o c n = let e = n.answered.answered in absurd (cc)
+  log-told (Is_gone_at x) old new o c n = let e = n.answered.answered in absurd (cc)
+  log-told (Is_listed x) old new o c n = let e = n.answered.answered in absurd (cc)
+  log-told (Failed d) old new o c n = failed-made by start (PutNew (Txn id) (log_bytes (touched s.changes s.tree)) Set) d old new n c
+
+  -- Whatever others do, the answer of a commit tells the journal so.
+  pub commit-told : (journal : List Event) → IsOpened s journal → ChangedNothing by.number start journal → Leads Told by (commit_program s message id) journal
+  unfolding Leads
+  commit-told journal o c = λ reply next n. log-told reply journal next o c n
+
+-- ---- what others do changes nothing of an answer
+abbrev pub HasOwn-append : (client : ℕ) (op : Op) (reply : Reply) (start journal more : List Event) → HasOwn client op reply start journal → HasOwn client op reply start (journal ++ more)
+HasOwn-append client op reply start journal more h = record {
+  before = h.before;
+  since = h.since;
+  before_is = h.before_is;
+  event = h.event;
+  after = h.after ++ more;
+  is = ap (λ (x : List Event). x ++ more) h.is ∙ append_assoc h.before (h.event ∷ h.after) more;
+  client_is = h.client_is;
+  op_is = h.op_is;
+  reply_is = h.reply_is;
+}
+
+module _ (by : Caller) (start journal more : List Event) (others : Each (IsOther by) journal more) where
+  once-others : (before : List Event) (event : Event) → ChangedOnce by.number start before event journal → ChangedOnce by.number start before event (journal ++ more)
+  once-others before event c = record { earlier = c.earlier; later = ChangedNothing-others by (before ++ event ∷ []) journal more others c.later }
+
+  pub failed-others : WasFailed by.number start journal → WasFailed by.number start (journal ++ more)
+  failed-others f = record { op = f.op; done = f.done; own = HasOwn-append by.number f.op (Failed f.done) start journal more f.own; once = once-others f.own.before f.own.event f.once }
+
+  effect-others : (s : SessionState) (message : List ℕ) (made : Committed) → TookEffect by.number s message made start journal → TookEffect by.number s message made start (journal ++ more)
+  effect-others s message made t = record {
+    bytes = t.bytes;
+    names = t.names;
+    now = t.now;
+    own = HasOwn-append by.number (commits_over s t.bytes) (Is_over (Over_done made.version t.now)) start journal more t.own;
+    position = t.position;
+    read = t.read;
+    once = once-others t.own.before t.own.event t.once;
+    is_made = made-kept s made.id journal more (good-waits by journal more others) t.is_made;
+    message_is = message-kept made.id message journal more t.message_is;
+  }
+
+  moved-others : (s : SessionState) (id : Id12) (old : Version) (there : Option Version) → WasMoved by.number s id old there start journal → WasMoved by.number s id old there start (journal ++ more)
+  moved-others s id old there t = record {
+    old_is = t.old_is;
+    bytes = t.bytes;
+    names = t.names;
+    now = t.now;
+    own = HasOwn-append by.number (commits_over s t.bytes) (Is_over (Moved there t.now)) start journal more t.own;
+    later = t.later;
+    nothing = ChangedNothing-others by start journal more others t.nothing;
+  }
+
+  taken-others : (id : Id12) (key : Key) → WasTaken by.number id key start journal → WasTaken by.number id key start (journal ++ more)
+  taken-others id key t = record {
+    which = t.which;
+    bytes = t.bytes;
+    version = t.version;
+    now = t.now;
+    own = HasOwn-append by.number (PutNew key t.bytes Set) (Is_new (Present t.version t.now)) start journal more t.own;
+    there = t.there;
+    nothing = ChangedNothing-others by start journal more others t.nothing;
+  }
+
+  pub CommitTells-others : (s : SessionState) (message : List ℕ) (id : Id12) (result : Result Committed Refusal) → CommitTells by.number s message id start result journal → CommitTells by.number s message id start result (journal ++ more)
+  CommitTells-others s message id (Ok made) t = (t.0, effect-others s message made t.1)
+  CommitTells-others s message id (Err (R.Conflict old there)) t = moved-others s id old there t
+  CommitTells-others s message id (Err (R.IdTaken key)) t = taken-others id key t
+  CommitTells-others s message id (Err R.StoreFault) t = failed-others t
+  CommitTells-others s message id (Err R.NoMemory) t = tt
+  CommitTells-others s message id (Err R.NoRef) t = absurd t
+  CommitTells-others s message id (Err R.NoNode) t = absurd t
+  CommitTells-others s message id (Err R.NodeExists) t = absurd t
+  CommitTells-others s message id (Err R.NoParent) t = absurd t
+  CommitTells-others s message id (Err R.ReadOnly) t = absurd t
+  CommitTells-others s message id (Err R.Full) t = absurd t
+  CommitTells-others s message id (Err (R.Missing key)) t = absurd t
+  CommitTells-others s message id (Err (R.BadFile key bad)) t = absurd t
+  CommitTells-others s message id (Err R.IdsSpent) t = absurd t
+  CommitTells-others s message id (Err R.NothingToCommit) t = absurd t

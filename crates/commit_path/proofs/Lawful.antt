@@ -1,0 +1,61 @@
+-- The laws of openings and commits.
+use Rattle.std.proofs.Common.{◌≡◌, refl, List, ◌++◌, Result, Ok, Err}
+use Rattle.std.specs.Prelude.{IfOk}
+use Rattle.ice_ids.proofs.Drawn.{drawn8-IsId8, drawn12-IsId12}
+use Rattle.store_api.specs.declared.events.Event.{Event}
+use Rattle.store_api.specs.declared.machines.Refusal.{Refusal}
+use Rattle.store_api.specs.Journal.{Each}
+use Rattle.store_api.specs.Callers.{Caller, IsOther}
+use Rattle.store_api.specs.Program.{Leads}
+use Rattle.store_api.proofs.Programs.{Leads-weaker, good-waits}
+use Rattle.session.specs.Sessions.{SessionState}
+use Rattle.session.specs.Opening.{Asked, open_program}
+use Rattle.commit_path.specs.Owed.{Sessions}
+use Rattle.commit_path.specs.Answered.{ChangedNothing}
+use Rattle.commit_path.specs.Opened.{OpeningTells}
+use Rattle.commit_path.specs.Spelled.{IsSpelled}
+use Rattle.commit_path.specs.Laws.{OpeningLaw, SessionLaw, CommitLaw, AnswersLaw}
+use Rattle.commit_path.proofs.Owing.{Spellings, IsOpened-append, commit-careful}
+use Rattle.commit_path.proofs.Opened.{Opens, open-careful, open-leads, group-added, group-opened, group-spelled, start-started, started-opened, started-spelled}
+use Rattle.commit_path.proofs.Answering.{ChangedNothing-others, CommitTells-others, commit-told}
+use Rattle.commit_path.proofs.Reading.{GetsTell, Leads-both, WasBegun-append, RefusalTells-others, open-told}
+
+opened-both : (by : Caller) (a : Asked) (start : List Event) (answer : Result SessionState Refusal) (h : List Event) → GetsTell by.number a start answer h × Opens a answer h → OpeningTells by.number a start answer h × IfOk answer IsSpelled
+opened-both by a start (Ok s) h q = ((q.0.0, q.1.opened, q.0.1), q.1.spelled)
+opened-both by a start (Err why) h q = (q.0, tt)
+
+-- what an opening answers tells the journal
+pub opening-told : (L : Spellings) (by : Caller) (a : Asked) (start journal : List Event) → ChangedNothing by.number start journal → Leads (λ answer h. OpeningTells by.number a start answer h × IfOk answer IsSpelled) by (open_program a) journal
+opening-told L by a start journal c =
+    Leads-weaker (λ answer h. GetsTell by.number a start answer h × Opens a answer h) (λ answer h. OpeningTells by.number a start answer h × IfOk answer IsSpelled) (λ answer h q. opened-both by a start answer h q) by (open_program a) journal
+    (Leads-both (GetsTell by.number a start) (Opens a) by (open_program a) journal (open-told by a start journal c) (open-leads L by a journal))
+
+pub opening-law : Spellings → OpeningLaw
+opening-law L by a start journal c = (open-careful by (λ t id. ⊥) a journal, opening-told L by a start journal c)
+
+pub session-law : SessionLaw
+session-law = record {
+  edited = λ s t path id journal is_a text e w o.
+      let a = group-added s t path id e in
+      (group-spelled s t path id a (record { id = drawn8-IsId8 s.ids id a.drawn; path = is_a; text = text }) w, group-opened s t path id journal a o);
+  kept = IsOpened-append;
+}
+
+pub commit-law : Spellings → CommitLaw
+commit-law L by s t message id start journal e m w o c =
+    let a = start-started s t id e in
+    let mine : Sessions = λ u i. (u ≡ t) × (i ≡ id) in
+    let is_id = drawn12-IsId12 s.ids id a.drawn in
+    let w' = started-spelled s t id a w in
+    let o' = started-opened s t id journal a o in
+    (commit-careful L by mine t message id (refl, refl) is_id w' m journal o', commit-told L by t message id is_id w' m start journal o' c)
+
+OpeningTells-others : (by : Caller) (a : Asked) (answer : Result SessionState Refusal) (start journal more : List Event) → Each (IsOther by) journal more → OpeningTells by.number a start answer journal → OpeningTells by.number a start answer (journal ++ more)
+OpeningTells-others by a (Ok s) start journal more others t = (WasBegun-append by.number a s start journal more t.0, IsOpened-append s journal more (good-waits by journal more others) t.1, ChangedNothing-others by start journal more others t.2)
+OpeningTells-others by a (Err why) start journal more others t = RefusalTells-others by a start journal more others why t
+
+pub answers-law : AnswersLaw
+answers-law = record {
+  opening = OpeningTells-others;
+  commit = λ by s message id answer start journal more others. CommitTells-others by start journal more others s message id answer;
+}

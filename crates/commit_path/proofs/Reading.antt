@@ -1,0 +1,157 @@
+-- What the answer of an opening says of the journal, whatever others do.
+use Rattle.std.proofs.Common.{◌≡◌, ◌⊎◌, inl, inr, ℕ, List, [], ◌∷◌, ◌++◌, refl, sym, ◌∙◌, ap, subst, append_assoc}
+use Rattle.std.specs.Prelude.{Option, Some, None, Result, Ok, Err}
+use Rattle.ice_ids.specs.declared.Id12.{Id12}
+use Rattle.plain_object.specs.Objects.{Snapshot as Snap, snapshot_of, ref_of}
+use Rattle.store_api.specs.declared.keys.Key.{Key}
+use Rattle.store_api.specs.declared.keys.Key.TheVariants.{Snapshot, Branch}
+use Rattle.store_api.specs.declared.events.Version.{Version}
+use Rattle.store_api.specs.declared.events.Op.TheVariants.{Get}
+use Rattle.store_api.specs.declared.events.Got.TheVariants.{Found, Absent}
+use Rattle.store_api.specs.declared.events.Reply.{Reply}
+use Rattle.store_api.specs.declared.events.Reply.TheVariants.{Got as Is_got, New as Is_new, Over as Is_over, Gone as Is_gone, GoneAt as Is_gone_at, Listed as Is_listed, Failed}
+use Rattle.store_api.specs.declared.events.Event.{Event}
+use Rattle.store_api.specs.declared.machines.Refusal.{Refusal}
+use Rattle.store_api.specs.declared.machines.Refusal.TheVariants as R
+use Rattle.store_api.specs.Machine.{Stored, found, got_of, version_at}
+use Rattle.store_api.specs.Journal.{Each}
+use Rattle.store_api.specs.Callers.{Caller, IsOther, Makes, own_event}
+use Rattle.store_api.specs.Program.{Prog, Done, Ask, Leads}
+use Rattle.session.specs.Sessions.{SessionState}
+use Rattle.session.specs.Opening.{Asked, open_program, after_ref, after_name, after_base, read_base}
+use Rattle.commit_path.specs.Answered.{ChangedNothing}
+use Rattle.commit_path.specs.Opened.{WasGot, WasAbsent, WasNamed, WasBegun, WasMissing, WasNoReference, WasNoSnapshot, RefusalTells}
+use Rattle.commit_path.proofs.Answering.{own-made, get-leaves, ChangedNothing-makes, ChangedNothing-others, HasOwn-append, failed-made, failed-others}
+
+-- two facts of each answer
+pub Leads-both : {A : Type 0} (Q R : A → List Event → Type 0) (by : Caller) (p : Prog A) (journal : List Event) → Leads Q by p journal → Leads R by p journal → Leads (λ a h. Q a h × R a h) by p journal
+unfolding Leads
+Leads-both Q R by (Done a) journal q r = (q, r)
+Leads-both Q R by (Ask op next) journal q r = λ reply new m. Leads-both Q R by (next reply) new (q reply new m) (r reply new m)
+
+-- ---- what stays so
+WasGot-append : (client : ℕ) (key : Key) (bytes : List ℕ) (version : ℕ) (start journal more : List Event) → WasGot client key bytes version start journal → WasGot client key bytes version start (journal ++ more)
+WasGot-append client key bytes version start journal more g = record { now = g.now; own = HasOwn-append client (Get key) (Is_got (Found bytes (version_at version) g.now)) start journal more g.own }
+
+WasAbsent-append : (client : ℕ) (key : Key) (start journal more : List Event) → WasAbsent client key start journal → WasAbsent client key start (journal ++ more)
+WasAbsent-append client key start journal more g = record { now = g.now; own = HasOwn-append client (Get key) (Is_got (Absent g.now)) start journal more g.own; nothing = g.nothing }
+
+WasNamed-append : (client : ℕ) (a : Asked) (version : ℕ) (base : Id12) (start journal more : List Event) → WasNamed client a version base start journal → WasNamed client a version base start (journal ++ more)
+WasNamed-append client a version base start journal more n = record { bytes = n.bytes; got = WasGot-append client (Branch a.branch) n.bytes version start journal more n.got; names = n.names }
+
+pub WasBegun-append : (client : ℕ) (a : Asked) (s : SessionState) (start journal more : List Event) → WasBegun client a s start journal → WasBegun client a s start (journal ++ more)
+WasBegun-append client a s start journal more b = record {
+  named = WasNamed-append client a s.version s.base start journal more b.named;
+  bytes = b.bytes;
+  version = b.version;
+  got = WasGot-append client (Snapshot s.base) b.bytes b.version start journal more b.got;
+  snap = b.snap;
+  read = b.read;
+  begins = b.begins;
+}
+
+WasMissing-append : (client : ℕ) (a : Asked) (key : Key) (start journal more : List Event) → WasMissing client a key start journal → WasMissing client a key start (journal ++ more)
+WasMissing-append client a key start journal more b = record { version = b.version; base = b.base; named = WasNamed-append client a b.version b.base start journal more b.named; key_is = b.key_is; absent = WasAbsent-append client (Snapshot b.base) start journal more b.absent }
+
+WasBad-append : (client : ℕ) (a : Asked) (key : Key) (start journal more : List Event) → WasNoReference client a key start journal ⊎ WasNoSnapshot client a key start journal → WasNoReference client a key start (journal ++ more) ⊎ WasNoSnapshot client a key start (journal ++ more)
+WasBad-append client a key start journal more (inl b) = inl (record { key_is = b.key_is; bytes = b.bytes; version = b.version; got = WasGot-append client (Branch a.branch) b.bytes b.version start journal more b.got; unread = b.unread })
+WasBad-append client a key start journal more (inr b) = inr (record {
+  version = b.version;
+  base = b.base;
+  named = WasNamed-append client a b.version b.base start journal more b.named;
+  key_is = b.key_is;
+  bytes = b.bytes;
+  put = b.put;
+  got = WasGot-append client (Snapshot b.base) b.bytes b.put start journal more b.got;
+  unread = b.unread;
+})
+
+module _ (by : Caller) (a : Asked) (start journal more : List Event) (others : Each (IsOther by) journal more) where
+  pub RefusalTells-others : (why : Refusal) → RefusalTells by.number a start why journal → RefusalTells by.number a start why (journal ++ more)
+  RefusalTells-others R.NoRef t = (WasAbsent-append by.number (Branch a.branch) start journal more t.0, ChangedNothing-others by start journal more others t.1)
+  RefusalTells-others (R.Missing key) t = (WasMissing-append by.number a key start journal more t.0, ChangedNothing-others by start journal more others t.1)
+  RefusalTells-others (R.BadFile key bad) t = (WasBad-append by.number a key start journal more t.0, ChangedNothing-others by start journal more others t.1)
+  RefusalTells-others R.StoreFault t = failed-others by start journal more others t
+  RefusalTells-others R.NoMemory t = tt
+  RefusalTells-others R.NoNode t = absurd t
+  RefusalTells-others R.NodeExists t = absurd t
+  RefusalTells-others R.NoParent t = absurd t
+  RefusalTells-others R.ReadOnly t = absurd t
+  RefusalTells-others R.Full t = absurd t
+  RefusalTells-others (R.IdTaken key) t = absurd t
+  RefusalTells-others R.IdsSpent t = absurd t
+  RefusalTells-others (R.Conflict old there) t = absurd t
+  RefusalTells-others R.NothingToCommit t = absurd t
+
+-- ---- an opening
+got-absent : (at : Option Stored) (now time : ℕ) → Is_got (Absent now) ≡ Is_got (got_of time at) → at ≡ None
+got-absent None now time e = refl
+got-absent (Some s) now time e = absurd (cc)
+
+-- what the client's own gets tell
+abbrev pub GetsTell : ℕ → Asked → List Event → Result SessionState Refusal → List Event → Type 0
+GetsTell client a start (Ok s) journal = WasBegun client a s start journal × ChangedNothing client start journal
+GetsTell client a start (Err why) journal = RefusalTells client a start why journal
+
+module _ (by : Caller) (a : Asked) (start : List Event) where
+  abbrev Told : Result SessionState Refusal → List Event → Type 0
+  Told = GetsTell by.number a start
+
+  got-nothing : (key : Key) (reply : Reply) (old new : List Event) → Makes by (Get key) reply old new → ChangedNothing by.number start old → ChangedNothing by.number start new
+  got-nothing key reply old new m c = ChangedNothing-makes by start (Get key) reply old new m (get-leaves by key reply m.time m.middle) c
+
+  got-made : (key : Key) (bytes : List ℕ) (version : Version) (now : ℕ) (old new : List Event) → Makes by (Get key) (Is_got (Found bytes version now)) old new → ChangedNothing by.number start old → WasGot by.number key bytes version.0 start new
+  got-made key bytes version now old new m c = record { now = now; own = own-made by start (Get key) (Is_got (Found bytes version now)) old new m c }
+
+  absent-made : (key : Key) (now : ℕ) (old new : List Event) → Makes by (Get key) (Is_got (Absent now)) old new → ChangedNothing by.number start old → WasAbsent by.number key start new
+  absent-made key now old new m c = record { now = now; own = own-made by start (Get key) (Is_got (Absent now)) old new m c; nothing = got-absent (found m.middle key) now m.time m.answered.answered }
+
+  WasNamed-makes : (version : ℕ) (base : Id12) (key : Key) (reply : Reply) (old new : List Event) → Makes by (Get key) reply old new → WasNamed by.number a version base start old → WasNamed by.number a version base start new
+  WasNamed-makes version base key reply old new m n =
+      let event : Event = own_event by (Get key) reply m.time in
+      let is : new ≡ old ++ (m.waits.between ++ event ∷ []) = m.is ∙ (ap (λ (h : List Event). h ++ event ∷ []) m.waits.is ∙ append_assoc old m.waits.between (event ∷ [])) in
+      subst (λ (h : List Event). WasNamed by.number a version base start h) (sym is) (WasNamed-append by.number a version base start old (m.waits.between ++ event ∷ []) n)
+
+  read-told : (base : Id12) (version : ℕ) (bytes : List ℕ) (put : Version) (now : ℕ) (old new : List Event) → WasNamed by.number a version base start old → ChangedNothing by.number start old → Makes by (Get (Snapshot base)) (Is_got (Found bytes put now)) old new → (o : Option Snap) → snapshot_of bytes ≡ o → Told (read_base a base version o) new
+  read-told base version bytes put now old new n c m None e = (
+    inr (record { version = version; base = base; named = WasNamed-makes version base (Snapshot base) (Is_got (Found bytes put now)) old new m n; key_is = refl; bytes = bytes; put = put.0; got = got-made (Snapshot base) bytes put now old new m c; unread = e }),
+    got-nothing (Snapshot base) (Is_got (Found bytes put now)) old new m c,
+  )
+  read-told base version bytes put now old new n c m (Some snap) e = (
+    record { named = WasNamed-makes version base (Snapshot base) (Is_got (Found bytes put now)) old new m n; bytes = bytes; version = put.0; got = got-made (Snapshot base) bytes put now old new m c; snap = snap; read = e; begins = refl },
+    got-nothing (Snapshot base) (Is_got (Found bytes put now)) old new m c,
+  )
+
+  base-told : (base : Id12) (version : ℕ) (reply : Reply) (old new : List Event) → WasNamed by.number a version base start old → ChangedNothing by.number start old → Makes by (Get (Snapshot base)) reply old new → Leads Told by (after_base a base version reply) new
+  unfolding Leads
+  base-told base version (Is_got (Found bytes put now)) old new n c m = read-told base version bytes put now old new n c m (snapshot_of bytes) refl
+  base-told base version (Is_got (Absent now)) old new n c m = (
+    record { version = version; base = base; named = WasNamed-makes version base (Snapshot base) (Is_got (Absent now)) old new m n; key_is = refl; absent = absent-made (Snapshot base) now old new m c },
+    got-nothing (Snapshot base) (Is_got (Absent now)) old new m c,
+  )
+  base-told base version (Is_new x) old new n c m = let e = m.answered.answered in absurd (cc)
+  base-told base version (Is_over x) old new n c m = let e = m.answered.answered in absurd (cc)
+  base-told base version (Is_gone x) old new n c m = let e = m.answered.answered in absurd (cc)
+  base-told base version (Is_gone_at x) old new n c m = let e = m.answered.answered in absurd (cc)
+  base-told base version (Is_listed x) old new n c m = let e = m.answered.answered in absurd (cc)
+  base-told base version (Failed d) old new n c m = failed-made by start (Get (Snapshot base)) d old new m c
+
+  name-told : (version : ℕ) (bytes : List ℕ) (journal : List Event) → WasGot by.number (Branch a.branch) bytes version start journal → ChangedNothing by.number start journal → (o : Option Id12) → ref_of bytes ≡ o → Leads Told by (after_name a version o) journal
+  unfolding Leads
+  name-told version bytes journal g c None e = (inl (record { key_is = refl; bytes = bytes; version = version; got = g; unread = e }), c)
+  name-told version bytes journal g c (Some base) e = λ reply new m. base-told base version reply journal new (record { bytes = bytes; got = g; names = e }) c m
+
+  ref-told : (reply : Reply) (old new : List Event) → ChangedNothing by.number start old → Makes by (Get (Branch a.branch)) reply old new → Leads Told by (after_ref a reply) new
+  unfolding Leads
+  ref-told (Is_got (Found bytes version now)) old new c m = name-told version.0 bytes new (got-made (Branch a.branch) bytes version now old new m c) (got-nothing (Branch a.branch) (Is_got (Found bytes version now)) old new m c) (ref_of bytes) refl
+  ref-told (Is_got (Absent now)) old new c m = (absent-made (Branch a.branch) now old new m c, got-nothing (Branch a.branch) (Is_got (Absent now)) old new m c)
+  ref-told (Is_new x) old new c m = let e = m.answered.answered in absurd (cc)
+  ref-told (Is_over x) old new c m = let e = m.answered.answered in absurd (cc)
+  ref-told (Is_gone x) old new c m = let e = m.answered.answered in absurd (cc)
+  ref-told (Is_gone_at x) old new c m = let e = m.answered.answered in absurd (cc)
+  ref-told (Is_listed x) old new c m = let e = m.answered.answered in absurd (cc)
+  ref-told (Failed d) old new c m = failed-made by start (Get (Branch a.branch)) d old new m c
+
+  pub open-told : (journal : List Event) → ChangedNothing by.number start journal → Leads Told by (open_program a) journal
+  unfolding Leads
+  open-told journal c = λ reply new m. ref-told reply journal new c m

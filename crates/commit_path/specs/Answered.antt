@@ -1,0 +1,130 @@
+-- What the answer of a commit says of the journal, in words that name no machine and no program. (Icechunk
+-- specification version 1, "Write New Snapshot": the branch is moved only from the version that was read.)
+use Rattle.std.specs.Prelude.{◌≡◌, ◌⊎◌, ℕ, ◌<◌, Bool, List, [], ◌∷◌, ◌++◌, length, Option, Some, None, Result, Ok, Err}
+use Rattle.ice_ids.specs.declared.Id12.{Id12}
+use Rattle.plain_object.specs.Objects.{Snapshot as Snap, ref_of}
+use Rattle.store_api.specs.declared.keys.Key.{Key}
+use Rattle.store_api.specs.declared.keys.Key.TheVariants.{Snapshot, Txn, Branch}
+use Rattle.store_api.specs.declared.keys.Why.TheVariants.{Set, Commit}
+use Rattle.store_api.specs.declared.events.Version.{Version}
+use Rattle.store_api.specs.declared.events.Op.{Op}
+use Rattle.store_api.specs.declared.events.Op.TheVariants.{PutNew, PutOver}
+use Rattle.store_api.specs.declared.events.New.TheVariants.{Present}
+use Rattle.store_api.specs.declared.events.Over.TheVariants.{Done as Over_done, Moved}
+use Rattle.store_api.specs.declared.events.Reply.{Reply}
+use Rattle.store_api.specs.declared.events.Reply.TheVariants.{New as Is_new, Over as Is_over, Failed}
+use Rattle.store_api.specs.declared.events.Event.{Event}
+use Rattle.store_api.specs.declared.machines.Refusal.{Refusal}
+use Rattle.store_api.specs.declared.machines.Refusal.TheVariants.{IdTaken, Conflict, StoreFault, NoMemory}
+use Rattle.store_api.specs.Machine.{Stored, found, version_at}
+use Rattle.store_api.specs.Journal.{Each, StoodAt, snap_made, IsOnce}
+use Rattle.session.specs.Sessions.{SessionState}
+use Rattle.commit_path.specs.declared.commit.Committed.{Committed}
+use Rattle.commit_path.specs.Owed.{IsMade}
+
+-- ---- a client's own events
+-- An event of this client, with this operation and this reply, stands in the journal behind `start`.
+pub record HasOwn (client : ℕ) (op : Op) (reply : Reply) (start journal : List Event) : Type 0 where
+  pub before : List Event
+  pub since : List Event
+  pub before_is : before ≡ start ++ since
+  pub event : Event
+  pub after : List Event
+  pub is : journal ≡ before ++ event ∷ after
+  pub client_is : event.client ≡ client
+  pub op_is : event.op ≡ op
+  pub reply_is : event.reply ≡ reply
+
+-- the event isn't the client's, or leaves what stands at each branch as it was
+abbrev pub LeavesBranches : ℕ → List Event → Event → Type 0
+LeavesBranches client before event = event.client ≡ client → (branch : List ℕ) → found (before ++ event ∷ []) (Branch branch) ≡ found before (Branch branch)
+
+-- From `start` on, no event of the client changed a branch.
+pub record ChangedNothing (client : ℕ) (start journal : List Event) : Type 0 where
+  pub more : List Event
+  pub is : journal ≡ start ++ more
+  pub each : Each (LeavesBranches client) start more
+
+-- From `start` on, no event of the client but this one changed a branch.
+pub record ChangedOnce (client : ℕ) (start before : List Event) (event : Event) (journal : List Event) : Type 0 where
+  pub earlier : ChangedNothing client start before
+  pub later : ChangedNothing client (before ++ event ∷ []) journal
+
+-- the key stands with this version, which is the position of the put that left it there
+pub record StandsAt (journal : List Event) (key : Key) (version : ℕ) : Type 0 where
+  pub stored : Stored
+  pub stands : found journal key ≡ Some stored
+  pub version_is : stored.version ≡ version
+  pub put : StoodAt journal key version stored.bytes
+
+-- ---- the answers
+-- a put of the session's branch for a commit, over the version that the session had read
+abbrev pub commits_over : SessionState → List ℕ → Op
+commits_over s bytes = PutOver (Branch s.branch) bytes (version_at s.version) Commit
+
+-- the snapshot was first put with this message
+pub record HasMessage (id : Id12) (message : List ℕ) (journal : List Event) : Type 0 where
+  pub snap : Snap
+  pub made : snap_made journal id ≡ Some snap
+  pub is : snap.message ≡ message
+
+-- The commit took effect. The client's own put over of the session's branch, with a reference to the
+-- snapshot, was done, at the position that is the answer's version; till then the branch stood at the
+-- version that the session had read. It is the one event of the client that changed a branch. The
+-- snapshot is the session's, with the message.
+pub record TookEffect (client : ℕ) (s : SessionState) (message : List ℕ) (made : Committed) (start journal : List Event) : Type 0 where
+  pub bytes : List ℕ
+  pub names : ref_of bytes ≡ Some made.id
+  pub now : ℕ
+  pub own : HasOwn client (commits_over s bytes) (Is_over (Over_done made.version now)) start journal
+  pub position : made.version ≡ version_at (length own.before)
+  pub read : StandsAt own.before (Branch s.branch) s.version
+  pub once : ChangedOnce client start own.before own.event journal
+  pub is_made : IsOnce journal → IsMade s made.id journal
+  pub message_is : IsOnce journal → HasMessage made.id message journal
+
+-- the branch stood at a later version than this one, or was gone
+abbrev pub IsLater : List Event → List ℕ → ℕ → Option Version → Type 0
+IsLater journal branch old None = found journal (Branch branch) ≡ None
+IsLater journal branch old (Some version) = (old < version.0) × StandsAt journal (Branch branch) version.0
+
+-- The branch had moved on. The client's own put over of the session's branch, with a reference to this
+-- snapshot, found it at a later version than the one that the session had read, which is the answer's
+-- old one, or found it gone. No event of the client changed a branch.
+pub record WasMoved (client : ℕ) (s : SessionState) (id : Id12) (old : Version) (there : Option Version) (start journal : List Event) : Type 0 where
+  pub old_is : old ≡ version_at s.version
+  pub bytes : List ℕ
+  pub names : ref_of bytes ≡ Some id
+  pub now : ℕ
+  pub own : HasOwn client (commits_over s bytes) (Is_over (Moved there now)) start journal
+  pub later : IsLater own.before s.branch s.version there
+  pub nothing : ChangedNothing client start journal
+
+-- The key of the log or the snapshot of the id that was drawn was taken: the client's own put found an
+-- object there. No event of the client changed a branch.
+pub record WasTaken (client : ℕ) (id : Id12) (key : Key) (start journal : List Event) : Type 0 where
+  pub which : (key ≡ Txn id) ⊎ (key ≡ Snapshot id)
+  pub bytes : List ℕ
+  pub version : Version
+  pub now : ℕ
+  pub own : HasOwn client (PutNew key bytes Set) (Is_new (Present version now)) start journal
+  pub there : StandsAt own.before key version.0
+  pub nothing : ChangedNothing client start journal
+
+-- The store failed an operation of the client, which may have been done. No other event of the client
+-- changed a branch.
+pub record WasFailed (client : ℕ) (start journal : List Event) : Type 0 where
+  pub op : Op
+  pub done : Bool
+  pub own : HasOwn client op (Failed done) start journal
+  pub once : ChangedOnce client start own.before own.event journal
+
+-- What the answer of a commit of this session, with this message and the id that was drawn, says of
+-- the journal, where the client had changed no branch between `start` and the commit.
+abbrev pub CommitTells : ℕ → SessionState → List ℕ → Id12 → List Event → Result Committed Refusal → List Event → Type 0
+CommitTells client s message id start (Ok made) journal = (made.id ≡ id) × TookEffect client s message made start journal
+CommitTells client s message id start (Err (Conflict old there)) journal = WasMoved client s id old there start journal
+CommitTells client s message id start (Err (IdTaken key)) journal = WasTaken client id key start journal
+CommitTells client s message id start (Err StoreFault) journal = WasFailed client start journal
+CommitTells client s message id start (Err NoMemory) journal = Unit {0}
+CommitTells client s message id start (Err _) journal = ⊥

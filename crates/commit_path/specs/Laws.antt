@@ -1,0 +1,43 @@
+-- Laws of openings, of the sessions that they open, and of commits.
+use Rattle.std.specs.Prelude.{◌≡◌, ℕ, ◌++◌, true, List, Result, Ok, IfOk}
+use Rattle.std.specs.Str.{is_utf8}
+use Rattle.ice_base.specs.Lists.{IsBytes}
+use Rattle.ice_ids.specs.declared.Id8.{Id8}
+use Rattle.ice_ids.specs.declared.Id12.{Id12}
+use Rattle.zarr_path.specs.Paths.{is_path}
+use Rattle.store_api.specs.declared.events.Event.{Event}
+use Rattle.store_api.specs.declared.machines.Refusal.{Refusal}
+use Rattle.store_api.specs.Journal.{Each, IsGood}
+use Rattle.store_api.specs.Callers.{Caller, IsOther}
+use Rattle.store_api.specs.Program.{Keeps, Leads}
+use Rattle.session.specs.Sessions.{SessionState}
+use Rattle.session.specs.Opening.{Asked, open_program}
+use Rattle.session.specs.Editing.{group_added}
+use Rattle.commit_path.specs.declared.commit.Committed.{Committed}
+use Rattle.commit_path.specs.Committing.{commit_program, started}
+use Rattle.commit_path.specs.Owed.{IsCareful}
+use Rattle.commit_path.specs.Answered.{ChangedNothing, CommitTells}
+use Rattle.commit_path.specs.Opened.{IsOpened, OpeningTells}
+use Rattle.commit_path.specs.Spelled.{IsSpelled}
+
+-- Whatever others do, each operation of an opening is polite, and its answer tells the journal. A
+-- session that it opened can be written.
+abbrev pub OpeningLaw : Type 0
+OpeningLaw = (by : Caller) (a : Asked) (start journal : List Event) → ChangedNothing by.number start journal
+    → Keeps (IsCareful (λ t id. ⊥)) by (open_program a) journal × Leads (λ answer h. OpeningTells by.number a start answer h × IfOk answer IsSpelled) by (open_program a) journal
+
+-- what a session knows stays so when a group is added, and whatever good events come
+pub record SessionLaw : Type 0 where
+  pub edited : (s t : SessionState) (path : List ℕ) (id : Id8) (journal : List Event) → is_path path ≡ true → is_utf8 path ≡ true → group_added s path ≡ Ok (id, t) → IsSpelled s → IsOpened s journal → IsSpelled t × IsOpened t journal
+  pub kept : (s : SessionState) (journal more : List Event) → Each IsGood journal more → IsOpened s journal → IsOpened s (journal ++ more)
+
+-- Whatever others do, each operation of a commit of such a session is polite, and owed for this session
+-- and this id alone, and its answer tells the journal.
+abbrev pub CommitLaw : Type 0
+CommitLaw = (by : Caller) (s t : SessionState) (message : List ℕ) (id : Id12) (start journal : List Event) → started s ≡ Ok (id, t) → IsBytes message → IsSpelled s → IsOpened s journal → ChangedNothing by.number start journal
+    → Keeps (IsCareful (λ u i. (u ≡ t) × (i ≡ id))) by (commit_program t message id) journal × Leads (CommitTells by.number t message id start) by (commit_program t message id) journal
+
+-- what answers tell stays so, whatever good events others make
+pub record AnswersLaw : Type 0 where
+  pub opening : (by : Caller) (a : Asked) (answer : Result SessionState Refusal) (start journal more : List Event) → Each (IsOther by) journal more → OpeningTells by.number a start answer journal → OpeningTells by.number a start answer (journal ++ more)
+  pub commit : (by : Caller) (s : SessionState) (message : List ℕ) (id : Id12) (answer : Result Committed Refusal) (start journal more : List Event) → Each (IsOther by) journal more → CommitTells by.number s message id start answer journal → CommitTells by.number s message id start answer (journal ++ more)

@@ -1,0 +1,99 @@
+-- What the answer of an opening says of the journal, in words that name no machine and no program. (Icechunk
+-- specification version 1, "Read from Repository".)
+use Rattle.std.specs.Prelude.{◌≡◌, ◌⊎◌, ℕ, List, Some, None, Result, Ok, Err}
+use Rattle.ice_ids.specs.declared.Id12.{Id12}
+use Rattle.plain_object.specs.Objects.{Snapshot as Snap, snapshot_of, ref_of}
+use Rattle.store_api.specs.declared.keys.Key.{Key}
+use Rattle.store_api.specs.declared.keys.Key.TheVariants.{Snapshot, Branch}
+use Rattle.store_api.specs.declared.events.Op.TheVariants.{Get}
+use Rattle.store_api.specs.declared.events.Got.TheVariants.{Found, Absent}
+use Rattle.store_api.specs.declared.events.Reply.TheVariants.{Got as Is_got}
+use Rattle.store_api.specs.declared.events.Event.{Event}
+use Rattle.store_api.specs.declared.machines.Refusal.{Refusal}
+use Rattle.store_api.specs.declared.machines.Refusal.TheVariants.{NoRef, Missing, BadFile, StoreFault, NoMemory}
+use Rattle.store_api.specs.Machine.{found, version_at}
+use Rattle.store_api.specs.Journal.{WasPut, StoodAt, tree_of, IsOnce}
+use Rattle.session.specs.Sessions.{SessionState}
+use Rattle.session.specs.Opening.{Asked, begun}
+use Rattle.commit_path.specs.Answered.{HasOwn, ChangedNothing, WasFailed}
+
+-- ---- what a session knows
+-- The branch stood at the session's version, with a reference to its base; the base was put, and where
+-- nothing is put again, its tree is the session's.
+pub record IsOpened (s : SessionState) (journal : List Event) : Type 0 where
+  pub named_by : List ℕ
+  pub named : StoodAt journal (Branch s.branch) s.version named_by
+  pub names : ref_of named_by ≡ Some s.base
+  pub put : WasPut journal (Snapshot s.base)
+  pub tree : IsOnce journal → tree_of journal s.base ≡ Some s.tree
+
+-- ---- a client's own gets
+-- the client's own get of the key was answered with these bytes and this version
+pub record WasGot (client : ℕ) (key : Key) (bytes : List ℕ) (version : ℕ) (start journal : List Event) : Type 0 where
+  pub now : ℕ
+  pub own : HasOwn client (Get key) (Is_got (Found bytes (version_at version) now)) start journal
+
+-- the client's own get of the key was answered that nothing is there, and nothing was
+pub record WasAbsent (client : ℕ) (key : Key) (start journal : List Event) : Type 0 where
+  pub now : ℕ
+  pub own : HasOwn client (Get key) (Is_got (Absent now)) start journal
+  pub nothing : found own.before key ≡ None
+
+-- the client's own get of the branch that was asked for was answered with a reference to this snapshot
+pub record WasNamed (client : ℕ) (a : Asked) (version : ℕ) (base : Id12) (start journal : List Event) : Type 0 where
+  pub bytes : List ℕ
+  pub got : WasGot client (Branch a.branch) bytes version start journal
+  pub names : ref_of bytes ≡ Some base
+
+-- ---- the answers
+-- The session begins at the snapshot that the client got at the branch, with that snapshot's tree and no changes.
+pub record WasBegun (client : ℕ) (a : Asked) (s : SessionState) (start journal : List Event) : Type 0 where
+  pub named : WasNamed client a s.version s.base start journal
+  pub bytes : List ℕ
+  pub version : ℕ
+  pub got : WasGot client (Snapshot s.base) bytes version start journal
+  pub snap : Snap
+  pub read : snapshot_of bytes ≡ Some snap
+  pub begins : s ≡ begun a s.base s.version snap
+
+-- the branch names a snapshot that isn't there
+pub record WasMissing (client : ℕ) (a : Asked) (key : Key) (start journal : List Event) : Type 0 where
+  pub version : ℕ
+  pub base : Id12
+  pub named : WasNamed client a version base start journal
+  pub key_is : key ≡ Snapshot base
+  pub absent : WasAbsent client (Snapshot base) start journal
+
+-- the branch isn't a reference
+pub record WasNoReference (client : ℕ) (a : Asked) (key : Key) (start journal : List Event) : Type 0 where
+  pub key_is : key ≡ Branch a.branch
+  pub bytes : List ℕ
+  pub version : ℕ
+  pub got : WasGot client (Branch a.branch) bytes version start journal
+  pub unread : ref_of bytes ≡ None
+
+-- the branch names a snapshot that isn't readable
+pub record WasNoSnapshot (client : ℕ) (a : Asked) (key : Key) (start journal : List Event) : Type 0 where
+  pub version : ℕ
+  pub base : Id12
+  pub named : WasNamed client a version base start journal
+  pub key_is : key ≡ Snapshot base
+  pub bytes : List ℕ
+  pub put : ℕ
+  pub got : WasGot client (Snapshot base) bytes put start journal
+  pub unread : snapshot_of bytes ≡ None
+
+-- why an opening was refused
+abbrev pub RefusalTells : ℕ → Asked → List Event → Refusal → List Event → Type 0
+RefusalTells client a start NoRef journal = WasAbsent client (Branch a.branch) start journal × ChangedNothing client start journal
+RefusalTells client a start (Missing key) journal = WasMissing client a key start journal × ChangedNothing client start journal
+RefusalTells client a start (BadFile key bad) journal = (WasNoReference client a key start journal ⊎ WasNoSnapshot client a key start journal) × ChangedNothing client start journal
+RefusalTells client a start StoreFault journal = WasFailed client start journal
+RefusalTells client a start NoMemory journal = Unit {0}
+RefusalTells client a start _ journal = ⊥
+
+-- What the answer of an opening says of the journal, where the client had changed no branch between
+-- `start` and the opening.
+abbrev pub OpeningTells : ℕ → Asked → List Event → Result SessionState Refusal → List Event → Type 0
+OpeningTells client a start (Ok s) journal = WasBegun client a s start journal × IsOpened s journal × ChangedNothing client start journal
+OpeningTells client a start (Err why) journal = RefusalTells client a start why journal

@@ -1,0 +1,38 @@
+//! Laws of openings and commits, as the contracts of functions that do nothing.
+
+ghost use Rattle.commit_path.specs.Laws.{OpeningLaw, SessionLaw, CommitLaw, AnswersLaw};
+
+use plain_object::{initial_law, log_law, ref_law, snapshot_law};
+
+/// Whatever others do, each operation of an opening is polite, and its answer tells the journal: a
+/// session begins at the snapshot that was got at the branch, and each refusal has its cause there.
+pub fn opening_law()
+    ensures { OpeningLaw }
+{
+    snapshot_law();
+    log_law();
+    ref_law();
+    initial_law();
+}
+
+/// What an opened session knows of its base stays so when groups are added, and whatever good events
+/// come.
+pub fn session_law()
+    ensures { SessionLaw }
+{}
+
+/// Whatever others do, each operation of a commit is polite, and its answer tells the journal: whether
+/// the commit took effect, or what was found instead, and that the client changed no branch then.
+pub fn commit_law()
+    ensures { CommitLaw }
+{
+    snapshot_law();
+    log_law();
+    ref_law();
+    initial_law();
+}
+
+/// What answers of openings and commits tell stays so, whatever good events others make.
+pub fn answers_law()
+    ensures { AnswersLaw }
+{}

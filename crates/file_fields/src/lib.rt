@@ -1,0 +1,14 @@
+//! Ids and indices in the tables of files: what the kinds of files that hold them have in common.
+//!
+//! Beside its calls, the crate has the lemmas of `proofs/`: `LoopLaws` for loops that read rows in order, `BuildingLaws`
+//! for loops that build fields, and `Again` for ids and indices that were written and are read again.
+#![tactic(auto)]
+
+mod reading;
+mod writing;
+
+pub use reading::{id_follows, id8, id8_of, id12, id12_of, index_follows, index_of};
+pub use writing::{id8_bytes, id8_slot, id12_slot, index_slot};
+
+#[cfg(test)]
+mod tests;

@@ -1,0 +1,65 @@
+ghost use Rattle.std.specs.Prelude.{◌≡◌, IsTrue, IfOk, OnOk};
+ghost use Rattle.flat_tables.specs.Trees.{part_of, is_writable_slot};
+ghost use Rattle.file_fields.specs.Fields.{id8_part, id12_part, index_part, IsId8, IsId12, IsIndex};
+
+use flat_tables::Slot;
+use ice_ids::{Id8, Id12};
+use std::alloc::{AllocError, Global};
+use zarr_path::Index;
+
+/// The bytes of a node id.
+pub fn id8_bytes(id: &Id8) -> [u8; 8]
+    ensures bytes { result ≡ id.now.0 }
+    ensures sized { IsId8 id.now }
+{
+    id.0
+}
+
+/// The bytes of an object id.
+fn id12_bytes(id: &Id12) -> [u8; 12]
+    ensures bytes { result ≡ id.now.0 }
+    ensures sized { IsId12 id.now }
+{
+    id.0
+}
+
+/// The field of a node id.
+pub fn id8_slot(alloc: Global, id: &Id8) -> Result<Slot, AllocError>
+    ensures part { IfOk result (λ s. part_of s ≡ id8_part id.now) }
+    ensures writable { IfOk result (λ s. IsTrue (is_writable_slot s)) }
+    ensures sized { IsId8 id.now }
+{
+    Ok(Slot::Struct {
+        align: 1,
+        bytes: Vec::from_slice(alloc, &id8_bytes(id))?,
+    })
+}
+
+/// The field of an object id.
+pub fn id12_slot(alloc: Global, id: &Id12) -> Result<Slot, AllocError>
+    ensures part { IfOk result (λ s. part_of s ≡ id12_part id.now) }
+    ensures writable { IfOk result (λ s. IsTrue (is_writable_slot s)) }
+    ensures sized { IsId12 id.now }
+{
+    Ok(Slot::Struct {
+        align: 1,
+        bytes: Vec::from_slice(alloc, &id12_bytes(id))?,
+    })
+}
+
+/// The field of an index.
+pub fn index_slot(alloc: Global, index: &Index) -> Result<Slot, AllocError>
+    ensures part { IfOk result (λ s. part_of s ≡ index_part index.now) }
+    ensures writable { IfOk result (λ s. IsTrue (is_writable_slot s)) }
+    ensures sized { OnOk result (IsIndex index.now) }
+{
+    let mut bytes: Vec<u8> = Vec::new(alloc);
+    for number in index.parts() {
+        bytes.extend_from_slice(&number.to_le_bytes())?;
+    }
+    Ok(Slot::Structs {
+        align: 4,
+        size: 4,
+        bytes,
+    })
+}

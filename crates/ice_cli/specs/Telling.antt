@@ -1,0 +1,86 @@
+-- What is told of a run: the report and the status (own).
+use Rattle.std.specs.Prelude.{◌≡◌, ℕ, Bool, true, false, not, ◌&&◌, ◌||◌, List, [], ◌∷◌, ◌++◌, map, Result, Ok, Err, IsTrue}
+use Rattle.std.specs.List.{list_any, flat_map}
+use Rattle.ice_base.specs.Ends.{OutputAt, WroteWhole, WroteLess}
+use Rattle.ice_ids.specs.declared.drawing.Draw.{Draw}
+use Rattle.store_api.specs.declared.machines.Refusal.{Refusal}
+use Rattle.store_api.specs.Callers.{View}
+use Rattle.store_api.specs.Program.{Prog, Done, is_no_memory, is_fault}
+use Rattle.play_script.specs.declared.scripts.Script.{Script}
+use Rattle.play_report.specs.declared.outcome.End.{End}
+use Rattle.play_report.specs.declared.outcome.End.TheVariants as E
+use Rattle.play_report.specs.declared.outcome.Outcome.{Outcome}
+use Rattle.play_report.specs.declared.outcome.RefLine.{RefLine}
+use Rattle.play_report.specs.Report.{report_of}
+use Rattle.tree_model.specs.Changes.{Changes}
+use Rattle.run_histories.specs.Runs.{IsSound}
+use Rattle.play_course.specs.Course.{Course}
+use Rattle.play_course.specs.Leaving.{Leaves}
+use Rattle.ice_cli.specs.declared.statuses.Causes.{Causes}
+use Rattle.ice_cli.specs.declared.statuses.Status.{Status}
+use Rattle.ice_cli.specs.Statuses.{status_of}
+
+-- ---- the causes of a status
+abbrev pub why_of : {A : Type 0} → Result A Refusal → List Refusal
+why_of (Ok a) = []
+why_of (Err why) = why ∷ []
+
+abbrev pub end_why : End → List Refusal
+end_why (E.Committed id) = []
+end_why E.Done = []
+end_why (E.Refused line why) = why ∷ []
+
+abbrev pub why_ended : Outcome → List Refusal
+why_ended outcome = end_why outcome.end
+
+-- the refusals of a run, in their order
+abbrev pub refusals : Result (Unit {0}) Refusal → List Outcome → Result (List RefLine) Refusal → List Refusal
+refusals opening outcomes refs = why_of opening ++ (flat_map why_ended outcomes ++ why_of refs)
+
+-- a refusal that is neither want of memory nor a fault of the store
+abbrev pub is_other : Refusal → Bool
+is_other why = not (is_no_memory why) && not (is_fault why)
+
+-- what these refusals cause, where not all of the report was written or all of it
+abbrev pub causes : Bool → List Refusal → Causes
+causes unwritten whys = record { no_memory = list_any is_no_memory whys; store_fault = list_any is_fault whys; unwritten = unwritten; refused = list_any is_other whys }
+
+-- with one refusal more, and with these
+abbrev pub added : Causes → Refusal → Causes
+added c why = record c { no_memory = c.no_memory || is_no_memory why; store_fault = c.store_fault || is_fault why; refused = c.refused || is_other why }
+
+abbrev pub all_added : Causes → List Refusal → Causes
+all_added c [] = c
+all_added c (why ∷ whys) = all_added (added c why) whys
+
+-- ---- what is told
+-- the whole text was written; or not all of it, and the sink failed
+abbrev pub Wrote : OutputAt → OutputAt → List ℕ → Bool → Type 0
+Wrote old new text false = WroteWhole old new text
+Wrote old new text true = WroteLess old new text
+
+-- The report was written, and the status is that of what it tells: of the first of want of memory, a fault of the store, a
+-- report that wasn't written whole, another refusal.
+pub record Told (script : Script) (opening : Result (Unit {0}) Refusal) (outcomes : List Outcome) (refs : Result (List RefLine) Refusal) (old new : OutputAt) (status : Status) : Type 0 where
+  pub unwritten : Bool
+  pub wrote : Wrote old new (report_of (map (λ t. t.name) script.tasks) opening outcomes refs) unwritten
+  pub status_is : status ≡ status_of (causes unwritten (refusals opening outcomes refs))
+
+-- the outcomes of tasks that came to `ends`, and what was told of them
+pub record Tells (script : Script) (opening : Result (Unit {0}) Refusal) (ends : List (Prog Outcome)) (refs : Result (List RefLine) Refusal) (old new : OutputAt) (status : Status) : Type 0 where
+  pub outcomes : List Outcome
+  pub ended : map (λ o. Done o) outcomes ≡ ends
+  pub told : Told script opening outcomes refs old new status
+
+-- where the store tells its journal and that is sound, a run keeps the histories, and the refs that it tells are their ends
+abbrev pub KeepsHistories : Draw → Script → View → View → Result (List RefLine) Refusal → Type 0
+KeepsHistories draw script old new refs = IsTrue old.caller.tells → (before : ℕ → Changes) → IsSound old.seen before → Leaves draw script.tasks before old.seen new.seen refs
+
+-- What was played, and what was told of it: all tasks have ended, with these outcomes.
+pub record WasPlayed (draw : Draw) (script : Script) (store_old store_new : View) (out_old out_new : OutputAt) (status : Status) : Type 0 where
+  pub opening : Result (Unit {0}) Refusal
+  pub outcomes : List Outcome
+  pub refs : Result (List RefLine) Refusal
+  pub course : Course draw script store_old store_new opening (map (λ o. Done o) outcomes) refs
+  pub histories : KeepsHistories draw script store_old store_new refs
+  pub told : Told script opening outcomes refs out_old out_new status

@@ -1,0 +1,127 @@
+-- The histories of a course.
+use Rattle.std.proofs.Common.{◌≡◌, ℕ, ◌<◌, ◌-◌, ◌^◌, inl, inr, List, [], length, refl, sym, ◌∙◌, ap, subst, append-nil, arith}
+use Rattle.std.specs.Prelude.{Option, Some, None, Result, Ok, Err, IsTrue, IfOk, map}
+use Rattle.std.specs.declared.alloc.AllocError.{AllocError}
+use Rattle.ice_ids.specs.declared.Id12.{Id12}
+use Rattle.ice_ids.specs.declared.drawing.Draw.{Draw}
+use Rattle.tree_model.specs.Changes.{Changes}
+use Rattle.plain_object.specs.Objects.{ref_of}
+use Rattle.store_api.specs.declared.events.Event.{Event}
+use Rattle.store_api.specs.declared.keys.Key.TheVariants.{Branch}
+use Rattle.store_api.specs.declared.machines.Refusal.{Refusal}
+use Rattle.store_api.specs.Machine.{Stored, found}
+use Rattle.store_api.specs.Journal.{tree_of}
+use Rattle.store_api.specs.Callers.{Caller, View, HasAll, as_client}
+use Rattle.store_api.specs.Program.{Prog, Done, Path}
+use Rattle.store_api.proofs.Journals.{Each-none}
+use Rattle.histories.specs.Repository.{Entry, last}
+use Rattle.histories.specs.Calls.{history_of, StandsAs}
+use Rattle.repository.specs.Running.{Asks, Ran}
+use Rattle.repository.specs.Beginning.{begin_program}
+use Rattle.repository.specs.Refs.{refs_program}
+use Rattle.repository.specs.Closing.{NamesAt, TellsRefs, RefsLaw}
+use Rattle.play_script.specs.declared.scripts.Script.{Script}
+use Rattle.play_script.specs.Well.{IsWell}
+use Rattle.play_report.specs.declared.outcome.Outcome.{Outcome}
+use Rattle.play_report.specs.declared.outcome.RefLine.{RefLine}
+use Rattle.play_run.specs.Order.{IsOfClient}
+use Rattle.run_histories.specs.Runs.{RanAlone, PlayedAlone, IsSound}
+use Rattle.run_histories.specs.Told.{RunLaw}
+use Rattle.play_tasks.specs.Workers.{worker_rest}
+use Rattle.play_course.specs.declared.course.Played.{Played}
+use Rattle.play_course.specs.Course.{Course, Plays}
+use Rattle.play_course.specs.Leaving.{TellsEnds, Leaves}
+
+-- ---- the parts of a run
+ran-alone : {A : Type 0} (by : Caller) (p : Asks A) (result : Result A Refusal) (old new : List Event) → HasAll by → Ran by p result old new → RanAlone p old new
+ran-alone by p result old new all r = elim r.ends [
+  | inl path ↦ record { own = r.own; is = (r.alone all).is; good = (r.alone all).good; left = Done result; path = path }
+  | inr cut ↦ record { own = r.own; is = (r.alone all).is; good = (r.alone all).good; left = cut.left; path = cut.path }
+]
+
+plays-alone : (draw : Draw) (script : Script) (old new : View) (opening : Result (Unit {0}) Refusal) (ends : List (Prog Outcome)) → IsTrue old.caller.tells → Plays draw script old new opening ends → PlayedAlone draw script.tasks old.seen new.seen
+plays-alone draw script old new (Ok done) ends t p = let r = (p.ran t).ran in record { own = r.more; is = r.is; owed = r.careful }
+plays-alone draw script old new (Err why) ends t p = record { own = []; is = ap (λ (v : View). v.seen) p.0 ∙ sym (append-nil old.seen); owed = Each-none (IsOfClient draw script.tasks) old.seen }
+
+tells-on : (draw : Draw) (script : Script) (old new : View) (opening : Result (Unit {0}) Refusal) (ends : List (Prog Outcome)) → Plays draw script old new opening ends → IsTrue old.caller.tells → IsTrue new.caller.tells
+tells-on draw script old new (Ok done) ends p t = subst IsTrue (sym p.tells) t
+tells-on draw script old new (Err why) ends p t = subst (λ (v : View). IsTrue v.caller.tells) (sym p.0) t
+
+-- ---- the refs that are told
+-- what stands at a branch is its history's last entry
+names-ends : (journal : List Event) (name : List ℕ) (id : Id12) (stands : Option Stored) (end : Option Entry) → StandsAs stands end → (s : Stored) → stands ≡ Some s → ref_of s.bytes ≡ Some id → (e : Entry) × (end ≡ Some e) × (e.id ≡ id)
+names-ends journal name id None None k s at names = cc
+names-ends journal name id None (Some e) k s at names = cc
+names-ends journal name id (Some x) None k s at names = absurd k
+names-ends journal name id (Some x) (Some e) k s at names = (e, refl, same (sym k.1 ∙ ap (λ (b : List ℕ). ref_of b) (bytes at) ∙ names))
+  where
+    bytes : Some x ≡ Some s → x.bytes ≡ s.bytes
+    bytes h = cc
+
+    same : Some e.id ≡ Some id → e.id ≡ id
+    same h = cc
+
+ends-names : (id : Id12) (stands : Option Stored) (end : Option Entry) → StandsAs stands end → (e : Entry) → end ≡ Some e → e.id ≡ id → (s : Stored) × (stands ≡ Some s) × (ref_of s.bytes ≡ Some id)
+ends-names id None None k e at names = cc
+ends-names id None (Some x) k e at names = absurd k
+ends-names id (Some s) None k e at names = absurd k
+ends-names id (Some s) (Some x) k e at names = (s, refl, k.1 ∙ ap (λ (i : Id12). Some i) (same at ∙ names))
+  where
+    same : Some x ≡ Some e → x.id ≡ e.id
+    same h = cc
+
+module _ (changes : ℕ → Changes) (journal : List Event) where
+  told-ends : (lines : List RefLine) → ((branch : List ℕ) → StandsAs (found journal (Branch branch)) (last (history_of (tree_of journal) changes journal branch))) → TellsRefs journal lines → TellsEnds changes journal lines
+  told-ends lines stand t = record {
+    stand = t;
+    ends = λ name id. (
+      λ line.
+          let n : NamesAt journal (Branch name) id = (t.branches name id).0 line in
+          let e = names-ends journal name id (found journal (Branch name)) (last (history_of (tree_of journal) changes journal name)) (stand name) n.stored n.stands n.names in
+          record { entry = e.0; is_last = e.1; names = e.2 },
+      λ end.
+          let s = ends-names id (found journal (Branch name)) (last (history_of (tree_of journal) changes journal name)) (stand name) end.entry end.is_last end.names in
+          (t.branches name id).1 (record { stored = s.0; stands = s.1; names = s.2 }),
+    );
+  }
+
+-- what the closing reading told, where nobody else acts
+ran-told : (by : Caller) (result : Result (List RefLine) Refusal) (old new : List Event) → RefsLaw → HasAll by → Ran by refs_program result old new → (lines : List RefLine) → result ≡ Ok lines → TellsRefs new lines
+ran-told by result old new law all r lines e = elim r.ends [
+  | inl path ↦
+      let path' : Path refs_program r.own (Done (Ok lines)) = subst (λ (x : Result (List RefLine) Refusal). Path refs_program r.own (Done x)) e path in
+      subst (λ (h : List Event). TellsRefs h lines) (sym (r.alone all).is) (law old r.own lines (r.alone all).good path')
+  | inr cut ↦ let no = sym e ∙ cut.result_is in absurd cc
+]
+
+-- ---- the run
+pub course-leaves : RunLaw → RefsLaw → (draw : Draw) (script : Script) (old new : View) (opening : Result (Unit {0}) Refusal) (ends : List (Prog Outcome)) (refs : Result (List RefLine) Refusal) → length script.tasks < 2 ^ 32 - 1
+    → Course draw script old new opening ends refs → IsTrue old.caller.tells → (before : ℕ → Changes) → IsSound old.seen before → Leaves draw script.tasks before old.seen new.seen refs
+course-leaves run closing draw script old new opening ends refs few c t before sound =
+    let all : HasAll (as_client 0 old).caller = record { low = c.alone.low; end = c.alone.end } in
+    let begun_tells : IsTrue c.begun.caller.tells = subst (λ (b : Caller). IsTrue b.tells) (sym c.begins.same) t in
+    let played_tells : IsTrue c.played.caller.tells = tells-on draw script c.begun c.played opening ends c.plays begun_tells in
+    let last_all : HasAll (as_client 0 c.played).caller = record { low = c.still_alone.low; end = c.still_alone.end } in
+    let first = ran-alone (as_client 0 old).caller begin_program opening old.seen c.begun.seen all (c.begins.ran t) in
+    let closed = c.reads.ran played_tells in
+    let h = run draw script.tasks before old.seen new.seen sound (record {
+      few = few;
+      begun = c.begun.seen;
+      played = c.played.seen;
+      opening = first;
+      playing = plays-alone draw script c.begun c.played opening ends begun_tells c.plays;
+      closing = ran-alone (as_client 0 c.played).caller refs_program refs c.played.seen new.seen last_all closed;
+    }) in
+    record {
+      histories = h;
+      told = λ lines e. told-ends h.changes new.seen lines h.stand (ran-told (as_client 0 c.played).caller refs c.played.seen new.seen closing last_all closed lines e);
+    }
+
+-- a script has few tasks
+pub few-tasks : (script : Script) → IsWell script → length script.tasks < 2 ^ 32 - 1
+few-tasks script well = let few = well.few in omega (arith, few)
+
+pub played-leaves : RunLaw → RefsLaw → (draw : Draw) (script : Script) (old new : View) (result : Result Played AllocError) → IsWell script → IfOk result (λ played. Course draw script old new played.opening (map worker_rest played.workers.items) played.refs) → IsTrue old.caller.tells → (before : ℕ → Changes) → IsSound old.seen before
+    → IfOk result (λ played. Leaves draw script.tasks before old.seen new.seen played.refs)
+played-leaves run closing draw script old new (Ok played) well c t before sound = course-leaves run closing draw script old new played.opening (map worker_rest played.workers.items) played.refs (few-tasks script well) c t before sound
+played-leaves run closing draw script old new (Err error) well c t before sound = tt

@@ -1,0 +1,30 @@
+-- What a run leaves of the branches' histories, and what it tells of them (own).
+use Rattle.std.specs.Prelude.{◌≡◌, ◌↔◌, ℕ, List, Some, Result, Ok}
+use Rattle.ice_ids.specs.declared.Id12.{Id12}
+use Rattle.ice_ids.specs.declared.drawing.Draw.{Draw}
+use Rattle.tree_model.specs.Changes.{Changes}
+use Rattle.store_api.specs.declared.events.Event.{Event}
+use Rattle.store_api.specs.declared.machines.Refusal.{Refusal}
+use Rattle.store_api.specs.Journal.{tree_of}
+use Rattle.histories.specs.Repository.{Entry, last}
+use Rattle.histories.specs.Calls.{history_of}
+use Rattle.repository.specs.Closing.{HasLine, branch_line, TellsRefs}
+use Rattle.play_script.specs.declared.scripts.Task.{Task}
+use Rattle.play_report.specs.declared.outcome.RefLine.{RefLine}
+use Rattle.run_histories.specs.Told.{HasHistories}
+
+-- the branch's history ends at this snapshot
+pub record EndsAt (changes : ℕ → Changes) (journal : List Event) (branch : List ℕ) (id : Id12) : Type 0 where
+  pub entry : Entry
+  pub is_last : last (history_of (tree_of journal) changes journal branch) ≡ Some entry
+  pub names : entry.id ≡ id
+
+-- The lines are those of the refs that stand, and each branch's is the last entry of its history.
+pub record TellsEnds (changes : ℕ → Changes) (journal : List Event) (lines : List RefLine) : Type 0 where
+  pub stand : TellsRefs journal lines
+  pub ends : (name : List ℕ) (id : Id12) → (HasLine lines (branch_line name id) ↔ EndsAt changes journal name id)
+
+-- From old to new a run kept the histories, and the refs that it tells are their ends.
+pub record Leaves (draw : Draw) (tasks : List Task) (before : ℕ → Changes) (old new : List Event) (refs : Result (List RefLine) Refusal) : Type 0 where
+  pub histories : HasHistories draw tasks before old new
+  pub told : (lines : List RefLine) → refs ≡ Ok lines → TellsEnds histories.changes new lines

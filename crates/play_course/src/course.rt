@@ -1,0 +1,116 @@
+//! The course of a run.
+
+ghost use Rattle.std.specs.Prelude.{◌≡◌, ℕ, All, map, length, IfOk, IsTrue};
+ghost use Rattle.tree_model.specs.Changes.{Changes};
+ghost use Rattle.play_script.specs.Well.{IsWell, IsWellTurn};
+ghost use Rattle.play_tasks.specs.Workers.{worker_rest};
+ghost use Rattle.run_histories.specs.Runs.{IsSound};
+ghost use Rattle.play_course.specs.Course.{turns_in, Course, PlaysTasks, Plays};
+ghost use Rattle.play_course.specs.Leaving.{Leaves};
+
+use ice_ids::Draw;
+use play_report::RefLines;
+use play_run::run_tasks;
+use play_script::{Script, Turn};
+use play_tasks::Worker;
+use repository::{begin, read_refs, refs_law};
+use run_histories::run_law;
+use std::alloc::{AllocError, Global};
+use store_api::{Base, Refusal};
+
+/// What was played: how the opening ended, the workers of the tasks, and how the closing reading ended.
+#[derive(Drop)]
+pub struct Played<'a> {
+    /// How the opening ended.
+    pub opening: Result<(), Refusal>,
+    /// The workers, all of which have ended; none where the opening was refused.
+    pub workers: Vec<Worker<'a>>,
+    /// The refs, or why they weren't read.
+    pub refs: Result<RefLines, Refusal>,
+}
+
+/// The turns of a script.
+fn turns_of(script: &Script) -> &[Turn]
+    requires { IsWell script.now }
+    ensures turns { result.now ≡ turns_in script.now.turns }
+    ensures well { All (IsWellTurn (length script.now.tasks)) result.now }
+{
+    match &script.turns {
+        Some(turns) => turns.as_slice(),
+        None => &[],
+    }
+}
+
+/// Runs the tasks of a script by its turns, and then each to its end.
+fn run_script<'a, S: Base>(
+    alloc: Global,
+    script: &'a Script,
+    draw: Draw,
+    store: &mut S,
+) -> Result<Vec<Worker<'a>>, AllocError>
+    requires { IsWell script.now }
+    ensures { IfOk result (λ workers. PlaysTasks draw script.now (S.view store.old) (S.view store.new) (map worker_rest workers.items)) }
+{
+    let turns = turns_of(script);
+    run_tasks(alloc, script.tasks.as_slice(), draw, turns, store)
+}
+
+/// Plays the tasks where the opening went well.
+fn play_tasks<'a, S: Base>(
+    alloc: Global,
+    script: &'a Script,
+    draw: Draw,
+    opening: &Result<(), Refusal>,
+    store: &mut S,
+) -> Result<Vec<Worker<'a>>, AllocError>
+    requires { IsWell script.now }
+    ensures { IfOk result (λ workers. Plays draw script.now (S.view store.old) (S.view store.new) opening.now (map worker_rest workers.items)) }
+{
+    match opening {
+        Ok(()) => run_script(alloc, script, draw, store),
+        Err(_) => Ok(Vec::new(alloc)),
+    }
+}
+
+/// The opening, the tasks and the closing reading.
+fn play_through<'a, S: Base>(
+    alloc: Global,
+    script: &'a Script,
+    draw: Draw,
+    store: &mut S,
+) -> Result<Played<'a>, AllocError>
+    requires { IsWell script.now }
+    ensures { IfOk result (λ played. Course draw script.now (S.view store.old) (S.view store.new) played.opening (map worker_rest played.workers.items) played.refs) }
+{
+    store.set_client(0);
+    let opening = begin(alloc, store);
+    let workers = play_tasks(alloc, script, draw, &opening, store)?;
+    store.set_client(0);
+    let refs = read_refs(alloc, store);
+    Ok(Played {
+        opening,
+        workers,
+        refs,
+    })
+}
+
+/// Plays a script over a store on which nobody else acts: makes the repository where there is none,
+/// runs the tasks, unless that was refused, and reads the refs. The opening and the closing reading
+/// are client 0's; the task at place k, from 0, is client k + 1's. All workers have ended.
+pub fn play<'a, S: Base>(
+    alloc: Global,
+    script: &'a Script,
+    draw: Draw,
+    store: &mut S,
+) -> Result<Played<'a>, AllocError>
+    requires { IsWell script.now }
+    ensures course { IfOk result (λ played. Course draw script.now (S.view store.old) (S.view store.new) played.opening (map worker_rest played.workers.items) played.refs) }
+
+    // Over a store that tells its journal, where that is sound, the branches' histories are kept, and the refs that were
+    // read are their ends.
+    ensures leaves { IsTrue (S.view store.old).caller.tells → (before : ℕ → Changes) → IsSound (S.view store.old).seen before → IfOk result (λ played. Leaves draw script.now.tasks before (S.view store.old).seen (S.view store.new).seen played.refs) }
+{
+    run_law();
+    refs_law();
+    play_through(alloc, script, draw, store)
+}

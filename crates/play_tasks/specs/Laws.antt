@@ -1,0 +1,24 @@
+-- Laws of tasks.
+use Rattle.std.specs.Prelude.{◌++◌, List}
+use Rattle.ice_ids.specs.declared.drawing.AnyIds.{AnyIds}
+use Rattle.store_api.specs.declared.events.Event.{Event}
+use Rattle.store_api.specs.Journal.{Each}
+use Rattle.store_api.specs.Callers.{Caller, IsOther}
+use Rattle.store_api.specs.Program.{Keeps, Leads}
+use Rattle.commit_path.specs.Owed.{IsCareful}
+use Rattle.play_script.specs.declared.scripts.Task.{Task}
+use Rattle.play_script.specs.Well.{IsWellTask}
+use Rattle.play_report.specs.declared.outcome.Outcome.{Outcome}
+use Rattle.play_tasks.specs.Playing.{task_program}
+use Rattle.play_tasks.specs.Solving.{IsOfTask}
+use Rattle.play_tasks.specs.Telling.{TellsOutcome}
+
+-- Whatever others do, each operation of a well task is polite, and what the task owes; and its outcome
+-- tells the journal, where the task began at `start`.
+abbrev pub TaskLaw : Type 0
+TaskLaw = (by : Caller) (ids : AnyIds) (task : Task) (start : List Event) → IsWellTask task
+    → Keeps (IsCareful (IsOfTask ids task)) by (task_program ids task) start × Leads (TellsOutcome ids task by.number start) by (task_program ids task) start
+
+-- what an outcome tells stays so, whatever good events others make
+abbrev pub OutcomeLaw : Type 0
+OutcomeLaw = (by : Caller) (ids : AnyIds) (task : Task) (outcome : Outcome) (start journal more : List Event) → Each (IsOther by) journal more → TellsOutcome ids task by.number start outcome journal → TellsOutcome ids task by.number start outcome (journal ++ more)

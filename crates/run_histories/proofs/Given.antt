@@ -1,0 +1,156 @@
+-- The changes given for each commit, in the whole journal.
+use Rattle.std.proofs.Common.{◌≡◌, ℕ, ◌<◌, ◌≤◌, cond, ltb, List, [], ◌∷◌, ◌++◌, length, refl, sym, ◌∙◌, ap, subst, arith, append_assoc, length-append}
+use Rattle.std.specs.Prelude.{Option, Some, option_map}
+use Rattle.std.proofs.lemmas.Bool.{lt-ltb, le-ltb}
+use Rattle.ice_ids.specs.declared.Id12.{Id12}
+use Rattle.ice_ids.specs.declared.drawing.Draw.{Draw}
+use Rattle.tree_model.specs.Changes.{Changes, apply}
+use Rattle.plain_object.specs.Objects.{Snapshot as Snap}
+use Rattle.store_api.specs.declared.keys.Key.TheVariants.{Snapshot}
+use Rattle.store_api.specs.declared.events.Event.{Event}
+use Rattle.store_api.specs.Journal.{Each, IsGood, IsGoodJournal, IsOnce, IsFirst, WasPut, ParentPut, tree_of, snap_made}
+use Rattle.store_api.proofs.Journals.{Each-back, Each-both}
+use Rattle.store_api.proofs.Slots.{WasPut-append}
+use Rattle.store_api.proofs.Standing.{standing, snap_made-put}
+use Rattle.store_api.proofs.Naming.{names-law}
+use Rattle.histories.specs.Calls.{LeadsFromParent, IsGiven, CommitsApply}
+use Rattle.histories.proofs.Choosing.{Knows, chosen, choice}
+use Rattle.session.specs.Sessions.{SessionState, overlay}
+use Rattle.commit_path.specs.Owed.{IsMade}
+use Rattle.commit_path.proofs.Owing.{once-front, once-back}
+use Rattle.play_script.specs.declared.scripts.Task.{Task}
+use Rattle.run_histories.specs.Told.{IsSolved, CommitsEnter}
+
+-- what holds of each event, where the whole journal is known
+along-whole : (P Q : List Event → Event → Type 0) (whole old more : List Event) → whole ≡ old ++ more → ((journal : List Event) (event : Event) (rest : List Event) → whole ≡ journal ++ event ∷ rest → P journal event → Q journal event) → Each P old more → Each Q old more
+unfolding Each
+along-whole P Q whole old [] w f a = tt
+along-whole P Q whole old (x ∷ xs) w f a = (f old x xs w a.0, along-whole P Q whole (old ++ x ∷ []) xs (w ∙ sym (append_assoc old (x ∷ []) xs)) f a.1)
+
+-- ---- the changes at each position
+-- those before, and then those that were chosen
+pub joined : (ℕ → Changes) → List Event → (ℕ → Changes) → ℕ → Changes
+joined before old after n = cond (ltb n (length old)) (before n) (after n)
+
+pub joined-before : (before after : ℕ → Changes) (old : List Event) (n : ℕ) → n < length old → joined before old after n ≡ before n
+unfolding joined
+joined-before before after old n l = ap (λ b. cond b (before n) (after n)) (lt-ltb n (length old) l)
+
+joined-after : (before after : ℕ → Changes) (old : List Event) (n : ℕ) → length old ≤ n → joined before old after n ≡ after n
+unfolding joined
+joined-after before after old n l = ap (λ b. cond b (before n) (after n)) (le-ltb n (length old) l)
+
+-- what holds of each event that comes at a position from n on
+along-past : (P Q : List Event → Event → Type 0) (n : ℕ) (old more : List Event) → n ≤ length old → ((journal : List Event) (event : Event) → n ≤ length journal → P journal event → Q journal event) → Each P old more → Each Q old more
+unfolding Each
+along-past P Q n old [] l f a = tt
+along-past P Q n old (x ∷ xs) l f a = (f old x l a.0, along-past P Q n (old ++ x ∷ []) xs (omega (arith, l, length-append old (x ∷ []))) f a.1)
+
+-- what is known of each event is right of the changes that were joined
+pub joined-right : (Q : List Event → Event → Changes → Type 0) (before : ℕ → Changes) (old more : List Event) (a : Each (Knows Q) old more) → Each (λ journal event. Q journal event (joined before old (chosen Q old more a) (length journal))) old more
+joined-right Q before old more a =
+    along-past (λ journal event. Q journal event (chosen Q old more a (length journal))) _ (length old) old more (omega arith)
+    (λ journal event l q. subst (λ (c : Changes). Q journal event c) (sym (joined-after before (chosen Q old more a) old (length journal) l)) q)
+    (choice Q old more a)
+
+-- the journal goes on soundly
+record Follows (journal rest : List Event) : Type 0 where
+  once : IsOnce journal
+  good : Each IsGood journal rest
+  first : Each IsFirst journal rest
+
+-- ---- a commit of a session
+-- in any journal that goes on so, its parent is the base, and both have their trees
+module _ (journal rest : List Event) (f : Follows journal rest) (session : SessionState) (id : Id12) (m : IsMade session id journal) where
+  made-base : (base : Id12) (snap : Snap) → snap_made journal id ≡ Some snap → snap.parent ≡ Some base → session.base ≡ base
+  made-base base snap made parent =
+      let snaps : m.snap ≡ snap = snap_same (sym m.made ∙ made) in
+      base_same (sym m.parent ∙ ap (λ (s : Snap). s.parent) snaps ∙ parent)
+    where
+      snap_same : Some m.snap ≡ Some snap → m.snap ≡ snap
+      snap_same e = cc
+
+      base_same : Some session.base ≡ Some base → session.base ≡ base
+      base_same e = cc
+
+  made-tree : tree_of (journal ++ rest) id ≡ Some (overlay session)
+  made-tree = standing id journal rest f.once (snap_made-put journal id m.snap m.made) f.good f.first ∙ m.tree
+
+  base-tree : tree_of (journal ++ rest) session.base ≡ Some session.tree
+  base-tree = standing session.base journal rest f.once m.base_put f.good f.first ∙ m.base_tree
+
+  made-leads : (c : Changes) → c ≡ session.changes → LeadsFromParent (tree_of (journal ++ rest)) c journal id
+  made-leads c changes base snap made parent =
+      made-tree
+      ∙ ap (λ (x : Changes). Some (apply x session.tree)) (sym changes)
+      ∙ ap (option_map (apply c)) (sym base-tree)
+      ∙ ap (λ (i : Id12). option_map (apply c) (tree_of (journal ++ rest) i)) (made-base base snap made parent)
+
+module _ (draw : Draw) (tasks : List Task) (changes : ℕ → Changes) (whole : List Event) (good : IsGoodJournal whole) (once : IsOnce whole) where
+  follows : (journal rest : List Event) → whole ≡ journal ++ rest → Follows journal rest
+  follows journal rest w =
+      let good' : IsGoodJournal (journal ++ rest) = subst (λ (h : List Event). IsGoodJournal h) w good in
+      let once' : IsOnce (journal ++ rest) = subst (λ (h : List Event). IsOnce h) w once in
+      record { once = once-front journal rest once'; good = (Each-back IsGood [] journal rest good').1; first = once-back journal rest once' }
+
+  solved-one : (journal : List Event) (event : Event) (rest : List Event) → whole ≡ journal ++ event ∷ rest → IsSolved draw tasks changes journal event → IsGiven (tree_of whole) changes journal event
+  solved-one journal event rest w solved branch bytes old id op_is names =
+      let s = solved branch bytes old id op_is names in
+      let f = follows journal (event ∷ rest) w in
+      subst (λ (h : List Event). LeadsFromParent (tree_of h) (changes (length journal)) journal id) (sym w)
+      (made-leads journal (event ∷ rest) f s.session id s.made (changes (length journal)) s.changes_are)
+
+  pub solved-given : (old more : List Event) → whole ≡ old ++ more → Each (IsSolved draw tasks changes) old more → Each (IsGiven (tree_of whole) changes) old more
+  solved-given old more w a = along-whole (IsSolved draw tasks changes) (IsGiven (tree_of whole) changes) whole old more w solved-one a
+
+  -- ---- the commits that took effect
+  abbrev Both : List Event → Event → Type 0
+  Both journal event = IsSolved draw tasks changes journal event × CommitsApply (tree_of whole) changes journal event
+
+  enters-one : (journal : List Event) (event : Event) (rest : List Event) → whole ≡ journal ++ event ∷ rest → Both journal event → CommitsEnter draw tasks (tree_of whole) changes journal event
+  enters-one journal event rest w both branch bytes old id stored op_is names done stands version =
+      let s = both.0 branch bytes old id op_is names in
+      let c = both.1 branch bytes old id stored op_is names done stands version in
+      let f = follows journal (event ∷ rest) w in
+      let base : s.session.base ≡ c.before.id = made-base journal (event ∷ rest) f s.session id s.made c.before.id c.child.snap c.child.made c.child.parent_is in
+      let base_has : tree_of whole s.session.base ≡ Some s.session.tree = subst (λ (h : List Event). tree_of h s.session.base ≡ Some s.session.tree) (sym w) (base-tree journal (event ∷ rest) f s.session id s.made) in
+      record {
+        of_session = s;
+        before = c.before;
+        is_last = c.is_last;
+        version = c.version;
+        base = sym base;
+        base_tree = subst (λ (i : Id12). tree_of whole i ≡ Some s.session.tree) base base_has;
+        tree = subst (λ (h : List Event). tree_of h id ≡ Some (overlay s.session)) (sym w) (made-tree journal (event ∷ rest) f s.session id s.made);
+      }
+
+  pub solved-enter : (old more : List Event) → whole ≡ old ++ more → Each (IsSolved draw tasks changes) old more → Each (CommitsApply (tree_of whole) changes) old more → Each (CommitsEnter draw tasks (tree_of whole) changes) old more
+  solved-enter old more w a b =
+      along-whole Both (CommitsEnter draw tasks (tree_of whole) changes) whole old more w enters-one
+      (Each-both (IsSolved draw tasks changes) (CommitsApply (tree_of whole) changes) Both (λ h e p q. (p, q)) old more a b)
+
+-- ---- the commits before
+module _ (before after : ℕ → Changes) (old more : List Event) (good : IsGoodJournal old) (once : IsOnce old) (goes_on : Each IsGood old more) (first : Each IsFirst old more) (same : (n : ℕ) → n < length old → after n ≡ before n) where
+  parent-put : (journal : List Event) (id base : Id12) (snap : Snap) → IsGoodJournal journal → snap_made journal id ≡ Some snap → snap.parent ≡ Some base → WasPut journal (Snapshot base)
+  parent-put journal id base snap g made parent =
+      let p : ParentPut journal (Some snap) = subst (λ (o : Option Snap). ParentPut journal o) made ((names-law journal g).parents id) in
+      p base parent
+
+  before-one : (journal : List Event) (event : Event) (rest : List Event) → old ≡ journal ++ event ∷ rest → IsGiven (tree_of old) before journal event → IsGiven (tree_of (old ++ more)) after journal event
+  before-one journal event rest w given branch bytes version id op_is names base snap made parent =
+      let within : length journal < length old = omega (arith, ap length w, length-append journal (event ∷ rest)) in
+      let c : after (length journal) ≡ before (length journal) = same (length journal) within in
+      let good' : IsGoodJournal (journal ++ event ∷ rest) = subst (λ (h : List Event). IsGoodJournal h) w good in
+      let prefix : IsGoodJournal journal = (Each-back IsGood [] journal (event ∷ rest) good').0 in
+      let id_put : WasPut old (Snapshot id) = later journal (event ∷ rest) id w (snap_made-put journal id snap made) in
+      let base_put : WasPut old (Snapshot base) = later journal (event ∷ rest) base w (parent-put journal id base snap prefix made parent) in
+      standing id old more once id_put goes_on first
+      ∙ given branch bytes version id op_is names base snap made parent
+      ∙ ap (λ (x : Changes). option_map (apply x) (tree_of old base)) (sym c)
+      ∙ ap (option_map (apply (after (length journal)))) (sym (standing base old more once base_put goes_on first))
+    where
+      later : (xs ys : List Event) (i : Id12) → old ≡ xs ++ ys → WasPut xs (Snapshot i) → WasPut old (Snapshot i)
+      later xs ys i e p = subst (λ (h : List Event). WasPut h (Snapshot i)) (sym e) (WasPut-append xs ys (Snapshot i) p)
+
+  pub before-given : Each (IsGiven (tree_of old) before) [] old → Each (IsGiven (tree_of (old ++ more)) after) [] old
+  before-given a = along-whole (IsGiven (tree_of old) before) (IsGiven (tree_of (old ++ more)) after) old [] old refl before-one a

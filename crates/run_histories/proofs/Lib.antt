@@ -1,0 +1,5 @@
+pub mod Drawing
+pub mod Programs
+pub mod Along
+pub mod Given
+pub mod Joined

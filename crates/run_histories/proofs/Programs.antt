@@ -1,0 +1,130 @@
+-- The operations of the opening and of the closing reading.
+use Rattle.std.proofs.Common.{◌≡◌, ℕ, List, [], ◌∷◌, ◌++◌, refl, sym, subst}
+use Rattle.std.specs.Prelude.{Result, Ok, Err}
+use Rattle.ice_ids.specs.Text.{initial_id}
+use Rattle.plain_object.specs.Objects.{initial_bytes}
+use Rattle.store_api.specs.declared.keys.Key.{Key}
+use Rattle.store_api.specs.declared.keys.Key.TheVariants.{Snapshot, Branch}
+use Rattle.store_api.specs.declared.keys.Part.{Part}
+use Rattle.store_api.specs.declared.keys.Part.TheVariants.{Branches, Tags}
+use Rattle.store_api.specs.declared.events.Op.{Op}
+use Rattle.store_api.specs.declared.events.Op.TheVariants.{Get, PutNew, List as ListPart}
+use Rattle.store_api.specs.declared.events.Got.TheVariants.{Found, Absent}
+use Rattle.store_api.specs.declared.events.Entry.{Entry}
+use Rattle.store_api.specs.declared.events.Reply.{Reply}
+use Rattle.store_api.specs.declared.events.Reply.TheVariants.{Got as Is_got, New as Is_new, Over as Is_over, Gone as Is_gone, GoneAt as Is_gone_at, Listed as Is_listed, Failed}
+use Rattle.store_api.specs.declared.events.Event.{Event}
+use Rattle.store_api.specs.declared.machines.Refusal.{Refusal}
+use Rattle.store_api.specs.Journal.{Each}
+use Rattle.store_api.specs.Program.{Prog, Done, Ask, bind, Path}
+use Rattle.play_report.specs.declared.outcome.RefLine.{RefLine}
+use Rattle.repository.specs.Running.{Asks, ◌>>=◌, on_answer}
+use Rattle.repository.specs.Beginning.{begin_program, put_main, after_put}
+use Rattle.repository.specs.Refs.{list_part, on_listed, read_ref, on_got, read_each, refs_program, with_line, live}
+
+-- a new key of the opening
+abbrev IsPlainNew : List ℕ → Key → Type 0
+IsPlainNew bytes (Snapshot id) = (id ≡ initial_id) × (bytes ≡ initial_bytes)
+IsPlainNew bytes (Branch name) = Unit {0}
+IsPlainNew bytes _ = ⊥
+
+-- a get, a listing, or a put of the opening
+abbrev pub IsPlain : Op → Type 0
+IsPlain (Get key) = Unit {0}
+IsPlain (ListPart part) = Unit {0}
+IsPlain (PutNew key bytes why) = IsPlainNew bytes key
+IsPlain _ = ⊥
+
+-- ---- all operations that a program may come to
+unfoldable pub AllPlain : {A : Type 0} → Prog A → Type 0
+AllPlain (Done a) = Unit {0}
+AllPlain (Ask op next) = IsPlain op × ((reply : Reply) → AllPlain (next reply))
+
+bind-plain : {A B : Type 0} (p : Prog A) (f : A → Prog B) → AllPlain p → ((a : A) → AllPlain (f a)) → AllPlain (bind p f)
+unfolding AllPlain
+bind-plain (Done a) f p g = g a
+bind-plain (Ask op next) f p g = (p.0, λ reply. bind-plain (next reply) f (p.1 reply) g)
+
+answer-plain : {A B : Type 0} (f : A → Asks B) → ((a : A) → AllPlain (f a)) → (r : Result A Refusal) → AllPlain (on_answer f r)
+unfolding AllPlain
+answer-plain f g (Ok a) = g a
+answer-plain f g (Err why) = tt
+
+then-plain : {A B : Type 0} (p : Asks A) (f : A → Asks B) → AllPlain p → ((a : A) → AllPlain (f a)) → AllPlain (p >>= f)
+then-plain p f k g = bind-plain p (on_answer f) k (answer-plain f g)
+
+-- the events of such a program
+pub path-plain : {A : Type 0} (p : Prog A) (old events : List Event) (q : Prog A) → AllPlain p → Path p events q → Each (λ journal event. IsPlain event.op) old events
+unfolding AllPlain Path Each
+path-plain p old [] q k path = tt
+path-plain (Done a) old (x ∷ xs) q k path = absurd path
+path-plain (Ask op next) old (x ∷ xs) q k path = (subst IsPlain (sym path.0) k.0, path-plain (next x.reply) (old ++ x ∷ []) xs q (k.1 x.reply) path.1)
+
+-- ---- the opening
+after_put-plain : (reply : Reply) → AllPlain (after_put reply)
+unfolding AllPlain
+after_put-plain (Is_got x) = tt
+after_put-plain (Is_new x) = tt
+after_put-plain (Is_over x) = tt
+after_put-plain (Is_gone x) = tt
+after_put-plain (Is_gone_at x) = tt
+after_put-plain (Is_listed x) = tt
+after_put-plain (Failed d) = tt
+
+main-plain : AllPlain put_main
+unfolding AllPlain
+main-plain = (tt, after_put-plain)
+
+pub begin-plain : AllPlain begin_program
+unfolding AllPlain
+begin-plain = ((refl, refl), λ reply. then-plain (after_put reply) (λ done. put_main) (after_put-plain reply) (λ done. main-plain))
+
+-- ---- the closing reading
+on_listed-plain : (reply : Reply) → AllPlain (on_listed reply)
+unfolding AllPlain
+on_listed-plain (Is_got x) = tt
+on_listed-plain (Is_new x) = tt
+on_listed-plain (Is_over x) = tt
+on_listed-plain (Is_gone x) = tt
+on_listed-plain (Is_gone_at x) = tt
+on_listed-plain (Is_listed x) = tt
+on_listed-plain (Failed d) = tt
+
+list-plain : (part : Part) → AllPlain (list_part part)
+unfolding AllPlain
+list-plain part = (tt, on_listed-plain)
+
+on_got-plain : (key : Key) (reply : Reply) → AllPlain (on_got key reply)
+unfolding AllPlain
+on_got-plain key (Is_got (Found bytes version now)) = tt
+on_got-plain key (Is_got (Absent now)) = tt
+on_got-plain key (Is_new x) = tt
+on_got-plain key (Is_over x) = tt
+on_got-plain key (Is_gone x) = tt
+on_got-plain key (Is_gone_at x) = tt
+on_got-plain key (Is_listed x) = tt
+on_got-plain key (Failed d) = tt
+
+ref-plain : (key : Key) → AllPlain (read_ref key)
+unfolding AllPlain
+ref-plain key = (tt, on_got-plain key)
+
+each-plain : (lines : List RefLine) (keys : List Key) → AllPlain (read_each lines keys)
+unfolding AllPlain
+each-plain lines [] = tt
+each-plain lines (key ∷ keys) = then-plain (read_ref key) (λ line. read_each (with_line lines line) keys) (ref-plain key) (λ line. each-plain (with_line lines line) keys)
+
+abbrev then_tags : List RefLine → Asks (List RefLine)
+then_tags lines = list_part Tags >>= λ tags. read_each lines (live tags)
+
+abbrev then_lines : List Entry → Asks (List RefLine)
+then_lines branches = read_each [] (live branches) >>= then_tags
+
+tags-plain : (lines : List RefLine) → AllPlain (then_tags lines)
+tags-plain lines = then-plain (list_part Tags) (λ tags. read_each lines (live tags)) (list-plain Tags) (λ tags. each-plain lines (live tags))
+
+lines-plain : (branches : List Entry) → AllPlain (then_lines branches)
+lines-plain branches = then-plain (read_each [] (live branches)) then_tags (each-plain [] (live branches)) tags-plain
+
+pub refs-plain : AllPlain refs_program
+refs-plain = then-plain (list_part Branches) then_lines (list-plain Branches) lines-plain

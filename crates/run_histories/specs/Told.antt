@@ -1,0 +1,85 @@
+-- What a run leaves of the branches' histories, in words of its tasks (own).
+use Rattle.std.specs.Prelude.{◌≡◌, ℕ, ◌+◌, ◌<◌, true, List, [], ◌++◌, length, Option, Some, slice_get}
+use Rattle.ice_ids.specs.declared.Id12.{Id12}
+use Rattle.ice_ids.specs.declared.drawing.Draw.{Draw}
+use Rattle.tree_model.specs.Trees.{Tree}
+use Rattle.tree_model.specs.Changes.{Changes, none}
+use Rattle.plain_object.specs.Objects.{ref_of}
+use Rattle.store_api.specs.declared.keys.Key.TheVariants.{Branch}
+use Rattle.store_api.specs.declared.keys.Why.TheVariants.{Commit}
+use Rattle.store_api.specs.declared.events.Version.{Version}
+use Rattle.store_api.specs.declared.events.Op.{Op}
+use Rattle.store_api.specs.declared.events.Op.TheVariants.{PutOver}
+use Rattle.store_api.specs.declared.events.Event.{Event}
+use Rattle.store_api.specs.Machine.{Stored, found, was_done}
+use Rattle.store_api.specs.Journal.{Each, tree_of}
+use Rattle.histories.specs.Repository.{Entry, last}
+use Rattle.histories.specs.Calls.{history_of, IsHistory, BranchesStand}
+use Rattle.session.specs.Sessions.{SessionState, overlay}
+use Rattle.commit_path.specs.Owed.{IsMade}
+use Rattle.play_script.specs.declared.scripts.Task.{Task}
+use Rattle.play_tasks.specs.Solving.{IsOfTask}
+use Rattle.play_run.specs.Order.{ids_at}
+use Rattle.run_histories.specs.Runs.{IsSound, IsRun}
+
+-- A commit of a session of its client's task: the task's lines lead to the session and to the id that it draws, the
+-- branch is the session's, and so are the changes; and what was put under the id is the session's snapshot, with its
+-- base as parent, the base's tree under its changes as tree, and a log of all that they touch.
+pub record IsOfSession (draw : Draw) (tasks : List Task) (changes : Changes) (journal : List Event) (client : ℕ) (branch : List ℕ) (id : Id12) : Type 0 where
+  pub place : ℕ
+  pub client_is : client ≡ place + 1
+  pub task : Task
+  pub at : slice_get tasks place ≡ Some task
+  pub session : SessionState
+  pub of_task : IsOfTask (ids_at draw place) task session id
+  pub branch_is : branch ≡ session.branch
+  pub changes_are : changes ≡ session.changes
+  pub made : IsMade session id journal
+
+-- where the client's operation commits a snapshot to a branch, the commit is of a session of its task, with these changes
+abbrev pub CommitsSession : Draw → List Task → Changes → List Event → ℕ → Op → Type 0
+CommitsSession draw tasks changes journal client op = (branch bytes : List ℕ) (old : Version) (id : Id12) → op ≡ PutOver (Branch branch) bytes old Commit → ref_of bytes ≡ Some id
+    → IsOfSession draw tasks changes journal client branch id
+
+-- where the event is a commit, the changes at its position are those of its session
+abbrev pub IsSolved : Draw → List Task → (ℕ → Changes) → List Event → Event → Type 0
+IsSolved draw tasks changes journal event = CommitsSession draw tasks (changes (length journal)) journal event.client event.op
+
+-- A commit that took effect, of a session of its client's task. It follows directly on the last entry of its branch:
+-- the entry has the version that was put over, its snapshot is the session's base, and its tree is the one that the session
+-- began with; the commit's tree is that one under exactly the session's changes.
+pub record IsEntered (draw : Draw) (tasks : List Task) (trees : Id12 → Option Tree) (changes : ℕ → Changes) (journal : List Event) (client : ℕ) (branch : List ℕ) (old : ℕ) (id : Id12) : Type 0 where
+  pub of_session : IsOfSession draw tasks (changes (length journal)) journal client branch id
+  pub before : Entry
+  pub is_last : last (history_of trees changes journal branch) ≡ Some before
+  pub version : before.version ≡ old
+  pub base : before.id ≡ of_session.session.base
+  pub base_tree : trees before.id ≡ Some of_session.session.tree
+  pub tree : trees id ≡ Some (overlay of_session.session)
+
+-- where the event is a commit that took effect, also by a lost answer
+abbrev pub CommitsEnter : Draw → List Task → (Id12 → Option Tree) → (ℕ → Changes) → List Event → Event → Type 0
+CommitsEnter draw tasks trees changes journal event = (branch bytes : List ℕ) (old : Version) (id : Id12) (s : Stored) → event.op ≡ PutOver (Branch branch) bytes old Commit → ref_of bytes ≡ Some id
+    → was_done event.reply ≡ true → found journal (Branch branch) ≡ Some s → s.version ≡ old.0 → IsEntered draw tasks trees changes journal event.client branch old.0 id
+
+-- After a run: the changes for each position are those before it, and for each commit that it added those of a session
+-- of its client's task; each commit that took effect follows on the entry before it. With these changes the journal is
+-- sound, so that another run may go on; the histories run over its calls; and the branches stand as their histories say.
+pub record HasHistories (draw : Draw) (tasks : List Task) (before : ℕ → Changes) (old new : List Event) : Type 0 where
+  pub added : List Event
+  pub is : new ≡ old ++ added
+  pub changes : ℕ → Changes
+  pub same : (n : ℕ) → n < length old → changes n ≡ before n
+  pub solved : Each (IsSolved draw tasks changes) old added
+  pub commits : Each (CommitsEnter draw tasks (tree_of new) changes) old added
+  pub sound : IsSound new changes
+  pub history : IsHistory (tree_of new) changes new
+  pub stand : BranchesStand (tree_of new) changes new
+
+-- of a run that goes on a sound journal
+abbrev pub RunLaw : Type 0
+RunLaw = (draw : Draw) (tasks : List Task) (before : ℕ → Changes) (old new : List Event) → IsSound old before → IsRun draw tasks old new → HasHistories draw tasks before old new
+
+-- of a run over an empty store
+abbrev pub BegunLaw : Type 0
+BegunLaw = (draw : Draw) (tasks : List Task) (new : List Event) → IsRun draw tasks [] new → HasHistories draw tasks (λ n. none) [] new

@@ -1,0 +1,10 @@
+pub mod AsciiLaws
+pub mod GridLaws
+pub mod ItemLaws
+pub mod KeptLaws
+pub mod LeastLaws
+pub mod PlainAscii
+pub mod PlainLaws
+pub mod PlainReads
+pub mod PlainTokens
+pub mod TextLaws

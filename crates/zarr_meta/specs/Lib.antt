@@ -1,0 +1,9 @@
+pub mod Extras
+pub mod Grids
+pub mod Kinds
+pub mod Meta
+pub mod Parts
+pub mod Plain
+pub mod Shown
+pub mod Views
+pub mod Kept
