@@ -1,3 +1,4 @@
 pub mod LoopLaws
 pub mod BuildingLaws
 pub mod Again
+pub mod WasRead

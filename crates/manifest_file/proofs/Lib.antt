@@ -1,3 +1,4 @@
 pub mod Behind
 pub mod Again
 pub mod Ascending
+pub mod Ordered

@@ -4,6 +4,7 @@
 //! of a manifest, which is read again as that manifest.
 #![tactic(auto)]
 
+pub mod laws;
 mod manifest;
 mod reading;
 mod writing;

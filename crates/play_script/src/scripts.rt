@@ -15,7 +15,7 @@ pub enum Call {
         /// Where it is added.
         path: Path,
     },
-    /// Lists the nodes at and beneath a path.
+    /// Lists the nodes strictly beneath a path.
     List {
         /// The path.
         path: Path,

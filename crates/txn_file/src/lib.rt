@@ -5,6 +5,7 @@
 //! log, which is read again as that log.
 #![tactic(auto)]
 
+pub mod laws;
 mod log;
 mod reading;
 mod writing;

@@ -12,9 +12,13 @@ product (x ∷ xs) = x * product xs
 abbrev pub grid_of : List ℕ → List ℕ → List ℕ
 grid_of shape chunks = map (λ p. div_ceil p.0 p.1) (zip shape chunks)
 
--- lists of one length, with each number of the first below that of the second
-unfoldable pub are_below : List ℕ → List ℕ → Bool
-are_below numbers limits = length numbers == length limits && list_all (λ p. nat_lt p.0 p.1) (zip numbers limits)
+-- each number is below the one at its place in the second list
+abbrev pub are_each_below : List ℕ → List ℕ → Bool
+are_each_below numbers limits = list_all (λ p. nat_lt p.0 p.1) (zip numbers limits)
+
+-- the same of lists of one length
+abbrev pub are_below : List ℕ → List ℕ → Bool
+are_below numbers limits = length numbers == length limits && are_each_below numbers limits
 
 -- an index of a chunk in the grid: a number for each dimension, below that of the chunks along it
 abbrev pub is_in_grid : List ℕ → List ℕ → List ℕ → Bool

@@ -1,4 +1,4 @@
-use Rattle.std.proofs.Common.{◌≡◌, ℕ, List, Option, refl, sym, ap, ◌∙◌, Bool, true, false, cond, Result, Ok, Err, None}
+use Rattle.std.proofs.Common.{◌≡◌, Option, refl, ap, ◌∙◌, Bool, true, false, cond, Result, Ok, Err, None}
 use Rattle.std.specs.Prelude.{◌&&◌}
 use Rattle.std.specs.Str.{is_utf8}
 use Rattle.std.specs.Option.{is_none}

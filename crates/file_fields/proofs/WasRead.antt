@@ -1,0 +1,63 @@
+-- What was read: rows in order ascend, and each has what its reading gives; a file's payload was read.
+use Rattle.std.proofs.Common.{◌≡◌, ℕ, ◌+◌, Bool, true, false, cond, List, [], ◌∷◌, length, drop, None, Some, Option, Result, Ok, Err, refl, sym, subst, ap, ◌∙◌}
+use Rattle.std.specs.List.{AllByRecursion}
+use Rattle.flat_tables.specs.declared.header.Kind.{Kind}
+use Rattle.flat_tables.specs.declared.header.HeaderFault.{HeaderFault}
+use Rattle.flat_tables.specs.declared.fault.FlatFault.{FlatFault}
+use Rattle.flat_tables.specs.declared.fault.FileFault.{FileFault}
+use Rattle.flat_tables.specs.declared.fault.FileFault.TheVariants as faults
+use Rattle.flat_tables.specs.Header.{kind_of}
+use Rattle.flat_tables.specs.Places.{VectorIn}
+use Rattle.flat_tables.specs.Rows.{optional_rows, rows, each, in_order, Ascends}
+use Rattle.flat_tables.specs.File.{of_kind, file_of}
+use Rattle.flat_tables.proofs.Loop.{ReadsFrom, rows_read, were_read, were_ordered, each_were}
+
+-- ---- rows
+
+pub rows_ascend : {A : Type 0} (key : A → List ℕ) (slot : ℕ) (read : List A → Result A FileFault) (n : ℕ) (xs : List A) → rows (in_order key slot read) [] n ≡ Ok xs → Ascends key None xs
+rows_ascend {A = A} key slot read n xs e =
+    let r = rows_read (in_order key slot read) [] n xs e in
+    subst (λ (ys : List A). Ascends key None ys) (sym r.all_is) (were_ordered key slot read [] r.more None refl r.reads)
+
+pub rows_count : {A : Type 0} (read : List A → Result A FileFault) (n : ℕ) (xs : List A) → rows read [] n ≡ Ok xs → length xs ≡ n
+rows_count read n xs e =
+    let r = rows_read read [] n xs e in
+    ap length r.all_is ∙ r.len
+
+each_has : {A : Type 0} (P : A → Type 0) (f : ℕ → Result A FileFault) → ((i : ℕ) (x : A) → f i ≡ Ok x → P x) → (xs : List A) (i : ℕ) → ReadsFrom f i xs → AllByRecursion P xs
+each_has P f has [] i reads = tt
+each_has P f has (x ∷ xs) i reads = (has i x reads.0, each_has P f has xs (i + 1) reads.1)
+
+pub rows_have : {A : Type 0} (P : A → Type 0) (key : A → List ℕ) (slot : ℕ) (f : ℕ → Result A FileFault) (n : ℕ) (xs : List A) → ((i : ℕ) (x : A) → f i ≡ Ok x → P x) → rows (in_order key slot (each f)) [] n ≡ Ok xs → AllByRecursion P xs
+rows_have {A = A} P key slot f n xs has e =
+    let r = rows_read (in_order key slot (each f)) [] n xs e in
+    subst (λ (ys : List A). AllByRecursion P ys) (sym r.all_is) (each_has P f has r.more 0 (each_were f [] r.more 0 refl (were_read key slot (each f) [] r.more r.reads)))
+
+-- rows of a vector that may be absent
+pub optional_has : {A : Type 0} (P : List A → Type 0) (v : Result (Option VectorIn) FlatFault) (read : VectorIn → Result (List A) FileFault) (xs : List A) → P [] → ((w : VectorIn) → read w ≡ Ok xs → P xs) → optional_rows v read ≡ Ok xs → P xs
+optional_has P (Ok None) read xs none has e = let is : [] ≡ xs = cc in subst P is none
+optional_has P (Ok (Some w)) read xs none has e = has w e
+optional_has P (Err fault) read xs none has e = absurd cc
+
+-- what a result that is Ok was made of
+pub value_is : {A : Type 0} (x y : A) → (let r : Result A FileFault = Ok x in r) ≡ Ok y → x ≡ y
+value_is x y e = cc
+
+-- ---- a file
+
+else_ok : {A : Type 0} (b : Bool) (r : Result A FileFault) (d : FileFault) (x : A) → cond b (Err d) r ≡ Ok x → r ≡ Ok x
+else_ok true r d x e = absurd cc
+else_ok false r d x e = e
+
+then_ok : {A : Type 0} (b : Bool) (r : Result A FileFault) (d : FileFault) (x : A) → cond b r (Err d) ≡ Ok x → r ≡ Ok x
+then_ok true r d x e = e
+then_ok false r d x e = absurd cc
+
+kind_ok : {A : Type 0} (wanted : Kind) (found : Result Kind HeaderFault) (r : Result A FileFault) (x : A) → of_kind wanted found r ≡ Ok x → r ≡ Ok x
+kind_ok wanted (Err fault) r x e = absurd cc
+kind_ok wanted (Ok found) r x e = then_ok _ r (faults.Kind found) x e
+
+-- a file that stands for a value has a payload that says it
+pub payload_was : {A : Type 0} (kind : Kind) (read : List ℕ → Result A FileFault) (file : List ℕ) (x : A) → file_of kind read file ≡ Ok x → read (drop 39 file) ≡ Ok x
+unfolding file_of
+payload_was kind read file x e = kind_ok kind (kind_of file) (read (drop 39 file)) x (else_ok _ (of_kind kind (kind_of file) (read (drop 39 file))) faults.Limit x e)

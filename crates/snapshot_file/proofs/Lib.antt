@@ -1,0 +1,7 @@
+pub mod LoopLaws
+pub mod BuildingLaws
+pub mod NodesAgain
+pub mod Again
+pub mod WasRead
+pub mod InitialLaws
+pub mod Listed

@@ -1,0 +1,7 @@
+use Rattle.std.proofs.Common.{arith}
+use Rattle.snapshot_file.specs.Nodes.{extent_of}
+use Rattle.snapshot_file.proofs.LoopLaws.{one_more}
+use Rattle.snapshot_file.proofs.node_reading.extents_in.Goals as goal
+
+pub loop-at-preserved : goal.loop-at-preserved
+loop-at-preserved c = rw (c.in_ok-push.ensures.items, c.extent_of.ensures, c.item.ensures.item) (one_more extent_of c.args.vector.now c.loop-at.extents.items c.loop-at.at c.args.vector.now.count _ (omega arith) c.loop-at.invariant)

@@ -1,0 +1,4 @@
+pub mod Nodes
+pub mod Snapshots
+pub mod Layout
+pub mod Initial

@@ -1,0 +1,112 @@
+-- What the payload of a snapshot says. (Icechunk specification version 1, "Snapshot"; which slot has what, the limit on
+-- the nodes, and that lists stand in order, is own.)
+use Rattle.std.specs.Prelude.{ℕ, ◌==◌, not, if◌then◌else◌, Bool, List, [], position, take, drop, Option, Some, None, Result, Ok, Err, option_map}
+use Rattle.std.specs.Int.{w32, w64, from_le_bytes}
+use Rattle.std.specs.List.{list_all, list_any}
+use Rattle.ice_ids.specs.declared.Id12.{Id12}
+use Rattle.ice_ids.specs.Text.{same_id12}
+use Rattle.flat_tables.specs.declared.header.Kind.TheVariants as kinds
+use Rattle.flat_tables.specs.declared.fault.FileFault.{FileFault}
+use Rattle.flat_tables.specs.declared.fault.FileFault.TheVariants as faults
+use Rattle.flat_tables.specs.File.{file_of}
+use Rattle.flat_tables.specs.Step.{◌>>=◌}
+use Rattle.flat_tables.specs.Places.{TableIn, VectorIn, root_of, struct_of, scalar_of, text_of, vector_of, item_of}
+use Rattle.flat_tables.specs.Rows.{flat, required, optional_rows, at_most, rows, each, in_order}
+use Rattle.snapshot_file.specs.declared.nodes.ManifestRef.{ManifestRef}
+use Rattle.snapshot_file.specs.declared.nodes.NodeKind.{NodeKind}
+use Rattle.snapshot_file.specs.declared.nodes.NodeKind.TheVariants.{Group, Array}
+use Rattle.snapshot_file.specs.declared.nodes.NodeRow.{NodeRow}
+use Rattle.snapshot_file.specs.declared.snapshot.ManifestInfo.{ManifestInfo}
+use Rattle.snapshot_file.specs.declared.snapshot.SnapshotFile.{SnapshotFile}
+use Rattle.snapshot_file.specs.Nodes.{node_at}
+
+-- the most nodes of a snapshot
+abbrev pub node_limit : ℕ
+node_limit = 65536
+
+-- nodes stand in the order of their paths' bytes, manifest files in that of their ids
+abbrev pub node_key : NodeRow → List ℕ
+node_key node = node.path
+
+abbrev pub file_key : ManifestInfo → List ℕ
+file_key file = file.id.0
+
+abbrev pub nodes_in : VectorIn → Result (List NodeRow) FileFault
+nodes_in v = rows (in_order node_key 2 (each (node_at v))) [] v.count
+
+unfoldable pub nodes_of : TableIn → Result (List NodeRow) FileFault
+nodes_of t = do
+  v ← required 2 (vector_of t 2 4)
+  _ ← at_most node_limit v.count
+  nodes_in v
+
+-- how many properties there are: none, else the snapshot isn't read
+abbrev pub no_properties : Option VectorIn → Result ℕ FileFault
+no_properties None = Ok 0
+no_properties (Some v) = if v.count == 0 then Ok 0 else Err faults.Properties
+
+unfoldable pub properties_of : TableIn → Result ℕ FileFault
+properties_of t = flat (vector_of t 5 4) >>= no_properties
+
+-- struct ManifestFileInfo, 32 bytes: the id, 4 bytes, the file's length, its number of chunks, and 4 bytes
+abbrev pub info_of : List ℕ → ManifestInfo
+info_of bytes = record {
+  id = record { 0 = take 12 bytes };
+  size = from_le_bytes w64 (take 8 (drop 16 bytes));
+  refs = from_le_bytes w32 (take 4 (drop 24 bytes));
+}
+
+abbrev pub info_at : VectorIn → ℕ → Result ManifestInfo FileFault
+info_at v i = Ok (info_of (item_of v i))
+
+abbrev pub files_in : VectorIn → Result (List ManifestInfo) FileFault
+files_in v = rows (in_order file_key 6 (each (info_at v))) [] v.count
+
+unfoldable pub files_of : TableIn → Result (List ManifestInfo) FileFault
+files_of t = optional_rows (vector_of t 6 32) files_in
+
+-- the manifests that a node names
+abbrev pub manifests_named : NodeKind → List ManifestRef
+manifests_named Group = []
+manifests_named (Array shape names manifests) = manifests
+
+abbrev pub is_listed : List ManifestInfo → ManifestRef → Bool
+is_listed files manifest = list_any (λ file. same_id12 file.id manifest.id) files
+
+abbrev pub all_listed : List ManifestInfo → NodeRow → Bool
+all_listed files node = list_all (is_listed files) (manifests_named node.kind)
+
+-- the number of the first node that names a manifest which isn't among the files
+unfoldable pub first_unlisted : List ManifestInfo → List NodeRow → Option ℕ
+first_unlisted files nodes = position (λ node. not (all_listed files node)) nodes
+
+abbrev pub unless_unlisted : Option ℕ → SnapshotFile → Result SnapshotFile FileFault
+unless_unlisted None snapshot = Ok snapshot
+unless_unlisted (Some at) snapshot = Err (faults.Unlisted at)
+
+abbrev pub id_if : Option (List ℕ) → Option Id12
+id_if id = option_map (λ bytes. record { 0 = bytes }) id
+
+-- table Snapshot: what the payload says, or its first fault
+unfoldable pub payload_of : List ℕ → Result SnapshotFile FileFault
+payload_of payload = do
+  t ← flat (root_of payload)
+  id ← required 0 (struct_of t 0 12)
+  parent ← flat (struct_of t 1 12)
+  nodes ← nodes_of t
+  flushed_at ← required 3 (scalar_of t 3 8)
+  message ← required 4 (text_of t 4)
+  _ ← properties_of t
+  files ← files_of t
+  unless_unlisted (first_unlisted files nodes) (record {
+    id = record { 0 = id };
+    parent = id_if parent;
+    nodes = nodes;
+    flushed_at = flushed_at;
+    message = message;
+    manifest_files = files;
+  })
+
+-- the snapshot that a file stands for, or the file's first fault
+unfoldable pub snapshot_of : List ℕ → Result SnapshotFile FileFault
+snapshot_of file = file_of kinds.Snapshot payload_of file

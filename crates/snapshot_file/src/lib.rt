@@ -1,0 +1,27 @@
+//! Snapshots as files: the nodes of a tree, each with its metadata and the manifests of its chunks.
+//! (Icechunk specification version 1, "Snapshot".)
+//!
+//! [`read`] answers the snapshot that a file stands for, or the first fault of the file; [`write`] answers the one file
+//! of a snapshot, which is read again as that snapshot.
+#![tactic(auto)]
+
+mod fields;
+mod initial_snapshot;
+mod lists;
+mod node_reading;
+mod node_writing;
+mod nodes;
+mod numbers;
+mod reading;
+mod snapshot;
+mod writing;
+
+pub use initial_snapshot::{INITIAL_FILE, initial, initial_law};
+pub use lists::{Extents, ManifestFiles, ManifestRefs, Names, NodeRows, Shape, Text};
+pub use nodes::{ManifestRef, NodeKind, NodeRow};
+pub use reading::read;
+pub use snapshot::{ManifestInfo, NODE_LIMIT, SnapshotFile};
+pub use writing::write;
+
+#[cfg(test)]
+mod tests;

@@ -1,0 +1,75 @@
+ghost use Rattle.std.specs.Prelude.{◌≡◌, length, take, drop};
+ghost use Rattle.std.specs.Int.{w32, w64, from_le_bytes};
+ghost use Rattle.snapshot_file.specs.Nodes.{dimension_of, extent_of};
+ghost use Rattle.snapshot_file.specs.Snapshots.{info_of};
+
+use crate::snapshot::ManifestInfo;
+use ice_ids::{Id8, Id12};
+
+/// The node id of these bytes.
+pub fn node_id(bytes: &[u8]) -> Id8
+    requires { length bytes.now ≡ 8 }
+    ensures { result.0 ≡ bytes.now }
+{
+    let mut id = [0; 8];
+    id.copy_from_slice(bytes);
+    Id8(id)
+}
+
+/// The object id of these bytes.
+pub fn object_id(bytes: &[u8]) -> Id12
+    requires { length bytes.now ≡ 12 }
+    ensures { result.0 ≡ bytes.now }
+{
+    let mut id = [0; 12];
+    id.copy_from_slice(bytes);
+    Id12(id)
+}
+
+/// The little-endian number of these bytes.
+fn u32_of(bytes: &[u8]) -> u32
+    requires { length bytes.now ≡ 4 }
+    ensures { result ≡ from_le_bytes w32 bytes.now }
+{
+    u32::from_le_bytes([bytes[0], bytes[1], bytes[2], bytes[3]])
+}
+
+/// The little-endian number of these bytes.
+fn u64_of(bytes: &[u8]) -> u64
+    requires { length bytes.now ≡ 8 }
+    ensures { result ≡ from_le_bytes w64 bytes.now }
+{
+    u64::from_le_bytes([
+        bytes[0], bytes[1], bytes[2], bytes[3], bytes[4], bytes[5], bytes[6], bytes[7],
+    ])
+}
+
+/// The length of a dimension and that of a chunk in it.
+pub fn dimension_of(bytes: &[u8]) -> (u64, u64)
+    requires { length bytes.now ≡ 16 }
+    ensures { result ≡ dimension_of bytes.now }
+{
+    let (length, chunk) = bytes.split_at(8);
+    (u64_of(length), u64_of(chunk))
+}
+
+/// The part of a dimension in which chunks are held.
+pub fn extent_of(bytes: &[u8]) -> (u32, u32)
+    requires { length bytes.now ≡ 8 }
+    ensures { result ≡ extent_of bytes.now }
+{
+    let (from, to) = bytes.split_at(4);
+    (u32_of(from), u32_of(to))
+}
+
+/// A manifest of the snapshot.
+pub fn info_of(bytes: &[u8]) -> ManifestInfo
+    requires { length bytes.now ≡ 32 }
+    ensures { result ≡ info_of bytes.now }
+{
+    ManifestInfo {
+        id: object_id(&bytes[..12]),
+        size: u64_of(&bytes[16..24]),
+        refs: u32_of(&bytes[24..28]),
+    }
+}

@@ -1,0 +1,205 @@
+ghost use Rattle.std.specs.Prelude.{◌≡◌, ◌<◌, not, Bool, None, length, position, option_map, option_copied, IfOk};
+ghost use Rattle.flat_tables.specs.Step.{Gives};
+ghost use Rattle.flat_tables.specs.Places.{struct_of, text_of};
+ghost use Rattle.flat_tables.specs.Rows.{Ascends, Reads, follows, flat, required};
+ghost use Rattle.snapshot_file.specs.Snapshots.{node_key, file_key, nodes_in, nodes_of, properties_of, files_in, files_of, is_listed, all_listed, first_unlisted, id_if, payload_of, snapshot_of};
+ghost use Rattle.snapshot_file.specs.Layout.{IsWritable};
+
+use crate::lists::{ManifestFiles, NodeRows, Text};
+use crate::node_reading::node_at;
+use crate::nodes::{ManifestRef, NodeKind, NodeRow};
+use crate::numbers::{info_of, object_id};
+use crate::snapshot::{ManifestInfo, NODE_LIMIT, SnapshotFile};
+use flat_tables::{FILE_LIMIT, FileFault, FlatFault, HEADER, Kind, Table, Vector, header_read};
+use ice_ids::Id12;
+use std::alloc::Global;
+
+/// Whether a node may stand behind the last one.
+pub fn node_follows(last: Option<&NodeRow>, node: &NodeRow) -> bool
+    ensures { result ≡ follows (option_map node_key (option_copied last.entry)) (node_key node.now) }
+{
+    match last {
+        None => true,
+        Some(last) => last.path.cmp(&node.path).is_lt(),
+    }
+}
+
+/// Whether a manifest may stand behind the last one.
+fn file_follows(last: Option<&ManifestInfo>, file: &ManifestInfo) -> bool
+    ensures { result ≡ follows (option_map file_key (option_copied last.entry)) (file_key file.now) }
+{
+    match last {
+        None => true,
+        Some(last) => last.id.cmp(&file.id).is_lt(),
+    }
+}
+
+/// The nodes in a vector, which stand in order.
+fn nodes_in(alloc: Global, vector: &Vector) -> Result<NodeRows, FileFault>
+    requires { vector.now.size ≡ 4 }
+    ensures { Reads (λ x. x) result (nodes_in vector.now) }
+{
+    let mut nodes: Vec<NodeRow> = Vec::new(alloc);
+    for at in 0..vector.len() {
+        let node = node_at(alloc, vector, at)?;
+        if !node_follows(nodes.last(), &node) {
+            return Err(FileFault::Order { slot: 2, at });
+        }
+        nodes.push(node)?;
+    }
+    Ok(NodeRows::from_vec(nodes))
+}
+
+/// The nodes of a snapshot.
+#[tactic(auto, unfolding(crate::specs::Snapshots::nodes_of))]
+fn nodes_of(alloc: Global, table: &Table) -> Result<NodeRows, FileFault>
+    ensures { Reads (λ x. x) result (nodes_of table.now) }
+{
+    let Some(vector) = table.vector(2, 4)? else {
+        return Err(FileFault::Flat(FlatFault::Missing { slot: 2 }));
+    };
+    if vector.len() > NODE_LIMIT {
+        return Err(FileFault::Limit);
+    }
+    nodes_in(alloc, &vector)
+}
+
+/// Refuses properties.
+#[tactic(auto, unfolding(crate::specs::Snapshots::properties_of))]
+fn properties_of(table: &Table) -> Result<(), FileFault>
+    ensures { Reads (λ _. 0) result (properties_of table.now) }
+{
+    match table.vector(5, 4)? {
+        None => Ok(()),
+        Some(vector) => {
+            if vector.len() == 0 {
+                Ok(())
+            } else {
+                Err(FileFault::Properties)
+            }
+        }
+    }
+}
+
+/// The manifests in a vector, which stand in order.
+fn files_in(alloc: Global, vector: &Vector) -> Result<ManifestFiles, FileFault>
+    requires { vector.now.size ≡ 32 }
+    ensures value { Reads (λ x. x) result (files_in vector.now) }
+    ensures ascend { IfOk result (Ascends file_key None) }
+{
+    let mut files: Vec<ManifestInfo> = Vec::new(alloc);
+    for at in 0..vector.len() {
+        let file = info_of(vector.item(at));
+        if !file_follows(files.last(), &file) {
+            return Err(FileFault::Order { slot: 6, at });
+        }
+        files.push(file)?;
+    }
+    Ok(ManifestFiles::from_vec(files))
+}
+
+/// The manifests of a snapshot, none where the slot is absent.
+#[tactic(auto, unfolding(crate::specs::Snapshots::files_of))]
+fn files_of(alloc: Global, table: &Table) -> Result<ManifestFiles, FileFault>
+    ensures value { Reads (λ x. x) result (files_of table.now) }
+    ensures ascend { IfOk result (Ascends file_key None) }
+{
+    match table.vector(6, 32)? {
+        None => Ok(ManifestFiles::from_vec(Vec::new(alloc))),
+        Some(vector) => files_in(alloc, &vector),
+    }
+}
+
+/// Whether a manifest is among the snapshot's, by halves.
+fn is_listed(files: &[ManifestInfo], manifest: &ManifestRef) -> bool
+    requires { Ascends file_key None files.now }
+    ensures { result ≡ is_listed files.now manifest.now }
+{
+    files
+        .binary_search_by_key(&manifest.id, |file| file.id)
+        .is_ok()
+}
+
+/// Whether all manifests that a node names are among the snapshot's.
+fn all_listed(files: &[ManifestInfo], node: &NodeRow) -> bool
+    requires { Ascends file_key None files.now }
+    ensures { result ≡ all_listed files.now node.now }
+{
+    match &node.kind {
+        NodeKind::Group => true,
+        NodeKind::Array { manifests, .. } => manifests
+            .as_slice()
+            .iter()
+            .all(|manifest| is_listed(files, manifest)),
+    }
+}
+
+/// The number of the first node that names a manifest which isn't among the snapshot's.
+#[tactic(auto, unfolding(crate::specs::Snapshots::first_unlisted))]
+pub fn first_unlisted(files: &[ManifestInfo], nodes: &[NodeRow]) -> Option<usize>
+    requires { Ascends file_key None files.now }
+    ensures { result ≡ first_unlisted files.now nodes.now }
+{
+    nodes.iter().position(|node| !all_listed(files, node))
+}
+
+/// What a payload says.
+#[tactic(auto, unfolding(crate::specs::Snapshots::payload_of))]
+fn payload_of(alloc: Global, payload: &[u8]) -> Result<SnapshotFile, FileFault>
+    ensures { Reads (λ x. x) result (payload_of payload.now) }
+{
+    let table = Table::root(payload)?;
+    let Some(bytes) = table.bytes(0, 12)? else {
+        return Err(FileFault::Flat(FlatFault::Missing { slot: 0 }));
+    };
+    let id = object_id(bytes);
+    let parent = match table.bytes(1, 12)? {
+        None => None,
+        Some(bytes) => Some(object_id(bytes)),
+    };
+    let nodes = nodes_of(alloc, &table)?;
+    let Some(flushed_at) = table.scalar(3, 8)? else {
+        return Err(FileFault::Flat(FlatFault::Missing { slot: 3 }));
+    };
+    let Some(message) = table.text(4)? else {
+        return Err(FileFault::Flat(FlatFault::Missing { slot: 4 }));
+    };
+    properties_of(&table)?;
+    let manifest_files = files_of(alloc, &table)?;
+    if let Some(at) = first_unlisted(manifest_files.as_slice(), nodes.as_slice()) {
+        return Err(FileFault::Unlisted { at });
+    }
+    let message = Text::from_string(String::from_str(alloc, message)?);
+    Ok(SnapshotFile {
+        id,
+        parent,
+        nodes,
+        flushed_at,
+        message,
+        manifest_files,
+    })
+}
+
+/// Reads the file of a snapshot: the value that the file stands for, or its first fault. The file must not be longer
+/// than [`FILE_LIMIT`] bytes (`Limit`), and its header must be that of a snapshot (`Header`, `Kind`). Then come the root
+/// table and its slots in order, each vector's elements in order, and each element's slots in order: `Flat` where a part
+/// lies outside of the payload or a required slot is absent; `Limit` at more than [`NODE_LIMIT`] nodes, before the first
+/// of them; after a node's slots `Path`, `NodeKind` where its type is neither 1 nor 2, and `Order` where it doesn't stand
+/// behind the one before; `Properties` where slot 5 isn't empty; `Order` for the manifest files; and last `Unlisted`,
+/// where a node names a manifest that isn't among them. (Icechunk specification version 1, "Snapshot"; the order of
+/// faults is own.)
+#[tactic(auto, unfolding(flat_tables::specs::File::file_of, crate::specs::Snapshots::snapshot_of))]
+pub fn read(alloc: Global, file: &[u8]) -> Result<SnapshotFile, FileFault>
+    ensures value { Reads (λ x. x) result (snapshot_of file.now) }
+    // What was read can be written.
+    ensures writable { IfOk result IsWritable }
+{
+    if file.len() > FILE_LIMIT {
+        return Err(FileFault::Limit);
+    }
+    let kind = header_read(file)?;
+    match kind {
+        Kind::Snapshot => payload_of(alloc, &file[HEADER..]),
+        other => Err(FileFault::Kind(other)),
+    }
+}

@@ -1,0 +1,14 @@
+-- Laws of transaction logs and their files.
+use Rattle.std.specs.Prelude.{◌≡◌, ◌≤◌, ℕ, List, length, Ok}
+use Rattle.flat_tables.specs.File.{file_limit}
+use Rattle.txn_file.specs.declared.log.TxnFile.{TxnFile}
+use Rattle.txn_file.specs.Logs.{txn_of}
+use Rattle.txn_file.specs.Layout.{log_file, IsOrdered, IsLog}
+
+-- what a file stands for can be written
+abbrev pub OrderedLaw : Type 0
+OrderedLaw = (file : List ℕ) (log : TxnFile) → txn_of file ≡ Ok log → IsOrdered log
+
+-- the one file of a log, if it isn't too long, stands for the log
+abbrev pub RoundTripLaw : Type 0
+RoundTripLaw = (log : TxnFile) → IsLog log → IsOrdered log → length (log_file log) ≤ file_limit → txn_of (log_file log) ≡ Ok log

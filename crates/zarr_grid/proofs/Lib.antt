@@ -1,0 +1,4 @@
+pub mod CellLaws
+pub mod GridCells
+pub mod GridEnds
+pub mod PlaceSteps
