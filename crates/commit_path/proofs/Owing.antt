@@ -141,6 +141,7 @@ module _ (L : Spellings) where
         id = id;
         is_mine = own;
         branch_is = refl;
+        version_is = refl;
         names = L.reference.written id is_id;
         why_is = refl;
         made = λ once. record { base_put = o.put; base_tree = o.tree once; snap = snap_for s message flushed; made = p.made once; parent = refl; logged = l.made once; tree = p.tree once };
@@ -256,6 +257,7 @@ owes-stable mine journal more (PutOver (Branch name) bytes old why) g o = record
   id = o.id;
   is_mine = o.is_mine;
   branch_is = o.branch_is;
+  version_is = o.version_is;
   names = o.names;
   why_is = o.why_is;
   made = λ once. made-stable o.session o.id journal more (once-front journal more once) g (once-back journal more once) (o.made (once-front journal more once));

@@ -28,12 +28,14 @@ pub record IsMade (s : SessionState) (id : Id12) (journal : List Event) : Type 0
   pub logged : log_made journal id ≡ Some (touched s.changes s.tree)
   pub tree : tree_of journal id ≡ Some (overlay s)
 
--- a branch is put over for a commit of one of the client's sessions, on its branch, with its snapshot
-pub record OwesOver (mine : Sessions) (journal : List Event) (branch bytes : List ℕ) (why : Why) : Type 0 where
+-- a branch is put over for a commit of one of the client's sessions, on its branch, at the version that
+-- it had read, with its snapshot
+pub record OwesOver (mine : Sessions) (journal : List Event) (branch bytes : List ℕ) (old : ℕ) (why : Why) : Type 0 where
   pub session : SessionState
   pub id : Id12
   pub is_mine : mine session id
   pub branch_is : branch ≡ session.branch
+  pub version_is : old ≡ session.version
   pub names : ref_of bytes ≡ Some id
   pub why_is : why ≡ Commit
   pub made : IsOnce journal → IsMade session id journal
@@ -64,21 +66,21 @@ OwesNew mine journal bytes (Branch name) = ⊥
 OwesNew mine journal bytes (Tag name) = ⊥
 OwesNew mine journal bytes (TagGone name) = ⊥
 
-abbrev pub OwesPutOver : Sessions → List Event → List ℕ → Why → Key → Type 0
-OwesPutOver mine journal bytes why (Branch name) = OwesOver mine journal name bytes why
-OwesPutOver mine journal bytes why (Snapshot id) = ⊥
-OwesPutOver mine journal bytes why (Txn id) = ⊥
-OwesPutOver mine journal bytes why (Manifest id) = ⊥
-OwesPutOver mine journal bytes why (Chunk id) = ⊥
-OwesPutOver mine journal bytes why (Tag name) = ⊥
-OwesPutOver mine journal bytes why (TagGone name) = ⊥
+abbrev pub OwesPutOver : Sessions → List Event → List ℕ → ℕ → Why → Key → Type 0
+OwesPutOver mine journal bytes old why (Branch name) = OwesOver mine journal name bytes old why
+OwesPutOver mine journal bytes old why (Snapshot id) = ⊥
+OwesPutOver mine journal bytes old why (Txn id) = ⊥
+OwesPutOver mine journal bytes old why (Manifest id) = ⊥
+OwesPutOver mine journal bytes old why (Chunk id) = ⊥
+OwesPutOver mine journal bytes old why (Tag name) = ⊥
+OwesPutOver mine journal bytes old why (TagGone name) = ⊥
 
 -- a client that opens sessions and commits them reads, puts objects and puts branches over
 abbrev pub Owes : Sessions → List Event → Op → Type 0
 Owes mine journal (Get key) = Unit {0}
 Owes mine journal (ListPart part) = Unit {0}
 Owes mine journal (PutNew key bytes why) = OwesNew mine journal bytes key
-Owes mine journal (PutOver key bytes old why) = OwesPutOver mine journal bytes why key
+Owes mine journal (PutOver key bytes old why) = OwesPutOver mine journal bytes old.0 why key
 Owes mine journal (Remove key why) = ⊥
 Owes mine journal (RemoveAt key old why) = ⊥
 

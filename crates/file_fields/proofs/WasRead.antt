@@ -1,6 +1,7 @@
 -- What was read: rows in order ascend, and each has what its reading gives; a file's payload was read.
-use Rattle.std.proofs.Common.{◌≡◌, ℕ, ◌+◌, Bool, true, false, cond, List, [], ◌∷◌, length, drop, None, Some, Option, Result, Ok, Err, refl, sym, subst, ap, ◌∙◌}
+use Rattle.std.proofs.Common.{◌≡◌, ℕ, ◌+◌, ◌≤◌, Bool, true, false, cond, List, [], ◌∷◌, length, drop, None, Some, Option, Result, Ok, Err, refl, sym, subst, ap, ◌∙◌}
 use Rattle.std.specs.List.{AllByRecursion}
+use borrow.Author.Tests.{ltb-false}
 use Rattle.flat_tables.specs.declared.header.Kind.{Kind}
 use Rattle.flat_tables.specs.declared.header.HeaderFault.{HeaderFault}
 use Rattle.flat_tables.specs.declared.fault.FlatFault.{FlatFault}
@@ -8,7 +9,7 @@ use Rattle.flat_tables.specs.declared.fault.FileFault.{FileFault}
 use Rattle.flat_tables.specs.declared.fault.FileFault.TheVariants as faults
 use Rattle.flat_tables.specs.Header.{kind_of}
 use Rattle.flat_tables.specs.Places.{VectorIn}
-use Rattle.flat_tables.specs.Rows.{optional_rows, rows, each, in_order, Ascends}
+use Rattle.flat_tables.specs.Rows.{optional_rows, at_most, rows, each, in_order, Ascends}
 use Rattle.flat_tables.specs.File.{of_kind, file_of}
 use Rattle.flat_tables.proofs.Loop.{ReadsFrom, rows_read, were_read, were_ordered, each_were}
 
@@ -38,6 +39,14 @@ pub optional_has : {A : Type 0} (P : List A → Type 0) (v : Result (Option Vect
 optional_has P (Ok None) read xs none has e = let is : [] ≡ xs = cc in subst P is none
 optional_has P (Ok (Some w)) read xs none has e = has w e
 optional_has P (Err fault) read xs none has e = absurd cc
+
+-- a count that was read is within its limit
+limit_cases : (b : Bool) (limit n m : ℕ) → (b ≡ false → n ≤ limit) → cond b (Err faults.Limit) (Ok n) ≡ Ok m → n ≤ limit
+limit_cases true limit n m within e = absurd cc
+limit_cases false limit n m within e = within refl
+
+pub within_limit : (limit n m : ℕ) → at_most limit n ≡ Ok m → n ≤ limit
+within_limit limit n m e = limit_cases _ limit n m (ltb-false limit n) e
 
 -- what a result that is Ok was made of
 pub value_is : {A : Type 0} (x y : A) → (let r : Result A FileFault = Ok x in r) ≡ Ok y → x ≡ y

@@ -7,8 +7,8 @@
 mod reading;
 mod writing;
 
-pub use reading::{id_follows, id8, id8_of, id12, id12_of, index_follows, index_of};
-pub use writing::{id8_bytes, id8_slot, id12_slot, index_slot};
+pub use reading::{id_follows, id8, id8_of, id12, id12_of, index_follows, index_of, u32_of};
+pub use writing::{id8_bytes, id8_slot, id12_bytes, id12_slot, index_slot};
 
 #[cfg(test)]
 mod tests;

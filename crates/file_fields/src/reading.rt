@@ -52,8 +52,8 @@ pub fn id12_of(table: &Table, slot: u16) -> Result<Id12, FileFault>
     }
 }
 
-/// The number of these 4 bytes.
-fn number(bytes: &[u8]) -> u32
+/// The number of these 4 bytes, the lowest first.
+pub fn u32_of(bytes: &[u8]) -> u32
     requires { length bytes.now ≡ 4 }
     ensures { result ≡ from_le_bytes w32 bytes.now }
 {
@@ -67,7 +67,7 @@ fn numbers_in(alloc: Global, vector: &Vector) -> Result<Vec<u32>, FileFault>
 {
     let mut numbers: Vec<u32> = Vec::new(alloc);
     for at in 0..vector.len() {
-        numbers.push(number(vector.item(at)))?;
+        numbers.push(u32_of(vector.item(at)))?;
     }
     Ok(numbers)
 }

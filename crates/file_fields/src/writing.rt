@@ -16,7 +16,7 @@ pub fn id8_bytes(id: &Id8) -> [u8; 8]
 }
 
 /// The bytes of an object id.
-fn id12_bytes(id: &Id12) -> [u8; 12]
+pub fn id12_bytes(id: &Id12) -> [u8; 12]
     ensures bytes { result ≡ id.now.0 }
     ensures sized { IsId12 id.now }
 {

@@ -132,8 +132,8 @@ owes-first ids task journal (RemoveAt key old why) known may o = tt
 
 module _ (draw : Draw) (tasks : List Task) (client place : ℕ) (task : Task) (client_is : client ≡ place + 1) (at : slice_get tasks place ≡ Some task) (journal : List Event) (once : IsOnce journal) where
   -- a branch that is put over
-  over-session : (name bytes : List ℕ) (why : Why) (branch : List ℕ) (id : Id12) → (o : OwesOver (IsOfTask (ids_at draw place) task) journal name bytes why) → name ≡ branch → ref_of bytes ≡ Some id → IsOfSession draw tasks o.session.changes journal client branch id
-  over-session name bytes why branch id o branch_is names =
+  over-session : (name bytes : List ℕ) (old : ℕ) (why : Why) (branch : List ℕ) (id : Id12) → (o : OwesOver (IsOfTask (ids_at draw place) task) journal name bytes old why) → name ≡ branch → ref_of bytes ≡ Some id → IsOfSession draw tasks o.session.changes journal client branch old id
+  over-session name bytes old why branch id o branch_is names =
       let same : o.id ≡ id = some_same (sym o.names ∙ names) in
       record {
         place = place;
@@ -143,6 +143,7 @@ module _ (draw : Draw) (tasks : List Task) (client place : ℕ) (task : Task) (c
         session = o.session;
         of_task = subst (λ (i : Id12). IsOfTask (ids_at draw place) task o.session i) same o.is_mine;
         branch_is = sym branch_is ∙ o.branch_is;
+        version_is = o.version_is;
         changes_are = refl;
         made = subst (λ (i : Id12). IsMade o.session i journal) same (o.made once);
       }
@@ -150,11 +151,12 @@ module _ (draw : Draw) (tasks : List Task) (client place : ℕ) (task : Task) (c
       some_same : Some o.id ≡ Some id → o.id ≡ id
       some_same e = cc
 
-  over-commits : (name bytes : List ℕ) (old : Version) (why : Why) → (o : OwesOver (IsOfTask (ids_at draw place) task) journal name bytes why) → CommitsSession draw tasks o.session.changes journal client (PutOver (Branch name) bytes old why)
+  over-commits : (name bytes : List ℕ) (old : Version) (why : Why) → (o : OwesOver (IsOfTask (ids_at draw place) task) journal name bytes old.0 why) → CommitsSession draw tasks o.session.changes journal client (PutOver (Branch name) bytes old why)
   over-commits name bytes old why o branch other version id e names =
       let branches : name ≡ branch = cc in
       let references : bytes ≡ other = cc in
-      over-session name bytes why branch id o branches (ap ref_of references ∙ names)
+      let versions : old ≡ version = cc in
+      subst (λ (v : Version). IsOfSession draw tasks o.session.changes journal client branch v.0 id) versions (over-session name bytes old.0 why branch id o branches (ap ref_of references ∙ names))
 
   op-knows : (op : Op) → Owes (IsOfTask (ids_at draw place) task) journal op → (c : Changes) × CommitsSession draw tasks c journal client op
   op-knows (Get key) o = (none, λ branch bytes old id e names. absurd cc)

@@ -23,9 +23,9 @@ use Rattle.play_run.specs.Order.{ids_at}
 use Rattle.run_histories.specs.Runs.{IsSound, IsRun}
 
 -- A commit of a session of its client's task: the task's lines lead to the session and to the id that it draws, the
--- branch is the session's, and so are the changes; and what was put under the id is the session's snapshot, with its
+-- branch is the session's, put over at the version that it had read, and the changes are the session's; and what was put under the id is the session's snapshot, with its
 -- base as parent, the base's tree under its changes as tree, and a log of all that they touch.
-pub record IsOfSession (draw : Draw) (tasks : List Task) (changes : Changes) (journal : List Event) (client : ℕ) (branch : List ℕ) (id : Id12) : Type 0 where
+pub record IsOfSession (draw : Draw) (tasks : List Task) (changes : Changes) (journal : List Event) (client : ℕ) (branch : List ℕ) (old : ℕ) (id : Id12) : Type 0 where
   pub place : ℕ
   pub client_is : client ≡ place + 1
   pub task : Task
@@ -33,23 +33,24 @@ pub record IsOfSession (draw : Draw) (tasks : List Task) (changes : Changes) (jo
   pub session : SessionState
   pub of_task : IsOfTask (ids_at draw place) task session id
   pub branch_is : branch ≡ session.branch
+  pub version_is : old ≡ session.version
   pub changes_are : changes ≡ session.changes
   pub made : IsMade session id journal
 
 -- where the client's operation commits a snapshot to a branch, the commit is of a session of its task, with these changes
 abbrev pub CommitsSession : Draw → List Task → Changes → List Event → ℕ → Op → Type 0
 CommitsSession draw tasks changes journal client op = (branch bytes : List ℕ) (old : Version) (id : Id12) → op ≡ PutOver (Branch branch) bytes old Commit → ref_of bytes ≡ Some id
-    → IsOfSession draw tasks changes journal client branch id
+    → IsOfSession draw tasks changes journal client branch old.0 id
 
 -- where the event is a commit, the changes at its position are those of its session
 abbrev pub IsSolved : Draw → List Task → (ℕ → Changes) → List Event → Event → Type 0
 IsSolved draw tasks changes journal event = CommitsSession draw tasks (changes (length journal)) journal event.client event.op
 
 -- A commit that took effect, of a session of its client's task. It follows directly on the last entry of its branch:
--- the entry has the version that was put over, its snapshot is the session's base, and its tree is the one that the session
+-- the entry has the version that the session had read, its snapshot is the session's base, and its tree is the one that the session
 -- began with; the commit's tree is that one under exactly the session's changes.
 pub record IsEntered (draw : Draw) (tasks : List Task) (trees : Id12 → Option Tree) (changes : ℕ → Changes) (journal : List Event) (client : ℕ) (branch : List ℕ) (old : ℕ) (id : Id12) : Type 0 where
-  pub of_session : IsOfSession draw tasks (changes (length journal)) journal client branch id
+  pub of_session : IsOfSession draw tasks (changes (length journal)) journal client branch old id
   pub before : Entry
   pub is_last : last (history_of trees changes journal branch) ≡ Some before
   pub version : before.version ≡ old

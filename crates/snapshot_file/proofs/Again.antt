@@ -12,15 +12,17 @@ use Rattle.flat_tables.specs.Places.{TableIn, VectorIn, struct_of, item_of}
 use Rattle.flat_tables.specs.Rows.{each, in_order, Ascends}
 use Rattle.flat_tables.specs.Layout.{zeros, part_if, payload}
 use Rattle.flat_tables.proofs.Files.{file_again}
-use Rattle.flat_tables.proofs.Loop.{ReadsFrom, each_reads, ordered_reads, rows_again, at_most_ok}
+use Rattle.flat_tables.proofs.Loop.{ReadsFrom, ordered_reads, rows_again, at_most_ok}
+use Rattle.file_fields.specs.Fields.{id12_part, IsId12}
+use Rattle.file_fields.proofs.Again.{ordered_again, id12_again}
 use Rattle.flat_tables.proofs.Again.{IsField, IsTable, SlotRead, eight, inline_field, offset_field, scalar_field, absent_field, root_again, struct_again, struct_absent, scalar_again, text_again, vector_absent, structs_again, tables_again, tables_behind, EachBehind}
 use Rattle.snapshot_file.specs.declared.nodes.NodeRow.{NodeRow}
 use Rattle.snapshot_file.specs.declared.snapshot.ManifestInfo.{ManifestInfo}
 use Rattle.snapshot_file.specs.declared.snapshot.SnapshotFile.{SnapshotFile}
 use Rattle.snapshot_file.specs.Nodes.{node_of, node_at}
 use Rattle.snapshot_file.specs.Snapshots.{node_limit, node_key, file_key, nodes_in, nodes_of, properties_of, info_of, info_at, files_in, files_of, id_if, payload_of, snapshot_of}
-use Rattle.snapshot_file.specs.Layout.{id_part, node_parts, nodes_part, info_head, info_tail, info_bytes, files_part, snapshot_parts, snapshot_block, snapshot_bytes, IsWritable, IsNode, IsInfo, IsSnapshot}
-use Rattle.snapshot_file.proofs.BuildingLaws.{info_bytes_long}
+use Rattle.snapshot_file.specs.Layout.{node_parts, nodes_part, info_head, info_tail, info_bytes, files_part, snapshot_parts, snapshot_block, snapshot_bytes, IsWritable, IsNode, IsInfo, IsSnapshot}
+use Rattle.snapshot_file.proofs.Infos.{info_bytes_long}
 use Rattle.snapshot_file.proofs.NodesAgain.{node_fields, node_again}
 
 -- ---- nodes
@@ -68,9 +70,7 @@ files_again : (t : TableIn) (files : List ManifestInfo) → length t.bytes < 2 ^
 unfolding files_of
 files_again t files small are ascend slot =
     let v = structs_again t 6 8 32 info_bytes files (lit< tt) (files_sized files are) small slot in
-    let reads = each_reads (info_at v.vector) [] files 0 refl (files_read v.vector files 0 are v.reads) in
-    let ordered = ordered_reads file_key 6 (each (info_at v.vector)) [] files None refl reads ascend in
-    let again : files_in v.vector ≡ Ok files = rows_again (in_order file_key 6 (each (info_at v.vector))) files v.vector.count v.count ordered in
+    let again : files_in v.vector ≡ Ok files = ordered_again file_key 6 (info_at v.vector) files v.vector.count v.count (files_read v.vector files 0 are v.reads) ascend in
     rw (v.is, again) refl
 
 -- ---- the snapshot
@@ -78,7 +78,7 @@ files_again t files small are ascend slot =
 abbrev bytes_if : Option Id12 → Option (List ℕ)
 bytes_if id = option_map (λ i. i.0) id
 
-parent_again : (t : TableIn) (parent : Option Id12) → IfSome parent (λ id. length id.0 ≡ 12) → SlotRead t 1 (part_if id_part parent) → struct_of t 1 12 ≡ Ok (bytes_if parent)
+parent_again : (t : TableIn) (parent : Option Id12) → IfSome parent IsId12 → SlotRead t 1 (part_if id12_part parent) → struct_of t 1 12 ≡ Ok (bytes_if parent)
 parent_again t None len slot = struct_absent t 1 12 slot
 parent_again t (Some id) len slot = struct_again t 1 1 12 id.0 len slot
 
@@ -86,7 +86,7 @@ parent_back : (parent : Option Id12) → id_if (bytes_if parent) ≡ parent
 parent_back None = refl
 parent_back (Some id) = refl
 
-parent_field : (parent : Option Id12) → IfSome parent (λ id. length id.0 ≡ 12) → IsField (part_if id_part parent)
+parent_field : (parent : Option Id12) → IfSome parent IsId12 → IsField (part_if id12_part parent)
 parent_field None len = absent_field
 parent_field (Some id) len = inline_field 1 id.0 (lit≤ tt) (omega (arith, len))
 
@@ -105,7 +105,7 @@ payload_again s is can small =
     let s4 = s3.1 in
     let s5 = s4.1 in
     let s6 = s5.1 in
-    let id = struct_again t 0 1 12 s.id.0 is.id p.slots.0 in
+    let id = id12_again t 0 s.id is.id p.slots.0 in
     let parent = parent_again t s.parent is.parent s1.0 in
     let nodes = nodes_again t s.nodes p.small is.nodes can.few can.nodes s2.0 in
     let flushed_at = scalar_again t 3 8 s.flushed_at (eight s.flushed_at is.flushed_at) s3.0 in

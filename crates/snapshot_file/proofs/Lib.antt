@@ -1,5 +1,4 @@
-pub mod LoopLaws
-pub mod BuildingLaws
+pub mod Infos
 pub mod NodesAgain
 pub mod Again
 pub mod WasRead

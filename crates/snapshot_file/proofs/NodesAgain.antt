@@ -9,7 +9,8 @@ use Rattle.flat_tables.specs.Places.{TableIn, text_of}
 use Rattle.flat_tables.specs.Rows.{flat, rows, each}
 use Rattle.flat_tables.specs.Layout.{part_if}
 use Rattle.flat_tables.proofs.Loop.{ReadsFrom, each_reads, rows_again}
-use Rattle.flat_tables.proofs.Again.{IsTable, HasParts, SlotRead, inline_field, offset_field, scalar_field, field_if, struct_again, scalar_again, Fits, one, structs_again, vector_again, vector_absent, child_again, text_again, text_if_again, tables_again, tables_each}
+use Rattle.flat_tables.proofs.Again.{IsTable, HasParts, SlotRead, inline_field, offset_field, scalar_field, field_if, scalar_again, Fits, one, structs_again, vector_again, vector_absent, child_again, text_again, text_if_again, tables_again, tables_each}
+use Rattle.file_fields.proofs.Again.{id8_again, id12_again}
 use Rattle.snapshot_file.specs.declared.nodes.ManifestRef.{ManifestRef}
 use Rattle.snapshot_file.specs.declared.nodes.NodeKind.{NodeKind}
 use Rattle.snapshot_file.specs.declared.nodes.NodeKind.TheVariants.{Group, Array}
@@ -59,7 +60,7 @@ manifest_fields manifest is = record { fields = (inline_field 1 manifest.id.0 (l
 manifest_again : (manifest : ManifestRef) (t : TableIn) → IsManifest manifest → HasParts t (manifest_parts manifest) → manifest_of t ≡ Ok manifest
 unfolding manifest_of
 manifest_again manifest t is parts =
-    let id = struct_again t 0 1 12 manifest.id.0 is.id parts.slots.0 in
+    let id = id12_again t 0 manifest.id is.id parts.slots.0 in
     let v = structs_again t 1 4 8 extent_bytes manifest.extents (lit< tt) (extents_sized manifest.extents) parts.small parts.slots.1.0 in
     rw (id, v.is, v.items, extents_back manifest.extents is.extents) refl
 
@@ -126,7 +127,7 @@ node_again at node t is parts =
     let s2 = s1.1 in
     let s3 = s2.1 in
     let s4 = s3.1 in
-    let id = struct_again t 0 1 8 node.id.0 is.id parts.slots.0 in
+    let id = id8_again t 0 node.id is.id parts.slots.0 in
     let path = text_again t 1 node.path is.text parts.small s1.0 in
     let text = vector_again t 2 1 1 (length node.user_data) node.user_data (lit< tt) (omega arith) parts.small s2.0 in
     let type = scalar_again t 3 1 (type_of node.kind) (type_fits node.kind) s3.0 in

@@ -5,10 +5,11 @@ use Rattle.std.specs.Int.{w32, w64, to_le_bytes}
 use Rattle.std.specs.Str.{IsUtf8}
 use Rattle.zarr_path.specs.Paths.{is_path}
 use Rattle.ice_ids.specs.declared.Id12.{Id12}
+use Rattle.file_fields.specs.Fields.{id8_part, id12_part, IsId8, IsId12}
 use Rattle.flat_tables.specs.declared.header.Kind.TheVariants as kinds
 use Rattle.flat_tables.specs.Header.{header}
 use Rattle.flat_tables.specs.Rows.{Ascends}
-use Rattle.flat_tables.specs.Layout.{Part, Block, zeros, absent, inline, scalar, offset_to, part_if, text_block, vector_block, tables_block, table_block, payload}
+use Rattle.flat_tables.specs.Layout.{Part, Block, zeros, absent, scalar, offset_to, part_if, text_block, vector_block, tables_block, table_block, payload}
 use Rattle.snapshot_file.specs.declared.nodes.ManifestRef.{ManifestRef}
 use Rattle.snapshot_file.specs.declared.nodes.NodeKind.{NodeKind}
 use Rattle.snapshot_file.specs.declared.nodes.NodeKind.TheVariants.{Group, Array}
@@ -41,7 +42,7 @@ abbrev pub extents_part : List (ℕ × ℕ) → Part
 extents_part extents = offset_to (vector_block 4 (length extents) (flat_map extent_bytes extents))
 
 abbrev pub manifest_parts : ManifestRef → List Part
-manifest_parts manifest = inline 1 manifest.id.0 ∷ extents_part manifest.extents ∷ []
+manifest_parts manifest = id12_part manifest.id ∷ extents_part manifest.extents ∷ []
 
 abbrev pub manifest_block : ManifestRef → Block
 manifest_block manifest = table_block (manifest_parts manifest)
@@ -70,7 +71,7 @@ type_of (Array shape names manifests) = 1
 -- table NodeSnapshot
 abbrev pub node_parts : NodeRow → List Part
 node_parts node =
-    inline 1 node.id.0 ∷ text_part node.path ∷ bytes_part node.user_data ∷ scalar 1 (type_of node.kind)
+    id8_part node.id ∷ text_part node.path ∷ bytes_part node.user_data ∷ scalar 1 (type_of node.kind)
     ∷ offset_to (kind_block node.kind) ∷ []
 
 abbrev pub node_block : NodeRow → Block
@@ -93,12 +94,9 @@ abbrev pub files_part : List ManifestInfo → Part
 files_part files = offset_to (vector_block 8 (length files) (flat_map info_bytes files))
 
 -- table Snapshot
-abbrev pub id_part : Id12 → Part
-id_part id = inline 1 id.0
-
 abbrev pub snapshot_parts : SnapshotFile → List Part
 snapshot_parts s =
-    id_part s.id ∷ part_if id_part s.parent ∷ nodes_part s.nodes ∷ scalar 8 s.flushed_at ∷ text_part s.message ∷ absent
+    id12_part s.id ∷ part_if id12_part s.parent ∷ nodes_part s.nodes ∷ scalar 8 s.flushed_at ∷ text_part s.message ∷ absent
     ∷ files_part s.manifest_files ∷ []
 
 unfoldable pub snapshot_block : SnapshotFile → Block
@@ -127,7 +125,7 @@ abbrev pub IsName : Option (List ℕ) → Type 0
 IsName name = IfSome name IsUtf8
 
 pub record IsManifest (manifest : ManifestRef) : Type 0 where
-  pub id : length manifest.id.0 ≡ 12
+  pub id : IsId12 manifest.id
   pub extents : AllByRecursion IsExtent manifest.extents
 
 pub record IsArray (shape : List (ℕ × ℕ)) (names : Option (List (Option (List ℕ)))) (manifests : List ManifestRef) : Type 0 where
@@ -140,19 +138,19 @@ IsKind Group = Unit {0}
 IsKind (Array shape names manifests) = IsArray shape names manifests
 
 pub record IsNode (node : NodeRow) : Type 0 where
-  pub id : length node.id.0 ≡ 8
+  pub id : IsId8 node.id
   pub path : is_path node.path ≡ true
   pub text : IsUtf8 node.path
   pub kind : IsKind node.kind
 
 pub record IsInfo (file : ManifestInfo) : Type 0 where
-  pub id : length file.id.0 ≡ 12
+  pub id : IsId12 file.id
   pub size : file.size < 2 ^ 64
   pub refs : file.refs < 2 ^ 32
 
 pub record IsSnapshot (s : SnapshotFile) : Type 0 where
-  pub id : length s.id.0 ≡ 12
-  pub parent : IfSome s.parent (λ id. length id.0 ≡ 12)
+  pub id : IsId12 s.id
+  pub parent : IfSome s.parent IsId12
   pub nodes : AllByRecursion IsNode s.nodes
   pub flushed_at : s.flushed_at < 2 ^ 64
   pub message : IsUtf8 s.message

@@ -5,7 +5,8 @@ use Rattle.zarr_path.specs.Paths.{is_path}
 use Rattle.flat_tables.specs.declared.fault.FileFault.{FileFault}
 use Rattle.flat_tables.specs.declared.fault.FileFault.TheVariants as faults
 use Rattle.flat_tables.specs.Step.{◌>>=◌, on_some}
-use Rattle.flat_tables.specs.Places.{TableIn, VectorIn, struct_of, scalar_of, text_of, child_of, vector_of, items_of, all_of, table_of}
+use Rattle.file_fields.specs.Fields.{id8_of, id12_of}
+use Rattle.flat_tables.specs.Places.{TableIn, VectorIn, scalar_of, text_of, child_of, vector_of, items_of, all_of, table_of}
 use Rattle.flat_tables.specs.Rows.{flat, required, optional_rows, rows, each}
 use Rattle.snapshot_file.specs.declared.nodes.ManifestRef.{ManifestRef}
 use Rattle.snapshot_file.specs.declared.nodes.NodeKind.{NodeKind}
@@ -23,9 +24,9 @@ extent_of bytes = (from_le_bytes w32 (take 4 bytes), from_le_bytes w32 (drop 4 b
 -- table ManifestRef
 unfoldable pub manifest_of : TableIn → Result ManifestRef FileFault
 manifest_of t = do
-  id ← required 0 (struct_of t 0 12)
+  id ← id12_of t 0
   extents ← required 1 (vector_of t 1 8)
-  Ok (record { id = record { 0 = id }; extents = map extent_of (items_of extents) })
+  Ok (record { id = id; extents = map extent_of (items_of extents) })
 
 unfoldable pub manifest_at : VectorIn → ℕ → Result ManifestRef FileFault
 manifest_at v i = flat (table_of v i) >>= manifest_of
@@ -76,7 +77,7 @@ known_kind at (Some kind) = Ok kind
 -- table NodeSnapshot, of node number `at`: all its slots, then its path, then its type
 unfoldable pub node_of : ℕ → TableIn → Result NodeRow FileFault
 node_of at t = do
-  id ← required 0 (struct_of t 0 8)
+  id ← id8_of t 0
   path ← required 1 (text_of t 1)
   text ← required 2 (vector_of t 2 1)
   type ← required 3 (scalar_of t 3 1)
@@ -84,7 +85,7 @@ node_of at t = do
   kind ← kind_of type table
   _ ← proper_path at path
   known ← known_kind at kind
-  Ok (record { id = record { 0 = id }; path = path; user_data = all_of text; kind = known })
+  Ok (record { id = id; path = path; user_data = all_of text; kind = known })
 
 unfoldable pub node_at : VectorIn → ℕ → Result NodeRow FileFault
 node_at v i = flat (table_of v i) >>= node_of i

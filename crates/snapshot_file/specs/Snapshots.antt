@@ -12,6 +12,7 @@ use Rattle.flat_tables.specs.File.{file_of}
 use Rattle.flat_tables.specs.Step.{◌>>=◌}
 use Rattle.flat_tables.specs.Places.{TableIn, VectorIn, root_of, struct_of, scalar_of, text_of, vector_of, item_of}
 use Rattle.flat_tables.specs.Rows.{flat, required, optional_rows, at_most, rows, each, in_order}
+use Rattle.file_fields.specs.Fields.{id12_of}
 use Rattle.snapshot_file.specs.declared.nodes.ManifestRef.{ManifestRef}
 use Rattle.snapshot_file.specs.declared.nodes.NodeKind.{NodeKind}
 use Rattle.snapshot_file.specs.declared.nodes.NodeKind.TheVariants.{Group, Array}
@@ -91,7 +92,7 @@ id_if id = option_map (λ bytes. record { 0 = bytes }) id
 unfoldable pub payload_of : List ℕ → Result SnapshotFile FileFault
 payload_of payload = do
   t ← flat (root_of payload)
-  id ← required 0 (struct_of t 0 12)
+  id ← id12_of t 0
   parent ← flat (struct_of t 1 12)
   nodes ← nodes_of t
   flushed_at ← required 3 (scalar_of t 3 8)
@@ -99,7 +100,7 @@ payload_of payload = do
   _ ← properties_of t
   files ← files_of t
   unless_unlisted (first_unlisted files nodes) (record {
-    id = record { 0 = id };
+    id = id;
     parent = id_if parent;
     nodes = nodes;
     flushed_at = flushed_at;

@@ -1,41 +1,15 @@
-ghost use Rattle.std.specs.Prelude.{◌≡◌, ◌≤◌, ◌<◌, ◌^◌, length, IsTrue, IfOk, OnOk};
+ghost use Rattle.std.specs.Prelude.{◌≡◌, ◌<◌, ◌^◌, IsTrue, IfOk};
 ghost use Rattle.std.specs.Int.{w32, w64, to_le_bytes};
 ghost use Rattle.std.specs.Str.{IsUtf8};
-ghost use Rattle.flat_tables.specs.Layout.{inline, scalar};
+ghost use Rattle.flat_tables.specs.Layout.{scalar};
 ghost use Rattle.flat_tables.specs.Trees.{part_of, is_writable_slot};
+ghost use Rattle.file_fields.specs.Fields.{IsId12};
 ghost use Rattle.snapshot_file.specs.Layout.{text_part, bytes_part, dimension_bytes, extent_bytes, info_head, info_tail, IsDimension, IsExtent};
 
+use file_fields::id12_bytes;
 use flat_tables::Slot;
-use ice_ids::{Id8, Id12};
+use ice_ids::Id12;
 use std::alloc::{AllocError, Global};
-
-/// The bytes of a node id.
-pub fn node_bytes(id: &Id8) -> [u8; 8]
-    ensures bytes { result ≡ id.now.0 }
-    ensures len { length id.now.0 ≡ 8 }
-{
-    id.0
-}
-
-/// The bytes of an object id.
-pub fn object_bytes(id: &Id12) -> [u8; 12]
-    ensures bytes { result ≡ id.now.0 }
-    ensures len { length id.now.0 ≡ 12 }
-{
-    id.0
-}
-
-/// A struct of bytes.
-pub fn struct_slot(alloc: Global, bytes: &[u8]) -> Result<Slot, AllocError>
-    requires { length bytes.now ≤ 255 }
-    ensures part { IfOk result (λ s. part_of s ≡ inline 1 bytes.now) }
-    ensures writable { IfOk result (λ s. IsTrue (is_writable_slot s)) }
-{
-    Ok(Slot::Struct {
-        align: 1,
-        bytes: Vec::from_slice(alloc, bytes)?,
-    })
-}
 
 /// A string.
 pub fn text_slot(alloc: Global, text: &str) -> Result<Slot, AllocError>
@@ -119,10 +93,10 @@ pub fn extent_bytes(extent: &(u32, u32)) -> [u8; 8]
 /// The first half of a manifest's bytes: its id, and zero bytes.
 pub fn info_head(id: &Id12) -> [u8; 16]
     ensures bytes { result ≡ info_head id.now }
-    ensures len { length id.now.0 ≡ 12 }
+    ensures sized { IsId12 id.now }
 {
     let mut bytes = [0; 16];
-    bytes[..12].copy_from_slice(&object_bytes(id));
+    bytes[..12].copy_from_slice(&id12_bytes(id));
     bytes
 }
 

@@ -6,6 +6,7 @@ ghost use Rattle.snapshot_file.specs.Nodes.{dimension_of, extent_of, manifest_of
 use crate::lists::{Extents, ManifestRefs, Names, Shape, Text};
 use crate::nodes::{ManifestRef, NodeKind, NodeRow};
 use crate::numbers;
+use file_fields::{id8_of, id12_of};
 use flat_tables::{FileFault, FlatFault, Table, Vector};
 use ice_base::Bytes;
 use std::alloc::Global;
@@ -40,10 +41,7 @@ fn extents_in(alloc: Global, vector: &Vector) -> Result<Extents, FileFault>
 fn manifest_of(alloc: Global, table: &Table) -> Result<ManifestRef, FileFault>
     ensures { Reads (λ x. x) result (manifest_of table.now) }
 {
-    let Some(bytes) = table.bytes(0, 12)? else {
-        return Err(FileFault::Flat(FlatFault::Missing { slot: 0 }));
-    };
-    let id = numbers::object_id(bytes);
+    let id = id12_of(table, 0)?;
     let Some(vector) = table.vector(1, 8)? else {
         return Err(FileFault::Flat(FlatFault::Missing { slot: 1 }));
     };
@@ -176,10 +174,7 @@ fn path_of(alloc: Global, at: usize, text: &str) -> Result<Path, FileFault>
 fn node_of(alloc: Global, at: usize, table: &Table) -> Result<NodeRow, FileFault>
     ensures { Reads (λ x. x) result (node_of at table.now) }
 {
-    let Some(bytes) = table.bytes(0, 8)? else {
-        return Err(FileFault::Flat(FlatFault::Missing { slot: 0 }));
-    };
-    let id = numbers::node_id(bytes);
+    let id = id8_of(table, 0)?;
     let Some(text) = table.text(1)? else {
         return Err(FileFault::Flat(FlatFault::Missing { slot: 1 }));
     };

@@ -1,15 +1,13 @@
-ghost use Rattle.std.specs.Prelude.{◌≡◌, ◌≤◌, length, IsTrue, IfOk, OnOk, IfSome};
+ghost use Rattle.std.specs.Prelude.{◌≡◌, IsTrue, IfOk, OnOk, IfSome};
 ghost use Rattle.std.specs.List.{AllByRecursion};
 ghost use Rattle.flat_tables.specs.Layout.{part_if};
 ghost use Rattle.flat_tables.specs.Trees.{layout, part_of, is_writable, is_writable_slot};
 ghost use Rattle.snapshot_file.specs.Layout.{text_part, name_block, names_part, extents_part, manifest_block, manifests_part, shape_part, kind_block, type_of, node_block, IsDimension, IsExtent, IsName, IsManifest, IsKind, IsNode};
 
-use crate::fields::{
-    bytes_slot, dimension_bytes, extent_bytes, node_bytes, object_bytes, struct_slot, text_slot,
-    u8_slot,
-};
+use crate::fields::{bytes_slot, dimension_bytes, extent_bytes, text_slot, u8_slot};
 use crate::lists::{Extents, ManifestRefs, Names, Shape, Text};
 use crate::nodes::{ManifestRef, NodeKind, NodeRow};
+use file_fields::{id8_slot, id12_slot};
 use flat_tables::{Flat, Slot};
 use std::alloc::{AllocError, Global};
 
@@ -102,7 +100,7 @@ fn manifest_table(alloc: Global, manifest: &ManifestRef) -> Result<Flat, AllocEr
     ensures writable { IfOk result (λ f. IsTrue (is_writable f)) }
     ensures sized { OnOk result (IsManifest manifest.now) }
 {
-    let id = struct_slot(alloc, &object_bytes(&manifest.id))?;
+    let id = id12_slot(alloc, &manifest.id)?;
     let extents = extents_slot(alloc, &manifest.extents)?;
     Ok(Flat {
         slots: Vec::from_array(alloc, [id, extents])?,
@@ -165,7 +163,7 @@ pub fn node_table(alloc: Global, node: &NodeRow) -> Result<Flat, AllocError>
     ensures sized { OnOk result (IsNode node.now) }
 {
     let slots = [
-        struct_slot(alloc, &node_bytes(&node.id))?,
+        id8_slot(alloc, &node.id)?,
         text_slot(alloc, node.path.as_str())?,
         bytes_slot(alloc, node.user_data.as_slice())?,
         u8_slot(type_of(&node.kind)),

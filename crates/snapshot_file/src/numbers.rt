@@ -4,37 +4,9 @@ ghost use Rattle.snapshot_file.specs.Nodes.{dimension_of, extent_of};
 ghost use Rattle.snapshot_file.specs.Snapshots.{info_of};
 
 use crate::snapshot::ManifestInfo;
-use ice_ids::{Id8, Id12};
+use file_fields::{id12, u32_of};
 
-/// The node id of these bytes.
-pub fn node_id(bytes: &[u8]) -> Id8
-    requires { length bytes.now ≡ 8 }
-    ensures { result.0 ≡ bytes.now }
-{
-    let mut id = [0; 8];
-    id.copy_from_slice(bytes);
-    Id8(id)
-}
-
-/// The object id of these bytes.
-pub fn object_id(bytes: &[u8]) -> Id12
-    requires { length bytes.now ≡ 12 }
-    ensures { result.0 ≡ bytes.now }
-{
-    let mut id = [0; 12];
-    id.copy_from_slice(bytes);
-    Id12(id)
-}
-
-/// The little-endian number of these bytes.
-fn u32_of(bytes: &[u8]) -> u32
-    requires { length bytes.now ≡ 4 }
-    ensures { result ≡ from_le_bytes w32 bytes.now }
-{
-    u32::from_le_bytes([bytes[0], bytes[1], bytes[2], bytes[3]])
-}
-
-/// The little-endian number of these bytes.
+/// The number of these 8 bytes, the lowest first.
 fn u64_of(bytes: &[u8]) -> u64
     requires { length bytes.now ≡ 8 }
     ensures { result ≡ from_le_bytes w64 bytes.now }
@@ -68,7 +40,7 @@ pub fn info_of(bytes: &[u8]) -> ManifestInfo
     ensures { result ≡ info_of bytes.now }
 {
     ManifestInfo {
-        id: object_id(&bytes[..12]),
+        id: id12(&bytes[..12]),
         size: u64_of(&bytes[16..24]),
         refs: u32_of(&bytes[24..28]),
     }

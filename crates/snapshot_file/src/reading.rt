@@ -8,8 +8,9 @@ ghost use Rattle.snapshot_file.specs.Layout.{IsWritable};
 use crate::lists::{ManifestFiles, NodeRows, Text};
 use crate::node_reading::node_at;
 use crate::nodes::{ManifestRef, NodeKind, NodeRow};
-use crate::numbers::{info_of, object_id};
+use crate::numbers::info_of;
 use crate::snapshot::{ManifestInfo, NODE_LIMIT, SnapshotFile};
+use file_fields::{id12, id12_of};
 use flat_tables::{FILE_LIMIT, FileFault, FlatFault, HEADER, Kind, Table, Vector, header_read};
 use ice_ids::Id12;
 use std::alloc::Global;
@@ -149,13 +150,10 @@ fn payload_of(alloc: Global, payload: &[u8]) -> Result<SnapshotFile, FileFault>
     ensures { Reads (λ x. x) result (payload_of payload.now) }
 {
     let table = Table::root(payload)?;
-    let Some(bytes) = table.bytes(0, 12)? else {
-        return Err(FileFault::Flat(FlatFault::Missing { slot: 0 }));
-    };
-    let id = object_id(bytes);
+    let id = id12_of(&table, 0)?;
     let parent = match table.bytes(1, 12)? {
         None => None,
-        Some(bytes) => Some(object_id(bytes)),
+        Some(bytes) => Some(id12(bytes)),
     };
     let nodes = nodes_of(alloc, &table)?;
     let Some(flushed_at) = table.scalar(3, 8)? else {

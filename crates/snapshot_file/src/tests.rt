@@ -190,10 +190,19 @@ fn too_many_nodes_are_refused_before_the_first(rt: HostRuntime) -> Result<(), Fa
     Ok(())
 }
 
+/// The first fault of the sample's file with two changes.
+fn first_fault(
+    alloc: Global,
+    first: Change,
+    second: Change,
+) -> Result<Option<FileFault>, AllocError> {
+    let file = file_with(alloc, &SAMPLE, first, second)?;
+    Ok(read(alloc, &file).err())
+}
+
 #[test]
-fn first_faults(rt: HostRuntime) -> Result<(), Fail> {
-    let alloc = rt.alloc();
-    let cases: [(Change, Change, FileFault); 37] = [
+fn slots_that_must_be_there(rt: HostRuntime) -> Result<(), Fail> {
+    let cases: [(Change, Change, FileFault); 14] = [
         ((10, &[0, 0]), (0, &[]), missing(0)),
         ((14, &[0, 0]), (0, &[]), missing(2)),
         ((16, &[0, 0]), (0, &[]), missing(3)),
@@ -212,6 +221,17 @@ fn first_faults(rt: HostRuntime) -> Result<(), Fail> {
         ((226, &[0, 0]), (0, &[]), missing(0)),
         ((356, &[0, 0]), (0, &[]), missing(0)),
         ((358, &[0, 0]), (0, &[]), missing(1)),
+    ];
+    for (first, second, want) in cases {
+        let fault = first_fault(rt.alloc(), first, second)?;
+        assert_eq!(rt; fault, Some(want), "{} {}", first.0, second.0);
+    }
+    Ok(())
+}
+
+#[test]
+fn texts_of_nodes(rt: HostRuntime) -> Result<(), Fail> {
+    let cases: [(Change, Change, FileFault); 6] = [
         // The path, a name and the message are no text.
         (
             (209, &[255]),
@@ -232,6 +252,17 @@ fn first_faults(rt: HostRuntime) -> Result<(), Fail> {
         ((208, &[120]), (0, &[]), FileFault::Path { at: 1 }),
         ((209, &[46]), (0, &[]), FileFault::Path { at: 1 }),
         ((208, &[120]), (356, &[0, 0]), missing(0)),
+    ];
+    for (first, second, want) in cases {
+        let fault = first_fault(rt.alloc(), first, second)?;
+        assert_eq!(rt; fault, Some(want), "{} {}", first.0, second.0);
+    }
+    Ok(())
+}
+
+#[test]
+fn types_and_order_of_nodes(rt: HostRuntime) -> Result<(), Fail> {
+    let cases: [(Change, Change, FileFault); 8] = [
         // Types 3 and 0; the path is told first, and the table of such a type is looked at no further.
         ((196, &[3]), (0, &[]), FileFault::NodeKind { at: 1 }),
         ((196, &[0]), (0, &[]), FileFault::NodeKind { at: 1 }),
@@ -242,6 +273,17 @@ fn first_faults(rt: HostRuntime) -> Result<(), Fail> {
         ((497, &[97]), (0, &[]), FileFault::Order { slot: 2, at: 2 }),
         ((497, &[33]), (0, &[]), FileFault::Order { slot: 2, at: 2 }),
         ((497, &[97]), (484, &[9]), FileFault::NodeKind { at: 2 }),
+    ];
+    for (first, second, want) in cases {
+        let fault = first_fault(rt.alloc(), first, second)?;
+        assert_eq!(rt; fault, Some(want), "{} {}", first.0, second.0);
+    }
+    Ok(())
+}
+
+#[test]
+fn properties_and_manifest_files(rt: HostRuntime) -> Result<(), Fail> {
+    let cases: [(Change, Change, FileFault); 9] = [
         // Slot 5 leads to the nodes; it is told before the manifest files, and after slot 4.
         ((20, &[28, 0]), (0, &[]), FileFault::Properties),
         ((20, &[28, 0]), (592, &[0]), FileFault::Properties),
@@ -264,14 +306,8 @@ fn first_faults(rt: HostRuntime) -> Result<(), Fail> {
         ((22, &[0, 0]), (0, &[]), FileFault::Unlisted { at: 1 }),
     ];
     for (first, second, want) in cases {
-        let file = file_with(alloc, &SAMPLE, first, second)?;
-        assert_eq!(rt;
-            read(alloc, &file).err(),
-            Some(want),
-            "{} {}",
-            first.0,
-            second.0
-        );
+        let fault = first_fault(rt.alloc(), first, second)?;
+        assert_eq!(rt; fault, Some(want), "{} {}", first.0, second.0);
     }
     Ok(())
 }

@@ -3,13 +3,15 @@ ghost use Rattle.std.specs.List.{AllByRecursion};
 ghost use Rattle.flat_tables.specs.File.{Writes};
 ghost use Rattle.flat_tables.specs.Layout.{payload, part_if};
 ghost use Rattle.flat_tables.specs.Trees.{layout, part_of, is_writable, is_writable_slot};
+ghost use Rattle.file_fields.specs.Fields.{id12_part, IsId12};
 ghost use Rattle.snapshot_file.specs.Snapshots.{snapshot_of};
-ghost use Rattle.snapshot_file.specs.Layout.{id_part, nodes_part, files_part, snapshot_block, snapshot_bytes, IsWritable, IsNode, IsInfo, IsSnapshot};
+ghost use Rattle.snapshot_file.specs.Layout.{nodes_part, files_part, snapshot_block, snapshot_bytes, IsWritable, IsNode, IsInfo, IsSnapshot};
 
-use crate::fields::{info_head, info_tail, object_bytes, struct_slot, text_slot, u64_slot};
+use crate::fields::{info_head, info_tail, text_slot, u64_slot};
 use crate::lists::{ManifestFiles, NodeRows};
 use crate::node_writing::node_table;
 use crate::snapshot::SnapshotFile;
+use file_fields::id12_slot;
 use flat_tables::{Flat, Kind, Slot, WriteFault, flat_write, header_write};
 use ice_ids::Id12;
 use std::alloc::{AllocError, Global};
@@ -47,13 +49,13 @@ fn files_slot(alloc: Global, files: &ManifestFiles) -> Result<Slot, AllocError>
 
 /// The id of the parent, where there is one.
 fn parent_slot(alloc: Global, parent: &Option<Id12>) -> Result<Slot, AllocError>
-    ensures part { IfOk result (λ s. part_of s ≡ part_if id_part parent.now) }
+    ensures part { IfOk result (λ s. part_of s ≡ part_if id12_part parent.now) }
     ensures writable { IfOk result (λ s. IsTrue (is_writable_slot s)) }
-    ensures sized { OnOk result (IfSome parent.now (λ id. length id.0 ≡ 12)) }
+    ensures sized { OnOk result (IfSome parent.now IsId12) }
 {
     match parent {
         None => Ok(Slot::Absent),
-        Some(id) => struct_slot(alloc, &object_bytes(id)),
+        Some(id) => id12_slot(alloc, id),
     }
 }
 
@@ -65,7 +67,7 @@ fn snapshot_table(alloc: Global, snapshot: &SnapshotFile) -> Result<Flat, AllocE
     ensures sized { OnOk result (IsSnapshot snapshot.now) }
 {
     let slots = [
-        struct_slot(alloc, &object_bytes(&snapshot.id))?,
+        id12_slot(alloc, &snapshot.id)?,
         parent_slot(alloc, &snapshot.parent)?,
         nodes_slot(alloc, &snapshot.nodes)?,
         u64_slot(snapshot.flushed_at),

@@ -9,6 +9,7 @@ use Rattle.json_words.specs.Reading.{ReadsAs, IsRefused}
 use Rattle.zarr_meta.specs.declared.faults.MetaFault.{MetaFault}
 use Rattle.zarr_meta.specs.declared.faults.MetaFault.TheVariants as f
 use Rattle.zarr_meta.specs.declared.views.View.{View}
+use Rattle.zarr_meta.specs.Laws.{TextLaw}
 use Rattle.zarr_meta.specs.Meta.{◌>>=◌, json_of, meta_of, view_of, Tells}
 
 pub json_of_read : (text : List ℕ) (value : Data) → ReadsAs text value → json_of text ≡ Some value
@@ -36,3 +37,6 @@ pub told_by_value : (text : List ℕ) (value : Data) (result : Result View MetaF
 told_by_value text value result h told = rw (meta_of_read text value h) told
 
 pub ruleset meta_of_told = (meta_of_refused, told_by_value)
+
+pub text_law : TextLaw
+text_law text = (meta_of_read text, meta_of_refused text)

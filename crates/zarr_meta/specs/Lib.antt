@@ -1,9 +1,10 @@
 pub mod Extras
 pub mod Grids
+pub mod Kept
 pub mod Kinds
+pub mod Laws
 pub mod Meta
 pub mod Parts
 pub mod Plain
 pub mod Shown
 pub mod Views
-pub mod Kept

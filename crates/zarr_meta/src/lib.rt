@@ -3,6 +3,8 @@
 //! The profile is Zarr version 3 with the eight data types of whole numbers, regular grids, the default chunk key
 //! encoding with the separator `/`, and the codec `bytes` alone. A text outside of it is refused with the first of
 //! [`MetaFault`] that it meets.
+//!
+//! The functions that end in `law` do nothing: the contract of each is a law on which other crates may stand.
 #![tactic(auto)]
 
 mod arrays;
@@ -11,6 +13,7 @@ mod extras;
 mod faults;
 mod grids;
 mod kinds;
+mod laws;
 mod lists;
 mod metas;
 mod names;
@@ -21,16 +24,9 @@ mod shapes;
 mod tests;
 mod views;
 
-ghost use Rattle.zarr_meta.specs.Plain.{PlainLaw};
-
 pub use faults::MetaFault;
 pub use kinds::IntKind;
+pub use laws::{extra_law, plain_law, text_law};
 pub use lists::{DimensionNames, Lengths, MetaText, Name};
 pub use metas::Meta;
 pub use views::{ArrayView, NodeType, View};
-
-/// The plain text of an array is read as what is asked.
-#[tactic(auto, using(crate::proofs::PlainLaws::plain_law))]
-pub fn plain_law()
-    ensures { PlainLaw }
-{}

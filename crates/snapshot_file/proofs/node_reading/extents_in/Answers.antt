@@ -1,6 +1,6 @@
 use Rattle.std.proofs.Common.{arith}
 use Rattle.snapshot_file.specs.Nodes.{extent_of}
-use Rattle.snapshot_file.proofs.LoopLaws.{one_more}
+use Rattle.file_fields.proofs.LoopLaws.{one_more}
 use Rattle.snapshot_file.proofs.node_reading.extents_in.Goals as goal
 
 pub loop-at-preserved : goal.loop-at-preserved

@@ -1,7 +1,7 @@
 use Rattle.std.proofs.Common.{ap, ◌∙◌}
 use Rattle.flat_tables.proofs.Building.{no_tables, one_more_table, tables_writable}
 use Rattle.snapshot_file.specs.Layout.{manifest_block, manifests_part, IsManifest}
-use Rattle.snapshot_file.proofs.BuildingLaws.{all_more, all_taken, tables_of}
+use Rattle.file_fields.proofs.BuildingLaws.{all_more, all_taken, tables_of}
 use Rattle.snapshot_file.proofs.node_writing.manifests_slot.Goals as goal
 
 pub loop-manifest-init : goal.loop-manifest-init

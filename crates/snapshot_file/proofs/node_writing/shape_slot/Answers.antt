@@ -1,7 +1,7 @@
 use Rattle.std.proofs.Common.{◌≡◌, ◌++◌, ap, ◌∙◌, arith, lit<, refl, get_or}
 use Rattle.flat_tables.proofs.Building.{no_bytes, one_more_item, structs_writable}
 use Rattle.snapshot_file.specs.Layout.{dimension_bytes, shape_part, IsDimension}
-use Rattle.snapshot_file.proofs.BuildingLaws.{element_is, all_more, all_taken, structs_of}
+use Rattle.file_fields.proofs.BuildingLaws.{element_is, all_more, all_taken, structs_of}
 use Rattle.snapshot_file.proofs.node_writing.shape_slot.Goals as goal
 
 pub loop-dimension-init : goal.loop-dimension-init

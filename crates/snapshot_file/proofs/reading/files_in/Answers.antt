@@ -2,7 +2,9 @@ use Rattle.std.proofs.Common.{inr, ◌∙◌, ap, rules, arith}
 use Rattle.flat_tables.specs.Rows.{each, in_order}
 use Rattle.flat_tables.proofs.Loop.{ordered_goes_on, ordered_disordered, all_read}
 use Rattle.snapshot_file.specs.Snapshots.{file_key, info_of, info_at}
-use Rattle.snapshot_file.proofs.LoopLaws.{tested_last, info_is, rows_ascend}
+use Rattle.file_fields.proofs.LoopLaws.{tested_last}
+use Rattle.file_fields.proofs.WasRead.{rows_ascend}
+use Rattle.snapshot_file.proofs.Infos.{info_is}
 use Rattle.snapshot_file.proofs.reading.files_in.Goals as goal
 
 pub returns-then-not-file_follows-clause-value : goal.returns-then-not-file_follows-clause-value
@@ -30,4 +32,4 @@ pub returns-clause-ascend : goal.returns-clause-ascend
 returns-clause-ascend c =
     let v = c.args.vector.now in
     let read = all_read (in_order file_key 6 (each (info_at v))) v.count c.loop-at.files.items c.loop-at.at c.loop-at.invariant (omega arith) in
-    rw c.from_vec.ensures (rows_ascend file_key 6 (each (info_at v)) v.count c.loop-at.files.items read).ascend
+    rw c.from_vec.ensures (rows_ascend file_key 6 (each (info_at v)) v.count c.loop-at.files.items read)

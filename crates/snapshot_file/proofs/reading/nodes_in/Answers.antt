@@ -4,7 +4,7 @@ use Rattle.flat_tables.specs.Rows.{each, in_order}
 use Rattle.flat_tables.proofs.Loop.{ordered_goes_on, ordered_disordered, ordered_faulty, all_read}
 use Rattle.snapshot_file.specs.Nodes.{node_at}
 use Rattle.snapshot_file.specs.Snapshots.{node_key}
-use Rattle.snapshot_file.proofs.LoopLaws.{tested_last}
+use Rattle.file_fields.proofs.LoopLaws.{tested_last}
 use Rattle.snapshot_file.proofs.reading.nodes_in.Goals as goal
 
 pub returns-in_err-node : goal.returns-in_err-node

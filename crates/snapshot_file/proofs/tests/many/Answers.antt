@@ -1,6 +1,6 @@
 use Rattle.std.proofs.Common.{◌∙◌, rules}
 use Rattle.snapshot_file.specs.Snapshots.{node_key}
-use Rattle.snapshot_file.proofs.LoopLaws.{tested_last, ascends_push}
+use Rattle.file_fields.proofs.LoopLaws.{tested_last, ascends_push}
 use Rattle.snapshot_file.proofs.tests.many.Goals as goal
 
 pub loop-i-preserved : goal.loop-i-preserved
