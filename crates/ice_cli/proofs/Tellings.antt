@@ -27,7 +27,8 @@ use Rattle.ice_cli.specs.declared.statuses.Causes.{Causes}
 use Rattle.ice_cli.specs.declared.statuses.Status.{Status}
 use Rattle.ice_cli.specs.declared.statuses.Status.TheVariants as S
 use Rattle.ice_cli.specs.Statuses.{status_of}
-use Rattle.ice_cli.specs.Telling.{why_of, end_why, why_ended, refusals, is_other, causes, added, all_added, Wrote, Tells, KeepsHistories, WasPlayed}
+use Rattle.ice_cli.specs.Telling.{why_of, end_why, why_ended, refusals, is_other, causes, Wrote, Tells, KeepsHistories, WasPlayed}
+use Rattle.ice_cli.specs.Adding.{added, all_added}
 use Rattle.ice_cli.proofs.Rows.{rows-all}
 
 -- ---- causes

@@ -1,5 +1,5 @@
 -- What is told of a run: the report and the status (own).
-use Rattle.std.specs.Prelude.{◌≡◌, ℕ, Bool, true, false, not, ◌&&◌, ◌||◌, List, [], ◌∷◌, ◌++◌, map, Result, Ok, Err, IsTrue}
+use Rattle.std.specs.Prelude.{◌≡◌, ℕ, Bool, true, false, not, ◌&&◌, List, [], ◌∷◌, ◌++◌, map, Result, Ok, Err, IsTrue}
 use Rattle.std.specs.List.{list_any, flat_map}
 use Rattle.ice_base.specs.Ends.{OutputAt, WroteWhole, WroteLess}
 use Rattle.ice_ids.specs.declared.drawing.Draw.{Draw}
@@ -44,14 +44,6 @@ is_other why = not (is_no_memory why) && not (is_fault why)
 -- what these refusals cause, where not all of the report was written or all of it
 abbrev pub causes : Bool → List Refusal → Causes
 causes unwritten whys = record { no_memory = list_any is_no_memory whys; store_fault = list_any is_fault whys; unwritten = unwritten; refused = list_any is_other whys }
-
--- with one refusal more, and with these
-abbrev pub added : Causes → Refusal → Causes
-added c why = record c { no_memory = c.no_memory || is_no_memory why; store_fault = c.store_fault || is_fault why; refused = c.refused || is_other why }
-
-abbrev pub all_added : Causes → List Refusal → Causes
-all_added c [] = c
-all_added c (why ∷ whys) = all_added (added c why) whys
 
 -- ---- what is told
 -- the whole text was written; or not all of it, and the sink failed

@@ -1,11 +1,12 @@
 //! What is told of a run: the report and the status.
 
-ghost use Rattle.std.specs.Prelude.{◌≡◌, ℕ, map, IfOk, Bool};
+ghost use Rattle.std.specs.Prelude.{◌≡◌, ℕ, map, IfOk};
 ghost use Rattle.std.specs.List.{flat_map};
 ghost use Rattle.store_api.specs.Program.{Done};
 ghost use Rattle.play_tasks.specs.Workers.{worker_rest};
 ghost use Rattle.play_run.specs.Order.{IsDoneAt};
-ghost use Rattle.ice_cli.specs.Telling.{why_of, why_ended, refusals, causes, added, all_added, Wrote, Tells};
+ghost use Rattle.ice_cli.specs.Telling.{why_of, why_ended, refusals, causes, Wrote, Tells};
+ghost use Rattle.ice_cli.specs.Adding.{added, all_added};
 
 use crate::statuses::{Causes, Status};
 use ice_base::{Sink, write_whole};

@@ -1,6 +1,7 @@
 use Rattle.std.proofs.Common.{◌≡◌, map, drop}
 use Rattle.std.specs.List.{flat_map}
-use Rattle.ice_cli.specs.Telling.{why_ended, all_added}
+use Rattle.ice_cli.specs.Telling.{why_ended}
+use Rattle.ice_cli.specs.Adding.{all_added}
 use Rattle.ice_cli.proofs.telling.add_outcomes.Given as goal
 
 abbrev pub invariant-loop-outcome : goal.invariant-loop-outcome

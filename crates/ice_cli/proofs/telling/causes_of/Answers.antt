@@ -1,7 +1,8 @@
 use Rattle.std.proofs.Common.{◌∙◌, ap, map}
 use Rattle.std.specs.List.{flat_map}
 use Rattle.ice_cli.specs.declared.statuses.Causes.{Causes}
-use Rattle.ice_cli.specs.Telling.{why_of, why_ended, all_added}
+use Rattle.ice_cli.specs.Telling.{why_of, why_ended}
+use Rattle.ice_cli.specs.Adding.{all_added}
 use Rattle.ice_cli.proofs.Tellings.{all-causes}
 use Rattle.ice_cli.proofs.telling.causes_of.Goals as goal
 
