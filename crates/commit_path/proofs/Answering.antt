@@ -7,12 +7,13 @@ use Rattle.ice_ids.specs.Text.{IsId12}
 use Rattle.tree_model.specs.Touched.{touched}
 use Rattle.plain_object.specs.Objects.{snapshot_bytes, log_bytes, ref_bytes}
 use Rattle.store_api.specs.declared.keys.Key.{Key}
-use Rattle.store_api.specs.declared.keys.Key.TheVariants.{Snapshot, Txn, Branch}
+use Rattle.store_api.specs.declared.keys.Key.TheVariants.{Snapshot, Manifest, Txn, Chunk, Branch, Tag, TagGone}
+use Rattle.store_api.specs.declared.keys.Part.{Part}
 use Rattle.store_api.specs.declared.keys.Why.{Why}
 use Rattle.store_api.specs.declared.keys.Why.TheVariants.{Set, Commit}
 use Rattle.store_api.specs.declared.events.Version.{Version}
 use Rattle.store_api.specs.declared.events.Op.{Op}
-use Rattle.store_api.specs.declared.events.Op.TheVariants.{Get, PutNew, PutOver}
+use Rattle.store_api.specs.declared.events.Op.TheVariants.{Get, PutNew, PutOver, Remove, RemoveAt, List as ListPart}
 use Rattle.store_api.specs.declared.events.New.TheVariants.{Done as New_done, Present}
 use Rattle.store_api.specs.declared.events.Over.{Over}
 use Rattle.store_api.specs.declared.events.Over.TheVariants.{Done as Over_done, Moved}
@@ -24,7 +25,7 @@ use Rattle.store_api.specs.declared.machines.Refusal.TheVariants as R
 use Rattle.store_api.specs.Machine.{Stored, Slot, slot_of, found, effect, version_at, new_of, over_of, put_at}
 use Rattle.store_api.specs.Journal.{Each, StoodAt, IsOnce, IsGood}
 use Rattle.store_api.specs.Callers.{Caller, IsOther, Waits, Makes, own_event}
-use Rattle.store_api.specs.Program.{Leads}
+use Rattle.store_api.specs.Program.{Leads, is_over}
 use Rattle.store_api.proofs.Journals.{Each-append, Each-weaker, Each-one, Each-none}
 use Rattle.store_api.proofs.Slots.{same_key-true, effect-cases, old-cases, slot-append_one, sound, found-old, found-stood}
 use Rattle.store_api.proofs.Standing.{snap_made-append}
@@ -32,7 +33,7 @@ use Rattle.store_api.proofs.Programs.{good-waits}
 use Rattle.session.specs.Sessions.{SessionState}
 use Rattle.commit_path.specs.declared.commit.Committed.{Committed}
 use Rattle.commit_path.specs.Committing.{commit_program, after_log, after_snapshot, after_branch, snap_for}
-use Rattle.commit_path.specs.Owed.{IsMade}
+use Rattle.commit_path.specs.Owed.{Sessions, IsMade, OwesNew, Owes}
 use Rattle.commit_path.specs.Answered.{HasOwn, LeavesBranches, ChangedNothing, ChangedOnce, StandsAt, commits_over, HasMessage, TookEffect, IsLater, WasMoved, WasTaken, WasFailed, CommitTells}
 use Rattle.commit_path.proofs.Telling.{put-did, put-time, makes-keeps}
 use Rattle.commit_path.specs.Opened.{IsOpened}
@@ -95,15 +96,41 @@ get-leaves by key reply time journal branch =
     leaves-by journal (own_event by (Get key) reply time) branch
     (effect-cases (Same journal branch) (Branch branch) (length journal) (slot_of journal (Branch branch)) (own_event by (Get key) reply time) refl (λ k d. refl))
 
-log-leaves : (by : Caller) (id : Id12) (bytes : List ℕ) (why : Why) (reply : Reply) (time : ℕ) (journal : List Event) (branch : List ℕ) → found (journal ++ own_event by (PutNew (Txn id) bytes why) reply time ∷ []) (Branch branch) ≡ found journal (Branch branch)
+pub log-leaves : (by : Caller) (id : Id12) (bytes : List ℕ) (why : Why) (reply : Reply) (time : ℕ) (journal : List Event) (branch : List ℕ) → found (journal ++ own_event by (PutNew (Txn id) bytes why) reply time ∷ []) (Branch branch) ≡ found journal (Branch branch)
 log-leaves by id bytes why reply time journal branch =
     leaves-by journal (own_event by (PutNew (Txn id) bytes why) reply time) branch
     (effect-cases (Same journal branch) (Branch branch) (length journal) (slot_of journal (Branch branch)) (own_event by (PutNew (Txn id) bytes why) reply time) refl (λ k d. absurd (cc)))
 
-snapshot-leaves : (by : Caller) (id : Id12) (bytes : List ℕ) (why : Why) (reply : Reply) (time : ℕ) (journal : List Event) (branch : List ℕ) → found (journal ++ own_event by (PutNew (Snapshot id) bytes why) reply time ∷ []) (Branch branch) ≡ found journal (Branch branch)
+pub snapshot-leaves : (by : Caller) (id : Id12) (bytes : List ℕ) (why : Why) (reply : Reply) (time : ℕ) (journal : List Event) (branch : List ℕ) → found (journal ++ own_event by (PutNew (Snapshot id) bytes why) reply time ∷ []) (Branch branch) ≡ found journal (Branch branch)
 snapshot-leaves by id bytes why reply time journal branch =
     leaves-by journal (own_event by (PutNew (Snapshot id) bytes why) reply time) branch
     (effect-cases (Same journal branch) (Branch branch) (length journal) (slot_of journal (Branch branch)) (own_event by (PutNew (Snapshot id) bytes why) reply time) refl (λ k d. absurd (cc)))
+
+list-leaves : (by : Caller) (part : Part) (reply : Reply) (time : ℕ) (journal : List Event) (branch : List ℕ) → found (journal ++ own_event by (ListPart part) reply time ∷ []) (Branch branch) ≡ found journal (Branch branch)
+list-leaves by part reply time journal branch =
+    leaves-by journal (own_event by (ListPart part) reply time) branch
+    (effect-cases (Same journal branch) (Branch branch) (length journal) (slot_of journal (Branch branch)) (own_event by (ListPart part) reply time) refl (λ k d. refl))
+
+new-leaves : (mine : Sessions) (by : Caller) (key : Key) (bytes : List ℕ) (why : Why) (reply : Reply) (time : ℕ) (before journal : List Event) → OwesNew mine before bytes key → (branch : List ℕ) → found (journal ++ own_event by (PutNew key bytes why) reply time ∷ []) (Branch branch) ≡ found journal (Branch branch)
+new-leaves mine by (Snapshot id) bytes why reply time before journal o = snapshot-leaves by id bytes why reply time journal
+new-leaves mine by (Txn id) bytes why reply time before journal o = log-leaves by id bytes why reply time journal
+new-leaves mine by (Manifest id) bytes why reply time before journal o = absurd o
+new-leaves mine by (Chunk id) bytes why reply time before journal o = absurd o
+new-leaves mine by (Branch name) bytes why reply time before journal o = absurd o
+new-leaves mine by (Tag name) bytes why reply time before journal o = absurd o
+new-leaves mine by (TagGone name) bytes why reply time before journal o = absurd o
+
+owed-leaves : (mine : Sessions) (by : Caller) (op : Op) (reply : Reply) (time : ℕ) (before journal : List Event) → Owes mine before op → is_over op ≡ false → (branch : List ℕ) → found (journal ++ own_event by op reply time ∷ []) (Branch branch) ≡ found journal (Branch branch)
+owed-leaves mine by (Get key) reply time before journal o off = get-leaves by key reply time journal
+owed-leaves mine by (ListPart part) reply time before journal o off = list-leaves by part reply time journal
+owed-leaves mine by (PutNew key bytes why) reply time before journal o off = new-leaves mine by key bytes why reply time before journal o
+owed-leaves mine by (PutOver key bytes old why) reply time before journal o off = absurd cc
+owed-leaves mine by (Remove key why) reply time before journal o off = absurd o
+owed-leaves mine by (RemoveAt key old why) reply time before journal o off = absurd o
+
+-- what a client owes that is no put over leaves the branches
+pub ChangedNothing-owed : (mine : Sessions) (by : Caller) (start : List Event) (op : Op) (reply : Reply) (old new : List Event) → Owes mine old op → is_over op ≡ false → Makes by op reply old new → ChangedNothing by.number start old → ChangedNothing by.number start new
+ChangedNothing-owed mine by start op reply old new o off m c = ChangedNothing-makes by start op reply old new m (owed-leaves mine by op reply m.time old m.middle o off) c
 
 -- ---- what a put over was answered
 over-same : (g h : Over) → Is_over g ≡ Is_over h → g ≡ h
@@ -393,7 +420,7 @@ module _ (by : Caller) (start journal more : List Event) (others : Each (IsOther
   CommitTells-others s message id (Err (R.Conflict old there)) t = moved-others s id old there t
   CommitTells-others s message id (Err (R.IdTaken key)) t = taken-others id key t
   CommitTells-others s message id (Err R.StoreFault) t = failed-others t
-  CommitTells-others s message id (Err R.NoMemory) t = tt
+  CommitTells-others s message id (Err R.NoMemory) t = ChangedNothing-others by start journal more others t
   CommitTells-others s message id (Err R.NoRef) t = absurd t
   CommitTells-others s message id (Err R.NoNode) t = absurd t
   CommitTells-others s message id (Err R.NodeExists) t = absurd t

@@ -72,7 +72,7 @@ module _ (by : Caller) (a : Asked) (start journal more : List Event) (others : E
   RefusalTells-others (R.Missing key) t = (WasMissing-append by.number a key start journal more t.0, ChangedNothing-others by start journal more others t.1)
   RefusalTells-others (R.BadFile key bad) t = (WasBad-append by.number a key start journal more t.0, ChangedNothing-others by start journal more others t.1)
   RefusalTells-others R.StoreFault t = failed-others by start journal more others t
-  RefusalTells-others R.NoMemory t = tt
+  RefusalTells-others R.NoMemory t = ChangedNothing-others by start journal more others t
   RefusalTells-others R.NoNode t = absurd t
   RefusalTells-others R.NodeExists t = absurd t
   RefusalTells-others R.NoParent t = absurd t

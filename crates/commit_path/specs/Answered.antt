@@ -126,5 +126,5 @@ CommitTells client s message id start (Ok made) journal = (made.id ≡ id) × To
 CommitTells client s message id start (Err (Conflict old there)) journal = WasMoved client s id old there start journal
 CommitTells client s message id start (Err (IdTaken key)) journal = WasTaken client id key start journal
 CommitTells client s message id start (Err StoreFault) journal = WasFailed client start journal
-CommitTells client s message id start (Err NoMemory) journal = Unit {0}
+CommitTells client s message id start (Err NoMemory) journal = ChangedNothing client start journal
 CommitTells client s message id start (Err _) journal = ⊥

@@ -89,7 +89,7 @@ RefusalTells client a start NoRef journal = WasAbsent client (Branch a.branch) s
 RefusalTells client a start (Missing key) journal = WasMissing client a key start journal × ChangedNothing client start journal
 RefusalTells client a start (BadFile key bad) journal = (WasNoReference client a key start journal ⊎ WasNoSnapshot client a key start journal) × ChangedNothing client start journal
 RefusalTells client a start StoreFault journal = WasFailed client start journal
-RefusalTells client a start NoMemory journal = Unit {0}
+RefusalTells client a start NoMemory journal = ChangedNothing client start journal
 RefusalTells client a start _ journal = ⊥
 
 -- What the answer of an opening says of the journal, where the client had changed no branch between

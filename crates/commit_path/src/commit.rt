@@ -1,7 +1,7 @@
 //! The machine that commits a session.
 
 ghost use Rattle.std.specs.Prelude.{◌≡◌, ◌<◌, Err, false, IfErr, IfOk, IsTrue, MatchResult};
-ghost use Rattle.store_api.specs.Program.{Lands, IsAsk, Steps, NextIsPolite, refusal_of, is_fault};
+ghost use Rattle.store_api.specs.Program.{Lands, IsAsk, IsSure, Steps, NextIsPolite, refusal_of, is_fault};
 ghost use Rattle.store_api.specs.declared.machines.Refusal.{Refusal as TheRefusal};
 ghost use Rattle.tree_model.specs.Touched.{touched};
 ghost use Rattle.plain_object.specs.Objects.{log_bytes as bytes_of_log, snapshot_bytes as bytes_of_snapshot};
@@ -235,6 +235,7 @@ impl Commit {
 
     fn on_branch(&mut self, over: Over) -> Result<Next<Committed>, Refusal>
         ensures lands { Lands (after_branch self.old.session self.old.id (Reply.Over over)) (commit_rest self.new) result }
+        ensures sure { IsSure (after_branch self.old.session self.old.id (Reply.Over over)) result }
         ensures falls { commit_left self.new < 1 }
         ensures session { self.new.session ≡ self.old.session }
         ensures listed { IfErr result MayRefuseCommit }

@@ -27,7 +27,7 @@ use Rattle.ice_cli.specs.declared.statuses.Causes.{Causes}
 use Rattle.ice_cli.specs.declared.statuses.Status.{Status}
 use Rattle.ice_cli.specs.declared.statuses.Status.TheVariants as S
 use Rattle.ice_cli.specs.Statuses.{status_of}
-use Rattle.ice_cli.specs.Telling.{why_of, end_why, why_ended, refusals, is_other, causes, Wrote, Tells, KeepsHistories, WasPlayed}
+use Rattle.ice_cli.specs.Telling.{why_of, end_why, why_ended, refusals, is_other, causes, Wrote, Tells, KeepsHistories, IsRegular, WasPlayed}
 use Rattle.ice_cli.specs.Adding.{added, all_added}
 use Rattle.ice_cli.proofs.Rows.{rows-all}
 
@@ -171,20 +171,21 @@ pub course-ended : (draw : Draw) (script : Script) (old new : View) (opening : R
 course-ended draw script old new opening ends refs c = plays-ended draw script c.begun c.played opening ends c.plays
 
 pub was-played : (draw : Draw) (script : Script) (s t : View) (x y : OutputAt) (opening : Result (Unit {0}) Refusal) (ends : List (Prog Outcome)) (refs : Result (List RefLine) Refusal) (status : Status)
-    → Course draw script s t opening ends refs → KeepsHistories draw script s t refs → Tells script opening ends refs x y status → WasPlayed draw script s t x y status
-was-played draw script s t x y opening ends refs status c kept told = record {
+    → Course draw script s t opening ends refs → KeepsHistories draw script s t refs → IsRegular s opening ends refs → Tells script opening ends refs x y status → WasPlayed draw script s t x y status
+was-played draw script s t x y opening ends refs status c kept regular told = record {
   opening = opening;
   outcomes = told.outcomes;
   refs = refs;
   course = subst (λ (es : List (Prog Outcome)). Course draw script s t opening es refs) (sym told.ended) c;
   histories = kept;
+  regular = subst (λ (es : List (Prog Outcome)). IsRegular s opening es refs) (sym told.ended) regular;
   told = told.told;
 }
 
 pub finished : (draw : Draw) (script : Script) (s t : View) (x y : OutputAt) (opening : Result (Unit {0}) Refusal) (ends : List (Prog Outcome)) (refs : Result (List RefLine) Refusal) (result : Result Status AllocError)
-    → Course draw script s t opening ends refs → KeepsHistories draw script s t refs → IfOk result (λ status. Tells script opening ends refs x y status) → IfOk result (λ status. WasPlayed draw script s t x y status)
-finished draw script s t x y opening ends refs (Ok status) c kept told = was-played draw script s t x y opening ends refs status c kept told
-finished draw script s t x y opening ends refs (Err error) c kept told = tt
+    → Course draw script s t opening ends refs → KeepsHistories draw script s t refs → IsRegular s opening ends refs → IfOk result (λ status. Tells script opening ends refs x y status) → IfOk result (λ status. WasPlayed draw script s t x y status)
+finished draw script s t x y opening ends refs (Ok status) c kept regular told = was-played draw script s t x y opening ends refs status c kept regular told
+finished draw script s t x y opening ends refs (Err error) c kept regular told = tt
 
 -- ---- outcomes of workers
 told-done : (p : Prog Outcome) (r : Option (Bor Outcome)) (o : Bor Outcome) → r ≡ Some o → MatchOption r (IsAsk p) (λ x. p ≡ Done x.now) → p ≡ Done o.now

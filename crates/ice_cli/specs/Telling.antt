@@ -16,6 +16,7 @@ use Rattle.tree_model.specs.Changes.{Changes}
 use Rattle.run_histories.specs.Runs.{IsSound}
 use Rattle.play_course.specs.Course.{Course}
 use Rattle.play_course.specs.Leaving.{Leaves}
+use Rattle.play_course.specs.Refusing.{NothingStrange}
 use Rattle.ice_cli.specs.declared.statuses.Causes.{Causes}
 use Rattle.ice_cli.specs.declared.statuses.Status.{Status}
 use Rattle.ice_cli.specs.Statuses.{status_of}
@@ -68,6 +69,11 @@ pub record Tells (script : Script) (opening : Result (Unit {0}) Refusal) (ends :
 abbrev pub KeepsHistories : Draw → Script → View → View → Result (List RefLine) Refusal → Type 0
 KeepsHistories draw script old new refs = IsTrue old.caller.tells → (before : ℕ → Changes) → IsSound old.seen before → Leaves draw script.tasks before old.seen new.seen refs
 
+-- over a store that tells its journal and on which nothing was done before, nothing is refused because an id was taken, an
+-- object is missing or a file can't be read
+abbrev pub IsRegular : View → Result (Unit {0}) Refusal → List (Prog Outcome) → Result (List RefLine) Refusal → Type 0
+IsRegular old opening ends refs = IsTrue old.caller.tells → old.seen ≡ [] → NothingStrange opening ends refs
+
 -- What was played, and what was told of it: all tasks have ended, with these outcomes.
 pub record WasPlayed (draw : Draw) (script : Script) (store_old store_new : View) (out_old out_new : OutputAt) (status : Status) : Type 0 where
   pub opening : Result (Unit {0}) Refusal
@@ -75,4 +81,5 @@ pub record WasPlayed (draw : Draw) (script : Script) (store_old store_new : View
   pub refs : Result (List RefLine) Refusal
   pub course : Course draw script store_old store_new opening (map (λ o. Done o) outcomes) refs
   pub histories : KeepsHistories draw script store_old store_new refs
+  pub regular : IsRegular store_old opening (map (λ o. Done o) outcomes) refs
   pub told : Told script opening outcomes refs out_old out_new status

@@ -81,27 +81,44 @@ fn numbers_and_lines(rt: HostRuntime) -> Result<(), Fail> {
     Ok(())
 }
 
-/// The status of the smallest commit over a store that fails these calls, and whether this was printed.
-fn smallest_commit(
+/// The status of a script over a store that fails these calls, and whether this was printed.
+fn played(
     alloc: Global,
+    script: &[u8],
     plan: Vec<(u64, bool)>,
     printed: &[u8],
 ) -> Result<(Status, bool), Fail> {
-    let mut script = Vec::new(alloc);
-    script.extend_from_slice(b"task a write main 0 fail\ngroup /\ncommit first\n")?;
+    let mut text = Vec::new(alloc);
+    text.extend_from_slice(script)?;
     let mut words = Vec::new(alloc);
     words.push(Word::new(String::from_str(alloc, "play")?))?;
-    let mut input = ByteSource::new(script, Vec::new(alloc));
+    let mut input = ByteSource::new(text, Vec::new(alloc));
     let mut output = ByteSink::new(alloc, 200, Vec::new(alloc))?;
     let store = FaultStore::new(MemStore::new(alloc, TickClock::new()), plan);
     let ended = run(alloc, &words, Draw::Count, &mut input, store, &mut output);
     Ok((ended.status, output.written() == printed))
 }
 
+const SMALLEST_COMMIT: &[u8] = b"task a write main 0 fail\ngroup /\ncommit first\n";
+
 #[test]
 fn smallest_commit_in_memory(rt: HostRuntime) -> Result<(), Fail> {
     let printed = b"a committed 0000008000000000000G\nbranch main 0000008000000000000G\n";
-    let told = smallest_commit(rt.alloc(), Vec::new(rt.alloc()), printed)?;
+    let none = Vec::new(rt.alloc());
+    let told = played(rt.alloc(), SMALLEST_COMMIT, none, printed)?;
+    assert_eq!(rt; told, (Status::Ok, true));
+    Ok(())
+}
+
+/// Between the two gets of an opening another task commits: the session reads what its branch named at the first.
+#[test]
+fn newest_snapshot_is_not_read(rt: HostRuntime) -> Result<(), Fail> {
+    let script = b"task a write main 0 fail\ngroup /\ncommit one\n\
+        task b write main 0 fail\ngroup /b\ncommit two\n\
+        task r read branch main\nlist /\nturns a*5 r b*5 r\n";
+    let printed = b"a committed 0000008000000000000G\nb committed 000000G000000000000G\nr done\nbranch main 000000G000000000000G\n";
+    let none = Vec::new(rt.alloc());
+    let told = played(rt.alloc(), script, none, printed)?;
     assert_eq!(rt; told, (Status::Ok, true));
     Ok(())
 }
@@ -111,7 +128,18 @@ fn store_that_fails_the_opening_of_a_session(rt: HostRuntime) -> Result<(), Fail
     let printed = b"a refused 1 storefault\nbranch main 1CECHNKREP0F1RSTCMT0\n";
     let mut plan = Vec::new(rt.alloc());
     plan.push((2, false))?;
-    let told = smallest_commit(rt.alloc(), plan, printed)?;
+    let told = played(rt.alloc(), SMALLEST_COMMIT, plan, printed)?;
+    assert_eq!(rt; told, (Status::StoreFault, true));
+    Ok(())
+}
+
+/// The put of the branch was done, and its answer was lost.
+#[test]
+fn store_that_loses_the_answer_to_a_commit(rt: HostRuntime) -> Result<(), Fail> {
+    let printed = b"a refused 3 storefault\nbranch main 0000008000000000000G\n";
+    let mut plan = Vec::new(rt.alloc());
+    plan.push((6, true))?;
+    let told = played(rt.alloc(), SMALLEST_COMMIT, plan, printed)?;
     assert_eq!(rt; told, (Status::StoreFault, true));
     Ok(())
 }

@@ -43,7 +43,7 @@ plays-alone : (draw : Draw) (script : Script) (old new : View) (opening : Result
 plays-alone draw script old new (Ok done) ends t p = let r = (p.ran t).ran in record { own = r.more; is = r.is; owed = r.careful }
 plays-alone draw script old new (Err why) ends t p = record { own = []; is = ap (λ (v : View). v.seen) p.0 ∙ sym (append-nil old.seen); owed = Each-none (IsOfClient draw script.tasks) old.seen }
 
-tells-on : (draw : Draw) (script : Script) (old new : View) (opening : Result (Unit {0}) Refusal) (ends : List (Prog Outcome)) → Plays draw script old new opening ends → IsTrue old.caller.tells → IsTrue new.caller.tells
+pub tells-on : (draw : Draw) (script : Script) (old new : View) (opening : Result (Unit {0}) Refusal) (ends : List (Prog Outcome)) → Plays draw script old new opening ends → IsTrue old.caller.tells → IsTrue new.caller.tells
 tells-on draw script old new (Ok done) ends p t = subst IsTrue (sym p.tells) t
 tells-on draw script old new (Err why) ends p t = subst (λ (v : View). IsTrue v.caller.tells) (sym p.0) t
 

@@ -1,2 +1,7 @@
 mod Leaving
 mod Playing
+mod Tidy
+mod Meeting
+mod Tasks
+mod Edges
+mod Whole

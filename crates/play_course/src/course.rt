@@ -1,12 +1,13 @@
 //! The course of a run.
 
-ghost use Rattle.std.specs.Prelude.{◌≡◌, ℕ, All, map, length, IfOk, IsTrue};
+ghost use Rattle.std.specs.Prelude.{◌≡◌, ℕ, [], All, map, length, IfOk, IsTrue};
 ghost use Rattle.tree_model.specs.Changes.{Changes};
 ghost use Rattle.play_script.specs.Well.{IsWell, IsWellTurn};
 ghost use Rattle.play_tasks.specs.Workers.{worker_rest};
 ghost use Rattle.run_histories.specs.Runs.{IsSound};
 ghost use Rattle.play_course.specs.Course.{turns_in, Course, PlaysTasks, Plays};
 ghost use Rattle.play_course.specs.Leaving.{Leaves};
+ghost use Rattle.play_course.specs.Refusing.{NothingStrange};
 
 use ice_ids::Draw;
 use play_report::RefLines;
@@ -109,6 +110,8 @@ pub fn play<'a, S: Base>(
     // Over a store that tells its journal, where that is sound, the branches' histories are kept, and the refs that were
     // read are their ends.
     ensures leaves { IsTrue (S.view store.old).caller.tells → (before : ℕ → Changes) → IsSound (S.view store.old).seen before → IfOk result (λ played. Leaves draw script.now.tasks before (S.view store.old).seen (S.view store.new).seen played.refs) }
+    // Over one on which nothing was done before, no drawn id is taken, no object is missing, and every file can be read.
+    ensures regular { IsTrue (S.view store.old).caller.tells → (S.view store.old).seen ≡ [] → IfOk result (λ played. NothingStrange played.opening (map worker_rest played.workers.items) played.refs) }
 {
     run_law();
     refs_law();

@@ -9,6 +9,7 @@ use Rattle.store_api.specs.declared.events.Event.{Event}
 use Rattle.store_api.specs.Callers.{only}
 use Rattle.store_api.specs.Program.{Keeps, Leads, Done, Ask, IsAsk}
 use Rattle.commit_path.specs.Owed.{IsCareful}
+use Rattle.commit_path.specs.Answered.{ChangedNothing}
 use Rattle.commit_path.proofs.Owing.{Spellings}
 use Rattle.play_script.specs.Well.{IsWellTask}
 use Rattle.play_tasks.specs.declared.worker.Worker.{Worker}
@@ -16,7 +17,8 @@ use Rattle.play_tasks.specs.Workers.{worker_rest}
 use Rattle.play_tasks.specs.Solving.{IsOfTask}
 use Rattle.play_tasks.specs.Telling.{TellsOutcome}
 use Rattle.play_tasks.proofs.Careful.{task-careful}
-use Rattle.play_tasks.proofs.Told.{task-told}
+use Rattle.play_tasks.proofs.Before.{task-before}
+use Rattle.play_tasks.proofs.Told.{task-told, told-starved}
 use Rattle.store_api.proofs.Programs.{Leads-weaker, Leads-done}
 use Rattle.ice_ids.specs.declared.drawing.Draw.{Draw}
 use Rattle.store_api.specs.Callers.{View}
@@ -92,12 +94,12 @@ all_workers draw tasks place ps over under e =
     e ∙ ap (λ (n : ℕ). programs_from draw 0 (take n tasks)) same ∙ ap (programs_from draw 0) (take-length tasks)
 
 -- the program at a place is its task's
-record IsProgram (draw : Draw) (place : ℕ) (tasks : List Task) (k : ℕ) (p : Prog Outcome) : Type 0 where
+pub record IsProgram (draw : Draw) (place : ℕ) (tasks : List Task) (k : ℕ) (p : Prog Outcome) : Type 0 where
   pub task : Task
   pub at : slice_get tasks k ≡ Some task
   pub is : p ≡ task_program (ids_at draw (place + k)) task
 
-program_at : (draw : Draw) (place : ℕ) (tasks : List Task) (k : ℕ) (p : Prog Outcome) → slice_get (programs_from draw place tasks) k ≡ Some p → IsProgram draw place tasks k p
+pub program_at : (draw : Draw) (place : ℕ) (tasks : List Task) (k : ℕ) (p : Prog Outcome) → slice_get (programs_from draw place tasks) k ≡ Some p → IsProgram draw place tasks k p
 program_at draw place [] k p e = cc
 program_at draw place (t ∷ ts) zero p e = record { task = t; at = refl; is = sym (some_same e) ∙ ap (λ (n : ℕ). task_program (ids_at draw n) t) (sym (add-zero place)) }
   where
@@ -125,8 +127,9 @@ AllStand-begin L draw tasks tells journal wells k p e =
       task = r.task;
       at = r.at;
       careful = subst (λ (x : Prog Outcome). Keeps (IsCareful (IsOfTask (ids_at draw k) r.task)) (only tells (k + 1)) x journal) (sym is) (task-careful L (only tells (k + 1)) (ids_at draw k) r.task (well_at tasks k r.task wells r.at) journal);
+      before = subst (λ (x : Prog Outcome). Keeps (λ h client op. ChangedNothing client journal h) (only tells (k + 1)) x journal) (sym is) (task-before (only tells (k + 1)) (ids_at draw k) r.task journal);
       leads = subst (λ (x : Prog Outcome). Leads (IsTold draw k r.task journal) (only tells (k + 1)) x journal) (sym is)
-          (Leads-weaker (TellsOutcome (ids_at draw k) r.task (k + 1) journal) (IsTold draw k r.task journal) (λ outcome h t e. t) (only tells (k + 1)) (task_program (ids_at draw k) r.task) journal
+          (Leads-weaker (TellsOutcome (ids_at draw k) r.task (k + 1) journal) (IsTold draw k r.task journal) (λ outcome h t. record { tells = λ e. t; nothing = λ e. told-starved (k + 1) journal h (ids_at draw k) r.task outcome t e }) (only tells (k + 1)) (task_program (ids_at draw k) r.task) journal
           (task-told L (only tells (k + 1)) (ids_at draw k) r.task journal (well_at tasks k r.task wells r.at)));
     }
 

@@ -15,7 +15,9 @@ use Rattle.store_api.specs.Program.{Prog, Done, Ask, IsAsk, IsDone, Keeps, Turns
 use Rattle.store_api.proofs.Journals.{Each-one, Each-none, Each-append}
 use Rattle.store_api.proofs.Programs.{alone, has-all, good-waits, Keeps-turns, Keeps-waits, Leads-turns, Keeps-now, Waits-same, Waits-fewer, Makes-fewer, Fewer}
 use Rattle.commit_path.specs.Owed.{Sessions, IsCareful}
+use Rattle.commit_path.specs.Answered.{ChangedNothing}
 use Rattle.commit_path.proofs.Owing.{IsCareful-append}
+use Rattle.commit_path.proofs.Answering.{ChangedNothing-others, ChangedNothing-waits, ChangedNothing-owed}
 use Rattle.play_script.specs.declared.scripts.Task.{Task}
 use Rattle.play_report.specs.declared.outcome.Outcome.{Outcome}
 use Rattle.play_tasks.specs.Ending.{is_starved, is_failed}
@@ -74,6 +76,7 @@ Turns-fewer by to f told old new p q at t = record {
       asks = w.asks;
       made = λ tells. Makes-fewer by to f w.op w.reply old.seen new.seen (subst (λ (b : Caller). Makes b w.op w.reply old.seen new.seen) at (w.made (tells_at tells)));
       goes = w.goes;
+      sure = w.sure;
     })
     | inr r ↦ inr (record { waits = λ tells. Waits-fewer by to f old.seen new.seen (subst (λ (b : Caller). Waits b old.seen new.seen) at (r.waits (tells_at tells))); ended = r.ended })
   ];
@@ -98,18 +101,30 @@ next_same k t e = omega (arith, e)
 
 -- what others do changes nothing of what an outcome tells
 told-others : (draw : Draw) (k : ℕ) (task : Task) (start : List Event) (tells : Bool) (outcome : Outcome) (journal more : List Event) → Each (IsOther (only tells (k + 1))) journal more → IsTold draw k task start outcome journal → IsTold draw k task start outcome (journal ++ more)
-told-others draw k task start tells outcome journal more others f e = TellsOutcome-others (only tells (k + 1)) start journal more others (ids_at draw k) task outcome (f e)
+told-others draw k task start tells outcome journal more others f = record {
+  tells = λ e. TellsOutcome-others (only tells (k + 1)) start journal more others (ids_at draw k) task outcome (f.tells e);
+  nothing = λ e. ChangedNothing-others (only tells (k + 1)) start journal more others (f.nothing e);
+}
 
--- of a want of memory nothing is told
-told-free : (draw : Draw) (k : ℕ) (task : Task) (start : List Event) (outcome : Outcome) (journal : List Event) → is_starved outcome ≡ true → IsTold draw k task start outcome journal
-told-free draw k task start outcome journal s e = absurd (cc)
+-- what a want of memory tells
+told-nothing : (draw : Draw) (k : ℕ) (task : Task) (start : List Event) (outcome : Outcome) (journal : List Event) → is_starved outcome ≡ true → ChangedNothing (k + 1) start journal → IsTold draw k task start outcome journal
+told-nothing draw k task start outcome journal s c = record { tells = λ e. absurd cc; nothing = λ e. c }
+
+-- the client has changed no branch before an operation
+stable-before : (start : List Event) (by : Caller) (journal more : List Event) (op : Op) → Each (IsOther by) journal more → ChangedNothing by.number start journal → ChangedNothing by.number start (journal ++ more)
+stable-before start by journal more op others c = ChangedNothing-others by start journal more others c
+
+before-now : (start : List Event) (by : Caller) (p : Prog Outcome) (journal : List Event) → IsAsk p → Keeps (λ h client op. ChangedNothing client start h) by p journal → ChangedNothing by.number start journal
+unfolding Keeps
+before-now start by (Done a) journal live k = absurd live
+before-now start by (Ask op next) journal live k = k.0
 
 -- what holds of each worker, where one of them went on
 AllStand-set : (draw : Draw) (tasks : List Task) (start : List Event) (tells : Bool) (ps : List (Prog Outcome)) (t : ℕ) (p q : Prog Outcome) (old new : List Event) → slice_get ps t ≡ Some p → AllStand draw tasks start tells ps old → Stands draw tasks start tells t q new → ((k : ℕ) → k ≢ t → Waits (only tells (k + 1)) old new) → AllStand draw tasks start tells (set ps t q) new
 AllStand-set draw tasks start tells ps t p q old new at all mine others =
     at_set (λ k r. Stands draw tasks start tells k r new) ps t p q at mine (λ k r differs e.
     let s = all k r e in
-    record { task = s.task; at = s.at; careful = Keeps-waits (IsCareful (IsOfTask (ids_at draw k) s.task)) (stable (IsOfTask (ids_at draw k) s.task)) (only tells (k + 1)) r old new (others k differs) s.careful; leads = Leads-others (IsTold draw k s.task start) (only tells (k + 1)) (told-others draw k s.task start tells) r old new (others k differs) s.leads })
+    record { task = s.task; at = s.at; careful = Keeps-waits (IsCareful (IsOfTask (ids_at draw k) s.task)) (stable (IsOfTask (ids_at draw k) s.task)) (only tells (k + 1)) r old new (others k differs) s.careful; before = Keeps-waits (λ h client op. ChangedNothing client start h) (stable-before start) (only tells (k + 1)) r old new (others k differs) s.before; leads = Leads-others (IsTold draw k s.task start) (only tells (k + 1)) (told-others draw k s.task start tells) r old new (others k differs) s.leads })
 
 module _ (draw : Draw) (tasks : List Task) (start : List Event) (t : ℕ) (old new : View) (ps qs : List (Prog Outcome)) (told : IsTrue old.caller.tells) (all : AllStand draw tasks start old.caller.tells ps old.seen) where
   tells : Bool
@@ -142,7 +157,13 @@ module _ (draw : Draw) (tasks : List Task) (start : List Event) (t : ℕ) (old n
         task = mine.task;
         at = mine.at;
         careful = Keeps-turns (IsCareful (IsOfTask (ids_at draw t) mine.task)) is_starved is_failed (seen_by (only tells (t + 1)) (as_client (t + 1) old)) (seen_by (only tells (t + 1)) new) s.p s.q told turns mine.careful;
-        leads = Leads-turns (IsTold draw t mine.task start) is_starved is_failed (told-free draw t mine.task start) (seen_by (only tells (t + 1)) (as_client (t + 1) old)) (seen_by (only tells (t + 1)) new) s.p s.q told turns mine.leads;
+        before = Keeps-turns (λ h client op. ChangedNothing client start h) is_starved is_failed (seen_by (only tells (t + 1)) (as_client (t + 1) old)) (seen_by (only tells (t + 1)) new) s.p s.q told turns mine.before;
+        leads = Leads-turns (IsTold draw t mine.task start) is_starved is_failed (seen_by (only tells (t + 1)) (as_client (t + 1) old)) (seen_by (only tells (t + 1)) new) s.p s.q told
+            (λ op next reply outcome asks off made e.
+            let owed : IsCareful (IsOfTask (ids_at draw t) mine.task) old.seen (t + 1) op = Keeps-now (IsCareful (IsOfTask (ids_at draw t) mine.task)) (only tells (t + 1)) op next old.seen (subst (λ (x : Prog Outcome). Keeps (IsCareful (IsOfTask (ids_at draw t) mine.task)) (only tells (t + 1)) x old.seen) asks mine.careful) in
+            told-nothing draw t mine.task start outcome new.seen e (ChangedNothing-owed (IsOfTask (ids_at draw t) mine.task) (only tells (t + 1)) start op reply old.seen new.seen owed.owes off made (before-now start (only tells (t + 1)) s.p old.seen s.live mine.before)))
+            (λ outcome waits e. told-nothing draw t mine.task start outcome new.seen e (ChangedNothing-waits (only tells (t + 1)) start old.seen new.seen waits (before-now start (only tells (t + 1)) s.p old.seen s.live mine.before)))
+            turns mine.leads;
       }
 
   acted : (s : Stepped t old new ps qs) → Works is_starved (as_client (t + 1) old) new s.p s.q → Goes draw tasks start tells t ps old.seen new.seen qs
@@ -158,7 +179,7 @@ module _ (draw : Draw) (tasks : List Task) (start : List Event) (t : ℕ) (old n
         more = event ∷ [];
         is = added.is;
         careful = Each-one (IsOfClient draw tasks) old.seen event (record { place = t; task = mine.task; client = refl; at = mine.at; careful = record { good = good; owes = owed.owes } });
-        turned = inr (inl (record { event = event; next = w.next; q = s.q; at = s.at ∙ ap (λ x. Some x) w.asks; client = refl; one = refl; goes = w.goes; rest = s.rest }));
+        turned = inr (inl (record { event = event; next = w.next; q = s.q; at = s.at ∙ ap (λ x. Some x) w.asks; client = refl; one = refl; goes = w.goes; sure = w.sure; rest = s.rest }));
         all = subst (λ (xs : List (Prog Outcome)). AllStand draw tasks start tells xs new.seen) (sym s.rest) (AllStand-set draw tasks start tells ps t s.p s.q old.seen new.seen s.at all (stands_still s) (λ k n. record {
           between = event ∷ [];
           others = Each-one (IsOther (only tells (k + 1))) old.seen event (record { good = good; other = λ e. n (next_same k t e); not_owned = not_only k (λ e. n (next_same k t e)) });

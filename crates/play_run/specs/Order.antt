@@ -8,8 +8,9 @@ use Rattle.store_api.specs.declared.events.Reply.{Reply}
 use Rattle.store_api.specs.declared.events.Event.{Event}
 use Rattle.store_api.specs.Journal.{Each}
 use Rattle.store_api.specs.Callers.{only}
-use Rattle.store_api.specs.Program.{Prog, Done, Ask, IsAsk, IsDone, Keeps, Leads, IsStarved}
+use Rattle.store_api.specs.Program.{Prog, Done, Ask, IsAsk, IsDone, Keeps, Leads, IsStarved, is_over}
 use Rattle.commit_path.specs.Owed.{IsCareful, IsCarefulEvent}
+use Rattle.commit_path.specs.Answered.{ChangedNothing}
 use Rattle.play_script.specs.declared.scripts.Task.{Task}
 use Rattle.play_script.specs.declared.scripts.Turn.{Turn}
 use Rattle.play_report.specs.declared.outcome.Outcome.{Outcome}
@@ -27,16 +28,19 @@ abbrev pub programs_from : Draw → ℕ → List Task → List (Prog Outcome)
 programs_from draw place [] = []
 programs_from draw place (t ∷ ts) = task_program (ids_at draw place) t ∷ programs_from draw (place + 1) ts
 
--- unless it tells a want of memory, the outcome of the task at this place tells what outcomes of tasks tell, where the tasks began at `start`
-abbrev pub IsTold : Draw → ℕ → Task → List Event → Outcome → List Event → Type 0
-IsTold draw place task start outcome journal = is_starved outcome ≡ false → TellsOutcome (ids_at draw place) task (place + 1) start outcome journal
+-- The outcome of the task at this place tells what outcomes of tasks tell, where the tasks began at `start`; or it tells a want of memory,
+-- and its client changed no branch.
+pub record IsTold (draw : Draw) (place : ℕ) (task : Task) (start : List Event) (outcome : Outcome) (journal : List Event) : Type 0 where
+  pub tells : is_starved outcome ≡ false → TellsOutcome (ids_at draw place) task (place + 1) start outcome journal
+  pub nothing : is_starved outcome ≡ true → ChangedNothing (place + 1) start journal
 
--- Whatever others do, each operation that the worker at this place comes to is polite, and what its task owes; and its outcome will tell
--- the journal, where the tasks began at `start`.
+-- Whatever others do, each operation that the worker at this place comes to is polite, and what its task owes, and comes before its client
+-- changed a branch; and its outcome will tell the journal, where the tasks began at `start`.
 pub record Stands (draw : Draw) (tasks : List Task) (start : List Event) (tells : Bool) (place : ℕ) (p : Prog Outcome) (journal : List Event) : Type 0 where
   pub task : Task
   pub at : slice_get tasks place ≡ Some task
   pub careful : Keeps (IsCareful (IsOfTask (ids_at draw place) task)) (only tells (place + 1)) p journal
+  pub before : Keeps (λ h client op. ChangedNothing client start h) (only tells (place + 1)) p journal
   pub leads : Leads (IsTold draw place task start) (only tells (place + 1)) p journal
 
 abbrev pub AllStand : Draw → List Task → List Event → Bool → List (Prog Outcome) → List Event → Type 0
@@ -58,7 +62,7 @@ pub record Passed (t : ℕ) (ps : List (Prog Outcome)) (events : List Event) (qs
   pub nothing : events ≡ []
   pub same : qs ≡ ps
 
--- the worker at this place made the event that it was to make, and goes on by the reply, or ended for want of memory
+-- the worker at this place made the event that it was to make, and goes on by the reply, or, but not behind a put over, ended for want of memory
 pub record Acted (t : ℕ) (ps : List (Prog Outcome)) (events : List Event) (qs : List (Prog Outcome)) : Type 0 where
   pub event : Event
   pub next : Reply → Prog Outcome
@@ -67,6 +71,7 @@ pub record Acted (t : ℕ) (ps : List (Prog Outcome)) (events : List Event) (qs 
   pub client : event.client ≡ t + 1
   pub one : events ≡ event ∷ []
   pub goes : (next event.reply ≡ q) ⊎ IsStarved is_starved q
+  pub sure : is_over event.op ≡ true → next event.reply ≡ q
   pub rest : qs ≡ slice_set ps t q
 
 -- the worker at this place had not ended, and ended for want of memory

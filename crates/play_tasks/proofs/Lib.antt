@@ -2,3 +2,4 @@ pub mod Locals
 pub mod TurnLaws
 pub mod Careful
 pub mod Told
+pub mod Before

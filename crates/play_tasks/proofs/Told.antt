@@ -1,5 +1,5 @@
 -- What the outcome of a task says of the journal, whatever others do.
-use Rattle.std.proofs.Common.{◌≡◌, inl, inr, ℕ, ◌<◌, refl, sym, ap, subst, ◌∙◌, false, List, [], ◌∷◌, ◌++◌, append_assoc, append-nil, Option, Some, None, Result, Ok, Err}
+use Rattle.std.proofs.Common.{◌≡◌, inl, inr, ℕ, ◌<◌, refl, sym, ap, subst, ◌∙◌, true, false, List, [], ◌∷◌, ◌++◌, append_assoc, append-nil, Option, Some, None, Result, Ok, Err}
 use Rattle.std.specs.Prelude.{map, All}
 use Rattle.std.proofs.lemmas.List.Elements.{All-head, All-tail}
 use Rattle.ice_ids.specs.declared.Id8.{Id8}
@@ -10,10 +10,10 @@ use Rattle.tree_model.specs.declared.node.Node.{Node as TheNode}
 use Rattle.tree_model.specs.Trees.{node_at, paths_beneath}
 use Rattle.store_api.specs.declared.events.Event.{Event}
 use Rattle.store_api.specs.declared.machines.Refusal.{Refusal}
-use Rattle.store_api.specs.declared.machines.Refusal.TheVariants.{NoNode}
+use Rattle.store_api.specs.declared.machines.Refusal.TheVariants.{NoNode, NoMemory}
 use Rattle.store_api.specs.Journal.{Each, IsGood}
 use Rattle.store_api.specs.Callers.{Caller, IsOther, Waits}
-use Rattle.store_api.specs.Program.{Prog, Done, Ask, Keeps, Leads}
+use Rattle.store_api.specs.Program.{Prog, Done, Ask, Keeps, Leads, is_no_memory}
 use Rattle.store_api.proofs.Programs.{Leads-bind, Leads-weaker, Makes-waits, good-waits}
 use Rattle.session.specs.Sessions.{SessionState, overlay}
 use Rattle.session.specs.Opening.{open_program}
@@ -22,7 +22,7 @@ use Rattle.commit_path.specs.declared.commit.Committed.{Committed as Made}
 use Rattle.commit_path.specs.Committing.{commit_program, started}
 use Rattle.commit_path.specs.Owed.{Sessions, IsCareful}
 use Rattle.commit_path.specs.Answered.{ChangedNothing, CommitTells}
-use Rattle.commit_path.specs.Opened.{IsOpened, WasBegun}
+use Rattle.commit_path.specs.Opened.{IsOpened, WasBegun, RefusalTells}
 use Rattle.commit_path.specs.Spelled.{IsSpelled}
 use Rattle.commit_path.proofs.Telling.{makes-keeps}
 use Rattle.commit_path.proofs.Owing.{Spellings, IsOpened-append}
@@ -39,6 +39,7 @@ use Rattle.play_report.specs.declared.outcome.Shown.TheVariants.{Node}
 use Rattle.play_report.specs.declared.outcome.End.{End}
 use Rattle.play_report.specs.declared.outcome.End.TheVariants.{Refused}
 use Rattle.play_report.specs.declared.outcome.Outcome.{Outcome}
+use Rattle.play_tasks.specs.Ending.{end_starved, is_starved}
 use Rattle.play_tasks.specs.Playing.{play_call, play_lines, goes_on, after_group, after_list, after_start, after_commit, after_open, asked_by, task_program, node_shown}
 use Rattle.play_tasks.specs.Solving.{IsOfTask}
 use Rattle.play_tasks.specs.Telling.{Plays, PlaysAll, Refuses, end_of, EndsAt, TellsOutcome}
@@ -223,3 +224,26 @@ module _ (by : Caller) (start journal more : List Event) (others : Each (IsOther
     plays = p.plays;
     ends = ends-others p.left p.session outcome.end p.ends;
   })
+
+-- ---- outcomes that tell a want of memory
+is_memory : (why : Refusal) → is_no_memory why ≡ true → why ≡ NoMemory
+is_memory NoMemory e = refl
+is_memory _ e = absurd cc
+
+starved_end : (end : End) (line : ℕ) (why : Refusal) → end ≡ Refused line why → end_starved end ≡ true → why ≡ NoMemory
+starved_end end line why e s = is_memory why (sym (ap end_starved e) ∙ s)
+
+module _ (client : ℕ) (start journal : List Event) where
+  answer-starved : (l : Line) (s : SessionState) (id : Id12) (message : List ℕ) (end : End) (answer : Result Made Refusal) → end ≡ end_of l.number answer → CommitTells client s message id start answer journal → end_starved end ≡ true → ChangedNothing client start journal
+  answer-starved l s id message end (Ok made) e tells starved = let no = sym (ap end_starved e) ∙ starved in absurd cc
+  answer-starved l s id message end (Err why) e tells starved = subst (λ (w : Refusal). CommitTells client s message id start (Err w) journal) (starved_end end l.number why e starved) tells
+
+  ends-starved : (ls : List Line) (s : SessionState) (end : End) → EndsAt client ls s start end journal → end_starved end ≡ true → ChangedNothing client start journal
+  ends-starved [] s end e starved = e.1
+  ends-starved (l ∷ ls) s end (inl r) starved = r.nothing
+  ends-starved (l ∷ ls) s end (inr a) starved = answer-starved l a.session a.id a.message end a.answer a.end_is a.tells starved
+
+  -- its client changed no branch
+  pub told-starved : (ids : AnyIds) (task : Task) (outcome : Outcome) → TellsOutcome ids task client start outcome journal → is_starved outcome ≡ true → ChangedNothing client start journal
+  told-starved ids task outcome (inl r) starved = subst (λ (w : Refusal). RefusalTells client (asked_by task.head ids) start w journal) (starved_end outcome.end task.line r.why r.end_is starved) r.tells
+  told-starved ids task outcome (inr p) starved = ends-starved p.left p.session outcome.end p.ends starved

@@ -6,6 +6,7 @@ use Rattle.store_api.specs.Journal.{Each}
 use Rattle.store_api.specs.Callers.{Caller, IsOther}
 use Rattle.store_api.specs.Program.{Keeps, Leads}
 use Rattle.commit_path.specs.Owed.{IsCareful}
+use Rattle.commit_path.specs.Answered.{ChangedNothing}
 use Rattle.play_script.specs.declared.scripts.Task.{Task}
 use Rattle.play_script.specs.Well.{IsWellTask}
 use Rattle.play_report.specs.declared.outcome.Outcome.{Outcome}
@@ -13,11 +14,11 @@ use Rattle.play_tasks.specs.Playing.{task_program}
 use Rattle.play_tasks.specs.Solving.{IsOfTask}
 use Rattle.play_tasks.specs.Telling.{TellsOutcome}
 
--- Whatever others do, each operation of a well task is polite, and what the task owes; and its outcome
--- tells the journal, where the task began at `start`.
+-- Whatever others do, each operation of a well task is polite, and what the task owes; each comes before the client
+-- changed a branch; and the outcome tells the journal, where the task began at `start`.
 abbrev pub TaskLaw : Type 0
 TaskLaw = (by : Caller) (ids : AnyIds) (task : Task) (start : List Event) → IsWellTask task
-    → Keeps (IsCareful (IsOfTask ids task)) by (task_program ids task) start × Leads (TellsOutcome ids task by.number start) by (task_program ids task) start
+    → Keeps (IsCareful (IsOfTask ids task)) by (task_program ids task) start × Keeps (λ journal client op. ChangedNothing client start journal) by (task_program ids task) start × Leads (TellsOutcome ids task by.number start) by (task_program ids task) start
 
 -- what an outcome tells stays so, whatever good events others make
 abbrev pub OutcomeLaw : Type 0

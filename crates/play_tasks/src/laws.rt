@@ -4,9 +4,9 @@ ghost use Rattle.play_tasks.specs.Laws.{OutcomeLaw, TaskLaw};
 
 use plain_object::{initial_law, log_law, ref_law, snapshot_law};
 
-/// Whatever others do, each operation of a task is polite, and what the task owes; and its outcome
-/// tells the journal: which session was opened, what each of its lines showed, and what became of its
-/// commit.
+/// Whatever others do, each operation of a task is polite, and what the task owes, and comes before
+/// the task's client changed a branch; and its outcome tells the journal: which session was opened,
+/// what each of its lines showed, and what became of its commit.
 pub fn task_law()
     ensures { TaskLaw }
 {

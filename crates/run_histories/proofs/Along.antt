@@ -46,7 +46,7 @@ leaves-unused (Remove key why) n time slot k u = absurd (k tt)
 leaves-unused (RemoveAt key old why) n time slot k u = absurd (k tt)
 leaves-unused (ListPart part) n time slot k u = u
 
-unused-one : (journal : List Event) (event : Event) (key : Key) → ¬ Removes event.op → IsUnused journal key → IsUnused (journal ++ event ∷ []) key
+pub unused-one : (journal : List Event) (event : Event) (key : Key) → ¬ Removes event.op → IsUnused journal key → IsUnused (journal ++ event ∷ []) key
 unused-one journal event key k u =
     subst (λ (s : Slot). Unused s) (sym (slot-append_one journal event key))
     (effect-cases Unused key (length journal) (slot_of journal key) event u (λ on d. leaves-unused event.op (length journal) event.time (slot_of journal key) k u))

@@ -1,15 +1,18 @@
 -- The ids that tasks' commits draw.
-use Rattle.std.proofs.Common.{◌≡◌, ◌≢◌, ℕ, ◌+◌, ◌-◌, ◌^◌, ◌<◌, List, [], ◌∷◌, length, refl, sym, ap, subst, arith}
-use Rattle.std.specs.Prelude.{Some, slice_get}
+use Rattle.std.proofs.Common.{◌≡◌, ◌≢◌, ℕ, ◌+◌, ◌-◌, ◌^◌, ◌<◌, List, [], ◌∷◌, length, refl, sym, ◌∙◌, ap, subst, arith}
+use Rattle.std.specs.Prelude.{Some, Ok, slice_get}
 use Rattle.std.proofs.lemmas.Option.{slice_get_within}
+use Rattle.ice_ids.specs.declared.Id8.{Id8}
 use Rattle.ice_ids.specs.declared.Id12.{Id12}
 use Rattle.ice_ids.specs.declared.drawing.AnyIds.{AnyIds}
 use Rattle.ice_ids.specs.declared.drawing.Draw.{Draw}
 use Rattle.ice_ids.specs.Text.{initial_id}
-use Rattle.ice_ids.specs.Drawing.{IsAnyIds, after8}
-use Rattle.ice_ids.proofs.Drawn.{after8-IsAnyIds, ids_of-IsAnyIds, drawn12-not_initial}
+use Rattle.ice_ids.specs.Drawing.{IsAnyIds, client_of, drawn12, after8}
+use Rattle.ice_ids.proofs.Drawn.{after8-IsAnyIds, ids_of-IsAnyIds, drawn12-not_initial, drawn12-same}
 use Rattle.session.specs.Sessions.{SessionState}
 use Rattle.session.specs.Opening.{begun}
+use Rattle.session.specs.Editing.{group_added}
+use Rattle.commit_path.specs.Committing.{started}
 use Rattle.commit_path.proofs.Opened.{Added, group-added, start-started}
 use Rattle.play_script.specs.declared.scripts.Call.{Call}
 use Rattle.play_script.specs.declared.scripts.Call.TheVariants.{Group, List as List_call, Commit}
@@ -22,33 +25,67 @@ use Rattle.play_tasks.specs.Solving.{ReachesBy, Reaches, IsOfTask}
 use Rattle.play_run.specs.Order.{ids_at}
 use Rattle.run_histories.specs.Runs.{CanBeDrawn}
 
-call-drawn : (call : Call) (s t : SessionState) (id : Id12) (next : SessionState → Type 0) → IsAnyIds s.ids → ((mid : SessionState) → IsAnyIds mid.ids → next mid → CanBeDrawn id) → ReachesBy call s t id next → CanBeDrawn id
-call-drawn (Group path) s t id next known go r =
-    let a : Added s r.1 path r.0 = group-added s r.1 path r.0 r.2 in
-    let ids : r.1.ids ≡ after8 s.ids = ap (λ (x : SessionState). x.ids) a.is in
-    go r.1 (subst IsAnyIds (sym ids) (after8-IsAnyIds s.ids known).0) r.3
-call-drawn (List_call path) s t id next known go r = go s known r
-call-drawn (Commit message) s t id next known go r = record { ids = s.ids; known = known; is = (start-started s t id r).drawn }
+-- an id that a client may draw
+pub record IsDrawnBy (client : ℕ) (id : Id12) : Type 0 where
+  pub ids : AnyIds
+  pub known : IsAnyIds ids
+  pub client_is : client_of ids ≡ client
+  pub is : drawn12 ids ≡ Some id
 
-lines-drawn : (lines : List Line) (s t : SessionState) (id : Id12) → IsAnyIds s.ids → Reaches lines s t id → CanBeDrawn id
-unfolding Reaches
-lines-drawn [] s t id known r = absurd r
-lines-drawn (l ∷ ls) s t id known r = call-drawn l.call s t id (λ mid. Reaches ls mid t id) known (λ mid k n. lines-drawn ls mid t id k n) r
+-- ids of a client
+abbrev pub AreOf : ℕ → AnyIds → Type 0
+AreOf client ids = IsAnyIds ids × (client_of ids ≡ client)
 
-head-ids : (head : Head) (ids : AnyIds) → (asked_by head ids).ids ≡ ids
+module _ (client : ℕ) where
+  -- a session to which a group was added still draws for its client
+  pub group-draws : (s t : SessionState) (path : List ℕ) (new : Id8) → AreOf client s.ids → group_added s path ≡ Ok (new, t) → AreOf client t.ids
+  group-draws s t path new known e =
+      let a : Added s t path new = group-added s t path new e in
+      let ids : t.ids ≡ after8 s.ids = ap (λ (x : SessionState). x.ids) a.is in
+      let after = after8-IsAnyIds s.ids known.0 in
+      subst (AreOf client) (sym ids) (after.0, after.1 ∙ known.1)
+
+  -- the id of a commit
+  pub start-draws : (s t : SessionState) (id : Id12) → AreOf client s.ids → started s ≡ Ok (id, t) → IsDrawnBy client id
+  start-draws s t id known e = record { ids = s.ids; known = known.0; client_is = known.1; is = (start-started s t id e).drawn }
+
+  call-draws : (call : Call) (s t : SessionState) (id : Id12) (next : SessionState → Type 0) → AreOf client s.ids → ((mid : SessionState) → AreOf client mid.ids → next mid → IsDrawnBy client id) → ReachesBy call s t id next → IsDrawnBy client id
+  call-draws (Group path) s t id next known go r = go r.1 (group-draws s r.1 path r.0 known r.2) r.3
+  call-draws (List_call path) s t id next known go r = go s known r
+  call-draws (Commit message) s t id next known go r = start-draws s t id known r
+
+  lines-draw : (lines : List Line) (s t : SessionState) (id : Id12) → AreOf client s.ids → Reaches lines s t id → IsDrawnBy client id
+  unfolding Reaches
+  lines-draw [] s t id known r = absurd r
+  lines-draw (l ∷ ls) s t id known r = call-draws l.call s t id (λ mid. Reaches ls mid t id) known (λ mid k n. lines-draw ls mid t id k n) r
+
+pub head-ids : (head : Head) (ids : AnyIds) → (asked_by head ids).ids ≡ ids
 head-ids (Write branch) ids = refl
 head-ids (Read branch) ids = refl
 
--- the id of a commit of a task was drawn
+-- the id of a commit of a task was drawn by the task's client
+pub task-draws : (client : ℕ) (ids : AnyIds) (task : Task) (session : SessionState) (id : Id12) → AreOf client ids → IsOfTask ids task session id → IsDrawnBy client id
+task-draws client ids task session id known o = lines-draw client task.body (begun (asked_by task.head ids) o.base o.version o.snap) session id (subst (AreOf client) (sym (head-ids task.head ids)) known) o.reaches
+
 pub task-drawn : (ids : AnyIds) (task : Task) (session : SessionState) (id : Id12) → IsAnyIds ids → IsOfTask ids task session id → CanBeDrawn id
-task-drawn ids task session id known o = lines-drawn task.body (begun (asked_by task.head ids) o.base o.version o.snap) session id (subst IsAnyIds (sym (head-ids task.head ids)) known) o.reaches
+task-drawn ids task session id known o = let d = task-draws (client_of ids) ids task session id (known, refl) o in record { ids = d.ids; known = d.known; is = d.is }
+
+-- no id is drawn by two clients
+pub drawn-apart : (a b : ℕ) (id : Id12) → IsDrawnBy a id → IsDrawnBy b id → a ≡ b
+drawn-apart a b id d e = sym d.client_is ∙ ((drawn12-same d.ids e.ids id d.known e.known d.is e.is).0 ∙ e.client_is)
+
+pub drawn-not_initial : (client : ℕ) (id : Id12) → IsDrawnBy client id → id ≢ initial_id
+drawn-not_initial client id d = drawn12-not_initial d.ids id d.known d.is
 
 -- what can be drawn isn't the initial snapshot's
 pub not-initial : (id : Id12) → CanBeDrawn id → id ≢ initial_id
 not-initial id d = drawn12-not_initial d.ids id d.known d.is
 
 -- the ids of the client of a task
-pub ids_at-known : (draw : Draw) (tasks : List Task) (place : ℕ) (task : Task) → length tasks < 2 ^ 32 - 1 → slice_get tasks place ≡ Some task → IsAnyIds (ids_at draw place)
-ids_at-known draw tasks place task few at =
+pub ids_at-of : (draw : Draw) (tasks : List Task) (place : ℕ) (task : Task) → length tasks < 2 ^ 32 - 1 → slice_get tasks place ≡ Some task → AreOf (place + 1) (ids_at draw place)
+ids_at-of draw tasks place task few at =
     let within : place < length tasks = slice_get_within tasks place task at in
-    (ids_of-IsAnyIds draw (place + 1) (omega (arith, within, few))).0
+    ids_of-IsAnyIds draw (place + 1) (omega (arith, within, few))
+
+pub ids_at-known : (draw : Draw) (tasks : List Task) (place : ℕ) (task : Task) → length tasks < 2 ^ 32 - 1 → slice_get tasks place ≡ Some task → IsAnyIds (ids_at draw place)
+ids_at-known draw tasks place task few at = (ids_at-of draw tasks place task few at).0

@@ -2,6 +2,7 @@
 use Rattle.std.specs.Prelude.{◌≡◌, ◌⊎◌, ℕ, ◌≤◌, ◌==◌, List, [], ◌∷◌, ◌++◌, filter, Bool, true, false, IsTrue, Result, Ok, Err}
 use Rattle.ice_base.specs.Ends.{Rose}
 use Rattle.store_api.specs.declared.events.Op.{Op}
+use Rattle.store_api.specs.declared.events.Op.TheVariants.{PutOver}
 use Rattle.store_api.specs.declared.events.Reply.{Reply}
 use Rattle.store_api.specs.declared.events.Event.{Event}
 use Rattle.store_api.specs.declared.events.StoreFault.{StoreFault}
@@ -77,7 +78,17 @@ Lands next rest (Ok Again) = (next ≡ rest) × IsAsk rest
 Lands next rest (Ok (Ready t)) = (next ≡ Done (Ok t)) × IsDone rest
 Lands next rest (Err refusal) = IsDone rest × (is_no_memory refusal ≡ false → next ≡ Done (Err refusal))
 
--- a step with an operation: this caller's own event was made
+-- a put over what stands
+abbrev pub is_over : Op → Bool
+is_over (PutOver key bytes old why) = true
+is_over _ = false
+
+-- an answer that isn't free, also where it tells a want of memory
+abbrev pub IsSure : {T : Type 0} → Prog (Result T Refusal) → Result (Next T) Refusal → Type 0
+IsSure next (Ok answer) = Unit {0}
+IsSure next (Err refusal) = next ≡ Done (Err refusal)
+
+-- A step with an operation: this caller's own event was made. What follows from a put over isn't lost for want of memory.
 pub record Moves {T : Type 0} (old new : View) (p q : Prog (Result T Refusal)) (result : Result (Next T) Refusal) : Type 0 where
   pub op : Op
   pub next : Reply → Prog (Result T Refusal)
@@ -85,6 +96,7 @@ pub record Moves {T : Type 0} (old new : View) (p q : Prog (Result T Refusal)) (
   pub asks : p ≡ Ask op next
   pub made : IsTrue old.caller.tells → Makes old.caller op reply old.seen new.seen
   pub lands : Lands (next reply) q result
+  pub sure : is_over op ≡ true → IsSure (next reply) result
 
 -- a step for which the store had no memory
 pub record Stops {T : Type 0} (old new : View) (q : Prog (Result T Refusal)) (result : Result (Next T) Refusal) : Type 0 where
@@ -120,7 +132,7 @@ abbrev pub IsStarved : {A : Type 0} → (A → Bool) → Prog A → Type 0
 IsStarved starved (Done a) = starved a ≡ true
 IsStarved starved (Ask op k) = ⊥
 
--- One turn of a worker whose outcomes are of type A: `starved` are those that want of memory brings.
+-- One turn of a worker whose outcomes are of type A: `starved` are those that want of memory brings, but not behind a put over.
 pub record Works {A : Type 0} (starved : A → Bool) (old new : View) (p q : Prog A) : Type 0 where
   pub op : Op
   pub next : Reply → Prog A
@@ -128,6 +140,7 @@ pub record Works {A : Type 0} (starved : A → Bool) (old new : View) (p q : Pro
   pub asks : p ≡ Ask op next
   pub made : IsTrue old.caller.tells → Makes old.caller op reply old.seen new.seen
   pub goes : (next reply ≡ q) ⊎ IsStarved starved q
+  pub sure : is_over op ≡ true → next reply ≡ q
 
 -- a turn for which the store had no memory
 pub record Rests {A : Type 0} (starved : A → Bool) (old new : View) (q : Prog A) : Type 0 where

@@ -2,4 +2,4 @@ use Rattle.ice_cli.proofs.Tellings.{finished}
 use Rattle.ice_cli.proofs.top_call.play_and_report.Goals as goal
 
 pub returns : goal.returns
-returns g c = finished c.args.draw c.args.script.now _ _ _ _ c.in_ok-played.played.opening _ c.in_ok-played.played.refs c.finish.result c.in_ok-played.ensures.course c.in_ok-played.ensures.leaves c.finish.ensures
+returns g c = finished c.args.draw c.args.script.now _ _ _ _ c.in_ok-played.played.opening _ c.in_ok-played.played.refs c.finish.result c.in_ok-played.ensures.course c.in_ok-played.ensures.leaves c.in_ok-played.ensures.regular c.finish.ensures

@@ -1,0 +1,211 @@
+-- What the opening and the closing reading answer in a run over an empty store.
+use Rattle.std.proofs.Common.{◌≡◌, ℕ, zero, suc, inl, inr, Bool, true, false, cond, List, [], ◌∷◌, ◌++◌, refl, sym, ◌∙◌, ap, subst}
+use Rattle.std.specs.Prelude.{Option, Some, None, Result, Ok, Err, slice_get}
+use Rattle.ice_ids.specs.declared.Id12.{Id12}
+use Rattle.plain_object.specs.Objects.{snapshot_of, initial_snapshot}
+use Rattle.plain_object.proofs.SnapshotLaws.{initial-law}
+use Rattle.store_api.specs.declared.keys.Key.{Key}
+use Rattle.store_api.specs.declared.keys.Key.TheVariants.{Snapshot, Manifest, Txn, Chunk, Branch, Tag, TagGone}
+use Rattle.store_api.specs.declared.keys.Part.{Part}
+use Rattle.store_api.specs.declared.keys.Part.TheVariants.{Branches, Tags}
+use Rattle.store_api.specs.declared.events.Op.{Op}
+use Rattle.store_api.specs.declared.events.Op.TheVariants.{Get, PutNew, PutOver, Remove, RemoveAt, List as ListPart}
+use Rattle.store_api.specs.declared.events.Entry.{Entry}
+use Rattle.store_api.specs.declared.events.Reply.{Reply}
+use Rattle.store_api.specs.declared.events.Reply.TheVariants.{Got as Is_got, New as Is_new, Over as Is_over, Gone as Is_gone, GoneAt as Is_gone_at, Listed as Is_listed, Failed}
+use Rattle.store_api.specs.declared.events.Event.{Event}
+use Rattle.store_api.specs.declared.machines.Refusal.{Refusal}
+use Rattle.store_api.specs.declared.machines.Refusal.TheVariants.{StoreFault}
+use Rattle.store_api.specs.Machine.{Stored, found, part_of}
+use Rattle.store_api.specs.Journal.{Each, IsGood, NamesPut}
+use Rattle.store_api.specs.Program.{Done}
+use Rattle.store_api.proofs.Journals.{Each-append, Each-one, Each-weaker, Each-both}
+use Rattle.play_report.specs.declared.outcome.RefLine.{RefLine}
+use Rattle.repository.specs.Running.{Asks, ◌>>=◌}
+use Rattle.repository.specs.Beginning.{begin_program, put_main, after_put}
+use Rattle.repository.specs.Refs.{list_part, on_listed, read_ref, on_got, on_id, read_each, refs_program, with_line, live, is_gone}
+use Rattle.run_histories.proofs.Programs.{IsPlain}
+use Rattle.play_course.specs.Refusing.{is_strange, strange_answer}
+use Rattle.play_course.proofs.Tidy.{IsTidy, IsAny, Puts, any-of, all-named}
+use Rattle.play_course.proofs.Meeting.{Meets, done-meets, ask-meets, then-meets, meets-weaker, got-meets, replied}
+
+-- ---- the events of the opening and the closing reading
+plain-puts : (op : Op) → IsPlain op → Puts (λ id. ⊥) op
+plain-puts (Get key) p = tt
+plain-puts (ListPart part) p = tt
+plain-puts (PutNew (Snapshot id) bytes why) p = ((initial_snapshot, ap snapshot_of p.1 ∙ initial-law), inl p.0)
+plain-puts (PutNew (Branch name) bytes why) p = tt
+plain-puts (PutNew (Manifest id) bytes why) p = absurd p
+plain-puts (PutNew (Txn id) bytes why) p = absurd p
+plain-puts (PutNew (Chunk id) bytes why) p = absurd p
+plain-puts (PutNew (Tag name) bytes why) p = absurd p
+plain-puts (PutNew (TagGone name) bytes why) p = absurd p
+plain-puts (PutOver key bytes old why) p = absurd p
+plain-puts (Remove key why) p = absurd p
+plain-puts (RemoveAt key old why) p = absurd p
+
+-- they put nothing under any client's ids
+pub plain-tidy : (old own : List Event) → Each IsGood old own → Each (λ journal event. IsPlain event.op) old own → Each (IsTidy (λ id. ⊥)) old own
+plain-tidy old own good plain = Each-both IsGood (λ journal event. IsPlain event.op) (IsTidy (λ id. ⊥)) (λ journal event g p. record { good = g; puts = plain-puts event.op p }) old own good plain
+
+-- ---- answers
+abbrev pub Plain : {A : Type 0} → Result A Refusal → List Event → Type 0
+Plain r h = strange_answer r ≡ false
+
+module _ (who : Id12 → Type 0) where
+  -- the opening
+  after_put-meets : (reply : Reply) (journal : List Event) → Meets Plain who (after_put reply) journal
+  after_put-meets (Is_new x) journal = done-meets Plain who (Ok tt) journal refl
+  after_put-meets (Is_got x) journal = done-meets Plain who (Err StoreFault) journal refl
+  after_put-meets (Is_over x) journal = done-meets Plain who (Err StoreFault) journal refl
+  after_put-meets (Is_gone x) journal = done-meets Plain who (Err StoreFault) journal refl
+  after_put-meets (Is_gone_at x) journal = done-meets Plain who (Err StoreFault) journal refl
+  after_put-meets (Is_listed x) journal = done-meets Plain who (Err StoreFault) journal refl
+  after_put-meets (Failed done) journal = done-meets Plain who (Err StoreFault) journal refl
+
+  main-meets : (journal : List Event) → Meets Plain who put_main journal
+  main-meets journal = ask-meets Plain who _ after_put journal (λ more event others any is. after_put-meets event.reply ((journal ++ more) ++ event ∷ []))
+
+  pub begin-meets : (journal : List Event) → Meets (λ (r : Result (Unit {0}) Refusal) (h : List Event). strange_answer r ≡ false) who begin_program journal
+  begin-meets journal = ask-meets Plain who _ _ journal (λ more event others any is.
+      then-meets Plain Plain who (after_put event.reply) (λ done. put_main) ((journal ++ more) ++ event ∷ []) (after_put-meets event.reply ((journal ++ more) ++ event ∷ []))
+      (λ done h p. main-meets h) (λ why h p. p))
+
+-- ---- the closing reading
+-- a branch, a tag or a tombstone
+abbrev IsNamed : Key → Type 0
+IsNamed (Branch name) = Unit {0}
+IsNamed (Tag name) = Unit {0}
+IsNamed (TagGone name) = Unit {0}
+IsNamed _ = ⊥
+
+-- a branch or a tag
+abbrev IsRef : Key → Type 0
+IsRef (Branch name) = Unit {0}
+IsRef (Tag name) = Unit {0}
+IsRef _ = ⊥
+
+abbrev AllNamedKeys : List Entry → Type 0
+AllNamedKeys [] = Unit {0}
+AllNamedKeys (e ∷ es) = IsNamed e.key × AllNamedKeys es
+
+abbrev AllRefs : List Key → Type 0
+AllRefs [] = Unit {0}
+AllRefs (k ∷ ks) = IsRef k × AllRefs ks
+
+-- the part of refs
+abbrev IsRefs : Part → Type 0
+IsRefs Branches = Unit {0}
+IsRefs Tags = Unit {0}
+IsRefs _ = ⊥
+
+named-in : (part : Part) (key : Key) → IsRefs part → part_of key ≡ part → IsNamed key
+named-in part (Branch name) r e = tt
+named-in part (Tag name) r e = tt
+named-in part (TagGone name) r e = tt
+named-in part (Snapshot id) r e = subst IsRefs (sym e) r
+named-in part (Manifest id) r e = subst IsRefs (sym e) r
+named-in part (Txn id) r e = subst IsRefs (sym e) r
+named-in part (Chunk id) r e = subst IsRefs (sym e) r
+
+all-entries : (entries : List Entry) → ((k : ℕ) (e : Entry) → slice_get entries k ≡ Some e → IsNamed e.key) → AllNamedKeys entries
+all-entries [] f = tt
+all-entries (e ∷ es) f = (f zero e refl, all-entries es (λ k x at. f (suc k) x at))
+
+keep-refs : (b : Bool) (key : Key) (keys : List Key) → IsRef key → AllRefs keys → AllRefs (cond b keys (key ∷ keys))
+keep-refs true key keys r all = all
+keep-refs false key keys r all = (r, all)
+
+live-one : (key : Key) (behind : List Entry) (keys : List Key) → IsNamed key → AllRefs keys → AllRefs (cond (is_gone key behind) keys (key ∷ keys))
+live-one (Branch name) behind keys n all = keep-refs (is_gone (Branch name) behind) (Branch name) keys tt all
+live-one (Tag name) behind keys n all = keep-refs (is_gone (Tag name) behind) (Tag name) keys tt all
+live-one (TagGone name) behind keys n all = all
+live-one (Snapshot id) behind keys n all = absurd n
+live-one (Manifest id) behind keys n all = absurd n
+live-one (Txn id) behind keys n all = absurd n
+live-one (Chunk id) behind keys n all = absurd n
+
+live-refs : (entries : List Entry) → AllNamedKeys entries → AllRefs (live entries)
+live-refs [] a = tt
+live-refs (e ∷ es) a = live-one e.key es (live es) a.0 (live-refs es a.1)
+
+module _ (who : Id12 → Type 0) where
+  tidy-more : (journal more : List Event) → Each IsAny [] journal → Each (IsTidy who) journal more → Each IsAny [] (journal ++ more)
+  tidy-more journal more tidy others = Each-append IsAny [] journal more tidy (Each-weaker (IsTidy who) IsAny (any-of who) journal more others)
+
+  tidy-next : (journal more : List Event) (event : Event) → Each IsAny [] journal → Each (IsTidy who) journal more → IsAny (journal ++ more) event → Each IsAny [] ((journal ++ more) ++ event ∷ [])
+  tidy-next journal more event tidy others any = Each-append IsAny [] (journal ++ more) (event ∷ []) (tidy-more journal more tidy others) (Each-one IsAny (journal ++ more) event any)
+
+  -- a listing answers branches or tags
+  Lists : Result (List Entry) Refusal → List Event → Type 0
+  Lists (Ok entries) h = Each IsAny [] h × AllNamedKeys entries
+  Lists (Err why) h = is_strange why ≡ false
+
+  list-meets : (part : Part) (journal : List Event) → IsRefs part → Each IsAny [] journal → Meets Lists who (list_part part) journal
+  unfolding Lists
+  list-meets part journal r tidy = ask-meets Lists who (ListPart part) on_listed journal (λ more event others any is.
+      elim (replied (journal ++ more) event (ListPart part) any.good is) [
+        | inl h ↦ subst (λ (x : Reply). Meets Lists who (on_listed x) ((journal ++ more) ++ event ∷ [])) (sym h.1)
+            (done-meets Lists who (Ok h.0) ((journal ++ more) ++ event ∷ []) (tidy-next journal more event tidy others any, all-entries h.0 (λ k e at. named-in part e.key r (h.2.right k e at).part_is)))
+        | inr f ↦ subst (λ (x : Reply). Meets Lists who (on_listed x) ((journal ++ more) ++ event ∷ [])) (sym f.is) (done-meets Lists who (Err StoreFault) ((journal ++ more) ++ event ∷ []) refl)
+      ])
+
+  -- a ref that stands is a reference
+  Reads : {A : Type 0} → Result A Refusal → List Event → Type 0
+  Reads (Ok a) h = Each IsAny [] h
+  Reads (Err why) h = is_strange why ≡ false
+
+  named-at : (key : Key) (journal : List Event) (s : Stored) → IsRef key → Each IsAny [] journal → found journal key ≡ Some s → NamesPut journal s.bytes
+  named-at (Branch name) journal s r tidy e = (all-named journal tidy).branches name s e
+  named-at (Tag name) journal s r tidy e = (all-named journal tidy).tags name s e
+  named-at (TagGone name) journal s r tidy e = absurd r
+  named-at (Snapshot id) journal s r tidy e = absurd r
+  named-at (Manifest id) journal s r tidy e = absurd r
+  named-at (Txn id) journal s r tidy e = absurd r
+  named-at (Chunk id) journal s r tidy e = absurd r
+
+  ref-meets : (key : Key) (journal : List Event) → IsRef key → Each IsAny [] journal → Meets Reads who (read_ref key) journal
+  unfolding Reads
+  ref-meets key journal r tidy = ask-meets Reads who (Get key) (on_got key) journal (λ more event others any is.
+      let after = tidy-next journal more event tidy others any in
+      got-meets Reads who (on_got key) (journal ++ more) event any.good ((journal ++ more) ++ event ∷ []) key is
+      (λ s at. let n = named-at key (journal ++ more) s r (tidy-more journal more tidy others) at in
+      subst (λ (o : Option Id12). Meets Reads who (Done (on_id key o)) ((journal ++ more) ++ event ∷ [])) (sym n.reference) (done-meets Reads who (on_id key (Some n.id)) ((journal ++ more) ++ event ∷ []) after))
+      (λ gone. done-meets Reads who (Ok None) ((journal ++ more) ++ event ∷ []) after)
+      (λ done. done-meets Reads who (Err StoreFault) ((journal ++ more) ++ event ∷ []) refl))
+
+  each-meets : (lines : List RefLine) (keys : List Key) (journal : List Event) → AllRefs keys → Each IsAny [] journal → Meets Reads who (read_each lines keys) journal
+  unfolding Reads
+  each-meets lines [] journal r tidy = done-meets Reads who (Ok lines) journal tidy
+  each-meets lines (key ∷ keys) journal r tidy =
+      then-meets Reads Reads who (read_ref key) (λ line. read_each (with_line lines line) keys) journal (ref-meets key journal r.0 tidy)
+      (λ line h t. each-meets (with_line lines line) keys h r.1 t) (λ why h p. p)
+
+  abbrev then_tags : List RefLine → Asks (List RefLine)
+  then_tags lines = list_part Tags >>= λ tags. read_each lines (live tags)
+
+  abbrev then_lines : List Entry → Asks (List RefLine)
+  then_lines branches = read_each [] (live branches) >>= then_tags
+
+  tags-meets : (lines : List RefLine) (journal : List Event) → Each IsAny [] journal → Meets Reads who (then_tags lines) journal
+  unfolding Reads Lists
+  tags-meets lines journal tidy = then-meets Lists Reads who (list_part Tags) (λ tags. read_each lines (live tags)) journal (list-meets Tags journal tt tidy)
+      (λ tags h t. each-meets lines (live tags) h (live-refs tags t.1) t.0) (λ why h p. p)
+
+  lines-meets : (branches : List Entry) (journal : List Event) → AllNamedKeys branches → Each IsAny [] journal → Meets Reads who (then_lines branches) journal
+  unfolding Reads
+  lines-meets branches journal n tidy = then-meets Reads Reads who (read_each [] (live branches)) then_tags journal (each-meets [] (live branches) journal (live-refs branches n) tidy)
+      (λ lines h t. tags-meets lines h t) (λ why h p. p)
+
+  refs-read : (journal : List Event) → Each IsAny [] journal → Meets Reads who refs_program journal
+  unfolding Reads Lists
+  refs-read journal tidy = then-meets Lists Reads who (list_part Branches) then_lines journal (list-meets Branches journal tt tidy)
+      (λ branches h t. lines-meets branches h t.1 t.0) (λ why h p. p)
+
+  reads-plain : {A : Type 0} (r : Result A Refusal) (h : List Event) → Reads r h → strange_answer r ≡ false
+  unfolding Reads
+  reads-plain (Ok a) h p = refl
+  reads-plain (Err why) h p = p
+
+  pub refs-meets : (journal : List Event) → Each IsAny [] journal → Meets (λ (r : Result (List RefLine) Refusal) (h : List Event). strange_answer r ≡ false) who refs_program journal
+  refs-meets journal tidy = meets-weaker Reads (λ r h. strange_answer r ≡ false) reads-plain who refs_program journal (refs-read journal tidy)

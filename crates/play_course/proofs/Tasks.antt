@@ -1,0 +1,241 @@
+-- What tasks answer in a run over an empty store.
+use Rattle.std.proofs.Common.{◌≡◌, ℕ, Bool, true, false, List, [], ◌∷◌, ◌++◌, refl, sym, ap, subst}
+use Rattle.std.specs.Prelude.{Option, Some, None, Result, Ok, Err, if◌then◌else◌}
+use Rattle.ice_ids.specs.declared.Id8.{Id8}
+use Rattle.ice_ids.specs.declared.Id12.{Id12}
+use Rattle.ice_ids.specs.declared.drawing.AnyIds.{AnyIds}
+use Rattle.ice_ids.specs.Drawing.{drawn8, drawn12}
+use Rattle.tree_model.specs.declared.edit.Edit.TheVariants.{Add}
+use Rattle.tree_model.specs.declared.edit.EditFault.{EditFault}
+use Rattle.tree_model.specs.declared.edit.EditFault.TheVariants as F
+use Rattle.tree_model.specs.Trees.{refusal, node_at}
+use Rattle.tree_model.specs.Touched.{touched, is_untouched}
+use Rattle.plain_object.specs.Objects.{Snapshot as Snap, log_bytes, snapshot_bytes, ref_bytes}
+use Rattle.store_api.specs.declared.keys.Key.{Key}
+use Rattle.store_api.specs.declared.keys.Key.TheVariants.{Snapshot, Txn, Branch}
+use Rattle.store_api.specs.declared.keys.Why.TheVariants.{Set, Commit as For_commit}
+use Rattle.store_api.specs.declared.events.Op.TheVariants.{Get, PutNew, PutOver}
+use Rattle.store_api.specs.declared.events.Over.TheVariants.{Done as Over_done, Moved}
+use Rattle.store_api.specs.declared.events.Reply.{Reply}
+use Rattle.store_api.specs.declared.events.Reply.TheVariants.{Got as Is_got, New as Is_new, Over as Is_over, Gone as Is_gone, GoneAt as Is_gone_at, Listed as Is_listed, Failed}
+use Rattle.store_api.specs.declared.events.Event.{Event}
+use Rattle.store_api.specs.declared.machines.Refusal.{Refusal}
+use Rattle.store_api.specs.declared.machines.Refusal.TheVariants as R
+use Rattle.store_api.specs.Machine.{found, version_at, is_on}
+use Rattle.store_api.specs.Journal.{Each, WasPut}
+use Rattle.store_api.specs.Program.{Prog, Done}
+use Rattle.store_api.proofs.Journals.{Each-append, Each-one, Each-weaker}
+use Rattle.store_api.proofs.Slots.{WasPut-append}
+use Rattle.session.specs.declared.session.Listing.{Listing}
+use Rattle.session.specs.Sessions.{SessionState, overlay}
+use Rattle.session.specs.Opening.{Asked, open_program, get_base, after_ref, after_name, after_base, read_base}
+use Rattle.session.specs.Editing.{group_added, unless_refused, drawn_group, any_id, if_there, listed}
+use Rattle.commit_path.specs.declared.commit.Committed.{Committed as Made}
+use Rattle.commit_path.specs.Committing.{commit_program, put_snapshot, put_branch, after_log, after_snapshot, after_branch, snap_for, started, drawn_start}
+use Rattle.play_script.specs.declared.scripts.Call.{Call}
+use Rattle.play_script.specs.declared.scripts.Call.TheVariants.{Group, List as List_call, Commit}
+use Rattle.play_script.specs.declared.scripts.Line.{Line}
+use Rattle.play_script.specs.declared.scripts.Task.{Task}
+use Rattle.play_report.specs.declared.outcome.Shown.{Shown}
+use Rattle.play_report.specs.declared.outcome.Outcome.{Outcome}
+use Rattle.play_tasks.specs.Playing.{after_group, after_list, after_start, after_commit, after_open, play_call, goes_on, play_lines, asked_by, task_program}
+use Rattle.run_histories.proofs.Drawing.{IsDrawnBy, AreOf, group-draws, start-draws, head-ids}
+use Rattle.play_course.specs.Refusing.{is_strange, strange_answer, strange_end}
+use Rattle.play_course.proofs.Tidy.{IsTidy, IsAny, IsOthers, any-of, Puts, stands-readable, put-stands, all-named, spared-snapshot, spared-log, free-others, free-apart}
+use Rattle.play_course.proofs.Meeting.{Meets, done-meets, ask-meets, bind-meets, got-meets, put-meets}
+
+-- ---- the calls of sessions
+-- no refusal of this result is strange
+abbrev pub IsPlain : {A : Type 0} → Result A Refusal → Type 0
+IsPlain {A} r = (why : Refusal) → ◌≡◌ {A = Result A Refusal} r (Err why) → is_strange why ≡ false
+
+refused_as : {A : Type 0} (why given : Refusal) → is_strange given ≡ false → ◌≡◌ {A = Result A Refusal} (Err given) (Err why) → is_strange why ≡ false
+refused_as why given plain e = let same : given ≡ why = cc in subst (λ (w : Refusal). is_strange w ≡ false) same plain
+
+drawn-plain : (s : SessionState) (path : List ℕ) (o : Option Id8) → IsPlain (drawn_group s path o)
+drawn-plain s path None why e = refused_as why R.IdsSpent refl e
+drawn-plain s path (Some id) why e = cc
+
+unless-plain : (o : Option EditFault) (r : Result (Id8 × SessionState) Refusal) → IsPlain r → IsPlain (unless_refused o r)
+unless-plain None r p why e = p why e
+unless-plain (Some F.NodeExists) r p why e = refused_as why R.NodeExists refl e
+unless-plain (Some F.NoParent) r p why e = refused_as why R.NoParent refl e
+unless-plain (Some F.Full) r p why e = refused_as why R.Full refl e
+unless-plain (Some F.NoMemory) r p why e = refused_as why R.NoMemory refl e
+
+writes_or : Bool → Result (Id8 × SessionState) Refusal → Result (Id8 × SessionState) Refusal
+writes_or w r = elim w [
+  | true ↦ r
+  | false ↦ Err R.ReadOnly
+]
+
+writes-plain : (w : Bool) (r : Result (Id8 × SessionState) Refusal) → IsPlain r → IsPlain (writes_or w r)
+unfolding writes_or
+writes-plain true r p why e = p why e
+writes-plain false r p why e = refused_as why R.ReadOnly refl e
+
+group-plain : (s : SessionState) (path : List ℕ) → IsPlain (group_added s path)
+unfolding group_added writes_or
+group-plain s path = writes-plain s.writes (unless_refused (refusal (overlay s) (Add path any_id)) (drawn_group s path (drawn8 s.ids))) (unless-plain (refusal (overlay s) (Add path any_id)) (drawn_group s path (drawn8 s.ids)) (drawn-plain s path (drawn8 s.ids)))
+
+there-plain : {A B : Type 0} (o : Option A) (b : B) → IsPlain (if_there o b)
+there-plain None b why e = refused_as why R.NoNode refl e
+there-plain (Some a) b why e = cc
+
+start-plain : (s : SessionState) (o : Option Id12) → IsPlain (drawn_start s o)
+start-plain s None why e = refused_as why R.IdsSpent refl e
+start-plain s (Some id) why e = cc
+
+tests-plain : (s : SessionState) (w u : Bool) → IsPlain (if w then (if u then Err R.NothingToCommit else drawn_start s (drawn12 s.ids)) else Err R.ReadOnly)
+tests-plain s true true why e = refused_as why R.NothingToCommit refl e
+tests-plain s true false why e = start-plain s (drawn12 s.ids) why e
+tests-plain s false u why e = refused_as why R.ReadOnly refl e
+
+started-plain : (s : SessionState) → IsPlain (started s)
+unfolding started
+started-plain s = tests-plain s s.writes (is_untouched (touched s.changes s.tree))
+
+-- ---- what a client knows
+module _ (client : ℕ) where
+  abbrev Who : Id12 → Type 0
+  Who id = ¬ IsDrawnBy client id
+
+  -- nothing stands at the keys of this id
+  record IsFree (id : Id12) (journal : List Event) : Type 0 where
+    pub snapshot : found journal (Snapshot id) ≡ None
+    pub log : found journal (Txn id) ≡ None
+
+  -- the journal of a run over an empty store, in which no commit of this client was made
+  pub record Before (journal : List Event) : Type 0 where
+    pub tidy : Each IsAny [] journal
+    pub free : (id : Id12) → IsDrawnBy client id → (found journal (Snapshot id) ≡ None) × (found journal (Txn id) ≡ None)
+
+  tidy-more : (who : Id12 → Type 0) (journal more : List Event) → Each IsAny [] journal → Each (IsTidy who) journal more → Each IsAny [] (journal ++ more)
+  tidy-more who journal more tidy others = Each-append IsAny [] journal more tidy (Each-weaker (IsTidy who) IsAny (any-of who) journal more others)
+
+  tidy-one : (journal : List Event) (event : Event) → Each IsAny [] journal → IsAny journal event → Each IsAny [] (journal ++ event ∷ [])
+  tidy-one journal event tidy any = Each-append IsAny [] journal (event ∷ []) tidy (Each-one IsAny journal event any)
+
+  not-who : (id : Id12) → IsDrawnBy client id → ¬ Who id
+  not-who id d n = n d
+
+  snapshot-free : (id : Id12) → IsDrawnBy client id → (old more : List Event) → Each (IsOthers client) old more → found old (Snapshot id) ≡ None → found (old ++ more) (Snapshot id) ≡ None
+  snapshot-free id d old more others f = free-others Who (Snapshot id) old more (spared-snapshot client id d Who (not-who id d)) others f
+
+  before-others : (journal more : List Event) → Each (IsOthers client) journal more → Before journal → Before (journal ++ more)
+  before-others journal more others b = record {
+    tidy = tidy-more Who journal more b.tidy others;
+    free = λ id d. (snapshot-free id d journal more others (b.free id d).0, free-others Who (Txn id) journal more (spared-log id Who (not-who id d)) others (b.free id d).1);
+  }
+
+  before-got : (journal : List Event) (event : Event) (key : Key) → IsAny journal event → event.op ≡ Get key → Before journal → Before (journal ++ event ∷ [])
+  before-got journal event key any is b = before-others journal (event ∷ []) (Each-one (IsOthers client) journal event (record { good = any.good; puts = subst (Puts Who) (sym is) tt })) b
+
+  -- ---- an opening
+  Opened : Asked → Result SessionState Refusal → Type 0
+  Opened a (Ok s) = s.ids ≡ a.ids
+  Opened a (Err why) = is_strange why ≡ false
+
+  abbrev Opens : Asked → Result SessionState Refusal → List Event → Type 0
+  Opens a r h = Before h × Opened a r
+
+  base-meets : (a : Asked) (base : Id12) (version : ℕ) (journal : List Event) → Before journal → WasPut journal (Snapshot base) → Meets (Opens a) Who (get_base a base version) journal
+  unfolding Opened
+  base-meets a base version journal b put = ask-meets (Opens a) Who (Get (Snapshot base)) (after_base a base version) journal (λ more event others any is.
+      let mid = before-others journal more others b in
+      let after = before-got (journal ++ more) event (Snapshot base) any is mid in
+      got-meets (Opens a) Who (after_base a base version) (journal ++ more) event any.good ((journal ++ more) ++ event ∷ []) (Snapshot base) is
+      (λ s at. let can = stands-readable base (journal ++ more) s mid.tidy at in
+      subst (λ (o : Option Snap). Meets (Opens a) Who (Done (read_base a base version o)) ((journal ++ more) ++ event ∷ [])) (sym can.1) (done-meets (Opens a) Who (read_base a base version (Some can.0)) ((journal ++ more) ++ event ∷ []) (after, refl)))
+      (λ gone. absurd (put-stands (Snapshot base) (journal ++ more) mid.tidy (WasPut-append journal more (Snapshot base) put) gone))
+      (λ done. done-meets (Opens a) Who (Err R.StoreFault) ((journal ++ more) ++ event ∷ []) (after, refl)))
+
+  open-meets : (a : Asked) (journal : List Event) → Before journal → Meets (Opens a) Who (open_program a) journal
+  unfolding Opened
+  open-meets a journal b = ask-meets (Opens a) Who (Get (Branch a.branch)) (after_ref a) journal (λ more event others any is.
+      let mid = before-others journal more others b in
+      let last : List Event = (journal ++ more) ++ event ∷ [] in
+      let after = before-got (journal ++ more) event (Branch a.branch) any is mid in
+      got-meets (Opens a) Who (after_ref a) (journal ++ more) event any.good ((journal ++ more) ++ event ∷ []) (Branch a.branch) is
+      (λ s at. let n = (all-named (journal ++ more) mid.tidy).branches a.branch s at in
+      subst (λ (o : Option Id12). Meets (Opens a) Who (after_name a s.version o) ((journal ++ more) ++ event ∷ [])) (sym n.reference) (base-meets a n.id s.version ((journal ++ more) ++ event ∷ []) after (WasPut-append (journal ++ more) (event ∷ []) (Snapshot n.id) n.put)))
+      (λ gone. done-meets (Opens a) Who (Err R.NoRef) ((journal ++ more) ++ event ∷ []) (after, refl))
+      (λ done. done-meets (Opens a) Who (Err R.StoreFault) ((journal ++ more) ++ event ∷ []) (after, refl)))
+
+  -- ---- a commit
+  abbrev Plain : {A : Type 0} → Result A Refusal → List Event → Type 0
+  Plain r h = strange_answer r ≡ false
+
+  branch-meets : (s : SessionState) (id : Id12) (reply : Reply) (journal : List Event) → Meets Plain Who (after_branch s id reply) journal
+  branch-meets s id (Is_over (Over_done version now)) journal = done-meets Plain Who (Ok (record { id = id; version = version })) journal refl
+  branch-meets s id (Is_over (Moved there now)) journal = done-meets Plain Who (Err (R.Conflict (version_at s.version) there)) journal refl
+  branch-meets s id (Is_got x) journal = done-meets Plain Who (Err R.StoreFault) journal refl
+  branch-meets s id (Is_new x) journal = done-meets Plain Who (Err R.StoreFault) journal refl
+  branch-meets s id (Is_gone x) journal = done-meets Plain Who (Err R.StoreFault) journal refl
+  branch-meets s id (Is_gone_at x) journal = done-meets Plain Who (Err R.StoreFault) journal refl
+  branch-meets s id (Is_listed x) journal = done-meets Plain Who (Err R.StoreFault) journal refl
+  branch-meets s id (Failed done) journal = done-meets Plain Who (Err R.StoreFault) journal refl
+
+  over-meets : (s : SessionState) (id : Id12) (journal : List Event) → Meets Plain Who (put_branch s id) journal
+  over-meets s id journal = ask-meets Plain Who (PutOver (Branch s.branch) (ref_bytes id) (version_at s.version) For_commit) (after_branch s id) journal (λ more event others any is. branch-meets s id event.reply ((journal ++ more) ++ event ∷ []))
+
+  snapshot-meets : (s : SessionState) (message : List ℕ) (id : Id12) (flushed : ℕ) (journal : List Event) → IsDrawnBy client id → found journal (Snapshot id) ≡ None → Meets Plain Who (put_snapshot s message id flushed) journal
+  snapshot-meets s message id flushed journal d free = ask-meets Plain Who (PutNew (Snapshot id) (snapshot_bytes (snap_for s message flushed)) Set) (after_snapshot s id) journal (λ more event others any is.
+      put-meets Plain Who (after_snapshot s id) (journal ++ more) event any.good ((journal ++ more) ++ event ∷ []) (Snapshot id) (snapshot_bytes (snap_for s message flushed)) Set is (snapshot-free id d journal more others free)
+      (over-meets s id ((journal ++ more) ++ event ∷ []))
+      (λ done. done-meets Plain Who (Err R.StoreFault) ((journal ++ more) ++ event ∷ []) refl))
+
+  commit-meets : (s : SessionState) (message : List ℕ) (id : Id12) (journal : List Event) → IsDrawnBy client id → Before journal → Meets Plain Who (commit_program s message id) journal
+  commit-meets s message id journal d b = ask-meets Plain Who (PutNew (Txn id) (log_bytes (touched s.changes s.tree)) Set) (after_log s message id) journal (λ more event others any is.
+      let mid = before-others journal more others b in
+      let off : is_on (Snapshot id) event.op ≡ false = ap (is_on (Snapshot id)) is in
+      put-meets Plain Who (after_log s message id) (journal ++ more) event any.good ((journal ++ more) ++ event ∷ []) (Txn id) (log_bytes (touched s.changes s.tree)) Set is (mid.free id d).1
+      (snapshot-meets s message id event.time ((journal ++ more) ++ event ∷ []) d (free-apart (Snapshot id) (journal ++ more) event off (mid.free id d).0))
+      (λ done. done-meets Plain Who (Err R.StoreFault) ((journal ++ more) ++ event ∷ []) refl))
+
+  -- ---- the lines of a task
+  abbrev Ends : Outcome → List Event → Type 0
+  Ends o h = strange_end o.end ≡ false
+
+  -- what follows a line, where the session still draws for its client
+  abbrev GoesOn : (SessionState → List Shown → Prog Outcome) → List Event → Type 0
+  GoesOn next journal = (s : SessionState) (shown : List Shown) → AreOf client s.ids → Meets Ends Who (next s shown) journal
+
+  group-meets : (line : ℕ) (s : SessionState) (path : List ℕ) (shown : List Shown) (next : SessionState → List Shown → Prog Outcome) (journal : List Event) → AreOf client s.ids → GoesOn next journal → (r : Result (Id8 × SessionState) Refusal) → group_added s path ≡ r → Meets Ends Who (goes_on (after_group line shown r) next) journal
+  group-meets line s path shown next journal known go (Ok p) e = go p.1 shown (group-draws client s p.1 path p.0 known e)
+  group-meets line s path shown next journal known go (Err why) e = done-meets Ends Who _ journal (group-plain s path why e)
+
+  list-meets : (line : ℕ) (s : SessionState) (path : List ℕ) (shown : List Shown) (next : SessionState → List Shown → Prog Outcome) (journal : List Event) → AreOf client s.ids → GoesOn next journal → (r : Result (List Listing) Refusal) → IsPlain r → Meets Ends Who (goes_on (after_list line s shown r) next) journal
+  list-meets line s path shown next journal known go (Ok nodes) p = go s _ known
+  list-meets line s path shown next journal known go (Err why) p = done-meets Ends Who _ journal (p why refl)
+
+  answered-meets : (line : ℕ) (shown : List Shown) (r : Result Made Refusal) (journal : List Event) → strange_answer r ≡ false → Meets Ends Who (after_commit line shown r) journal
+  answered-meets line shown (Ok made) journal p = done-meets Ends Who _ journal refl
+  answered-meets line shown (Err why) journal p = done-meets Ends Who _ journal p
+
+  start-meets : (line : ℕ) (s : SessionState) (message : List ℕ) (shown : List Shown) (next : SessionState → List Shown → Prog Outcome) (journal : List Event) → AreOf client s.ids → Before journal → (r : Result (Id12 × SessionState) Refusal) → started s ≡ r → Meets Ends Who (goes_on (after_start line message shown r) next) journal
+  start-meets line s message shown next journal known b (Ok p) e =
+      bind-meets Plain Ends Who (commit_program p.1 message p.0) (after_commit line shown) journal (commit-meets p.1 message p.0 journal (start-draws client s p.1 p.0 known e) b) (λ r h plain. answered-meets line shown r h plain)
+  start-meets line s message shown next journal known b (Err why) e = done-meets Ends Who _ journal (started-plain s why e)
+
+  call-meets : (line : ℕ) (call : Call) (s : SessionState) (shown : List Shown) (next : SessionState → List Shown → Prog Outcome) (journal : List Event) → AreOf client s.ids → Before journal → GoesOn next journal → Meets Ends Who (goes_on (play_call line call s shown) next) journal
+  call-meets line (Group path) s shown next journal known b go = group-meets line s path shown next journal known go (group_added s path) refl
+  call-meets line (List_call path) s shown next journal known b go = list-meets line s path shown next journal known go (listed s path) (there-plain (node_at (overlay s) path) _)
+  call-meets line (Commit message) s shown next journal known b go = start-meets line s message shown next journal known b (started s) refl
+
+  lines-meets : (lines : List Line) (s : SessionState) (shown : List Shown) (journal : List Event) → AreOf client s.ids → Before journal → Meets Ends Who (play_lines lines s shown) journal
+  unfolding play_lines
+  lines-meets [] s shown journal known b = done-meets Ends Who _ journal refl
+  lines-meets (l ∷ ls) s shown journal known b = call-meets l.number l.call s shown (play_lines ls) journal known b (λ t more k. lines-meets ls t more journal k b)
+
+  opened-meets : (task : Task) (a : Asked) (r : Result SessionState Refusal) (journal : List Event) → AreOf client a.ids → Opens a r journal → Meets Ends Who (after_open task r) journal
+  unfolding Opened
+  opened-meets task a (Ok s) journal known o = lines-meets task.body s [] journal (subst (AreOf client) (sym o.1) known) o.0
+  opened-meets task a (Err why) journal known o = done-meets Ends Who _ journal o.1
+
+  -- a task of this client is never refused so
+  pub task-meets : (ids : AnyIds) (task : Task) (journal : List Event) → AreOf client ids → Before journal → Meets (λ o h. strange_end o.end ≡ false) Who (task_program ids task) journal
+  task-meets ids task journal known b =
+      let a : Asked = asked_by task.head ids in
+      bind-meets (Opens (asked_by task.head ids)) Ends Who (open_program (asked_by task.head ids)) (after_open task) journal (open-meets (asked_by task.head ids) journal b)
+      (λ r h o. opened-meets task (asked_by task.head ids) r h (subst (AreOf client) (sym (head-ids task.head ids)) known) o)

@@ -1,0 +1,187 @@
+-- What stands in the journal of a run over an empty store.
+use Rattle.std.proofs.Common.{◌≡◌, ◌≢◌, ℕ, ◌⊎◌, inl, inr, true, false, List, [], ◌∷◌, ◌++◌, length, sym, ap, subst, append_assoc, append-nil}
+use Rattle.std.specs.Prelude.{Some, None}
+use Rattle.ice_ids.specs.declared.Id12.{Id12}
+use Rattle.ice_ids.specs.Text.{initial_id}
+use Rattle.plain_object.specs.Objects.{Snapshot as Snap, snapshot_of}
+use Rattle.store_api.specs.declared.keys.Key.{Key}
+use Rattle.store_api.specs.declared.keys.Key.TheVariants.{Snapshot, Manifest, Txn, Chunk, Branch, Tag, TagGone}
+use Rattle.store_api.specs.declared.events.Op.{Op}
+use Rattle.store_api.specs.declared.events.Op.TheVariants.{Get, PutNew, PutOver, Remove, RemoveAt, List as ListPart}
+use Rattle.store_api.specs.declared.events.Event.{Event}
+use Rattle.store_api.specs.Machine.{Stored, Slot, slot_of, found, first_put, leaves, put_at, is_on}
+use Rattle.store_api.specs.Journal.{Each, IsGood, IsUnused, WasPut}
+use Rattle.store_api.specs.Laws.{AllNamed}
+use Rattle.store_api.proofs.Journals.{Each-weaker}
+use Rattle.store_api.proofs.Naming.{names-law}
+use Rattle.store_api.proofs.Slots.{effect-cases, free-cases, slot-append_one, slot-none, same_key-true}
+use Rattle.run_histories.proofs.Along.{Removes, unused-one}
+use Rattle.run_histories.proofs.Drawing.{IsDrawnBy, drawn-not_initial}
+
+-- ---- events
+-- bytes that are a snapshot's
+abbrev pub CanRead : List ℕ → Type 0
+CanRead bytes = (s : Snap) × (snapshot_of bytes ≡ Some s)
+
+-- a new snapshot can be read, and it is the initial one or under one of these ids; so is a log
+abbrev pub PutsNew : (Id12 → Type 0) → List ℕ → Key → Type 0
+PutsNew who bytes (Snapshot id) = CanRead bytes × ((id ≡ initial_id) ⊎ who id)
+PutsNew who bytes (Txn id) = who id
+PutsNew who bytes (Manifest id) = Unit {0}
+PutsNew who bytes (Chunk id) = Unit {0}
+PutsNew who bytes (Branch name) = Unit {0}
+PutsNew who bytes (Tag name) = Unit {0}
+PutsNew who bytes (TagGone name) = Unit {0}
+
+-- snapshots and logs aren't put over
+abbrev pub PutsOver : Key → Type 0
+PutsOver (Snapshot id) = ⊥
+PutsOver (Txn id) = ⊥
+PutsOver (Manifest id) = Unit {0}
+PutsOver (Chunk id) = Unit {0}
+PutsOver (Branch name) = Unit {0}
+PutsOver (Tag name) = Unit {0}
+PutsOver (TagGone name) = Unit {0}
+
+-- ... and nothing is removed
+abbrev pub Puts : (Id12 → Type 0) → Op → Type 0
+Puts who (Get key) = Unit {0}
+Puts who (ListPart part) = Unit {0}
+Puts who (PutNew key bytes why) = PutsNew who bytes key
+Puts who (PutOver key bytes old why) = PutsOver key
+Puts who (Remove key why) = ⊥
+Puts who (RemoveAt key old why) = ⊥
+
+-- an event of a client that draws these ids
+pub record IsTidy (who : Id12 → Type 0) (journal : List Event) (event : Event) : Type 0 where
+  pub good : IsGood journal event
+  pub puts : Puts who event.op
+
+new-weaker : (who more : Id12 → Type 0) → ((id : Id12) → who id → more id) → (bytes : List ℕ) (key : Key) → PutsNew who bytes key → PutsNew more bytes key
+new-weaker who more f bytes (Snapshot id) p = (p.0, elim p.1 [ inl i ↦ inl i | inr w ↦ inr (f id w) ])
+new-weaker who more f bytes (Txn id) p = f id p
+new-weaker who more f bytes (Manifest id) p = tt
+new-weaker who more f bytes (Chunk id) p = tt
+new-weaker who more f bytes (Branch name) p = tt
+new-weaker who more f bytes (Tag name) p = tt
+new-weaker who more f bytes (TagGone name) p = tt
+
+pub puts-weaker : (who more : Id12 → Type 0) → ((id : Id12) → who id → more id) → (op : Op) → Puts who op → Puts more op
+puts-weaker who more f (Get key) p = tt
+puts-weaker who more f (ListPart part) p = tt
+puts-weaker who more f (PutNew key bytes why) p = new-weaker who more f bytes key p
+puts-weaker who more f (PutOver key bytes old why) p = p
+puts-weaker who more f (Remove key why) p = absurd p
+puts-weaker who more f (RemoveAt key old why) p = absurd p
+
+-- anybody's event
+abbrev pub IsAny : List Event → Event → Type 0
+IsAny = IsTidy (λ id. Unit {0})
+
+-- an event of others than this client
+abbrev pub IsOthers : ℕ → List Event → Event → Type 0
+IsOthers client = IsTidy (λ id. ¬ IsDrawnBy client id)
+
+pub any-of : (who : Id12 → Type 0) (journal : List Event) (event : Event) → IsTidy who journal event → IsAny journal event
+any-of who journal event t = record { good = t.good; puts = puts-weaker who (λ id. Unit {0}) (λ id w. tt) event.op t.puts }
+
+-- what each event keeps
+pub along : (P : List Event → Event → Type 0) (Inv : List Event → Type 0) → ((journal : List Event) (event : Event) → P journal event → Inv journal → Inv (journal ++ event ∷ [])) → (old xs : List Event) → Each P old xs → Inv old → Inv (old ++ xs)
+unfolding Each
+along P Inv step old [] each inv = subst Inv (sym (append-nil old)) inv
+along P Inv step old (x ∷ xs) each inv = subst Inv (append_assoc old (x ∷ []) xs) (along P Inv step (old ++ x ∷ []) xs each.1 (step old x each.0 inv))
+
+-- ---- what stands
+-- what a slot holds can be read
+abbrev ReadSlot : Slot → Type 0
+ReadSlot slot = (s : Stored) → slot.stands ≡ Some s → CanRead s.bytes
+
+stands-read : (n time : ℕ) (bytes : List ℕ) (slot : Slot) → CanRead bytes → ReadSlot (put_at n time bytes slot)
+stands-read n time bytes slot can s e = let same : bytes ≡ s.bytes = cc in subst CanRead same can
+
+leaves-read : (who : Id12 → Type 0) (id : Id12) (n time : ℕ) (op : Op) (slot : Slot) → Puts who op → is_on (Snapshot id) op ≡ true → ReadSlot slot → ReadSlot (leaves n time op slot)
+leaves-read who id n time (Get key) slot p on r = r
+leaves-read who id n time (ListPart part) slot p on r = r
+leaves-read who id n time (PutNew key bytes why) slot p on r =
+    let at : PutsNew who bytes (Snapshot id) = subst (λ (k : Key). PutsNew who bytes k) (same_key-true key (Snapshot id) on) p in
+    free-cases ReadSlot slot.stands (put_at n time bytes slot) slot r (λ free. stands-read n time bytes slot at.0)
+leaves-read who id n time (PutOver key bytes old why) slot p on r = absurd (subst PutsOver (same_key-true key (Snapshot id) on) p)
+leaves-read who id n time (Remove key why) slot p on r = absurd p
+leaves-read who id n time (RemoveAt key old why) slot p on r = absurd p
+
+abbrev AllRead : Id12 → List Event → Type 0
+AllRead id journal = ReadSlot (slot_of journal (Snapshot id))
+
+read-one : (id : Id12) (journal : List Event) (event : Event) → IsAny journal event → AllRead id journal → AllRead id (journal ++ event ∷ [])
+read-one id journal event t r =
+    subst ReadSlot (sym (slot-append_one journal event (Snapshot id)))
+    (effect-cases ReadSlot (Snapshot id) (length journal) (slot_of journal (Snapshot id)) event r (λ on done. leaves-read (λ i. Unit {0}) id (length journal) event.time event.op (slot_of journal (Snapshot id)) t.puts on r))
+
+read-none : (id : Id12) → AllRead id []
+read-none id = subst ReadSlot (sym (slot-none (Snapshot id))) (λ s e. absurd cc)
+
+-- a snapshot that stands can be read
+pub stands-readable : (id : Id12) (journal : List Event) (s : Stored) → Each IsAny [] journal → found journal (Snapshot id) ≡ Some s → CanRead s.bytes
+stands-readable id journal s tidy e = along IsAny (AllRead id) (read-one id) [] journal tidy (read-none id) s e
+
+-- ---- what was put stands
+puts-keep : (who : Id12 → Type 0) (op : Op) → Puts who op → ¬ Removes op
+puts-keep who (Get key) p r = r
+puts-keep who (ListPart part) p r = r
+puts-keep who (PutNew key bytes why) p r = r
+puts-keep who (PutOver key bytes old why) p r = r
+puts-keep who (Remove key why) p r = p
+puts-keep who (RemoveAt key old why) p r = p
+
+unused-none : (key : Key) → IsUnused [] key
+unused-none key e = ap (λ (s : Slot). s.first) (slot-none key)
+
+all-unused : (key : Key) (journal : List Event) → Each IsAny [] journal → IsUnused journal key
+all-unused key journal tidy = along IsAny (λ h. IsUnused h key) (λ h event t u. unused-one h event key (puts-keep (λ i. Unit {0}) event.op t.puts) u) [] journal tidy (unused-none key)
+
+pub put-stands : (key : Key) (journal : List Event) → Each IsAny [] journal → WasPut journal key → found journal key ≢ None
+put-stands key journal tidy put none = let first : first_put journal key ≡ None = all-unused key journal tidy none in let was = put.1 in absurd cc
+
+-- a branch that stands names a snapshot that was put, and so does a tag
+pub all-named : (journal : List Event) → Each IsAny [] journal → AllNamed journal
+all-named journal tidy = names-law journal (Each-weaker IsAny IsGood (λ h event t. t.good) [] journal tidy)
+
+-- ---- keys at which nothing stands
+-- others put nothing under the ids of this client
+pub record IsSpared (who : Id12 → Type 0) (key : Key) : Type 0 where
+  pub new : (bytes : List ℕ) → ¬ PutsNew who bytes key
+  pub over : ¬ PutsOver key
+
+pub spared-snapshot : (client : ℕ) (id : Id12) → IsDrawnBy client id → (who : Id12 → Type 0) → ¬ who id → IsSpared who (Snapshot id)
+spared-snapshot client id d who other = record { new = λ bytes p. elim p.1 [ inl i ↦ absurd (drawn-not_initial client id d i) | inr w ↦ other w ]; over = λ p. p }
+
+pub spared-log : (id : Id12) (who : Id12 → Type 0) → ¬ who id → IsSpared who (Txn id)
+spared-log id who other = record { new = λ bytes p. other p; over = λ p. p }
+
+abbrev Free : Slot → Type 0
+Free slot = slot.stands ≡ None
+
+leaves-free : (who : Id12 → Type 0) (key : Key) (n time : ℕ) (op : Op) (slot : Slot) → IsSpared who key → Puts who op → is_on key op ≡ true → Free slot → Free (leaves n time op slot)
+leaves-free who key n time (Get k) slot spared p on f = f
+leaves-free who key n time (ListPart part) slot spared p on f = f
+leaves-free who key n time (PutNew k bytes why) slot spared p on f = absurd (spared.new bytes (subst (λ (x : Key). PutsNew who bytes x) (same_key-true k key on) p))
+leaves-free who key n time (PutOver k bytes old why) slot spared p on f = absurd (spared.over (subst PutsOver (same_key-true k key on) p))
+leaves-free who key n time (Remove k why) slot spared p on f = absurd p
+leaves-free who key n time (RemoveAt k old why) slot spared p on f = absurd p
+
+free-one : (who : Id12 → Type 0) (key : Key) → IsSpared who key → (journal : List Event) (event : Event) → IsTidy who journal event → found journal key ≡ None → found (journal ++ event ∷ []) key ≡ None
+free-one who key spared journal event t f =
+    subst Free (sym (slot-append_one journal event key))
+    (effect-cases Free key (length journal) (slot_of journal key) event f (λ on done. leaves-free who key (length journal) event.time event.op (slot_of journal key) spared t.puts on f))
+
+pub free-others : (who : Id12 → Type 0) (key : Key) (old more : List Event) → IsSpared who key → Each (IsTidy who) old more → found old key ≡ None → found (old ++ more) key ≡ None
+free-others who key old more spared tidy f = along (IsTidy who) (λ h. found h key ≡ None) (free-one who key spared) old more tidy f
+
+-- an event on another key
+pub free-apart : (key : Key) (journal : List Event) (event : Event) → is_on key event.op ≡ false → found journal key ≡ None → found (journal ++ event ∷ []) key ≡ None
+free-apart key journal event off f =
+    subst Free (sym (slot-append_one journal event key))
+    (effect-cases Free key (length journal) (slot_of journal key) event f (λ on done. absurd cc))
+
+pub nothing-stands : (key : Key) → found [] key ≡ None
+nothing-stands key = ap (λ (s : Slot). s.stands) (slot-none key)

@@ -1,0 +1,31 @@
+-- Refusals that no run over an empty store gives (own).
+use Rattle.std.specs.Prelude.{◌≡◌, ℕ, Bool, true, false, List, Some, Result, Ok, Err, slice_get}
+use Rattle.store_api.specs.declared.machines.Refusal.{Refusal}
+use Rattle.store_api.specs.declared.machines.Refusal.TheVariants.{Missing, BadFile, IdTaken}
+use Rattle.store_api.specs.Program.{Prog, Done}
+use Rattle.play_report.specs.declared.outcome.End.{End}
+use Rattle.play_report.specs.declared.outcome.End.TheVariants as E
+use Rattle.play_report.specs.declared.outcome.Outcome.{Outcome}
+use Rattle.play_report.specs.declared.outcome.RefLine.{RefLine}
+
+-- a drawn id that was taken, an object that is missing, or a file that can't be read
+abbrev pub is_strange : Refusal → Bool
+is_strange (IdTaken key) = true
+is_strange (Missing key) = true
+is_strange (BadFile key bad) = true
+is_strange _ = false
+
+abbrev pub strange_answer : {A : Type 0} → Result A Refusal → Bool
+strange_answer (Ok a) = false
+strange_answer (Err why) = is_strange why
+
+abbrev pub strange_end : End → Bool
+strange_end (E.Committed id) = false
+strange_end E.Done = false
+strange_end (E.Refused line why) = is_strange why
+
+-- Nothing that was played was refused so: not the opening, no task that came to its end, not the closing reading.
+pub record NothingStrange (opening : Result (Unit {0}) Refusal) (ends : List (Prog Outcome)) (refs : Result (List RefLine) Refusal) : Type 0 where
+  pub opened : strange_answer opening ≡ false
+  pub tasks : (place : ℕ) (outcome : Outcome) → slice_get ends place ≡ Some (Done outcome) → strange_end outcome.end ≡ false
+  pub closed : strange_answer refs ≡ false
