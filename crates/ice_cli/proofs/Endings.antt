@@ -1,5 +1,5 @@
 -- What the statuses of a run say.
-use Rattle.std.proofs.Common.{◌≡◌, Bool, true, false, refl, sym, subst}
+use Rattle.std.proofs.Common.{◌≡◌, inl, inr, Bool, true, false, refl, sym, subst}
 use Rattle.std.specs.Prelude.{if◌then◌else◌}
 use Rattle.ice_base.specs.Ends.{InputAt, OutputAt, Rose}
 use Rattle.ice_ids.specs.declared.drawing.Draw.{Draw}
@@ -9,7 +9,7 @@ use Rattle.ice_cli.specs.declared.statuses.Causes.{Causes}
 use Rattle.ice_cli.specs.declared.statuses.Status.{Status}
 use Rattle.ice_cli.specs.declared.statuses.Status.TheVariants as S
 use Rattle.ice_cli.specs.Statuses.{status_of}
-use Rattle.ice_cli.specs.Telling.{WasPlayed, causes, refusals}
+use Rattle.ice_cli.specs.Telling.{WasPlayed, WasUntold, causes, refusals}
 use Rattle.ice_cli.proofs.Tellings.{store-rose, sink-rose}
 use Rattle.ice_cli.specs.Run.{HasScript, HasNone, Ends}
 
@@ -40,13 +40,16 @@ module _ (draw : Draw) (a b : InputAt) (s t : View) (x y : OutputAt) where
   by_status script S.Refused h p l = record { script = script; reads = h; played = p }
   by_status script S.WriteFault h p l = record { script = script; reads = h; played = p }
   by_status script S.StoreFault h p l = record { script = script; reads = h; played = p }
-  by_status script S.NoMemory h p l = tt
+  by_status script S.NoMemory h p l = inr (record { script = script; reads = h; went = inl p })
   by_status script S.ReadFault h p l = absurd l
   by_status script (S.Usage fault) h p l = absurd l
   by_status script (S.Script line kind) h p l = absurd l
 
   pub ends_played : (script : Script) (status : Status) → HasScript a b script → WasPlayed draw script s t x y status → Ends draw a b s t x y status
   ends_played script status h p = by_status script status h p (status_last (causes p.told.unwritten (refusals p.opening p.outcomes p.refs)) status p.told.status_is)
+
+  pub ends_untold : (script : Script) → HasScript a b script → WasUntold draw script s t x y → Ends draw a b s t x y S.NoMemory
+  ends_untold script h u = inr (record { script = script; reads = h; went = inr u })
 
   -- a fault is told only where it rose
   pub store_faulted : (status : Status) → Ends draw a b s t x y status → status ≡ S.StoreFault → Rose s.faults t.faults
@@ -72,7 +75,7 @@ module _ (draw : Draw) (a b : InputAt) (s t : View) (x y : OutputAt) where
 pub ends_unread : (draw : Draw) (a b : InputAt) (s : View) (x : OutputAt) (status : Status) → HasNone a b status → Ends draw a b s s x x status
 ends_unread draw a b s x S.ReadFault h = (h, record { store = refl; out = refl })
 ends_unread draw a b s x (S.Script line kind) h = (h, record { store = refl; out = refl })
-ends_unread draw a b s x S.NoMemory h = tt
+ends_unread draw a b s x S.NoMemory h = inl (record { store = refl; out = refl })
 ends_unread draw a b s x S.Ok h = absurd h
 ends_unread draw a b s x S.Refused h = absurd h
 ends_unread draw a b s x S.WriteFault h = absurd h

@@ -1,6 +1,6 @@
 -- The causes of a run, one after the other and together.
 use Rattle.std.proofs.Common.{Bor, ◌-◌, ◌^◌, ltb, ◌≡◌, ℕ, zero, suc, ◌≤◌, ◌<◌, ◌⊎◌, inl, inr, Bool, true, false, List, [], ◌∷◌, ◌++◌, refl, sym, ◌∙◌, ap, subst, map, take, get_or, length, ◌+◌, arith}
-use Rattle.std.specs.Prelude.{◌||◌, Result, Ok, Err, Option, Some, None, slice_get, IfOk, MatchOption}
+use Rattle.std.specs.Prelude.{◌||◌, Result, Ok, Err, Option, Some, None, slice_get, IfOk, IfErr, MatchOption}
 use Rattle.std.specs.declared.alloc.AllocError.{AllocError}
 use Rattle.std.proofs.lemmas.List.{take_more, map-append}
 use Rattle.std.specs.List.{list_any, flat_map}
@@ -22,12 +22,12 @@ use Rattle.play_tasks.specs.declared.worker.Worker.{Worker}
 use Rattle.play_tasks.specs.Workers.{worker_rest}
 use Rattle.play_run.specs.Order.{IsDoneAt}
 use Rattle.play_run.proofs.Places.{slice_get-place}
-use Rattle.play_course.specs.Course.{Course, Plays}
+use Rattle.play_course.specs.Course.{Course, OnlyBegan, Plays}
 use Rattle.ice_cli.specs.declared.statuses.Causes.{Causes}
 use Rattle.ice_cli.specs.declared.statuses.Status.{Status}
 use Rattle.ice_cli.specs.declared.statuses.Status.TheVariants as S
 use Rattle.ice_cli.specs.Statuses.{status_of}
-use Rattle.ice_cli.specs.Telling.{why_of, end_why, why_ended, refusals, is_other, causes, Wrote, Tells, KeepsHistories, IsRegular, WasPlayed}
+use Rattle.ice_cli.specs.Telling.{why_of, end_why, why_ended, refusals, is_other, causes, Wrote, Tells, KeepsHistories, KeepsAll, IsRegular, WasPlayed, WasUntold}
 use Rattle.ice_cli.specs.Adding.{added, all_added}
 use Rattle.ice_cli.proofs.Rows.{rows-all}
 
@@ -213,3 +213,12 @@ outcome-more ws i w outs more r o within is e m before is_more =
 
 pub outcome-none : {P : Type 0} (ws : List Worker) (i : ℕ) (w : Worker) (r : Option (Bor Outcome)) → ((place : ℕ) → IsDoneAt place (map worker_rest ws)) → i < length ws → w ≡ get_or ws i w → r ≡ None → MatchOption r (IsAsk (worker_rest w)) (λ x. worker_rest w ≡ Done x.now) → P
 outcome-none ws i w r done within is e m = absurd (not-both (worker_rest w) (done i (worker_rest w) (slice_get-place worker_rest ws i w within is)) (told-none (worker_rest w) r e m))
+
+-- ---- where memory ran out
+pub untold : (draw : Draw) (script : Script) (s t : View) (x y : OutputAt) (opening : Result (Unit {0}) Refusal) (ends : List (Prog Outcome)) (refs : Result (List RefLine) Refusal) (result : Result Status AllocError)
+    → Course draw script s t opening ends refs → KeepsHistories draw script s t refs → IfErr result (λ error. y ≡ x) → IfErr result (λ error. WasUntold draw script s t x y)
+untold draw script s t x y opening ends refs (Ok status) c kept out = tt
+untold draw script s t x y opening ends refs (Err error) c kept out = record { out = out; came = inl (record { opening = opening; ends = ends; refs = refs; course = c }); histories = λ told before sound. (kept told before sound).histories }
+
+pub unplayed : (draw : Draw) (script : Script) (s t : View) (x : OutputAt) → OnlyBegan s t → KeepsAll draw script s t → WasUntold draw script s t x x
+unplayed draw script s t x b kept = record { out = refl; came = inr b; histories = kept }

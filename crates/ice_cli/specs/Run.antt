@@ -1,5 +1,5 @@
 -- What the top call reads, does and writes (own).
-use Rattle.std.specs.Prelude.{◌≡◌, ℕ, List, Ok, Err}
+use Rattle.std.specs.Prelude.{◌≡◌, ◌⊎◌, ℕ, List, Ok, Err}
 use Rattle.ice_base.specs.Ends.{InputAt, OutputAt, IsInput, Rose}
 use Rattle.ice_ids.specs.declared.drawing.Draw.{Draw}
 use Rattle.play_script.specs.declared.faults.ScriptKind.{ScriptKind}
@@ -8,7 +8,7 @@ use Rattle.play_script.specs.Reading.{script_of}
 use Rattle.store_api.specs.Callers.{View}
 use Rattle.ice_cli.specs.declared.statuses.Status.{Status}
 use Rattle.ice_cli.specs.declared.statuses.Status.TheVariants as S
-use Rattle.ice_cli.specs.Telling.{WasPlayed}
+use Rattle.ice_cli.specs.Telling.{WasPlayed, WasUntold}
 
 -- the longest input that is read: one byte more than a script may have
 abbrev pub most_input : ℕ
@@ -44,10 +44,17 @@ pub record IsUntouched (store_old store_new : View) (out_old out_new : OutputAt)
   pub store : store_new ≡ store_old
   pub out : out_new ≡ out_old
 
+-- A script was read when memory ran out. It was played and told (so that the status is that of a task that found no memory),
+-- or nothing was written.
+pub record IsShort (draw : Draw) (in_old in_new : InputAt) (s t : View) (out_old out_new : OutputAt) : Type 0 where
+  pub script : Script
+  pub reads : HasScript in_old in_new script
+  pub went : WasPlayed draw script s t out_old out_new S.NoMemory ⊎ WasUntold draw script s t out_old out_new
+
 -- what each status says where the words are a command
 abbrev pub Ends : Draw → InputAt → InputAt → View → View → OutputAt → OutputAt → Status → Type 0
 Ends draw in_old in_new s t out_old out_new S.ReadFault = Rose in_old.faults in_new.faults × IsUntouched s t out_old out_new
 Ends draw in_old in_new s t out_old out_new (S.Script line kind) = HasFault in_old in_new line kind × IsUntouched s t out_old out_new
 Ends draw in_old in_new s t out_old out_new (S.Usage fault) = ⊥
-Ends draw in_old in_new s t out_old out_new S.NoMemory = Unit {0}
+Ends draw in_old in_new s t out_old out_new S.NoMemory = IsUntouched s t out_old out_new ⊎ IsShort draw in_old in_new s t out_old out_new
 Ends draw in_old in_new s t out_old out_new status = IsRun draw in_old in_new s t out_old out_new status

@@ -1,5 +1,5 @@
 -- What is told of a run: the report and the status (own).
-use Rattle.std.specs.Prelude.{◌≡◌, ℕ, Bool, true, false, not, ◌&&◌, List, [], ◌∷◌, ◌++◌, map, Result, Ok, Err, IsTrue}
+use Rattle.std.specs.Prelude.{◌≡◌, ◌⊎◌, ℕ, Bool, true, false, not, ◌&&◌, List, [], ◌∷◌, ◌++◌, map, Result, Ok, Err, IsTrue}
 use Rattle.std.specs.List.{list_any, flat_map}
 use Rattle.ice_base.specs.Ends.{OutputAt, WroteWhole, WroteLess}
 use Rattle.ice_ids.specs.declared.drawing.Draw.{Draw}
@@ -14,7 +14,8 @@ use Rattle.play_report.specs.declared.outcome.RefLine.{RefLine}
 use Rattle.play_report.specs.Report.{report_of}
 use Rattle.tree_model.specs.Changes.{Changes}
 use Rattle.run_histories.specs.Runs.{IsSound}
-use Rattle.play_course.specs.Course.{Course}
+use Rattle.run_histories.specs.Told.{HasHistories}
+use Rattle.play_course.specs.Course.{Course, OnlyBegan}
 use Rattle.play_course.specs.Leaving.{Leaves}
 use Rattle.play_course.specs.Refusing.{NothingStrange}
 use Rattle.ice_cli.specs.declared.statuses.Causes.{Causes}
@@ -69,10 +70,27 @@ pub record Tells (script : Script) (opening : Result (Unit {0}) Refusal) (ends :
 abbrev pub KeepsHistories : Draw → Script → View → View → Result (List RefLine) Refusal → Type 0
 KeepsHistories draw script old new refs = IsTrue old.caller.tells → (before : ℕ → Changes) → IsSound old.seen before → Leaves draw script.tasks before old.seen new.seen refs
 
+-- the same where not all was played
+abbrev pub KeepsAll : Draw → Script → View → View → Type 0
+KeepsAll draw script old new = IsTrue old.caller.tells → (before : ℕ → Changes) → IsSound old.seen before → HasHistories draw script.tasks before old.seen new.seen
+
 -- over a store that tells its journal and on which nothing was done before, nothing is refused because an id was taken, an
 -- object is missing or a file can't be read
 abbrev pub IsRegular : View → Result (Unit {0}) Refusal → List (Prog Outcome) → Result (List RefLine) Refusal → Type 0
 IsRegular old opening ends refs = IsTrue old.caller.tells → old.seen ≡ [] → NothingStrange opening ends refs
+
+-- all was played, whatever it came to
+pub record HasCourse (draw : Draw) (script : Script) (old new : View) : Type 0 where
+  pub opening : Result (Unit {0}) Refusal
+  pub ends : List (Prog Outcome)
+  pub refs : Result (List RefLine) Refusal
+  pub course : Course draw script old new opening ends refs
+
+-- Memory ran out before anything was written: behind all that was to be played, or before the first task.
+pub record WasUntold (draw : Draw) (script : Script) (store_old store_new : View) (out_old out_new : OutputAt) : Type 0 where
+  pub out : out_new ≡ out_old
+  pub came : HasCourse draw script store_old store_new ⊎ OnlyBegan store_old store_new
+  pub histories : KeepsAll draw script store_old store_new
 
 -- What was played, and what was told of it: all tasks have ended, with these outcomes.
 pub record WasPlayed (draw : Draw) (script : Script) (store_old store_new : View) (out_old out_new : OutputAt) (status : Status) : Type 0 where

@@ -1,6 +1,6 @@
 //! What is told of a run: the report and the status.
 
-ghost use Rattle.std.specs.Prelude.{◌≡◌, ℕ, map, IfOk};
+ghost use Rattle.std.specs.Prelude.{◌≡◌, ℕ, map, IfOk, IfErr};
 ghost use Rattle.std.specs.List.{flat_map};
 ghost use Rattle.store_api.specs.Program.{Done};
 ghost use Rattle.play_tasks.specs.Workers.{worker_rest};
@@ -105,7 +105,8 @@ fn write_report<K: Sink>(out: &mut K, text: &[u8]) -> bool
     write_whole(out, text).is_err()
 }
 
-/// Writes the report of a run whose tasks have all ended, and tells the status.
+/// Writes the report of a run whose tasks have all ended, and tells the status. Without memory for it
+/// nothing is written.
 pub fn finish<K: Sink>(
     alloc: Global,
     script: &Script,
@@ -113,7 +114,8 @@ pub fn finish<K: Sink>(
     out: &mut K,
 ) -> Result<Status, AllocError>
     requires { (place : ℕ) → IsDoneAt place (map worker_rest played.now.workers.items) }
-    ensures { IfOk result (λ status. Tells script.now played.now.opening (map worker_rest played.now.workers.items) played.now.refs (K.at out.old) (K.at out.new) status) }
+    ensures nothing { IfErr result (λ error. K.at out.new ≡ K.at out.old) }
+    ensures told { IfOk result (λ status. Tells script.now played.now.opening (map worker_rest played.now.workers.items) played.now.refs (K.at out.old) (K.at out.new) status) }
 {
     let names = names_of(alloc, script.tasks.as_slice())?;
     let outcomes = outcomes_of(alloc, &played.workers)?;

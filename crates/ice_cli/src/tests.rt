@@ -116,7 +116,8 @@ fn newest_snapshot_is_not_read(rt: HostRuntime) -> Result<(), Fail> {
     let script = b"task a write main 0 fail\ngroup /\ncommit one\n\
         task b write main 0 fail\ngroup /b\ncommit two\n\
         task r read branch main\nlist /\nturns a*5 r b*5 r\n";
-    let printed = b"a committed 0000008000000000000G\nb committed 000000G000000000000G\nr done\nbranch main 000000G000000000000G\n";
+    let printed =
+        b"a committed 0000008000000000000G\nb committed 000000G000000000000G\nr done\nbranch main 000000G000000000000G\n";
     let none = Vec::new(rt.alloc());
     let told = played(rt.alloc(), script, none, printed)?;
     assert_eq!(rt; told, (Status::Ok, true));

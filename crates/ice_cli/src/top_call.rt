@@ -1,10 +1,10 @@
 //! The top call.
 
-ghost use Rattle.std.specs.Prelude.{◌≡◌, Ok, Err, IfOk, MatchResult};
-ghost use Rattle.ice_base.specs.Ends.{Rose};
+ghost use Rattle.std.specs.Prelude.{◌≡◌, Ok, Err, IfOk, IfErr, MatchResult};
+ghost use Rattle.ice_base.specs.Ends.{Rose, TakesAtMost};
 ghost use Rattle.play_script.specs.Well.{IsWell};
-ghost use Rattle.ice_cli.specs.Telling.{WasPlayed};
-ghost use Rattle.ice_cli.specs.Run.{HasScript, HasNone, Ends};
+ghost use Rattle.ice_cli.specs.Telling.{WasPlayed, WasUntold};
+ghost use Rattle.ice_cli.specs.Run.{most_input, HasScript, HasNone, Ends};
 ghost use Rattle.ice_cli.specs.declared.words.UsageFault.{UsageFault};
 ghost use Rattle.ice_cli.specs.declared.words.Command.{Command};
 ghost use Rattle.ice_cli.specs.Words.{command_of};
@@ -32,7 +32,8 @@ fn play_and_report<S: Base, K: Sink>(
     out: &mut K,
 ) -> Result<Status, AllocError>
     requires { IsWell script.now }
-    ensures { IfOk result (λ status. WasPlayed draw script.now (S.view store.old) (S.view store.new) (K.at out.old) (K.at out.new) status) }
+    ensures untold { IfErr result (λ error. WasUntold draw script.now (S.view store.old) (S.view store.new) (K.at out.old) (K.at out.new)) }
+    ensures played { IfOk result (λ status. WasPlayed draw script.now (S.view store.old) (S.view store.new) (K.at out.old) (K.at out.new) status) }
 {
     let played = play(alloc, script, draw, store)?;
     finish(alloc, script, &played, out)
@@ -42,6 +43,7 @@ fn play_and_report<S: Base, K: Sink>(
 fn read_script<I: Source>(alloc: Global, input: &mut I) -> Result<Script, Status>
     ensures reads { MatchResult result (HasScript (I.at input.old) (I.at input.new)) (HasNone (I.at input.old) (I.at input.new)) }
     ensures well { IfOk result IsWell }
+    ensures bound { TakesAtMost most_input (I.at input.old) (I.at input.new) }
 {
     let text = read_input(alloc, input, MOST_INPUT)?;
     Ok(Script::read(alloc, text.as_slice())?)
@@ -56,6 +58,7 @@ fn run_input<I: Source, S: Base, K: Sink>(
     out: &mut K,
 ) -> Status
     ensures ends { Ends draw (I.at input.old) (I.at input.new) (S.view store.old) (S.view store.new) (K.at out.old) (K.at out.new) result }
+    ensures bound { TakesAtMost most_input (I.at input.old) (I.at input.new) }
     ensures store_fault { result ≡ Status.StoreFault → Rose (S.view store.old).faults (S.view store.new).faults }
     ensures write_fault { result ≡ Status.WriteFault → Rose (K.at out.old).faults (K.at out.new).faults }
 {
@@ -82,8 +85,11 @@ pub fn run<I: Source, S: Base, K: Sink>(
 
     // Else the status tells of the input: a fault of the source only where it rose; the first line that is refused, exactly; and
     // then nothing has been done or written. Every other status but want of memory has read a script, played it over the
-    // store, and written its report, whole, or less where the sink failed.
+    // store, and written its report, whole, or less where the sink failed. Of want of memory it tells how far all this came.
     ensures ends { (command : Command) → command_of words.now ≡ Ok command → Ends draw (I.at input.old) (I.at input.new) (S.view store) (S.view result.store) (K.at out.old) (K.at out.new) result.status }
+
+    // At most 1,048,577 bytes of the input are read, whatever the status.
+    ensures bound { TakesAtMost most_input (I.at input.old) (I.at input.new) }
 
     // A fault of the store or of the sink is told only where their counts of faults rose. So where the words are a command, the
     // script is well and no count rises, the status is Ok or Refused, or NoMemory.

@@ -1,6 +1,6 @@
 -- The histories of a course.
 use Rattle.std.proofs.Common.{◌≡◌, ℕ, ◌<◌, ◌-◌, ◌^◌, inl, inr, List, [], length, refl, sym, ◌∙◌, ap, subst, append-nil, arith}
-use Rattle.std.specs.Prelude.{Option, Some, None, Result, Ok, Err, IsTrue, IfOk, map}
+use Rattle.std.specs.Prelude.{Option, Some, None, Result, Ok, Err, IsTrue, IfOk, IfErr, map}
 use Rattle.std.specs.declared.alloc.AllocError.{AllocError}
 use Rattle.ice_ids.specs.declared.Id12.{Id12}
 use Rattle.ice_ids.specs.declared.drawing.Draw.{Draw}
@@ -10,10 +10,11 @@ use Rattle.store_api.specs.declared.events.Event.{Event}
 use Rattle.store_api.specs.declared.keys.Key.TheVariants.{Branch}
 use Rattle.store_api.specs.declared.machines.Refusal.{Refusal}
 use Rattle.store_api.specs.Machine.{Stored, found}
-use Rattle.store_api.specs.Journal.{tree_of}
+use Rattle.store_api.specs.Journal.{IsGood, tree_of}
 use Rattle.store_api.specs.Callers.{Caller, View, HasAll, as_client}
 use Rattle.store_api.specs.Program.{Prog, Done, Path}
 use Rattle.store_api.proofs.Journals.{Each-none}
+use Rattle.store_api.proofs.Programs.{Path-none}
 use Rattle.histories.specs.Repository.{Entry, last}
 use Rattle.histories.specs.Calls.{history_of, StandsAs}
 use Rattle.repository.specs.Running.{Asks, Ran}
@@ -26,10 +27,10 @@ use Rattle.play_report.specs.declared.outcome.Outcome.{Outcome}
 use Rattle.play_report.specs.declared.outcome.RefLine.{RefLine}
 use Rattle.play_run.specs.Order.{IsOfClient}
 use Rattle.run_histories.specs.Runs.{RanAlone, PlayedAlone, IsSound}
-use Rattle.run_histories.specs.Told.{RunLaw}
+use Rattle.run_histories.specs.Told.{HasHistories, RunLaw}
 use Rattle.play_tasks.specs.Workers.{worker_rest}
 use Rattle.play_course.specs.declared.course.Played.{Played}
-use Rattle.play_course.specs.Course.{Course, Plays}
+use Rattle.play_course.specs.Course.{Course, OnlyBegan, Plays}
 use Rattle.play_course.specs.Leaving.{TellsEnds, Leaves}
 
 -- ---- the parts of a run
@@ -125,3 +126,21 @@ pub played-leaves : RunLaw → RefsLaw → (draw : Draw) (script : Script) (old 
     → IfOk result (λ played. Leaves draw script.tasks before old.seen new.seen played.refs)
 played-leaves run closing draw script old new (Ok played) well c t before sound = course-leaves run closing draw script old new played.opening (map worker_rest played.workers.items) played.refs (few-tasks script well) c t before sound
 played-leaves run closing draw script old new (Err error) well c t before sound = tt
+
+-- where the repository was begun at most
+began-kept : RunLaw → (draw : Draw) (script : Script) (old new : View) → length script.tasks < 2 ^ 32 - 1 → OnlyBegan old new → IsTrue old.caller.tells → (before : ℕ → Changes) → IsSound old.seen before → HasHistories draw script.tasks before old.seen new.seen
+began-kept run draw script old new few b t before sound =
+    let all : HasAll (as_client 0 old).caller = record { low = b.alone.low; end = b.alone.end } in
+    run draw script.tasks before old.seen new.seen sound (record {
+      few = few;
+      begun = new.seen;
+      played = new.seen;
+      opening = ran-alone (as_client 0 old).caller begin_program b.opening old.seen new.seen all (b.begins.ran t);
+      playing = record { own = []; is = sym (append-nil new.seen); owed = Each-none (IsOfClient draw script.tasks) new.seen };
+      closing = record { own = []; is = sym (append-nil new.seen); good = Each-none IsGood new.seen; left = refs_program; path = Path-none refs_program };
+    })
+
+pub unplayed-kept : RunLaw → (draw : Draw) (script : Script) (old new : View) (result : Result Played AllocError) → IsWell script → IfErr result (λ error. OnlyBegan old new) → IsTrue old.caller.tells → (before : ℕ → Changes) → IsSound old.seen before
+    → IfErr result (λ error. HasHistories draw script.tasks before old.seen new.seen)
+unplayed-kept run draw script old new (Ok played) well b t before sound = tt
+unplayed-kept run draw script old new (Err error) well b t before sound = began-kept run draw script old new (few-tasks script well) b t before sound

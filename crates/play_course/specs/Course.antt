@@ -30,6 +30,13 @@ pub record PlaysTasks (draw : Draw) (script : Script) (old new : View) (ends : L
   pub counted : old.faults ≤ new.faults
   pub tells : new.caller.tells ≡ old.caller.tells
 
+-- From old to new the repository was begun, by client 0 and with this answer, and nothing else was done: there was no
+-- memory for the workers of the tasks.
+pub record OnlyBegan (old new : View) : Type 0 where
+  pub alone : HasAll old.caller
+  pub opening : Result (Unit {0}) Refusal
+  pub begins : Runs (as_client 0 old) new begin_program opening
+
 -- no task is played where the repository couldn't be begun
 abbrev pub Plays : Draw → Script → View → View → Result (Unit {0}) Refusal → List (Prog Outcome) → Type 0
 Plays draw script old new (Ok done) ends = PlaysTasks draw script old new ends

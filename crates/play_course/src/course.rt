@@ -1,11 +1,12 @@
 //! The course of a run.
 
-ghost use Rattle.std.specs.Prelude.{◌≡◌, ℕ, [], All, map, length, IfOk, IsTrue};
+ghost use Rattle.std.specs.Prelude.{◌≡◌, ℕ, [], All, map, length, IfOk, IfErr, IsTrue};
 ghost use Rattle.tree_model.specs.Changes.{Changes};
 ghost use Rattle.play_script.specs.Well.{IsWell, IsWellTurn};
 ghost use Rattle.play_tasks.specs.Workers.{worker_rest};
 ghost use Rattle.run_histories.specs.Runs.{IsSound};
-ghost use Rattle.play_course.specs.Course.{turns_in, Course, PlaysTasks, Plays};
+ghost use Rattle.run_histories.specs.Told.{HasHistories};
+ghost use Rattle.play_course.specs.Course.{turns_in, Course, OnlyBegan, PlaysTasks, Plays};
 ghost use Rattle.play_course.specs.Leaving.{Leaves};
 ghost use Rattle.play_course.specs.Refusing.{NothingStrange};
 
@@ -50,7 +51,8 @@ fn run_script<'a, S: Base>(
     store: &mut S,
 ) -> Result<Vec<Worker<'a>>, AllocError>
     requires { IsWell script.now }
-    ensures { IfOk result (λ workers. PlaysTasks draw script.now (S.view store.old) (S.view store.new) (map worker_rest workers.items)) }
+    ensures nothing { IfErr result (λ error. S.view store.new ≡ S.view store.old) }
+    ensures plays { IfOk result (λ workers. PlaysTasks draw script.now (S.view store.old) (S.view store.new) (map worker_rest workers.items)) }
 {
     let turns = turns_of(script);
     run_tasks(alloc, script.tasks.as_slice(), draw, turns, store)
@@ -65,7 +67,8 @@ fn play_tasks<'a, S: Base>(
     store: &mut S,
 ) -> Result<Vec<Worker<'a>>, AllocError>
     requires { IsWell script.now }
-    ensures { IfOk result (λ workers. Plays draw script.now (S.view store.old) (S.view store.new) opening.now (map worker_rest workers.items)) }
+    ensures nothing { IfErr result (λ error. S.view store.new ≡ S.view store.old) }
+    ensures plays { IfOk result (λ workers. Plays draw script.now (S.view store.old) (S.view store.new) opening.now (map worker_rest workers.items)) }
 {
     match opening {
         Ok(()) => run_script(alloc, script, draw, store),
@@ -81,7 +84,8 @@ fn play_through<'a, S: Base>(
     store: &mut S,
 ) -> Result<Played<'a>, AllocError>
     requires { IsWell script.now }
-    ensures { IfOk result (λ played. Course draw script.now (S.view store.old) (S.view store.new) played.opening (map worker_rest played.workers.items) played.refs) }
+    ensures began { IfErr result (λ error. OnlyBegan (S.view store.old) (S.view store.new)) }
+    ensures course { IfOk result (λ played. Course draw script.now (S.view store.old) (S.view store.new) played.opening (map worker_rest played.workers.items) played.refs) }
 {
     store.set_client(0);
     let opening = begin(alloc, store);
@@ -107,6 +111,10 @@ pub fn play<'a, S: Base>(
     requires { IsWell script.now }
     ensures course { IfOk result (λ played. Course draw script.now (S.view store.old) (S.view store.new) played.opening (map worker_rest played.workers.items) played.refs) }
 
+    // Without memory for the workers the repository may have been begun, and nothing else has been done; the histories are
+    // kept then, too.
+    ensures began { IfErr result (λ error. OnlyBegan (S.view store.old) (S.view store.new)) }
+    ensures kept { IsTrue (S.view store.old).caller.tells → (before : ℕ → Changes) → IsSound (S.view store.old).seen before → IfErr result (λ error. HasHistories draw script.now.tasks before (S.view store.old).seen (S.view store.new).seen) }
     // Over a store that tells its journal, where that is sound, the branches' histories are kept, and the refs that were
     // read are their ends.
     ensures leaves { IsTrue (S.view store.old).caller.tells → (before : ℕ → Changes) → IsSound (S.view store.old).seen before → IfOk result (λ played. Leaves draw script.now.tasks before (S.view store.old).seen (S.view store.new).seen played.refs) }
