@@ -1,3 +1,4 @@
+use crate::ending::Ended;
 use crate::statuses::Status;
 use crate::top_call::run;
 use crate::words::{Command, UsageFault, Word, read_words, words_of};
@@ -7,6 +8,7 @@ use mem_store::{FaultStore, MemStore};
 use play_script::ScriptKind;
 use std::alloc::Global;
 use std::test::Fail;
+use store_api::{Over, Reply};
 
 fn said(alloc: Global, texts: &[&str]) -> Result<Result<Command, UsageFault>, Fail> {
     let mut words = Vec::new(alloc);
@@ -81,22 +83,51 @@ fn numbers_and_lines(rt: HostRuntime) -> Result<(), Fail> {
     Ok(())
 }
 
-/// The status of a script over a store that fails these calls, and whether this was printed.
+/// Which reads of the input, writes of the output and calls of the store fail; a call of the store may be done all the same.
+#[derive(Clone, Copy)]
+struct Failing<'a> {
+    reads: &'a [u64],
+    writes: &'a [u64],
+    calls: &'a [(u64, bool)],
+}
+
+const NOTHING_FAILS: Failing<'static> = Failing {
+    reads: &[],
+    writes: &[],
+    calls: &[],
+};
+
+type Stored = FaultStore<TickClock>;
+
+/// A run of a script over a store that was empty, and what it wrote.
+fn ran(
+    alloc: Global,
+    words: &[&str],
+    script: &[u8],
+    failing: Failing<'_>,
+) -> Result<(Ended<Stored>, ByteSink), Fail> {
+    let mut given = Vec::new(alloc);
+    for word in words {
+        given.push(Word::new(String::from_str(alloc, word)?))?;
+    }
+    let mut input = ByteSource::new(script.to_vec(alloc)?, failing.reads.to_vec(alloc)?);
+    let mut output = ByteSink::new(alloc, 200, failing.writes.to_vec(alloc)?)?;
+    let calls = failing.calls.to_vec(alloc)?;
+    let store = FaultStore::new(MemStore::new(alloc, TickClock::new()), calls);
+    let ended = run(alloc, &given, Draw::Count, &mut input, store, &mut output);
+    Ok((ended, output))
+}
+
+/// The status of a script, whether this was printed, and the number of operations of the store.
 fn played(
     alloc: Global,
     script: &[u8],
-    plan: Vec<(u64, bool)>,
+    failing: Failing<'_>,
     printed: &[u8],
-) -> Result<(Status, bool), Fail> {
-    let mut text = Vec::new(alloc);
-    text.extend_from_slice(script)?;
-    let mut words = Vec::new(alloc);
-    words.push(Word::new(String::from_str(alloc, "play")?))?;
-    let mut input = ByteSource::new(text, Vec::new(alloc));
-    let mut output = ByteSink::new(alloc, 200, Vec::new(alloc))?;
-    let store = FaultStore::new(MemStore::new(alloc, TickClock::new()), plan);
-    let ended = run(alloc, &words, Draw::Count, &mut input, store, &mut output);
-    Ok((ended.status, output.written() == printed))
+) -> Result<(Status, bool, usize), Fail> {
+    let (ended, output) = ran(alloc, &["play"], script, failing)?;
+    let same = output.written() == printed;
+    Ok((ended.status, same, ended.store.events().len()))
 }
 
 const SMALLEST_COMMIT: &[u8] = b"task a write main 0 fail\ngroup /\ncommit first\n";
@@ -104,9 +135,20 @@ const SMALLEST_COMMIT: &[u8] = b"task a write main 0 fail\ngroup /\ncommit first
 #[test]
 fn smallest_commit_in_memory(rt: HostRuntime) -> Result<(), Fail> {
     let printed = b"a committed 0000008000000000000G\nbranch main 0000008000000000000G\n";
-    let none = Vec::new(rt.alloc());
-    let told = played(rt.alloc(), SMALLEST_COMMIT, none, printed)?;
-    assert_eq!(rt; told, (Status::Ok, true));
+    let told = played(rt.alloc(), SMALLEST_COMMIT, NOTHING_FAILS, printed)?;
+    assert_eq!(rt; told, (Status::Ok, true, 10));
+    Ok(())
+}
+
+#[test]
+fn empty_input(rt: HostRuntime) -> Result<(), Fail> {
+    let told = played(
+        rt.alloc(),
+        b"",
+        NOTHING_FAILS,
+        b"branch main 1CECHNKREP0F1RSTCMT0\n",
+    )?;
+    assert_eq!(rt; told, (Status::Ok, true, 5));
     Ok(())
 }
 
@@ -118,29 +160,72 @@ fn newest_snapshot_is_not_read(rt: HostRuntime) -> Result<(), Fail> {
         task r read branch main\nlist /\nturns a*5 r b*5 r\n";
     let printed =
         b"a committed 0000008000000000000G\nb committed 000000G000000000000G\nr done\nbranch main 000000G000000000000G\n";
-    let none = Vec::new(rt.alloc());
-    let told = played(rt.alloc(), script, none, printed)?;
-    assert_eq!(rt; told, (Status::Ok, true));
+    let told = played(rt.alloc(), script, NOTHING_FAILS, printed)?;
+    assert_eq!(rt; told, (Status::Ok, true, 17));
+    Ok(())
+}
+
+#[test]
+fn no_words_at_all(rt: HostRuntime) -> Result<(), Fail> {
+    let (ended, output) = ran(rt.alloc(), &[], SMALLEST_COMMIT, NOTHING_FAILS)?;
+    assert_eq!(rt; ended.status, Status::Usage(UsageFault::NoCommand));
+    assert_eq!(rt; ended.status.number(), 2);
+    assert_eq!(rt; ended.store.events().len(), 0);
+    assert_eq!(rt; output.written(), b"".as_slice());
+    Ok(())
+}
+
+#[test]
+fn source_that_fails_its_first_read(rt: HostRuntime) -> Result<(), Fail> {
+    let failing = Failing {
+        reads: &[0],
+        ..NOTHING_FAILS
+    };
+    let told = played(rt.alloc(), SMALLEST_COMMIT, failing, b"")?;
+    assert_eq!(rt; told, (Status::ReadFault, true, 0));
+    Ok(())
+}
+
+/// Nothing is written, and the commit has been made: event 6 put the branch over.
+#[test]
+fn sink_that_fails_its_first_write(rt: HostRuntime) -> Result<(), Fail> {
+    let failing = Failing {
+        writes: &[0],
+        ..NOTHING_FAILS
+    };
+    let (ended, output) = ran(rt.alloc(), &["play"], SMALLEST_COMMIT, failing)?;
+    assert_eq!(rt; ended.status, Status::WriteFault);
+    assert_eq!(rt; output.written(), b"".as_slice());
+    assert_eq!(rt; ended.store.events().len(), 10);
+    let moved = match ended.store.events()[6].reply {
+        Reply::Over(Over::Done { .. }) => true,
+        _ => false,
+    };
+    assert!(rt; moved);
     Ok(())
 }
 
 #[test]
 fn store_that_fails_the_opening_of_a_session(rt: HostRuntime) -> Result<(), Fail> {
+    let failing = Failing {
+        calls: &[(2, false)],
+        ..NOTHING_FAILS
+    };
     let printed = b"a refused 1 storefault\nbranch main 1CECHNKREP0F1RSTCMT0\n";
-    let mut plan = Vec::new(rt.alloc());
-    plan.push((2, false))?;
-    let told = played(rt.alloc(), SMALLEST_COMMIT, plan, printed)?;
-    assert_eq!(rt; told, (Status::StoreFault, true));
+    let told = played(rt.alloc(), SMALLEST_COMMIT, failing, printed)?;
+    assert_eq!(rt; told, (Status::StoreFault, true, 6));
     Ok(())
 }
 
 /// The put of the branch was done, and its answer was lost.
 #[test]
 fn store_that_loses_the_answer_to_a_commit(rt: HostRuntime) -> Result<(), Fail> {
+    let failing = Failing {
+        calls: &[(6, true)],
+        ..NOTHING_FAILS
+    };
     let printed = b"a refused 3 storefault\nbranch main 0000008000000000000G\n";
-    let mut plan = Vec::new(rt.alloc());
-    plan.push((6, true))?;
-    let told = played(rt.alloc(), SMALLEST_COMMIT, plan, printed)?;
-    assert_eq!(rt; told, (Status::StoreFault, true));
+    let told = played(rt.alloc(), SMALLEST_COMMIT, failing, printed)?;
+    assert_eq!(rt; told, (Status::StoreFault, true, 10));
     Ok(())
 }
