@@ -1,4 +1,4 @@
--- Ids and indices in the tables of files: how they are read, and their layout. (Icechunk specification version 1: ids are
+-- Ids, indices and bytes in the tables of files: how ids and indices are read, and the layout of all three. (Icechunk specification version 1: ids are
 -- structs of bytes, indices are vectors of u32.)
 use Rattle.std.specs.Prelude.{◌≡◌, ◌<◌, ◌^◌, ℕ, List, length, map, Result, Ok}
 use Rattle.std.specs.List.{flat_map, AllByRecursion}
@@ -34,7 +34,7 @@ index_of t slot = do
   v ← required slot (vector_of t slot 4)
   Ok (map (from_le_bytes w32) (items_of v))
 
--- their fields
+-- their fields, and that of bytes
 abbrev pub id8_part : Id8 → Part
 id8_part id = inline 1 id.0
 
@@ -43,6 +43,9 @@ id12_part id = inline 1 id.0
 
 abbrev pub index_part : List ℕ → Part
 index_part index = offset_to (vector_block 4 (length index) (flat_map (to_le_bytes w32) index))
+
+abbrev pub bytes_part : List ℕ → Part
+bytes_part bytes = offset_to (vector_block 1 (length bytes) bytes)
 
 -- what the types say of them
 abbrev pub IsId8 : Id8 → Type 0

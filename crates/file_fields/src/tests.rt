@@ -8,14 +8,23 @@ use std::alloc::{AllocError, Global};
 use std::test::Fail;
 use zarr_path::Index;
 
-/// A table with an object id, a node id and an index.
-fn row(alloc: Global, object: &Id12, node: &Id8, index: &Index) -> Result<Flat, AllocError>
+/// A table with an object id, a node id, an index, bytes and a number.
+fn row(
+    alloc: Global,
+    object: &Id12,
+    node: &Id8,
+    index: &Index,
+    bytes: &[u8],
+    number: u64,
+) -> Result<Flat, AllocError>
     ensures { IfOk result (λ f. IsTrue (is_writable f)) }
 {
     let slots = [
         id12_slot(alloc, object)?,
         id8_slot(alloc, node)?,
         index_slot(alloc, index)?,
+        bytes_slot(alloc, bytes)?,
+        u64_slot(number),
     ];
     Ok(Flat {
         slots: Vec::from_array(alloc, slots)?,
@@ -28,14 +37,20 @@ fn written_fields_are_read_again(rt: HostRuntime) -> Result<(), Fail> {
     let object = Id12([1, 2, 3, 4, 5, 6, 7, 8, 9, 10, 11, 255]);
     let node = Id8([8, 7, 6, 5, 4, 3, 2, 1]);
     let index = Index::from_parts(Vec::from_array(alloc, [7, 4_294_967_295])?);
-    let payload = flat_write(alloc, &row(alloc, &object, &node, &index)?)?;
+    let payload = flat_write(
+        alloc,
+        &row(alloc, &object, &node, &index, b"ab\0", u64::MAX - 1)?,
+    )?;
     let table = Table::root(&payload)?;
     assert_eq!(rt; id12_of(&table, 0), Ok(object));
     assert_eq!(rt; id8_of(&table, 1), Ok(node));
     assert!(rt; index_of(alloc, &table, 2)? == index);
-    let absent = FileFault::Flat(FlatFault::Missing { slot: 3 });
-    assert_eq!(rt; id8_of(&table, 3), Err(absent));
-    assert_eq!(rt; index_of(alloc, &table, 3).err(), Some(absent));
+    let bytes = table.vector(3, 1)?;
+    assert_eq!(rt; bytes.map(|v| v.all()), Some(b"ab\0".as_slice()));
+    assert_eq!(rt; table.scalar(4, 8)?, Some(u64::MAX - 1));
+    let absent = FileFault::Flat(FlatFault::Missing { slot: 5 });
+    assert_eq!(rt; id8_of(&table, 5), Err(absent));
+    assert_eq!(rt; index_of(alloc, &table, 5).err(), Some(absent));
     Ok(())
 }
 

@@ -1,6 +1,7 @@
-ghost use Rattle.std.specs.Prelude.{◌≡◌, IsTrue, IfOk, OnOk};
+ghost use Rattle.std.specs.Prelude.{◌≡◌, ◌<◌, ◌^◌, IsTrue, IfOk, OnOk};
+ghost use Rattle.flat_tables.specs.Layout.{scalar};
 ghost use Rattle.flat_tables.specs.Trees.{part_of, is_writable_slot};
-ghost use Rattle.file_fields.specs.Fields.{id8_part, id12_part, index_part, IsId8, IsId12, IsIndex};
+ghost use Rattle.file_fields.specs.Fields.{id8_part, id12_part, index_part, bytes_part, IsId8, IsId12, IsIndex};
 
 use flat_tables::Slot;
 use ice_ids::{Id8, Id12};
@@ -45,6 +46,27 @@ pub fn id12_slot(alloc: Global, id: &Id12) -> Result<Slot, AllocError>
         align: 1,
         bytes: Vec::from_slice(alloc, &id12_bytes(id))?,
     })
+}
+
+/// The field of bytes.
+pub fn bytes_slot(alloc: Global, bytes: &[u8]) -> Result<Slot, AllocError>
+    ensures part { IfOk result (λ s. part_of s ≡ bytes_part bytes.now) }
+    ensures writable { IfOk result (λ s. IsTrue (is_writable_slot s)) }
+{
+    Ok(Slot::Structs {
+        align: 1,
+        size: 1,
+        bytes: Vec::from_slice(alloc, bytes)?,
+    })
+}
+
+/// The field of a number of 64 bits.
+pub fn u64_slot(value: u64) -> Slot
+    ensures part { part_of result ≡ scalar 8 value }
+    ensures writable { IsTrue (is_writable_slot result) }
+    ensures small { value < 2 ^ 64 }
+{
+    Slot::Scalar { size: 8, value }
 }
 
 /// The field of an index.

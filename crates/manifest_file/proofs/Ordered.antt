@@ -1,27 +1,18 @@
 -- What a file of a manifest stands for is in order and within the limit.
-use Rattle.std.proofs.Common.{◌≡◌, ℕ, ◌+◌, ◌≤◌, Bool, true, false, cond, List, [], ◌∷◌, ◌++◌, length, drop, Ok, Err, refl, sym, subst, append_assoc, arith}
-use Rattle.std.proofs.lemmas.Bool.{ltb-false}
+use Rattle.std.proofs.Common.{◌≡◌, ℕ, ◌+◌, ◌≤◌, List, [], ◌∷◌, ◌++◌, length, drop, Ok, sym, subst, append_assoc, arith}
 use Rattle.std.proofs.lemmas.List.{append-nil}
 use Rattle.std.specs.List.{AllByRecursion}
 use Rattle.flat_tables.specs.declared.header.Kind.TheVariants as kinds
-use Rattle.flat_tables.specs.declared.fault.FileFault.TheVariants.{Limit}
 use Rattle.flat_tables.specs.Places.{TableIn, VectorIn, root_of, vector_of, table_of}
 use Rattle.flat_tables.specs.Rows.{flat, required, at_most, each, in_order}
 use Rattle.flat_tables.proofs.Loop.{ReadsAll, bind_ok, rows_read, were_read}
 use Rattle.file_fields.specs.Fields.{id8_of, id12_of}
-use Rattle.file_fields.proofs.WasRead.{rows_ascend, rows_count, value_is, payload_was}
+use Rattle.file_fields.proofs.WasRead.{rows_ascend, rows_count, value_is, payload_was, within_limit}
 use Rattle.manifest_file.specs.declared.manifest.ArrayRefs.{ArrayRefs}
 use Rattle.manifest_file.specs.declared.manifest.ManifestFile.{ManifestFile}
 use Rattle.manifest_file.specs.Manifests.{refs_limit, refs_of, ref_key, array_key, ref_at, refs_in, array_of, array_at, array_behind, arrays_in, payload_of, manifest_of}
 use Rattle.manifest_file.specs.Layout.{RefsAscend, CanWrite}
 use Rattle.manifest_file.proofs.Behind.{refs_more}
-
-limit_cases : (b : Bool) (limit n m : ℕ) → (b ≡ false → n ≤ limit) → cond b (Err Limit) (Ok n) ≡ Ok m → n ≤ limit
-limit_cases true limit n m within e = absurd cc
-limit_cases false limit n m within e = within refl
-
-within_limit : (limit n m : ℕ) → at_most limit n ≡ Ok m → n ≤ limit
-within_limit limit n m e = limit_cases _ limit n m (ltb-false limit n) e
 
 -- an array that was read behind so many chunks
 record WasArray (before : ℕ) (array : ArrayRefs) : Type 0 where

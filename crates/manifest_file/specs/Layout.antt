@@ -1,21 +1,17 @@
 -- The one file of a manifest, and what can be written.
-use Rattle.std.specs.Prelude.{◌<◌, ◌≤◌, ◌^◌, ℕ, List, [], ◌∷◌, ◌++◌, length, map, None}
+use Rattle.std.specs.Prelude.{◌<◌, ◌≤◌, ◌^◌, ℕ, List, [], ◌∷◌, ◌++◌, map, None}
 use Rattle.std.specs.List.{AllByRecursion}
 use Rattle.flat_tables.specs.declared.header.Kind.TheVariants as kinds
 use Rattle.flat_tables.specs.Header.{header}
 use Rattle.flat_tables.specs.Rows.{Ascends}
-use Rattle.flat_tables.specs.Layout.{Part, Block, absent, scalar, offset_to, vector_block, tables_block, table_block, payload}
-use Rattle.file_fields.specs.Fields.{id8_part, id12_part, index_part, IsId8, IsId12, IsIndex}
+use Rattle.flat_tables.specs.Layout.{Part, Block, absent, scalar, offset_to, tables_block, table_block, payload}
+use Rattle.file_fields.specs.Fields.{id8_part, id12_part, index_part, bytes_part, IsId8, IsId12, IsIndex}
 use Rattle.manifest_file.specs.declared.manifest.Place.{Place}
 use Rattle.manifest_file.specs.declared.manifest.Place.TheVariants.{Inline, Object}
 use Rattle.manifest_file.specs.declared.manifest.ChunkRef.{ChunkRef}
 use Rattle.manifest_file.specs.declared.manifest.ArrayRefs.{ArrayRefs}
 use Rattle.manifest_file.specs.declared.manifest.ManifestFile.{ManifestFile}
 use Rattle.manifest_file.specs.Manifests.{refs_limit, refs_of, ref_key, array_key}
-
--- bytes
-abbrev pub bytes_part : List ℕ → Part
-bytes_part bytes = offset_to (vector_block 1 (length bytes) bytes)
 
 -- table ChunkRef: the slots behind the index; the last three are never written
 abbrev pub place_parts : Place → List Part

@@ -1,39 +1,18 @@
 ghost use Rattle.std.specs.Prelude.{◌≡◌, ◌+◌, ◌^◌, ◌<◌, ◌∷◌, length, IsTrue, IfOk, OnOk, Ok};
 ghost use Rattle.std.specs.List.{AllByRecursion};
 ghost use Rattle.flat_tables.specs.File.{Writes};
-ghost use Rattle.flat_tables.specs.Layout.{payload, scalar, table_block};
+ghost use Rattle.flat_tables.specs.Layout.{payload, table_block};
 ghost use Rattle.flat_tables.specs.Trees.{layout, part_of, is_writable, is_writable_slot};
 ghost use Rattle.file_fields.specs.Fields.{IsId12};
 ghost use Rattle.manifest_file.specs.Manifests.{manifest_of};
-ghost use Rattle.manifest_file.specs.Layout.{bytes_part, place_parts, ref_block, refs_part, array_block, arrays_part, manifest_block, file_bytes, CanWrite, IsRef, IsArray, IsManifest};
+ghost use Rattle.manifest_file.specs.Layout.{place_parts, ref_block, refs_part, array_block, arrays_part, manifest_block, file_bytes, CanWrite, IsRef, IsArray, IsManifest};
 
 use crate::manifest::{ArrayList, ArrayRefs, ChunkRef, ManifestFile, Place, RefList};
-use file_fields::{id8_slot, id12_slot, index_slot};
+use file_fields::{bytes_slot, id8_slot, id12_slot, index_slot, u64_slot};
 use flat_tables::{Flat, Kind, Slot, WriteFault, flat_write, header_write};
 use ice_base::Bytes;
 use ice_ids::Id12;
 use std::alloc::{AllocError, Global};
-
-/// A field of bytes.
-fn bytes_slot(alloc: Global, bytes: &Bytes) -> Result<Slot, AllocError>
-    ensures part { IfOk result (λ s. part_of s ≡ bytes_part bytes.now) }
-    ensures writable { IfOk result (λ s. IsTrue (is_writable_slot s)) }
-{
-    Ok(Slot::Structs {
-        align: 1,
-        size: 1,
-        bytes: Vec::from_slice(alloc, bytes.as_slice())?,
-    })
-}
-
-/// A field of a number of 64 bits.
-fn number_slot(value: u64) -> Slot
-    ensures part { part_of result ≡ scalar 8 value }
-    ensures writable { IsTrue (is_writable_slot result) }
-    ensures small { value < 2 ^ 64 }
-{
-    Slot::Scalar { size: 8, value }
-}
 
 /// The table of a chunk whose bytes stand in the manifest.
 fn inline_table(alloc: Global, index: Slot, bytes: &Bytes) -> Result<Flat, AllocError>
@@ -43,7 +22,7 @@ fn inline_table(alloc: Global, index: Slot, bytes: &Bytes) -> Result<Flat, Alloc
 {
     let slots = [
         index,
-        bytes_slot(alloc, bytes)?,
+        bytes_slot(alloc, bytes.as_slice())?,
         Slot::Absent,
         Slot::Absent,
         Slot::Absent,
@@ -72,8 +51,8 @@ fn object_table(
     let slots = [
         index,
         Slot::Absent,
-        number_slot(offset),
-        number_slot(length),
+        u64_slot(offset),
+        u64_slot(length),
         id12_slot(alloc, id)?,
         Slot::Absent,
         Slot::Absent,

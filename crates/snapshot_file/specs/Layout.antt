@@ -5,7 +5,7 @@ use Rattle.std.specs.Int.{w32, w64, to_le_bytes}
 use Rattle.std.specs.Str.{IsUtf8}
 use Rattle.zarr_path.specs.Paths.{is_path}
 use Rattle.ice_ids.specs.declared.Id12.{Id12}
-use Rattle.file_fields.specs.Fields.{id8_part, id12_part, IsId8, IsId12}
+use Rattle.file_fields.specs.Fields.{id8_part, id12_part, bytes_part, IsId8, IsId12}
 use Rattle.flat_tables.specs.declared.header.Kind.TheVariants as kinds
 use Rattle.flat_tables.specs.Header.{header}
 use Rattle.flat_tables.specs.Rows.{Ascends}
@@ -20,9 +20,6 @@ use Rattle.snapshot_file.specs.Snapshots.{node_limit, node_key, file_key, first_
 
 abbrev pub text_part : List ℕ → Part
 text_part text = offset_to (text_block text)
-
-abbrev pub bytes_part : List ℕ → Part
-bytes_part bytes = offset_to (vector_block 1 (length bytes) bytes)
 
 -- table DimensionName
 abbrev pub name_parts : Option (List ℕ) → List Part

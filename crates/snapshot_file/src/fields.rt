@@ -4,7 +4,7 @@ ghost use Rattle.std.specs.Str.{IsUtf8};
 ghost use Rattle.flat_tables.specs.Layout.{scalar};
 ghost use Rattle.flat_tables.specs.Trees.{part_of, is_writable_slot};
 ghost use Rattle.file_fields.specs.Fields.{IsId12};
-ghost use Rattle.snapshot_file.specs.Layout.{text_part, bytes_part, dimension_bytes, extent_bytes, info_head, info_tail, IsDimension, IsExtent};
+ghost use Rattle.snapshot_file.specs.Layout.{text_part, dimension_bytes, extent_bytes, info_head, info_tail, IsDimension, IsExtent};
 
 use file_fields::id12_bytes;
 use flat_tables::Slot;
@@ -18,27 +18,6 @@ pub fn text_slot(alloc: Global, text: &str) -> Result<Slot, AllocError>
     ensures text { IsUtf8 text.now }
 {
     Ok(Slot::Text(String::from_str(alloc, text)?))
-}
-
-/// A vector of bytes.
-pub fn bytes_slot(alloc: Global, bytes: &[u8]) -> Result<Slot, AllocError>
-    ensures part { IfOk result (λ s. part_of s ≡ bytes_part bytes.now) }
-    ensures writable { IfOk result (λ s. IsTrue (is_writable_slot s)) }
-{
-    Ok(Slot::Structs {
-        align: 1,
-        size: 1,
-        bytes: Vec::from_slice(alloc, bytes)?,
-    })
-}
-
-/// A number of 64 bits.
-pub fn u64_slot(value: u64) -> Slot
-    ensures part { part_of result ≡ scalar 8 value }
-    ensures writable { IsTrue (is_writable_slot result) }
-    ensures small { value < 2 ^ 64 }
-{
-    Slot::Scalar { size: 8, value }
 }
 
 /// A number of 8 bits.

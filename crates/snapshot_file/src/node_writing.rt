@@ -4,10 +4,10 @@ ghost use Rattle.flat_tables.specs.Layout.{part_if};
 ghost use Rattle.flat_tables.specs.Trees.{layout, part_of, is_writable, is_writable_slot};
 ghost use Rattle.snapshot_file.specs.Layout.{text_part, name_block, names_part, extents_part, manifest_block, manifests_part, shape_part, kind_block, type_of, node_block, IsDimension, IsExtent, IsName, IsManifest, IsKind, IsNode};
 
-use crate::fields::{bytes_slot, dimension_bytes, extent_bytes, text_slot, u8_slot};
+use crate::fields::{dimension_bytes, extent_bytes, text_slot, u8_slot};
 use crate::lists::{Extents, ManifestRefs, Names, Shape, Text};
 use crate::nodes::{ManifestRef, NodeKind, NodeRow};
-use file_fields::{id8_slot, id12_slot};
+use file_fields::{bytes_slot, id8_slot, id12_slot};
 use flat_tables::{Flat, Slot};
 use std::alloc::{AllocError, Global};
 

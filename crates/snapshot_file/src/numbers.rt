@@ -1,5 +1,5 @@
 ghost use Rattle.std.specs.Prelude.{◌≡◌, length, take, drop};
-ghost use Rattle.std.specs.Int.{w32, w64, from_le_bytes};
+ghost use Rattle.std.specs.Int.{w64, from_le_bytes};
 ghost use Rattle.snapshot_file.specs.Nodes.{dimension_of, extent_of};
 ghost use Rattle.snapshot_file.specs.Snapshots.{info_of};
 

@@ -7,11 +7,11 @@ ghost use Rattle.file_fields.specs.Fields.{id12_part, IsId12};
 ghost use Rattle.snapshot_file.specs.Snapshots.{snapshot_of};
 ghost use Rattle.snapshot_file.specs.Layout.{nodes_part, files_part, snapshot_block, snapshot_bytes, IsWritable, IsNode, IsInfo, IsSnapshot};
 
-use crate::fields::{info_head, info_tail, text_slot, u64_slot};
+use crate::fields::{info_head, info_tail, text_slot};
 use crate::lists::{ManifestFiles, NodeRows};
 use crate::node_writing::node_table;
 use crate::snapshot::SnapshotFile;
-use file_fields::id12_slot;
+use file_fields::{id12_slot, u64_slot};
 use flat_tables::{Flat, Kind, Slot, WriteFault, flat_write, header_write};
 use ice_ids::Id12;
 use std::alloc::{AllocError, Global};
