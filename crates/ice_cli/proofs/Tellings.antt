@@ -27,7 +27,7 @@ use Rattle.ice_cli.specs.declared.statuses.Causes.{Causes}
 use Rattle.ice_cli.specs.declared.statuses.Status.{Status}
 use Rattle.ice_cli.specs.declared.statuses.Status.TheVariants as S
 use Rattle.ice_cli.specs.Statuses.{status_of}
-use Rattle.ice_cli.specs.Telling.{why_of, end_why, why_ended, refusals, is_other, causes, Wrote, Tells, KeepsHistories, KeepsAll, IsRegular, WasPlayed, WasUntold}
+use Rattle.ice_cli.specs.Telling.{why_of, end_why, why_ended, refusals, is_other, causes, Wrote, Tells, KeepsHistories, KeepsBranches, IsRegular, WasPlayed, WasUntold}
 use Rattle.ice_cli.specs.Adding.{added, all_added}
 use Rattle.ice_cli.proofs.Rows.{rows-all}
 
@@ -220,5 +220,5 @@ pub untold : (draw : Draw) (script : Script) (s t : View) (x y : OutputAt) (open
 untold draw script s t x y opening ends refs (Ok status) c kept out = tt
 untold draw script s t x y opening ends refs (Err error) c kept out = record { out = out; came = inl (record { opening = opening; ends = ends; refs = refs; course = c }); histories = λ told before sound. (kept told before sound).histories }
 
-pub unplayed : (draw : Draw) (script : Script) (s t : View) (x : OutputAt) → OnlyBegan s t → KeepsAll draw script s t → WasUntold draw script s t x x
+pub unplayed : (draw : Draw) (script : Script) (s t : View) (x : OutputAt) → OnlyBegan s t → KeepsBranches draw script s t → WasUntold draw script s t x x
 unplayed draw script s t x b kept = record { out = refl; came = inr b; histories = kept }

@@ -70,9 +70,9 @@ pub record Tells (script : Script) (opening : Result (Unit {0}) Refusal) (ends :
 abbrev pub KeepsHistories : Draw → Script → View → View → Result (List RefLine) Refusal → Type 0
 KeepsHistories draw script old new refs = IsTrue old.caller.tells → (before : ℕ → Changes) → IsSound old.seen before → Leaves draw script.tasks before old.seen new.seen refs
 
--- the same where not all was played
-abbrev pub KeepsAll : Draw → Script → View → View → Type 0
-KeepsAll draw script old new = IsTrue old.caller.tells → (before : ℕ → Changes) → IsSound old.seen before → HasHistories draw script.tasks before old.seen new.seen
+-- the same of the histories alone, where no refs are told
+abbrev pub KeepsBranches : Draw → Script → View → View → Type 0
+KeepsBranches draw script old new = IsTrue old.caller.tells → (before : ℕ → Changes) → IsSound old.seen before → HasHistories draw script.tasks before old.seen new.seen
 
 -- over a store that tells its journal and on which nothing was done before, nothing is refused because an id was taken, an
 -- object is missing or a file can't be read
@@ -90,7 +90,7 @@ pub record HasCourse (draw : Draw) (script : Script) (old new : View) : Type 0 w
 pub record WasUntold (draw : Draw) (script : Script) (store_old store_new : View) (out_old out_new : OutputAt) : Type 0 where
   pub out : out_new ≡ out_old
   pub came : HasCourse draw script store_old store_new ⊎ OnlyBegan store_old store_new
-  pub histories : KeepsAll draw script store_old store_new
+  pub histories : KeepsBranches draw script store_old store_new
 
 -- What was played, and what was told of it: all tasks have ended, with these outcomes.
 pub record WasPlayed (draw : Draw) (script : Script) (store_old store_new : View) (out_old out_new : OutputAt) (status : Status) : Type 0 where

@@ -19,15 +19,15 @@ use Rattle.store_api.specs.declared.machines.Refusal.TheVariants.{StoreFault}
 use Rattle.store_api.specs.Machine.{Stored, found, part_of}
 use Rattle.store_api.specs.Journal.{Each, IsGood, NamesPut}
 use Rattle.store_api.specs.Program.{Done}
-use Rattle.store_api.proofs.Journals.{Each-append, Each-one, Each-weaker, Each-both}
+use Rattle.store_api.proofs.Journals.{Each-append, Each-one, Each-both}
 use Rattle.play_report.specs.declared.outcome.RefLine.{RefLine}
-use Rattle.repository.specs.Running.{Asks, ◌>>=◌}
 use Rattle.repository.specs.Beginning.{begin_program, put_main, after_put}
 use Rattle.repository.specs.Refs.{list_part, on_listed, read_ref, on_got, on_id, read_each, refs_program, with_line, live, is_gone}
+use Rattle.repository.proofs.Listed.{after_tags, after_lines, after_branches}
 use Rattle.run_histories.proofs.Programs.{IsPlain}
 use Rattle.play_course.specs.Refusing.{is_strange, strange_answer}
-use Rattle.play_course.proofs.Tidy.{IsTidy, IsAny, Puts, any-of, all-named}
-use Rattle.play_course.proofs.Meeting.{Meets, done-meets, ask-meets, then-meets, meets-weaker, got-meets, replied}
+use Rattle.play_course.proofs.Tidy.{tidy-more, IsTidy, IsAny, Puts, all-named}
+use Rattle.play_course.proofs.Meeting.{Plain, Meets, done-meets, ask-meets, then-meets, meets-weaker, got-meets, replied}
 
 -- ---- the events of the opening and the closing reading
 plain-puts : (op : Op) → IsPlain op → Puts (λ id. ⊥) op
@@ -49,9 +49,6 @@ pub plain-tidy : (old own : List Event) → Each IsGood old own → Each (λ jou
 plain-tidy old own good plain = Each-both IsGood (λ journal event. IsPlain event.op) (IsTidy (λ id. ⊥)) (λ journal event g p. record { good = g; puts = plain-puts event.op p }) old own good plain
 
 -- ---- answers
-abbrev pub Plain : {A : Type 0} → Result A Refusal → List Event → Type 0
-Plain r h = strange_answer r ≡ false
-
 module _ (who : Id12 → Type 0) where
   -- the opening
   after_put-meets : (reply : Reply) (journal : List Event) → Meets Plain who (after_put reply) journal
@@ -130,11 +127,8 @@ live-refs [] a = tt
 live-refs (e ∷ es) a = live-one e.key es (live es) a.0 (live-refs es a.1)
 
 module _ (who : Id12 → Type 0) where
-  tidy-more : (journal more : List Event) → Each IsAny [] journal → Each (IsTidy who) journal more → Each IsAny [] (journal ++ more)
-  tidy-more journal more tidy others = Each-append IsAny [] journal more tidy (Each-weaker (IsTidy who) IsAny (any-of who) journal more others)
-
   tidy-next : (journal more : List Event) (event : Event) → Each IsAny [] journal → Each (IsTidy who) journal more → IsAny (journal ++ more) event → Each IsAny [] ((journal ++ more) ++ event ∷ [])
-  tidy-next journal more event tidy others any = Each-append IsAny [] (journal ++ more) (event ∷ []) (tidy-more journal more tidy others) (Each-one IsAny (journal ++ more) event any)
+  tidy-next journal more event tidy others any = Each-append IsAny [] (journal ++ more) (event ∷ []) (tidy-more who journal more tidy others) (Each-one IsAny (journal ++ more) event any)
 
   -- a listing answers branches or tags
   Lists : Result (List Entry) Refusal → List Event → Type 0
@@ -169,7 +163,7 @@ module _ (who : Id12 → Type 0) where
   ref-meets key journal r tidy = ask-meets Reads who (Get key) (on_got key) journal (λ more event others any is.
       let after = tidy-next journal more event tidy others any in
       got-meets Reads who (on_got key) (journal ++ more) event any.good ((journal ++ more) ++ event ∷ []) key is
-      (λ s at. let n = named-at key (journal ++ more) s r (tidy-more journal more tidy others) at in
+      (λ s at. let n = named-at key (journal ++ more) s r (tidy-more who journal more tidy others) at in
       subst (λ (o : Option Id12). Meets Reads who (Done (on_id key o)) ((journal ++ more) ++ event ∷ [])) (sym n.reference) (done-meets Reads who (on_id key (Some n.id)) ((journal ++ more) ++ event ∷ []) after))
       (λ gone. done-meets Reads who (Ok None) ((journal ++ more) ++ event ∷ []) after)
       (λ done. done-meets Reads who (Err StoreFault) ((journal ++ more) ++ event ∷ []) refl))
@@ -181,25 +175,19 @@ module _ (who : Id12 → Type 0) where
       then-meets Reads Reads who (read_ref key) (λ line. read_each (with_line lines line) keys) journal (ref-meets key journal r.0 tidy)
       (λ line h t. each-meets (with_line lines line) keys h r.1 t) (λ why h p. p)
 
-  abbrev then_tags : List RefLine → Asks (List RefLine)
-  then_tags lines = list_part Tags >>= λ tags. read_each lines (live tags)
-
-  abbrev then_lines : List Entry → Asks (List RefLine)
-  then_lines branches = read_each [] (live branches) >>= then_tags
-
-  tags-meets : (lines : List RefLine) (journal : List Event) → Each IsAny [] journal → Meets Reads who (then_tags lines) journal
+  tags-meets : (lines : List RefLine) (journal : List Event) → Each IsAny [] journal → Meets Reads who (after_lines lines) journal
   unfolding Reads Lists
-  tags-meets lines journal tidy = then-meets Lists Reads who (list_part Tags) (λ tags. read_each lines (live tags)) journal (list-meets Tags journal tt tidy)
+  tags-meets lines journal tidy = then-meets Lists Reads who (list_part Tags) (after_tags lines) journal (list-meets Tags journal tt tidy)
       (λ tags h t. each-meets lines (live tags) h (live-refs tags t.1) t.0) (λ why h p. p)
 
-  lines-meets : (branches : List Entry) (journal : List Event) → AllNamedKeys branches → Each IsAny [] journal → Meets Reads who (then_lines branches) journal
+  lines-meets : (branches : List Entry) (journal : List Event) → AllNamedKeys branches → Each IsAny [] journal → Meets Reads who (after_branches branches) journal
   unfolding Reads
-  lines-meets branches journal n tidy = then-meets Reads Reads who (read_each [] (live branches)) then_tags journal (each-meets [] (live branches) journal (live-refs branches n) tidy)
+  lines-meets branches journal n tidy = then-meets Reads Reads who (read_each [] (live branches)) after_lines journal (each-meets [] (live branches) journal (live-refs branches n) tidy)
       (λ lines h t. tags-meets lines h t) (λ why h p. p)
 
   refs-read : (journal : List Event) → Each IsAny [] journal → Meets Reads who refs_program journal
   unfolding Reads Lists
-  refs-read journal tidy = then-meets Lists Reads who (list_part Branches) then_lines journal (list-meets Branches journal tt tidy)
+  refs-read journal tidy = then-meets Lists Reads who (list_part Branches) after_branches journal (list-meets Branches journal tt tidy)
       (λ branches h t. lines-meets branches h t.1 t.0) (λ why h p. p)
 
   reads-plain : {A : Type 0} (r : Result A Refusal) (h : List Event) → Reads r h → strange_answer r ≡ false

@@ -1,5 +1,5 @@
 -- What programs of store operations answer, where the events of all are those of a run over an empty store.
-use Rattle.std.proofs.Common.{◌≡◌, ℕ, ◌⊎◌, inl, inr, Bool, List, [], ◌∷◌, ◌++◌, length, refl, sym, ◌∙◌, ap, subst, append_assoc, append-nil}
+use Rattle.std.proofs.Common.{◌≡◌, ℕ, false, ◌⊎◌, inl, inr, Bool, List, [], ◌∷◌, ◌++◌, length, refl, sym, ◌∙◌, ap, subst, append_assoc, append-nil}
 use Rattle.std.specs.Prelude.{Option, Some, None, Result, Ok, Err}
 use Rattle.ice_ids.specs.declared.Id12.{Id12}
 use Rattle.store_api.specs.declared.keys.Key.{Key}
@@ -17,6 +17,7 @@ use Rattle.store_api.specs.Journal.{Each, IsGood}
 use Rattle.store_api.specs.Program.{Prog, Done, Ask, bind, Path}
 use Rattle.store_api.proofs.Journals.{Each-append, Each-none}
 use Rattle.repository.specs.Running.{Asks, ◌>>=◌, on_answer}
+use Rattle.play_course.specs.Refusing.{strange_answer}
 use Rattle.play_course.proofs.Tidy.{IsTidy, IsAny}
 
 -- Q holds of whatever the program answers, whatever others do that draw these ids.
@@ -125,3 +126,8 @@ module _ {A : Type 0} (Q : A → List Event → Type 0) (who : Id12 → Type 0) 
     | inl h ↦ subst (λ (r : Reply). Meets Q who (next r) after) (sym (h ∙ ap (λ (o : Option Stored). Is_new (new_of (length journal) event.time o)) free)) put
     | inr f ↦ subst (λ (r : Reply). Meets Q who (next r) after) (sym f.is) (failed f.done)
   ]
+
+-- ---- answers
+-- a result that isn't refused as no run over an empty store is
+abbrev pub Plain : {A : Type 0} → Result A Refusal → List Event → Type 0
+Plain r h = strange_answer r ≡ false

@@ -24,7 +24,7 @@ use Rattle.store_api.specs.declared.machines.Refusal.TheVariants as R
 use Rattle.store_api.specs.Machine.{found, version_at, is_on}
 use Rattle.store_api.specs.Journal.{Each, WasPut}
 use Rattle.store_api.specs.Program.{Prog, Done}
-use Rattle.store_api.proofs.Journals.{Each-append, Each-one, Each-weaker}
+use Rattle.store_api.proofs.Journals.{Each-one}
 use Rattle.store_api.proofs.Slots.{WasPut-append}
 use Rattle.session.specs.declared.session.Listing.{Listing}
 use Rattle.session.specs.Sessions.{SessionState, overlay}
@@ -41,8 +41,8 @@ use Rattle.play_report.specs.declared.outcome.Outcome.{Outcome}
 use Rattle.play_tasks.specs.Playing.{after_group, after_list, after_start, after_commit, after_open, play_call, goes_on, play_lines, asked_by, task_program}
 use Rattle.run_histories.proofs.Drawing.{IsDrawnBy, AreOf, group-draws, start-draws, head-ids}
 use Rattle.play_course.specs.Refusing.{is_strange, strange_answer, strange_end}
-use Rattle.play_course.proofs.Tidy.{IsTidy, IsAny, IsOthers, any-of, Puts, stands-readable, put-stands, all-named, spared-snapshot, spared-log, free-others, free-apart}
-use Rattle.play_course.proofs.Meeting.{Meets, done-meets, ask-meets, bind-meets, got-meets, put-meets}
+use Rattle.play_course.proofs.Tidy.{tidy-more, IsAny, IsOthers, Puts, stands-readable, put-stands, all-named, spared-snapshot, spared-log, free-others, free-apart}
+use Rattle.play_course.proofs.Meeting.{Plain, Meets, done-meets, ask-meets, bind-meets, got-meets, put-meets}
 
 -- ---- the calls of sessions
 -- no refusal of this result is strange
@@ -100,21 +100,10 @@ module _ (client : ℕ) where
   abbrev Who : Id12 → Type 0
   Who id = ¬ IsDrawnBy client id
 
-  -- nothing stands at the keys of this id
-  record IsFree (id : Id12) (journal : List Event) : Type 0 where
-    pub snapshot : found journal (Snapshot id) ≡ None
-    pub log : found journal (Txn id) ≡ None
-
   -- the journal of a run over an empty store, in which no commit of this client was made
   pub record Before (journal : List Event) : Type 0 where
     pub tidy : Each IsAny [] journal
     pub free : (id : Id12) → IsDrawnBy client id → (found journal (Snapshot id) ≡ None) × (found journal (Txn id) ≡ None)
-
-  tidy-more : (who : Id12 → Type 0) (journal more : List Event) → Each IsAny [] journal → Each (IsTidy who) journal more → Each IsAny [] (journal ++ more)
-  tidy-more who journal more tidy others = Each-append IsAny [] journal more tidy (Each-weaker (IsTidy who) IsAny (any-of who) journal more others)
-
-  tidy-one : (journal : List Event) (event : Event) → Each IsAny [] journal → IsAny journal event → Each IsAny [] (journal ++ event ∷ [])
-  tidy-one journal event tidy any = Each-append IsAny [] journal (event ∷ []) tidy (Each-one IsAny journal event any)
 
   not-who : (id : Id12) → IsDrawnBy client id → ¬ Who id
   not-who id d n = n d
@@ -154,7 +143,6 @@ module _ (client : ℕ) where
   unfolding Opened
   open-meets a journal b = ask-meets (Opens a) Who (Get (Branch a.branch)) (after_ref a) journal (λ more event others any is.
       let mid = before-others journal more others b in
-      let last : List Event = (journal ++ more) ++ event ∷ [] in
       let after = before-got (journal ++ more) event (Branch a.branch) any is mid in
       got-meets (Opens a) Who (after_ref a) (journal ++ more) event any.good ((journal ++ more) ++ event ∷ []) (Branch a.branch) is
       (λ s at. let n = (all-named (journal ++ more) mid.tidy).branches a.branch s at in
@@ -163,9 +151,6 @@ module _ (client : ℕ) where
       (λ done. done-meets (Opens a) Who (Err R.StoreFault) ((journal ++ more) ++ event ∷ []) (after, refl)))
 
   -- ---- a commit
-  abbrev Plain : {A : Type 0} → Result A Refusal → List Event → Type 0
-  Plain r h = strange_answer r ≡ false
-
   branch-meets : (s : SessionState) (id : Id12) (reply : Reply) (journal : List Event) → Meets Plain Who (after_branch s id reply) journal
   branch-meets s id (Is_over (Over_done version now)) journal = done-meets Plain Who (Ok (record { id = id; version = version })) journal refl
   branch-meets s id (Is_over (Moved there now)) journal = done-meets Plain Who (Err (R.Conflict (version_at s.version) there)) journal refl
@@ -236,6 +221,5 @@ module _ (client : ℕ) where
   -- a task of this client is never refused so
   pub task-meets : (ids : AnyIds) (task : Task) (journal : List Event) → AreOf client ids → Before journal → Meets (λ o h. strange_end o.end ≡ false) Who (task_program ids task) journal
   task-meets ids task journal known b =
-      let a : Asked = asked_by task.head ids in
       bind-meets (Opens (asked_by task.head ids)) Ends Who (open_program (asked_by task.head ids)) (after_open task) journal (open-meets (asked_by task.head ids) journal b)
       (λ r h o. opened-meets task (asked_by task.head ids) r h (subst (AreOf client) (sym (head-ids task.head ids)) known) o)

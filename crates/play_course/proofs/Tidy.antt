@@ -12,7 +12,7 @@ use Rattle.store_api.specs.declared.events.Event.{Event}
 use Rattle.store_api.specs.Machine.{Stored, Slot, slot_of, found, first_put, leaves, put_at, is_on}
 use Rattle.store_api.specs.Journal.{Each, IsGood, IsUnused, WasPut}
 use Rattle.store_api.specs.Laws.{AllNamed}
-use Rattle.store_api.proofs.Journals.{Each-weaker}
+use Rattle.store_api.proofs.Journals.{Each-append, Each-weaker}
 use Rattle.store_api.proofs.Naming.{names-law}
 use Rattle.store_api.proofs.Slots.{effect-cases, free-cases, slot-append_one, slot-none, same_key-true}
 use Rattle.run_histories.proofs.Along.{Removes, unused-one}
@@ -84,6 +84,10 @@ IsOthers client = IsTidy (λ id. ¬ IsDrawnBy client id)
 
 pub any-of : (who : Id12 → Type 0) (journal : List Event) (event : Event) → IsTidy who journal event → IsAny journal event
 any-of who journal event t = record { good = t.good; puts = puts-weaker who (λ id. Unit {0}) (λ id w. tt) event.op t.puts }
+
+-- a journal of anybody's events goes on
+pub tidy-more : (who : Id12 → Type 0) (journal more : List Event) → Each IsAny [] journal → Each (IsTidy who) journal more → Each IsAny [] (journal ++ more)
+tidy-more who journal more tidy others = Each-append IsAny [] journal more tidy (Each-weaker (IsTidy who) IsAny (any-of who) journal more others)
 
 -- what each event keeps
 pub along : (P : List Event → Event → Type 0) (Inv : List Event → Type 0) → ((journal : List Event) (event : Event) → P journal event → Inv journal → Inv (journal ++ event ∷ [])) → (old xs : List Event) → Each P old xs → Inv old → Inv (old ++ xs)
