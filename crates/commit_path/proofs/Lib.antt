@@ -1,7 +1,6 @@
 pub mod Rows
 pub mod Telling
 pub mod Owing
-pub mod Steps
 pub mod Opened
 pub mod Answering
 pub mod Reading

@@ -3,3 +3,5 @@ pub mod Journals
 pub mod Standing
 pub mod Naming
 pub mod Programs
+pub mod Drives
+pub mod PlayLaws

@@ -3,3 +3,5 @@ pub mod Journal
 pub mod Callers
 pub mod Program
 pub mod Laws
+pub mod Plays
+pub mod Driving

@@ -2,6 +2,7 @@
 //! that hold of every journal.
 #![tactic(auto)]
 
+mod driving;
 mod events;
 mod keys;
 mod laws;
@@ -11,6 +12,7 @@ mod operations;
 #[cfg(test)]
 mod tests;
 
+pub use driving::{Machine, Payload, Request, drive, perform};
 pub use events::{
     Entries, Entry, Event, Gone, GoneAt, Got, Listed, New, Op, Over, Reply, StoreFault, Version,
 };
