@@ -1,6 +1,6 @@
 //! Scripts as they are read, and the first refused lines of texts that are none.
 
-use crate::{Call, Head, Script, ScriptFault, ScriptKind};
+use crate::{Call, EditCall, Head, Script, ScriptFault, ScriptKind};
 use std::process::Abort;
 use std::test::Fail;
 
@@ -20,7 +20,9 @@ fn two_tasks_and_turns(rt: HostRuntime) -> Result<(), Fail> {
     let body = tasks[0].body.as_slice();
     assert_eq!(rt; body.len(), 2);
     assert_eq!(rt; body[1].number, 3);
-    assert!(&rt; matches!(&body[0].call, Call::Group { path } if path.as_str() == "/"));
+    assert!(&rt;
+        matches!(&body[0].call, Call::Edit(EditCall::Group { path }) if path.as_str() == "/")
+    );
     assert!(&rt;
         matches!(&body[1].call, Call::Commit { message } if message.as_slice() == b"first  one".as_slice())
     );
