@@ -12,7 +12,7 @@ mod operations;
 #[cfg(test)]
 mod tests;
 
-pub use driving::{Machine, Payload, Request, drive, perform};
+pub use driving::{Machine, Payload, Request, ask, drive, perform};
 pub use events::{
     Entries, Entry, Event, Gone, GoneAt, Got, Listed, New, Op, Over, Reply, StoreFault, Version,
 };
