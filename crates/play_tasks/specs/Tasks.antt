@@ -6,7 +6,7 @@ use Rattle.ice_ids.specs.declared.drawing.Draw.{Draw}
 use Rattle.ice_ids.specs.Drawing.{ids_of}
 use Rattle.store_api.specs.declared.events.Event.{Event}
 use Rattle.store_api.specs.Callers.{only}
-use Rattle.store_api.specs.Plays.{Play, Ended, HasEnded, PlayKeeps, PlayLeads}
+use Rattle.store_api.specs.Plays.{Play, HasEnded, PlayKeeps, PlayLeads}
 use Rattle.commit_path.specs.Owed.{IsCareful, IsCarefulEvent}
 use Rattle.commit_path.specs.Answered.{ChangedNothing}
 use Rattle.play_script.specs.declared.scripts.Task.{Task}
@@ -54,10 +54,10 @@ abbrev pub HasEndedAt : ℕ → List (Play Outcome) → Type 0
 HasEndedAt place ps = (p : Play Outcome) → slice_get ps place ≡ Some p → HasEnded p
 
 -- an outcome that tells a fault of the store comes only where the faults rose
-abbrev pub AllBlame : List (Play Outcome) → ℕ → ℕ → Type 0
-AllBlame ps m n = (place : ℕ) (outcome : Outcome) → slice_get ps place ≡ Some (Ended outcome) → is_failed outcome ≡ true → Rose m n
+abbrev pub AllBlame : List Outcome → ℕ → ℕ → Type 0
+AllBlame outcomes m n = (place : ℕ) (outcome : Outcome) → slice_get outcomes place ≡ Some outcome → is_failed outcome ≡ true → Rose m n
 
 -- each outcome tells the journal, where the tasks began at `start`
-abbrev pub AllTold : Draw → List Task → List (Play Outcome) → List Event → List Event → Type 0
-AllTold draw tasks ps start journal =
-    (place : ℕ) (task : Task) (outcome : Outcome) → slice_get tasks place ≡ Some task → slice_get ps place ≡ Some (Ended outcome) → TellsAt draw place task start outcome journal
+abbrev pub AllTold : Draw → List Task → List Outcome → List Event → List Event → Type 0
+AllTold draw tasks outcomes start journal =
+    (place : ℕ) (task : Task) (outcome : Outcome) → slice_get tasks place ≡ Some task → slice_get outcomes place ≡ Some outcome → TellsAt draw place task start outcome journal

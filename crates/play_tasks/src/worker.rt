@@ -56,13 +56,14 @@ impl<'a> Worker<'a> {
         }
     }
 
-    /// What the task showed and how it ended, once it has.
-    pub fn outcome(&self) -> Option<&Outcome>
-        ensures { MatchOption result (IsLive (worker_rest self.now)) (λ outcome. worker_rest self.now ≡ Ended outcome.now) }
+    /// What the task showed and how it ended.
+    pub fn into_outcome(self) -> Outcome
+        requires { HasEnded (worker_rest self) }
+        ensures { worker_rest self ≡ Ended result }
     {
-        match &self.state {
-            Working::Ended { outcome } => Some(outcome),
-            _ => None,
+        match self.state {
+            Working::Ended { outcome } => outcome,
+            _ => unreachable!(),
         }
     }
 
