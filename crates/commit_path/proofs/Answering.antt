@@ -34,7 +34,7 @@ use Rattle.session.specs.Sessions.{SessionState}
 use Rattle.commit_path.specs.declared.commit.Committed.{Committed}
 use Rattle.commit_path.specs.Committing.{commit_program, after_log, after_snapshot, after_branch, snap_for}
 use Rattle.commit_path.specs.Owed.{Sessions, IsMade, OwesNew, Owes}
-use Rattle.commit_path.specs.Answered.{HasOwn, LeavesBranches, ChangedNothing, ChangedOnce, StandsAt, commits_over, HasMessage, TookEffect, IsLater, WasMoved, WasTaken, WasFailed, CommitTells}
+use Rattle.commit_path.specs.Answered.{HasOwn, LeavesBranches, ChangedNothing, ChangedOnce, StandsAt, commits_over, HasMessage, TookEffect, IsLater, WasMoved, WasTaken, WasFailed, IsOfCommit, CommitTells}
 use Rattle.commit_path.proofs.Telling.{put-did, put-time, makes-keeps}
 use Rattle.commit_path.specs.Opened.{IsOpened}
 use Rattle.commit_path.specs.Spelled.{IsSpelled}
@@ -236,8 +236,8 @@ changed-once by start op reply old new n c = record {
   later = subst (λ (h : List Event). ChangedNothing by.number h new) n.is (ChangedNothing-none by.number new);
 }
 
-pub failed-made : (by : Caller) (start : List Event) (op : Op) (done : Bool) (old new : List Event) → Makes by op (Failed done) old new → ChangedNothing by.number start old → WasFailed by.number start new
-failed-made by start op done old new n c = record { op = op; done = done; own = own-made by start op (Failed done) old new n c; once = changed-once by start op (Failed done) old new n c }
+pub failed-made : (by : Caller) (kind : Op → Type 0) (start : List Event) (op : Op) (done : Bool) (old new : List Event) → kind op → Makes by op (Failed done) old new → ChangedNothing by.number start old → WasFailed by.number kind start new
+failed-made by kind start op done old new k n c = record { op = op; of_kind = k; done = done; own = own-made by start op (Failed done) old new n c; once = changed-once by start op (Failed done) old new n c }
 
 -- ---- a commit
 module _ (L : Spellings) (by : Caller) (s : SessionState) (message : List ℕ) (id : Id12) (is_id : IsId12 id) (w : IsSpelled s) (m : All (λ b. b < 256) message) (start : List Event) where
@@ -288,7 +288,7 @@ module _ (L : Spellings) (by : Caller) (s : SessionState) (message : List ℕ) (
   branch-told flushed (Is_gone x) old new o l p c n = let e = n.answered.answered in absurd (cc)
   branch-told flushed (Is_gone_at x) old new o l p c n = let e = n.answered.answered in absurd (cc)
   branch-told flushed (Is_listed x) old new o l p c n = let e = n.answered.answered in absurd (cc)
-  branch-told flushed (Failed d) old new o l p c n = failed-made by start over_put d old new n c
+  branch-told flushed (Failed d) old new o l p c n = failed-made by (IsOfCommit s id) start over_put d old new (ref_bytes id, inr (inr (refl, L.reference.written id is_id))) n c
 
   snapshot-taken : (flushed : ℕ) (version : Version) (now : ℕ) (old new : List Event) → ChangedNothing by.number start old → Makes by (PutNew (Snapshot id) (snapshot_bytes (snap_for s message flushed)) Set) (Is_new (Present version now)) old new → WasTaken by.number id (Snapshot id) start new
   snapshot-taken flushed version now old new c n =
@@ -335,7 +335,7 @@ module _ (L : Spellings) (by : Caller) (s : SessionState) (message : List ℕ) (
   snapshot-told flushed f (Is_gone x) old new o l c n = let e = n.answered.answered in absurd (cc)
   snapshot-told flushed f (Is_gone_at x) old new o l c n = let e = n.answered.answered in absurd (cc)
   snapshot-told flushed f (Is_listed x) old new o l c n = let e = n.answered.answered in absurd (cc)
-  snapshot-told flushed f (Failed d) old new o l c n = failed-made by start (PutNew (Snapshot id) (snapshot_bytes (snap_for s message flushed)) Set) d old new n c
+  snapshot-told flushed f (Failed d) old new o l c n = failed-made by (IsOfCommit s id) start (PutNew (Snapshot id) (snapshot_bytes (snap_for s message flushed)) Set) d old new (snapshot_bytes (snap_for s message flushed), inr (inl refl)) n c
 
   log-told : (reply : Reply) (old new : List Event) → IsOpened s old → ChangedNothing by.number start old → Makes by (PutNew (Txn id) (log_bytes (touched s.changes s.tree)) Set) reply old new → Leads Told by (after_log s message id reply) new
   unfolding Leads
@@ -352,7 +352,7 @@ module _ (L : Spellings) (by : Caller) (s : SessionState) (message : List ℕ) (
   log-told (Is_gone x) old new o c n = let e = n.answered.answered in absurd (cc)
   log-told (Is_gone_at x) old new o c n = let e = n.answered.answered in absurd (cc)
   log-told (Is_listed x) old new o c n = let e = n.answered.answered in absurd (cc)
-  log-told (Failed d) old new o c n = failed-made by start (PutNew (Txn id) (log_bytes (touched s.changes s.tree)) Set) d old new n c
+  log-told (Failed d) old new o c n = failed-made by (IsOfCommit s id) start (PutNew (Txn id) (log_bytes (touched s.changes s.tree)) Set) d old new (log_bytes (touched s.changes s.tree), inl refl) n c
 
   -- Whatever others do, the answer of a commit tells the journal so.
   pub commit-told : (journal : List Event) → IsOpened s journal → ChangedNothing by.number start journal → Leads Told by (commit_program s message id) journal
@@ -377,8 +377,8 @@ module _ (by : Caller) (start journal more : List Event) (others : Each (IsOther
   once-others : (before : List Event) (event : Event) → ChangedOnce by.number start before event journal → ChangedOnce by.number start before event (journal ++ more)
   once-others before event c = record { earlier = c.earlier; later = ChangedNothing-others by (before ++ event ∷ []) journal more others c.later }
 
-  pub failed-others : WasFailed by.number start journal → WasFailed by.number start (journal ++ more)
-  failed-others f = record { op = f.op; done = f.done; own = HasOwn-append by.number f.op (Failed f.done) start journal more f.own; once = once-others f.own.before f.own.event f.once }
+  pub failed-others : (kind : Op → Type 0) → WasFailed by.number kind start journal → WasFailed by.number kind start (journal ++ more)
+  failed-others kind f = record { op = f.op; of_kind = f.of_kind; done = f.done; own = HasOwn-append by.number f.op (Failed f.done) start journal more f.own; once = once-others f.own.before f.own.event f.once }
 
   effect-others : (s : SessionState) (message : List ℕ) (made : Committed) → TookEffect by.number s message made start journal → TookEffect by.number s message made start (journal ++ more)
   effect-others s message made t = record {
@@ -419,7 +419,7 @@ module _ (by : Caller) (start journal more : List Event) (others : Each (IsOther
   CommitTells-others s message id (Ok made) t = (t.0, effect-others s message made t.1)
   CommitTells-others s message id (Err (R.Conflict old there)) t = moved-others s id old there t
   CommitTells-others s message id (Err (R.IdTaken key)) t = taken-others id key t
-  CommitTells-others s message id (Err R.StoreFault) t = failed-others t
+  CommitTells-others s message id (Err R.StoreFault) t = failed-others (IsOfCommit s id) t
   CommitTells-others s message id (Err R.NoMemory) t = ChangedNothing-others by start journal more others t
   CommitTells-others s message id (Err R.NoRef) t = absurd t
   CommitTells-others s message id (Err R.NoNode) t = absurd t

@@ -4,4 +4,5 @@ pub mod Owing
 pub mod Opened
 pub mod Answering
 pub mod Reading
+pub mod Staying
 pub mod Lawful

@@ -20,7 +20,7 @@ use Rattle.store_api.specs.Program.{Prog, Done, Ask, Leads}
 use Rattle.session.specs.Sessions.{SessionState}
 use Rattle.session.specs.Opening.{Asked, open_program, after_ref, after_name, after_base, read_base}
 use Rattle.commit_path.specs.Answered.{ChangedNothing}
-use Rattle.commit_path.specs.Opened.{WasGot, WasAbsent, WasNamed, WasBegun, WasMissing, WasNoReference, WasNoSnapshot, RefusalTells}
+use Rattle.commit_path.specs.Opened.{WasGot, WasAbsent, WasNamed, WasBegun, WasMissing, WasNoReference, WasNoSnapshot, IsOfOpening, RefusalTells}
 use Rattle.commit_path.proofs.Answering.{own-made, get-leaves, ChangedNothing-makes, ChangedNothing-others, HasOwn-append, failed-made, failed-others}
 
 -- two facts of each answer
@@ -71,7 +71,7 @@ module _ (by : Caller) (a : Asked) (start journal more : List Event) (others : E
   RefusalTells-others R.NoRef t = (WasAbsent-append by.number (Branch a.branch) start journal more t.0, ChangedNothing-others by start journal more others t.1)
   RefusalTells-others (R.Missing key) t = (WasMissing-append by.number a key start journal more t.0, ChangedNothing-others by start journal more others t.1)
   RefusalTells-others (R.BadFile key bad) t = (WasBad-append by.number a key start journal more t.0, ChangedNothing-others by start journal more others t.1)
-  RefusalTells-others R.StoreFault t = failed-others by start journal more others t
+  RefusalTells-others R.StoreFault t = failed-others by start journal more others (IsOfOpening a) t
   RefusalTells-others R.NoMemory t = ChangedNothing-others by start journal more others t
   RefusalTells-others R.NoNode t = absurd t
   RefusalTells-others R.NodeExists t = absurd t
@@ -134,7 +134,7 @@ module _ (by : Caller) (a : Asked) (start : List Event) where
   base-told base version (Is_gone x) old new n c m = let e = m.answered.answered in absurd (cc)
   base-told base version (Is_gone_at x) old new n c m = let e = m.answered.answered in absurd (cc)
   base-told base version (Is_listed x) old new n c m = let e = m.answered.answered in absurd (cc)
-  base-told base version (Failed d) old new n c m = failed-made by start (Get (Snapshot base)) d old new m c
+  base-told base version (Failed d) old new n c m = failed-made by (IsOfOpening a) start (Get (Snapshot base)) d old new (inr (base, refl)) m c
 
   name-told : (version : ℕ) (bytes : List ℕ) (journal : List Event) → WasGot by.number (Branch a.branch) bytes version start journal → ChangedNothing by.number start journal → (o : Option Id12) → ref_of bytes ≡ o → Leads Told by (after_name a version o) journal
   unfolding Leads
@@ -150,7 +150,7 @@ module _ (by : Caller) (a : Asked) (start : List Event) where
   ref-told (Is_gone x) old new c m = let e = m.answered.answered in absurd (cc)
   ref-told (Is_gone_at x) old new c m = let e = m.answered.answered in absurd (cc)
   ref-told (Is_listed x) old new c m = let e = m.answered.answered in absurd (cc)
-  ref-told (Failed d) old new c m = failed-made by start (Get (Branch a.branch)) d old new m c
+  ref-told (Failed d) old new c m = failed-made by (IsOfOpening a) start (Get (Branch a.branch)) d old new (inl refl) m c
 
   pub open-told : (journal : List Event) → ChangedNothing by.number start journal → Leads Told by (open_program a) journal
   unfolding Leads

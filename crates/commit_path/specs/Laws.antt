@@ -21,8 +21,8 @@ use Rattle.commit_path.specs.Answered.{ChangedNothing, CommitTells}
 use Rattle.commit_path.specs.Opened.{IsOpened, OpeningTells}
 use Rattle.commit_path.specs.Spelled.{IsSpelled}
 
--- Whatever others do, each operation of an opening is polite, wherever it may find no memory its client has changed no branch,
--- and its answer tells the journal. A session that it opened can be written.
+-- Whatever others do, each operation of an opening is polite; wherever it may find no memory, its client
+-- has changed no branch; and its answer tells the journal. A session that it opened can be written.
 abbrev pub OpeningLaw : Type 0
 OpeningLaw = (by : Caller) (a : Asked) (start journal : List Event) → ChangedNothing by.number start journal
     → Keeps (IsCareful (λ t id. ⊥)) by (open_program a) journal × Stays (ChangedNothing by.number start) by (open_program a) journal
@@ -34,7 +34,8 @@ pub record SessionLaw : Type 0 where
   pub kept : (s : SessionState) (journal more : List Event) → Each IsGood journal more → IsOpened s journal → IsOpened s (journal ++ more)
 
 -- Whatever others do, each operation of a commit of such a session is polite, and owed for this session
--- and this id alone, wherever it may find no memory its client has changed no branch, and its answer tells the journal.
+-- and this id alone; wherever it may find no memory, its client has changed no branch; and its answer
+-- tells the journal.
 abbrev pub CommitLaw : Type 0
 CommitLaw = (by : Caller) (s t : SessionState) (message : List ℕ) (id : Id12) (start journal : List Event) → started s ≡ Ok (id, t) → IsBytes message → IsSpelled s → IsOpened s journal → ChangedNothing by.number start journal
     → Keeps (IsCareful (λ u i. (u ≡ t) × (i ≡ id))) by (commit_program t message id) journal × Stays (ChangedNothing by.number start) by (commit_program t message id) journal
