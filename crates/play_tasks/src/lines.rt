@@ -35,9 +35,9 @@ fn show(line: u32, nodes: Vec<Listing>, shown: &mut Vec<Shown>) -> Result<(), Al
     let before = shown.len();
     for node in nodes {
         let Listing { path, array } = node;
-        if let Err(error) = shown.push(Shown::Node { line, array, path }) {
+        if shown.push(Shown::Node { line, array, path }).is_err() {
             shown.truncate(before);
-            return Err(error);
+            return Err(AllocError);
         }
     }
     Ok(())

@@ -59,7 +59,7 @@ impl<'a> Worker<'a> {
     /// What the task showed and how it ended.
     pub fn into_outcome(self) -> Outcome
         requires { HasEnded (worker_rest self) }
-        ensures { worker_rest self ≡ Ended result }
+        ensures { worker_rest self.entry ≡ Ended result }
     {
         match self.state {
             Working::Ended { outcome } => outcome,
