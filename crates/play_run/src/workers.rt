@@ -35,7 +35,7 @@ pub fn take_outcomes(workers: Vec<Worker<'_>>, outcomes: &mut Vec<Outcome>)
     requires none { outcomes.old.items ≡ [] }
     requires room { length workers.items ≤ vec_capacity outcomes.old }
     requires ended { (place : ℕ) → HasEndedAt place (map worker_rest workers.items) }
-    ensures { map (λ o. Ended o) outcomes.new.items ≡ map worker_rest workers.items }
+    ensures { map (λ o. Ended o) outcomes.new.items ≡ map worker_rest workers.entry.items }
 {
     for worker in workers {
         let _ = outcomes.push(worker.into_outcome());
