@@ -1,10 +1,11 @@
 -- What an outcome tells stays so, whatever good events others make.
-use Rattle.std.proofs.Common.{inl, inr, List, ◌∷◌, [], ◌++◌}
+use Rattle.std.proofs.Common.{inl, inr, sym, subst, List, ◌∷◌, [], ◌++◌}
 use Rattle.ice_ids.specs.declared.drawing.AnyIds.{AnyIds}
 use Rattle.store_api.specs.declared.events.Event.{Event}
 use Rattle.store_api.specs.Journal.{Each}
 use Rattle.store_api.specs.Callers.{Caller, IsOther}
 use Rattle.store_api.proofs.Programs.{good-waits}
+use Rattle.store_api.proofs.PlayLaws.{IsKeptByOthers}
 use Rattle.session.specs.Sessions.{SessionState}
 use Rattle.commit_path.proofs.Owing.{IsOpened-append}
 use Rattle.commit_path.proofs.Answering.{ChangedNothing-others, CommitTells-others}
@@ -45,3 +46,7 @@ module _ (by : Caller) (start journal more : List Event) (others : Each (IsOther
     plays = p.plays;
     ends = ends-others p.left p.session outcome.end p.ends;
   })
+
+-- so it stays through a wait
+pub TellsOutcome-waits : (by : Caller) (ids : AnyIds) (task : Task) (start : List Event) → IsKeptByOthers (TellsOutcome ids task by.number start) by
+TellsOutcome-waits by ids task start outcome old new w t = subst (λ (h : List Event). TellsOutcome ids task by.number start outcome h) (sym w.is) (TellsOutcome-others by start old w.between w.others ids task outcome t)
