@@ -38,7 +38,7 @@ use Rattle.play_outcome.specs.declared.outcome.End.{End}
 use Rattle.play_outcome.specs.declared.outcome.End.TheVariants.{Committed, Done, Refused}
 use Rattle.play_outcome.specs.declared.outcome.Outcome.{Outcome}
 use Rattle.play_tasks.specs.Lines.{Deed, Goes, Commits, deed, read_by, silent, still, session_of}
-use Rattle.play_tasks.specs.Playing.{play_deed, play_lines, ended, after_line, after_start, after_commit, after_open, asked_by, task_play}
+use Rattle.play_tasks.specs.Playing.{play_deed, play_lines, ended, after_start, after_commit, after_open, asked_by, task_play}
 use Rattle.play_tasks.specs.Solving.{ReachesBy, Reaches, IsOfTask}
 use Rattle.play_tasks.specs.Telling.{PlaysAll, Refuses, end_of, EndsAt, TellsOutcome}
 use Rattle.play_tasks.proofs.Carrying.{Minds, Keeps-minds, PlayLeads-weaker, PlayLeads-carry}

@@ -1,5 +1,5 @@
 -- A step of a worker's machine is a step of the worker.
-use Rattle.std.proofs.Common.{Bool, true, false, ◌≡◌, ◌⊎◌, inl, inr, refl, sym, ap, subst, ◌∙◌, ℕ, List, Result, Ok, Err}
+use Rattle.std.proofs.Common.{Bool, true, false, ◌≡◌, ◌⊎◌, inl, inr, refl, sym, ap, subst, ℕ, List, Result, Ok, Err}
 use Rattle.std.specs.Prelude.{IsTrue}
 use Rattle.store_api.specs.declared.events.Op.{Op}
 use Rattle.store_api.specs.declared.machines.Next.{Next}

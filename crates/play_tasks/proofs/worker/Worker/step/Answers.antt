@@ -1,8 +1,7 @@
-use Rattle.std.proofs.Common.{ap, ◌∙◌, sym, subst, ◌≡◌}
-use Rattle.store_api.specs.Plays.{Play, Acts, Comes}
+use Rattle.std.proofs.Common.{ap, ◌∙◌, subst}
+use Rattle.store_api.specs.Plays.{Acts}
 use Rattle.session.specs.Opening.{open_rest}
 use Rattle.commit_path.specs.Committing.{commit_rest}
-use Rattle.play_outcome.specs.declared.outcome.Outcome.{Outcome}
 use Rattle.play_outcome.specs.Ending.{is_failed}
 use Rattle.play_tasks.specs.declared.working.Working.{Working}
 use Rattle.play_tasks.specs.Playing.{after_open, after_commit}
