@@ -13,7 +13,6 @@ use play_script::{Call, EditCall, Line, ReadCall};
 use session::{Listing, Session};
 use std::alloc::{AllocError, Global};
 use store_api::Refusal;
-use zarr_path::Path;
 
 /// The task was refused at this line of the script.
 pub(crate) fn refuse(line: u32, shown: Vec<Shown>, why: Refusal) -> Working
@@ -56,11 +55,14 @@ fn play_edit(line: u32, edit: &EditCall, mut session: Session, shown: Vec<Shown>
     }
 }
 
-fn play_list(line: u32, path: &Path, session: Session, mut shown: Vec<Shown>) -> Step
-    ensures comes { LineComes line shown.items session (Goes (still session (read_by line (ReadCall.List path.now) session))) result }
+fn play_read(line: u32, read: &ReadCall, session: Session, mut shown: Vec<Shown>) -> Step
+    ensures comes { LineComes line shown.items session (Goes (still session (read_by line read.now session))) result }
     ensures clean { is_clean result ≡ true }
 {
-    match session.list_beneath(path) {
+    let looked = match read {
+        ReadCall::List { path } => session.list_beneath(path),
+    };
+    match looked {
         Ok(nodes) => match show(line, nodes.into_vec(), &mut shown) {
             Ok(()) => Step::On { session, shown },
             Err(_) => Step::Stop(refuse(line, shown, Refusal::NoMemory)),
@@ -98,7 +100,7 @@ fn play_line(alloc: Global, line: &Line, session: Session, shown: Vec<Shown>) ->
 {
     match &line.call {
         Call::Edit(edit) => play_edit(line.number, edit, session, shown),
-        Call::Read(ReadCall::List { path }) => play_list(line.number, path, session, shown),
+        Call::Read(read) => play_read(line.number, read, session, shown),
         Call::Commit { message } => play_commit(alloc, line.number, message, session, shown),
     }
 }

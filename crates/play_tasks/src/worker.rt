@@ -61,7 +61,8 @@ impl<'a> Worker<'a> {
         requires { HasEnded (worker_rest self) }
         ensures { worker_rest self.entry ≡ Ended result }
     {
-        match self.state {
+        let state = self.state;
+        match state {
             Working::Ended { outcome } => outcome,
             _ => unreachable!(),
         }
