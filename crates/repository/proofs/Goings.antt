@@ -1,6 +1,6 @@
 -- How the machine that reads all refs goes on.
-use Rattle.std.proofs.Common.{◌≡◌, ℕ, ◌+◌, ◌-◌, ◌<◌, ◌≤◌, List, [], ◌∷◌, length, drop, get_or, refl, sym, ◌∙◌, ap, subst, arith}
-use Rattle.std.specs.Prelude.{Option, Result, Ok, Err}
+use Rattle.std.proofs.Common.{◌≡◌, ℕ, ◌+◌, ◌<◌, ◌≤◌, List, [], ◌∷◌, length, drop, get_or, sym, ◌∙◌, ap, subst, arith}
+use Rattle.std.specs.Prelude.{Option, Ok}
 use Rattle.std.proofs.Math.ListN.{drop_of_length-le}
 use Rattle.std.proofs.lemmas.List.{drop_more, length-drop}
 use Rattle.store_api.specs.declared.keys.Key.{Key}
@@ -10,7 +10,7 @@ use Rattle.store_api.specs.declared.events.Reply.{Reply}
 use Rattle.store_api.specs.declared.events.Reply.TheVariants.{Got as Is_got}
 use Rattle.store_api.specs.declared.machines.Next.{Next}
 use Rattle.store_api.specs.Program.{Done, bind, IsAsk, IsDone, Lands}
-use Rattle.store_api.specs.Driving.{Took}
+use Rattle.store_api.specs.Driving.{Awaits, Took}
 use Rattle.store_api.specs.Running.{Program, on_answer}
 use Rattle.play_report.specs.declared.outcome.RefLine.{RefLine}
 use Rattle.repository.specs.declared.refs.Reading.{Reading}
@@ -48,7 +48,7 @@ module _ (lines : List RefLine) (entries slice : List Entry) (from place : ℕ) 
   pub branches-end : length entries ≤ place → (state : Reading) → state ≡ Tags → Goes (read_branches lines (drop from entries)) (reading_rest lines state)
   branches-end l state s =
       subst (λ (x : Reading). Goes (read_branches lines (drop from entries)) (reading_rest lines x)) (sym s)
-        (ap (λ (k : List Key). bind (read_each lines k) (on_answer read_tags)) (no-keys entries place (live (drop from entries)) e l), tt)
+      (ap (λ (k : List Key). bind (read_each lines k) (on_answer read_tags)) (no-keys entries place (live (drop from entries)) e l), tt)
 
   pub next-tag : place < length entries → Goes (read_each lines (live (drop from entries))) (read_on lines (drop place entries))
   next-tag l = tags-go lines (drop place entries) (live (drop from entries)) e (some-left entries place l)
@@ -69,10 +69,22 @@ took-got lines after entry behind got q next a l =
     let read : Lands (read_branches (with_line lines line) behind) q (Ok next) = subst (λ (x : List RefLine). Lands (read_branches x behind) q (Ok next)) a.2 l in
     ((subst (λ (x : Program (Option RefLine)). Lands (bind (bind x (on_answer (λ m. read_each (with_line lines m) (live behind)))) (on_answer read_tags)) q (Ok next)) (sym a.1) read, λ over. tt), tt)
 
+-- a branch is left where the machine waits for a reply
+some-awaited : (lines : List RefLine) (left : List Entry) (reply : Reply) → Awaits (branches_on lines left) reply → 0 < length left
+some-awaited lines [] reply a = absurd a
+some-awaited lines (entry ∷ behind) reply a = omega arith
+
+within : (lines : List RefLine) (entries : List Entry) (place : ℕ) (state : Reading) (reply : Reply) → state ≡ Branch entries place → Awaits (reading_rest lines state) reply → place < length entries
+within lines entries place state reply s a =
+    let waits : Awaits (branches_on lines (drop place entries)) reply = subst (λ (x : Reading). Awaits (reading_rest lines x) reply) s a in
+    let left = some-awaited lines (drop place entries) reply waits in
+    let n = length-drop place entries in
+    omega (arith, left, n)
+
 -- the branch at this place
-pub took-branch : (lines after : List RefLine) (entries slice : List Entry) (place : ℕ) (state : Reading) (none : Entry) (got : Got) (reply : Reply) (q : Program (List RefLine)) (next : Next (List RefLine)) → state ≡ Branch entries place → reply ≡ Is_got got → place < length entries → slice ≡ entries → AddsLine (on_got (get_or slice place none).key (Is_got got)) lines after (Ok tt) → Lands (read_branches after (drop (place + 1) entries)) q (Ok next) → Took (reading_rest lines state) reply q (Ok next)
-took-branch lines after entries slice place state none got reply q next s r l same a lands =
-    let left : drop place entries ≡ get_or entries place none ∷ drop (place + 1) entries = drop_more entries place none l in
+pub took-branch : (lines after : List RefLine) (entries slice : List Entry) (place : ℕ) (state : Reading) (none : Entry) (got : Got) (reply : Reply) (q : Program (List RefLine)) (next : Next (List RefLine)) → state ≡ Branch entries place → reply ≡ Is_got got → Awaits (reading_rest lines state) reply → slice ≡ entries → AddsLine (on_got (get_or slice place none).key (Is_got got)) lines after (Ok tt) → Lands (read_branches after (drop (place + 1) entries)) q (Ok next) → Took (reading_rest lines state) reply q (Ok next)
+took-branch lines after entries slice place state none got reply q next s r w same a lands =
+    let left : drop place entries ≡ get_or entries place none ∷ drop (place + 1) entries = drop_more entries place none (within lines entries place state reply s w) in
     let adds : AddsLine (on_got (get_or entries place none).key (Is_got got)) lines after (Ok tt) = subst (λ (x : List Entry). AddsLine (on_got (get_or x place none).key (Is_got got)) lines after (Ok tt)) same a in
     let took : Took (branches_on lines (drop place entries)) (Is_got got) q (Ok next) = subst (λ (x : List Entry). Took (branches_on lines x) (Is_got got) q (Ok next)) (sym left) (took-got lines after (get_or entries place none) (drop (place + 1) entries) got q next adds lands) in
     subst (λ (x : Reading). Took (reading_rest lines x) reply q (Ok next)) (sym s) (subst (λ (x : Reply). Took (branches_on lines (drop place entries)) x q (Ok next)) (sym r) took)

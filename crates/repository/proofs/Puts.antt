@@ -1,6 +1,6 @@
 -- What is put at the beginning is polite, whatever others do.
 use Rattle.std.proofs.Common.{◌≡◌, ◌<◌, ltb, true, inl, inr, ℕ, List, [], ◌∷◌, length, refl, sym, ◌∙◌, ap, subst}
-use Rattle.std.specs.Prelude.{Option, Some, None, Result, Ok, IsTrue}
+use Rattle.std.specs.Prelude.{Option, Some, None}
 use Rattle.std.specs.Option.{option_or}
 use Rattle.std.specs.List.{All, list_all}
 use Rattle.std.proofs.lemmas.Bool.{and_parts, ltb-true}
@@ -18,12 +18,11 @@ use Rattle.store_api.specs.declared.events.Op.TheVariants.{PutNew}
 use Rattle.store_api.specs.declared.events.New.{New}
 use Rattle.store_api.specs.declared.events.Reply.{Reply}
 use Rattle.store_api.specs.declared.events.Reply.TheVariants.{Got as Is_got, New as Is_new, Over as Is_over, Gone as Is_gone, GoneAt as Is_gone_at, Listed as Is_listed, Failed}
-use Rattle.store_api.specs.declared.events.StoreFault.{StoreFault as Fault}
 use Rattle.store_api.specs.declared.events.Event.{Event}
 use Rattle.store_api.specs.Machine.{Stored, Slot, slot_of, found, effect, put_at, where_free}
 use Rattle.store_api.specs.Journal.{WasPut, ParentPut, IsPolite}
 use Rattle.ice_base.specs.Names.{main_name}
-use Rattle.store_api.specs.Callers.{Caller, View, Makes, Called, own_event}
+use Rattle.store_api.specs.Callers.{Caller, Makes, own_event}
 use Rattle.store_api.specs.Program.{Keeps}
 use Rattle.store_api.proofs.Slots.{same_key-refl, slot-append_one, sound}
 use Rattle.store_api.specs.Running.{Program, StaysPolite, ◌>>=◌}

@@ -18,7 +18,7 @@ use store_api::{
 };
 
 /// The operation that comes next.
-#[derive(Debug, Drop)]
+#[derive(Drop)]
 pub enum Reading {
     /// The branches are listed.
     Branches,

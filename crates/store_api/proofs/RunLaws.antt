@@ -163,7 +163,7 @@ module _ {T : Type 0} (u v : View) (op : Op) (next : Reply → Program T) (reply
   refused q refusal blames lands sure = once (Err refusal) (λ e. blames (ap is_fault (err-same refusal StoreFault e))) (elim (memory-cases refusal) [
     | inl none ↦
         subst (λ (r : Refusal). Path (Ask op next) (m.event ∷ []) (Done (Err r)) ⊎ IsCutOff (Ask op next) (m.event ∷ []) (Err r)) (sym none)
-          (starved (is_over op) refl (λ o. subst (λ (r : Refusal). IsSure {T = T} (next reply) (Err r)) none (sure o)))
+        (starved (is_over op) refl (λ o. subst (λ (r : Refusal). IsSure {T = T} (next reply) (Err r)) none (sure o)))
     | inr other ↦ inl (done (Err refusal) (lands.1 other))
   ])
 
@@ -190,7 +190,7 @@ module _ {T : Type 0} (u v : View) (p q : Program T) (polite : IsTrue u.caller.t
   Runs-again w result s r = elim s.went [
     | inl m ↦
         subst (λ (x : Program T). Runs u w x result) (sym m.asks)
-          (later u v m.op m.next m.reply m.fits (made-by (Ok Again) m.op m.next m.reply m.asks m.made) s.same s.blames w q result m.lands.0 m.lands.1 r)
+        (later u v m.op m.next m.reply m.fits (made-by (Ok Again) m.op m.next m.reply m.asks m.made) s.same s.blames w q result m.lands.0 m.lands.1 r)
     | inr n ↦ let no = n.result_is in absurd cc
   ]
 
@@ -200,7 +200,7 @@ module _ {T : Type 0} (u v : View) (p q : Program T) (polite : IsTrue u.caller.t
     | inl m ↦
         let event = made-by (Ok (Ready answer)) m.op m.next m.reply m.asks m.made in
         subst (λ (x : Program T). Runs u v x (Ok answer)) (sym m.asks)
-          (once u v m.op m.next m.reply m.fits event s.same s.blames (Ok answer) (λ e. cc) (inl (done u v m.op m.next m.reply m.fits event s.same s.blames (Ok answer) m.lands.0)))
+        (once u v m.op m.next m.reply m.fits event s.same s.blames (Ok answer) (λ e. cc) (inl (done u v m.op m.next m.reply m.fits event s.same s.blames (Ok answer) m.lands.0)))
     | inr n ↦ let no = n.result_is in absurd cc
   ]
 
@@ -209,7 +209,7 @@ module _ {T : Type 0} (u v : View) (p q : Program T) (polite : IsTrue u.caller.t
   Runs-refused refusal s = elim s.went [
     | inl m ↦
         subst (λ (x : Program T). Runs u v x (Err refusal)) (sym m.asks)
-          (refused u v m.op m.next m.reply m.fits (made-by (Err refusal) m.op m.next m.reply m.asks m.made) s.same s.blames.0 q refusal s.blames.1 m.lands m.sure)
+        (refused u v m.op m.next m.reply m.fits (made-by (Err refusal) m.op m.next m.reply m.asks m.made) s.same s.blames.0 q refusal s.blames.1 m.lands m.sure)
     | inr n ↦ Runs-stops u v p refusal (err-same refusal NoMemory n.result_is) s.same s.blames.0 n.waits
   ]
 

@@ -1,4 +1,3 @@
-use Rattle.std.proofs.Common.{subst}
 use Rattle.repository.proofs.Goings.{next-branch, branches-end}
 use Rattle.repository.proofs.refs.ReadRefs.on_branches.Goals.{then-place-len, else-place-len}
 use Rattle.repository.proofs.refs.ReadRefs.on_branches.Goals as goal
