@@ -1,5 +1,5 @@
 -- What one operation of a machine comes to, whatever the machine.
-use Rattle.std.proofs.Common.{◌≡◌, refl, sym, subst, inl, inr, arith, Bool, true, false, Result, Ok, Err}
+use Rattle.std.proofs.Common.{◌≡◌, refl, subst, inl, inr, arith, Bool, true, false, Result, Ok, Err}
 use Rattle.ice_base.specs.Ends.{Rose}
 use Rattle.store_api.specs.declared.events.Op.{Op}
 use Rattle.store_api.specs.declared.events.Op.TheVariants.{Get, PutNew, PutOver, Remove, RemoveAt, List as ListPart}

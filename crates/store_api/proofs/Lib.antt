@@ -5,3 +5,4 @@ pub mod Naming
 pub mod Programs
 pub mod Drives
 pub mod PlayLaws
+pub mod RunLaws

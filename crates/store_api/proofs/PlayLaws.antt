@@ -1,15 +1,14 @@
 -- Laws of plays.
-use Rattle.std.proofs.Common.{◌≡◌, ℕ, ◌⊎◌, inl, inr, Bool, true, false, List, ◌++◌, refl, sym, ◌∙◌, ap, subst}
-use Rattle.std.specs.Prelude.{IsTrue, Result, Ok, Err}
+use Rattle.std.proofs.Common.{◌≡◌, ℕ, inl, inr, Bool, true, false, List, refl, sym, subst}
+use Rattle.std.specs.Prelude.{IsTrue, Result, Err}
 use Rattle.store_api.specs.declared.events.Op.{Op}
-use Rattle.store_api.specs.declared.events.Reply.{Reply}
 use Rattle.store_api.specs.declared.events.Event.{Event}
 use Rattle.store_api.specs.declared.machines.Refusal.{Refusal}
 use Rattle.store_api.specs.declared.machines.Refusal.TheVariants.{NoMemory}
-use Rattle.store_api.specs.Callers.{Caller, View, Waits, Makes}
+use Rattle.store_api.specs.Callers.{Caller, View, Waits}
 use Rattle.store_api.specs.Program.{Prog, Done, Ask as Ask_next, Keeps, Leads, is_over}
 use Rattle.store_api.specs.Plays.{Play, Ended, Ask, Or, call, behind, Comes, HasEnded, PlayKeeps, PlayLeads, Stays, Acts}
-use Rattle.store_api.proofs.Programs.{IsStable, IsKept, Makes-waits, good-waits}
+use Rattle.store_api.proofs.Programs.{IsStable, Makes-waits}
 
 -- ---- what holds of each operation to come
 pub PlayKeeps-comes : {A : Type 0} (P : List Event → ℕ → Op → Type 0) (by : Caller) (p q : Play A) (journal : List Event) → Comes p q → PlayKeeps P by p journal → PlayKeeps P by q journal

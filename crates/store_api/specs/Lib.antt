@@ -5,3 +5,4 @@ pub mod Program
 pub mod Laws
 pub mod Plays
 pub mod Driving
+pub mod Running

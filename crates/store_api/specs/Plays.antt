@@ -1,6 +1,6 @@
 -- Plays: what a player has still to do, who makes one call of a machine after another. Each call may find no memory, and a play says what
 -- follows then, so that nothing in it is free.
-use Rattle.std.specs.Prelude.{◌≡◌, ◌⊎◌, ℕ, ◌≤◌, if◌then◌else◌, List, Bool, true, false, IsTrue, Result, Ok, Err}
+use Rattle.std.specs.Prelude.{◌≡◌, ◌⊎◌, ℕ, ◌≤◌, if◌then◌else◌, List, Bool, true, false, IsTrue, Result, Err}
 use Rattle.ice_base.specs.Ends.{Rose}
 use Rattle.store_api.specs.declared.events.Op.{Op}
 use Rattle.store_api.specs.declared.events.Reply.{Reply}

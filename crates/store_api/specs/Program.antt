@@ -5,8 +5,6 @@ use Rattle.store_api.specs.declared.events.Op.{Op}
 use Rattle.store_api.specs.declared.events.Op.TheVariants.{PutOver}
 use Rattle.store_api.specs.declared.events.Reply.{Reply}
 use Rattle.store_api.specs.declared.events.Event.{Event}
-use Rattle.store_api.specs.declared.events.StoreFault.{StoreFault}
-use Rattle.store_api.specs.declared.events.StoreFault.TheVariants.{Failed as Store_failed, NoMemory as Store_no_memory}
 use Rattle.store_api.specs.declared.machines.Next.{Next}
 use Rattle.store_api.specs.declared.machines.Next.TheVariants.{Again, Ready}
 use Rattle.store_api.specs.declared.machines.Refusal.{Refusal}
@@ -115,11 +113,6 @@ pub record Steps {T : Type 0} (old new : View) (p q : Prog (Result T Refusal)) (
   pub same : new.caller ≡ old.caller
   pub blames : Blames result old.faults new.faults
   pub went : Moves old new p q result ⊎ Stops old new q result
-
--- what a machine answers where the store failed
-abbrev pub refusal_of : StoreFault → Refusal
-refusal_of Store_failed = Refused_fault
-refusal_of Store_no_memory = NoMemory
 
 -- From old to new there were good events, of which these are the client's own.
 pub record Grows (client : ℕ) (own : List Event) (old new : List Event) : Type 0 where

@@ -9,6 +9,7 @@ mod laws;
 mod machines;
 mod names;
 mod operations;
+mod running;
 #[cfg(test)]
 mod tests;
 
@@ -20,3 +21,4 @@ pub use keys::{Key, Part, Why};
 pub use laws::{names_law, polite_law, trees_law};
 pub use machines::{Bad, Next, Refusal};
 pub use operations::{Base, Store};
+pub use running::run_machine;
