@@ -7,18 +7,18 @@ use Rattle.ice_ids.specs.Text.{IsId12}
 use Rattle.tree_model.specs.Touched.{touched}
 use Rattle.plain_object.specs.Objects.{snapshot_bytes, log_bytes, ref_bytes}
 use Rattle.store_api.specs.declared.keys.Key.{Key}
-use Rattle.store_api.specs.declared.keys.Key.TheVariants.{Snapshot, Manifest, Txn, Chunk, Branch, Tag, TagGone}
+use Rattle.store_api.specs.declared.keys.Key.TheVariants.{Snapshot, Txn, Branch}
 use Rattle.store_api.specs.declared.keys.Part.{Part}
 use Rattle.store_api.specs.declared.keys.Why.{Why}
 use Rattle.store_api.specs.declared.keys.Why.TheVariants.{Set, Commit}
 use Rattle.store_api.specs.declared.events.Version.{Version}
 use Rattle.store_api.specs.declared.events.Op.{Op}
-use Rattle.store_api.specs.declared.events.Op.TheVariants.{Get, PutNew, PutOver, Remove, RemoveAt, List as ListPart}
+use Rattle.store_api.specs.declared.events.Op.TheVariants.{Get, PutNew, PutOver, List as ListPart}
 use Rattle.store_api.specs.declared.events.New.TheVariants.{Done as New_done, Present}
 use Rattle.store_api.specs.declared.events.Over.{Over}
 use Rattle.store_api.specs.declared.events.Over.TheVariants.{Done as Over_done, Moved}
 use Rattle.store_api.specs.declared.events.Reply.{Reply}
-use Rattle.store_api.specs.declared.events.Reply.TheVariants.{Got as Is_got, New as Is_new, Over as Is_over, Gone as Is_gone, GoneAt as Is_gone_at, Listed as Is_listed, Failed}
+use Rattle.store_api.specs.declared.events.Reply.TheVariants.{New as Is_new, Over as Is_over, Failed}
 use Rattle.store_api.specs.declared.events.Event.{Event}
 use Rattle.store_api.specs.declared.machines.Refusal.{Refusal}
 use Rattle.store_api.specs.declared.machines.Refusal.TheVariants as R
@@ -114,19 +114,14 @@ list-leaves by part reply time journal branch =
 new-leaves : (mine : Sessions) (by : Caller) (key : Key) (bytes : List ℕ) (why : Why) (reply : Reply) (time : ℕ) (before journal : List Event) → OwesNew mine before bytes key → (branch : List ℕ) → found (journal ++ own_event by (PutNew key bytes why) reply time ∷ []) (Branch branch) ≡ found journal (Branch branch)
 new-leaves mine by (Snapshot id) bytes why reply time before journal o = snapshot-leaves by id bytes why reply time journal
 new-leaves mine by (Txn id) bytes why reply time before journal o = log-leaves by id bytes why reply time journal
-new-leaves mine by (Manifest id) bytes why reply time before journal o = absurd o
-new-leaves mine by (Chunk id) bytes why reply time before journal o = absurd o
-new-leaves mine by (Branch name) bytes why reply time before journal o = absurd o
-new-leaves mine by (Tag name) bytes why reply time before journal o = absurd o
-new-leaves mine by (TagGone name) bytes why reply time before journal o = absurd o
+new-leaves mine by _ bytes why reply time before journal o = absurd o
 
 owed-leaves : (mine : Sessions) (by : Caller) (op : Op) (reply : Reply) (time : ℕ) (before journal : List Event) → Owes mine before op → is_over op ≡ false → (branch : List ℕ) → found (journal ++ own_event by op reply time ∷ []) (Branch branch) ≡ found journal (Branch branch)
 owed-leaves mine by (Get key) reply time before journal o off = get-leaves by key reply time journal
 owed-leaves mine by (ListPart part) reply time before journal o off = list-leaves by part reply time journal
 owed-leaves mine by (PutNew key bytes why) reply time before journal o off = new-leaves mine by key bytes why reply time before journal o
 owed-leaves mine by (PutOver key bytes old why) reply time before journal o off = absurd cc
-owed-leaves mine by (Remove key why) reply time before journal o off = absurd o
-owed-leaves mine by (RemoveAt key old why) reply time before journal o off = absurd o
+owed-leaves mine by _ reply time before journal o off = absurd o
 
 -- what a client owes that is no put over leaves the branches
 pub ChangedNothing-owed : (mine : Sessions) (by : Caller) (start : List Event) (op : Op) (reply : Reply) (old new : List Event) → Owes mine old op → is_over op ≡ false → Makes by op reply old new → ChangedNothing by.number start old → ChangedNothing by.number start new
@@ -283,12 +278,8 @@ module _ (L : Spellings) (by : Caller) (s : SessionState) (message : List ℕ) (
   unfolding Leads
   branch-told flushed (Is_over (Over_done v now)) old new o l p c n = (refl, done-told flushed v now old new o l p c n)
   branch-told flushed (Is_over (Moved there now)) old new o l p c n = moved-told there now old new o c n
-  branch-told flushed (Is_new x) old new o l p c n = let e = n.answered.answered in absurd (cc)
-  branch-told flushed (Is_got x) old new o l p c n = let e = n.answered.answered in absurd (cc)
-  branch-told flushed (Is_gone x) old new o l p c n = let e = n.answered.answered in absurd (cc)
-  branch-told flushed (Is_gone_at x) old new o l p c n = let e = n.answered.answered in absurd (cc)
-  branch-told flushed (Is_listed x) old new o l p c n = let e = n.answered.answered in absurd (cc)
   branch-told flushed (Failed d) old new o l p c n = failed-made by (IsOfCommit s id) start over_put d old new (ref_bytes id, inr (inr (refl, L.reference.written id is_id))) n c
+  branch-told flushed _ old new o l p c n = let e = n.answered.answered in absurd (cc)
 
   snapshot-taken : (flushed : ℕ) (version : Version) (now : ℕ) (old new : List Event) → ChangedNothing by.number start old → Makes by (PutNew (Snapshot id) (snapshot_bytes (snap_for s message flushed)) Set) (Is_new (Present version now)) old new → WasTaken by.number id (Snapshot id) start new
   snapshot-taken flushed version now old new c n =
@@ -330,12 +321,8 @@ module _ (L : Spellings) (by : Caller) (s : SessionState) (message : List ℕ) (
       let c' = ChangedNothing-makes by start op (Is_new (New_done v now)) old new n (snapshot-leaves by id (snapshot_bytes (snap_for s message flushed)) Set (Is_new (New_done v now)) n.time n.middle) c in
       λ reply next k. branch-told flushed reply new next o' l' (snap-snapped L s message flushed id new w f m d) c' k
   snapshot-told flushed f (Is_new (Present v now)) old new o l c n = snapshot-taken flushed v now old new c n
-  snapshot-told flushed f (Is_over x) old new o l c n = let e = n.answered.answered in absurd (cc)
-  snapshot-told flushed f (Is_got x) old new o l c n = let e = n.answered.answered in absurd (cc)
-  snapshot-told flushed f (Is_gone x) old new o l c n = let e = n.answered.answered in absurd (cc)
-  snapshot-told flushed f (Is_gone_at x) old new o l c n = let e = n.answered.answered in absurd (cc)
-  snapshot-told flushed f (Is_listed x) old new o l c n = let e = n.answered.answered in absurd (cc)
   snapshot-told flushed f (Failed d) old new o l c n = failed-made by (IsOfCommit s id) start (PutNew (Snapshot id) (snapshot_bytes (snap_for s message flushed)) Set) d old new (snapshot_bytes (snap_for s message flushed), inr (inl refl)) n c
+  snapshot-told flushed f _ old new o l c n = let e = n.answered.answered in absurd (cc)
 
   log-told : (reply : Reply) (old new : List Event) → IsOpened s old → ChangedNothing by.number start old → Makes by (PutNew (Txn id) (log_bytes (touched s.changes s.tree)) Set) reply old new → Leads Told by (after_log s message id reply) new
   unfolding Leads
@@ -347,12 +334,8 @@ module _ (L : Spellings) (by : Caller) (s : SessionState) (message : List ℕ) (
       let c' = ChangedNothing-makes by start op (Is_new (New_done v now)) old new n (log-leaves by id (log_bytes (touched s.changes s.tree)) Set (Is_new (New_done v now)) n.time n.middle) c in
       λ reply next k. snapshot-told now f reply new next o' l c' k
   log-told (Is_new (Present v now)) old new o c n = log-taken v now old new c n
-  log-told (Is_over x) old new o c n = let e = n.answered.answered in absurd (cc)
-  log-told (Is_got x) old new o c n = let e = n.answered.answered in absurd (cc)
-  log-told (Is_gone x) old new o c n = let e = n.answered.answered in absurd (cc)
-  log-told (Is_gone_at x) old new o c n = let e = n.answered.answered in absurd (cc)
-  log-told (Is_listed x) old new o c n = let e = n.answered.answered in absurd (cc)
   log-told (Failed d) old new o c n = failed-made by (IsOfCommit s id) start (PutNew (Txn id) (log_bytes (touched s.changes s.tree)) Set) d old new (log_bytes (touched s.changes s.tree), inl refl) n c
+  log-told _ old new o c n = let e = n.answered.answered in absurd (cc)
 
   -- Whatever others do, the answer of a commit tells the journal so.
   pub commit-told : (journal : List Event) → IsOpened s journal → ChangedNothing by.number start journal → Leads Told by (commit_program s message id) journal
@@ -421,13 +404,4 @@ module _ (by : Caller) (start journal more : List Event) (others : Each (IsOther
   CommitTells-others s message id (Err (R.IdTaken key)) t = taken-others id key t
   CommitTells-others s message id (Err R.StoreFault) t = failed-others (IsOfCommit s id) t
   CommitTells-others s message id (Err R.NoMemory) t = ChangedNothing-others by start journal more others t
-  CommitTells-others s message id (Err R.NoRef) t = absurd t
-  CommitTells-others s message id (Err R.NoNode) t = absurd t
-  CommitTells-others s message id (Err R.NodeExists) t = absurd t
-  CommitTells-others s message id (Err R.NoParent) t = absurd t
-  CommitTells-others s message id (Err R.ReadOnly) t = absurd t
-  CommitTells-others s message id (Err R.Full) t = absurd t
-  CommitTells-others s message id (Err (R.Missing key)) t = absurd t
-  CommitTells-others s message id (Err (R.BadFile key bad)) t = absurd t
-  CommitTells-others s message id (Err R.IdsSpent) t = absurd t
-  CommitTells-others s message id (Err R.NothingToCommit) t = absurd t
+  CommitTells-others s message id (Err _) t = absurd t

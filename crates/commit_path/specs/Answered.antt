@@ -111,8 +111,8 @@ pub record WasTaken (client : ℕ) (id : Id12) (key : Key) (start journal : List
   pub there : StandsAt own.before key version.0
   pub nothing : ChangedNothing client start journal
 
--- The store failed an operation of the client, of this kind, which may have been done. No other event of the client
--- changed a branch.
+-- The store failed an operation of the client, of this kind, which may have been done. No other event of
+-- the client changed a branch.
 pub record WasFailed (client : ℕ) (kind : Op → Type 0) (start journal : List Event) : Type 0 where
   pub op : Op
   pub of_kind : kind op
@@ -120,10 +120,11 @@ pub record WasFailed (client : ℕ) (kind : Op → Type 0) (start journal : List
   pub own : HasOwn client op (Failed done) start journal
   pub once : ChangedOnce client start own.before own.event journal
 
--- an operation of a commit of this session under this id: the put of its log, the put of its snapshot, or the put
--- over of the session's branch with a reference to it
+-- an operation of a commit of this session under this id: the put of its log, the put of its snapshot, or
+-- the put over of the session's branch with a reference to it
 abbrev pub IsOfCommit : SessionState → Id12 → Op → Type 0
-IsOfCommit s id op = (bytes : List ℕ) × ((op ≡ PutNew (Txn id) bytes Set) ⊎ ((op ≡ PutNew (Snapshot id) bytes Set) ⊎ ((op ≡ commits_over s bytes) × (ref_of bytes ≡ Some id))))
+IsOfCommit s id op = (bytes : List ℕ) ×
+    ((op ≡ PutNew (Txn id) bytes Set) ⊎ ((op ≡ PutNew (Snapshot id) bytes Set) ⊎ ((op ≡ commits_over s bytes) × (ref_of bytes ≡ Some id))))
 
 -- What the answer of a commit of this session, with this message and the id that was drawn, says of
 -- the journal, where the client had changed no branch between `start` and the commit.
