@@ -33,6 +33,7 @@ case $1 in
             echo "$TMPDIR" >"$TMPDIR/left"
             wait
         fi
+        [ ! -f "$ROOM/edits" ] || echo meanwhile >>"$(cat "$ROOM/edits")"
         [ ! -f "$ROOM/refuses" ] || { echo refused; exit 1; }
         mkdir crates/ice_cli/out
         {
@@ -123,6 +124,12 @@ same 'another program in its place' 1 "$(change)"
 rm -f "$out/ice_cli.sum" "$out/ice_cli.seen"
 same 'a program of unknown sources' 1 "$(change)"
 same 'and no more' '' "$(change)"
+echo "$top/crates/low/src/lib.rt" >"$room/edits"
+echo again >>"$top/crates/middle/src/lib.rt"
+same 'a source that is changed during a build' 1 "$(change)"
+rm "$room/edits"
+same 'is built by the next call' 1 "$(change)"
+same 'which is the last' '' "$(change)"
 
 # From other folders, through links, with no kit.
 ln -s "a folder's name" "$room/link"
