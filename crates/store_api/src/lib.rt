@@ -3,6 +3,7 @@
 #![tactic(auto)]
 
 mod events;
+mod key_display;
 mod keys;
 mod laws;
 mod machines;
