@@ -1,9 +1,19 @@
--- Outcomes that tell a want of memory or a fault of the store.
-use Rattle.std.specs.Prelude.{Bool, false}
+-- What ended a task: a refusal, and whether it tells a want of memory or a fault of the store.
+use Rattle.std.specs.Prelude.{Bool, false, List, [], ◌∷◌}
+use Rattle.store_api.specs.declared.machines.Refusal.{Refusal}
 use Rattle.store_api.specs.Program.{is_no_memory, is_fault}
 use Rattle.play_outcome.specs.declared.outcome.End.{End}
 use Rattle.play_outcome.specs.declared.outcome.End.TheVariants.{Committed, Done, Refused}
 use Rattle.play_outcome.specs.declared.outcome.Outcome.{Outcome}
+
+-- the refusal that ended it, if one did
+abbrev pub end_why : End → List Refusal
+end_why (Committed id) = []
+end_why Done = []
+end_why (Refused line why) = why ∷ []
+
+abbrev pub why_ended : Outcome → List Refusal
+why_ended outcome = end_why outcome.end
 
 abbrev pub end_starved : End → Bool
 end_starved (Committed id) = false

@@ -1,4 +1,4 @@
-//! What tasks of a script showed and how they ended, and the refs that a run leaves.
+//! Outcomes: what tasks of a script showed and how they ended, and the refs that stand behind them.
 #![tactic(auto)]
 
 mod outcome;

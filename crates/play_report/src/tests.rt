@@ -1,6 +1,7 @@
 use super::*;
 use ice_base::RefName;
 use ice_ids::Id12;
+use play_outcome::{End, Outcome, RefLine, RefLines, Shown, Shows};
 use std::alloc::Global;
 use std::test::Fail;
 use store_api::{Bad, Key, Refusal, Version};
@@ -120,7 +121,7 @@ fn refusals_with_names(rt: HostRuntime) -> Result<(), Fail> {
 }
 
 fn is_called(alloc: Global, key: Key, wanted: &str) -> Result<bool, Fail> {
-    let name = key_name(alloc, &key)?;
+    let name = key.to_string(alloc)?;
     Ok(name.as_str() == wanted)
 }
 

@@ -4,6 +4,7 @@
 
 mod driving;
 mod events;
+mod key_display;
 mod keys;
 mod laws;
 mod machines;

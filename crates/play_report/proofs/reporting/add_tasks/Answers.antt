@@ -2,7 +2,7 @@ use Rattle.std.proofs.Common.{◌++◌, List, ℕ, sym, ◌∙◌, ap, append-ni
 use Rattle.std.proofs.lemmas.Slice.Zip.{either_empty_from_Zip}
 use Rattle.std.specs.Iterator.Adapters.{zip_first, zip_second}
 use Rattle.std.specs.Slice.Iter.{iter_rest}
-use Rattle.play_report.proofs.Joined.{tasks_text-ended}
+use Rattle.play_report.proofs.Ended.{tasks_text-ended}
 use Rattle.play_report.proofs.reporting.add_tasks.Goals as goal
 
 pub returns : goal.returns

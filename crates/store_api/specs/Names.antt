@@ -1,4 +1,5 @@
--- The names of a store's objects: Icechunk specification version 1, "File layout".
+-- The names of objects: Icechunk specification version 1, "File layout".
+-- A tombstone of a tag stands beside it.
 use Rattle.std.specs.Prelude.{ℕ, List, ◌++◌, codes}
 use Rattle.ice_ids.specs.Text.{id12_text}
 use Rattle.store_api.specs.declared.keys.Key.{Key}
