@@ -9,6 +9,6 @@ tasks_text-none [] = refl
 tasks_text-none (n ∷ names) = refl
 
 -- at the end of either list there are no more tasks
-pub tasks_text-ended : {A B : Type 0} (f : A → List ℕ) (g : B → Outcome) (xs : List A) (ys : List B) → (xs ≡ []) ⊎ (ys ≡ []) → tasks_text (map f xs) (map g ys) ≡ []
-tasks_text-ended f g xs ys (inl e) = ap (λ (zs : List _). tasks_text (map f zs) (map g ys)) e
-tasks_text-ended f g xs ys (inr e) = ap (λ (zs : List _). tasks_text (map f xs) (map g zs)) e ∙ tasks_text-none (map f xs)
+pub tasks_text-ended : {A : Type 0} (f : A → List ℕ) (xs : List A) (ys : List Outcome) → (xs ≡ []) ⊎ (ys ≡ []) → tasks_text (map f xs) ys ≡ []
+tasks_text-ended f xs ys (inl e) = ap (λ (zs : List _). tasks_text (map f zs) ys) e
+tasks_text-ended f xs ys (inr e) = ap (λ (zs : List Outcome). tasks_text (map f xs) zs) e ∙ tasks_text-none (map f xs)

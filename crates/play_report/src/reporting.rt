@@ -106,8 +106,8 @@ pub fn add_refs(out: &mut Vec<u8>, refs: &Result<RefLines, Refusal>) -> Result<(
     out.extend_from_slice(&text)
 }
 
-fn add_tasks(out: &mut Vec<u8>, names: &[&[u8]], outcomes: &[&Outcome]) -> Result<(), AllocError>
-    ensures { OnOk result (out.new.items ≡ out.old.items ++ tasks_text (map (λ n. n.now) names.now) (map (λ o. o.now) outcomes.now)) }
+fn add_tasks(out: &mut Vec<u8>, names: &[&[u8]], outcomes: &[Outcome]) -> Result<(), AllocError>
+    ensures { OnOk result (out.new.items ≡ out.old.items ++ tasks_text (map (λ n. n.now) names.now) outcomes.now) }
 {
     for (name, outcome) in names.iter().zip(outcomes) {
         add_outcome(out, name, outcome)?;
@@ -119,9 +119,9 @@ fn add_played(
     out: &mut Vec<u8>,
     names: &[&[u8]],
     opening: &Result<(), Refusal>,
-    outcomes: &[&Outcome],
+    outcomes: &[Outcome],
 ) -> Result<(), AllocError>
-    ensures { OnOk result (out.new.items ≡ out.old.items ++ played_text (map (λ n. n.now) names.now) opening.now (map (λ o. o.now) outcomes.now)) }
+    ensures { OnOk result (out.new.items ≡ out.old.items ++ played_text (map (λ n. n.now) names.now) opening.now outcomes.now) }
 {
     match opening {
         Ok(()) => add_tasks(out, names, outcomes),
@@ -138,10 +138,10 @@ pub fn report(
     alloc: Global,
     names: &[&[u8]],
     opening: &Result<(), Refusal>,
-    outcomes: &[&Outcome],
+    outcomes: &[Outcome],
     refs: &Result<RefLines, Refusal>,
 ) -> Result<Vec<u8>, AllocError>
-    ensures { IfOk result (λ text. text.items ≡ report_of (map (λ n. n.now) names.now) opening.now (map (λ o. o.now) outcomes.now) refs.now) }
+    ensures { IfOk result (λ text. text.items ≡ report_of (map (λ n. n.now) names.now) opening.now outcomes.now refs.now) }
 {
     let mut out = Vec::new(alloc);
     add_played(&mut out, names, opening, outcomes)?;
