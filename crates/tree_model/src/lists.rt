@@ -2,6 +2,7 @@
 
 use ice_ids::Id8;
 use ice_items::Items;
+use zarr_path::Index;
 
 /// A list of ids of nodes.
 pub type Ids = Items<Id8>;
@@ -12,4 +13,13 @@ pub type Ids = Items<Id8>;
 pub struct Touched {
     /// The groups that the changes add.
     pub new_groups: Ids,
+}
+
+/// An array, by its node's id, and indices of chunks in it.
+#[derive(Debug, Drop)]
+pub struct ArrayChunks {
+    /// The array.
+    pub node: Id8,
+    /// The chunks.
+    pub chunks: Items<Index>,
 }

@@ -6,7 +6,8 @@ use crate::log::TxnFile;
 use file_fields::{id_follows, id8, id8_of, id12_of, index_follows, index_of};
 use flat_tables::{FILE_LIMIT, FileFault, FlatFault, HEADER, Kind, Table, Vector, header_read};
 use ice_ids::Id8;
-use node_lists::{ArrayChunks, ChunkLists, Indices, NodeIds};
+use ice_items::Items;
+use tree_model::{ArrayChunks, Ids};
 use std::alloc::Global;
 use zarr_path::Index;
 
@@ -21,7 +22,7 @@ fn array_follows(last: Option<&ArrayChunks>, array: &ArrayChunks) -> bool
 }
 
 /// The ids of a vector, which stand in order.
-fn ids_in(alloc: Global, slot: u16, vector: &Vector) -> Result<NodeIds, FileFault>
+fn ids_in(alloc: Global, slot: u16, vector: &Vector) -> Result<Ids, FileFault>
     requires { vector.now.size ≡ 8 }
     ensures { Reads (λ x. x) result (ids_in slot vector.now) }
 {
@@ -33,16 +34,16 @@ fn ids_in(alloc: Global, slot: u16, vector: &Vector) -> Result<NodeIds, FileFaul
         }
         ids.push(id)?;
     }
-    Ok(NodeIds::from_vec(ids))
+    Ok(Ids::from_vec(ids))
 }
 
 /// The ids in a slot, none where it is absent.
 #[tactic(auto, unfolding(crate::specs::Logs::ids_of))]
-fn ids_of(alloc: Global, table: &Table, slot: u16) -> Result<NodeIds, FileFault>
+fn ids_of(alloc: Global, table: &Table, slot: u16) -> Result<Ids, FileFault>
     ensures { Reads (λ x. x) result (ids_of table.now slot) }
 {
     match table.vector(slot, 8)? {
-        None => Ok(NodeIds::from_vec(Vec::new(alloc))),
+        None => Ok(Ids::from_vec(Vec::new(alloc))),
         Some(vector) => ids_in(alloc, slot, &vector),
     }
 }
@@ -59,7 +60,7 @@ fn index_at(alloc: Global, vector: &Vector, at: usize) -> Result<Index, FileFaul
 }
 
 /// The indices of a vector, which stand in order.
-fn indices_in(alloc: Global, vector: &Vector) -> Result<Indices, FileFault>
+fn indices_in(alloc: Global, vector: &Vector) -> Result<Items<Index>, FileFault>
     requires { vector.now.size ≡ 4 }
     ensures { Reads (λ x. x) result (indices_in vector.now) }
 {
@@ -71,7 +72,7 @@ fn indices_in(alloc: Global, vector: &Vector) -> Result<Indices, FileFault>
         }
         indices.push(index)?;
     }
-    Ok(Indices::from_vec(indices))
+    Ok(Items::from_vec(indices))
 }
 
 /// The array that a table has, with its chunks.
@@ -99,7 +100,7 @@ fn array_at(alloc: Global, vector: &Vector, at: usize) -> Result<ArrayChunks, Fi
 }
 
 /// The arrays of a vector, which stand in order.
-fn arrays_in(alloc: Global, vector: &Vector) -> Result<ChunkLists, FileFault>
+fn arrays_in(alloc: Global, vector: &Vector) -> Result<Items<ArrayChunks>, FileFault>
     requires { vector.now.size ≡ 4 }
     ensures { Reads (λ x. x) result (arrays_in vector.now) }
 {
@@ -111,16 +112,16 @@ fn arrays_in(alloc: Global, vector: &Vector) -> Result<ChunkLists, FileFault>
         }
         arrays.push(array)?;
     }
-    Ok(ChunkLists::from_vec(arrays))
+    Ok(Items::from_vec(arrays))
 }
 
 /// The arrays in slot 7, none where it is absent.
 #[tactic(auto, unfolding(crate::specs::Logs::arrays_of))]
-fn arrays_of(alloc: Global, table: &Table) -> Result<ChunkLists, FileFault>
+fn arrays_of(alloc: Global, table: &Table) -> Result<Items<ArrayChunks>, FileFault>
     ensures { Reads (λ x. x) result (arrays_of table.now) }
 {
     match table.vector(7, 4)? {
-        None => Ok(ChunkLists::from_vec(Vec::new(alloc))),
+        None => Ok(Items::from_vec(Vec::new(alloc))),
         Some(vector) => arrays_in(alloc, &vector),
     }
 }
