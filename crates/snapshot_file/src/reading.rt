@@ -5,14 +5,15 @@ ghost use Rattle.flat_tables.specs.Rows.{Ascends, Reads, follows, flat, required
 ghost use Rattle.snapshot_file.specs.Snapshots.{node_key, file_key, nodes_in, nodes_of, properties_of, files_in, files_of, is_listed, all_listed, first_unlisted, id_if, payload_of, snapshot_of};
 ghost use Rattle.snapshot_file.specs.Layout.{IsWritable};
 
-use crate::lists::{ManifestFiles, NodeRows, Text};
 use crate::node_reading::node_at;
 use crate::nodes::{ManifestRef, NodeKind, NodeRow};
 use crate::numbers::info_of;
 use crate::snapshot::{ManifestInfo, NODE_LIMIT, SnapshotFile};
 use file_fields::{id12, id12_of};
 use flat_tables::{FILE_LIMIT, FileFault, FlatFault, HEADER, Kind, Table, Vector, header_read};
+use ice_base::Text;
 use ice_ids::Id12;
+use ice_items::Items;
 use std::alloc::Global;
 
 /// Whether a node may stand behind the last one.
@@ -36,7 +37,7 @@ fn file_follows(last: Option<&ManifestInfo>, file: &ManifestInfo) -> bool
 }
 
 /// The nodes in a vector, which stand in order.
-fn nodes_in(alloc: Global, vector: &Vector) -> Result<NodeRows, FileFault>
+fn nodes_in(alloc: Global, vector: &Vector) -> Result<Items<NodeRow>, FileFault>
     requires { vector.now.size ≡ 4 }
     ensures { Reads (λ x. x) result (nodes_in vector.now) }
 {
@@ -48,12 +49,12 @@ fn nodes_in(alloc: Global, vector: &Vector) -> Result<NodeRows, FileFault>
         }
         nodes.push(node)?;
     }
-    Ok(NodeRows::from_vec(nodes))
+    Ok(Items::from_vec(nodes))
 }
 
 /// The nodes of a snapshot.
 #[tactic(auto, unfolding(crate::specs::Snapshots::nodes_of))]
-fn nodes_of(alloc: Global, table: &Table) -> Result<NodeRows, FileFault>
+fn nodes_of(alloc: Global, table: &Table) -> Result<Items<NodeRow>, FileFault>
     ensures { Reads (λ x. x) result (nodes_of table.now) }
 {
     let Some(vector) = table.vector(2, 4)? else {
@@ -83,7 +84,7 @@ fn properties_of(table: &Table) -> Result<(), FileFault>
 }
 
 /// The manifests in a vector, which stand in order.
-fn files_in(alloc: Global, vector: &Vector) -> Result<ManifestFiles, FileFault>
+fn files_in(alloc: Global, vector: &Vector) -> Result<Items<ManifestInfo>, FileFault>
     requires { vector.now.size ≡ 32 }
     ensures value { Reads (λ x. x) result (files_in vector.now) }
     ensures ascend { IfOk result (Ascends file_key None) }
@@ -96,17 +97,17 @@ fn files_in(alloc: Global, vector: &Vector) -> Result<ManifestFiles, FileFault>
         }
         files.push(file)?;
     }
-    Ok(ManifestFiles::from_vec(files))
+    Ok(Items::from_vec(files))
 }
 
 /// The manifests of a snapshot, none where the slot is absent.
 #[tactic(auto, unfolding(crate::specs::Snapshots::files_of))]
-fn files_of(alloc: Global, table: &Table) -> Result<ManifestFiles, FileFault>
+fn files_of(alloc: Global, table: &Table) -> Result<Items<ManifestInfo>, FileFault>
     ensures value { Reads (λ x. x) result (files_of table.now) }
     ensures ascend { IfOk result (Ascends file_key None) }
 {
     match table.vector(6, 32)? {
-        None => Ok(ManifestFiles::from_vec(Vec::new(alloc))),
+        None => Ok(Items::from_vec(Vec::new(alloc))),
         Some(vector) => files_in(alloc, &vector),
     }
 }
@@ -167,7 +168,7 @@ fn payload_of(alloc: Global, payload: &[u8]) -> Result<SnapshotFile, FileFault>
     if let Some(at) = first_unlisted(manifest_files.as_slice(), nodes.as_slice()) {
         return Err(FileFault::Unlisted { at });
     }
-    let message = Text::from_string(String::from_str(alloc, message)?);
+    let message = Text::of(alloc, message)?;
     Ok(SnapshotFile {
         id,
         parent,
