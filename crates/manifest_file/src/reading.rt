@@ -3,8 +3,8 @@ ghost use Rattle.flat_tables.specs.Rows.{Reads, follows};
 ghost use Rattle.manifest_file.specs.Manifests.{refs_limit, ref_key, array_key, place_in, ref_of, ref_at, refs_in, array_of, array_at, arrays_in, payload_of, manifest_of};
 
 use crate::manifest::{ArrayRefs, ChunkRef, ManifestFile, Place, REFS_LIMIT};
-use file_fields::{id_follows, id8_of, id12, id12_of, index_follows, index_of};
-use flat_tables::{FILE_LIMIT, FileFault, FlatFault, HEADER, Kind, Table, Vector, header_read};
+use file_fields::{id_follows, id8_of, id12, id12_of, index_follows, index_of, payload_in};
+use flat_tables::{FileFault, FlatFault, Kind, Table, Vector};
 use ice_base::Bytes;
 use ice_items::Items;
 use std::alloc::Global;
@@ -166,22 +166,15 @@ fn payload_of(alloc: Global, payload: &[u8]) -> Result<ManifestFile, FileFault>
     Ok(ManifestFile { id, arrays })
 }
 
-/// Reads the file of a manifest: the value that the file stands for, or its first fault. The file must not be longer
-/// than [`FILE_LIMIT`] bytes (`Limit`), and its header must be that of a manifest (`Header`, `Kind`). Then come the root
-/// table and its slots in order: `Flat` where a part lies outside of the payload or a required slot is absent; `Limit`
-/// at the chunks of an array that would make more than [`REFS_LIMIT`] so far; `VirtualRef` where a chunk has a location
-/// of another kind; `RefKind` where it hasn't either bytes of its own or an object; `Order` where an index or an array
-/// doesn't stand behind the one before. (Icechunk specification version 1, "Manifests"; the order of faults is own.)
-#[tactic(auto, unfolding(flat_tables::specs::File::file_of, crate::specs::Manifests::manifest_of))]
+/// Reads the file of a manifest: the value that the file stands for, or its first fault. The faults of the file itself
+/// come first, in the order of [`payload_in`]. Then come the root table and its slots in order: `Flat` where a part lies
+/// outside of the payload or a required slot is absent; `Limit` at the chunks of an array that would make more than
+/// [`REFS_LIMIT`] so far; `VirtualRef` where a chunk has a location of another kind; `RefKind` where it hasn't either
+/// bytes of its own or an object; `Order` where an index or an array doesn't stand behind the one before. (Icechunk
+/// specification version 1, "Manifests"; the order of faults is own.)
+#[tactic(auto, using(file_fields::proofs::Payloads::read_is, file_fields::proofs::Payloads::fault_is), unfolding(crate::specs::Manifests::manifest_of))]
 pub fn read(alloc: Global, file: &[u8]) -> Result<ManifestFile, FileFault>
     ensures { Reads (λ x. x) result (manifest_of file.now) }
 {
-    if file.len() > FILE_LIMIT {
-        return Err(FileFault::Limit);
-    }
-    let kind = header_read(file)?;
-    match kind {
-        Kind::Manifest => payload_of(alloc, &file[HEADER..]),
-        other => Err(FileFault::Kind(other)),
-    }
+    payload_of(alloc, payload_in(Kind::Manifest, file)?)
 }

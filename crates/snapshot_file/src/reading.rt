@@ -9,8 +9,8 @@ use crate::node_reading::node_at;
 use crate::nodes::{ManifestRef, NodeKind, NodeRow};
 use crate::numbers::info_of;
 use crate::snapshot::{ManifestInfo, NODE_LIMIT, SnapshotFile};
-use file_fields::{id12, id12_of};
-use flat_tables::{FILE_LIMIT, FileFault, FlatFault, HEADER, Kind, Table, Vector, header_read};
+use file_fields::{id12, id12_of, payload_in};
+use flat_tables::{FileFault, FlatFault, Kind, Table, Vector};
 use ice_base::Text;
 use ice_ids::Id12;
 use ice_items::Items;
@@ -179,26 +179,18 @@ fn payload_of(alloc: Global, payload: &[u8]) -> Result<SnapshotFile, FileFault>
     })
 }
 
-/// Reads the file of a snapshot: the value that the file stands for, or its first fault. The file must not be longer
-/// than [`FILE_LIMIT`] bytes (`Limit`), and its header must be that of a snapshot (`Header`, `Kind`). Then come the root
-/// table and its slots in order, each vector's elements in order, and each element's slots in order: `Flat` where a part
-/// lies outside of the payload or a required slot is absent; `Limit` at more than [`NODE_LIMIT`] nodes, before the first
-/// of them; after a node's slots `Path`, `NodeKind` where its type is neither 1 nor 2, and `Order` where it doesn't stand
-/// behind the one before; `Properties` where slot 5 isn't empty; `Order` for the manifest files; and last `Unlisted`,
-/// where a node names a manifest that isn't among them. (Icechunk specification version 1, "Snapshot"; the order of
-/// faults is own.)
-#[tactic(auto, unfolding(flat_tables::specs::File::file_of, crate::specs::Snapshots::snapshot_of))]
+/// Reads the file of a snapshot: the value that the file stands for, or its first fault. The faults of the file itself
+/// come first, in the order of [`payload_in`]. Then come the root table and its slots in order, each vector's elements in
+/// order, and each element's slots in order: `Flat` where a part lies outside of the payload or a required slot is
+/// absent; `Limit` at more than [`NODE_LIMIT`] nodes, before the first of them; after a node's slots `Path`, `NodeKind`
+/// where its type is neither 1 nor 2, and `Order` where it doesn't stand behind the one before; `Properties` where slot 5
+/// isn't empty; `Order` for the manifest files; and last `Unlisted`, where a node names a manifest that isn't among them.
+/// (Icechunk specification version 1, "Snapshot"; the order of faults is own.)
+#[tactic(auto, using(file_fields::proofs::Payloads::read_is, file_fields::proofs::Payloads::fault_is), unfolding(crate::specs::Snapshots::snapshot_of))]
 pub fn read(alloc: Global, file: &[u8]) -> Result<SnapshotFile, FileFault>
     ensures value { Reads (λ x. x) result (snapshot_of file.now) }
     // What was read can be written.
     ensures writable { IfOk result IsWritable }
 {
-    if file.len() > FILE_LIMIT {
-        return Err(FileFault::Limit);
-    }
-    let kind = header_read(file)?;
-    match kind {
-        Kind::Snapshot => payload_of(alloc, &file[HEADER..]),
-        other => Err(FileFault::Kind(other)),
-    }
+    payload_of(alloc, payload_in(Kind::Snapshot, file)?)
 }

@@ -3,8 +3,8 @@ ghost use Rattle.flat_tables.specs.Rows.{Reads, follows};
 ghost use Rattle.txn_file.specs.Logs.{array_key, ids_in, ids_of, index_at, indices_in, array_of, array_at, arrays_in, arrays_of, log_of, txn_of};
 
 use crate::log::TxnFile;
-use file_fields::{id_follows, id8, id8_of, id12_of, index_follows, index_of};
-use flat_tables::{FILE_LIMIT, FileFault, FlatFault, HEADER, Kind, Table, Vector, header_read};
+use file_fields::{id_follows, id8, id8_of, id12_of, index_follows, index_of, payload_in};
+use flat_tables::{FileFault, FlatFault, Kind, Table, Vector};
 use ice_ids::Id8;
 use ice_items::Items;
 use tree_model::{ArrayChunks, Ids};
@@ -152,21 +152,13 @@ fn log_of(alloc: Global, payload: &[u8]) -> Result<TxnFile, FileFault>
     })
 }
 
-/// Reads the file of a transaction log: the value that the file stands for, or its first fault. The file must not be
-/// longer than [`FILE_LIMIT`] bytes (`Limit`), and its header must be that of a log (`Header`, `Kind`). Then come the
-/// root table and its slots in order: `Flat` where a part lies outside of the payload or a required slot is absent,
-/// `Order` where an id, an index or an array doesn't stand behind the one before. (Icechunk specification version 1,
-/// "Transaction log"; the order of faults is own.)
-#[tactic(auto, unfolding(flat_tables::specs::File::file_of, crate::specs::Logs::txn_of))]
+/// Reads the file of a transaction log: the value that the file stands for, or its first fault. The faults of the file
+/// itself come first, in the order of [`payload_in`]. Then come the root table and its slots in order: `Flat` where a
+/// part lies outside of the payload or a required slot is absent, `Order` where an id, an index or an array doesn't stand
+/// behind the one before. (Icechunk specification version 1, "Transaction log"; the order of faults is own.)
+#[tactic(auto, using(file_fields::proofs::Payloads::read_is, file_fields::proofs::Payloads::fault_is), unfolding(crate::specs::Logs::txn_of))]
 pub fn read(alloc: Global, file: &[u8]) -> Result<TxnFile, FileFault>
     ensures { Reads (λ x. x) result (txn_of file.now) }
 {
-    if file.len() > FILE_LIMIT {
-        return Err(FileFault::Limit);
-    }
-    let kind = header_read(file)?;
-    match kind {
-        Kind::Log => log_of(alloc, &file[HEADER..]),
-        other => Err(FileFault::Kind(other)),
-    }
+    log_of(alloc, payload_in(Kind::Log, file)?)
 }
