@@ -18,7 +18,7 @@ use Rattle.store_api.specs.Machine.{Stored, Slot, leaves, effect, slot_of, found
 use Rattle.store_api.specs.Journal.{Each, IsGood}
 use Rattle.store_api.specs.Program.{Prog, Done, Ask, bind, Path}
 use Rattle.store_api.proofs.Slots.{effect-cases, slot-append_one}
-use Rattle.play_report.specs.declared.outcome.RefLine.{RefLine}
+use Rattle.play_outcome.specs.declared.outcome.RefLine.{RefLine}
 use Rattle.store_api.specs.Running.{Program, ◌>>=◌, on_answer}
 use Rattle.repository.specs.Refs.{list_part, on_listed, on_got, on_id, line_of, read_each, read_ref, with_line}
 use Rattle.repository.specs.Laws.{HasKey}

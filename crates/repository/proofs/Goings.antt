@@ -12,7 +12,7 @@ use Rattle.store_api.specs.declared.machines.Next.{Next}
 use Rattle.store_api.specs.Program.{Done, bind, IsAsk, IsDone, Lands}
 use Rattle.store_api.specs.Driving.{Awaits, Took}
 use Rattle.store_api.specs.Running.{Program, on_answer}
-use Rattle.play_report.specs.declared.outcome.RefLine.{RefLine}
+use Rattle.play_outcome.specs.declared.outcome.RefLine.{RefLine}
 use Rattle.repository.specs.declared.refs.Reading.{Reading}
 use Rattle.repository.specs.declared.refs.Reading.TheVariants.{Branch, Tags, Ended}
 use Rattle.repository.specs.Refs.{on_got, read_each, read_tags, read_branches, with_line, live}

@@ -18,7 +18,7 @@ use Rattle.store_api.specs.declared.machines.Refusal.{Refusal}
 use Rattle.store_api.specs.Journal.{IsPolite}
 use Rattle.store_api.specs.Callers.{Caller}
 use Rattle.store_api.specs.Program.{Prog, Done, Ask, bind, Keeps}
-use Rattle.play_report.specs.declared.outcome.RefLine.{RefLine}
+use Rattle.play_outcome.specs.declared.outcome.RefLine.{RefLine}
 use Rattle.store_api.specs.Running.{Program, StaysPolite, ◌>>=◌, on_answer}
 use Rattle.repository.specs.Reading.{first_and_live}
 use Rattle.repository.specs.Refs.{refs_program, list_part, on_listed, on_got, read_each, read_ref, with_line, live, is_gone}

@@ -6,7 +6,7 @@ use Rattle.store_api.specs.declared.machines.Refusal.{Refusal}
 use Rattle.store_api.specs.declared.machines.Refusal.TheVariants.{NoMemory}
 use Rattle.store_api.specs.Program.{Done, is_no_memory}
 use Rattle.store_api.specs.Running.{Program, ◌>>=◌}
-use Rattle.play_report.specs.declared.outcome.RefLine.{RefLine}
+use Rattle.play_outcome.specs.declared.outcome.RefLine.{RefLine}
 use Rattle.repository.specs.declared.refs.Reading.{Reading}
 use Rattle.repository.specs.declared.refs.Reading.TheVariants.{Branches, Branch, Tags, Tag, Ended}
 use Rattle.repository.specs.declared.refs.ReadRefs.{ReadRefs}

@@ -17,7 +17,7 @@ use Rattle.store_api.specs.declared.machines.Refusal.{Refusal}
 use Rattle.store_api.specs.declared.machines.Refusal.TheVariants.{BadFile, StoreFault, NoMemory}
 use Rattle.store_api.specs.Machine.{same_key}
 use Rattle.store_api.specs.Program.{Done, Ask}
-use Rattle.play_report.specs.declared.outcome.RefLine.{RefLine}
+use Rattle.play_outcome.specs.declared.outcome.RefLine.{RefLine}
 use Rattle.store_api.specs.Running.{Program, ◌>>=◌}
 
 -- ---- a listing

@@ -7,7 +7,7 @@ ghost use Rattle.repository.specs.Refs.{refs_program, MayRefuseRefs};
 
 use crate::{Begin, ReadRefs};
 use plain_object::{initial_law, ref_law};
-use play_report::RefLines;
+use play_outcome::RefLines;
 use std::alloc::Global;
 use store_api::{Refusal, Store, run_machine};
 

@@ -10,7 +10,7 @@ use ice_base::RefName;
 use ice_ids::Id12;
 use ice_items::Items;
 use plain_object::ref_read;
-use play_report::{RefLine, RefLines};
+use play_outcome::{RefLine, RefLines};
 use std::alloc::{AllocError, Global};
 use std::mem;
 use store_api::{

@@ -1,5 +1,5 @@
 use Rattle.std.proofs.Common.{List, subst, sym}
-use Rattle.play_report.specs.declared.outcome.RefLine.{RefLine}
+use Rattle.play_outcome.specs.declared.outcome.RefLine.{RefLine}
 use Rattle.store_api.specs.Running.{Program, StaysPolite}
 use Rattle.repository.proofs.Listed.{refs-polite}
 use Rattle.repository.proofs.calls.read_refs.Goals as goal
