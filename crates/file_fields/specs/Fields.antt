@@ -1,15 +1,21 @@
--- Ids, indices and bytes in the tables of files: how ids and indices are read, and the layout of all three. (Icechunk specification version 1: ids are
--- structs of bytes, indices are vectors of u32.)
+-- The payloads of files, and ids, indices and bytes in their tables: how ids and indices are read, and the layout of all
+-- three. (Icechunk specification version 1: ids are structs of bytes, indices are vectors of u32.)
 use Rattle.std.specs.Prelude.{◌≡◌, ◌<◌, ◌^◌, ℕ, List, length, map, Result, Ok}
 use Rattle.std.specs.List.{flat_map, AllByRecursion}
 use Rattle.std.specs.Int.{w32, from_le_bytes, to_le_bytes}
 use Rattle.ice_ids.specs.declared.Id8.{Id8}
 use Rattle.ice_ids.specs.declared.Id12.{Id12}
+use Rattle.flat_tables.specs.declared.header.Kind.{Kind}
 use Rattle.flat_tables.specs.declared.fault.FileFault.{FileFault}
+use Rattle.flat_tables.specs.File.{file_of}
 use Rattle.flat_tables.specs.Step.{◌>>=◌}
 use Rattle.flat_tables.specs.Places.{TableIn, struct_of, vector_of, items_of}
 use Rattle.flat_tables.specs.Rows.{required}
 use Rattle.flat_tables.specs.Layout.{Part, inline, offset_to, vector_block}
+
+-- the payload of a file of a kind
+abbrev pub payload_in : Kind → List ℕ → Result (List ℕ) FileFault
+payload_in kind file = file_of kind (λ payload. Ok payload) file
 
 -- ids stand in the order of their bytes, indices in that of their numbers
 abbrev pub id_key : Id8 → List ℕ

@@ -2,12 +2,29 @@ ghost use Rattle.std.specs.Prelude.{◌≡◌, Ok, length, map, option_map, opti
 ghost use Rattle.std.specs.Int.{w32, from_le_bytes};
 ghost use Rattle.flat_tables.specs.Places.{items_of};
 ghost use Rattle.flat_tables.specs.Rows.{Reads, follows};
-ghost use Rattle.file_fields.specs.Fields.{id_key, index_key, id8_of, id12_of, index_of};
+ghost use Rattle.flat_tables.specs.Step.{Gives};
+ghost use Rattle.file_fields.specs.Fields.{payload_in, id_key, index_key, id8_of, id12_of, index_of};
 
-use flat_tables::{FileFault, FlatFault, Table, Vector};
+use flat_tables::{FILE_LIMIT, FileFault, FlatFault, HEADER, Kind, Table, Vector, header_read};
 use ice_ids::{Id8, Id12};
 use std::alloc::Global;
 use zarr_path::Index;
+
+/// The payload of a file of this kind, or the file's first fault: the file must not be longer than [`FILE_LIMIT`] bytes
+/// (`Limit`), and its header must be one (`Header`), of this kind (`Kind`). It takes no memory.
+#[tactic(auto, unfolding(flat_tables::specs::File::file_of))]
+pub fn payload_in(kind: Kind, file: &[u8]) -> Result<&[u8], FileFault>
+    ensures { Gives (λ payload. payload.now) result (payload_in kind file.now) }
+{
+    if file.len() > FILE_LIMIT {
+        return Err(FileFault::Limit);
+    }
+    let found = header_read(file)?;
+    if found != kind {
+        return Err(FileFault::Kind(found));
+    }
+    Ok(&file[HEADER..])
+}
 
 /// The node id of these 8 bytes.
 pub fn id8(bytes: &[u8]) -> Id8

@@ -1,4 +1,3 @@
 pub mod Behind
 pub mod Again
-pub mod Ascending
 pub mod Ordered

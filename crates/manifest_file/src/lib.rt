@@ -9,7 +9,7 @@ mod manifest;
 mod reading;
 mod writing;
 
-pub use manifest::{ArrayList, ArrayRefs, ChunkRef, ManifestFile, Place, REFS_LIMIT, RefList};
+pub use manifest::{ArrayRefs, ChunkRef, ManifestFile, Place, REFS_LIMIT};
 pub use reading::read;
 pub use writing::write;
 

@@ -1,8 +1,6 @@
-ghost use Rattle.std.specs.Prelude.{◌≡◌};
-
 use ice_base::Bytes;
 use ice_ids::{Id8, Id12};
-use std::marker::Model;
+use ice_items::Items;
 use zarr_path::Index;
 
 /// The greatest number of chunks in one manifest, over all its arrays. (Own.)
@@ -34,89 +32,13 @@ pub struct ChunkRef {
     pub place: Place,
 }
 
-/// A list of chunks. Contracts see it as the list.
-#[derive(Debug, Drop)]
-pub struct RefList {
-    refs: Vec<ChunkRef>,
-}
-
-impl Model for RefList {
-    ghost use Rattle.std.specs.Prelude.{List};
-    ghost use Rattle.manifest_file.specs.declared.manifest.ChunkRef.{ChunkRef as Chunk};
-
-    ghost Value = { List Chunk };
-
-    ghost view = { λ a. a.refs.items };
-}
-
-impl RefList {
-    /// The chunks of a vector. It takes no memory.
-    pub fn from_vec(refs: Vec<ChunkRef>) -> RefList
-        ensures { result ≡ refs.items }
-    {
-        RefList { refs }
-    }
-
-    /// The vector of the chunks. It takes no memory.
-    pub fn into_vec(self) -> Vec<ChunkRef>
-        ensures { result.items ≡ self }
-    {
-        self.refs
-    }
-
-    /// The chunks.
-    pub fn as_slice(&self) -> &[ChunkRef]
-        ensures { result.now ≡ self.now }
-    {
-        self.refs.as_slice()
-    }
-}
-
 /// An array and its chunks. In a file these are in the strict order of their indices.
 #[derive(Debug, Drop)]
 pub struct ArrayRefs {
     /// The array, by its node's id.
     pub node: Id8,
     /// Its chunks.
-    pub refs: RefList,
-}
-
-/// A list of arrays. Contracts see it as the list.
-#[derive(Debug, Drop)]
-pub struct ArrayList {
-    arrays: Vec<ArrayRefs>,
-}
-
-impl Model for ArrayList {
-    ghost use Rattle.std.specs.Prelude.{List};
-    ghost use Rattle.manifest_file.specs.declared.manifest.ArrayRefs.{ArrayRefs as Array};
-
-    ghost Value = { List Array };
-
-    ghost view = { λ a. a.arrays.items };
-}
-
-impl ArrayList {
-    /// The arrays of a vector. It takes no memory.
-    pub fn from_vec(arrays: Vec<ArrayRefs>) -> ArrayList
-        ensures { result ≡ arrays.items }
-    {
-        ArrayList { arrays }
-    }
-
-    /// The vector of the arrays. It takes no memory.
-    pub fn into_vec(self) -> Vec<ArrayRefs>
-        ensures { result.items ≡ self }
-    {
-        self.arrays
-    }
-
-    /// The arrays.
-    pub fn as_slice(&self) -> &[ArrayRefs]
-        ensures { result.now ≡ self.now }
-    {
-        self.arrays.as_slice()
-    }
+    pub refs: Items<ChunkRef>,
 }
 
 /// The chunks of some arrays. In a file the arrays are in the strict order of their ids.
@@ -125,5 +47,5 @@ pub struct ManifestFile {
     /// The manifest's own id.
     pub id: Id12,
     /// The arrays.
-    pub arrays: ArrayList,
+    pub arrays: Items<ArrayRefs>,
 }

@@ -2,10 +2,11 @@ ghost use Rattle.std.specs.Prelude.{◌≡◌, ◌+◌, ◌<◌, ◌≤◌, nat_
 ghost use Rattle.flat_tables.specs.Rows.{Reads, follows};
 ghost use Rattle.manifest_file.specs.Manifests.{refs_limit, ref_key, array_key, place_in, ref_of, ref_at, refs_in, array_of, array_at, arrays_in, payload_of, manifest_of};
 
-use crate::manifest::{ArrayList, ArrayRefs, ChunkRef, ManifestFile, Place, REFS_LIMIT, RefList};
-use file_fields::{id_follows, id8_of, id12, id12_of, index_follows, index_of};
-use flat_tables::{FILE_LIMIT, FileFault, FlatFault, HEADER, Kind, Table, Vector, header_read};
+use crate::manifest::{ArrayRefs, ChunkRef, ManifestFile, Place, REFS_LIMIT};
+use file_fields::{id_follows, id8_of, id12, id12_of, index_follows, index_of, payload_in};
+use flat_tables::{FileFault, FlatFault, Kind, Table, Vector};
 use ice_base::Bytes;
+use ice_items::Items;
 use std::alloc::Global;
 
 /// Where a table, which is element `at`, has its chunk.
@@ -63,7 +64,7 @@ pub fn ref_follows(last: Option<&ChunkRef>, chunk: &ChunkRef) -> bool
 }
 
 /// The chunks of a vector, which stand in order.
-fn refs_in(alloc: Global, vector: &Vector) -> Result<RefList, FileFault>
+fn refs_in(alloc: Global, vector: &Vector) -> Result<Items<ChunkRef>, FileFault>
     requires { vector.now.size ≡ 4 }
     ensures read { Reads (λ x. x) result (refs_in vector.now) }
     ensures count { IfOk result (λ refs. length refs ≡ vector.now.count) }
@@ -76,7 +77,7 @@ fn refs_in(alloc: Global, vector: &Vector) -> Result<RefList, FileFault>
         }
         refs.push(chunk)?;
     }
-    Ok(RefList::from_vec(refs))
+    Ok(Items::from_vec(refs))
 }
 
 /// Whether so many more chunks pass the limit.
@@ -134,7 +135,7 @@ fn array_follows(last: Option<&ArrayRefs>, array: &ArrayRefs) -> bool
 }
 
 /// The arrays of a vector, which stand in order.
-fn arrays_in(alloc: Global, vector: &Vector) -> Result<ArrayList, FileFault>
+fn arrays_in(alloc: Global, vector: &Vector) -> Result<Items<ArrayRefs>, FileFault>
     requires { vector.now.size ≡ 4 }
     ensures { Reads (λ x. x) result (arrays_in vector.now) }
 {
@@ -148,7 +149,7 @@ fn arrays_in(alloc: Global, vector: &Vector) -> Result<ArrayList, FileFault>
         before += array.refs.as_slice().len();
         arrays.push(array)?;
     }
-    Ok(ArrayList::from_vec(arrays))
+    Ok(Items::from_vec(arrays))
 }
 
 /// What a payload says.
@@ -165,22 +166,15 @@ fn payload_of(alloc: Global, payload: &[u8]) -> Result<ManifestFile, FileFault>
     Ok(ManifestFile { id, arrays })
 }
 
-/// Reads the file of a manifest: the value that the file stands for, or its first fault. The file must not be longer
-/// than [`FILE_LIMIT`] bytes (`Limit`), and its header must be that of a manifest (`Header`, `Kind`). Then come the root
-/// table and its slots in order: `Flat` where a part lies outside of the payload or a required slot is absent; `Limit`
-/// at the chunks of an array that would make more than [`REFS_LIMIT`] so far; `VirtualRef` where a chunk has a location
-/// of another kind; `RefKind` where it hasn't either bytes of its own or an object; `Order` where an index or an array
-/// doesn't stand behind the one before. (Icechunk specification version 1, "Manifests"; the order of faults is own.)
-#[tactic(auto, unfolding(flat_tables::specs::File::file_of, crate::specs::Manifests::manifest_of))]
+/// Reads the file of a manifest: the value that the file stands for, or its first fault. The faults of the file itself
+/// come first, in the order of [`payload_in`]. Then come the root table and its slots in order: `Flat` where a part lies
+/// outside of the payload or a required slot is absent; `Limit` at the chunks of an array that would make more than
+/// [`REFS_LIMIT`] so far; `VirtualRef` where a chunk has a location of another kind; `RefKind` where it hasn't either
+/// bytes of its own or an object; `Order` where an index or an array doesn't stand behind the one before. (Icechunk
+/// specification version 1, "Manifests"; the order of faults is own.)
+#[tactic(auto, using(file_fields::proofs::Payloads::read_is, file_fields::proofs::Payloads::fault_is), unfolding(crate::specs::Manifests::manifest_of))]
 pub fn read(alloc: Global, file: &[u8]) -> Result<ManifestFile, FileFault>
     ensures { Reads (λ x. x) result (manifest_of file.now) }
 {
-    if file.len() > FILE_LIMIT {
-        return Err(FileFault::Limit);
-    }
-    let kind = header_read(file)?;
-    match kind {
-        Kind::Manifest => payload_of(alloc, &file[HEADER..]),
-        other => Err(FileFault::Kind(other)),
-    }
+    payload_of(alloc, payload_in(Kind::Manifest, file)?)
 }

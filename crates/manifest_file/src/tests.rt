@@ -8,6 +8,7 @@ use crate::reading::ref_follows;
 use flat_tables::{FileFault, FlatFault, HEADER, HeaderFault, Kind, header_write};
 use ice_base::Bytes;
 use ice_ids::{Id8, Id12};
+use ice_items::Items;
 use std::alloc::{AllocError, Global};
 use std::test::Fail;
 use zarr_path::Index;
@@ -37,7 +38,7 @@ fn object() -> Place {
 }
 
 /// A chunk of two bytes at 0, and one at 1 that is in an object.
-fn line_chunks(alloc: Global) -> Result<RefList, AllocError>
+fn line_chunks(alloc: Global) -> Result<Items<ChunkRef>, AllocError>
     ensures ascend { IfOk result (λ refs. Ascends ref_key None refs) }
     ensures count { IfOk result (λ refs. length refs ≤ 2) }
 {
@@ -49,11 +50,11 @@ fn line_chunks(alloc: Global) -> Result<RefList, AllocError>
         index: Index::from_parts(Vec::from_array(alloc, [1])?),
         place: object(),
     };
-    Ok(RefList::from_vec(Vec::from_array(alloc, [first, second])?))
+    Ok(Items::from_vec(Vec::from_array(alloc, [first, second])?))
 }
 
 /// The chunk of an array without dimensions; it has no bytes.
-fn point_chunk(alloc: Global) -> Result<RefList, AllocError>
+fn point_chunk(alloc: Global) -> Result<Items<ChunkRef>, AllocError>
     ensures ascend { IfOk result (λ refs. Ascends ref_key None refs) }
     ensures count { IfOk result (λ refs. length refs ≤ 1) }
 {
@@ -61,7 +62,7 @@ fn point_chunk(alloc: Global) -> Result<RefList, AllocError>
         index: Index::from_parts(Vec::new(alloc)),
         place: Place::Inline(Bytes::new(alloc)),
     };
-    Ok(RefList::from_vec(Vec::from_array(alloc, [only])?))
+    Ok(Items::from_vec(Vec::from_array(alloc, [only])?))
 }
 
 /// A manifest of two arrays.
@@ -78,7 +79,7 @@ fn sample(alloc: Global) -> Result<ManifestFile, AllocError>
     };
     Ok(ManifestFile {
         id: Id12([1, 2, 3, 4, 5, 6, 7, 8, 9, 10, 11, 12]),
-        arrays: ArrayList::from_vec(Vec::from_array(alloc, [line, point])?),
+        arrays: Items::from_vec(Vec::from_array(alloc, [line, point])?),
     })
 }
 
@@ -294,7 +295,7 @@ fn byte_chunk(alloc: Global, number: u16) -> Result<ChunkRef, AllocError> {
 }
 
 /// So many chunks of one byte.
-fn many(alloc: Global, count: u16) -> Result<RefList, AllocError>
+fn many(alloc: Global, count: u16) -> Result<Items<ChunkRef>, AllocError>
     ensures ascend { IfOk result (λ refs. Ascends ref_key None refs) }
     ensures few { IfOk result (λ refs. length refs ≤ count) }
 {
@@ -302,11 +303,11 @@ fn many(alloc: Global, count: u16) -> Result<RefList, AllocError>
     for number in 0..count {
         let chunk = byte_chunk(alloc, number)?;
         if !ref_follows(refs.last(), &chunk) {
-            return Ok(RefList::from_vec(refs));
+            return Ok(Items::from_vec(refs));
         }
         refs.push(chunk)?;
     }
-    Ok(RefList::from_vec(refs))
+    Ok(Items::from_vec(refs))
 }
 
 /// A manifest of one array.
@@ -319,7 +320,7 @@ fn one_array(alloc: Global, count: u16) -> Result<ManifestFile, AllocError>
     };
     Ok(ManifestFile {
         id: Id12([1, 2, 3, 4, 5, 6, 7, 8, 9, 10, 11, 12]),
-        arrays: ArrayList::from_vec(Vec::from_array(alloc, [array])?),
+        arrays: Items::from_vec(Vec::from_array(alloc, [array])?),
     })
 }
 

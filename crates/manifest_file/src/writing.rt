@@ -7,11 +7,12 @@ ghost use Rattle.file_fields.specs.Fields.{IsId12};
 ghost use Rattle.manifest_file.specs.Manifests.{manifest_of};
 ghost use Rattle.manifest_file.specs.Layout.{place_parts, ref_block, refs_part, array_block, arrays_part, manifest_block, file_bytes, CanWrite, IsRef, IsArray, IsManifest};
 
-use crate::manifest::{ArrayList, ArrayRefs, ChunkRef, ManifestFile, Place, RefList};
+use crate::manifest::{ArrayRefs, ChunkRef, ManifestFile, Place};
 use file_fields::{bytes_slot, id8_slot, id12_slot, index_slot, u64_slot};
 use flat_tables::{Flat, Kind, Slot, WriteFault, flat_write, header_write};
 use ice_base::Bytes;
 use ice_ids::Id12;
+use ice_items::Items;
 use std::alloc::{AllocError, Global};
 
 /// The table of a chunk whose bytes stand in the manifest.
@@ -77,7 +78,7 @@ fn ref_table(alloc: Global, chunk: &ChunkRef) -> Result<Flat, AllocError>
 }
 
 /// A list of chunks.
-fn refs_slot(alloc: Global, refs: &RefList) -> Result<Slot, AllocError>
+fn refs_slot(alloc: Global, refs: &Items<ChunkRef>) -> Result<Slot, AllocError>
     ensures part { IfOk result (λ s. part_of s ≡ refs_part refs.now) }
     ensures writable { IfOk result (λ s. IsTrue (is_writable_slot s)) }
     ensures sized { OnOk result (AllByRecursion IsRef refs.now) }
@@ -103,7 +104,7 @@ fn array_table(alloc: Global, array: &ArrayRefs) -> Result<Flat, AllocError>
 }
 
 /// A list of arrays.
-fn arrays_slot(alloc: Global, arrays: &ArrayList) -> Result<Slot, AllocError>
+fn arrays_slot(alloc: Global, arrays: &Items<ArrayRefs>) -> Result<Slot, AllocError>
     ensures part { IfOk result (λ s. part_of s ≡ arrays_part arrays.now) }
     ensures writable { IfOk result (λ s. IsTrue (is_writable_slot s)) }
     ensures sized { OnOk result (AllByRecursion IsArray arrays.now) }

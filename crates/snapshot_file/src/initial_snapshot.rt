@@ -3,9 +3,10 @@ ghost use Rattle.snapshot_file.specs.Snapshots.{snapshot_of};
 ghost use Rattle.snapshot_file.specs.Layout.{snapshot_bytes};
 ghost use Rattle.snapshot_file.specs.Initial.{initial_snapshot};
 
-use crate::lists::{ManifestFiles, NodeRows, Text};
 use crate::snapshot::SnapshotFile;
+use ice_base::Text;
 use ice_ids::Id12;
+use ice_items::Items;
 use std::alloc::{AllocError, Global};
 
 /// The file of the initial snapshot. (This project's profile.)
@@ -28,10 +29,10 @@ pub fn initial(alloc: Global) -> Result<SnapshotFile, AllocError>
     Ok(SnapshotFile {
         id: Id12::INITIAL,
         parent: None,
-        nodes: NodeRows::from_vec(Vec::new(alloc)),
+        nodes: Items::from_vec(Vec::new(alloc)),
         flushed_at: 0,
-        message: Text::from_string(String::from_str(alloc, "Repository initialized")?),
-        manifest_files: ManifestFiles::from_vec(Vec::new(alloc)),
+        message: Text::of(alloc, "Repository initialized")?,
+        manifest_files: Items::from_vec(Vec::new(alloc)),
     })
 }
 

@@ -17,7 +17,7 @@ mod snapshot;
 mod writing;
 
 pub use initial_snapshot::{INITIAL_FILE, initial, initial_law};
-pub use lists::{Extents, ManifestFiles, ManifestRefs, Names, NodeRows, Shape, Text};
+pub use lists::{Extents, Names, Shape};
 pub use nodes::{ManifestRef, NodeKind, NodeRow};
 pub use reading::read;
 pub use snapshot::{ManifestInfo, NODE_LIMIT, SnapshotFile};

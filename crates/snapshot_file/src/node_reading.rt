@@ -3,12 +3,13 @@ ghost use Rattle.flat_tables.specs.Places.{items_of};
 ghost use Rattle.flat_tables.specs.Rows.{Reads, required};
 ghost use Rattle.snapshot_file.specs.Nodes.{dimension_of, extent_of, manifest_of, manifest_at, manifests_in, manifests_of, name_at, names_in, names_of, shape_of, array_of, kind_of, proper_path, node_of, node_at};
 
-use crate::lists::{Extents, ManifestRefs, Names, Shape, Text};
+use crate::lists::{Extents, Names, Shape};
 use crate::nodes::{ManifestRef, NodeKind, NodeRow};
 use crate::numbers;
 use file_fields::{id8_of, id12_of};
 use flat_tables::{FileFault, FlatFault, Table, Vector};
-use ice_base::Bytes;
+use ice_base::{Bytes, Text};
+use ice_items::Items;
 use std::alloc::Global;
 use zarr_path::{Path, PathFault};
 
@@ -61,7 +62,7 @@ fn manifest_at(alloc: Global, vector: &Vector, at: usize) -> Result<ManifestRef,
 }
 
 /// The manifests in a vector.
-fn manifests_in(alloc: Global, vector: &Vector) -> Result<ManifestRefs, FileFault>
+fn manifests_in(alloc: Global, vector: &Vector) -> Result<Items<ManifestRef>, FileFault>
     requires { vector.now.size ≡ 4 }
     ensures { Reads (λ x. x) result (manifests_in vector.now) }
 {
@@ -69,16 +70,16 @@ fn manifests_in(alloc: Global, vector: &Vector) -> Result<ManifestRefs, FileFaul
     for at in 0..vector.len() {
         manifests.push(manifest_at(alloc, vector, at)?)?;
     }
-    Ok(ManifestRefs::from_vec(manifests))
+    Ok(Items::from_vec(manifests))
 }
 
 /// The manifests of an array, none where the slot is absent.
 #[tactic(auto, unfolding(crate::specs::Nodes::manifests_of))]
-fn manifests_of(alloc: Global, table: &Table) -> Result<ManifestRefs, FileFault>
+fn manifests_of(alloc: Global, table: &Table) -> Result<Items<ManifestRef>, FileFault>
     ensures { Reads (λ x. x) result (manifests_of table.now) }
 {
     match table.vector(2, 4)? {
-        None => Ok(ManifestRefs::from_vec(Vec::new(alloc))),
+        None => Ok(Items::from_vec(Vec::new(alloc))),
         Some(vector) => manifests_in(alloc, &vector),
     }
 }
@@ -93,7 +94,7 @@ fn name_at(alloc: Global, vector: &Vector, at: usize) -> Result<Option<Text>, Fi
     let table = vector.table_at(at)?;
     match table.text(0)? {
         None => Ok(None),
-        Some(name) => Ok(Some(Text::from_string(String::from_str(alloc, name)?))),
+        Some(name) => Ok(Some(Text::of(alloc, name)?)),
     }
 }
 

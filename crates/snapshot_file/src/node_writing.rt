@@ -5,10 +5,12 @@ ghost use Rattle.flat_tables.specs.Trees.{layout, part_of, is_writable, is_writa
 ghost use Rattle.snapshot_file.specs.Layout.{text_part, name_block, names_part, extents_part, manifest_block, manifests_part, shape_part, kind_block, type_of, node_block, IsDimension, IsExtent, IsName, IsManifest, IsKind, IsNode};
 
 use crate::fields::{dimension_bytes, extent_bytes, text_slot, u8_slot};
-use crate::lists::{Extents, ManifestRefs, Names, Shape, Text};
+use crate::lists::{Extents, Names, Shape};
 use crate::nodes::{ManifestRef, NodeKind, NodeRow};
 use file_fields::{bytes_slot, id8_slot, id12_slot};
 use flat_tables::{Flat, Slot};
+use ice_base::Text;
+use ice_items::Items;
 use std::alloc::{AllocError, Global};
 
 /// The shape of an array.
@@ -108,7 +110,7 @@ fn manifest_table(alloc: Global, manifest: &ManifestRef) -> Result<Flat, AllocEr
 }
 
 /// The manifests of an array.
-fn manifests_slot(alloc: Global, manifests: &ManifestRefs) -> Result<Slot, AllocError>
+fn manifests_slot(alloc: Global, manifests: &Items<ManifestRef>) -> Result<Slot, AllocError>
     ensures part { IfOk result (λ s. part_of s ≡ manifests_part manifests.now) }
     ensures writable { IfOk result (λ s. IsTrue (is_writable_slot s)) }
     ensures sized { OnOk result (AllByRecursion IsManifest manifests.now) }

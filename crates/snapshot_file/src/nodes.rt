@@ -1,6 +1,7 @@
-use crate::lists::{Extents, ManifestRefs, Names, Shape};
+use crate::lists::{Extents, Names, Shape};
 use ice_base::Bytes;
 use ice_ids::{Id8, Id12};
+use ice_items::Items;
 use zarr_path::Path;
 
 /// A manifest that has chunks of an array.
@@ -24,7 +25,7 @@ pub enum NodeKind {
         /// The names of the dimensions.
         names: Option<Names>,
         /// The manifests that have its chunks.
-        manifests: ManifestRefs,
+        manifests: Items<ManifestRef>,
     },
 }
 

@@ -5,14 +5,15 @@ ghost use Rattle.flat_tables.specs.Rows.{Ascends, Reads, follows, flat, required
 ghost use Rattle.snapshot_file.specs.Snapshots.{node_key, file_key, nodes_in, nodes_of, properties_of, files_in, files_of, is_listed, all_listed, first_unlisted, id_if, payload_of, snapshot_of};
 ghost use Rattle.snapshot_file.specs.Layout.{IsWritable};
 
-use crate::lists::{ManifestFiles, NodeRows, Text};
 use crate::node_reading::node_at;
 use crate::nodes::{ManifestRef, NodeKind, NodeRow};
 use crate::numbers::info_of;
 use crate::snapshot::{ManifestInfo, NODE_LIMIT, SnapshotFile};
-use file_fields::{id12, id12_of};
-use flat_tables::{FILE_LIMIT, FileFault, FlatFault, HEADER, Kind, Table, Vector, header_read};
+use file_fields::{id12, id12_of, payload_in};
+use flat_tables::{FileFault, FlatFault, Kind, Table, Vector};
+use ice_base::Text;
 use ice_ids::Id12;
+use ice_items::Items;
 use std::alloc::Global;
 
 /// Whether a node may stand behind the last one.
@@ -36,7 +37,7 @@ fn file_follows(last: Option<&ManifestInfo>, file: &ManifestInfo) -> bool
 }
 
 /// The nodes in a vector, which stand in order.
-fn nodes_in(alloc: Global, vector: &Vector) -> Result<NodeRows, FileFault>
+fn nodes_in(alloc: Global, vector: &Vector) -> Result<Items<NodeRow>, FileFault>
     requires { vector.now.size ≡ 4 }
     ensures { Reads (λ x. x) result (nodes_in vector.now) }
 {
@@ -48,12 +49,12 @@ fn nodes_in(alloc: Global, vector: &Vector) -> Result<NodeRows, FileFault>
         }
         nodes.push(node)?;
     }
-    Ok(NodeRows::from_vec(nodes))
+    Ok(Items::from_vec(nodes))
 }
 
 /// The nodes of a snapshot.
 #[tactic(auto, unfolding(crate::specs::Snapshots::nodes_of))]
-fn nodes_of(alloc: Global, table: &Table) -> Result<NodeRows, FileFault>
+fn nodes_of(alloc: Global, table: &Table) -> Result<Items<NodeRow>, FileFault>
     ensures { Reads (λ x. x) result (nodes_of table.now) }
 {
     let Some(vector) = table.vector(2, 4)? else {
@@ -83,7 +84,7 @@ fn properties_of(table: &Table) -> Result<(), FileFault>
 }
 
 /// The manifests in a vector, which stand in order.
-fn files_in(alloc: Global, vector: &Vector) -> Result<ManifestFiles, FileFault>
+fn files_in(alloc: Global, vector: &Vector) -> Result<Items<ManifestInfo>, FileFault>
     requires { vector.now.size ≡ 32 }
     ensures value { Reads (λ x. x) result (files_in vector.now) }
     ensures ascend { IfOk result (Ascends file_key None) }
@@ -96,17 +97,17 @@ fn files_in(alloc: Global, vector: &Vector) -> Result<ManifestFiles, FileFault>
         }
         files.push(file)?;
     }
-    Ok(ManifestFiles::from_vec(files))
+    Ok(Items::from_vec(files))
 }
 
 /// The manifests of a snapshot, none where the slot is absent.
 #[tactic(auto, unfolding(crate::specs::Snapshots::files_of))]
-fn files_of(alloc: Global, table: &Table) -> Result<ManifestFiles, FileFault>
+fn files_of(alloc: Global, table: &Table) -> Result<Items<ManifestInfo>, FileFault>
     ensures value { Reads (λ x. x) result (files_of table.now) }
     ensures ascend { IfOk result (Ascends file_key None) }
 {
     match table.vector(6, 32)? {
-        None => Ok(ManifestFiles::from_vec(Vec::new(alloc))),
+        None => Ok(Items::from_vec(Vec::new(alloc))),
         Some(vector) => files_in(alloc, &vector),
     }
 }
@@ -167,7 +168,7 @@ fn payload_of(alloc: Global, payload: &[u8]) -> Result<SnapshotFile, FileFault>
     if let Some(at) = first_unlisted(manifest_files.as_slice(), nodes.as_slice()) {
         return Err(FileFault::Unlisted { at });
     }
-    let message = Text::from_string(String::from_str(alloc, message)?);
+    let message = Text::of(alloc, message)?;
     Ok(SnapshotFile {
         id,
         parent,
@@ -178,26 +179,18 @@ fn payload_of(alloc: Global, payload: &[u8]) -> Result<SnapshotFile, FileFault>
     })
 }
 
-/// Reads the file of a snapshot: the value that the file stands for, or its first fault. The file must not be longer
-/// than [`FILE_LIMIT`] bytes (`Limit`), and its header must be that of a snapshot (`Header`, `Kind`). Then come the root
-/// table and its slots in order, each vector's elements in order, and each element's slots in order: `Flat` where a part
-/// lies outside of the payload or a required slot is absent; `Limit` at more than [`NODE_LIMIT`] nodes, before the first
-/// of them; after a node's slots `Path`, `NodeKind` where its type is neither 1 nor 2, and `Order` where it doesn't stand
-/// behind the one before; `Properties` where slot 5 isn't empty; `Order` for the manifest files; and last `Unlisted`,
-/// where a node names a manifest that isn't among them. (Icechunk specification version 1, "Snapshot"; the order of
-/// faults is own.)
-#[tactic(auto, unfolding(flat_tables::specs::File::file_of, crate::specs::Snapshots::snapshot_of))]
+/// Reads the file of a snapshot: the value that the file stands for, or its first fault. The faults of the file itself
+/// come first, in the order of [`payload_in`]. Then come the root table and its slots in order, each vector's elements in
+/// order, and each element's slots in order: `Flat` where a part lies outside of the payload or a required slot is
+/// absent; `Limit` at more than [`NODE_LIMIT`] nodes, before the first of them; after a node's slots `Path`, `NodeKind`
+/// where its type is neither 1 nor 2, and `Order` where it doesn't stand behind the one before; `Properties` where slot 5
+/// isn't empty; `Order` for the manifest files; and last `Unlisted`, where a node names a manifest that isn't among them.
+/// (Icechunk specification version 1, "Snapshot"; the order of faults is own.)
+#[tactic(auto, using(file_fields::proofs::Payloads::read_is, file_fields::proofs::Payloads::fault_is), unfolding(crate::specs::Snapshots::snapshot_of))]
 pub fn read(alloc: Global, file: &[u8]) -> Result<SnapshotFile, FileFault>
     ensures value { Reads (λ x. x) result (snapshot_of file.now) }
     // What was read can be written.
     ensures writable { IfOk result IsWritable }
 {
-    if file.len() > FILE_LIMIT {
-        return Err(FileFault::Limit);
-    }
-    let kind = header_read(file)?;
-    match kind {
-        Kind::Snapshot => payload_of(alloc, &file[HEADER..]),
-        other => Err(FileFault::Kind(other)),
-    }
+    payload_of(alloc, payload_in(Kind::Snapshot, file)?)
 }

@@ -1,5 +1,7 @@
-use crate::lists::{ManifestFiles, NodeRows, Text};
+use crate::nodes::NodeRow;
+use ice_base::Text;
 use ice_ids::Id12;
+use ice_items::Items;
 
 /// A manifest of a snapshot.
 #[derive(Clone, Copy, Debug, PartialEq, Eq)]
@@ -20,13 +22,13 @@ pub struct SnapshotFile {
     /// The snapshot that it followed, and `None` of the first one.
     pub parent: Option<Id12>,
     /// The nodes, in the strict order of their paths' bytes, at most [`NODE_LIMIT`].
-    pub nodes: NodeRows,
+    pub nodes: Items<NodeRow>,
     /// When it was flushed, in microseconds.
     pub flushed_at: u64,
     /// The message of its commit.
     pub message: Text,
     /// The manifests that the nodes name, in the strict order of their ids' bytes.
-    pub manifest_files: ManifestFiles,
+    pub manifest_files: Items<ManifestInfo>,
 }
 
 /// The most nodes of a snapshot.

@@ -8,6 +8,7 @@ use crate::reading::{first_unlisted, node_follows};
 use flat_tables::{FILE_LIMIT, FileFault, FlatFault, HEADER, HeaderFault, Kind, header_write};
 use ice_base::Bytes;
 use ice_ids::{Id8, Id12};
+use ice_items::Items;
 use std::alloc::{AllocError, Global};
 use std::test::Fail;
 use zarr_path::Path;
@@ -313,7 +314,7 @@ fn properties_and_manifest_files(rt: HostRuntime) -> Result<(), Fail> {
 }
 
 /// What the sample's first array is.
-fn first_array(snapshot: &SnapshotFile) -> Option<(&Shape, &Option<Names>, &ManifestRefs)> {
+fn first_array(snapshot: &SnapshotFile) -> Option<(&Shape, &Option<Names>, &Items<ManifestRef>)> {
     let node = snapshot.nodes.as_slice().get(1)?;
     match &node.kind {
         NodeKind::Group => None,
@@ -437,7 +438,7 @@ fn numbered(alloc: Global, i: u32) -> Result<NodeRow, Fail> {
     let array = NodeKind::Array {
         shape: Shape::from_vec(Vec::from_array(alloc, [(u64::from(i), 1)])?),
         names: None,
-        manifests: ManifestRefs::from_vec(Vec::new(alloc)),
+        manifests: Items::from_vec(Vec::new(alloc)),
     };
     Ok(NodeRow {
         id: Id8([0, 0, 0, 1, a, b, c, d]),
@@ -473,10 +474,10 @@ fn snapshot_of_nodes(alloc: Global, nodes: Vec<NodeRow>) -> Result<SnapshotFile,
     Ok(SnapshotFile {
         id: Id12([7; 12]),
         parent: Some(Id12::INITIAL),
-        nodes: NodeRows::from_vec(nodes),
+        nodes: Items::from_vec(nodes),
         flushed_at: u64::MAX,
         message: Text::from_string(String::new(alloc)),
-        manifest_files: ManifestFiles::from_vec(Vec::new(alloc)),
+        manifest_files: Items::from_vec(Vec::new(alloc)),
     })
 }
 

@@ -8,16 +8,17 @@ ghost use Rattle.snapshot_file.specs.Snapshots.{snapshot_of};
 ghost use Rattle.snapshot_file.specs.Layout.{nodes_part, files_part, snapshot_block, snapshot_bytes, IsWritable, IsNode, IsInfo, IsSnapshot};
 
 use crate::fields::{info_head, info_tail, text_slot};
-use crate::lists::{ManifestFiles, NodeRows};
 use crate::node_writing::node_table;
-use crate::snapshot::SnapshotFile;
+use crate::nodes::NodeRow;
+use crate::snapshot::{ManifestInfo, SnapshotFile};
 use file_fields::{id12_slot, u64_slot};
 use flat_tables::{Flat, Kind, Slot, WriteFault, flat_write, header_write};
 use ice_ids::Id12;
+use ice_items::Items;
 use std::alloc::{AllocError, Global};
 
 /// The nodes of a snapshot.
-fn nodes_slot(alloc: Global, nodes: &NodeRows) -> Result<Slot, AllocError>
+fn nodes_slot(alloc: Global, nodes: &Items<NodeRow>) -> Result<Slot, AllocError>
     ensures part { IfOk result (λ s. part_of s ≡ nodes_part nodes.now) }
     ensures writable { IfOk result (λ s. IsTrue (is_writable_slot s)) }
     ensures sized { OnOk result (AllByRecursion IsNode nodes.now) }
@@ -30,7 +31,7 @@ fn nodes_slot(alloc: Global, nodes: &NodeRows) -> Result<Slot, AllocError>
 }
 
 /// The manifests of a snapshot.
-fn files_slot(alloc: Global, files: &ManifestFiles) -> Result<Slot, AllocError>
+fn files_slot(alloc: Global, files: &Items<ManifestInfo>) -> Result<Slot, AllocError>
     ensures part { IfOk result (λ s. part_of s ≡ files_part files.now) }
     ensures writable { IfOk result (λ s. IsTrue (is_writable_slot s)) }
     ensures sized { OnOk result (AllByRecursion IsInfo files.now) }

@@ -13,7 +13,7 @@ mod tree;
 pub use changes::{Changes, apply, touched};
 pub use edit::{Edit, EditFault, MOST_NODES, change};
 pub use laws::{change_law, differs_law, none_law, normal_law};
-pub use lists::{Ids, Touched};
+pub use lists::{ArrayChunks, Ids, Touched};
 pub use node::Node;
 pub use nodes::Nodes;
 pub use overlay::Overlay;

@@ -2,7 +2,7 @@
 use Rattle.std.proofs.Common.{◌≡◌, ℕ, ◌+◌, ◌^◌, ◌≤◌, ◌<◌, lit<, lit≤, Result, List, [], ◌∷◌, length, map, None, Some, Ok, refl, sym, arith}
 use Rattle.std.specs.List.{AllByRecursion}
 use Rattle.ice_ids.specs.declared.Id8.{Id8}
-use Rattle.node_lists.specs.declared.ArrayChunks.{ArrayChunks}
+use Rattle.tree_model.specs.declared.lists.ArrayChunks.{ArrayChunks}
 use Rattle.flat_tables.specs.declared.header.Kind.TheVariants as kinds
 use Rattle.flat_tables.specs.declared.fault.FileFault.{FileFault}
 use Rattle.flat_tables.specs.Places.{TableIn, VectorIn, item_of, vector_of}

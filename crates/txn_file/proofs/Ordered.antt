@@ -2,7 +2,7 @@
 use Rattle.std.proofs.Common.{◌≡◌, ℕ, List, drop, None, Ok, subst}
 use Rattle.std.specs.List.{AllByRecursion}
 use Rattle.ice_ids.specs.declared.Id8.{Id8}
-use Rattle.node_lists.specs.declared.ArrayChunks.{ArrayChunks}
+use Rattle.tree_model.specs.declared.lists.ArrayChunks.{ArrayChunks}
 use Rattle.flat_tables.specs.declared.header.Kind.TheVariants as kinds
 use Rattle.flat_tables.specs.Places.{TableIn, VectorIn, root_of, vector_of, table_of}
 use Rattle.flat_tables.specs.Rows.{flat, required, each, Ascends}

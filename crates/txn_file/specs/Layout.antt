@@ -2,7 +2,7 @@
 use Rattle.std.specs.Prelude.{ℕ, List, [], ◌∷◌, ◌++◌, length, map, None}
 use Rattle.std.specs.List.{flat_map, AllByRecursion}
 use Rattle.ice_ids.specs.declared.Id8.{Id8}
-use Rattle.node_lists.specs.declared.ArrayChunks.{ArrayChunks}
+use Rattle.tree_model.specs.declared.lists.ArrayChunks.{ArrayChunks}
 use Rattle.flat_tables.specs.declared.header.Kind.TheVariants as kinds
 use Rattle.flat_tables.specs.Header.{header}
 use Rattle.flat_tables.specs.Rows.{Ascends}

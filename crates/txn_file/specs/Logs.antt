@@ -2,7 +2,7 @@
 -- and that lists stand in order, is own.)
 use Rattle.std.specs.Prelude.{ℕ, List, [], Result, Ok}
 use Rattle.ice_ids.specs.declared.Id8.{Id8}
-use Rattle.node_lists.specs.declared.ArrayChunks.{ArrayChunks}
+use Rattle.tree_model.specs.declared.lists.ArrayChunks.{ArrayChunks}
 use Rattle.flat_tables.specs.declared.header.Kind.TheVariants as kinds
 use Rattle.flat_tables.specs.declared.fault.FileFault.{FileFault}
 use Rattle.flat_tables.specs.Step.{◌>>=◌}

@@ -3,10 +3,11 @@ ghost use Rattle.flat_tables.specs.Rows.{Reads, follows};
 ghost use Rattle.txn_file.specs.Logs.{array_key, ids_in, ids_of, index_at, indices_in, array_of, array_at, arrays_in, arrays_of, log_of, txn_of};
 
 use crate::log::TxnFile;
-use file_fields::{id_follows, id8, id8_of, id12_of, index_follows, index_of};
-use flat_tables::{FILE_LIMIT, FileFault, FlatFault, HEADER, Kind, Table, Vector, header_read};
+use file_fields::{id_follows, id8, id8_of, id12_of, index_follows, index_of, payload_in};
+use flat_tables::{FileFault, FlatFault, Kind, Table, Vector};
 use ice_ids::Id8;
-use node_lists::{ArrayChunks, ChunkLists, Indices, NodeIds};
+use ice_items::Items;
+use tree_model::{ArrayChunks, Ids};
 use std::alloc::Global;
 use zarr_path::Index;
 
@@ -21,7 +22,7 @@ fn array_follows(last: Option<&ArrayChunks>, array: &ArrayChunks) -> bool
 }
 
 /// The ids of a vector, which stand in order.
-fn ids_in(alloc: Global, slot: u16, vector: &Vector) -> Result<NodeIds, FileFault>
+fn ids_in(alloc: Global, slot: u16, vector: &Vector) -> Result<Ids, FileFault>
     requires { vector.now.size ≡ 8 }
     ensures { Reads (λ x. x) result (ids_in slot vector.now) }
 {
@@ -33,16 +34,16 @@ fn ids_in(alloc: Global, slot: u16, vector: &Vector) -> Result<NodeIds, FileFaul
         }
         ids.push(id)?;
     }
-    Ok(NodeIds::from_vec(ids))
+    Ok(Ids::from_vec(ids))
 }
 
 /// The ids in a slot, none where it is absent.
 #[tactic(auto, unfolding(crate::specs::Logs::ids_of))]
-fn ids_of(alloc: Global, table: &Table, slot: u16) -> Result<NodeIds, FileFault>
+fn ids_of(alloc: Global, table: &Table, slot: u16) -> Result<Ids, FileFault>
     ensures { Reads (λ x. x) result (ids_of table.now slot) }
 {
     match table.vector(slot, 8)? {
-        None => Ok(NodeIds::from_vec(Vec::new(alloc))),
+        None => Ok(Ids::from_vec(Vec::new(alloc))),
         Some(vector) => ids_in(alloc, slot, &vector),
     }
 }
@@ -59,7 +60,7 @@ fn index_at(alloc: Global, vector: &Vector, at: usize) -> Result<Index, FileFaul
 }
 
 /// The indices of a vector, which stand in order.
-fn indices_in(alloc: Global, vector: &Vector) -> Result<Indices, FileFault>
+fn indices_in(alloc: Global, vector: &Vector) -> Result<Items<Index>, FileFault>
     requires { vector.now.size ≡ 4 }
     ensures { Reads (λ x. x) result (indices_in vector.now) }
 {
@@ -71,7 +72,7 @@ fn indices_in(alloc: Global, vector: &Vector) -> Result<Indices, FileFault>
         }
         indices.push(index)?;
     }
-    Ok(Indices::from_vec(indices))
+    Ok(Items::from_vec(indices))
 }
 
 /// The array that a table has, with its chunks.
@@ -99,7 +100,7 @@ fn array_at(alloc: Global, vector: &Vector, at: usize) -> Result<ArrayChunks, Fi
 }
 
 /// The arrays of a vector, which stand in order.
-fn arrays_in(alloc: Global, vector: &Vector) -> Result<ChunkLists, FileFault>
+fn arrays_in(alloc: Global, vector: &Vector) -> Result<Items<ArrayChunks>, FileFault>
     requires { vector.now.size ≡ 4 }
     ensures { Reads (λ x. x) result (arrays_in vector.now) }
 {
@@ -111,16 +112,16 @@ fn arrays_in(alloc: Global, vector: &Vector) -> Result<ChunkLists, FileFault>
         }
         arrays.push(array)?;
     }
-    Ok(ChunkLists::from_vec(arrays))
+    Ok(Items::from_vec(arrays))
 }
 
 /// The arrays in slot 7, none where it is absent.
 #[tactic(auto, unfolding(crate::specs::Logs::arrays_of))]
-fn arrays_of(alloc: Global, table: &Table) -> Result<ChunkLists, FileFault>
+fn arrays_of(alloc: Global, table: &Table) -> Result<Items<ArrayChunks>, FileFault>
     ensures { Reads (λ x. x) result (arrays_of table.now) }
 {
     match table.vector(7, 4)? {
-        None => Ok(ChunkLists::from_vec(Vec::new(alloc))),
+        None => Ok(Items::from_vec(Vec::new(alloc))),
         Some(vector) => arrays_in(alloc, &vector),
     }
 }
@@ -151,21 +152,13 @@ fn log_of(alloc: Global, payload: &[u8]) -> Result<TxnFile, FileFault>
     })
 }
 
-/// Reads the file of a transaction log: the value that the file stands for, or its first fault. The file must not be
-/// longer than [`FILE_LIMIT`] bytes (`Limit`), and its header must be that of a log (`Header`, `Kind`). Then come the
-/// root table and its slots in order: `Flat` where a part lies outside of the payload or a required slot is absent,
-/// `Order` where an id, an index or an array doesn't stand behind the one before. (Icechunk specification version 1,
-/// "Transaction log"; the order of faults is own.)
-#[tactic(auto, unfolding(flat_tables::specs::File::file_of, crate::specs::Logs::txn_of))]
+/// Reads the file of a transaction log: the value that the file stands for, or its first fault. The faults of the file
+/// itself come first, in the order of [`payload_in`]. Then come the root table and its slots in order: `Flat` where a
+/// part lies outside of the payload or a required slot is absent, `Order` where an id, an index or an array doesn't stand
+/// behind the one before. (Icechunk specification version 1, "Transaction log"; the order of faults is own.)
+#[tactic(auto, using(file_fields::proofs::Payloads::read_is, file_fields::proofs::Payloads::fault_is), unfolding(crate::specs::Logs::txn_of))]
 pub fn read(alloc: Global, file: &[u8]) -> Result<TxnFile, FileFault>
     ensures { Reads (λ x. x) result (txn_of file.now) }
 {
-    if file.len() > FILE_LIMIT {
-        return Err(FileFault::Limit);
-    }
-    let kind = header_read(file)?;
-    match kind {
-        Kind::Log => log_of(alloc, &file[HEADER..]),
-        other => Err(FileFault::Kind(other)),
-    }
+    log_of(alloc, payload_in(Kind::Log, file)?)
 }

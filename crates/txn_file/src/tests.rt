@@ -7,7 +7,8 @@ ghost use Rattle.txn_file.specs.Layout.{ChunksAscend, IsOrdered};
 use super::*;
 use flat_tables::{FILE_LIMIT, FileFault, FlatFault, HEADER, HeaderFault, Kind, header_write};
 use ice_ids::{Id8, Id12};
-use node_lists::{ArrayChunks, ChunkLists, Indices, NodeIds};
+use ice_items::Items;
+use tree_model::{ArrayChunks, Ids};
 use std::alloc::{AllocError, Global};
 use std::test::Fail;
 use zarr_path::Index;
@@ -28,14 +29,14 @@ const PAYLOAD: [u8; 268] = [
 ];
 
 /// No ids.
-fn no_ids(alloc: Global) -> NodeIds
+fn no_ids(alloc: Global) -> Ids
     ensures { result ≡ [] }
 {
-    NodeIds::from_vec(Vec::new(alloc))
+    Ids::from_vec(Vec::new(alloc))
 }
 
 /// Array 3 with the chunks 0 and 1, and array 6, which has no dimensions, with its one chunk.
-fn sample_chunks(alloc: Global) -> Result<ChunkLists, AllocError>
+fn sample_chunks(alloc: Global) -> Result<Items<ArrayChunks>, AllocError>
     ensures arrays { IfOk result (λ arrays. Ascends array_key None arrays) }
     ensures chunks { IfOk result (λ arrays. AllByRecursion ChunksAscend arrays) }
 {
@@ -44,13 +45,13 @@ fn sample_chunks(alloc: Global) -> Result<ChunkLists, AllocError>
     let only = Index::from_parts(Vec::new(alloc));
     let line = ArrayChunks {
         node: Id8([0, 0, 0, 0, 0, 0, 0, 3]),
-        chunks: Indices::from_vec(Vec::from_array(alloc, [zero, one])?),
+        chunks: Items::from_vec(Vec::from_array(alloc, [zero, one])?),
     };
     let point = ArrayChunks {
         node: Id8([0, 0, 0, 0, 0, 0, 0, 6]),
-        chunks: Indices::from_vec(Vec::from_array(alloc, [only])?),
+        chunks: Items::from_vec(Vec::from_array(alloc, [only])?),
     };
-    Ok(ChunkLists::from_vec(Vec::from_array(alloc, [line, point])?))
+    Ok(Items::from_vec(Vec::from_array(alloc, [line, point])?))
 }
 
 /// A log with a group that is new, two deleted arrays and chunks.
@@ -61,10 +62,10 @@ fn sample(alloc: Global) -> Result<TxnFile, AllocError>
     let arrays = [Id8([0, 0, 0, 0, 0, 0, 0, 4]), Id8([0, 0, 0, 0, 0, 0, 0, 5])];
     Ok(TxnFile {
         id: Id12([1, 2, 3, 4, 5, 6, 7, 8, 9, 10, 11, 12]),
-        new_groups: NodeIds::from_vec(Vec::from_array(alloc, group)?),
+        new_groups: Ids::from_vec(Vec::from_array(alloc, group)?),
         new_arrays: no_ids(alloc),
         deleted_groups: no_ids(alloc),
-        deleted_arrays: NodeIds::from_vec(Vec::from_array(alloc, arrays)?),
+        deleted_arrays: Ids::from_vec(Vec::from_array(alloc, arrays)?),
         updated_arrays: no_ids(alloc),
         updated_groups: no_ids(alloc),
         updated_chunks: sample_chunks(alloc)?,

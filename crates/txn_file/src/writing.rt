@@ -10,12 +10,13 @@ ghost use Rattle.txn_file.specs.Layout.{ids_part, index_block, indices_part, arr
 use crate::log::TxnFile;
 use file_fields::{id8_bytes, id8_slot, id12_slot, index_slot};
 use flat_tables::{Flat, Kind, Slot, WriteFault, flat_write, header_write};
-use node_lists::{ArrayChunks, ChunkLists, Indices, NodeIds};
+use ice_items::Items;
+use tree_model::{ArrayChunks, Ids};
 use std::alloc::{AllocError, Global};
 use zarr_path::Index;
 
 /// A list of ids.
-fn ids_slot(alloc: Global, ids: &NodeIds) -> Result<Slot, AllocError>
+fn ids_slot(alloc: Global, ids: &Ids) -> Result<Slot, AllocError>
     ensures part { IfOk result (λ s. part_of s ≡ ids_part ids.now) }
     ensures writable { IfOk result (λ s. IsTrue (is_writable_slot s)) }
     ensures sized { OnOk result (AreIds ids.now) }
@@ -44,7 +45,7 @@ fn index_table(alloc: Global, index: &Index) -> Result<Flat, AllocError>
 }
 
 /// A list of indices.
-fn indices_slot(alloc: Global, indices: &Indices) -> Result<Slot, AllocError>
+fn indices_slot(alloc: Global, indices: &Items<Index>) -> Result<Slot, AllocError>
     ensures part { IfOk result (λ s. part_of s ≡ indices_part indices.now) }
     ensures writable { IfOk result (λ s. IsTrue (is_writable_slot s)) }
     ensures sized { OnOk result (AllByRecursion IsIndex indices.now) }
@@ -70,7 +71,7 @@ fn array_table(alloc: Global, array: &ArrayChunks) -> Result<Flat, AllocError>
 }
 
 /// A list of arrays.
-fn arrays_slot(alloc: Global, arrays: &ChunkLists) -> Result<Slot, AllocError>
+fn arrays_slot(alloc: Global, arrays: &Items<ArrayChunks>) -> Result<Slot, AllocError>
     ensures part { IfOk result (λ s. part_of s ≡ arrays_part arrays.now) }
     ensures writable { IfOk result (λ s. IsTrue (is_writable_slot s)) }
     ensures sized { OnOk result (AllByRecursion IsArray arrays.now) }

@@ -7,13 +7,13 @@ ghost use Rattle.zarr_meta.specs.Meta.{known_members, array_of, group_of, view_o
 use crate::codecs::big_of;
 use crate::extras::least_extra;
 use crate::faults::MetaFault;
-use crate::lists::Name;
 use crate::names::names_of;
 use crate::parts::{
     fill_of, has_attributes, has_encoding, has_format, has_no_transformers, kind_of, node_type_of,
 };
 use crate::shapes::{chunks_of, shape_of};
 use crate::views::{ArrayView, NodeType, View};
+use ice_base::Text;
 use serde_json::Value;
 use std::alloc::Global;
 
@@ -25,7 +25,7 @@ fn known_members(alloc: Global, node_type: NodeType, value: &Value) -> Result<()
         return Err(MetaFault::Json);
     };
     match least_extra(node_type, members) {
-        Some(name) => Err(MetaFault::Extra(Name::of(alloc, name)?)),
+        Some(name) => Err(MetaFault::Extra(Text::of(alloc, name)?)),
         None => Ok(()),
     }
 }

@@ -1,6 +1,6 @@
 //! Why a text is no metadata.
 
-use crate::lists::Name;
+use ice_base::Text;
 use std::alloc::{AllocError, AllocFailed};
 use std::fmt;
 
@@ -36,7 +36,7 @@ pub enum MetaFault {
     /// `dimension_names` is neither null nor a list of this rank of texts and nulls.
     Names,
     /// There is another member, which may not be passed over. It has the least name of these, by bytes.
-    Extra(Name),
+    Extra(Text),
     /// There was no memory.
     NoMemory,
 }

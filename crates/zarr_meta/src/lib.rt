@@ -27,6 +27,6 @@ mod views;
 pub use faults::MetaFault;
 pub use kinds::IntKind;
 pub use laws::{extra_law, plain_law, text_law};
-pub use lists::{DimensionNames, Lengths, MetaText, Name};
+pub use lists::{DimensionNames, Lengths};
 pub use metas::Meta;
 pub use views::{ArrayView, NodeType, View};

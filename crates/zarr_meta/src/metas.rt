@@ -7,9 +7,9 @@ ghost use Rattle.zarr_meta.specs.Meta.{meta_of, view_in, Tells};
 use crate::arrays::view_of;
 use crate::faults::MetaFault;
 use crate::kinds::IntKind;
-use crate::lists::MetaText;
 use crate::plain::{GROUP_TEXT, array_text};
 use crate::views::View;
+use ice_base::Bytes;
 use json_words::{JsonFault, read_value};
 use std::alloc::{AllocError, Global};
 
@@ -19,7 +19,7 @@ pub struct Meta {
     /// What the text says.
     pub view: View,
     /// The text of `zarr.json`.
-    pub text: MetaText,
+    pub text: Bytes,
     pub ghost reads: { view_in text ≡ Some view } by { Coded-set (coded_option view-code) (view_in text) (Some view) },
 }
 
@@ -34,7 +34,7 @@ impl Meta {
         ensures { MatchResult result (IsReadingOf text.now) (Refuses text.now) }
     {
         let view = read_view(alloc, text)?;
-        let text = MetaText::from_vec(Vec::from_slice(alloc, text)?);
+        let text = Bytes::of(alloc, text)?;
         Ok(Meta { view, text })
     }
 
@@ -43,7 +43,7 @@ impl Meta {
     pub fn plain_group(alloc: Global) -> Result<Meta, AllocError>
         ensures { IfOk result (IsReadingOf group_text) }
     {
-        let text = MetaText::from_vec(Vec::from_slice(alloc, GROUP_TEXT.as_bytes())?);
+        let text = Bytes::of(alloc, GROUP_TEXT.as_bytes())?;
         Ok(Meta {
             view: View::Group,
             text,
@@ -77,7 +77,7 @@ impl Meta {
         let view = read_view(alloc, text.as_slice())?;
         Ok(Meta {
             view,
-            text: MetaText::from_vec(text),
+            text: Bytes::from_vec(text),
         })
     }
 

@@ -4,7 +4,7 @@ ghost use Rattle.std.specs.Prelude.{◌≡◌, IfOk};
 ghost use Rattle.zarr_meta.specs.Views.{type_of};
 
 use crate::kinds::IntKind;
-use crate::lists::{DimensionNames, Lengths};
+use crate::lists::{DimensionNames, Lengths, copy_names};
 use std::alloc::{AllocError, Global};
 
 /// What a node is. (Zarr v3 core specification, "node_type".)
@@ -40,7 +40,7 @@ impl ArrayView {
         ensures { IfOk result (λ array. array ≡ self.now) }
     {
         let names = match &self.names {
-            Some(names) => Some(names.copy(alloc)?),
+            Some(names) => Some(copy_names(alloc, names)?),
             None => None,
         };
         Ok(ArrayView {
