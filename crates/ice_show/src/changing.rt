@@ -2,10 +2,10 @@
 //! looked at.
 
 use crate::texts::path_of;
+use crate::told::{fault_told, push_ids};
 use crate::trees::{row_of, tree_of, tree_told};
 use crate::words::NoAnswer;
 use change_set::ChangeSet;
-use ice_ids::Id8;
 use std::alloc::{AllocError, Global};
 use tree_model::{Changes, Edit, Node, Nodes, Tree, apply, change, touched};
 
@@ -47,17 +47,8 @@ pub fn tell_edit(alloc: Global, text: &str) -> Result<String, NoAnswer> {
     let (path, node) = row_of(alloc, word)?;
     match change(alloc, &tree, &Edit::Add { path, id: node.id }) {
         Ok(after) => Ok(format!(in alloc; "{} nodes{}", after.len(), tree_told(alloc, &after)?)?),
-        Err(fault) => Ok(format!(in alloc; "{fault:?}")?),
+        Err(fault) => fault_told(alloc, fault),
     }
-}
-
-/// What changes touch.
-fn ids_told(alloc: Global, ids: &[Id8]) -> Result<String, AllocError> {
-    let mut told = String::from_str(alloc, "new_groups")?;
-    for id in ids {
-        write!(told, " {id}")?;
-    }
-    Ok(told)
 }
 
 /// A tree under changes, and what they touch.
@@ -71,7 +62,8 @@ pub fn tell_apply(alloc: Global, text: &str) -> Result<String, NoAnswer> {
     }
     let changes = Changes { added };
     let lists = touched(alloc, &changes, &tree)?;
-    let mut told = ids_told(alloc, lists.new_groups.as_slice())?;
+    let mut told = String::new(alloc);
+    push_ids(&mut told, "new_groups", lists.new_groups.as_slice())?;
     told.push_str(tree_told(alloc, &apply(alloc, &changes, &tree)?)?.as_str())?;
     Ok(told)
 }
@@ -119,7 +111,7 @@ pub fn tell_changes(alloc: Global, text: &str) -> Result<String, NoAnswer> {
         return Ok(told);
     }
     let net = set.net(alloc, &base)?;
-    told.push_str(ids_told(alloc, net.new_groups.as_slice())?.as_str())?;
+    push_ids(&mut told, "new_groups", net.new_groups.as_slice())?;
     told.push_str(tree_told(alloc, &set.tree(alloc, &base)?)?.as_str())?;
     Ok(told)
 }

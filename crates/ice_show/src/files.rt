@@ -1,18 +1,17 @@
 //! Headers of files, and transaction logs.
 
-use crate::parts::digits;
+use crate::told::{again, digits, fault_told, push_ids};
 use crate::words::NoAnswer;
 use flat_tables::{Kind, WriteFault, header_read, header_write};
-use ice_ids::Id8;
-use node_lists::ArrayChunks;
 use std::alloc::{AllocError, Global};
+use tree_model::{ArrayChunks, Ids};
 use txn_file::TxnFile;
 
 /// The kind that a file's header names.
 pub fn tell_header(alloc: Global, file: &[u8]) -> Result<String, NoAnswer> {
     match header_read(file) {
         Ok(kind) => Ok(format!(in alloc; "{kind:?}")?),
-        Err(fault) => Ok(format!(in alloc; "{fault:?}")?),
+        Err(fault) => fault_told(alloc, fault),
     }
 }
 
@@ -27,33 +26,25 @@ pub fn tell_header_of(alloc: Global, text: &str) -> Result<String, NoAnswer> {
     Ok(digits(alloc, &header_write(kind))?)
 }
 
-/// What is told of a file that was read, and then written.
-pub fn again(
+/// What is told of a file that was read, and then written again.
+pub fn written_again(
     alloc: Global,
     file: &[u8],
     written: Result<Vec<u8>, WriteFault>,
 ) -> Result<String, NoAnswer> {
     match written {
-        Ok(bytes) => {
-            if bytes.as_slice() == file {
-                return Ok(String::from_str(alloc, "the same bytes")?);
-            }
-            Ok(digits(alloc, bytes.as_slice())?)
-        }
-        Err(fault) => Ok(format!(in alloc; "{fault:?}")?),
+        Ok(bytes) => Ok(again(alloc, file, bytes.as_slice())?),
+        Err(fault) => fault_told(alloc, fault),
     }
 }
 
-/// Appends a list of ids, if there are any.
-fn push_ids(told: &mut String, list: &str, ids: &[Id8]) -> Result<(), AllocError> {
+/// Appends a list of ids on a line of its own, if there are any.
+fn push_list(told: &mut String, list: &str, ids: &Ids) -> Result<(), AllocError> {
     if ids.is_empty() {
         return Ok(());
     }
-    write!(told, "\n  {list}")?;
-    for id in ids {
-        write!(told, " {id}")?;
-    }
-    Ok(())
+    told.push_str("\n  ")?;
+    push_ids(told, list, ids.as_slice())
 }
 
 /// Appends the chunks of arrays.
@@ -70,12 +61,12 @@ fn push_chunks(told: &mut String, arrays: &[ArrayChunks]) -> Result<(), AllocErr
 /// What a transaction log says.
 fn log_told(alloc: Global, log: &TxnFile) -> Result<String, AllocError> {
     let mut told = format!(in alloc; "log {}", log.id)?;
-    push_ids(&mut told, "new_groups", log.new_groups.as_slice())?;
-    push_ids(&mut told, "new_arrays", log.new_arrays.as_slice())?;
-    push_ids(&mut told, "deleted_groups", log.deleted_groups.as_slice())?;
-    push_ids(&mut told, "deleted_arrays", log.deleted_arrays.as_slice())?;
-    push_ids(&mut told, "updated_arrays", log.updated_arrays.as_slice())?;
-    push_ids(&mut told, "updated_groups", log.updated_groups.as_slice())?;
+    push_list(&mut told, "new_groups", &log.new_groups)?;
+    push_list(&mut told, "new_arrays", &log.new_arrays)?;
+    push_list(&mut told, "deleted_groups", &log.deleted_groups)?;
+    push_list(&mut told, "deleted_arrays", &log.deleted_arrays)?;
+    push_list(&mut told, "updated_arrays", &log.updated_arrays)?;
+    push_list(&mut told, "updated_groups", &log.updated_groups)?;
     push_chunks(&mut told, log.updated_chunks.as_slice())?;
     Ok(told)
 }
@@ -84,7 +75,7 @@ fn log_told(alloc: Global, log: &TxnFile) -> Result<String, AllocError> {
 pub fn tell_log(alloc: Global, file: &[u8]) -> Result<String, NoAnswer> {
     match txn_file::read(alloc, file) {
         Ok(log) => Ok(log_told(alloc, &log)?),
-        Err(fault) => Ok(format!(in alloc; "{fault:?}")?),
+        Err(fault) => fault_told(alloc, fault),
     }
 }
 
@@ -92,7 +83,7 @@ pub fn tell_log(alloc: Global, file: &[u8]) -> Result<String, NoAnswer> {
 pub fn tell_log_again(alloc: Global, file: &[u8]) -> Result<String, NoAnswer> {
     txn_file::laws::ordered_law();
     match txn_file::read(alloc, file) {
-        Ok(log) => again(alloc, file, txn_file::write(alloc, &log)),
-        Err(fault) => Ok(format!(in alloc; "{fault:?}")?),
+        Ok(log) => written_again(alloc, file, txn_file::write(alloc, &log)),
+        Err(fault) => fault_told(alloc, fault),
     }
 }

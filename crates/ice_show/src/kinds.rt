@@ -14,8 +14,8 @@ use crate::scripts::tell_script;
 use crate::snapshots::{tell_initial, tell_snapshot, tell_snapshot_again};
 use crate::store_keys::{tell_object, tell_same};
 use crate::texts::{
-    tell_draw, tell_draw_at, tell_id, tell_id_of, tell_indices, tell_key, tell_keys, tell_name, tell_names,
-    tell_node_id, tell_path, tell_paths, tell_ref, tell_ref_of,
+    tell_draw, tell_draw_at, tell_id, tell_id_of, tell_indices, tell_key, tell_keys, tell_name,
+    tell_names, tell_node_id, tell_path, tell_paths, tell_ref, tell_ref_of,
 };
 use crate::words::{NoAnswer, text_of};
 use std::alloc::Global;

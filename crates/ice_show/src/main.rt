@@ -4,6 +4,7 @@
 
 mod answering;
 mod changing;
+mod counted;
 mod files;
 mod grids;
 mod kept;
@@ -17,6 +18,7 @@ mod scripts;
 mod snapshots;
 mod store_keys;
 mod texts;
+mod told;
 mod trees;
 mod words;
 

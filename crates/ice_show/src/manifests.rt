@@ -1,7 +1,7 @@
 //! Manifests.
 
-use crate::files::again;
-use crate::parts::digits;
+use crate::files::written_again;
+use crate::told::{digits, fault_told};
 use crate::words::NoAnswer;
 use manifest_file::{ChunkRef, ManifestFile, Place};
 use std::alloc::{AllocError, Global};
@@ -42,7 +42,7 @@ fn manifest_told(alloc: Global, manifest: &ManifestFile) -> Result<String, Alloc
 pub fn tell_manifest(alloc: Global, file: &[u8]) -> Result<String, NoAnswer> {
     match manifest_file::read(alloc, file) {
         Ok(manifest) => Ok(manifest_told(alloc, &manifest)?),
-        Err(fault) => Ok(format!(in alloc; "{fault:?}")?),
+        Err(fault) => fault_told(alloc, fault),
     }
 }
 
@@ -50,7 +50,7 @@ pub fn tell_manifest(alloc: Global, file: &[u8]) -> Result<String, NoAnswer> {
 pub fn tell_manifest_again(alloc: Global, file: &[u8]) -> Result<String, NoAnswer> {
     manifest_file::laws::ordered_law();
     match manifest_file::read(alloc, file) {
-        Ok(manifest) => again(alloc, file, manifest_file::write(alloc, &manifest)),
-        Err(fault) => Ok(format!(in alloc; "{fault:?}")?),
+        Ok(manifest) => written_again(alloc, file, manifest_file::write(alloc, &manifest)),
+        Err(fault) => fault_told(alloc, fault),
     }
 }

@@ -1,16 +1,17 @@
 //! JSON texts, and the metadata of Zarr nodes.
 
+use crate::told::{fault_told, push_names};
 use crate::words::{NoAnswer, first_word, numbers_of};
 use json_words::read_value;
 use serde_json::Value;
 use std::alloc::{AllocError, Global};
-use zarr_meta::{ArrayView, DimensionNames, IntKind, Meta, MetaFault, View};
+use zarr_meta::{ArrayView, IntKind, Meta, MetaFault, View};
 
 /// Whether bytes are a JSON text.
 pub fn tell_json(alloc: Global, bytes: &[u8]) -> Result<String, NoAnswer> {
     match read_value(alloc, bytes) {
         Ok(_) => Ok(String::from_str(alloc, "json")?),
-        Err(fault) => Ok(format!(in alloc; "{fault:?}")?),
+        Err(fault) => fault_told(alloc, fault),
     }
 }
 
@@ -22,7 +23,7 @@ pub fn tell_number(alloc: Global, bytes: &[u8]) -> Result<String, NoAnswer> {
             let integer = value.as_number().and_then(|number| number.as_i128());
             Ok(format!(in alloc; "whole {whole:?} integer {integer:?}")?)
         }
-        Err(fault) => Ok(format!(in alloc; "{fault:?}")?),
+        Err(fault) => fault_told(alloc, fault),
     }
 }
 
@@ -33,20 +34,8 @@ pub fn tell_member(alloc: Global, bytes: &[u8]) -> Result<String, NoAnswer> {
             let text = value.get("a").and_then(Value::as_str);
             Ok(format!(in alloc; "{text:?}")?)
         }
-        Err(fault) => Ok(format!(in alloc; "{fault:?}")?),
+        Err(fault) => fault_told(alloc, fault),
     }
-}
-
-/// Appends the names of dimensions.
-fn push_names(told: &mut String, names: &DimensionNames) -> Result<(), AllocError> {
-    told.push_str(" names")?;
-    for name in names.as_slice() {
-        match name {
-            Some(name) => write!(told, " {:?}", name.as_str())?,
-            None => told.push_str(" -")?,
-        }
-    }
-    Ok(())
 }
 
 /// What the metadata of an array says.
@@ -54,9 +43,11 @@ fn array_told(alloc: Global, array: &ArrayView) -> Result<String, AllocError> {
     let (kind, fill) = (array.kind.name(), array.fill);
     let (shape, chunks) = (array.shape.as_slice(), array.chunks.as_slice());
     let order = if array.big { "big" } else { "little" };
-    let mut told = format!(in alloc; "array {kind} {order} shape {shape:?} chunks {chunks:?} fill {fill}")?;
+    let mut told = format!(in alloc;
+        "array {kind} {order} shape {shape:?} chunks {chunks:?} fill {fill}"
+    )?;
     if let Some(names) = &array.names {
-        push_names(&mut told, names)?;
+        push_names(&mut told, names.as_slice())?;
     }
     Ok(told)
 }
@@ -70,7 +61,7 @@ fn view_told(alloc: Global, view: &View) -> Result<String, AllocError> {
 }
 
 /// Why a text is no metadata.
-fn fault_told(alloc: Global, fault: &MetaFault) -> Result<String, AllocError> {
+fn meta_fault_told(alloc: Global, fault: &MetaFault) -> Result<String, AllocError> {
     match fault {
         MetaFault::Extra(name) => format!(in alloc; "fault extra {}", name.as_str()),
         fault => format!(in alloc; "fault {fault}"),
@@ -81,20 +72,23 @@ fn fault_told(alloc: Global, fault: &MetaFault) -> Result<String, AllocError> {
 pub fn tell_meta(alloc: Global, text: &[u8]) -> Result<String, NoAnswer> {
     match Meta::read(alloc, text) {
         Ok(meta) => Ok(view_told(alloc, &meta.copy(alloc)?.view)?),
-        Err(fault) => Ok(fault_told(alloc, &fault)?),
+        Err(fault) => Ok(meta_fault_told(alloc, &fault)?),
     }
 }
 
 /// A text of metadata.
 fn text_told(alloc: Global, meta: &Meta) -> Result<String, AllocError> {
-    String::from_str(alloc, str::from_utf8(meta.text.as_slice()).unwrap_or("no text"))
+    String::from_str(
+        alloc,
+        str::from_utf8(meta.text.as_slice()).unwrap_or("no text"),
+    )
 }
 
 /// The text of a `zarr.json`, as it is kept.
 pub fn tell_meta_text(alloc: Global, text: &[u8]) -> Result<String, NoAnswer> {
     match Meta::read(alloc, text) {
         Ok(meta) => Ok(text_told(alloc, &meta.copy(alloc)?)?),
-        Err(fault) => Ok(fault_told(alloc, &fault)?),
+        Err(fault) => Ok(meta_fault_told(alloc, &fault)?),
     }
 }
 
@@ -112,6 +106,6 @@ pub fn tell_plain(alloc: Global, text: &str) -> Result<String, NoAnswer> {
     let fill = fill.parse::<i128>().map_err(|_| NoAnswer::Words)?;
     match Meta::plain_array(alloc, kind, &shape, &chunks, fill) {
         Ok(meta) => Ok(text_told(alloc, &meta)?),
-        Err(fault) => Ok(fault_told(alloc, &fault)?),
+        Err(fault) => Ok(meta_fault_told(alloc, &fault)?),
     }
 }

@@ -5,8 +5,10 @@
 //! - `$name`, the bytes that were kept under a name;
 //! - any of these with `*3` behind it: that many times;
 //! - `@12=0aff`, which writes these bytes over those of the part before, from its place 12 on;
+//! - `3#0aff{4+44}`, bytes with numbers that count, as `counted` says;
 //! - `<38`, which leaves the first 38 bytes of the part before.
 
+use crate::counted::push_turns;
 use crate::kept::Kept;
 use crate::words::{NoAnswer, first_word};
 use std::alloc::{AllocError, Global};
@@ -51,7 +53,8 @@ fn lay<'a>(
     if let Some(change) = part.strip_prefix('@') {
         lay_over(alloc, laid, change)?;
     } else if let Some(len) = part.strip_prefix('<') {
-        laid.bytes.truncate(laid.last.saturating_add(count_of(len)?));
+        laid.bytes
+            .truncate(laid.last.saturating_add(count_of(len)?));
     } else {
         lay_word(alloc, kept, laid, part)?;
     }
@@ -60,6 +63,10 @@ fn lay<'a>(
 
 /// Lays a part that is one word, as often as it says.
 fn lay_word(alloc: Global, kept: &Kept, laid: &mut Laid, part: &str) -> Result<(), NoAnswer> {
+    if let Some((turns, template)) = part.split_once('#') {
+        laid.last = laid.bytes.len();
+        return push_turns(alloc, &mut laid.bytes, turns, template);
+    }
     let (word, times) = match part.split_once('*') {
         Some((word, _)) => (word, part.strip_prefix(word).unwrap_or("")),
         None => (part, ""),
@@ -116,7 +123,7 @@ fn lay_over(alloc: Global, laid: &mut Laid, change: &str) -> Result<(), NoAnswer
 }
 
 /// The bytes of hexadecimal digits.
-fn digits_of(alloc: Global, digits: &str) -> Result<Vec<u8>, NoAnswer> {
+pub fn digits_of(alloc: Global, digits: &str) -> Result<Vec<u8>, NoAnswer> {
     match hex::decode(alloc, digits) {
         Ok(bytes) => Ok(bytes),
         Err(hex::FromHexError::OutOfMemory) => Err(NoAnswer::NoMemory),
@@ -130,9 +137,4 @@ fn count_of(digits: &str) -> Result<usize, NoAnswer> {
         Ok(count) => Ok(count),
         Err(_) => Err(NoAnswer::Words),
     }
-}
-
-/// The hexadecimal digits of bytes.
-pub fn digits(alloc: Global, bytes: &[u8]) -> Result<String, AllocError> {
-    hex::encode(alloc, bytes)
 }

@@ -1,9 +1,8 @@
 //! Snapshots, logs and references in the plain text form.
 
-use crate::parts::digits;
+use crate::told::{again, fault_told, push_ids};
 use crate::trees::tree_told;
 use crate::words::NoAnswer;
-use ice_base::Bytes;
 use plain_object::{
     SnapshotFile, initial, log_read, log_write, ref_read, ref_write, snapshot_read, snapshot_write,
 };
@@ -27,16 +26,8 @@ fn snapshot_told(alloc: Global, file: &SnapshotFile) -> Result<String, AllocErro
 pub fn tell_plain_snapshot(alloc: Global, bytes: &[u8]) -> Result<String, NoAnswer> {
     match snapshot_read(alloc, bytes) {
         Ok(file) => Ok(snapshot_told(alloc, &file)?),
-        Err(fault) => Ok(format!(in alloc; "{fault:?}")?),
+        Err(fault) => fault_told(alloc, fault),
     }
-}
-
-/// What is told of bytes that were written again.
-fn again(alloc: Global, bytes: &[u8], written: &Bytes) -> Result<String, AllocError> {
-    if written.as_slice() == bytes {
-        return String::from_str(alloc, "the same bytes");
-    }
-    digits(alloc, written.as_slice())
 }
 
 /// The plain form of a snapshot, read and written again.
@@ -45,9 +36,9 @@ pub fn tell_plain_snapshot_again(alloc: Global, bytes: &[u8]) -> Result<String, 
         Ok(file) => {
             let message = file.message.as_slice();
             let written = snapshot_write(alloc, file.parent, file.flushed_at, &file.tree, message)?;
-            Ok(again(alloc, bytes, &written)?)
+            Ok(again(alloc, bytes, written.as_slice())?)
         }
-        Err(fault) => Ok(format!(in alloc; "{fault:?}")?),
+        Err(fault) => fault_told(alloc, fault),
     }
 }
 
@@ -55,21 +46,19 @@ pub fn tell_plain_snapshot_again(alloc: Global, bytes: &[u8]) -> Result<String, 
 pub fn tell_plain_log(alloc: Global, bytes: &[u8]) -> Result<String, NoAnswer> {
     match log_read(alloc, bytes) {
         Ok(touched) => {
-            let mut told = String::from_str(alloc, "new_groups")?;
-            for id in touched.new_groups.as_slice() {
-                write!(told, " {id}")?;
-            }
+            let mut told = String::new(alloc);
+            push_ids(&mut told, "new_groups", touched.new_groups.as_slice())?;
             Ok(told)
         }
-        Err(fault) => Ok(format!(in alloc; "{fault:?}")?),
+        Err(fault) => fault_told(alloc, fault),
     }
 }
 
 /// The plain form of a log, read and written again.
 pub fn tell_plain_log_again(alloc: Global, bytes: &[u8]) -> Result<String, NoAnswer> {
     match log_read(alloc, bytes) {
-        Ok(touched) => Ok(again(alloc, bytes, &log_write(alloc, &touched)?)?),
-        Err(fault) => Ok(format!(in alloc; "{fault:?}")?),
+        Ok(touched) => Ok(again(alloc, bytes, log_write(alloc, &touched)?.as_slice())?),
+        Err(fault) => fault_told(alloc, fault),
     }
 }
 
@@ -78,8 +67,7 @@ pub fn tell_plain_ref(alloc: Global, bytes: &[u8]) -> Result<String, NoAnswer> {
     let Some(id) = ref_read(bytes) else {
         return Ok(String::from_str(alloc, "none")?);
     };
-    let written = Bytes::of(alloc, &ref_write(id))?;
-    let again = again(alloc, bytes, &written)?;
+    let again = again(alloc, bytes, &ref_write(id))?;
     Ok(format!(in alloc; "{id}, written again {again}")?)
 }
 

@@ -1,5 +1,6 @@
 //! Scripts of tasks.
 
+use crate::told::fault_told;
 use crate::words::NoAnswer;
 use play_script::{Call, Head, Line, Script, Task};
 use std::alloc::{AllocError, Global};
@@ -52,6 +53,6 @@ fn script_told(alloc: Global, script: &Script) -> Result<String, AllocError> {
 pub fn tell_script(alloc: Global, text: &[u8]) -> Result<String, NoAnswer> {
     match Script::read(alloc, text) {
         Ok(script) => Ok(script_told(alloc, &script)?),
-        Err(fault) => Ok(format!(in alloc; "{fault:?}")?),
+        Err(fault) => fault_told(alloc, fault),
     }
 }

@@ -1,22 +1,10 @@
 //! Snapshots.
 
-use crate::files::again;
-use crate::parts::digits;
+use crate::files::written_again;
+use crate::told::{digits, fault_told, push_names};
 use crate::words::NoAnswer;
-use snapshot_file::{INITIAL_FILE, ManifestInfo, ManifestRef, Names, NodeKind, NodeRow, SnapshotFile};
+use snapshot_file::{INITIAL_FILE, ManifestInfo, ManifestRef, NodeKind, NodeRow, SnapshotFile};
 use std::alloc::{AllocError, Global};
-
-/// Appends the names of dimensions.
-fn push_names(told: &mut String, names: &Names) -> Result<(), AllocError> {
-    told.push_str(" names")?;
-    for name in names.as_slice() {
-        match name {
-            Some(name) => write!(told, " {:?}", name.as_str())?,
-            None => told.push_str(" -")?,
-        }
-    }
-    Ok(())
-}
 
 /// Appends the manifests of an array.
 fn push_manifests(told: &mut String, manifests: &[ManifestRef]) -> Result<(), AllocError> {
@@ -38,7 +26,7 @@ fn push_kind(told: &mut String, kind: &NodeKind) -> Result<(), AllocError> {
         } => {
             write!(told, " array shape {:?}", shape.as_slice())?;
             if let Some(names) = names {
-                push_names(told, names)?;
+                push_names(told, names.as_slice())?;
             }
             push_manifests(told, manifests.as_slice())
         }
@@ -72,7 +60,11 @@ fn snapshot_told(alloc: Global, snapshot: &SnapshotFile) -> Result<String, Alloc
         None => told.push_str(" no parent")?,
     }
     let flushed_at = snapshot.flushed_at;
-    write!(told, " flushed {flushed_at} message '{}'", snapshot.message.as_str())?;
+    write!(
+        told,
+        " flushed {flushed_at} message '{}'",
+        snapshot.message.as_str()
+    )?;
     push_nodes(alloc, &mut told, snapshot.nodes.as_slice())?;
     push_files(&mut told, snapshot.manifest_files.as_slice())?;
     Ok(told)
@@ -82,15 +74,15 @@ fn snapshot_told(alloc: Global, snapshot: &SnapshotFile) -> Result<String, Alloc
 pub fn tell_snapshot(alloc: Global, file: &[u8]) -> Result<String, NoAnswer> {
     match snapshot_file::read(alloc, file) {
         Ok(snapshot) => Ok(snapshot_told(alloc, &snapshot)?),
-        Err(fault) => Ok(format!(in alloc; "{fault:?}")?),
+        Err(fault) => fault_told(alloc, fault),
     }
 }
 
 /// The file of a snapshot, read and written again.
 pub fn tell_snapshot_again(alloc: Global, file: &[u8]) -> Result<String, NoAnswer> {
     match snapshot_file::read(alloc, file) {
-        Ok(snapshot) => again(alloc, file, snapshot_file::write(alloc, &snapshot)),
-        Err(fault) => Ok(format!(in alloc; "{fault:?}")?),
+        Ok(snapshot) => written_again(alloc, file, snapshot_file::write(alloc, &snapshot)),
+        Err(fault) => fault_told(alloc, fault),
     }
 }
 

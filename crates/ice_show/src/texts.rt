@@ -1,6 +1,6 @@
 //! Ids, names, paths, keys and references.
 
-use crate::parts::digits;
+use crate::told::{digits, fault_told};
 use crate::words::{NoAnswer, first_word, indices_of, said, small_number_of, two_words};
 use ice_base::RefName;
 use ice_ids::{CountIds, Draw, Id8, Id12, Ids};
@@ -11,7 +11,7 @@ use zarr_path::{Index, KeyFault, Path, ZarrKey, chunk_key, meta_key, read_key};
 pub fn tell_id(alloc: Global, text: &[u8]) -> Result<String, NoAnswer> {
     match Id12::read(text) {
         Ok(id) => Ok(digits(alloc, &id.0)?),
-        Err(fault) => Ok(format!(in alloc; "{fault:?}")?),
+        Err(fault) => fault_told(alloc, fault),
     }
 }
 
@@ -19,7 +19,7 @@ pub fn tell_id(alloc: Global, text: &[u8]) -> Result<String, NoAnswer> {
 pub fn tell_node_id(alloc: Global, text: &[u8]) -> Result<String, NoAnswer> {
     match Id8::read(text) {
         Ok(id) => Ok(digits(alloc, &id.0)?),
-        Err(fault) => Ok(format!(in alloc; "{fault:?}")?),
+        Err(fault) => fault_told(alloc, fault),
     }
 }
 
@@ -77,7 +77,7 @@ pub fn tell_draw_at(alloc: Global, text: &str) -> Result<String, NoAnswer> {
 pub fn tell_name(alloc: Global, text: &str) -> Result<String, NoAnswer> {
     match RefName::read(alloc, text) {
         Ok(name) => Ok(format!(in alloc; "{name}")?),
-        Err(fault) => Ok(format!(in alloc; "{fault:?}")?),
+        Err(fault) => fault_told(alloc, fault),
     }
 }
 
@@ -97,7 +97,7 @@ pub fn tell_names(alloc: Global, text: &str) -> Result<String, NoAnswer> {
 pub fn tell_path(alloc: Global, text: &str) -> Result<String, NoAnswer> {
     let path = match Path::read(alloc, text) {
         Ok(path) => path,
-        Err(fault) => return Ok(format!(in alloc; "{fault:?}")?),
+        Err(fault) => return fault_told(alloc, fault),
     };
     match path.parent(alloc)? {
         Some(parent) => Ok(format!(in alloc; "{path} in {parent}")?),
@@ -160,7 +160,7 @@ pub fn tell_indices(alloc: Global, text: &str) -> Result<String, NoAnswer> {
 pub fn tell_ref(alloc: Global, file: &[u8]) -> Result<String, NoAnswer> {
     match ref_file::ref_read(alloc, file) {
         Ok(id) => Ok(format!(in alloc; "{id}")?),
-        Err(fault) => Ok(format!(in alloc; "{fault:?}")?),
+        Err(fault) => fault_told(alloc, fault),
     }
 }
 

@@ -6,8 +6,6 @@ mod lines;
 mod outcome;
 mod refusal_texts;
 mod reporting;
-#[cfg(test)]
-mod tests;
 
 pub use key_names::key_name;
 pub use outcome::{End, Outcome, RefLine, RefLines, Shown, Shows};

@@ -8,8 +8,6 @@ mod laws;
 mod machines;
 mod names;
 mod operations;
-#[cfg(test)]
-mod tests;
 
 pub use events::{
     Entries, Entry, Event, Gone, GoneAt, Got, Listed, New, Op, Over, Reply, StoreFault, Version,
