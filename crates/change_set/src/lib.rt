@@ -4,6 +4,3 @@
 mod set;
 
 pub use set::ChangeSet;
-
-#[cfg(test)]
-mod tests;

@@ -23,6 +23,3 @@ pub use flat::{Flat, Slot};
 pub use header::{FILE_LIMIT, HEADER, HeaderFault, Kind, header_read, header_write};
 pub use table::{Table, Vector};
 pub use writing::flat_write;
-
-#[cfg(test)]
-mod tests;

@@ -17,6 +17,3 @@ pub use in_memory::{ByteSink, ByteSource};
 pub use names::{NameFault, RefName};
 pub use standard::{StdSink, StdSource};
 pub use texts::Text;
-
-#[cfg(test)]
-mod tests;

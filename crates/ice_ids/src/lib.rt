@@ -111,6 +111,3 @@ impl fmt::Display for Id8 {
         f.write_str(str::from_utf8(&self.text()).unwrap())
     }
 }
-
-#[cfg(test)]
-mod tests;

@@ -30,6 +30,3 @@ pub fn read_value(alloc: Global, bytes: &[u8]) -> Result<Value, JsonFault>
         _ => JsonFault::Json,
     })
 }
-
-#[cfg(test)]
-mod tests;

@@ -12,6 +12,3 @@ mod writing;
 pub use manifest::{ArrayRefs, ChunkRef, ManifestFile, Place, REFS_LIMIT};
 pub use reading::read;
 pub use writing::write;
-
-#[cfg(test)]
-mod tests;

@@ -19,6 +19,3 @@ pub use laws::{initial_law, log_law, parent_law, ref_law, snapshot_law};
 pub use log::{log_read, log_write};
 pub use reference::{ref_read, ref_write};
 pub use snapshot::{SnapshotFile, initial, snapshot_read, snapshot_write};
-
-#[cfg(test)]
-mod tests;

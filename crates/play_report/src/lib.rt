@@ -2,8 +2,6 @@
 #![tactic(auto)]
 
 mod reporting;
-#[cfg(test)]
-mod tests;
 mod texts;
 
 pub use reporting::{add_opening, add_outcome, add_refs, report};

@@ -17,8 +17,6 @@ mod forms;
 mod heads;
 mod reading;
 mod scripts;
-#[cfg(test)]
-mod tests;
 mod turning;
 mod values;
 mod words;

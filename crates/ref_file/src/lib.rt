@@ -61,6 +61,3 @@ pub fn ref_write(id: Id12) -> [u8; 35]
     file[13..33].copy_from_slice(&id.text());
     file
 }
-
-#[cfg(test)]
-mod tests;

@@ -22,6 +22,3 @@ pub use nodes::{ManifestRef, NodeKind, NodeRow};
 pub use reading::read;
 pub use snapshot::{ManifestInfo, NODE_LIMIT, SnapshotFile};
 pub use writing::write;
-
-#[cfg(test)]
-mod tests;

@@ -11,8 +11,6 @@ mod machines;
 mod names;
 mod operations;
 mod running;
-#[cfg(test)]
-mod tests;
 
 pub use driving::{Machine, Payload, Request, ask, drive, perform};
 pub use events::{

@@ -18,6 +18,3 @@ pub use node::Node;
 pub use nodes::Nodes;
 pub use overlay::Overlay;
 pub use tree::Tree;
-
-#[cfg(test)]
-mod tests;

@@ -14,8 +14,6 @@ mod known;
 mod logged;
 mod pass;
 mod rule;
-#[cfg(test)]
-mod tests;
 
 pub use cell::TurnCell;
 pub use known::{Known, Owners};

@@ -9,8 +9,6 @@
 mod cells;
 mod grids;
 mod laws;
-#[cfg(test)]
-mod tests;
 
 pub use cells::cell_place;
 pub use grids::{chunk_bytes, grid, in_grid};

@@ -20,8 +20,6 @@ mod names;
 mod parts;
 mod plain;
 mod shapes;
-#[cfg(test)]
-mod tests;
 mod views;
 
 pub use faults::MetaFault;

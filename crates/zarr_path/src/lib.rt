@@ -7,8 +7,6 @@ mod indices;
 mod keys;
 mod parts;
 mod paths;
-#[cfg(test)]
-mod tests;
 
 ghost use Rattle.zarr_path.specs.Grammar.{GrammarLaw, ParentNameLaw};
 ghost use Rattle.zarr_path.specs.KeyLaw.{KeyLaw, RoundTripLaw, OneKeyLaw};

@@ -1,0 +1,89 @@
+//! Headers of files, and transaction logs.
+
+use crate::told::{again, digits, fault_told, push_ids};
+use crate::words::NoAnswer;
+use flat_tables::{Kind, WriteFault, header_read, header_write};
+use std::alloc::{AllocError, Global};
+use tree_model::{ArrayChunks, Ids};
+use txn_file::TxnFile;
+
+/// The kind that a file's header names.
+pub fn tell_header(alloc: Global, file: &[u8]) -> Result<String, NoAnswer> {
+    match header_read(file) {
+        Ok(kind) => Ok(format!(in alloc; "{kind:?}")?),
+        Err(fault) => fault_told(alloc, fault),
+    }
+}
+
+/// The header of files of a kind.
+pub fn tell_header_of(alloc: Global, text: &str) -> Result<String, NoAnswer> {
+    let kind = match text {
+        "snapshot" => Kind::Snapshot,
+        "manifest" => Kind::Manifest,
+        "log" => Kind::Log,
+        _ => return Err(NoAnswer::Words),
+    };
+    Ok(digits(alloc, &header_write(kind))?)
+}
+
+/// What is told of a file that was read, and then written again.
+pub fn written_again(
+    alloc: Global,
+    file: &[u8],
+    written: Result<Vec<u8>, WriteFault>,
+) -> Result<String, NoAnswer> {
+    match written {
+        Ok(bytes) => Ok(again(alloc, file, bytes.as_slice())?),
+        Err(fault) => fault_told(alloc, fault),
+    }
+}
+
+/// Appends a list of ids on a line of its own, if there are any.
+fn push_list(told: &mut String, list: &str, ids: &Ids) -> Result<(), AllocError> {
+    if ids.is_empty() {
+        return Ok(());
+    }
+    told.push_str("\n  ")?;
+    push_ids(told, list, ids.as_slice())
+}
+
+/// Appends the chunks of arrays.
+fn push_chunks(told: &mut String, arrays: &[ArrayChunks]) -> Result<(), AllocError> {
+    for array in arrays {
+        write!(told, "\n  updated_chunks {}", array.node)?;
+        for index in array.chunks.as_slice() {
+            write!(told, " {:?}", index.parts())?;
+        }
+    }
+    Ok(())
+}
+
+/// What a transaction log says.
+fn log_told(alloc: Global, log: &TxnFile) -> Result<String, AllocError> {
+    let mut told = format!(in alloc; "log {}", log.id)?;
+    push_list(&mut told, "new_groups", &log.new_groups)?;
+    push_list(&mut told, "new_arrays", &log.new_arrays)?;
+    push_list(&mut told, "deleted_groups", &log.deleted_groups)?;
+    push_list(&mut told, "deleted_arrays", &log.deleted_arrays)?;
+    push_list(&mut told, "updated_arrays", &log.updated_arrays)?;
+    push_list(&mut told, "updated_groups", &log.updated_groups)?;
+    push_chunks(&mut told, log.updated_chunks.as_slice())?;
+    Ok(told)
+}
+
+/// What the file of a transaction log says.
+pub fn tell_log(alloc: Global, file: &[u8]) -> Result<String, NoAnswer> {
+    match txn_file::read(alloc, file) {
+        Ok(log) => Ok(log_told(alloc, &log)?),
+        Err(fault) => fault_told(alloc, fault),
+    }
+}
+
+/// The file of a transaction log, read and written again.
+pub fn tell_log_again(alloc: Global, file: &[u8]) -> Result<String, NoAnswer> {
+    txn_file::laws::ordered_law();
+    match txn_file::read(alloc, file) {
+        Ok(log) => written_again(alloc, file, txn_file::write(alloc, &log)),
+        Err(fault) => fault_told(alloc, fault),
+    }
+}

@@ -1,0 +1,94 @@
+//! The kinds of cases.
+
+use crate::changing::{tell_apply, tell_changes, tell_edit, tell_tree};
+use crate::files::{tell_header, tell_header_of, tell_log, tell_log_again};
+use crate::grids::{tell_grid, tell_in_grid};
+use crate::manifests::{tell_manifest, tell_manifest_again};
+use crate::metas::{tell_json, tell_member, tell_meta, tell_meta_text, tell_number, tell_plain};
+use crate::plain::{
+    tell_plain_initial, tell_plain_log, tell_plain_log_again, tell_plain_ref, tell_plain_snapshot,
+    tell_plain_snapshot_again,
+};
+use crate::refusals::tell_refusal;
+use crate::scripts::tell_script;
+use crate::snapshots::{tell_initial, tell_snapshot, tell_snapshot_again};
+use crate::store_keys::{tell_object, tell_same};
+use crate::texts::{
+    tell_draw, tell_draw_at, tell_id, tell_id_of, tell_indices, tell_key, tell_keys, tell_name,
+    tell_names, tell_node_id, tell_path, tell_paths, tell_ref, tell_ref_of,
+};
+use crate::words::{NoAnswer, text_of};
+use std::alloc::Global;
+
+/// What is told of the bytes of a case of this kind.
+pub fn tell(alloc: Global, kind: &str, bytes: &[u8]) -> Result<String, NoAnswer> {
+    match kind {
+        "id" => tell_id(alloc, bytes),
+        "node_id" => tell_node_id(alloc, bytes),
+        "json" => tell_json(alloc, bytes),
+        "number" => tell_number(alloc, bytes),
+        "member_a" => tell_member(alloc, bytes),
+        "meta" => tell_meta(alloc, bytes),
+        "meta_text" => tell_meta_text(alloc, bytes),
+        "ref" => tell_ref(alloc, bytes),
+        "header" => tell_header(alloc, bytes),
+        _ => tell_file(alloc, kind, bytes),
+    }
+}
+
+/// What is told of a file.
+fn tell_file(alloc: Global, kind: &str, bytes: &[u8]) -> Result<String, NoAnswer> {
+    match kind {
+        "snapshot" => tell_snapshot(alloc, bytes),
+        "snapshot_again" => tell_snapshot_again(alloc, bytes),
+        "manifest" => tell_manifest(alloc, bytes),
+        "manifest_again" => tell_manifest_again(alloc, bytes),
+        "log" => tell_log(alloc, bytes),
+        "log_again" => tell_log_again(alloc, bytes),
+        "plain_snapshot" => tell_plain_snapshot(alloc, bytes),
+        "plain_snapshot_again" => tell_plain_snapshot_again(alloc, bytes),
+        "plain_log" => tell_plain_log(alloc, bytes),
+        "plain_log_again" => tell_plain_log_again(alloc, bytes),
+        "script" => tell_script(alloc, bytes),
+        "plain_ref" => tell_plain_ref(alloc, bytes),
+        _ => tell_text(alloc, kind, text_of(bytes)?),
+    }
+}
+
+/// What is told of a text.
+fn tell_text(alloc: Global, kind: &str, text: &str) -> Result<String, NoAnswer> {
+    match kind {
+        "id_of" => tell_id_of(alloc, text),
+        "draw" => tell_draw(alloc, text),
+        "draw_at" => tell_draw_at(alloc, text),
+        "name" => tell_name(alloc, text),
+        "names" => tell_names(alloc, text),
+        "path" => tell_path(alloc, text),
+        "paths" => tell_paths(alloc, text),
+        "key" => tell_key(alloc, text),
+        "keys" => tell_keys(alloc, text),
+        "indices" => tell_indices(alloc, text),
+        "ref_of" => tell_ref_of(alloc, text),
+        "header_of" => tell_header_of(alloc, text),
+        "initial_snapshot" => tell_initial(alloc),
+        "plain_initial" => tell_plain_initial(alloc),
+        _ => tell_words(alloc, kind, text),
+    }
+}
+
+/// What is told of words.
+fn tell_words(alloc: Global, kind: &str, text: &str) -> Result<String, NoAnswer> {
+    match kind {
+        "plain_meta" => tell_plain(alloc, text),
+        "grid" => tell_grid(alloc, text),
+        "in_grid" => tell_in_grid(alloc, text),
+        "tree" => tell_tree(alloc, text),
+        "edit" => tell_edit(alloc, text),
+        "apply" => tell_apply(alloc, text),
+        "changes" => tell_changes(alloc, text),
+        "object" => tell_object(alloc, text),
+        "refusal" => tell_refusal(alloc, text),
+        "same_object" => tell_same(alloc, text),
+        _ => Err(NoAnswer::Words),
+    }
+}

@@ -1,0 +1,40 @@
+//! The program `ice_show`: it reads cases from standard input, a line each, calls the readers and writers of this
+//! repository on them, and prints each case with the whole answer. README.md has the kinds of cases.
+#![tactic(auto)]
+
+mod answering;
+mod changing;
+mod counted;
+mod files;
+mod grids;
+mod kept;
+mod kinds;
+mod manifests;
+mod metas;
+mod parts;
+mod plain;
+mod refusals;
+mod scripts;
+mod snapshots;
+mod store_keys;
+mod texts;
+mod told;
+mod trees;
+mod words;
+
+use answering::answer;
+use kept::Kept;
+use std::io;
+use std::io::{BufRead, BufReader, Write};
+
+fn main(rt: HostRuntime) -> io::Result<()> {
+    let alloc = rt.alloc();
+    let mut kept = Kept::new(alloc);
+    let input = BufReader::new(alloc, rt.reader())?;
+    for line in input.lines(alloc) {
+        if let Some(answer) = answer(alloc, &mut kept, line?.as_str())? {
+            println!(rt; "{answer}")?;
+        }
+    }
+    Ok(())
+}

@@ -1,0 +1,87 @@
+//! Words of a case.
+
+use std::alloc::{AllocError, AllocFailed, Global};
+
+/// Why a case has no answer.
+#[derive(Clone, Copy, Debug, Drop, PartialEq, Eq)]
+pub enum NoAnswer {
+    /// Its words aren't those of its kind.
+    Words,
+    /// Memory ran out.
+    NoMemory,
+}
+
+impl From<AllocError> for NoAnswer {
+    fn from(_error: AllocError) -> NoAnswer {
+        NoAnswer::NoMemory
+    }
+}
+
+impl<T: Drop> From<AllocFailed<T>> for NoAnswer {
+    fn from(_error: AllocFailed<T>) -> NoAnswer {
+        NoAnswer::NoMemory
+    }
+}
+
+/// The first word of a text, and what stands behind the space after it.
+pub fn first_word(text: &str) -> (&str, &str) {
+    match text.split_once(' ') {
+        Some((word, rest)) => (word, rest),
+        None => (text, ""),
+    }
+}
+
+/// Two words.
+pub fn two_words(text: &str) -> (&str, &str) {
+    let (first, rest) = first_word(text);
+    let (second, _) = first_word(rest);
+    (first, second)
+}
+
+/// The text of some bytes.
+pub fn text_of(bytes: &[u8]) -> Result<&str, NoAnswer> {
+    match str::from_utf8(bytes) {
+        Ok(text) => Ok(text),
+        Err(_) => Err(NoAnswer::Words),
+    }
+}
+
+/// The numbers of a word, with commas between them; `-` is none.
+pub fn numbers_of(alloc: Global, word: &str) -> Result<Vec<u64>, NoAnswer> {
+    let mut numbers = Vec::new(alloc);
+    if word == "-" {
+        return Ok(numbers);
+    }
+    for digits in word.split(',') {
+        match digits.parse::<u64>() {
+            Ok(number) => numbers.push(number)?,
+            Err(_) => return Err(NoAnswer::Words),
+        }
+    }
+    Ok(numbers)
+}
+
+/// The small numbers of a word.
+pub fn indices_of(alloc: Global, word: &str) -> Result<Vec<u32>, NoAnswer> {
+    let mut numbers = Vec::new(alloc);
+    if word == "-" {
+        return Ok(numbers);
+    }
+    for digits in word.split(',') {
+        numbers.push(small_number_of(digits)?)?;
+    }
+    Ok(numbers)
+}
+
+/// A number of 32 bits.
+pub fn small_number_of(word: &str) -> Result<u32, NoAnswer> {
+    match word.parse::<u32>() {
+        Ok(number) => Ok(number),
+        Err(_) => Err(NoAnswer::Words),
+    }
+}
+
+/// The word that tells whether something is so.
+pub fn said(holds: bool) -> &'static str {
+    if holds { "yes" } else { "no" }
+}

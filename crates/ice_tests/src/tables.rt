@@ -1,0 +1,70 @@
+//! Tables in tables, as no file has them.
+
+ghost use Rattle.std.specs.Prelude.{IfOk, IsTrue};
+ghost use Rattle.flat_tables.specs.Trees.{is_writable, is_writable_slot};
+
+use flat_tables::{Flat, Slot, Table, flat_write};
+use std::alloc::{AllocError, Global};
+use std::test::Fail;
+
+/// A table that has a table with the number 7 in one byte, and a vector of two tables: one with the text `a`, and one
+/// whose only slot is absent.
+const NESTED: [u8; 100] = [
+    0x10, 0, 0, 0, 0, 0, 0, 0, 8, 0, 12, 0, 4, 0, 8, 0, 8, 0, 0, 0, 20, 0, 0, 0, 24, 0, 0, 0, 0, 0,
+    0, 0, 0, 0, 6, 0, 5, 0, 4, 0, 6, 0, 0, 0, 7, 0, 0, 0, 2, 0, 0, 0, 20, 0, 0, 0, 40, 0, 0, 0, 0,
+    0, 0, 0, 0, 0, 6, 0, 8, 0, 4, 0, 6, 0, 0, 0, 4, 0, 0, 0, 1, 0, 0, 0, 0x61, 0, 0, 0, 0, 0, 6, 0,
+    4, 0, 0, 0, 6, 0, 0, 0,
+];
+
+/// A table with one field.
+fn one_field(alloc: Global, slot: Slot) -> Result<Flat, AllocError>
+    requires { IsTrue (is_writable_slot slot) }
+    ensures { IfOk result (λ f. IsTrue (is_writable f)) }
+{
+    Ok(Flat {
+        slots: Vec::from_array(alloc, [slot])?,
+    })
+}
+
+/// A vector of two tables.
+#[tactic(auto, using(flat_tables::proofs::Folds::writable_tables_is))]
+fn two_tables(alloc: Global, first: Flat, second: Flat) -> Result<Slot, AllocError>
+    requires first { IsTrue (is_writable first) }
+    requires second { IsTrue (is_writable second) }
+    ensures { IfOk result (λ s. IsTrue (is_writable_slot s)) }
+{
+    Ok(Slot::Tables(Vec::from_array(alloc, [first, second])?))
+}
+
+/// The tables of `NESTED`.
+fn nested(alloc: Global) -> Result<Flat, AllocError>
+    ensures { IfOk result (λ f. IsTrue (is_writable f)) }
+{
+    let number = one_field(alloc, Slot::Scalar { size: 1, value: 7 })?;
+    let text = one_field(alloc, Slot::Text("a".to_string(alloc)?))?;
+    let nothing = one_field(alloc, Slot::Absent)?;
+    let both = two_tables(alloc, text, nothing)?;
+    let slots = Vec::from_array(alloc, [Slot::Table(number), both])?;
+    Ok(Flat { slots })
+}
+
+#[test]
+fn nested_tables_are_written(rt: HostRuntime) -> Result<(), Fail> {
+    let alloc = rt.alloc();
+    let written = flat_write(alloc, &nested(alloc)?)?;
+    assert_eq!(rt; written.as_slice(), NESTED.as_slice());
+    Ok(())
+}
+
+#[test]
+fn nested_tables_are_read(rt: HostRuntime) -> Result<(), Fail> {
+    let root = Table::root(&NESTED)?;
+    let number = root.table(0)?.ok_or("no table")?;
+    assert_eq!(rt; number.scalar(0, 1)?, Some(7));
+    let vector = root.vector(1, 4)?.ok_or("no vector")?;
+    assert_eq!(rt; vector.len(), 2);
+    assert_eq!(rt; vector.item(0), [20, 0, 0, 0].as_slice());
+    assert_eq!(rt; vector.all(), [20, 0, 0, 0, 40, 0, 0, 0].as_slice());
+    assert_eq!(rt; vector.table_at(0)?.text(0)?, Some("a"));
+    Ok(())
+}
