@@ -46,13 +46,10 @@ head_takes (head.Read branch) c.Edit = false
 head_takes (head.Read branch) c.Read = true
 head_takes (head.Read branch) c.Commit = false
 
-abbrev pub is_commit_class : Class → Bool
-is_commit_class c.Edit = false
-is_commit_class c.Read = false
-is_commit_class c.Commit = true
-
 abbrev pub is_commit_call : Call → Bool
-is_commit_call call = is_commit_class (class_of call)
+is_commit_call (call.Edit change) = false
+is_commit_call (call.Read look) = false
+is_commit_call (call.Commit message) = true
 
 abbrev pub is_commit : Option Line → Bool
 is_commit None = false

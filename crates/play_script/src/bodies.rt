@@ -23,7 +23,7 @@ fn is_commit(line: Option<&Line>) -> bool
 {
     match line {
         None => false,
-        Some(line) => line.call.class() == Class::Commit,
+        Some(line) => matches!(&line.call, Call::Commit { .. }),
     }
 }
 

@@ -1,7 +1,5 @@
 //! What a script says.
 
-ghost use Rattle.std.specs.Prelude.{◌≡◌};
-
 use crate::values::TaskName;
 use ice_base::{Bytes, RefName};
 use ice_items::Items;
@@ -50,21 +48,6 @@ pub enum Class {
     Read,
     /// Commits.
     Commit,
-}
-
-impl Call {
-    ghost use Rattle.play_script.specs.Places.{class_of};
-
-    /// The class of this call.
-    pub fn class(&self) -> Class
-        ensures { result ≡ class_of self.now }
-    {
-        match self {
-            Call::Edit(_) => Class::Edit,
-            Call::Read(_) => Class::Read,
-            Call::Commit { .. } => Class::Commit,
-        }
-    }
 }
 
 /// A body line.
