@@ -1,6 +1,7 @@
 -- The order in which workers take turns over one store.
 use Rattle.std.specs.Prelude.{◌≡◌, ◌⊎◌, ℕ, ◌+◌, ◌-◌, Bool, IsTrue, List, [], ◌∷◌, ◌++◌, Some, slice_get, slice_set, replicate, map}
 use Rattle.ice_ids.specs.declared.drawing.Draw.{Draw}
+use Rattle.store_api.specs.declared.events.Op.{Op}
 use Rattle.store_api.specs.declared.events.Reply.{Reply}
 use Rattle.store_api.specs.declared.events.Event.{Event}
 use Rattle.store_api.specs.Journal.{Each}
@@ -34,11 +35,11 @@ pub record WentOn (t : ℕ) (ps : List (Play Outcome)) (events : List Event) (qs
 
 -- there was no memory for the operation that came next for the worker at this place
 pub record FellShort (t : ℕ) (ps : List (Play Outcome)) (events : List Event) (qs : List (Play Outcome)) : Type 0 where
-  pub event : Event
+  pub op : Op
   pub starved : Play Outcome
   pub next : Reply → Play Outcome
   pub q : Play Outcome
-  pub at : slice_get ps t ≡ Some (Ask event.op starved next)
+  pub at : slice_get ps t ≡ Some (Ask op starved next)
   pub nothing : events ≡ []
   pub comes : Comes starved q
   pub rest : qs ≡ slice_set ps t q

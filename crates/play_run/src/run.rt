@@ -11,10 +11,9 @@ ghost use Rattle.play_run.specs.Going.{CanGo, Went};
 
 use crate::workers::{take_outcomes, workers_for};
 use ice_ids::Draw;
-use plain_object::{initial_law, log_law, ref_law, snapshot_law};
 use play_outcome::Outcome;
 use play_script::{Task, Turn};
-use play_tasks::Worker;
+use play_tasks::{Worker, task_law};
 use std::alloc::{AllocError, Global};
 use store_api::Base;
 
@@ -127,10 +126,7 @@ pub fn run_tasks<S: Base>(
     ensures tells { (S.view store.new).caller.tells ≡ (S.view store.old).caller.tells }
     ensures nothing { IfErr result (λ error. S.view store.new ≡ S.view store.old) }
 {
-    snapshot_law();
-    log_law();
-    ref_law();
-    initial_law();
+    task_law();
     let mut outcomes = Vec::with_capacity(alloc, tasks.len())?;
     let mut workers = workers_for(alloc, tasks, draw)?;
     run_workers(&mut workers, turns, store);

@@ -38,6 +38,6 @@ pub fn take_outcomes(workers: Vec<Worker<'_>>, outcomes: &mut Vec<Outcome>)
     ensures { map (λ o. Ended o) outcomes.new.items ≡ map worker_rest workers.entry.items }
 {
     for worker in workers {
-        let _ = outcomes.push(worker.into_outcome());
+        outcomes.push_reserved(worker.into_outcome());
     }
 }
