@@ -8,7 +8,6 @@ ghost use Rattle.repository.specs.Reading.{refs_rest, refs_left, no_length, firs
 
 use ice_base::RefName;
 use ice_ids::Id12;
-use ice_items::Items;
 use plain_object::ref_read;
 use play_outcome::{RefLine, RefLines};
 use std::alloc::{AllocError, Global};
@@ -39,7 +38,7 @@ pub enum Reading {
 #[derive(Drop)]
 pub struct ReadRefs {
     alloc: Global,
-    lines: Items<RefLine>,
+    lines: RefLines,
     state: Reading,
 }
 
@@ -102,7 +101,7 @@ impl ReadRefs {
     {
         ReadRefs {
             alloc,
-            lines: Items::new(alloc),
+            lines: RefLines::new(alloc),
             state: Reading::Branches,
         }
     }
@@ -146,8 +145,7 @@ impl ReadRefs {
             self.state = Reading::Tag { entries, place };
             return Next::Again;
         }
-        let lines = mem::replace(&mut self.lines, Items::new(self.alloc));
-        Next::Ready(RefLines::from_vec(lines.into_vec()))
+        Next::Ready(mem::replace(&mut self.lines, RefLines::new(self.alloc)))
     }
 }
 
@@ -187,7 +185,7 @@ fn is_tombstone(key: &Key, name: &RefName) -> bool
 }
 
 /// Puts the line of a ref that was got behind the lines. One that is gone by now is passed over.
-fn add_ref(alloc: Global, lines: &mut Items<RefLine>, key: &Key, got: Got) -> Result<(), Refusal>
+fn add_ref(alloc: Global, lines: &mut RefLines, key: &Key, got: Got) -> Result<(), Refusal>
     ensures adds { AddsLine (on_got key.now (Reply.Got got)) lines.old lines.new result }
     ensures faultless { IfErr result (λ refusal. is_fault refusal ≡ false) }
     ensures listed { IfErr result MayRefuseRefs }
