@@ -11,7 +11,7 @@ use Rattle.mem_store.specs.declared.mem.MemStore.{MemStore}
 
 -- a client that is told the journal and beside which there is no other
 abbrev pub sole : ℕ → Caller
-sole client = record { tells = true; number = client; low = 0; end = None }
+sole client = record { tells = true; number = client; low = 0; end = None; home = [] }
 
 abbrev pub journal_of : {C : Type 0} → MemStore C → List Event
 journal_of s = s.journal.items

@@ -155,10 +155,12 @@ impl<C: Clock> Store for FaultStore<C> {
 }
 
 impl<C: Clock> Base for FaultStore<C> {
-    ghost use Rattle.std.specs.Prelude.{◌≡◌, refl};
+    ghost use Rattle.std.specs.Prelude.{◌≡◌, refl, true};
     ghost use Rattle.store_api.specs.Callers.{as_client};
     ghost use Rattle.mem_store.specs.Memory.{clock_of};
     ghost use Rattle.mem_store.specs.Failing.{faulty_view, plan_of, inner_of, since_making};
+
+    ghost tells = { true };
 
     fn set_client(&mut self, client: u32)
         ensures view { faulty_view self.new ≡ as_client client (faulty_view self.old) }
@@ -168,6 +170,8 @@ impl<C: Clock> Base for FaultStore<C> {
     {
         self.inner.set_client(client);
     }
+
+    ghost told = { λ s. refl };
 
     ghost alone = { λ s. record { low = refl; end = refl } };
 }

@@ -1,6 +1,6 @@
 //! The store in memory.
 
-ghost use Rattle.std.specs.Prelude.{◌≡◌, ◌<◌, ◌++◌, [], ◌∷◌, refl, length, option_map, IfOk, IfErr, vec_len, vec_capacity};
+ghost use Rattle.std.specs.Prelude.{◌≡◌, ◌<◌, ◌++◌, [], ◌∷◌, refl, true, length, option_map, IfOk, IfErr, vec_len, vec_capacity};
 ghost use Rattle.store_api.specs.Machine.{found, last_time};
 ghost use Rattle.store_api.specs.Callers.{Called, own_event, as_client};
 ghost use Rattle.mem_store.specs.Held.{copy_of};
@@ -204,12 +204,16 @@ impl<C: Clock> Store for MemStore<C> {
 }
 
 impl<C: Clock> Base for MemStore<C> {
+    ghost tells = { true };
+
     fn set_client(&mut self, client: u32)
         ensures view { view_of self.new ≡ as_client client (view_of self.old) }
         ensures clock { clock_of self.new ≡ clock_of self.old }
     {
         self.client = client;
     }
+
+    ghost told = { λ s. refl };
 
     ghost alone = { λ s. record { low = refl; end = refl } };
 }
