@@ -7,18 +7,18 @@ use Rattle.ice_ids.specs.Text.{IsId12}
 use Rattle.tree_model.specs.Touched.{touched}
 use Rattle.plain_object.specs.Objects.{snapshot_bytes, log_bytes, ref_bytes}
 use Rattle.store_api.specs.declared.keys.Key.{Key}
-use Rattle.store_api.specs.declared.keys.Key.TheVariants.{Snapshot, Manifest, Txn, Chunk, Branch, Tag, TagGone}
+use Rattle.store_api.specs.declared.keys.Key.TheVariants.{Snapshot, Txn, Branch}
 use Rattle.store_api.specs.declared.keys.Part.{Part}
 use Rattle.store_api.specs.declared.keys.Why.{Why}
 use Rattle.store_api.specs.declared.keys.Why.TheVariants.{Set, Commit}
 use Rattle.store_api.specs.declared.events.Version.{Version}
 use Rattle.store_api.specs.declared.events.Op.{Op}
-use Rattle.store_api.specs.declared.events.Op.TheVariants.{Get, PutNew, PutOver, Remove, RemoveAt, List as ListPart}
+use Rattle.store_api.specs.declared.events.Op.TheVariants.{Get, PutNew, PutOver, List as ListPart}
 use Rattle.store_api.specs.declared.events.New.TheVariants.{Done as New_done, Present}
 use Rattle.store_api.specs.declared.events.Over.{Over}
 use Rattle.store_api.specs.declared.events.Over.TheVariants.{Done as Over_done, Moved}
 use Rattle.store_api.specs.declared.events.Reply.{Reply}
-use Rattle.store_api.specs.declared.events.Reply.TheVariants.{Got as Is_got, New as Is_new, Over as Is_over, Gone as Is_gone, GoneAt as Is_gone_at, Listed as Is_listed, Failed}
+use Rattle.store_api.specs.declared.events.Reply.TheVariants.{New as Is_new, Over as Is_over, Failed}
 use Rattle.store_api.specs.declared.events.Event.{Event}
 use Rattle.store_api.specs.declared.machines.Refusal.{Refusal}
 use Rattle.store_api.specs.declared.machines.Refusal.TheVariants as R
@@ -34,7 +34,7 @@ use Rattle.session.specs.Sessions.{SessionState}
 use Rattle.commit_path.specs.declared.commit.Committed.{Committed}
 use Rattle.commit_path.specs.Committing.{commit_program, after_log, after_snapshot, after_branch, snap_for}
 use Rattle.commit_path.specs.Owed.{Sessions, IsMade, OwesNew, Owes}
-use Rattle.commit_path.specs.Answered.{HasOwn, LeavesBranches, ChangedNothing, ChangedOnce, StandsAt, commits_over, HasMessage, TookEffect, IsLater, WasMoved, WasTaken, WasFailed, CommitTells}
+use Rattle.commit_path.specs.Answered.{HasOwn, LeavesBranches, ChangedNothing, ChangedOnce, StandsAt, commits_over, HasMessage, TookEffect, IsLater, WasMoved, WasTaken, WasFailed, IsOfCommit, CommitTells}
 use Rattle.commit_path.proofs.Telling.{put-did, put-time, makes-keeps}
 use Rattle.commit_path.specs.Opened.{IsOpened}
 use Rattle.commit_path.specs.Spelled.{IsSpelled}
@@ -114,19 +114,14 @@ list-leaves by part reply time journal branch =
 new-leaves : (mine : Sessions) (by : Caller) (key : Key) (bytes : List ℕ) (why : Why) (reply : Reply) (time : ℕ) (before journal : List Event) → OwesNew mine before bytes key → (branch : List ℕ) → found (journal ++ own_event by (PutNew key bytes why) reply time ∷ []) (Branch branch) ≡ found journal (Branch branch)
 new-leaves mine by (Snapshot id) bytes why reply time before journal o = snapshot-leaves by id bytes why reply time journal
 new-leaves mine by (Txn id) bytes why reply time before journal o = log-leaves by id bytes why reply time journal
-new-leaves mine by (Manifest id) bytes why reply time before journal o = absurd o
-new-leaves mine by (Chunk id) bytes why reply time before journal o = absurd o
-new-leaves mine by (Branch name) bytes why reply time before journal o = absurd o
-new-leaves mine by (Tag name) bytes why reply time before journal o = absurd o
-new-leaves mine by (TagGone name) bytes why reply time before journal o = absurd o
+new-leaves mine by _ bytes why reply time before journal o = absurd o
 
 owed-leaves : (mine : Sessions) (by : Caller) (op : Op) (reply : Reply) (time : ℕ) (before journal : List Event) → Owes mine before op → is_over op ≡ false → (branch : List ℕ) → found (journal ++ own_event by op reply time ∷ []) (Branch branch) ≡ found journal (Branch branch)
 owed-leaves mine by (Get key) reply time before journal o off = get-leaves by key reply time journal
 owed-leaves mine by (ListPart part) reply time before journal o off = list-leaves by part reply time journal
 owed-leaves mine by (PutNew key bytes why) reply time before journal o off = new-leaves mine by key bytes why reply time before journal o
 owed-leaves mine by (PutOver key bytes old why) reply time before journal o off = absurd cc
-owed-leaves mine by (Remove key why) reply time before journal o off = absurd o
-owed-leaves mine by (RemoveAt key old why) reply time before journal o off = absurd o
+owed-leaves mine by _ reply time before journal o off = absurd o
 
 -- what a client owes that is no put over leaves the branches
 pub ChangedNothing-owed : (mine : Sessions) (by : Caller) (start : List Event) (op : Op) (reply : Reply) (old new : List Event) → Owes mine old op → is_over op ≡ false → Makes by op reply old new → ChangedNothing by.number start old → ChangedNothing by.number start new
@@ -236,8 +231,8 @@ changed-once by start op reply old new n c = record {
   later = subst (λ (h : List Event). ChangedNothing by.number h new) n.is (ChangedNothing-none by.number new);
 }
 
-pub failed-made : (by : Caller) (start : List Event) (op : Op) (done : Bool) (old new : List Event) → Makes by op (Failed done) old new → ChangedNothing by.number start old → WasFailed by.number start new
-failed-made by start op done old new n c = record { op = op; done = done; own = own-made by start op (Failed done) old new n c; once = changed-once by start op (Failed done) old new n c }
+pub failed-made : (by : Caller) (kind : Op → Type 0) (start : List Event) (op : Op) (done : Bool) (old new : List Event) → kind op → Makes by op (Failed done) old new → ChangedNothing by.number start old → WasFailed by.number kind start new
+failed-made by kind start op done old new k n c = record { op = op; of_kind = k; done = done; own = own-made by start op (Failed done) old new n c; once = changed-once by start op (Failed done) old new n c }
 
 -- ---- a commit
 module _ (L : Spellings) (by : Caller) (s : SessionState) (message : List ℕ) (id : Id12) (is_id : IsId12 id) (w : IsSpelled s) (m : All (λ b. b < 256) message) (start : List Event) where
@@ -283,12 +278,8 @@ module _ (L : Spellings) (by : Caller) (s : SessionState) (message : List ℕ) (
   unfolding Leads
   branch-told flushed (Is_over (Over_done v now)) old new o l p c n = (refl, done-told flushed v now old new o l p c n)
   branch-told flushed (Is_over (Moved there now)) old new o l p c n = moved-told there now old new o c n
-  branch-told flushed (Is_new x) old new o l p c n = let e = n.answered.answered in absurd (cc)
-  branch-told flushed (Is_got x) old new o l p c n = let e = n.answered.answered in absurd (cc)
-  branch-told flushed (Is_gone x) old new o l p c n = let e = n.answered.answered in absurd (cc)
-  branch-told flushed (Is_gone_at x) old new o l p c n = let e = n.answered.answered in absurd (cc)
-  branch-told flushed (Is_listed x) old new o l p c n = let e = n.answered.answered in absurd (cc)
-  branch-told flushed (Failed d) old new o l p c n = failed-made by start over_put d old new n c
+  branch-told flushed (Failed d) old new o l p c n = failed-made by (IsOfCommit s id) start over_put d old new (ref_bytes id, inr (inr (refl, L.reference.written id is_id))) n c
+  branch-told flushed _ old new o l p c n = let e = n.answered.answered in absurd (cc)
 
   snapshot-taken : (flushed : ℕ) (version : Version) (now : ℕ) (old new : List Event) → ChangedNothing by.number start old → Makes by (PutNew (Snapshot id) (snapshot_bytes (snap_for s message flushed)) Set) (Is_new (Present version now)) old new → WasTaken by.number id (Snapshot id) start new
   snapshot-taken flushed version now old new c n =
@@ -330,12 +321,8 @@ module _ (L : Spellings) (by : Caller) (s : SessionState) (message : List ℕ) (
       let c' = ChangedNothing-makes by start op (Is_new (New_done v now)) old new n (snapshot-leaves by id (snapshot_bytes (snap_for s message flushed)) Set (Is_new (New_done v now)) n.time n.middle) c in
       λ reply next k. branch-told flushed reply new next o' l' (snap-snapped L s message flushed id new w f m d) c' k
   snapshot-told flushed f (Is_new (Present v now)) old new o l c n = snapshot-taken flushed v now old new c n
-  snapshot-told flushed f (Is_over x) old new o l c n = let e = n.answered.answered in absurd (cc)
-  snapshot-told flushed f (Is_got x) old new o l c n = let e = n.answered.answered in absurd (cc)
-  snapshot-told flushed f (Is_gone x) old new o l c n = let e = n.answered.answered in absurd (cc)
-  snapshot-told flushed f (Is_gone_at x) old new o l c n = let e = n.answered.answered in absurd (cc)
-  snapshot-told flushed f (Is_listed x) old new o l c n = let e = n.answered.answered in absurd (cc)
-  snapshot-told flushed f (Failed d) old new o l c n = failed-made by start (PutNew (Snapshot id) (snapshot_bytes (snap_for s message flushed)) Set) d old new n c
+  snapshot-told flushed f (Failed d) old new o l c n = failed-made by (IsOfCommit s id) start (PutNew (Snapshot id) (snapshot_bytes (snap_for s message flushed)) Set) d old new (snapshot_bytes (snap_for s message flushed), inr (inl refl)) n c
+  snapshot-told flushed f _ old new o l c n = let e = n.answered.answered in absurd (cc)
 
   log-told : (reply : Reply) (old new : List Event) → IsOpened s old → ChangedNothing by.number start old → Makes by (PutNew (Txn id) (log_bytes (touched s.changes s.tree)) Set) reply old new → Leads Told by (after_log s message id reply) new
   unfolding Leads
@@ -347,12 +334,8 @@ module _ (L : Spellings) (by : Caller) (s : SessionState) (message : List ℕ) (
       let c' = ChangedNothing-makes by start op (Is_new (New_done v now)) old new n (log-leaves by id (log_bytes (touched s.changes s.tree)) Set (Is_new (New_done v now)) n.time n.middle) c in
       λ reply next k. snapshot-told now f reply new next o' l c' k
   log-told (Is_new (Present v now)) old new o c n = log-taken v now old new c n
-  log-told (Is_over x) old new o c n = let e = n.answered.answered in absurd (cc)
-  log-told (Is_got x) old new o c n = let e = n.answered.answered in absurd (cc)
-  log-told (Is_gone x) old new o c n = let e = n.answered.answered in absurd (cc)
-  log-told (Is_gone_at x) old new o c n = let e = n.answered.answered in absurd (cc)
-  log-told (Is_listed x) old new o c n = let e = n.answered.answered in absurd (cc)
-  log-told (Failed d) old new o c n = failed-made by start (PutNew (Txn id) (log_bytes (touched s.changes s.tree)) Set) d old new n c
+  log-told (Failed d) old new o c n = failed-made by (IsOfCommit s id) start (PutNew (Txn id) (log_bytes (touched s.changes s.tree)) Set) d old new (log_bytes (touched s.changes s.tree), inl refl) n c
+  log-told _ old new o c n = let e = n.answered.answered in absurd (cc)
 
   -- Whatever others do, the answer of a commit tells the journal so.
   pub commit-told : (journal : List Event) → IsOpened s journal → ChangedNothing by.number start journal → Leads Told by (commit_program s message id) journal
@@ -377,8 +360,8 @@ module _ (by : Caller) (start journal more : List Event) (others : Each (IsOther
   once-others : (before : List Event) (event : Event) → ChangedOnce by.number start before event journal → ChangedOnce by.number start before event (journal ++ more)
   once-others before event c = record { earlier = c.earlier; later = ChangedNothing-others by (before ++ event ∷ []) journal more others c.later }
 
-  pub failed-others : WasFailed by.number start journal → WasFailed by.number start (journal ++ more)
-  failed-others f = record { op = f.op; done = f.done; own = HasOwn-append by.number f.op (Failed f.done) start journal more f.own; once = once-others f.own.before f.own.event f.once }
+  pub failed-others : (kind : Op → Type 0) → WasFailed by.number kind start journal → WasFailed by.number kind start (journal ++ more)
+  failed-others kind f = record { op = f.op; of_kind = f.of_kind; done = f.done; own = HasOwn-append by.number f.op (Failed f.done) start journal more f.own; once = once-others f.own.before f.own.event f.once }
 
   effect-others : (s : SessionState) (message : List ℕ) (made : Committed) → TookEffect by.number s message made start journal → TookEffect by.number s message made start (journal ++ more)
   effect-others s message made t = record {
@@ -419,15 +402,6 @@ module _ (by : Caller) (start journal more : List Event) (others : Each (IsOther
   CommitTells-others s message id (Ok made) t = (t.0, effect-others s message made t.1)
   CommitTells-others s message id (Err (R.Conflict old there)) t = moved-others s id old there t
   CommitTells-others s message id (Err (R.IdTaken key)) t = taken-others id key t
-  CommitTells-others s message id (Err R.StoreFault) t = failed-others t
+  CommitTells-others s message id (Err R.StoreFault) t = failed-others (IsOfCommit s id) t
   CommitTells-others s message id (Err R.NoMemory) t = ChangedNothing-others by start journal more others t
-  CommitTells-others s message id (Err R.NoRef) t = absurd t
-  CommitTells-others s message id (Err R.NoNode) t = absurd t
-  CommitTells-others s message id (Err R.NodeExists) t = absurd t
-  CommitTells-others s message id (Err R.NoParent) t = absurd t
-  CommitTells-others s message id (Err R.ReadOnly) t = absurd t
-  CommitTells-others s message id (Err R.Full) t = absurd t
-  CommitTells-others s message id (Err (R.Missing key)) t = absurd t
-  CommitTells-others s message id (Err (R.BadFile key bad)) t = absurd t
-  CommitTells-others s message id (Err R.IdsSpent) t = absurd t
-  CommitTells-others s message id (Err R.NothingToCommit) t = absurd t
+  CommitTells-others s message id (Err _) t = absurd t

@@ -18,6 +18,7 @@ use Rattle.commit_path.specs.Laws.{OpeningLaw, SessionLaw, CommitLaw, AnswersLaw
 use Rattle.commit_path.proofs.Owing.{Spellings, IsOpened-append, commit-careful}
 use Rattle.commit_path.proofs.Opened.{Opens, open-careful, open-leads, group-added, group-opened, group-spelled, start-started, started-opened, started-spelled}
 use Rattle.commit_path.proofs.Answering.{ChangedNothing-others, CommitTells-others, commit-told}
+use Rattle.commit_path.proofs.Staying.{open-stays, commit-stays}
 use Rattle.commit_path.proofs.Reading.{GetsTell, Leads-both, WasBegun-append, RefusalTells-others, open-told}
 
 opened-both : (by : Caller) (a : Asked) (start : List Event) (answer : Result SessionState Refusal) (h : List Event) → GetsTell by.number a start answer h × Opens a answer h → OpeningTells by.number a start answer h × IfOk answer IsSpelled
@@ -31,7 +32,7 @@ opening-told L by a start journal c =
     (Leads-both (GetsTell by.number a start) (Opens a) by (open_program a) journal (open-told by a start journal c) (open-leads L by a journal))
 
 pub opening-law : Spellings → OpeningLaw
-opening-law L by a start journal c = (open-careful by (λ t id. ⊥) a journal, opening-told L by a start journal c)
+opening-law L by a start journal c = (open-careful by (λ t id. ⊥) a journal, open-stays by start a journal c, opening-told L by a start journal c)
 
 pub session-law : SessionLaw
 session-law = record {
@@ -48,7 +49,7 @@ commit-law L by s t message id start journal e m w o c =
     let is_id = drawn12-IsId12 s.ids id a.drawn in
     let w' = started-spelled s t id a w in
     let o' = started-opened s t id journal a o in
-    (commit-careful L by mine t message id (refl, refl) is_id w' m journal o', commit-told L by t message id is_id w' m start journal o' c)
+    (commit-careful L by mine t message id (refl, refl) is_id w' m journal o', commit-stays by start t message id journal c, commit-told L by t message id is_id w' m start journal o' c)
 
 OpeningTells-others : (by : Caller) (a : Asked) (answer : Result SessionState Refusal) (start journal more : List Event) → Each (IsOther by) journal more → OpeningTells by.number a start answer journal → OpeningTells by.number a start answer (journal ++ more)
 OpeningTells-others by a (Ok s) start journal more others t = (WasBegun-append by.number a s start journal more t.0, IsOpened-append s journal more (good-waits by journal more others) t.1, ChangedNothing-others by start journal more others t.2)

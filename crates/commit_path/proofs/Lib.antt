@@ -1,8 +1,8 @@
 pub mod Rows
 pub mod Telling
 pub mod Owing
-pub mod Steps
 pub mod Opened
 pub mod Answering
 pub mod Reading
+pub mod Staying
 pub mod Lawful

@@ -16,7 +16,7 @@ use Rattle.store_api.specs.declared.keys.Key.TheVariants.{Snapshot, Branch}
 use Rattle.store_api.specs.declared.events.Op.TheVariants.{Get}
 use Rattle.store_api.specs.declared.events.Got.TheVariants.{Found, Absent}
 use Rattle.store_api.specs.declared.events.Reply.{Reply}
-use Rattle.store_api.specs.declared.events.Reply.TheVariants.{Got as Is_got, New as Is_new, Over as Is_over, Gone as Is_gone, GoneAt as Is_gone_at, Listed as Is_listed, Failed}
+use Rattle.store_api.specs.declared.events.Reply.TheVariants.{Got as Is_got}
 use Rattle.store_api.specs.declared.events.Event.{Event}
 use Rattle.store_api.specs.declared.machines.Refusal.{Refusal}
 use Rattle.store_api.specs.Journal.{Each, StoodAt, tree_in, IsGood}
@@ -42,12 +42,7 @@ module _ (by : Caller) (mine : Sessions) where
   unfolding Keeps
   base-careful a base version (Is_got (Found bytes put now)) journal = tt
   base-careful a base version (Is_got (Absent now)) journal = tt
-  base-careful a base version (Is_new n) journal = tt
-  base-careful a base version (Is_over n) journal = tt
-  base-careful a base version (Is_gone g) journal = tt
-  base-careful a base version (Is_gone_at g) journal = tt
-  base-careful a base version (Is_listed g) journal = tt
-  base-careful a base version (Failed d) journal = tt
+  base-careful a base version _ journal = tt
 
   name-careful : (a : Asked) (version : ℕ) (named : Option Id12) (journal : List Event) → Keeps (IsCareful mine) by (after_name a version named) journal
   unfolding Keeps
@@ -58,12 +53,7 @@ module _ (by : Caller) (mine : Sessions) where
   unfolding Keeps
   ref-careful a (Is_got (Found bytes version now)) journal = name-careful a version.0 (ref_of bytes) journal
   ref-careful a (Is_got (Absent now)) journal = tt
-  ref-careful a (Is_new n) journal = tt
-  ref-careful a (Is_over n) journal = tt
-  ref-careful a (Is_gone g) journal = tt
-  ref-careful a (Is_gone_at g) journal = tt
-  ref-careful a (Is_listed g) journal = tt
-  ref-careful a (Failed d) journal = tt
+  ref-careful a _ journal = tt
 
   -- whatever others do, each operation of an opening is polite, and owes nothing
   pub open-careful : (a : Asked) (journal : List Event) → Keeps (IsCareful mine) by (open_program a) journal
@@ -123,12 +113,7 @@ module _ (L : Spellings) (by : Caller) where
       kept : (a : Asked) (version : ℕ) (base : Id12) (journal more : List Event) → Each IsGood journal more → Named a version base journal → Named a version base (journal ++ more)
       kept a version base journal more g n = record { named_by = n.named_by; named = StoodAt-append journal more (Branch a.branch) version n.named_by n.named; names = n.names }
   base-leads a base version (Is_got (Absent now)) old new i n m = tt
-  base-leads a base version (Is_new x) old new i n m = tt
-  base-leads a base version (Is_over x) old new i n m = tt
-  base-leads a base version (Is_gone x) old new i n m = tt
-  base-leads a base version (Is_gone_at x) old new i n m = tt
-  base-leads a base version (Is_listed x) old new i n m = tt
-  base-leads a base version (Failed d) old new i n m = tt
+  base-leads a base version _ old new i n m = tt
 
   name-leads : (a : Asked) (version : ℕ) (bytes : List ℕ) (journal : List Event) (o : Option Id12) → ref_of bytes ≡ o → StoodAt journal (Branch a.branch) version bytes → Leads (Opens a) by (after_name a version o) journal
   unfolding Leads
@@ -139,12 +124,7 @@ module _ (L : Spellings) (by : Caller) where
   unfolding Leads
   ref-leads a (Is_got (Found bytes version now)) old new m = name-leads a version.0 bytes new (ref_of bytes) refl (get-had by (Branch a.branch) bytes version now old new m).stood
   ref-leads a (Is_got (Absent now)) old new m = tt
-  ref-leads a (Is_new n) old new m = tt
-  ref-leads a (Is_over n) old new m = tt
-  ref-leads a (Is_gone g) old new m = tt
-  ref-leads a (Is_gone_at g) old new m = tt
-  ref-leads a (Is_listed g) old new m = tt
-  ref-leads a (Failed d) old new m = tt
+  ref-leads a _ old new m = tt
 
   -- an opening ends with a session that is ready, or is refused
   pub open-leads : (a : Asked) (journal : List Event) → Leads (Opens a) by (open_program a) journal

@@ -10,14 +10,14 @@ use Rattle.tree_model.proofs.Differing.{differs-law}
 use Rattle.ice_ids.specs.Text.{initial_id}
 use Rattle.plain_object.specs.Objects.{Snapshot as Snap, IsWritable, initial_bytes, initial_snapshot, snapshot_of, snapshot_bytes, log_of, log_bytes, ref_bytes}
 use Rattle.plain_object.specs.Laws.{SnapshotLaw, LogLaw, RefLaw, InitialLaw}
-use Rattle.store_api.specs.declared.keys.Key.TheVariants.{Snapshot, Manifest, Txn, Chunk, Branch, Tag, TagGone}
+use Rattle.store_api.specs.declared.keys.Key.TheVariants.{Snapshot, Txn, Branch}
 use Rattle.store_api.specs.declared.keys.Why.TheVariants.{Set, Commit}
 use Rattle.store_api.specs.declared.events.Op.{Op}
-use Rattle.store_api.specs.declared.events.Op.TheVariants.{Get, PutNew, PutOver, Remove, RemoveAt, List as ListPart}
+use Rattle.store_api.specs.declared.events.Op.TheVariants.{Get, PutNew, PutOver, List as ListPart}
 use Rattle.store_api.specs.declared.events.New.TheVariants.{Done as New_done, Present}
 use Rattle.store_api.specs.declared.events.Over.TheVariants.{Done as Over_done, Moved as Over_moved}
 use Rattle.store_api.specs.declared.events.Reply.{Reply}
-use Rattle.store_api.specs.declared.events.Reply.TheVariants.{Got as Is_got, New as Is_new, Over as Is_over, Gone as Is_gone, GoneAt as Is_gone_at, Listed as Is_listed, Failed}
+use Rattle.store_api.specs.declared.events.Reply.TheVariants.{New as Is_new, Over as Is_over}
 use Rattle.store_api.specs.declared.events.Event.{Event}
 use Rattle.store_api.specs.Machine.{version_at}
 use Rattle.store_api.specs.Journal.{Each, WasPut, tree_of, tree_in, snap_in, snap_made, log_made, IsFirst, IsOnce, ParentPut, IsPolite, IsGood}
@@ -152,12 +152,7 @@ module _ (L : Spellings) where
     unfolding Keeps
     after_branch-careful (Is_over (Over_done v n)) journal = tt
     after_branch-careful (Is_over (Over_moved f n)) journal = tt
-    after_branch-careful (Is_new n) journal = tt
-    after_branch-careful (Is_got g) journal = tt
-    after_branch-careful (Is_gone g) journal = tt
-    after_branch-careful (Is_gone_at g) journal = tt
-    after_branch-careful (Is_listed g) journal = tt
-    after_branch-careful (Failed d) journal = tt
+    after_branch-careful _ journal = tt
 
     abbrev pub snap_put : ℕ → Op
     snap_put flushed = PutNew (Snapshot id) (snapshot_bytes (snap_for s message flushed)) Set
@@ -190,12 +185,7 @@ module _ (L : Spellings) where
         let d = put-did by (Snapshot id) (snapshot_bytes (snap_for s message flushed)) Set v now old new (λ j first free. first.other (not-initial s message flushed id w f m first.initial) free) n in
         (over-careful flushed new o' l' (snap-snapped s message flushed id new w f m d), λ reply next k. after_branch-careful reply next)
     after_snapshot-careful flushed f (Is_new (Present v now)) old new o l n = tt
-    after_snapshot-careful flushed f (Is_over x) old new o l n = tt
-    after_snapshot-careful flushed f (Is_got x) old new o l n = tt
-    after_snapshot-careful flushed f (Is_gone x) old new o l n = tt
-    after_snapshot-careful flushed f (Is_gone_at x) old new o l n = tt
-    after_snapshot-careful flushed f (Is_listed x) old new o l n = tt
-    after_snapshot-careful flushed f (Failed d) old new o l n = tt
+    after_snapshot-careful flushed f _ old new o l n = tt
 
     after_log-careful : (reply : Reply) (old new : List Event) → IsOpened s old → Makes by log_put reply old new → Keeps (IsCareful mine) by (after_log s message id reply) new
     unfolding Keeps
@@ -205,12 +195,7 @@ module _ (L : Spellings) where
         let f = put-time by (Txn id) (log_bytes (touched s.changes s.tree)) Set v now old new n in
         (record { polite = snap-polite now new f o' l; owes = snap-owed now new f o' l }, λ reply next k. after_snapshot-careful now f reply new next o' l k)
     after_log-careful (Is_new (Present v now)) old new o n = tt
-    after_log-careful (Is_over x) old new o n = tt
-    after_log-careful (Is_got x) old new o n = tt
-    after_log-careful (Is_gone x) old new o n = tt
-    after_log-careful (Is_gone_at x) old new o n = tt
-    after_log-careful (Is_listed x) old new o n = tt
-    after_log-careful (Failed d) old new o n = tt
+    after_log-careful _ old new o n = tt
 
     -- Whatever others do, each operation of a commit is polite, and what its client owes.
     pub commit-careful : (journal : List Event) → IsOpened s journal → Keeps (IsCareful mine) by (commit_program s message id) journal
@@ -246,12 +231,7 @@ owes-stable : (mine : Sessions) (journal more : List Event) (op : Op) → Each I
 owes-stable mine journal more (Get key) g o = tt
 owes-stable mine journal more (ListPart part) g o = tt
 owes-stable mine journal more (PutNew (Snapshot id) bytes why) g o = snap-stable mine journal more id bytes g o
-owes-stable mine journal more (PutNew (Txn id) bytes why) g o = o
-owes-stable mine journal more (PutNew (Manifest id) bytes why) g o = o
-owes-stable mine journal more (PutNew (Chunk id) bytes why) g o = o
-owes-stable mine journal more (PutNew (Branch name) bytes why) g o = o
-owes-stable mine journal more (PutNew (Tag name) bytes why) g o = o
-owes-stable mine journal more (PutNew (TagGone name) bytes why) g o = o
+owes-stable mine journal more (PutNew _ bytes why) g o = o
 owes-stable mine journal more (PutOver (Branch name) bytes old why) g o = record {
   session = o.session;
   id = o.id;
@@ -262,14 +242,8 @@ owes-stable mine journal more (PutOver (Branch name) bytes old why) g o = record
   why_is = o.why_is;
   made = λ once. made-stable o.session o.id journal more (once-front journal more once) g (once-back journal more once) (o.made (once-front journal more once));
 }
-owes-stable mine journal more (PutOver (Snapshot id) bytes old why) g o = o
-owes-stable mine journal more (PutOver (Txn id) bytes old why) g o = o
-owes-stable mine journal more (PutOver (Manifest id) bytes old why) g o = o
-owes-stable mine journal more (PutOver (Chunk id) bytes old why) g o = o
-owes-stable mine journal more (PutOver (Tag name) bytes old why) g o = o
-owes-stable mine journal more (PutOver (TagGone name) bytes old why) g o = o
-owes-stable mine journal more (Remove key why) g o = o
-owes-stable mine journal more (RemoveAt key old why) g o = o
+owes-stable mine journal more (PutOver _ bytes old why) g o = o
+owes-stable mine journal more _ g o = o
 
 -- what is careful stays careful, whatever good events others make
 pub IsCareful-append : (mine : Sessions) (journal more : List Event) (client : ℕ) (op : Op) → Each IsGood journal more → IsCareful mine journal client op → IsCareful mine (journal ++ more) client op

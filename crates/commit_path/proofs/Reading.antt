@@ -9,7 +9,7 @@ use Rattle.store_api.specs.declared.events.Version.{Version}
 use Rattle.store_api.specs.declared.events.Op.TheVariants.{Get}
 use Rattle.store_api.specs.declared.events.Got.TheVariants.{Found, Absent}
 use Rattle.store_api.specs.declared.events.Reply.{Reply}
-use Rattle.store_api.specs.declared.events.Reply.TheVariants.{Got as Is_got, New as Is_new, Over as Is_over, Gone as Is_gone, GoneAt as Is_gone_at, Listed as Is_listed, Failed}
+use Rattle.store_api.specs.declared.events.Reply.TheVariants.{Got as Is_got, Failed}
 use Rattle.store_api.specs.declared.events.Event.{Event}
 use Rattle.store_api.specs.declared.machines.Refusal.{Refusal}
 use Rattle.store_api.specs.declared.machines.Refusal.TheVariants as R
@@ -20,7 +20,7 @@ use Rattle.store_api.specs.Program.{Prog, Done, Ask, Leads}
 use Rattle.session.specs.Sessions.{SessionState}
 use Rattle.session.specs.Opening.{Asked, open_program, after_ref, after_name, after_base, read_base}
 use Rattle.commit_path.specs.Answered.{ChangedNothing}
-use Rattle.commit_path.specs.Opened.{WasGot, WasAbsent, WasNamed, WasBegun, WasMissing, WasNoReference, WasNoSnapshot, RefusalTells}
+use Rattle.commit_path.specs.Opened.{WasGot, WasAbsent, WasNamed, WasBegun, WasMissing, WasNoReference, WasNoSnapshot, IsOfOpening, RefusalTells}
 use Rattle.commit_path.proofs.Answering.{own-made, get-leaves, ChangedNothing-makes, ChangedNothing-others, HasOwn-append, failed-made, failed-others}
 
 -- two facts of each answer
@@ -71,17 +71,9 @@ module _ (by : Caller) (a : Asked) (start journal more : List Event) (others : E
   RefusalTells-others R.NoRef t = (WasAbsent-append by.number (Branch a.branch) start journal more t.0, ChangedNothing-others by start journal more others t.1)
   RefusalTells-others (R.Missing key) t = (WasMissing-append by.number a key start journal more t.0, ChangedNothing-others by start journal more others t.1)
   RefusalTells-others (R.BadFile key bad) t = (WasBad-append by.number a key start journal more t.0, ChangedNothing-others by start journal more others t.1)
-  RefusalTells-others R.StoreFault t = failed-others by start journal more others t
+  RefusalTells-others R.StoreFault t = failed-others by start journal more others (IsOfOpening a) t
   RefusalTells-others R.NoMemory t = ChangedNothing-others by start journal more others t
-  RefusalTells-others R.NoNode t = absurd t
-  RefusalTells-others R.NodeExists t = absurd t
-  RefusalTells-others R.NoParent t = absurd t
-  RefusalTells-others R.ReadOnly t = absurd t
-  RefusalTells-others R.Full t = absurd t
-  RefusalTells-others (R.IdTaken key) t = absurd t
-  RefusalTells-others R.IdsSpent t = absurd t
-  RefusalTells-others (R.Conflict old there) t = absurd t
-  RefusalTells-others R.NothingToCommit t = absurd t
+  RefusalTells-others _ t = absurd t
 
 -- ---- an opening
 got-absent : (at : Option Stored) (now time : ℕ) → Is_got (Absent now) ≡ Is_got (got_of time at) → at ≡ None
@@ -129,12 +121,8 @@ module _ (by : Caller) (a : Asked) (start : List Event) where
     record { version = version; base = base; named = WasNamed-makes version base (Snapshot base) (Is_got (Absent now)) old new m n; key_is = refl; absent = absent-made (Snapshot base) now old new m c },
     got-nothing (Snapshot base) (Is_got (Absent now)) old new m c,
   )
-  base-told base version (Is_new x) old new n c m = let e = m.answered.answered in absurd (cc)
-  base-told base version (Is_over x) old new n c m = let e = m.answered.answered in absurd (cc)
-  base-told base version (Is_gone x) old new n c m = let e = m.answered.answered in absurd (cc)
-  base-told base version (Is_gone_at x) old new n c m = let e = m.answered.answered in absurd (cc)
-  base-told base version (Is_listed x) old new n c m = let e = m.answered.answered in absurd (cc)
-  base-told base version (Failed d) old new n c m = failed-made by start (Get (Snapshot base)) d old new m c
+  base-told base version (Failed d) old new n c m = failed-made by (IsOfOpening a) start (Get (Snapshot base)) d old new (inr (base, refl)) m c
+  base-told base version _ old new n c m = let e = m.answered.answered in absurd (cc)
 
   name-told : (version : ℕ) (bytes : List ℕ) (journal : List Event) → WasGot by.number (Branch a.branch) bytes version start journal → ChangedNothing by.number start journal → (o : Option Id12) → ref_of bytes ≡ o → Leads Told by (after_name a version o) journal
   unfolding Leads
@@ -145,12 +133,8 @@ module _ (by : Caller) (a : Asked) (start : List Event) where
   unfolding Leads
   ref-told (Is_got (Found bytes version now)) old new c m = name-told version.0 bytes new (got-made (Branch a.branch) bytes version now old new m c) (got-nothing (Branch a.branch) (Is_got (Found bytes version now)) old new m c) (ref_of bytes) refl
   ref-told (Is_got (Absent now)) old new c m = (absent-made (Branch a.branch) now old new m c, got-nothing (Branch a.branch) (Is_got (Absent now)) old new m c)
-  ref-told (Is_new x) old new c m = let e = m.answered.answered in absurd (cc)
-  ref-told (Is_over x) old new c m = let e = m.answered.answered in absurd (cc)
-  ref-told (Is_gone x) old new c m = let e = m.answered.answered in absurd (cc)
-  ref-told (Is_gone_at x) old new c m = let e = m.answered.answered in absurd (cc)
-  ref-told (Is_listed x) old new c m = let e = m.answered.answered in absurd (cc)
-  ref-told (Failed d) old new c m = failed-made by start (Get (Branch a.branch)) d old new m c
+  ref-told (Failed d) old new c m = failed-made by (IsOfOpening a) start (Get (Branch a.branch)) d old new (inl refl) m c
+  ref-told _ old new c m = let e = m.answered.answered in absurd (cc)
 
   pub open-told : (journal : List Event) → ChangedNothing by.number start journal → Leads Told by (open_program a) journal
   unfolding Leads

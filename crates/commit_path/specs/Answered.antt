@@ -111,13 +111,20 @@ pub record WasTaken (client : ℕ) (id : Id12) (key : Key) (start journal : List
   pub there : StandsAt own.before key version.0
   pub nothing : ChangedNothing client start journal
 
--- The store failed an operation of the client, which may have been done. No other event of the client
--- changed a branch.
-pub record WasFailed (client : ℕ) (start journal : List Event) : Type 0 where
+-- The store failed an operation of the client, of this kind, which may have been done. No other event of
+-- the client changed a branch.
+pub record WasFailed (client : ℕ) (kind : Op → Type 0) (start journal : List Event) : Type 0 where
   pub op : Op
+  pub of_kind : kind op
   pub done : Bool
   pub own : HasOwn client op (Failed done) start journal
   pub once : ChangedOnce client start own.before own.event journal
+
+-- an operation of a commit of this session under this id: the put of its log, the put of its snapshot, or
+-- the put over of the session's branch with a reference to it
+abbrev pub IsOfCommit : SessionState → Id12 → Op → Type 0
+IsOfCommit s id op = (bytes : List ℕ) ×
+    ((op ≡ PutNew (Txn id) bytes Set) ⊎ ((op ≡ PutNew (Snapshot id) bytes Set) ⊎ ((op ≡ commits_over s bytes) × (ref_of bytes ≡ Some id))))
 
 -- What the answer of a commit of this session, with this message and the id that was drawn, says of
 -- the journal, where the client had changed no branch between `start` and the commit.
@@ -125,6 +132,6 @@ abbrev pub CommitTells : ℕ → SessionState → List ℕ → Id12 → List Eve
 CommitTells client s message id start (Ok made) journal = (made.id ≡ id) × TookEffect client s message made start journal
 CommitTells client s message id start (Err (Conflict old there)) journal = WasMoved client s id old there start journal
 CommitTells client s message id start (Err (IdTaken key)) journal = WasTaken client id key start journal
-CommitTells client s message id start (Err StoreFault) journal = WasFailed client start journal
+CommitTells client s message id start (Err StoreFault) journal = WasFailed client (IsOfCommit s id) start journal
 CommitTells client s message id start (Err NoMemory) journal = ChangedNothing client start journal
 CommitTells client s message id start (Err _) journal = ⊥

@@ -10,6 +10,7 @@ use Rattle.store_api.specs.declared.machines.Refusal.{Refusal}
 use Rattle.store_api.specs.Journal.{Each, IsGood}
 use Rattle.store_api.specs.Callers.{Caller, IsOther}
 use Rattle.store_api.specs.Program.{Keeps, Leads}
+use Rattle.store_api.specs.Plays.{Stays}
 use Rattle.session.specs.Sessions.{SessionState}
 use Rattle.session.specs.Opening.{Asked, open_program}
 use Rattle.session.specs.Editing.{group_added}
@@ -20,11 +21,12 @@ use Rattle.commit_path.specs.Answered.{ChangedNothing, CommitTells}
 use Rattle.commit_path.specs.Opened.{IsOpened, OpeningTells}
 use Rattle.commit_path.specs.Spelled.{IsSpelled}
 
--- Whatever others do, each operation of an opening is polite, and its answer tells the journal. A
--- session that it opened can be written.
+-- Whatever others do, each operation of an opening is polite; wherever it may find no memory, its client
+-- has changed no branch; and its answer tells the journal. A session that it opened can be written.
 abbrev pub OpeningLaw : Type 0
 OpeningLaw = (by : Caller) (a : Asked) (start journal : List Event) → ChangedNothing by.number start journal
-    → Keeps (IsCareful (λ t id. ⊥)) by (open_program a) journal × Leads (λ answer h. OpeningTells by.number a start answer h × IfOk answer IsSpelled) by (open_program a) journal
+    → Keeps (IsCareful (λ t id. ⊥)) by (open_program a) journal × Stays (ChangedNothing by.number start) by (open_program a) journal
+    × Leads (λ answer h. OpeningTells by.number a start answer h × IfOk answer IsSpelled) by (open_program a) journal
 
 -- what a session knows stays so when a group is added, and whatever good events come
 pub record SessionLaw : Type 0 where
@@ -32,10 +34,12 @@ pub record SessionLaw : Type 0 where
   pub kept : (s : SessionState) (journal more : List Event) → Each IsGood journal more → IsOpened s journal → IsOpened s (journal ++ more)
 
 -- Whatever others do, each operation of a commit of such a session is polite, and owed for this session
--- and this id alone, and its answer tells the journal.
+-- and this id alone; wherever it may find no memory, its client has changed no branch; and its answer
+-- tells the journal.
 abbrev pub CommitLaw : Type 0
 CommitLaw = (by : Caller) (s t : SessionState) (message : List ℕ) (id : Id12) (start journal : List Event) → started s ≡ Ok (id, t) → IsBytes message → IsSpelled s → IsOpened s journal → ChangedNothing by.number start journal
-    → Keeps (IsCareful (λ u i. (u ≡ t) × (i ≡ id))) by (commit_program t message id) journal × Leads (CommitTells by.number t message id start) by (commit_program t message id) journal
+    → Keeps (IsCareful (λ u i. (u ≡ t) × (i ≡ id))) by (commit_program t message id) journal × Stays (ChangedNothing by.number start) by (commit_program t message id) journal
+    × Leads (CommitTells by.number t message id start) by (commit_program t message id) journal
 
 -- what answers tell stays so, whatever good events others make
 pub record AnswersLaw : Type 0 where

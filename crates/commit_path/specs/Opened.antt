@@ -5,6 +5,7 @@ use Rattle.ice_ids.specs.declared.Id12.{Id12}
 use Rattle.plain_object.specs.Objects.{Snapshot as Snap, snapshot_of, ref_of}
 use Rattle.store_api.specs.declared.keys.Key.{Key}
 use Rattle.store_api.specs.declared.keys.Key.TheVariants.{Snapshot, Branch}
+use Rattle.store_api.specs.declared.events.Op.{Op}
 use Rattle.store_api.specs.declared.events.Op.TheVariants.{Get}
 use Rattle.store_api.specs.declared.events.Got.TheVariants.{Found, Absent}
 use Rattle.store_api.specs.declared.events.Reply.TheVariants.{Got as Is_got}
@@ -83,12 +84,16 @@ pub record WasNoSnapshot (client : ℕ) (a : Asked) (key : Key) (start journal :
   pub got : WasGot client (Snapshot base) bytes put start journal
   pub unread : snapshot_of bytes ≡ None
 
+-- an operation of an opening: the get of the branch that was asked for, or that of a snapshot
+abbrev pub IsOfOpening : Asked → Op → Type 0
+IsOfOpening a op = (op ≡ Get (Branch a.branch)) ⊎ ((id : Id12) × (op ≡ Get (Snapshot id)))
+
 -- why an opening was refused
 abbrev pub RefusalTells : ℕ → Asked → List Event → Refusal → List Event → Type 0
 RefusalTells client a start NoRef journal = WasAbsent client (Branch a.branch) start journal × ChangedNothing client start journal
 RefusalTells client a start (Missing key) journal = WasMissing client a key start journal × ChangedNothing client start journal
 RefusalTells client a start (BadFile key bad) journal = (WasNoReference client a key start journal ⊎ WasNoSnapshot client a key start journal) × ChangedNothing client start journal
-RefusalTells client a start StoreFault journal = WasFailed client start journal
+RefusalTells client a start StoreFault journal = WasFailed client (IsOfOpening a) start journal
 RefusalTells client a start NoMemory journal = ChangedNothing client start journal
 RefusalTells client a start _ journal = ⊥
 

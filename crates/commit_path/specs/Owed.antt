@@ -4,11 +4,11 @@ use Rattle.ice_ids.specs.declared.Id12.{Id12}
 use Rattle.tree_model.specs.Touched.{touched}
 use Rattle.plain_object.specs.Objects.{Snapshot as Snap, snapshot_of, ref_of}
 use Rattle.store_api.specs.declared.keys.Key.{Key}
-use Rattle.store_api.specs.declared.keys.Key.TheVariants.{Snapshot, Manifest, Txn, Chunk, Branch, Tag, TagGone}
+use Rattle.store_api.specs.declared.keys.Key.TheVariants.{Snapshot, Txn, Branch}
 use Rattle.store_api.specs.declared.keys.Why.{Why}
 use Rattle.store_api.specs.declared.keys.Why.TheVariants.{Commit}
 use Rattle.store_api.specs.declared.events.Op.{Op}
-use Rattle.store_api.specs.declared.events.Op.TheVariants.{Get, PutNew, PutOver, Remove, RemoveAt, List as ListPart}
+use Rattle.store_api.specs.declared.events.Op.TheVariants.{Get, PutNew, PutOver, List as ListPart}
 use Rattle.store_api.specs.declared.events.Event.{Event}
 use Rattle.store_api.specs.Journal.{WasPut, tree_of, snap_made, log_made, IsOnce, IsPolite, IsGood}
 use Rattle.session.specs.Sessions.{SessionState, overlay}
@@ -57,23 +57,16 @@ pub record OwesLog (mine : Sessions) (id : Id12) : Type 0 where
   pub session : SessionState
   pub is_mine : mine session id
 
+-- what is put new is a snapshot or a log
 abbrev pub OwesNew : Sessions → List Event → List ℕ → Key → Type 0
 OwesNew mine journal bytes (Snapshot id) = OwesSnap mine journal id bytes
 OwesNew mine journal bytes (Txn id) = OwesLog mine id
-OwesNew mine journal bytes (Manifest id) = ⊥
-OwesNew mine journal bytes (Chunk id) = ⊥
-OwesNew mine journal bytes (Branch name) = ⊥
-OwesNew mine journal bytes (Tag name) = ⊥
-OwesNew mine journal bytes (TagGone name) = ⊥
+OwesNew mine journal bytes _ = ⊥
 
+-- what is put over is a branch
 abbrev pub OwesPutOver : Sessions → List Event → List ℕ → ℕ → Why → Key → Type 0
 OwesPutOver mine journal bytes old why (Branch name) = OwesOver mine journal name bytes old why
-OwesPutOver mine journal bytes old why (Snapshot id) = ⊥
-OwesPutOver mine journal bytes old why (Txn id) = ⊥
-OwesPutOver mine journal bytes old why (Manifest id) = ⊥
-OwesPutOver mine journal bytes old why (Chunk id) = ⊥
-OwesPutOver mine journal bytes old why (Tag name) = ⊥
-OwesPutOver mine journal bytes old why (TagGone name) = ⊥
+OwesPutOver mine journal bytes old why _ = ⊥
 
 -- a client that opens sessions and commits them reads, puts objects and puts branches over
 abbrev pub Owes : Sessions → List Event → Op → Type 0
@@ -81,8 +74,7 @@ Owes mine journal (Get key) = Unit {0}
 Owes mine journal (ListPart part) = Unit {0}
 Owes mine journal (PutNew key bytes why) = OwesNew mine journal bytes key
 Owes mine journal (PutOver key bytes old why) = OwesPutOver mine journal bytes old.0 why key
-Owes mine journal (Remove key why) = ⊥
-Owes mine journal (RemoveAt key old why) = ⊥
+Owes mine journal _ = ⊥
 
 -- each operation is polite, and owed
 pub record IsCareful (mine : Sessions) (journal : List Event) (client : ℕ) (op : Op) : Type 0 where

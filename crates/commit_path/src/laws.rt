@@ -4,8 +4,9 @@ ghost use Rattle.commit_path.specs.Laws.{OpeningLaw, SessionLaw, CommitLaw, Answ
 
 use plain_object::{initial_law, log_law, ref_law, snapshot_law};
 
-/// Whatever others do, each operation of an opening is polite, and its answer tells the journal: a
-/// session begins at the snapshot that was got at the branch, and each refusal has its cause there.
+/// Whatever others do, each operation of an opening is polite, its client has changed no branch
+/// wherever it may find no memory, and its answer tells the journal: a session begins at the snapshot
+/// that was got at the branch, and each refusal has its cause there.
 pub fn opening_law()
     ensures { OpeningLaw }
 {
@@ -21,8 +22,9 @@ pub fn session_law()
     ensures { SessionLaw }
 {}
 
-/// Whatever others do, each operation of a commit is polite, and its answer tells the journal: whether
-/// the commit took effect, or what was found instead, and that the client changed no branch then.
+/// Whatever others do, each operation of a commit is polite, its client has changed no branch wherever
+/// it may find no memory, and its answer tells the journal: whether the commit took effect, or what was
+/// found instead, and that the client changed no branch then.
 pub fn commit_law()
     ensures { CommitLaw }
 {

@@ -2,21 +2,11 @@
 //! store in memory, and prints the report.
 #![tactic(auto)]
 
-mod ending;
-pub mod laws;
-mod statuses;
-mod telling;
-#[cfg(test)]
-mod tests;
-mod top_call;
-mod words;
-
-use ending::{end, given_words};
 use ice_base::{StdSink, StdSource, TickClock};
 use ice_ids::Draw;
 use mem_store::MemStore;
 use std::process::ExitCode;
-use top_call::run;
+use top_call::{end, given_words, run};
 
 fn main(rt: HostRuntime) -> ExitCode {
     let words = match given_words(&rt) {

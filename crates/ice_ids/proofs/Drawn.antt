@@ -75,7 +75,7 @@ pub record IsDraw {I : Type 0} (counted : ℕ → ℕ → I) (ids after : CountI
 taken : {I : Type 0} (counted : ℕ → ℕ → I) (ids : CountIds) (id : I) (spent : Bool) → is_spent ids ≡ spent → ids.counter < 2 ^ 32 → cond spent None (Some (counted ids.client ids.counter)) ≡ Some id → IsDraw counted ids (count_after ids) id
 taken counted ids id true spent fits is = cc
 taken counted ids id false spent fits is =
-    let other : ids.counter ≢ 2 ^ 32 - 1 = eqb-false _ _ spent in
+    let other : 2 ^ 32 - 1 - ids.counter ≢ 0 = eqb-false _ _ spent in
     let raised : CountIds = record ids { counter = ids.counter + 1 } in
     let after : count_after ids ≡ raised = ap (λ b. cond b ids raised) spent in
     record {
@@ -132,7 +132,7 @@ counted-after ids true spent client counter =
     let same_counter : (count_after ids).counter ≡ ids.counter = ap (λ (s : CountIds). s.counter) after in
     ((omega arith, omega arith), same_client, omega arith)
 counted-after ids false spent client counter =
-    let other : ids.counter ≢ 2 ^ 32 - 1 = eqb-false _ _ spent in
+    let other : 2 ^ 32 - 1 - ids.counter ≢ 0 = eqb-false _ _ spent in
     let after : count_after ids ≡ record ids { counter = ids.counter + 1 } = ap (λ b. cond b ids (record ids { counter = ids.counter + 1 })) spent in
     let same_client : (count_after ids).client ≡ ids.client = ap (λ (s : CountIds). s.client) after in
     let raised : (count_after ids).counter ≡ ids.counter + 1 = ap (λ (s : CountIds). s.counter) after in

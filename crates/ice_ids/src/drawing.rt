@@ -1,26 +1,42 @@
 //! Drawing new ids.
 
-ghost use Rattle.std.specs.Prelude.{◌≡◌, Option, if◌then◌else◌};
+ghost use Rattle.std.specs.Prelude.{◌≡◌, ℕ, Option, if◌then◌else◌};
 ghost use Rattle.ice_ids.specs.declared.Id12.{Id12};
 ghost use Rattle.ice_ids.specs.declared.Id8.{Id8};
-ghost use Rattle.ice_ids.specs.Drawing.{is_spent, count_drawn12, count_drawn8, count_after, drawn12, after12, drawn8, after8, ids_of};
+ghost use Rattle.ice_ids.specs.Drawing.{IsSource, is_spent, count_left, count_drawn12, count_drawn8, count_after, left_of, client_of, drawn12, after12, drawn8, after8, ids_of};
 
 use crate::{Id8, Id12};
 
-/// A source of ids that were not drawn from it before.
+/// A source of a client's ids, each of which is drawn once.
 pub trait Ids {
-    // The state before a draw, its answer, and the state after it.
-    ghost draws12: { Self → Option Id12 → Self → Type 0 };
+    // How many draws are left, and whose ids they are.
+    ghost left: { Self → ℕ };
 
-    ghost draws8: { Self → Option Id8 → Self → Type 0 };
+    ghost client: { Self → ℕ };
 
-    /// The next object id, `None` exactly where nothing is left to draw.
+    // What a draw answers, and the source behind it.
+    ghost drawn12: { Self → Option Id12 };
+
+    ghost after12: { Self → Self };
+
+    ghost drawn8: { Self → Option Id8 };
+
+    ghost after8: { Self → Self };
+
+    /// The next object id, `None` exactly where nothing is left to draw. One draw fewer is left behind it; where nothing
+    /// was left, all stays as it is.
     fn next12(&mut self) -> Option<Id12>
-        ensures { draws12 self.old result self.new };
+        ensures { (result ≡ drawn12 self.old) × (self.new ≡ after12 self.old) };
 
-    /// The next node id, `None` exactly where nothing is left to draw.
+    /// The next node id, `None` exactly where nothing is left to draw. One draw fewer is left behind it; where nothing was
+    /// left, all stays as it is.
     fn next8(&mut self) -> Option<Id8>
-        ensures { draws8 self.old result self.new };
+        ensures { (result ≡ drawn8 self.old) × (self.new ≡ after8 self.old) };
+
+    // `None` comes at the end alone, each draw moves on, and no id is drawn twice.
+    ghost source12: { IsSource left client drawn12 after12 };
+
+    ghost source8: { IsSource left client drawn8 after8 };
 }
 
 /// Ids from a client's number and a counter, which both kinds of ids share. Ids of clients with
@@ -60,9 +76,23 @@ impl CountIds {
 }
 
 impl Ids for CountIds {
-    ghost draws12 = { λ old id new. (id ≡ count_drawn12 old) × (new ≡ count_after old) };
+    ghost use Rattle.ice_ids.specs.Sources.{count_source12, count_source8};
 
-    ghost draws8 = { λ old id new. (id ≡ count_drawn8 old) × (new ≡ count_after old) };
+    ghost left = { count_left };
+
+    ghost client = { λ ids. ids.client };
+
+    ghost drawn12 = { count_drawn12 };
+
+    ghost after12 = { count_after };
+
+    ghost drawn8 = { count_drawn8 };
+
+    ghost after8 = { count_after };
+
+    ghost source12 = { count_source12 };
+
+    ghost source8 = { count_source8 };
 
     fn next12(&mut self) -> Option<Id12> {
         let number = self.take_number()?;
@@ -107,9 +137,23 @@ pub enum AnyIds {
 }
 
 impl Ids for AnyIds {
-    ghost draws12 = { λ old id new. (id ≡ drawn12 old) × (new ≡ after12 old) };
+    ghost use Rattle.ice_ids.specs.Sources.{any_source12, any_source8};
 
-    ghost draws8 = { λ old id new. (id ≡ drawn8 old) × (new ≡ after8 old) };
+    ghost left = { left_of };
+
+    ghost client = { client_of };
+
+    ghost drawn12 = { drawn12 };
+
+    ghost after12 = { after12 };
+
+    ghost drawn8 = { drawn8 };
+
+    ghost after8 = { after8 };
+
+    ghost source12 = { any_source12 };
+
+    ghost source8 = { any_source8 };
 
     fn next12(&mut self) -> Option<Id12> {
         match self {

@@ -5,9 +5,9 @@ ghost use Rattle.ice_ids.specs.declared.Id12.{Id12};
 ghost use Rattle.ice_ids.specs.declared.Id8.{Id8};
 ghost use Rattle.ice_ids.specs.declared.drawing.AnyIds.{AnyIds};
 ghost use Rattle.ice_ids.specs.Text.{IsId12, IsId8, id12_text, id8_text, id12_of_text, id8_of_text, initial_id, id12_cmp, id8_cmp, same_id12, same_id8};
-ghost use Rattle.ice_ids.specs.Drawing.{IsAnyIds, client_of, counter_of, drawn12, after12, drawn8, after8};
+ghost use Rattle.ice_ids.specs.Drawing.{IsSource, IsAnyIds, client_of, counter_of, drawn12, after12, drawn8, after8};
 
-use crate::{Id8, Id12};
+use crate::{Id8, Id12, Ids};
 
 /// The text of an object id and its reading undo each other: each text that is read is the text of
 /// the id that it is read as. A text has 20 letters, and no space, quote or line feed.
@@ -44,4 +44,11 @@ pub fn drawn_ids()
     ensures raised { (ids : AnyIds) (id : Id12) → IsAnyIds ids → drawn12 ids ≡ Some id → counter_of (after12 ids) ≡ counter_of ids + 1 }
     ensures raised_too { (ids : AnyIds) (id : Id8) → IsAnyIds ids → drawn8 ids ≡ Some id → counter_of (after8 ids) ≡ counter_of ids + 1 }
     ensures spelled { Id12.INITIAL ≡ initial_id }
+{}
+
+/// What each source of ids promises, also where code doesn't know which one it has: no id is answered exactly where
+/// nothing is left to draw, a draw moves on by one, and no id is drawn twice.
+pub fn any_source<I: Ids>()
+    ensures objects { IsSource I.left I.client I.drawn12 I.after12 }
+    ensures nodes { IsSource I.left I.client I.drawn8 I.after8 }
 {}

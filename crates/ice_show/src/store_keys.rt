@@ -41,8 +41,7 @@ pub fn key_of(alloc: Global, text: &str) -> Result<Key, NoAnswer> {
 pub fn tell_object(alloc: Global, text: &str) -> Result<String, NoAnswer> {
     let key = key_of(alloc, text)?.copy(alloc)?;
     let part = key.part();
-    let name = play_report::key_name(alloc, &key)?;
-    Ok(format!(in alloc; "{name} in {part:?}")?)
+    Ok(format!(in alloc; "{key} in {part:?}")?)
 }
 
 /// Whether two keys are the same; a comma stands between them.

@@ -2,7 +2,8 @@
 
 use ice_base::RefName;
 use ice_ids::Id12;
-use play_report::{End, Outcome, RefLine, RefLines, Shown, Shows, report};
+use play_outcome::{End, Outcome, RefLine, RefLines, Shown, Shows};
+use play_report::report;
 use std::alloc::Global;
 use std::test::Fail;
 use store_api::{Bad, Key, Refusal};
@@ -57,7 +58,7 @@ fn tasks_and_refs(rt: HostRuntime) -> Result<(), Fail> {
         rt.alloc(),
         &[b"a", b"b", b"c"],
         &Ok(()),
-        &[&first, &second, &third],
+        &[first, second, third],
         &refs,
     )?;
     let wanted =

@@ -4,13 +4,13 @@ use Rattle.std.specs.Prelude.{◌≡◌, ℕ, ◌≤◌, List, [], length, Optio
 use Rattle.ice_ids.specs.declared.drawing.Draw.{Draw}
 use Rattle.store_api.specs.declared.machines.Refusal.{Refusal}
 use Rattle.store_api.specs.Callers.{View, HasAll, as_client}
-use Rattle.store_api.specs.Program.{Prog}
+use Rattle.store_api.specs.Running.{Runs}
 use Rattle.play_script.specs.declared.scripts.Script.{Script}
 use Rattle.play_script.specs.declared.scripts.Turn.{Turn}
-use Rattle.play_report.specs.declared.outcome.Outcome.{Outcome}
-use Rattle.play_report.specs.declared.outcome.RefLine.{RefLine}
-use Rattle.play_run.specs.Order.{RanWorkers, IsDoneAt, AllTold, AllBlame, programs_from, places_of}
-use Rattle.repository.specs.Running.{Runs}
+use Rattle.play_outcome.specs.declared.outcome.Outcome.{Outcome}
+use Rattle.play_outcome.specs.declared.outcome.RefLine.{RefLine}
+use Rattle.play_tasks.specs.Tasks.{AllTold, AllBlame}
+use Rattle.play_run.specs.Order.{RanTasks, places_of}
 use Rattle.repository.specs.Beginning.{begin_program}
 use Rattle.repository.specs.Refs.{refs_program}
 
@@ -19,14 +19,12 @@ abbrev pub turns_in : Option (List Turn) → List Turn
 turns_in None = []
 turns_in (Some turns) = turns
 
--- From old to new the tasks were run, by the list of turns and then each to its end; their programs came to `ends`. What
--- each outcome says of the journal holds, and a fault of the store is told only where it rose.
-pub record PlaysTasks (draw : Draw) (script : Script) (old new : View) (ends : List (Prog Outcome)) : Type 0 where
-  pub size : length ends ≡ length script.tasks
-  pub ran : IsTrue old.caller.tells → RanWorkers draw script.tasks (places_of (turns_in script.turns)) (programs_from draw 0 script.tasks) ends old.seen new.seen
-  pub ended : (place : ℕ) → IsDoneAt place ends
-  pub told : IsTrue old.caller.tells → AllTold draw script.tasks ends old.seen new.seen
-  pub blames : AllBlame ends old.faults new.faults
+-- From old to new the tasks were run, by the list of turns and then each to its end, with these outcomes; a fault of the store is told only where
+-- it rose.
+pub record PlaysTasks (draw : Draw) (script : Script) (old new : View) (outcomes : List Outcome) : Type 0 where
+  pub size : length outcomes ≡ length script.tasks
+  pub ran : RanTasks draw script.tasks old.caller.tells (places_of (turns_in script.turns)) outcomes old.seen new.seen
+  pub blames : AllBlame outcomes old.faults new.faults
   pub counted : old.faults ≤ new.faults
   pub tells : new.caller.tells ≡ old.caller.tells
 
@@ -38,17 +36,18 @@ pub record OnlyBegan (old new : View) : Type 0 where
   pub begins : Runs (as_client 0 old) new begin_program opening
 
 -- no task is played where the repository couldn't be begun
-abbrev pub Plays : Draw → Script → View → View → Result (Unit {0}) Refusal → List (Prog Outcome) → Type 0
-Plays draw script old new (Ok done) ends = PlaysTasks draw script old new ends
-Plays draw script old new (Err why) ends = (new ≡ old) × (ends ≡ [])
+abbrev pub Plays : Draw → Script → View → View → Result (Unit {0}) Refusal → List Outcome → Type 0
+Plays draw script old new (Ok done) outcomes = PlaysTasks draw script old new outcomes
+Plays draw script old new (Err why) outcomes = (new ≡ old) × (outcomes ≡ [])
 
 -- From old to new, over a store on which nobody else acts: the opening, the tasks, and the closing reading. The first and
--- the last are client 0's.
-pub record Course (draw : Draw) (script : Script) (old new : View) (opening : Result (Unit {0}) Refusal) (ends : List (Prog Outcome)) (refs : Result (List RefLine) Refusal) : Type 0 where
+-- the last are client 0's. What each outcome says holds of the journal that is left.
+pub record Course (draw : Draw) (script : Script) (old new : View) (opening : Result (Unit {0}) Refusal) (outcomes : List Outcome) (refs : Result (List RefLine) Refusal) : Type 0 where
   pub begun : View
   pub played : View
   pub alone : HasAll old.caller
   pub still_alone : HasAll played.caller
   pub begins : Runs (as_client 0 old) begun begin_program opening
-  pub plays : Plays draw script begun played opening ends
+  pub plays : Plays draw script begun played opening outcomes
   pub reads : Runs (as_client 0 played) new refs_program refs
+  pub told : IsTrue old.caller.tells → AllTold draw script.tasks outcomes begun.seen new.seen

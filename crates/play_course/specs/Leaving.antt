@@ -10,7 +10,7 @@ use Rattle.histories.specs.Repository.{Entry, last}
 use Rattle.histories.specs.Calls.{history_of}
 use Rattle.repository.specs.Closing.{HasLine, branch_line, TellsRefs}
 use Rattle.play_script.specs.declared.scripts.Task.{Task}
-use Rattle.play_report.specs.declared.outcome.RefLine.{RefLine}
+use Rattle.play_outcome.specs.declared.outcome.RefLine.{RefLine}
 use Rattle.run_histories.specs.Told.{HasHistories}
 
 -- the branch's history ends at this snapshot

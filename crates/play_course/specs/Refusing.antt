@@ -2,11 +2,10 @@
 use Rattle.std.specs.Prelude.{◌≡◌, ℕ, Bool, true, false, List, Some, Result, Ok, Err, slice_get}
 use Rattle.store_api.specs.declared.machines.Refusal.{Refusal}
 use Rattle.store_api.specs.declared.machines.Refusal.TheVariants.{Missing, BadFile, IdTaken}
-use Rattle.store_api.specs.Program.{Prog, Done}
-use Rattle.play_report.specs.declared.outcome.End.{End}
-use Rattle.play_report.specs.declared.outcome.End.TheVariants as E
-use Rattle.play_report.specs.declared.outcome.Outcome.{Outcome}
-use Rattle.play_report.specs.declared.outcome.RefLine.{RefLine}
+use Rattle.play_outcome.specs.declared.outcome.End.{End}
+use Rattle.play_outcome.specs.declared.outcome.End.TheVariants as E
+use Rattle.play_outcome.specs.declared.outcome.Outcome.{Outcome}
+use Rattle.play_outcome.specs.declared.outcome.RefLine.{RefLine}
 
 -- a drawn id that was taken, an object that is missing, or a file that can't be read
 abbrev pub is_strange : Refusal → Bool
@@ -24,8 +23,8 @@ strange_end (E.Committed id) = false
 strange_end E.Done = false
 strange_end (E.Refused line why) = is_strange why
 
--- Nothing that was played was refused so: not the opening, no task that came to its end, not the closing reading.
-pub record NothingStrange (opening : Result (Unit {0}) Refusal) (ends : List (Prog Outcome)) (refs : Result (List RefLine) Refusal) : Type 0 where
+-- Nothing that was played was refused so: not the opening, no task, not the closing reading.
+pub record NothingStrange (opening : Result (Unit {0}) Refusal) (outcomes : List Outcome) (refs : Result (List RefLine) Refusal) : Type 0 where
   pub opened : strange_answer opening ≡ false
-  pub tasks : (place : ℕ) (outcome : Outcome) → slice_get ends place ≡ Some (Done outcome) → strange_end outcome.end ≡ false
+  pub tasks : (place : ℕ) (outcome : Outcome) → slice_get outcomes place ≡ Some outcome → strange_end outcome.end ≡ false
   pub closed : strange_answer refs ≡ false

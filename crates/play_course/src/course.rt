@@ -1,9 +1,8 @@
 //! The course of a run.
 
-ghost use Rattle.std.specs.Prelude.{◌≡◌, ℕ, [], All, map, length, IfOk, IfErr, IsTrue};
+ghost use Rattle.std.specs.Prelude.{◌≡◌, ℕ, [], All, length, IfOk, IfErr, IsTrue};
 ghost use Rattle.tree_model.specs.Changes.{Changes};
 ghost use Rattle.play_script.specs.Well.{IsWell, IsWellTurn};
-ghost use Rattle.play_tasks.specs.Workers.{worker_rest};
 ghost use Rattle.run_histories.specs.Runs.{IsSound};
 ghost use Rattle.run_histories.specs.Told.{HasHistories};
 ghost use Rattle.play_course.specs.Course.{turns_in, Course, OnlyBegan, PlaysTasks, Plays};
@@ -11,22 +10,22 @@ ghost use Rattle.play_course.specs.Leaving.{Leaves};
 ghost use Rattle.play_course.specs.Refusing.{NothingStrange};
 
 use ice_ids::Draw;
-use play_report::RefLines;
+use play_outcome::{Outcome, RefLines};
 use play_run::run_tasks;
 use play_script::{Script, Turn};
-use play_tasks::Worker;
+use play_tasks::outcome_law;
 use repository::{begin, read_refs, refs_law};
 use run_histories::run_law;
 use std::alloc::{AllocError, Global};
 use store_api::{Base, Refusal};
 
-/// What was played: how the opening ended, the workers of the tasks, and how the closing reading ended.
+/// What was played: how the opening ended, the outcomes of the tasks, and how the closing reading ended.
 #[derive(Drop)]
-pub struct Played<'a> {
+pub struct Played {
     /// How the opening ended.
     pub opening: Result<(), Refusal>,
-    /// The workers, all of which have ended; none where the opening was refused.
-    pub workers: Vec<Worker<'a>>,
+    /// The outcomes of the tasks; none where the opening was refused.
+    pub outcomes: Vec<Outcome>,
     /// The refs, or why they weren't read.
     pub refs: Result<RefLines, Refusal>,
 }
@@ -44,31 +43,31 @@ fn turns_of(script: &Script) -> &[Turn]
 }
 
 /// Runs the tasks of a script by its turns, and then each to its end.
-fn run_script<'a, S: Base>(
+fn run_script<S: Base>(
     alloc: Global,
-    script: &'a Script,
+    script: &Script,
     draw: Draw,
     store: &mut S,
-) -> Result<Vec<Worker<'a>>, AllocError>
+) -> Result<Vec<Outcome>, AllocError>
     requires { IsWell script.now }
     ensures nothing { IfErr result (λ error. S.view store.new ≡ S.view store.old) }
-    ensures plays { IfOk result (λ workers. PlaysTasks draw script.now (S.view store.old) (S.view store.new) (map worker_rest workers.items)) }
+    ensures plays { IfOk result (λ outcomes. PlaysTasks draw script.now (S.view store.old) (S.view store.new) outcomes.items) }
 {
     let turns = turns_of(script);
     run_tasks(alloc, script.tasks.as_slice(), draw, turns, store)
 }
 
 /// Plays the tasks where the opening went well.
-fn play_tasks<'a, S: Base>(
+fn play_tasks<S: Base>(
     alloc: Global,
-    script: &'a Script,
+    script: &Script,
     draw: Draw,
     opening: &Result<(), Refusal>,
     store: &mut S,
-) -> Result<Vec<Worker<'a>>, AllocError>
+) -> Result<Vec<Outcome>, AllocError>
     requires { IsWell script.now }
     ensures nothing { IfErr result (λ error. S.view store.new ≡ S.view store.old) }
-    ensures plays { IfOk result (λ workers. Plays draw script.now (S.view store.old) (S.view store.new) opening.now (map worker_rest workers.items)) }
+    ensures plays { IfOk result (λ outcomes. Plays draw script.now (S.view store.old) (S.view store.new) opening.now outcomes.items) }
 {
     match opening {
         Ok(()) => run_script(alloc, script, draw, store),
@@ -77,39 +76,39 @@ fn play_tasks<'a, S: Base>(
 }
 
 /// The opening, the tasks and the closing reading.
-fn play_through<'a, S: Base>(
+fn play_through<S: Base>(
     alloc: Global,
-    script: &'a Script,
+    script: &Script,
     draw: Draw,
     store: &mut S,
-) -> Result<Played<'a>, AllocError>
+) -> Result<Played, AllocError>
     requires { IsWell script.now }
     ensures began { IfErr result (λ error. OnlyBegan (S.view store.old) (S.view store.new)) }
-    ensures course { IfOk result (λ played. Course draw script.now (S.view store.old) (S.view store.new) played.opening (map worker_rest played.workers.items) played.refs) }
+    ensures course { IfOk result (λ played. Course draw script.now (S.view store.old) (S.view store.new) played.opening played.outcomes.items played.refs) }
 {
     store.set_client(0);
     let opening = begin(alloc, store);
-    let workers = play_tasks(alloc, script, draw, &opening, store)?;
+    let outcomes = play_tasks(alloc, script, draw, &opening, store)?;
     store.set_client(0);
     let refs = read_refs(alloc, store);
     Ok(Played {
         opening,
-        workers,
+        outcomes,
         refs,
     })
 }
 
 /// Plays a script over a store on which nobody else acts: makes the repository where there is none,
 /// runs the tasks, unless that was refused, and reads the refs. The opening and the closing reading
-/// are client 0's; the task at place k, from 0, is client k + 1's. All workers have ended.
-pub fn play<'a, S: Base>(
+/// are client 0's; the task at place k, from 0, is client k + 1's. All tasks have ended.
+pub fn play<S: Base>(
     alloc: Global,
-    script: &'a Script,
+    script: &Script,
     draw: Draw,
     store: &mut S,
-) -> Result<Played<'a>, AllocError>
+) -> Result<Played, AllocError>
     requires { IsWell script.now }
-    ensures course { IfOk result (λ played. Course draw script.now (S.view store.old) (S.view store.new) played.opening (map worker_rest played.workers.items) played.refs) }
+    ensures course { IfOk result (λ played. Course draw script.now (S.view store.old) (S.view store.new) played.opening played.outcomes.items played.refs) }
 
     // Without memory for the workers the repository may have been begun, and nothing else has been done; the histories are
     // kept then, too.
@@ -119,9 +118,10 @@ pub fn play<'a, S: Base>(
     // read are their ends.
     ensures leaves { IsTrue (S.view store.old).caller.tells → (before : ℕ → Changes) → IsSound (S.view store.old).seen before → IfOk result (λ played. Leaves draw script.now.tasks before (S.view store.old).seen (S.view store.new).seen played.refs) }
     // Over one on which nothing was done before, no drawn id is taken, no object is missing, and every file can be read.
-    ensures regular { IsTrue (S.view store.old).caller.tells → (S.view store.old).seen ≡ [] → IfOk result (λ played. NothingStrange played.opening (map worker_rest played.workers.items) played.refs) }
+    ensures regular { IsTrue (S.view store.old).caller.tells → (S.view store.old).seen ≡ [] → IfOk result (λ played. NothingStrange played.opening played.outcomes.items played.refs) }
 {
     run_law();
     refs_law();
+    outcome_law();
     play_through(alloc, script, draw, store)
 }

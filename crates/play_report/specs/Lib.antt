@@ -1,3 +1,3 @@
-pub mod Names
+pub mod Words
 pub mod Refusals
 pub mod Report

@@ -1,19 +1,20 @@
 -- The report of a run (own): lines of words.
 use Rattle.std.specs.Prelude.{ℕ, List, [], ◌∷◌, ◌++◌, Bool, if◌then◌else◌, Result, Ok, Err, codes, decimal}
-use Rattle.std.specs.List.{flat_map, join_by}
+use Rattle.std.specs.List.{flat_map}
 use Rattle.ice_ids.specs.Text.{id12_text}
 use Rattle.store_api.specs.declared.machines.Refusal.{Refusal}
-use Rattle.play_report.specs.declared.outcome.Shown.{Shown}
-use Rattle.play_report.specs.declared.outcome.Shown.TheVariants.{Node}
-use Rattle.play_report.specs.declared.outcome.End.{End}
-use Rattle.play_report.specs.declared.outcome.End.TheVariants.{Committed, Done, Refused}
-use Rattle.play_report.specs.declared.outcome.Outcome.{Outcome}
-use Rattle.play_report.specs.declared.outcome.RefLine.{RefLine}
+use Rattle.play_outcome.specs.declared.outcome.Shown.{Shown}
+use Rattle.play_outcome.specs.declared.outcome.Shown.TheVariants.{Node}
+use Rattle.play_outcome.specs.declared.outcome.End.{End}
+use Rattle.play_outcome.specs.declared.outcome.End.TheVariants.{Committed, Done, Refused}
+use Rattle.play_outcome.specs.declared.outcome.Outcome.{Outcome}
+use Rattle.play_outcome.specs.declared.outcome.RefLine.{RefLine}
+use Rattle.play_report.specs.Words.{◌space◌}
 use Rattle.play_report.specs.Refusals.{refusal_text}
 
--- a line: words with a space between each two, and a line feed
-abbrev pub line_of : List (List ℕ) → List ℕ
-line_of words = join_by (λ word. word) (codes " ") words ++ codes "\n"
+-- a line: its first word, and what stands behind it
+abbrev pub line_of : List ℕ → List ℕ → List ℕ
+line_of first rest = (first space rest) ++ codes "\n"
 
 abbrev pub node_kind : Bool → List ℕ
 node_kind array = if array then codes "array" else codes "group"
@@ -21,19 +22,22 @@ node_kind array = if array then codes "array" else codes "group"
 abbrev pub ref_kind : Bool → List ℕ
 ref_kind tag = if tag then codes "tag" else codes "branch"
 
--- a line that a task of this name showed
-abbrev pub shown_line : List ℕ → Shown → List ℕ
-shown_line name (Node line array path) = line_of (name ∷ decimal line ∷ codes "list" ∷ node_kind array ∷ path ∷ [])
+-- what a task showed, behind its name
+abbrev pub shown_text : Shown → List ℕ
+shown_text (Node line array path) = decimal line space codes "list" space node_kind array space path
 
--- how a task of this name ended
-abbrev pub end_line : List ℕ → End → List ℕ
-end_line name (Committed id) = line_of (name ∷ codes "committed" ∷ id12_text id ∷ [])
-end_line name Done = line_of (name ∷ codes "done" ∷ [])
-end_line name (Refused line why) = line_of (name ∷ codes "refused" ∷ decimal line ∷ refusal_text why ∷ [])
+abbrev pub shown_line : List ℕ → Shown → List ℕ
+shown_line name shown = line_of name (shown_text shown)
+
+-- how a task ended, behind its name
+abbrev pub end_text : End → List ℕ
+end_text (Committed id) = codes "committed" space id12_text id
+end_text Done = codes "done"
+end_text (Refused line why) = codes "refused" space decimal line space refusal_text why
 
 -- what a task showed in order, and then how it ended
 abbrev pub outcome_text : List ℕ → Outcome → List ℕ
-outcome_text name outcome = flat_map (shown_line name) outcome.shown ++ end_line name outcome.end
+outcome_text name outcome = flat_map (shown_line name) outcome.shown ++ line_of name (end_text outcome.end)
 
 -- each task in order, under its name; what one list has beyond the other is left out
 abbrev pub tasks_text : List (List ℕ) → List Outcome → List ℕ
@@ -43,15 +47,18 @@ tasks_text [] outcomes = []
 
 -- what stands in the place of what was refused
 abbrev pub refused_line : List ℕ → Refusal → List ℕ
-refused_line what why = line_of (what ∷ codes "refused" ∷ refusal_text why ∷ [])
+refused_line what why = line_of what (codes "refused" space refusal_text why)
 
 -- an opening that was refused
 abbrev pub opening_text : Refusal → List ℕ
 opening_text why = refused_line (codes "init") why
 
 -- a branch or a tag, and the snapshot that it names
+abbrev pub ref_text : RefLine → List ℕ
+ref_text ref = ref.name space id12_text ref.id
+
 abbrev pub ref_line : RefLine → List ℕ
-ref_line ref = line_of (ref_kind ref.tag ∷ ref.name ∷ id12_text ref.id ∷ [])
+ref_line ref = line_of (ref_kind ref.tag) (ref_text ref)
 
 -- the refs at the end, or why they weren't read
 abbrev pub refs_text : Result (List RefLine) Refusal → List ℕ

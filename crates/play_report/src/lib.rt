@@ -1,13 +1,8 @@
-//! What tasks of a script showed and how they ended, and the report of a run.
+//! The report of a run: how outcomes of tasks, and refs, are printed.
 #![tactic(auto)]
 
-mod key_names;
-mod lines;
-mod outcome;
-mod refusal_texts;
 mod reporting;
+mod texts;
 
-pub use key_names::key_name;
-pub use outcome::{End, Outcome, RefLine, RefLines, Shown, Shows};
-pub use refusal_texts::refusal_text;
 pub use reporting::{add_opening, add_outcome, add_refs, report};
+pub use texts::refusal_text;

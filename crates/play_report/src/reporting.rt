@@ -2,21 +2,12 @@
 
 ghost use Rattle.std.specs.Prelude.{◌≡◌, ◌++◌, IfOk, OnOk, OnErr, map};
 ghost use Rattle.std.specs.List.{flat_map};
-ghost use Rattle.play_report.specs.Report.{node_kind, ref_kind, shown_line, end_line, outcome_text, tasks_text, opening_text, ref_line, refs_text, refused_line, played_text, report_of};
-ghost use Rattle.play_report.specs.declared.outcome.End.TheVariants as End;
+ghost use Rattle.play_report.specs.Report.{ref_kind, line_of, shown_line, outcome_text, tasks_text, opening_text, ref_line, refs_text, refused_line, played_text, report_of};
 
-use crate::lines::{add_five, add_four, add_line, add_three};
-use crate::outcome::{End, Outcome, RefLine, RefLines, Shown};
-use crate::refusal_texts::refusal_text;
-use itoa::Buffer;
+use crate::texts::{end_text, ref_text, refusal_text, shown_text};
+use play_outcome::{Outcome, RefLine, RefLines, Shown};
 use std::alloc::{AllocError, Global};
 use store_api::Refusal;
-
-fn node_kind(array: bool) -> &'static [u8]
-    ensures { result.now ≡ node_kind array }
-{
-    if array { b"array" } else { b"group" }
-}
 
 fn ref_kind(tag: bool) -> &'static [u8]
     ensures { result.now ≡ ref_kind tag }
@@ -24,59 +15,39 @@ fn ref_kind(tag: bool) -> &'static [u8]
     if tag { b"tag" } else { b"branch" }
 }
 
-fn add_shown(out: &mut Vec<u8>, name: &[u8], shown: &Shown) -> Result<(), AllocError>
-    ensures { OnOk result (out.new.items ≡ out.old.items ++ shown_line name.now shown.now) }
+/// Appends a line of a first word and what stands behind it.
+fn add_line(out: &mut Vec<u8>, first: &[u8], rest: &str) -> Result<(), AllocError>
+    ensures { OnOk result (out.new.items ≡ out.old.items ++ line_of first.now rest.now) }
 {
-    match shown {
-        Shown::Node { line, array, path } => {
-            let mut buffer = Buffer::new();
-            let line = buffer.format(*line).as_bytes();
-            let path = path.as_str().as_bytes();
-            add_five(out, name, line, b"list", node_kind(*array), path)
-        }
-    }
-}
-
-fn add_all_shown(out: &mut Vec<u8>, name: &[u8], all: &[Shown]) -> Result<(), AllocError>
-    ensures { OnOk result (out.new.items ≡ out.old.items ++ flat_map (shown_line name.now) all.now) }
-{
-    for shown in all {
-        add_shown(out, name, shown)?;
-    }
+    out.extend_from_slice(first)?;
+    out.push(b' ')?;
+    out.extend_from_slice(rest.as_bytes())?;
+    out.push(b'\n')?;
     Ok(())
 }
 
-fn add_refused(
+fn add_all_shown(
     alloc: Global,
     out: &mut Vec<u8>,
     name: &[u8],
-    line: u32,
-    why: &Refusal,
+    all: &[Shown],
 ) -> Result<(), AllocError>
-    ensures { OnOk result (out.new.items ≡ out.old.items ++ end_line name.now (End.Refused line why.now)) }
+    ensures { OnOk result (out.new.items ≡ out.old.items ++ flat_map (shown_line name.now) all.now) }
 {
-    let mut buffer = Buffer::new();
-    let line = buffer.format(line).as_bytes();
-    let why = refusal_text(alloc, why)?;
-    add_four(out, name, b"refused", line, why.as_bytes())
-}
-
-fn add_end(alloc: Global, out: &mut Vec<u8>, name: &[u8], end: &End) -> Result<(), AllocError>
-    ensures { OnOk result (out.new.items ≡ out.old.items ++ end_line name.now end.now) }
-{
-    match end {
-        End::Committed(id) => add_three(out, name, b"committed", &id.text()),
-        End::Done => add_line(out, &[name, b"done"]),
-        End::Refused { line, why } => add_refused(alloc, out, name, *line, why),
+    for shown in all {
+        let text = shown_text(alloc, shown)?;
+        add_line(out, name, &text)?;
     }
+    Ok(())
 }
 
 fn outcome_text(alloc: Global, name: &[u8], outcome: &Outcome) -> Result<Vec<u8>, AllocError>
     ensures { IfOk result (λ text. text.items ≡ outcome_text name.now outcome.now) }
 {
     let mut text = Vec::new(alloc);
-    add_all_shown(&mut text, name, outcome.shown.as_slice())?;
-    add_end(alloc, &mut text, name, &outcome.end)?;
+    add_all_shown(alloc, &mut text, name, outcome.shown.as_slice())?;
+    let end = end_text(alloc, &outcome.end)?;
+    add_line(&mut text, name, &end)?;
     Ok(text)
 }
 
@@ -90,12 +61,13 @@ pub fn add_outcome(out: &mut Vec<u8>, name: &[u8], outcome: &Outcome) -> Result<
     out.extend_from_slice(&text)
 }
 
-fn refused_text(alloc: Global, what: &[u8], why: &Refusal) -> Result<Vec<u8>, AllocError>
+fn refused_line(alloc: Global, what: &[u8], why: &Refusal) -> Result<Vec<u8>, AllocError>
     ensures { IfOk result (λ text. text.items ≡ refused_line what.now why.now) }
 {
     let why = refusal_text(alloc, why)?;
+    let rest = format!(in alloc; "refused {why}")?;
     let mut text = Vec::new(alloc);
-    add_three(&mut text, what, b"refused", why.as_bytes())?;
+    add_line(&mut text, what, &rest)?;
     Ok(text)
 }
 
@@ -105,19 +77,8 @@ pub fn add_opening(out: &mut Vec<u8>, why: &Refusal) -> Result<(), AllocError>
     ensures ok { OnOk result (out.new.items ≡ out.old.items ++ opening_text why.now) }
     ensures err { OnErr result (out.new.items ≡ out.old.items) }
 {
-    let text = refused_text(*out.allocator(), b"init", why)?;
+    let text = refused_line(*out.allocator(), b"init", why)?;
     out.extend_from_slice(&text)
-}
-
-fn add_ref(out: &mut Vec<u8>, line: &RefLine) -> Result<(), AllocError>
-    ensures { OnOk result (out.new.items ≡ out.old.items ++ ref_line line.now) }
-{
-    add_three(
-        out,
-        ref_kind(line.tag),
-        line.name.as_bytes(),
-        &line.id.text(),
-    )
 }
 
 fn ref_lines(alloc: Global, refs: &[RefLine]) -> Result<Vec<u8>, AllocError>
@@ -125,7 +86,8 @@ fn ref_lines(alloc: Global, refs: &[RefLine]) -> Result<Vec<u8>, AllocError>
 {
     let mut text = Vec::new(alloc);
     for line in refs {
-        add_ref(&mut text, line)?;
+        let rest = ref_text(alloc, line)?;
+        add_line(&mut text, ref_kind(line.tag), &rest)?;
     }
     Ok(text)
 }
@@ -139,13 +101,13 @@ pub fn add_refs(out: &mut Vec<u8>, refs: &Result<RefLines, Refusal>) -> Result<(
     let alloc = *out.allocator();
     let text = match refs {
         Ok(refs) => ref_lines(alloc, refs.as_slice())?,
-        Err(why) => refused_text(alloc, b"refs", why)?,
+        Err(why) => refused_line(alloc, b"refs", why)?,
     };
     out.extend_from_slice(&text)
 }
 
-fn add_tasks(out: &mut Vec<u8>, names: &[&[u8]], outcomes: &[&Outcome]) -> Result<(), AllocError>
-    ensures { OnOk result (out.new.items ≡ out.old.items ++ tasks_text (map (λ n. n.now) names.now) (map (λ o. o.now) outcomes.now)) }
+fn add_tasks(out: &mut Vec<u8>, names: &[&[u8]], outcomes: &[Outcome]) -> Result<(), AllocError>
+    ensures { OnOk result (out.new.items ≡ out.old.items ++ tasks_text (map (λ n. n.now) names.now) outcomes.now) }
 {
     for (name, outcome) in names.iter().zip(outcomes) {
         add_outcome(out, name, outcome)?;
@@ -157,9 +119,9 @@ fn add_played(
     out: &mut Vec<u8>,
     names: &[&[u8]],
     opening: &Result<(), Refusal>,
-    outcomes: &[&Outcome],
+    outcomes: &[Outcome],
 ) -> Result<(), AllocError>
-    ensures { OnOk result (out.new.items ≡ out.old.items ++ played_text (map (λ n. n.now) names.now) opening.now (map (λ o. o.now) outcomes.now)) }
+    ensures { OnOk result (out.new.items ≡ out.old.items ++ played_text (map (λ n. n.now) names.now) opening.now outcomes.now) }
 {
     match opening {
         Ok(()) => add_tasks(out, names, outcomes),
@@ -176,10 +138,10 @@ pub fn report(
     alloc: Global,
     names: &[&[u8]],
     opening: &Result<(), Refusal>,
-    outcomes: &[&Outcome],
+    outcomes: &[Outcome],
     refs: &Result<RefLines, Refusal>,
 ) -> Result<Vec<u8>, AllocError>
-    ensures { IfOk result (λ text. text.items ≡ report_of (map (λ n. n.now) names.now) opening.now (map (λ o. o.now) outcomes.now) refs.now) }
+    ensures { IfOk result (λ text. text.items ≡ report_of (map (λ n. n.now) names.now) opening.now outcomes.now refs.now) }
 {
     let mut out = Vec::new(alloc);
     add_played(&mut out, names, opening, outcomes)?;

@@ -1,31 +1,31 @@
 -- What one turn does, as the contracts of the code's own functions say it; no public contract cites this.
 use Rattle.std.specs.Prelude.{◌≡◌, ℕ, ◌+◌, Bool, true, false, List, Option, Some, None, slice_get, slice_set}
 use Rattle.store_api.specs.Callers.{View, HasAll, as_client}
-use Rattle.store_api.specs.Program.{Prog, IsAsk, IsDone, Turns}
-use Rattle.play_report.specs.declared.outcome.Outcome.{Outcome}
+use Rattle.store_api.specs.Plays.{Play, IsLive, HasEnded, Acts}
+use Rattle.play_outcome.specs.declared.outcome.Outcome.{Outcome}
+use Rattle.play_outcome.specs.Ending.{is_failed}
 use Rattle.play_tasks.specs.declared.worker.Worker.{Worker}
 use Rattle.play_tasks.specs.Workers.{worker_left}
-use Rattle.play_tasks.specs.Ending.{is_starved, is_failed}
 
 -- the worker at this place had ended
-pub record Rested (t : ℕ) (old new : View) (ps qs : List (Prog Outcome)) : Type 0 where
-  pub p : Prog Outcome
+pub record Rested (t : ℕ) (old new : View) (ps qs : List (Play Outcome)) : Type 0 where
+  pub p : Play Outcome
   pub at : slice_get ps t ≡ Some p
-  pub ended : IsDone p
+  pub ended : HasEnded p
   pub store : new ≡ old
   pub same : qs ≡ ps
 
 -- the worker at this place made a step
-pub record Stepped (t : ℕ) (old new : View) (ps qs : List (Prog Outcome)) : Type 0 where
-  pub p : Prog Outcome
+pub record Stepped (t : ℕ) (old new : View) (ps qs : List (Play Outcome)) : Type 0 where
+  pub p : Play Outcome
   pub at : slice_get ps t ≡ Some p
-  pub live : IsAsk p
+  pub live : IsLive p
   pub alone : HasAll old.caller
-  pub q : Prog Outcome
-  pub turn : Turns is_starved is_failed (as_client (t + 1) old) new p q
+  pub q : Play Outcome
+  pub acts : Acts is_failed (as_client (t + 1) old) new p q
   pub rest : qs ≡ slice_set ps t q
 
-abbrev pub Took : ℕ → View → View → List (Prog Outcome) → List (Prog Outcome) → Bool → Type 0
+abbrev pub Took : ℕ → View → View → List (Play Outcome) → List (Play Outcome) → Bool → Type 0
 Took t old new ps qs true = Stepped t old new ps qs
 Took t old new ps qs false = Rested t old new ps qs
 

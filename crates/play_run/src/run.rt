@@ -1,17 +1,19 @@
 //! Turns of workers.
 
 ghost use Rattle.std.specs.Prelude.{◌≡◌, ◌<◌, ◌≤◌, ◌+◌, ◌-◌, ◌^◌, ◌++◌, ℕ, List, IsTrue, IfOk, IfErr, All, replicate, map, length};
+ghost use Rattle.store_api.specs.Plays.{Ended};
 ghost use Rattle.play_script.specs.Well.{IsWellTask, IsWellTurn};
 ghost use Rattle.play_tasks.specs.Workers.{worker_rest};
-ghost use Rattle.play_run.specs.Order.{RanWorkers, programs_from, IsDoneAt, AllTold, AllBlame, places_of, turns_of};
+ghost use Rattle.play_tasks.specs.Tasks.{HasEndedAt, AllTold, AllBlame};
+ghost use Rattle.play_run.specs.Order.{RanTasks, places_of, turns_of};
 ghost use Rattle.play_run.specs.Taking.{Took, left_at};
 ghost use Rattle.play_run.specs.Going.{CanGo, Went};
 
-use crate::workers::workers_for;
+use crate::workers::{take_outcomes, workers_for};
 use ice_ids::Draw;
-use plain_object::{initial_law, log_law, ref_law, snapshot_law};
+use play_outcome::Outcome;
 use play_script::{Task, Turn};
-use play_tasks::Worker;
+use play_tasks::{Worker, task_law};
 use std::alloc::{AllocError, Global};
 use store_api::Base;
 
@@ -62,7 +64,7 @@ fn run_to_end<S: Base>(workers: &mut [Worker<'_>], t: usize, store: &mut S)
     requires small { length workers.old < 2 ^ 32 - 1 }
     requires stand { CanGo (S.view store.old) (map worker_rest workers.old) }
     ensures went { (n : ℕ) × Went (replicate n t) (S.view store.old) (S.view store.new) (map worker_rest workers.old) (map worker_rest workers.new) }
-    ensures ended { IsDoneAt t (map worker_rest workers.new) }
+    ensures ended { HasEndedAt t (map worker_rest workers.new) }
 {
     loop {
         if !take_turn(workers, t, store) {
@@ -76,7 +78,7 @@ fn run_to_ends<S: Base>(workers: &mut [Worker<'_>], store: &mut S)
     requires small { length workers.old < 2 ^ 32 - 1 }
     requires stand { CanGo (S.view store.old) (map worker_rest workers.old) }
     ensures went { (counts : List ℕ) × Went (turns_of 0 counts) (S.view store.old) (S.view store.new) (map worker_rest workers.old) (map worker_rest workers.new) }
-    ensures ended { (k : ℕ) → k < length workers.new → IsDoneAt k (map worker_rest workers.new) }
+    ensures ended { (k : ℕ) → k < length workers.new → HasEndedAt k (map worker_rest workers.new) }
 {
     for t in 0..workers.len() {
         run_to_end(workers, t, store);
@@ -89,7 +91,7 @@ fn run_workers<S: Base>(workers: &mut [Worker<'_>], turns: &[Turn], store: &mut 
     requires small { length workers.old < 2 ^ 32 - 1 }
     requires stand { CanGo (S.view store.old) (map worker_rest workers.old) }
     ensures went { (counts : List ℕ) × Went (places_of turns.now ++ turns_of 0 counts) (S.view store.old) (S.view store.new) (map worker_rest workers.old) (map worker_rest workers.new) }
-    ensures ended { (k : ℕ) → k < length workers.new → IsDoneAt k (map worker_rest workers.new) }
+    ensures ended { (k : ℕ) → k < length workers.new → HasEndedAt k (map worker_rest workers.new) }
 {
     run_turns(workers, turns, store);
     run_to_ends(workers, store);
@@ -97,39 +99,37 @@ fn run_workers<S: Base>(workers: &mut [Worker<'_>], turns: &[Turn], store: &mut 
 
 /// Runs the tasks over a store on which nobody else acts: a worker for each, by the list of turns,
 /// and then each that hasn't ended to its end, in their order. The client of the task at place k, from
-/// 0, has the number k + 1. It answers the workers, all of which have ended; without memory for them
-/// nothing has been done.
-pub fn run_tasks<'a, S: Base>(
+/// 0, has the number k + 1. It answers the outcomes of the tasks, in their order; without memory for the
+/// workers and for these outcomes nothing has been done.
+pub fn run_tasks<S: Base>(
     alloc: Global,
-    tasks: &'a [Task],
+    tasks: &[Task],
     draw: Draw,
     turns: &[Turn],
     store: &mut S,
-) -> Result<Vec<Worker<'a>>, AllocError>
+) -> Result<Vec<Outcome>, AllocError>
     requires small { length tasks.now < 2 ^ 32 - 1 }
     requires tasks { All IsWellTask tasks.now }
     requires turns { All (IsWellTurn (length tasks.now)) turns.now }
 
-    // The journal goes on by the tasks' own events, each polite and what its task owes, by the list
-    // of turns and then task by task.
-    ensures ran { IsTrue (S.view store.old).caller.tells → IfOk result (λ workers. RanWorkers draw tasks.now (places_of turns.now) (programs_from draw 0 tasks.now) (map worker_rest workers.items) (S.view store.old).seen (S.view store.new).seen) }
-    ensures ended { IfOk result (λ workers. (k : ℕ) → k < length workers.items → IsDoneAt k (map worker_rest workers.items)) }
+    // Whatever the store tells: which operations were made, which answers follow them, and how the tasks ended, by the list
+    // of turns and then task by task. Where it tells its journal, that goes on by these operations, each polite and owed.
+    ensures ran { IfOk result (λ outcomes. RanTasks draw tasks.now (S.view store.old).caller.tells (places_of turns.now) outcomes.items (S.view store.old).seen (S.view store.new).seen) }
 
     // What each outcome says of the journal: what was opened and shown, and what became of the commit.
-    ensures told { IsTrue (S.view store.old).caller.tells → IfOk result (λ workers. AllTold draw tasks.now (map worker_rest workers.items) (S.view store.old).seen (S.view store.new).seen) }
-    ensures size { IfOk result (λ workers. length workers.items ≡ length tasks.now) }
+    ensures told { IsTrue (S.view store.old).caller.tells → IfOk result (λ outcomes. AllTold draw tasks.now outcomes.items (S.view store.old).seen (S.view store.new).seen) }
+    ensures size { IfOk result (λ outcomes. length outcomes.items ≡ length tasks.now) }
 
     // An outcome tells a fault of the store only where it rose.
-    ensures blames { IfOk result (λ workers. AllBlame (map worker_rest workers.items) (S.view store.old).faults (S.view store.new).faults) }
+    ensures blames { IfOk result (λ outcomes. AllBlame outcomes.items (S.view store.old).faults (S.view store.new).faults) }
     ensures counted { (S.view store.old).faults ≤ (S.view store.new).faults }
     ensures tells { (S.view store.new).caller.tells ≡ (S.view store.old).caller.tells }
     ensures nothing { IfErr result (λ error. S.view store.new ≡ S.view store.old) }
 {
-    snapshot_law();
-    log_law();
-    ref_law();
-    initial_law();
+    task_law();
+    let mut outcomes = Vec::with_capacity(alloc, tasks.len())?;
     let mut workers = workers_for(alloc, tasks, draw)?;
     run_workers(&mut workers, turns, store);
-    Ok(workers)
+    take_outcomes(workers, &mut outcomes);
+    Ok(outcomes)
 }

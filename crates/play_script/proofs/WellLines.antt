@@ -1,6 +1,6 @@
 -- What heads, body lines and turns are where they are read.
-use Rattle.std.proofs.Common.{◌≡◌, ℕ, ◌+◌, ◌<◌, ◌≤◌, Bool, true, false, cond, nat_eq, List, [], ◌∷◌, length, Option, None, Some, Result, Ok, sym, ap, subst, ◌∙◌, arith}
-use Rattle.std.specs.Prelude.{IfSome, codes}
+use Rattle.std.proofs.Common.{◌≡◌, ℕ, ◌+◌, ◌<◌, ◌≤◌, Bool, true, false, cond, nat_eq, List, [], ◌∷◌, length, Option, None, Some, Result, Ok, refl, sym, ap, subst, ◌∙◌, arith}
+use Rattle.std.specs.Prelude.{IfSome, unwrap_or, codes}
 use Rattle.std.proofs.lemmas.Bool.{cond_both}
 use Rattle.std.proofs.lemmas.List.Elements.{All-tail}
 use Rattle.ice_base.specs.Lists.{IsBytes}
@@ -8,19 +8,21 @@ use Rattle.ice_base.specs.Names.{main_name}
 use Rattle.play_script.specs.declared.faults.ScriptKind.{ScriptKind}
 use Rattle.play_script.specs.declared.scripts.Call.{Call}
 use Rattle.play_script.specs.declared.scripts.Call.TheVariants as call
+use Rattle.play_script.specs.declared.scripts.EditCall.TheVariants as edit
+use Rattle.play_script.specs.declared.scripts.ReadCall.TheVariants as read
 use Rattle.play_script.specs.declared.scripts.Head.{Head}
 use Rattle.play_script.specs.declared.scripts.Head.TheVariants as head
 use Rattle.play_script.specs.declared.scripts.Task.{Task}
 use Rattle.play_script.specs.declared.scripts.Turn.{Turn}
-use Rattle.play_script.specs.declared.forms.Class.{Class}
-use Rattle.play_script.specs.declared.forms.Class.TheVariants as c
+use Rattle.play_script.specs.declared.scripts.Class.{Class}
+use Rattle.play_script.specs.declared.scripts.Class.TheVariants as c
 use Rattle.play_script.specs.declared.forms.Form.{Form}
 use Rattle.play_script.specs.Words.{Text, cut_of, one, two, three}
 use Rattle.play_script.specs.Parts.{◌&◌, made}
 use Rattle.play_script.specs.Values.{◌reads◌, fixed, path_of, branch_of, count_of}
-use Rattle.play_script.specs.Forms.{group_of, list_of, commit_of, form_of, write_of, read_of, head_of}
-use Rattle.play_script.specs.Places.{client_from, turn, turn_of}
-use Rattle.play_script.specs.Well.{IsWellCall, IsListCall, head_branch, IsWellTurn}
+use Rattle.play_script.specs.Forms.{taken, lone_path, edit_of, read_of, commit_of, form, no_form, form_of, write_head_of, read_head_of, head_of}
+use Rattle.play_script.specs.Places.{class_of, client_from, turn, turn_of}
+use Rattle.play_script.specs.Well.{IsWellPath, IsWellEdit, IsWellRead, IsWellCall, head_branch, IsWellTurn}
 use Rattle.play_script.proofs.Inversions.{made_ok, both_ok, taken_ok, path_ok, branch_ok, count_ok}
 
 -- what is left of a line of bytes is bytes
@@ -38,57 +40,68 @@ cut_left (b ∷ bs) h =
     let rest = All-tail (λ b. b < 256) b bs h in
     by_cut (nat_eq b 32) b bs rest (cut_left bs rest)
 
--- a class of lines and a call go together
-abbrev pub IsOfClass : Class → Call → Type 0
-IsOfClass c.Edit call = Unit {0}
-IsOfClass c.Read call = IsListCall call
+lone_path_ok : (rest : Option Text) (path : Text) → lone_path rest ≡ Ok path → IsWellPath path
+unfolding lone_path
+lone_path_ok rest path h = let t = taken_ok (one rest) path_of path h in path_ok t.0 path t.2
 
-group_ok : (rest : Option Text) (v : Call) → group_of rest ≡ Ok v → IsWellCall v
-unfolding group_of
-group_ok rest v h =
-    let t = taken_ok (one rest) (λ path. made call.Group (path_of path)) v h in
-    let m = made_ok call.Group (path_of t.0) v t.2 in
-    subst IsWellCall m.2 (path_ok t.0 m.0 m.1)
+-- what was read is of its grammar
+abbrev IsRight : {A : Type 0} → (A → Type 0) → Option (Result A ScriptKind) → Type 0
+IsRight {A} P words = IfSome words (λ r. (x : A) → r ≡ Ok x → P x)
 
-list_ok : (rest : Option Text) (v : Call) → list_of rest ≡ Ok v → IsWellCall v × IsListCall v
-unfolding list_of
-list_ok rest v h =
-    let t = taken_ok (one rest) (λ path. made call.List (path_of path)) v h in
-    let m = made_ok call.List (path_of t.0) v t.2 in
-    (subst IsWellCall m.2 (path_ok t.0 m.0 m.1), subst IsListCall m.2 tt)
+edit_ok : (first : Text) (rest : Option Text) → IsRight IsWellEdit (edit_of first rest)
+unfolding edit_of
+edit_ok first rest =
+    cond_both (first reads codes "group") _ _ (IsRight IsWellEdit) (λ _ x h. let m = made_ok edit.Group (lone_path rest) x h in subst IsWellEdit m.2 (lone_path_ok rest m.0 m.1)) (λ _. tt)
 
-commit_ok : (rest : Option Text) (v : Call) → AreLeft rest → commit_of rest ≡ Ok v → IsWellCall v
+read_ok : (first : Text) (rest : Option Text) → IsRight IsWellRead (read_of first rest)
+unfolding read_of
+read_ok first rest =
+    cond_both (first reads codes "list") _ _ (IsRight IsWellRead) (λ _ x h. let m = made_ok read.List (lone_path rest) x h in subst IsWellRead m.2 (lone_path_ok rest m.0 m.1)) (λ _. tt)
+
+left_ok : (rest : Option Text) (message : Text) → AreLeft rest → taken rest (λ message. Ok message) ≡ Ok message → IsBytes message
+left_ok None message left h = absurd (cc)
+left_ok (Some text) message left h = let e : text ≡ message = cc in subst IsBytes e left
+
+commit_ok : (first : Text) (rest : Option Text) → AreLeft rest → IsRight IsBytes (commit_of first rest)
 unfolding commit_of
-commit_ok None v left h = absurd (cc)
-commit_ok (Some message) v left h = let e : call.Commit message ≡ v = cc in subst IsWellCall e left
+commit_ok first rest left =
+    cond_both (first reads codes "commit") _ _ (IsRight IsBytes) (λ _ x h. left_ok rest x left h) (λ _. tt)
 
--- a body line is well, and of its class
+-- a call is well, and of this class
+abbrev pub IsOf : Class → Call → Type 0
+IsOf class v = IsWellCall v × (class_of v ≡ class)
+
 abbrev pub IsWellForm : Form → Type 0
-IsWellForm f = (v : Call) → f.call ≡ Ok v → IsWellCall v × IsOfClass f.class v
+IsWellForm f = (v : Call) → f.call ≡ Ok v → IsOf f.class v
+
+-- a line of a class, or else another
+class_ok : {A : Type 0} (P : A → Type 0) (class : Class) (call : A → Call) (words : Option (Result A ScriptKind)) (other : Form) → ((x : A) → P x → IsOf class (call x)) → IsRight P words → IsWellForm other → IsWellForm (unwrap_or (form class call words) other)
+class_ok P class call None other one right rest = rest
+class_ok P class call (Some r) other one right rest = λ v h. let m = made_ok call r v h in subst (IsOf class) m.2 (one m.0 (right m.0 m.1))
 
 pub form_ok : (first : Text) (rest : Option Text) → AreLeft rest → IsWellForm (form_of first rest)
 unfolding form_of
 form_ok first rest left =
-    cond_both (first reads codes "group") _ _ IsWellForm (λ _ v h. (group_ok rest v h, tt)) (λ _.
-    cond_both (first reads codes "list") _ _ IsWellForm (λ _. list_ok rest) (λ _.
-    cond_both (first reads codes "commit") _ _ IsWellForm (λ _ v h. (commit_ok rest v left h, tt)) (λ _ v h. absurd (cc))))
+    class_ok IsWellEdit c.Edit call.Edit (edit_of first rest) _ (λ x w. (w, refl)) (edit_ok first rest)
+    (class_ok IsWellRead c.Read call.Read (read_of first rest) _ (λ x w. (w, refl)) (read_ok first rest)
+    (class_ok IsBytes c.Commit call.Commit (commit_of first rest) no_form (λ x w. (w, refl)) (commit_ok first rest left) (λ v h. absurd (cc))))
 
 -- a head names the branch that is built
 abbrev pub IsOnMain : Result Head ScriptKind → Type 0
 IsOnMain r = (v : Head) → r ≡ Ok v → head_branch v ≡ main_name
 
-write_ok : (rest : Option Text) → IsOnMain (write_of rest)
-unfolding write_of
-write_ok rest v h =
+write_head_ok : (rest : Option Text) → IsOnMain (write_head_of rest)
+unfolding write_head_of
+write_head_ok rest v h =
     let t = taken_ok (three rest) (λ w. made (λ v. head.Write v.0.0) (branch_of w.0 & fixed w.1 (codes "0") & fixed w.2 (codes "fail"))) v h in
     let m = made_ok (λ (v : (Text × Unit {0}) × Unit {0}). head.Write v.0.0) (branch_of t.0.0 & fixed t.0.1 (codes "0") & fixed t.0.2 (codes "fail")) v t.2 in
     let b = both_ok (branch_of t.0.0 & fixed t.0.1 (codes "0")) (fixed t.0.2 (codes "fail")) m.0 m.1 in
     let a = both_ok (branch_of t.0.0) (fixed t.0.1 (codes "0")) m.0.0 b.0 in
     sym (ap head_branch m.2) ∙ branch_ok t.0.0 m.0.0.0 a.0
 
-read_ok : (rest : Option Text) → IsOnMain (read_of rest)
-unfolding read_of
-read_ok rest v h =
+read_head_ok : (rest : Option Text) → IsOnMain (read_head_of rest)
+unfolding read_head_of
+read_head_ok rest v h =
     let t = taken_ok (two rest) (λ w. made (λ v. head.Read v.1) (fixed w.0 (codes "branch") & branch_of w.1)) v h in
     let m = made_ok (λ (v : Unit {0} × Text). head.Read v.1) (fixed t.0.0 (codes "branch") & branch_of t.0.1) v t.2 in
     let b = both_ok (fixed t.0.0 (codes "branch")) (branch_of t.0.1) m.0 m.1 in
@@ -97,8 +110,8 @@ read_ok rest v h =
 pub head_ok : (word : Text) (rest : Option Text) → IsOnMain (head_of word rest)
 unfolding head_of
 head_ok word rest =
-    cond_both (word reads codes "write") _ _ IsOnMain (λ _. write_ok rest) (λ _.
-    cond_both (word reads codes "read") _ _ IsOnMain (λ _. read_ok rest) (λ _ v h. absurd (cc)))
+    cond_both (word reads codes "write") _ _ IsOnMain (λ _. write_head_ok rest) (λ _.
+    cond_both (word reads codes "read") _ _ IsOnMain (λ _. read_head_ok rest) (λ _ v h. absurd (cc)))
 
 -- a client is the number of a task
 abbrev IsFrom : ℕ → ℕ → Result ℕ ScriptKind → Type 0

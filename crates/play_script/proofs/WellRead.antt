@@ -8,7 +8,6 @@ use Rattle.play_script.specs.declared.faults.ScriptKind.{ScriptKind}
 use Rattle.play_script.specs.declared.faults.ScriptKind.TheVariants as k
 use Rattle.play_script.specs.declared.scripts.Call.{Call}
 use Rattle.play_script.specs.declared.scripts.Head.{Head}
-use Rattle.play_script.specs.declared.scripts.Head.TheVariants as head
 use Rattle.play_script.specs.declared.scripts.Line.{Line}
 use Rattle.play_script.specs.declared.scripts.Task.{Task}
 use Rattle.play_script.specs.declared.scripts.Turn.{Turn}
@@ -17,10 +16,10 @@ use Rattle.play_script.specs.Words.{Text, cut_of, pieces, next, lines_of}
 use Rattle.play_script.specs.Parts.{◌&◌, each, only_if}
 use Rattle.play_script.specs.Values.{◌reads◌, task_name_of}
 use Rattle.play_script.specs.Forms.{taken, form_of, head_of}
-use Rattle.play_script.specs.Places.{most_tasks, most_lines, last, is_open, takes, onto_last, with_line, body_line, is_used, with_task, may_begin, task_line, head_line, turn_of, turns_line, words_line, line_at}
+use Rattle.play_script.specs.Places.{most_tasks, most_lines, last, is_open, class_of, head_takes, takes, onto_last, with_line, body_line, is_used, with_task, may_begin, task_line, head_line, turn_of, turns_line, words_line, line_at}
 use Rattle.play_script.specs.declared.faults.ScriptFault.{ScriptFault}
 use Rattle.play_script.specs.Reading.{most_bytes, at_line, lines_from, empty, feeds, script_of, IsReading}
-use Rattle.play_script.specs.Well.{IsLineNumber, AreTaken, IsWellTask, IsWellTurn, IsWell}
+use Rattle.play_script.specs.Well.{IsLineNumber, IsWellTask, IsWellTurn, IsWell}
 use Rattle.play_script.proofs.Inversions.{made_ok, both_ok, only_if_ok, taken_ok, each_ok, task_name_ok}
 use Rattle.play_script.proofs.Utf8.{text_bytes}
 use Rattle.play_script.proofs.WellLines.{AreLeft, cut_left, form_ok, head_ok, turn_ok}
@@ -46,10 +45,6 @@ body_well s n first rest w number left t h =
       turns = no_turns s.turns (length (onto_last line s.tasks)) placed.0;
     })
 
-none_taken : (h : Head) → AreTaken h []
-none_taken (head.Write branch) = tt
-none_taken (head.Read branch) = All-nil _
-
 task_well : (s : Script) (n : ℕ) (name word : Text) (rest : Option Text) → IsWell s → IsLineNumber n → IsWellIfRead (task_line s n name word rest)
 unfolding task_line may_begin
 task_well s n name word rest w number t h =
@@ -66,7 +61,7 @@ task_well s n name word rest w number t h =
     let task : Task = record { name = m.0.0.1; line = n; head = m.0.1; body = [] } in
     subst IsWell m.2 (record {
       few = omega (arith, length-append s.tasks (task ∷ []), room);
-      tasks = All-push IsWellTask s.tasks task w.tasks (record { name = is_name.0; line = number; branch = head_ok word rest m.0.1 all.1; body = All-nil _; taken = none_taken m.0.1; commit = tt });
+      tasks = All-push IsWellTask s.tasks task w.tasks (record { name = is_name.0; line = number; branch = head_ok word rest m.0.1 all.1; body = All-nil _; taken = All-nil (λ (l : Line). head_takes m.0.1 (class_of l.call) ≡ true); commit = tt });
       names = names_more s.tasks task (subst (λ (x : Text). is_used s.tasks x ≡ false) is_name.1 free) w.names;
       turns = no_turns s.turns _ waiting;
     })

@@ -6,27 +6,22 @@ use Rattle.std.proofs.lemmas.Bool.{and_parts, and_from, or_parts, not-true, eq-e
 use Rattle.std.proofs.lemmas.List.Elements.{All-nil, All-cons, All-head, All-tail, All-push, All-map}
 use Rattle.std.proofs.lemmas.List.Quantifiers.{all_pairs_push}
 use Rattle.play_script.specs.declared.scripts.Head.{Head}
-use Rattle.play_script.specs.declared.scripts.Head.TheVariants as head
 use Rattle.play_script.specs.declared.scripts.Line.{Line}
 use Rattle.play_script.specs.declared.scripts.Task.{Task}
 use Rattle.play_script.specs.declared.scripts.Turn.{Turn}
-use Rattle.play_script.specs.declared.forms.Class.{Class}
-use Rattle.play_script.specs.declared.forms.Class.TheVariants as c
+use Rattle.play_script.specs.declared.scripts.Class.{Class}
 use Rattle.play_script.specs.Words.{Text}
 use Rattle.play_script.specs.Values.{◌reads◌}
-use Rattle.play_script.specs.Places.{last, head_takes, is_commit, is_commit_call, takes, onto_last, is_used}
-use Rattle.play_script.specs.Well.{IsListCall, IsWellLine, EndsAtCommit, AreTaken, IsWellTask, IsWellTurn}
-use Rattle.play_script.proofs.WellLines.{IsOfClass}
+use Rattle.play_script.specs.Places.{last, class_of, head_takes, is_commit, is_commit_call, takes, onto_last, is_used}
+use Rattle.play_script.specs.Well.{IsWellLine, EndsAtCommit, AreTaken, IsWellTask, IsWellTurn}
 
 last_of_more : {A : Type 0} (x y : A) (xs : List A) → last (x ∷ y ∷ xs) ≡ last (y ∷ xs)
 last_of_more x y xs =
     let e : suc (suc (length xs)) - 1 ≡ suc (suc (length xs) - 1) = omega arith in
     rw e refl
 
-taken_more : (h : Head) (class : Class) (body : List Line) (l : Line) → head_takes h class ≡ true → IsOfClass class l.call → AreTaken h body → AreTaken h (body ++ l ∷ [])
-taken_more (head.Write branch) class body l placed of_class taken = tt
-taken_more (head.Read branch) c.Read body l placed of_class taken = All-push (λ (l : Line). IsListCall l.call) body l taken of_class
-taken_more (head.Read branch) c.Edit body l placed of_class taken = absurd (cc)
+taken_more : (h : Head) (body : List Line) (l : Line) → head_takes h (class_of l.call) ≡ true → AreTaken h body → AreTaken h (body ++ l ∷ [])
+taken_more h body l placed taken = All-push (λ (l : Line). head_takes h (class_of l.call) ≡ true) body l taken placed
 
 ends_more : (body : List Line) (l : Line) → is_commit (last body) ≡ false → EndsAtCommit body → EndsAtCommit (body ++ l ∷ [])
 ends_more [] l before ends = (λ _. refl, tt)
@@ -34,7 +29,7 @@ ends_more (a ∷ []) l before ends = (λ is. absurd (both_ways (is_commit_call a
 ends_more (a ∷ b ∷ ls) l before ends =
     (λ is. let e : b ∷ ls ≡ [] = ends.0 is in absurd (cc), ends_more (b ∷ ls) l (rw (last_of_more a b ls) at before) ends.1)
 
-task_more : (t : Task) (l : Line) (class : Class) → (head_takes t.head class && not (is_commit (last t.body))) ≡ true → IsOfClass class l.call → IsWellLine l → IsWellTask t → IsWellTask (record t { body = t.body ++ l ∷ [] })
+task_more : (t : Task) (l : Line) (class : Class) → (head_takes t.head class && not (is_commit (last t.body))) ≡ true → class_of l.call ≡ class → IsWellLine l → IsWellTask t → IsWellTask (record t { body = t.body ++ l ∷ [] })
 task_more t l class placed of_class is_well w =
     let parts = and_parts (head_takes t.head class) (not (is_commit (last t.body))) placed in
     record {
@@ -42,12 +37,12 @@ task_more t l class placed of_class is_well w =
       line = w.line;
       branch = w.branch;
       body = All-push IsWellLine t.body l w.body is_well;
-      taken = taken_more t.head class t.body l parts.0 of_class w.taken;
+      taken = taken_more t.head t.body l (rw of_class parts.0) w.taken;
       commit = ends_more t.body l (not-true _ parts.1) w.commit;
     }
 
 -- the last task takes one more line
-pub tasks_more : (l : Line) (class : Class) (ts : List Task) → takes (last ts) class ≡ true → IsOfClass class l.call → IsWellLine l → All IsWellTask ts → All IsWellTask (onto_last l ts)
+pub tasks_more : (l : Line) (class : Class) (ts : List Task) → takes (last ts) class ≡ true → class_of l.call ≡ class → IsWellLine l → All IsWellTask ts → All IsWellTask (onto_last l ts)
 tasks_more l class [] placed of_class is_well w = All-nil IsWellTask
 tasks_more l class (t ∷ []) placed of_class is_well w =
     All-cons IsWellTask (record t { body = t.body ++ l ∷ [] }) [] (task_more t l class placed of_class is_well (All-head IsWellTask t [] w)) (All-nil IsWellTask)

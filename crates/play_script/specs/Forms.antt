@@ -1,13 +1,17 @@
 -- Own: the forms of heads and body lines, each by its words.
-use Rattle.std.specs.Prelude.{if◌then◌else◌, Option, Some, None, Result, Ok, Err, codes}
+use Rattle.std.specs.Prelude.{if◌then◌else◌, Option, Some, None, option_map, unwrap_or, Result, Ok, Err, codes}
 use Rattle.play_script.specs.declared.faults.ScriptKind.{ScriptKind}
 use Rattle.play_script.specs.declared.faults.ScriptKind.TheVariants as k
 use Rattle.play_script.specs.declared.scripts.Call.{Call}
 use Rattle.play_script.specs.declared.scripts.Call.TheVariants as call
+use Rattle.play_script.specs.declared.scripts.EditCall.{EditCall}
+use Rattle.play_script.specs.declared.scripts.EditCall.TheVariants as edit
+use Rattle.play_script.specs.declared.scripts.ReadCall.{ReadCall}
+use Rattle.play_script.specs.declared.scripts.ReadCall.TheVariants as read
 use Rattle.play_script.specs.declared.scripts.Head.{Head}
 use Rattle.play_script.specs.declared.scripts.Head.TheVariants as head
-use Rattle.play_script.specs.declared.forms.Class.{Class}
-use Rattle.play_script.specs.declared.forms.Class.TheVariants as c
+use Rattle.play_script.specs.declared.scripts.Class.{Class}
+use Rattle.play_script.specs.declared.scripts.Class.TheVariants as c
 use Rattle.play_script.specs.declared.forms.Form.{Form}
 use Rattle.play_script.specs.Words.{Text, one, two, three}
 use Rattle.play_script.specs.Parts.{◌&◌, made}
@@ -18,39 +22,52 @@ abbrev pub taken : {A B : Type 0} → Option A → (A → Result B ScriptKind) �
 taken None f = Err k.Unbuilt
 taken (Some words) f = f words
 
+-- one path, and nothing else
+unfoldable pub lone_path : Option Text → Result Text ScriptKind
+lone_path rest = taken (one rest) path_of
+
+-- Lines by class: what a line of this first word calls, if the class has such a line.
+
 -- `group PATH`
-unfoldable pub group_of : Option Text → Result Call ScriptKind
-group_of rest = taken (one rest) (λ path. made call.Group (path_of path))
+unfoldable pub edit_of : Text → Option Text → Option (Result EditCall ScriptKind)
+edit_of first rest =
+    if first reads codes "group" then Some (made edit.Group (lone_path rest)) else None
 
 -- `list PATH`
-unfoldable pub list_of : Option Text → Result Call ScriptKind
-list_of rest = taken (one rest) (λ path. made call.List (path_of path))
+unfoldable pub read_of : Text → Option Text → Option (Result ReadCall ScriptKind)
+read_of first rest =
+    if first reads codes "list" then Some (made read.List (lone_path rest)) else None
 
 -- `commit MESSAGE`: the rest of the line, perhaps empty
-unfoldable pub commit_of : Option Text → Result Call ScriptKind
-commit_of rest = taken rest (λ message. Ok (call.Commit message))
+unfoldable pub commit_of : Text → Option Text → Option (Result Text ScriptKind)
+commit_of first rest =
+    if first reads codes "commit" then Some (taken rest (λ message. Ok message)) else None
 
-abbrev pub form : Class → Result Call ScriptKind → Form
-form class call = record { class = class; call = call }
+-- lines of a class
+abbrev pub form : {A : Type 0} → Class → (A → Call) → Option (Result A ScriptKind) → Option Form
+form class call words = option_map (λ words. record { class = class; call = made call words }) words
+
+-- a line of no class is refused as an edit is
+abbrev pub no_form : Form
+no_form = record { class = c.Edit; call = Err k.Unbuilt }
 
 -- a body line by its first word
 unfoldable pub form_of : Text → Option Text → Form
 form_of first rest =
-    if first reads codes "group" then form c.Edit (group_of rest) else
-    (if first reads codes "list" then form c.Read (list_of rest) else
-    (if first reads codes "commit" then form c.Edit (commit_of rest) else
-    form c.Edit (Err k.Unbuilt)))
+    unwrap_or (form c.Edit call.Edit (edit_of first rest))
+    (unwrap_or (form c.Read call.Read (read_of first rest))
+    (unwrap_or (form c.Commit call.Commit (commit_of first rest)) no_form))
 
 -- `write main 0 fail`
-unfoldable pub write_of : Option Text → Result Head ScriptKind
-write_of rest = taken (three rest) (λ w. made (λ v. head.Write v.0.0) (branch_of w.0 & fixed w.1 (codes "0") & fixed w.2 (codes "fail")))
+unfoldable pub write_head_of : Option Text → Result Head ScriptKind
+write_head_of rest = taken (three rest) (λ w. made (λ v. head.Write v.0.0) (branch_of w.0 & fixed w.1 (codes "0") & fixed w.2 (codes "fail")))
 
 -- `read branch main`
-unfoldable pub read_of : Option Text → Result Head ScriptKind
-read_of rest = taken (two rest) (λ w. made (λ v. head.Read v.1) (fixed w.0 (codes "branch") & branch_of w.1))
+unfoldable pub read_head_of : Option Text → Result Head ScriptKind
+read_head_of rest = taken (two rest) (λ w. made (λ v. head.Read v.1) (fixed w.0 (codes "branch") & branch_of w.1))
 
 -- a head by its word
 unfoldable pub head_of : Text → Option Text → Result Head ScriptKind
 head_of word rest =
-    if word reads codes "write" then write_of rest else
-    (if word reads codes "read" then read_of rest else Err k.Unbuilt)
+    if word reads codes "write" then write_head_of rest else
+    (if word reads codes "read" then read_head_of rest else Err k.Unbuilt)

@@ -12,8 +12,8 @@ use Rattle.play_script.specs.declared.scripts.Line.{Line}
 use Rattle.play_script.specs.declared.scripts.Task.{Task}
 use Rattle.play_script.specs.declared.scripts.Turn.{Turn}
 use Rattle.play_script.specs.declared.scripts.Script.{Script}
-use Rattle.play_script.specs.declared.forms.Class.{Class}
-use Rattle.play_script.specs.declared.forms.Class.TheVariants as c
+use Rattle.play_script.specs.declared.scripts.Class.{Class}
+use Rattle.play_script.specs.declared.scripts.Class.TheVariants as c
 use Rattle.play_script.specs.Words.{Text, cut_of, pieces, next}
 use Rattle.play_script.specs.Parts.{◌&◌, made, each, only_if}
 use Rattle.play_script.specs.Values.{◌reads◌, task_name_of, count_of}
@@ -35,15 +35,21 @@ is_open s = not (is_some s.turns)
 
 -- a task's head takes the line, and its commit hasn't come yet
 
+abbrev pub class_of : Call → Class
+class_of (call.Edit change) = c.Edit
+class_of (call.Read look) = c.Read
+class_of (call.Commit message) = c.Commit
+
 abbrev pub head_takes : Head → Class → Bool
 head_takes (head.Write branch) class = true
-head_takes (head.Read branch) c.Read = true
 head_takes (head.Read branch) c.Edit = false
+head_takes (head.Read branch) c.Read = true
+head_takes (head.Read branch) c.Commit = false
 
 abbrev pub is_commit_call : Call → Bool
+is_commit_call (call.Edit change) = false
+is_commit_call (call.Read look) = false
 is_commit_call (call.Commit message) = true
-is_commit_call (call.Group path) = false
-is_commit_call (call.List path) = false
 
 abbrev pub is_commit : Option Line → Bool
 is_commit None = false

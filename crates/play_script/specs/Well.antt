@@ -6,6 +6,10 @@ use Rattle.std.specs.Str.{is_utf8}
 use Rattle.zarr_path.specs.Paths.{is_path}
 use Rattle.play_script.specs.declared.scripts.Call.{Call}
 use Rattle.play_script.specs.declared.scripts.Call.TheVariants as call
+use Rattle.play_script.specs.declared.scripts.EditCall.{EditCall}
+use Rattle.play_script.specs.declared.scripts.EditCall.TheVariants as edit
+use Rattle.play_script.specs.declared.scripts.ReadCall.{ReadCall}
+use Rattle.play_script.specs.declared.scripts.ReadCall.TheVariants as read
 use Rattle.play_script.specs.declared.scripts.Head.{Head}
 use Rattle.play_script.specs.declared.scripts.Head.TheVariants as head
 use Rattle.play_script.specs.declared.scripts.Line.{Line}
@@ -14,12 +18,21 @@ use Rattle.play_script.specs.declared.scripts.Turn.{Turn}
 use Rattle.play_script.specs.declared.scripts.Script.{Script}
 use Rattle.play_script.specs.Words.{Text}
 use Rattle.play_script.specs.Values.{is_task_name}
-use Rattle.play_script.specs.Places.{most_tasks, most_lines, is_commit_call}
+use Rattle.play_script.specs.Places.{most_tasks, most_lines, class_of, head_takes, is_commit_call}
 
 -- the values of a call are of their grammars
+abbrev pub IsWellPath : Text → Type 0
+IsWellPath path = IsTrue (is_path path) × IsTrue (is_utf8 path)
+
+abbrev pub IsWellEdit : EditCall → Type 0
+IsWellEdit (edit.Group path) = IsWellPath path
+
+abbrev pub IsWellRead : ReadCall → Type 0
+IsWellRead (read.List path) = IsWellPath path
+
 abbrev pub IsWellCall : Call → Type 0
-IsWellCall (call.Group path) = IsTrue (is_path path) × IsTrue (is_utf8 path)
-IsWellCall (call.List path) = IsTrue (is_path path) × IsTrue (is_utf8 path)
+IsWellCall (call.Edit change) = IsWellEdit change
+IsWellCall (call.Read look) = IsWellRead look
 IsWellCall (call.Commit message) = IsBytes message
 
 -- a number of a line
@@ -39,15 +52,9 @@ abbrev pub head_branch : Head → Text
 head_branch (head.Write branch) = branch
 head_branch (head.Read branch) = branch
 
-abbrev pub IsListCall : Call → Type 0
-IsListCall (call.List path) = Unit {0}
-IsListCall (call.Group path) = ⊥
-IsListCall (call.Commit message) = ⊥
-
--- the lines are such as the head takes
+-- the lines are of classes that the head takes
 abbrev pub AreTaken : Head → List Line → Type 0
-AreTaken (head.Write branch) body = Unit {0}
-AreTaken (head.Read branch) body = All (λ l. IsListCall l.call) body
+AreTaken h body = All (λ l. IsTrue (head_takes h (class_of l.call))) body
 
 pub record IsWellTask (t : Task) : Type 0 where
   pub name : IsTrue (is_task_name t.name)

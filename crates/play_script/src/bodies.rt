@@ -5,8 +5,8 @@ ghost use Rattle.play_script.specs.Words.{seen};
 ghost use Rattle.play_script.specs.Places.{head_takes, is_commit, takes, is_open, with_line, body_line};
 
 use crate::faults::{ScriptKind, both, only_if};
-use crate::forms::{Class, form_in};
-use crate::scripts::{Call, Head, Line, Lines, Script, Task, Tasks};
+use crate::forms::form_in;
+use crate::scripts::{Call, Class, Head, Line, Lines, Script, Task, Tasks};
 use std::alloc::{AllocError, Global};
 
 fn head_takes(head: &Head, class: Class) -> bool
@@ -23,10 +23,7 @@ fn is_commit(line: Option<&Line>) -> bool
 {
     match line {
         None => false,
-        Some(line) => match &line.call {
-            Call::Commit { .. } => true,
-            _ => false,
-        },
+        Some(line) => matches!(&line.call, Call::Commit { .. }),
     }
 }
 

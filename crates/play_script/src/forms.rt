@@ -1,69 +1,92 @@
 //! The forms of heads and body lines.
 
-ghost use Rattle.std.specs.Prelude.{◌≡◌, IfOk};
+ghost use Rattle.std.specs.Prelude.{◌≡◌, IfOk, Ok};
 ghost use Rattle.play_script.specs.Words.{seen};
-ghost use Rattle.play_script.specs.Forms.{group_of, list_of, commit_of, form_of, write_of, read_of, head_of};
+ghost use Rattle.play_script.specs.declared.scripts.Call.TheVariants as Call;
+ghost use Rattle.play_script.specs.declared.scripts.Class.TheVariants as Class;
+ghost use Rattle.play_script.specs.Forms.{taken, lone_path, edit_of, read_of, commit_of, form, form_of, write_head_of, read_head_of, head_of};
 
 use crate::faults::{ScriptKind, both};
-use crate::scripts::{Call, Head};
+use crate::scripts::{Call, Class, EditCall, Head, ReadCall};
 use crate::values::{branch_in, fixed, path_in};
 use crate::words::{one, three, two};
 use ice_base::Bytes;
 use std::alloc::{AllocError, Global};
-
-/// Which heads take a body line.
-#[derive(Clone, Copy, Debug, PartialEq, Eq)]
-pub enum Class {
-    /// Heads that edit.
-    Edit,
-    /// Heads that edit, and heads that read.
-    Read,
-}
+use zarr_path::Path;
 
 /// A body line by its first word.
 #[derive(Debug, Drop)]
 pub struct Form {
-    /// Which heads take it.
+    /// Its class.
     pub class: Class,
     /// What it calls, or what is wrong with its words.
     pub call: Result<Call, ScriptKind>,
 }
 
-#[tactic(auto, unfolding(crate::specs::Forms::group_of))]
-fn group(alloc: Global, rest: Option<&str>) -> Result<Result<Call, ScriptKind>, AllocError>
-    ensures { IfOk result (λ r. r ≡ group_of (seen rest.entry)) }
+/// The one path that is left of a line.
+#[tactic(auto, unfolding(crate::specs::Forms::lone_path))]
+fn lone_path(alloc: Global, rest: Option<&str>) -> Result<Result<Path, ScriptKind>, AllocError>
+    ensures { IfOk result (λ r. r ≡ lone_path (seen rest.entry)) }
 {
-    let Some(path) = one(rest) else {
-        return Ok(Err(ScriptKind::Unbuilt));
-    };
-    Ok(match path_in(alloc, path)? {
-        Ok(path) => Ok(Call::Group { path }),
-        Err(kind) => Err(kind),
-    })
+    match one(rest) {
+        Some(path) => path_in(alloc, path),
+        None => Ok(Err(ScriptKind::Unbuilt)),
+    }
 }
 
-#[tactic(auto, unfolding(crate::specs::Forms::list_of))]
-fn list(alloc: Global, rest: Option<&str>) -> Result<Result<Call, ScriptKind>, AllocError>
-    ensures { IfOk result (λ r. r ≡ list_of (seen rest.entry)) }
+/// All that is left of a line.
+fn message(alloc: Global, rest: Option<&str>) -> Result<Result<Bytes, ScriptKind>, AllocError>
+    ensures { IfOk result (λ r. r ≡ taken (seen rest.entry) (λ message. Ok message)) }
 {
-    let Some(path) = one(rest) else {
-        return Ok(Err(ScriptKind::Unbuilt));
-    };
-    Ok(match path_in(alloc, path)? {
-        Ok(path) => Ok(Call::List { path }),
-        Err(kind) => Err(kind),
-    })
+    match rest {
+        Some(message) => Ok(Ok(Bytes::of(alloc, message.as_bytes())?)),
+        None => Ok(Err(ScriptKind::Unbuilt)),
+    }
 }
 
+/// A line that changes the tree.
+#[tactic(auto, unfolding(crate::specs::Forms::edit_of))]
+fn edit_in(alloc: Global, first: &str, rest: Option<&str>) -> Result<Option<Form>, AllocError>
+    ensures { IfOk result (λ f. f ≡ form Class.Edit Call.Edit (edit_of first.now (seen rest.entry))) }
+{
+    let call = match first {
+        "group" => lone_path(alloc, rest)?.map(|path| EditCall::Group { path }),
+        _ => return Ok(None),
+    };
+    Ok(Some(Form {
+        class: Class::Edit,
+        call: call.map(Call::Edit),
+    }))
+}
+
+/// A line that looks at the tree.
+#[tactic(auto, unfolding(crate::specs::Forms::read_of))]
+fn read_in(alloc: Global, first: &str, rest: Option<&str>) -> Result<Option<Form>, AllocError>
+    ensures { IfOk result (λ f. f ≡ form Class.Read Call.Read (read_of first.now (seen rest.entry))) }
+{
+    let call = match first {
+        "list" => lone_path(alloc, rest)?.map(|path| ReadCall::List { path }),
+        _ => return Ok(None),
+    };
+    Ok(Some(Form {
+        class: Class::Read,
+        call: call.map(Call::Read),
+    }))
+}
+
+/// A line that commits.
 #[tactic(auto, unfolding(crate::specs::Forms::commit_of))]
-fn commit(alloc: Global, rest: Option<&str>) -> Result<Result<Call, ScriptKind>, AllocError>
-    ensures { IfOk result (λ r. r ≡ commit_of (seen rest.entry)) }
+fn commit_in(alloc: Global, first: &str, rest: Option<&str>) -> Result<Option<Form>, AllocError>
+    ensures { IfOk result (λ f. f ≡ form Class.Commit Call.Commit (commit_of first.now (seen rest.entry))) }
 {
-    let Some(message) = rest else {
-        return Ok(Err(ScriptKind::Unbuilt));
+    let call = match first {
+        "commit" => message(alloc, rest)?.map(|message| Call::Commit { message }),
+        _ => return Ok(None),
     };
-    let message = Bytes::of(alloc, message.as_bytes())?;
-    Ok(Ok(Call::Commit { message }))
+    Ok(Some(Form {
+        class: Class::Commit,
+        call,
+    }))
 }
 
 /// A body line by its first word.
@@ -71,23 +94,14 @@ fn commit(alloc: Global, rest: Option<&str>) -> Result<Result<Call, ScriptKind>,
 pub fn form_in(alloc: Global, first: &str, rest: Option<&str>) -> Result<Form, AllocError>
     ensures { IfOk result (λ r. r ≡ form_of first.now (seen rest.entry)) }
 {
-    if first == "group" {
-        return Ok(Form {
-            class: Class::Edit,
-            call: group(alloc, rest)?,
-        });
+    if let Some(form) = edit_in(alloc, first, rest)? {
+        return Ok(form);
     }
-    if first == "list" {
-        return Ok(Form {
-            class: Class::Read,
-            call: list(alloc, rest)?,
-        });
+    if let Some(form) = read_in(alloc, first, rest)? {
+        return Ok(form);
     }
-    if first == "commit" {
-        return Ok(Form {
-            class: Class::Edit,
-            call: commit(alloc, rest)?,
-        });
+    if let Some(form) = commit_in(alloc, first, rest)? {
+        return Ok(form);
     }
     Ok(Form {
         class: Class::Edit,
@@ -95,9 +109,9 @@ pub fn form_in(alloc: Global, first: &str, rest: Option<&str>) -> Result<Form, A
     })
 }
 
-#[tactic(auto, unfolding(crate::specs::Forms::write_of))]
+#[tactic(auto, unfolding(crate::specs::Forms::write_head_of))]
 fn write(alloc: Global, rest: Option<&str>) -> Result<Result<Head, ScriptKind>, AllocError>
-    ensures { IfOk result (λ r. r ≡ write_of (seen rest.entry)) }
+    ensures { IfOk result (λ r. r ≡ write_head_of (seen rest.entry)) }
 {
     let Some((branch, tries, policy)) = three(rest) else {
         return Ok(Err(ScriptKind::Unbuilt));
@@ -111,9 +125,9 @@ fn write(alloc: Global, rest: Option<&str>) -> Result<Result<Head, ScriptKind>, 
     })
 }
 
-#[tactic(auto, unfolding(crate::specs::Forms::read_of))]
+#[tactic(auto, unfolding(crate::specs::Forms::read_head_of))]
 fn read(alloc: Global, rest: Option<&str>) -> Result<Result<Head, ScriptKind>, AllocError>
-    ensures { IfOk result (λ r. r ≡ read_of (seen rest.entry)) }
+    ensures { IfOk result (λ r. r ≡ read_head_of (seen rest.entry)) }
 {
     let Some((at, branch)) = two(rest) else {
         return Ok(Err(ScriptKind::Unbuilt));

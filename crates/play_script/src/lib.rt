@@ -24,5 +24,5 @@ mod words;
 pub use faults::{ScriptFault, ScriptKind};
 pub use heads::MOST_TASKS;
 pub use reading::{MOST_BYTES, MOST_LINES};
-pub use scripts::{Call, Head, Line, Lines, Script, Task, Tasks, Turn, Turns};
+pub use scripts::{Call, EditCall, Head, Line, Lines, ReadCall, Script, Task, Tasks, Turn, Turns};
 pub use values::TaskName;

@@ -1,30 +1,53 @@
 //! What a script says.
 
-ghost use Rattle.std.specs.Prelude.{◌≡◌};
-
 use crate::values::TaskName;
 use ice_base::{Bytes, RefName};
-use std::marker::Model;
+use ice_items::Items;
 use zarr_path::Path;
 
-/// What a body line calls.
+/// What a line calls that changes the tree of its task's session.
 #[derive(Debug, Drop)]
-pub enum Call {
+pub enum EditCall {
     /// Adds a group.
     Group {
         /// Where it is added.
         path: Path,
     },
+}
+
+/// What a line calls that shows something and changes nothing.
+#[derive(Debug, Drop)]
+pub enum ReadCall {
     /// Lists the nodes strictly beneath a path.
     List {
         /// The path.
         path: Path,
     },
+}
+
+/// What a body line calls.
+#[derive(Debug, Drop)]
+pub enum Call {
+    /// A change of the session's tree.
+    Edit(EditCall),
+    /// A look at the session's tree.
+    Read(ReadCall),
     /// Commits the changes.
     Commit {
         /// The commit's message, any UTF-8.
         message: Bytes,
     },
+}
+
+/// The classes of calls: a head takes all lines of a class, or none.
+#[derive(Clone, Copy, Debug, PartialEq, Eq)]
+pub enum Class {
+    /// Changes of the tree.
+    Edit,
+    /// Looks at the tree.
+    Read,
+    /// Commits.
+    Commit,
 }
 
 /// A body line.
@@ -36,44 +59,8 @@ pub struct Line {
     pub call: Call,
 }
 
-/// The body lines of a task, in their order. Contracts see them as a list.
-#[derive(Debug, Drop)]
-pub struct Lines {
-    items: Vec<Line>,
-}
-
-impl Model for Lines {
-    ghost use Rattle.std.specs.Prelude.{List};
-    ghost use Rattle.play_script.specs.declared.scripts.Line.{Line};
-
-    ghost Value = { List Line };
-
-    ghost view = { λ lines. lines.items.items };
-}
-
-impl Lines {
-    /// The lines of a vector; this takes no memory.
-    pub fn from_vec(items: Vec<Line>) -> Lines
-        ensures { result ≡ items.items }
-    {
-        Lines { items }
-    }
-
-    /// The vector of these lines; this takes no memory.
-    pub fn into_vec(self) -> Vec<Line>
-        ensures { result.items ≡ self }
-    {
-        let Lines { items } = self;
-        items
-    }
-
-    /// The lines.
-    pub fn as_slice(&self) -> &[Line]
-        ensures { result.now ≡ self.now }
-    {
-        self.items.as_slice()
-    }
-}
+/// The body lines of a task, in their order.
+pub type Lines = Items<Line>;
 
 /// How a task begins.
 #[derive(Debug, Drop)]
@@ -103,45 +90,8 @@ pub struct Task {
     pub body: Lines,
 }
 
-/// The tasks of a script, in their order: the client of the task at place k, from 0, has the number k + 1. Contracts see
-/// them as a list.
-#[derive(Debug, Drop)]
-pub struct Tasks {
-    items: Vec<Task>,
-}
-
-impl Model for Tasks {
-    ghost use Rattle.std.specs.Prelude.{List};
-    ghost use Rattle.play_script.specs.declared.scripts.Task.{Task};
-
-    ghost Value = { List Task };
-
-    ghost view = { λ tasks. tasks.items.items };
-}
-
-impl Tasks {
-    /// The tasks of a vector; this takes no memory.
-    pub fn from_vec(items: Vec<Task>) -> Tasks
-        ensures { result ≡ items.items }
-    {
-        Tasks { items }
-    }
-
-    /// The vector of these tasks; this takes no memory.
-    pub fn into_vec(self) -> Vec<Task>
-        ensures { result.items ≡ self }
-    {
-        let Tasks { items } = self;
-        items
-    }
-
-    /// The tasks.
-    pub fn as_slice(&self) -> &[Task]
-        ensures { result.now ≡ self.now }
-    {
-        self.items.as_slice()
-    }
-}
+/// The tasks of a script, in their order: the client of the task at place k, from 0, has the number k + 1.
+pub type Tasks = Items<Task>;
 
 /// Some steps of one client, one after another.
 #[derive(Clone, Copy, Debug, PartialEq, Eq)]
@@ -152,44 +102,8 @@ pub struct Turn {
     pub count: u32,
 }
 
-/// Turns, in their order. Contracts see them as a list.
-#[derive(Debug, Drop)]
-pub struct Turns {
-    items: Vec<Turn>,
-}
-
-impl Model for Turns {
-    ghost use Rattle.std.specs.Prelude.{List};
-    ghost use Rattle.play_script.specs.declared.scripts.Turn.{Turn};
-
-    ghost Value = { List Turn };
-
-    ghost view = { λ turns. turns.items.items };
-}
-
-impl Turns {
-    /// The turns of a vector; this takes no memory.
-    pub fn from_vec(items: Vec<Turn>) -> Turns
-        ensures { result ≡ items.items }
-    {
-        Turns { items }
-    }
-
-    /// The vector of these turns; this takes no memory.
-    pub fn into_vec(self) -> Vec<Turn>
-        ensures { result.items ≡ self }
-    {
-        let Turns { items } = self;
-        items
-    }
-
-    /// The turns.
-    pub fn as_slice(&self) -> &[Turn]
-        ensures { result.now ≡ self.now }
-    {
-        self.items.as_slice()
-    }
-}
+/// Turns, in their order.
+pub type Turns = Items<Turn>;
 
 /// Tasks, and the turns that they take where the script names them.
 #[derive(Debug, Drop)]

@@ -1,5 +1,5 @@
 pub mod Locals
-pub mod TurnLaws
-pub mod Careful
-pub mod Told
-pub mod Before
+pub mod Stepping
+pub mod Carrying
+pub mod Playing
+pub mod Others

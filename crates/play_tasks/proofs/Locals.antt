@@ -1,5 +1,5 @@
 -- What local calls of a session come to; none of them tells a fault of the store.
-use Rattle.std.proofs.Common.{◌≡◌, refl, sym, ap, ◌∙◌, Bool, true, false, ℕ, List, ◌∷◌, Option, None, Some, Result, Ok, Err}
+use Rattle.std.proofs.Common.{◌≡◌, inl, ◌++◌, subst, refl, sym, ap, ◌∙◌, Bool, true, false, ℕ, List, ◌∷◌, Option, None, Some, Result, Ok, Err}
 use Rattle.std.proofs.Common.{suc, arith, ◌+◌, ◌<◌, ◌≤◌, length, drop, slice_index_or}
 use Rattle.std.proofs.Math.Seq.{drop-cons}
 use Rattle.std.proofs.Math.ListN.{drop_of_length-le}
@@ -14,29 +14,33 @@ use Rattle.tree_model.specs.Trees.{refusal, node_at}
 use Rattle.tree_model.specs.Touched.{touched, is_untouched}
 use Rattle.store_api.specs.declared.machines.Refusal.{Refusal}
 use Rattle.store_api.specs.declared.machines.Refusal.TheVariants as R
-use Rattle.store_api.specs.Program.{Prog, bind, is_fault}
+use Rattle.store_api.specs.Program.{Prog, is_fault}
+use Rattle.store_api.specs.Plays.{Play, Or, call, Comes}
 use Rattle.session.specs.declared.session.Listing.{Listing}
 use Rattle.session.specs.Sessions.{SessionState, overlay}
 use Rattle.session.specs.Editing.{AddsGroup, group_added, unless_refused, drawn_group, any_id, listed, if_there, beneath}
-use Rattle.commit_path.specs.declared.commit.Committed.{Committed}
+use Rattle.commit_path.specs.declared.commit.Committed.{Committed as Made}
 use Rattle.commit_path.specs.Committing.{started, drawn_start, commit_program}
 use Rattle.play_script.specs.declared.scripts.Line.{Line}
-use Rattle.play_report.specs.declared.outcome.Shown.{Shown}
-use Rattle.play_report.specs.declared.outcome.End.TheVariants.{Refused, Done}
-use Rattle.play_report.specs.declared.outcome.Outcome.{Outcome}
+use Rattle.play_script.specs.declared.scripts.Task.{Task}
+use Rattle.play_outcome.specs.declared.outcome.Shown.{Shown}
+use Rattle.play_outcome.specs.declared.outcome.End.TheVariants.{Refused, Done}
+use Rattle.play_outcome.specs.declared.outcome.Outcome.{Outcome}
 use Rattle.play_tasks.specs.declared.working.Working.{Working}
 use Rattle.play_tasks.specs.declared.working.Working.TheVariants as w
-use Rattle.play_tasks.specs.Playing.{Local, On, Stop, play_call, play_lines, goes_on, ended, after_start, after_commit}
-use Rattle.play_tasks.specs.Working.{is_well}
+use Rattle.play_tasks.specs.declared.working.Step.TheVariants as step
+use Rattle.play_tasks.specs.Lines.{Deed, Goes, deed}
+use Rattle.play_tasks.specs.Playing.{after_start, after_commit, play_deed, play_lines, ended, refused}
+use Rattle.play_tasks.specs.Working.{is_well, LineComes, working_rest}
 
 -- a commit began
-pub start_on : (line : ℕ) (message copied : List ℕ) (shown kept : List Shown) (r : Result (Id12 × SessionState) Refusal) (id : Id12) (t : SessionState) (rest : Prog (Result Committed Refusal))
-    → copied ≡ message → kept ≡ shown → r ≡ Ok (id, t) → rest ≡ commit_program t copied id → after_start line message shown r ≡ Stop (bind rest (after_commit line kept))
+pub start_on : (line : ℕ) (message copied : List ℕ) (shown kept : List Shown) (r : Result (Id12 × SessionState) Refusal) (id : Id12) (t : SessionState) (rest : Prog (Result Made Refusal))
+    → copied ≡ message → kept ≡ shown → r ≡ Ok (id, t) → rest ≡ commit_program t copied id → Comes (after_start line message shown r) (call rest (after_commit line kept))
 start_on line message copied shown kept r id t rest m k e p =
-    ap (after_start line message shown) e
-    ∙ ap (λ (x : List ℕ). Stop (bind (commit_program t x id) (after_commit line shown))) (sym m)
-    ∙ ap (λ (x : Prog (Result Committed Refusal)). Stop (bind x (after_commit line shown))) (sym p)
-    ∙ ap (λ (x : List Shown). Stop (bind rest (after_commit line x))) (sym k)
+    subst (λ (x : Result (Id12 × SessionState) Refusal). Comes (after_start line message shown x) (call rest (after_commit line kept))) (sym e)
+    (ap (λ (x : Prog (Result Made Refusal)). call x (after_commit line kept)) p
+    ∙ ap (λ (x : List ℕ). call (commit_program t x id) (after_commit line kept)) m
+    ∙ ap (λ (x : List Shown). call (commit_program t message id) (after_commit line x)) k)
 
 -- ---- refusals that tell no fault
 pub well_refused : (x : Working) (line : ℕ) (shown : List Shown) (why : Refusal) → x ≡ w.Ended (record { shown = shown; end = Refused line why }) → is_fault why ≡ false → is_well x ≡ true
@@ -108,21 +112,22 @@ adds_fault s t p R.NothingToCommit a = refl
 drop_at : (lines : List Line) (i : ℕ) (l : Line) → i < length lines → drop i lines ≡ slice_index_or lines i l ∷ drop (i + 1) lines
 drop_at lines i l within = let next : suc i ≡ i + 1 = omega arith in drop-cons lines i l within ∙ ap (λ (n : ℕ). slice_index_or lines i l ∷ drop n lines) next
 
-pub one_on : (lines : List Line) (i : ℕ) (l : Line) (s t : SessionState) (shown more : List Shown) → i < length lines → l ≡ slice_index_or lines i l
-    → play_call l.number l.call s shown ≡ On t more → play_lines (drop i lines) s shown ≡ play_lines (drop (i + 1) lines) t more
+-- the first of the lines that are left
+one_left : (lines : List Line) (i : ℕ) (l : Line) (s : SessionState) (shown : List Shown) → i < length lines → l ≡ slice_index_or lines i l
+    → play_lines (drop i lines) s shown ≡ Or (play_deed l.number shown s (deed l.number l.call s) (play_lines (drop (i + 1) lines))) (refused l.number shown R.NoMemory)
 unfolding play_lines
-one_on lines i l s t shown more within is c =
-    ap (λ (ls : List Line). play_lines ls s shown) (drop_at lines i l within ∙ ap (λ (x : Line). x ∷ drop (i + 1) lines) (sym is))
-    ∙ ap (λ (x : Local). goes_on x (play_lines (drop (i + 1) lines))) c
+one_left lines i l s shown within is = ap (λ (ls : List Line). play_lines ls s shown) (drop_at lines i l within ∙ ap (λ (x : Line). x ∷ drop (i + 1) lines) (sym is))
 
-pub one_stop : (lines : List Line) (i : ℕ) (l : Line) (s : SessionState) (shown : List Shown) (p : Prog Outcome) → i < length lines → l ≡ slice_index_or lines i l
-    → play_call l.number l.call s shown ≡ Stop p → play_lines (drop i lines) s shown ≡ p
-unfolding play_lines
-one_stop lines i l s shown p within is c =
-    ap (λ (ls : List Line). play_lines ls s shown) (drop_at lines i l within ∙ ap (λ (x : Line). x ∷ drop (i + 1) lines) (sym is))
-    ∙ ap (λ (x : Local). goes_on x (play_lines (drop (i + 1) lines))) c
+pub one_stop : (lines : List Line) (i : ℕ) (l : Line) (s : SessionState) (shown : List Shown) (state : Working) (task : Task) → i < length lines → l ≡ slice_index_or lines i l
+    → LineComes l.number shown s (deed l.number l.call s) (step.Stop state) → Comes (play_lines (drop i lines) s shown) (working_rest task state)
+one_stop lines i l s shown state task within is c = subst (λ (p : Play Outcome). Comes p (working_rest task state)) (sym (one_left lines i l s shown within is)) (c task (play_lines (drop (i + 1) lines)))
 
-pub at_end : (lines : List Line) (i : ℕ) (s : SessionState) (shown kept : List Shown) → length lines ≤ i → kept ≡ shown → play_lines (drop i lines) s shown ≡ ended kept Done
+pub one_on : (lines : List Line) (i : ℕ) (l : Line) (s t : SessionState) (shown first more : List Shown) (q : Play Outcome) → i < length lines → l ≡ slice_index_or lines i l
+    → deed l.number l.call s ≡ Goes (Ok (first, t)) → more ≡ shown ++ first → Comes (play_lines (drop (i + 1) lines) t more) q → Comes (play_lines (drop i lines) s shown) q
+one_on lines i l s t shown first more q within is d m c =
+    subst (λ (p : Play Outcome). Comes p q) (sym (one_left lines i l s shown within is))
+    (inl (subst (λ (x : Deed). Comes (play_deed l.number shown s x (play_lines (drop (i + 1) lines))) q) (sym d) (subst (λ (x : List Shown). Comes (play_lines (drop (i + 1) lines) t x) q) m c)))
+
+pub at_end : (lines : List Line) (i : ℕ) (s : SessionState) (shown kept : List Shown) → length lines ≤ i → kept ≡ shown → Comes (play_lines (drop i lines) s shown) (ended kept Done)
 unfolding play_lines
-at_end lines i s shown kept over k =
-    ap (λ (ls : List Line). play_lines ls s shown) (drop_of_length-le lines over) ∙ ap (λ (x : List Shown). ended x Done) (sym k)
+at_end lines i s shown kept over k = subst (λ (ls : List Line). Comes (play_lines ls s shown) (ended kept Done)) (sym (drop_of_length-le lines over)) (ap (λ (x : List Shown). ended x Done) k)

@@ -4,13 +4,13 @@ use Rattle.ice_ids.specs.declared.drawing.AnyIds.{AnyIds}
 use Rattle.store_api.specs.declared.events.Event.{Event}
 use Rattle.store_api.specs.Journal.{Each}
 use Rattle.store_api.specs.Callers.{Caller, IsOther}
-use Rattle.store_api.specs.Program.{Keeps, Leads}
+use Rattle.store_api.specs.Plays.{PlayKeeps, PlayLeads}
 use Rattle.commit_path.specs.Owed.{IsCareful}
 use Rattle.commit_path.specs.Answered.{ChangedNothing}
 use Rattle.play_script.specs.declared.scripts.Task.{Task}
 use Rattle.play_script.specs.Well.{IsWellTask}
-use Rattle.play_report.specs.declared.outcome.Outcome.{Outcome}
-use Rattle.play_tasks.specs.Playing.{task_program}
+use Rattle.play_outcome.specs.declared.outcome.Outcome.{Outcome}
+use Rattle.play_tasks.specs.Playing.{task_play}
 use Rattle.play_tasks.specs.Solving.{IsOfTask}
 use Rattle.play_tasks.specs.Telling.{TellsOutcome}
 
@@ -18,7 +18,8 @@ use Rattle.play_tasks.specs.Telling.{TellsOutcome}
 -- changed a branch; and the outcome tells the journal, where the task began at `start`.
 abbrev pub TaskLaw : Type 0
 TaskLaw = (by : Caller) (ids : AnyIds) (task : Task) (start : List Event) → IsWellTask task
-    → Keeps (IsCareful (IsOfTask ids task)) by (task_program ids task) start × Keeps (λ journal client op. ChangedNothing client start journal) by (task_program ids task) start × Leads (TellsOutcome ids task by.number start) by (task_program ids task) start
+    → PlayKeeps (IsCareful (IsOfTask ids task)) by (task_play ids task) start × PlayKeeps (λ journal client op. ChangedNothing client start journal) by (task_play ids task) start
+    × PlayLeads (TellsOutcome ids task by.number start) by (task_play ids task) start
 
 -- what an outcome tells stays so, whatever good events others make
 abbrev pub OutcomeLaw : Type 0

@@ -1,64 +1,46 @@
 -- What the outcome of a task says of the journal, in words that name no machine and no program. (Own.)
-use Rattle.std.specs.Prelude.{◌≡◌, ◌⊎◌, ℕ, false, List, [], ◌∷◌, ◌++◌, map, Some, None, Result, Ok, Err}
-use Rattle.ice_ids.specs.declared.Id8.{Id8}
+use Rattle.std.specs.Prelude.{◌≡◌, ◌⊎◌, ℕ, List, [], ◌∷◌, ◌++◌, Result, Ok, Err}
 use Rattle.ice_ids.specs.declared.Id12.{Id12}
 use Rattle.ice_ids.specs.declared.drawing.AnyIds.{AnyIds}
-use Rattle.tree_model.specs.declared.node.Node.{Node as TheNode}
-use Rattle.tree_model.specs.Trees.{Tree, node_at, paths_beneath}
 use Rattle.store_api.specs.declared.events.Event.{Event}
 use Rattle.store_api.specs.declared.machines.Refusal.{Refusal}
-use Rattle.store_api.specs.declared.machines.Refusal.TheVariants.{NoNode}
-use Rattle.session.specs.Sessions.{SessionState, overlay}
-use Rattle.session.specs.Editing.{group_added}
+use Rattle.store_api.specs.declared.machines.Refusal.TheVariants.{NoMemory}
+use Rattle.session.specs.Sessions.{SessionState}
 use Rattle.commit_path.specs.declared.commit.Committed.{Committed as Made}
 use Rattle.commit_path.specs.Committing.{started}
 use Rattle.commit_path.specs.Answered.{ChangedNothing, CommitTells}
 use Rattle.commit_path.specs.Opened.{IsOpened, WasBegun, RefusalTells}
-use Rattle.play_script.specs.declared.scripts.Call.{Call}
-use Rattle.play_script.specs.declared.scripts.Call.TheVariants.{Group, List as List_call, Commit}
 use Rattle.play_script.specs.declared.scripts.Line.{Line}
 use Rattle.play_script.specs.declared.scripts.Task.{Task}
-use Rattle.play_report.specs.declared.outcome.Shown.{Shown}
-use Rattle.play_report.specs.declared.outcome.Shown.TheVariants.{Node}
-use Rattle.play_report.specs.declared.outcome.End.{End}
-use Rattle.play_report.specs.declared.outcome.End.TheVariants.{Committed, Done, Refused}
-use Rattle.play_report.specs.declared.outcome.Outcome.{Outcome}
+use Rattle.play_outcome.specs.declared.outcome.Shown.{Shown}
+use Rattle.play_outcome.specs.declared.outcome.End.{End}
+use Rattle.play_outcome.specs.declared.outcome.End.TheVariants.{Committed, Done, Refused}
+use Rattle.play_outcome.specs.declared.outcome.Outcome.{Outcome}
+use Rattle.play_tasks.specs.Lines.{Deed, Goes, Commits, deed}
 use Rattle.play_tasks.specs.Playing.{asked_by}
 
 -- ---- the lines
--- what a listing in this line of the script shows: the paths strictly beneath, in order, in the
--- base's tree under the session's changes so far
-abbrev pub shown_beneath : ℕ → SessionState → List ℕ → List Shown
-shown_beneath line s path = map (λ (p : List ℕ). Node line false p) (paths_beneath (overlay s) path)
-
--- the tree has a node at the path
-abbrev pub HasNode : Tree → List ℕ → Type 0
-HasNode t path = (node : TheNode) × (node_at t path ≡ Some node)
-
--- A call that wasn't refused showed this, and led from one session to the other: a group is added as
--- sessions add groups and shows nothing; a listing leaves the session as it was.
-abbrev pub Plays : ℕ → Call → SessionState → List Shown → SessionState → Type 0
-Plays line (Group path) s shown t = (shown ≡ []) × (id : Id8) × (group_added s path ≡ Ok (id, t))
-Plays line (List_call path) s shown t = HasNode (overlay s) path × (shown ≡ shown_beneath line s path) × (t ≡ s)
-Plays line (Commit message) s shown t = ⊥
-
--- lines that were played one after another, none of them refused and none of them a commit
+-- lines that were played one after another, none of them refused and none of them a commit: what they showed, and the session that they led to
 unfoldable pub PlaysAll : List Line → SessionState → List Shown → SessionState → Type 0
 PlaysAll [] s shown t = (shown ≡ []) × (t ≡ s)
-PlaysAll (l ∷ ls) s shown t = (first more : List Shown) × (mid : SessionState) × (shown ≡ first ++ more) × Plays l.number l.call s first mid × PlaysAll ls mid more t
+PlaysAll (l ∷ ls) s shown t = (first more : List Shown) × (mid : SessionState) × (shown ≡ first ++ more) × (deed l.number l.call s ≡ Goes (Ok (first, mid))) × PlaysAll ls mid more t
 
 -- ---- the end
--- why the session refuses a call
-abbrev pub Refuses : Call → SessionState → Refusal → Type 0
-Refuses (Group path) s why = group_added s path ≡ Err why
-Refuses (List_call path) s why = (node_at (overlay s) path ≡ None) × (why ≡ NoNode)
-Refuses (Commit message) s why = started s ≡ Err why
+-- why a session refuses a line that does this
+abbrev pub Refuses : Deed → SessionState → Refusal → Type 0
+Refuses (Goes went) s why = went ≡ Err why
+Refuses (Commits message) s why = started s ≡ Err why
 
 -- the line's call was refused by the session, and the client changed no branch
 pub record WasRefusedAt (client : ℕ) (l : Line) (s : SessionState) (start : List Event) (end : End) (journal : List Event) : Type 0 where
   pub why : Refusal
-  pub refuses : Refuses l.call s why
+  pub refuses : Refuses (deed l.number l.call s) s why
   pub end_is : end ≡ Refused l.number why
+  pub nothing : ChangedNothing client start journal
+
+-- memory was wanting in this line, and the client changed no branch
+pub record WasStarvedAt (client : ℕ) (l : Line) (start : List Event) (end : End) (journal : List Event) : Type 0 where
+  pub end_is : end ≡ Refused l.number NoMemory
   pub nothing : ChangedNothing client start journal
 
 -- how a commit in this line ends a task
@@ -69,7 +51,7 @@ end_of line (Err why) = Refused line why
 -- The line is a commit, which began. Its answer is the end, and tells the journal what answers of commits tell.
 pub record WasAnsweredAt (client : ℕ) (l : Line) (s : SessionState) (start : List Event) (end : End) (journal : List Event) : Type 0 where
   pub message : List ℕ
-  pub call_is : l.call ≡ Commit message
+  pub commits : deed l.number l.call s ≡ Commits message
   pub id : Id12
   pub session : SessionState
   pub begins : started s ≡ Ok (id, session)
@@ -80,7 +62,7 @@ pub record WasAnsweredAt (client : ℕ) (l : Line) (s : SessionState) (start : L
 -- how a task ends, where these lines are left: at their end, or at the first of them
 abbrev pub EndsAt : ℕ → List Line → SessionState → List Event → End → List Event → Type 0
 EndsAt client [] s start end journal = (end ≡ Done) × ChangedNothing client start journal
-EndsAt client (l ∷ ls) s start end journal = WasRefusedAt client l s start end journal ⊎ WasAnsweredAt client l s start end journal
+EndsAt client (l ∷ ls) s start end journal = WasRefusedAt client l s start end journal ⊎ (WasStarvedAt client l start end journal ⊎ WasAnsweredAt client l s start end journal)
 
 -- ---- the outcome
 -- The opening was refused: nothing was shown, and the refusal is told at the task's line.

@@ -1,12 +1,12 @@
 -- What a worker has still to do.
 use Rattle.std.specs.Prelude.{ℕ}
-use Rattle.store_api.specs.Program.{Prog}
-use Rattle.play_report.specs.declared.outcome.Outcome.{Outcome}
+use Rattle.store_api.specs.Plays.{Play}
+use Rattle.play_outcome.specs.declared.outcome.Outcome.{Outcome}
 use Rattle.play_tasks.specs.declared.worker.Worker.{Worker}
 use Rattle.play_tasks.specs.Working.{working_rest, working_left}
 
 -- what is still to be done
-abbrev pub worker_rest : Worker → Prog Outcome
+abbrev pub worker_rest : Worker → Play Outcome
 worker_rest w = working_rest w.task.now w.state
 
 -- how many steps are left at most

@@ -1,20 +1,18 @@
 //! The lines of a task's body, played on its session.
 
-ghost use Rattle.std.specs.Prelude.{◌≡◌, ◌++◌, [], true, map, IfOk};
-ghost use Rattle.play_tasks.specs.Playing.{node_shown, play_call, play_lines, after_list, after_start, refused};
-ghost use Rattle.play_tasks.specs.Working.{is_working, is_clean, working_left, Comes, Leaves};
-ghost use Rattle.session.specs.Editing.{listed};
-ghost use Rattle.commit_path.specs.Committing.{started};
+ghost use Rattle.std.specs.Prelude.{◌≡◌, ◌++◌, [], true, map, IfOk, OnErr};
+ghost use Rattle.play_tasks.specs.Lines.{node_shown, deed, Goes, Commits, edited, silent, still, read_by};
+ghost use Rattle.play_tasks.specs.Playing.{play_lines};
+ghost use Rattle.play_tasks.specs.Working.{is_clean, LineComes, Leaves};
 
 use crate::working::{Step, Working};
 use commit_path::Commit;
 use ice_base::Bytes;
-use play_report::{End, Outcome, Shown, Shows};
-use play_script::{Call, Line};
+use play_outcome::{End, Outcome, Shown, Shows};
+use play_script::{Call, EditCall, Line, ReadCall};
 use session::{Listing, Session};
 use std::alloc::{AllocError, Global};
 use store_api::Refusal;
-use zarr_path::Path;
 
 /// The task was refused at this line of the script.
 pub(crate) fn refuse(line: u32, shown: Vec<Shown>, why: Refusal) -> Working
@@ -30,20 +28,41 @@ pub(crate) fn refuse(line: u32, shown: Vec<Shown>, why: Refusal) -> Working
 
 /// Shows the nodes of a listing that this line of the script asked for.
 fn show(line: u32, nodes: Vec<Listing>, shown: &mut Vec<Shown>) -> Result<(), AllocError>
-    ensures { IfOk result (λ done. shown.new.items ≡ shown.old.items ++ map (node_shown line) nodes.items) }
+    ensures ok { IfOk result (λ done. shown.new.items ≡ shown.old.items ++ map (node_shown line) nodes.items) }
+    ensures err { OnErr result (shown.new.items ≡ shown.old.items) }
 {
+    let before = shown.len();
     for node in nodes {
         let Listing { path, array } = node;
-        shown.push(Shown::Node { line, array, path })?;
+        if shown.push(Shown::Node { line, array, path }).is_err() {
+            shown.truncate(before);
+            return Err(AllocError);
+        }
     }
     Ok(())
 }
 
-fn play_list(line: u32, path: &Path, session: Session, mut shown: Vec<Shown>) -> Step
-    ensures comes { Comes (after_list line session shown.items (listed session path.now)) result }
+fn play_edit(line: u32, edit: &EditCall, mut session: Session, shown: Vec<Shown>) -> Step
+    ensures comes { LineComes line shown.items session (Goes (silent (edited edit.now session))) result }
     ensures clean { is_clean result ≡ true }
 {
-    match session.list_beneath(path) {
+    let went = match edit {
+        EditCall::Group { path } => session.add_group(path),
+    };
+    match went {
+        Ok(_) => Step::On { session, shown },
+        Err(why) => Step::Stop(refuse(line, shown, why)),
+    }
+}
+
+fn play_read(line: u32, read: &ReadCall, session: Session, mut shown: Vec<Shown>) -> Step
+    ensures comes { LineComes line shown.items session (Goes (still session (read_by line read.now session))) result }
+    ensures clean { is_clean result ≡ true }
+{
+    let looked = match read {
+        ReadCall::List { path } => session.list_beneath(path),
+    };
+    match looked {
         Ok(nodes) => match show(line, nodes.into_vec(), &mut shown) {
             Ok(()) => Step::On { session, shown },
             Err(_) => Step::Stop(refuse(line, shown, Refusal::NoMemory)),
@@ -59,7 +78,7 @@ fn play_commit(
     session: Session,
     shown: Vec<Shown>,
 ) -> Step
-    ensures comes { Comes (after_start line message.now shown.items (started session)) result }
+    ensures comes { LineComes line shown.items session (Commits message.now) result }
     ensures clean { is_clean result ≡ true }
 {
     let Ok(message) = message.copy(alloc) else {
@@ -75,22 +94,19 @@ fn play_commit(
     }
 }
 
-fn play_line(alloc: Global, line: &Line, mut session: Session, shown: Vec<Shown>) -> Step
-    ensures comes { Comes (play_call line.now.number line.now.call session shown.items) result }
+fn play_line(alloc: Global, line: &Line, session: Session, shown: Vec<Shown>) -> Step
+    ensures comes { LineComes line.now.number shown.items session (deed line.now.number line.now.call session) result }
     ensures clean { is_clean result ≡ true }
 {
-    let number = line.number;
     match &line.call {
-        Call::Group { path } => match session.add_group(path) {
-            Ok(_) => Step::On { session, shown },
-            Err(why) => Step::Stop(refuse(number, shown, why)),
-        },
-        Call::List { path } => play_list(number, path, session, shown),
-        Call::Commit { message } => play_commit(alloc, number, message, session, shown),
+        Call::Edit(edit) => play_edit(line.number, edit, session, shown),
+        Call::Read(read) => play_read(line.number, read, session, shown),
+        Call::Commit { message } => play_commit(alloc, line.number, message, session, shown),
     }
 }
 
-/// Plays these lines on a session, up to the commit that ends them, or the first that is refused.
+/// Plays these lines on a session, up to the commit that ends them, or the first that is refused, or the
+/// first for which there is no memory.
 pub(crate) fn play_lines(alloc: Global, lines: &[Line], session: Session) -> Working
     ensures leaves { Leaves (play_lines lines.now session []) result }
     ensures clean { is_clean (Step.Stop result) ≡ true }

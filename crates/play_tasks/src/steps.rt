@@ -1,17 +1,18 @@
 //! What follows a step of a worker's machine.
 
 ghost use Rattle.std.specs.Prelude.{◌≡◌, ◌≤◌, ◌+◌, true};
-ghost use Rattle.store_api.specs.Program.{is_ask, settled};
+ghost use Rattle.store_api.specs.Program.{is_ask};
+ghost use Rattle.store_api.specs.Plays.{Comes};
 ghost use Rattle.session.specs.Opening.{open_rest, open_left};
 ghost use Rattle.commit_path.specs.Committing.{commit_rest, commit_left};
 ghost use Rattle.play_script.specs.declared.scripts.Task.{Task as TheTask};
 ghost use Rattle.play_tasks.specs.Playing.{after_open, after_commit};
-ghost use Rattle.play_tasks.specs.Working.{is_working, working_rest, working_left, answers_well, Goes, Faults};
+ghost use Rattle.play_tasks.specs.Working.{is_working, working_rest, working_left, settled, answers_well, Faults};
 
 use crate::lines::{play_lines, refuse};
 use crate::working::Working;
 use commit_path::{Commit, Committed};
-use play_report::{End, Outcome, Shows};
+use play_outcome::{End, Outcome, Shows};
 use play_script::Task;
 use session::{Open, Session};
 use std::alloc::Global;
@@ -24,7 +25,7 @@ pub(crate) fn after_opening(
     opener: Open,
     answer: Result<Next<Session>, Refusal>,
 ) -> Working
-    ensures goes { Goes (settled (after_open task.now) (open_rest opener) answer) (working_rest task.now result) }
+    ensures comes { Comes (settled (after_open task.now) (open_rest opener) answer) (working_rest task.now result) }
     ensures works { answers_well (is_ask (open_rest opener)) answer ≡ true → is_working result ≡ true }
     ensures falls { working_left result ≤ 4 + open_left opener }
     ensures blames { Faults answer (working_rest task.now result) }

@@ -6,7 +6,7 @@ ghost use Rattle.play_tasks.specs.Working.{is_working};
 use crate::steps::{after_committing, after_opening};
 use crate::working::Working;
 use ice_ids::AnyIds;
-use play_report::{End, Outcome, Shows};
+use play_outcome::{End, Outcome, Shows};
 use play_script::{Head, Task};
 use session::Open;
 use std::alloc::{AllocError, Global};
@@ -25,14 +25,14 @@ pub struct Worker<'a> {
 
 impl<'a> Worker<'a> {
     ghost use Rattle.std.specs.Prelude.{◌≡◌, ◌<◌, false, IsTrue, IfOk, MatchOption};
-    ghost use Rattle.store_api.specs.Program.{Done, IsAsk, IsDone, Turns, NextIsPolite};
-    ghost use Rattle.play_tasks.specs.Playing.{task_program};
-    ghost use Rattle.play_tasks.specs.Ending.{is_starved, is_failed};
+    ghost use Rattle.store_api.specs.Plays.{Ended, IsLive, HasEnded, Acts, PlayIsPolite};
+    ghost use Rattle.play_outcome.specs.Ending.{is_failed};
+    ghost use Rattle.play_tasks.specs.Playing.{task_play};
     ghost use Rattle.play_tasks.specs.Workers.{worker_rest, worker_left};
 
     /// A worker for a task whose session draws these ids.
     pub fn new(alloc: Global, task: &'a Task, ids: AnyIds) -> Result<Worker<'a>, AllocError>
-        ensures { IfOk result (λ worker. worker_rest worker ≡ task_program ids task.now) }
+        ensures { IfOk result (λ worker. worker_rest worker ≡ task_play ids task.now) }
     {
         let opener = match &task.head {
             Head::Write { branch } => Open::write(alloc, branch.copy(alloc)?, ids),
@@ -47,8 +47,8 @@ impl<'a> Worker<'a> {
 
     /// Whether the worker has ended.
     pub fn has_ended(&self) -> bool
-        ensures ended { IsTrue result → IsDone (worker_rest self.now) }
-        ensures live { result ≡ false → IsAsk (worker_rest self.now) }
+        ensures ended { IsTrue result → HasEnded (worker_rest self.now) }
+        ensures live { result ≡ false → IsLive (worker_rest self.now) }
     {
         match &self.state {
             Working::Ended { .. } => true,
@@ -56,21 +56,23 @@ impl<'a> Worker<'a> {
         }
     }
 
-    /// What the task showed and how it ended, once it has.
-    pub fn outcome(&self) -> Option<&Outcome>
-        ensures { MatchOption result (IsAsk (worker_rest self.now)) (λ outcome. worker_rest self.now ≡ Done outcome.now) }
+    /// What the task showed and how it ended.
+    pub fn into_outcome(self) -> Outcome
+        requires { HasEnded (worker_rest self) }
+        ensures { worker_rest self.entry ≡ Ended result }
     {
-        match &self.state {
-            Working::Ended { outcome } => Some(outcome),
-            _ => None,
+        let state = self.state;
+        match state {
+            Working::Ended { outcome } => outcome,
+            _ => unreachable!(),
         }
     }
 
     /// One operation of the store.
     pub fn step<S: Store>(&mut self, store: &mut S)
-        requires live { IsAsk (worker_rest self.old) }
-        requires polite { IsTrue (S.view store.old).caller.tells → NextIsPolite (worker_rest self.old) (S.view store.old).seen }
-        ensures turn { Turns is_starved is_failed (S.view store.old) (S.view store.new) (worker_rest self.old) (worker_rest self.new) }
+        requires live { IsLive (worker_rest self.old) }
+        requires polite { IsTrue (S.view store.old).caller.tells → PlayIsPolite (worker_rest self.old) (S.view store.old).seen }
+        ensures acts { Acts is_failed (S.view store.old) (S.view store.new) (worker_rest self.old) (worker_rest self.new) }
         ensures falls { worker_left self.new < worker_left self.old }
     {
         // The old state is taken out.

@@ -1,7 +1,7 @@
 //! Where a worker stands.
 
 use commit_path::Commit;
-use play_report::{Outcome, Shown, Shows};
+use play_outcome::{Outcome, Shown, Shows};
 use session::{Open, Session};
 
 /// The machine that a worker steps.

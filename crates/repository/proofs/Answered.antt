@@ -18,8 +18,8 @@ use Rattle.store_api.specs.Machine.{Stored, Slot, leaves, effect, slot_of, found
 use Rattle.store_api.specs.Journal.{Each, IsGood}
 use Rattle.store_api.specs.Program.{Prog, Done, Ask, bind, Path}
 use Rattle.store_api.proofs.Slots.{effect-cases, slot-append_one}
-use Rattle.play_report.specs.declared.outcome.RefLine.{RefLine}
-use Rattle.repository.specs.Running.{Asks, ◌>>=◌, on_answer}
+use Rattle.play_outcome.specs.declared.outcome.RefLine.{RefLine}
+use Rattle.store_api.specs.Running.{Program, ◌>>=◌, on_answer}
 use Rattle.repository.specs.Refs.{list_part, on_listed, on_got, on_id, line_of, read_each, read_ref, with_line}
 use Rattle.repository.specs.Laws.{HasKey}
 use Rattle.repository.proofs.Listed.{IsRead, OnlyReads}
@@ -113,13 +113,13 @@ unfolding Yields
 yields-bind at (Done a) f b y = (a, refl, y)
 yields-bind at (Ask op k) f b y = let rest = yields-bind at (k y.0) f b y.2 in (rest.0, (y.0, y.1, rest.1), rest.2)
 
-yields-answer : {A B : Type 0} (at : Key → Option Stored) (p : Asks A) (f : A → Asks B) (b : B) (result : Result A Refusal) → Yields at p result → Yields at (on_answer f result) (Ok b) → (a : A) × Yields at p (Ok a) × Yields at (f a) (Ok b)
+yields-answer : {A B : Type 0} (at : Key → Option Stored) (p : Program A) (f : A → Program B) (b : B) (result : Result A Refusal) → Yields at p result → Yields at (on_answer f result) (Ok b) → (a : A) × Yields at p (Ok a) × Yields at (f a) (Ok b)
 unfolding Yields
 yields-answer at p f b (Ok a) y z = (a, y, z)
 yields-answer at p f b (Err refusal) y z = absurd cc
 
 -- both answer, the one behind the other
-pub yields-then : {A B : Type 0} (at : Key → Option Stored) (p : Asks A) (f : A → Asks B) (b : B) → Yields at (p >>= f) (Ok b) → (a : A) × Yields at p (Ok a) × Yields at (f a) (Ok b)
+pub yields-then : {A B : Type 0} (at : Key → Option Stored) (p : Program A) (f : A → Program B) (b : B) → Yields at (p >>= f) (Ok b) → (a : A) × Yields at p (Ok a) × Yields at (f a) (Ok b)
 yields-then at p f b y = let s = yields-bind at p (on_answer f) (Ok b) y in yields-answer at p f b s.0 s.1 s.2
 
 pub yields-done : {A : Type 0} (at : Key → Option Stored) (a b : A) → Yields at (Done a) b → a ≡ b

@@ -16,7 +16,7 @@ use Rattle.store_api.specs.declared.events.Entry.{Entry}
 use Rattle.store_api.specs.declared.events.Event.{Event}
 use Rattle.store_api.specs.Machine.{Stored, found, part_of, listing_cmp, IsListing}
 use Rattle.store_api.specs.Program.{Done}
-use Rattle.play_report.specs.declared.outcome.RefLine.{RefLine}
+use Rattle.play_outcome.specs.declared.outcome.RefLine.{RefLine}
 use Rattle.repository.specs.Refs.{refs_program, list_part, read_each, live, is_gone}
 use Rattle.repository.specs.Laws.{HasKey, IsNotGone, IsRefIn}
 use Rattle.repository.specs.Closing.{HasLine, branch_line, tag_line, NamesAt, line_cmp, TellsRefs, RefsLaw}

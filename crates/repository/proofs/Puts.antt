@@ -1,6 +1,6 @@
 -- What is put at the beginning is polite, whatever others do.
 use Rattle.std.proofs.Common.{◌≡◌, ◌<◌, ltb, true, inl, inr, ℕ, List, [], ◌∷◌, length, refl, sym, ◌∙◌, ap, subst}
-use Rattle.std.specs.Prelude.{Option, Some, None, Result, Ok, IsTrue}
+use Rattle.std.specs.Prelude.{Option, Some, None}
 use Rattle.std.specs.Option.{option_or}
 use Rattle.std.specs.List.{All, list_all}
 use Rattle.std.proofs.lemmas.Bool.{and_parts, ltb-true}
@@ -18,15 +18,14 @@ use Rattle.store_api.specs.declared.events.Op.TheVariants.{PutNew}
 use Rattle.store_api.specs.declared.events.New.{New}
 use Rattle.store_api.specs.declared.events.Reply.{Reply}
 use Rattle.store_api.specs.declared.events.Reply.TheVariants.{Got as Is_got, New as Is_new, Over as Is_over, Gone as Is_gone, GoneAt as Is_gone_at, Listed as Is_listed, Failed}
-use Rattle.store_api.specs.declared.events.StoreFault.{StoreFault as Fault}
 use Rattle.store_api.specs.declared.events.Event.{Event}
 use Rattle.store_api.specs.Machine.{Stored, Slot, slot_of, found, effect, put_at, where_free}
 use Rattle.store_api.specs.Journal.{WasPut, ParentPut, IsPolite}
 use Rattle.ice_base.specs.Names.{main_name}
-use Rattle.store_api.specs.Callers.{Caller, View, Makes, Called, own_event}
+use Rattle.store_api.specs.Callers.{Caller, Makes, own_event}
 use Rattle.store_api.specs.Program.{Keeps}
 use Rattle.store_api.proofs.Slots.{same_key-refl, slot-append_one, sound}
-use Rattle.repository.specs.Running.{Asks, ◌>>=◌}
+use Rattle.store_api.specs.Running.{Program, StaysPolite, ◌>>=◌}
 use Rattle.repository.specs.Beginning.{begin_program, put_main, after_put}
 
 -- ---- a put of a free key tells that something was put there
@@ -50,12 +49,6 @@ put-told by key bytes why answer old new m =
     in
     let put = free-put (found m.middle key) (slot_of m.middle key) refl ((sound m.middle key).first) (length m.middle) m.time bytes in
     (put.0, ap (λ (s : Slot). s.first) slot ∙ put.1)
-
--- the same of a call
-pub call-told : (key : Key) (bytes : List ℕ) (why : Why) (call : Result New Fault) (answer : New) (old new : View) → call ≡ Ok answer → Called (λ (x : New). Is_new x) (PutNew key bytes why) call old new → IsTrue new.caller.tells → WasPut new.seen key
-call-told key bytes why call answer old new e c t =
-    let c' : Called (λ (x : New). Is_new x) (PutNew key bytes why) (Ok answer) old new = subst (λ (x : Result New Fault). Called (λ (y : New). Is_new y) (PutNew key bytes why) x old new) e c in
-    put-told old.caller key bytes why answer old.seen new.seen (c'.did (subst (λ (b : Caller). IsTrue b.tells) c'.same t))
 
 -- ---- what is written is read again
 -- the laws of what is written here
@@ -86,9 +79,6 @@ main-polite law journal name bytes n e put =
     let read : ref_of bytes ≡ Some initial_id = ap ref_of e ∙ law.written initial_id initial_id-IsId12 in
     (record { id = initial_id; reference = read; put = put }, inr (refl, n, read))
 
-pub main-said : (name bytes : List ℕ) → name ≡ main_name → bytes ≡ ref_bytes initial_id → PutNew (Branch name) bytes Init ≡ PutNew (Branch main_name) (ref_bytes initial_id) Init
-main-said name bytes n e = ap (λ (x : List ℕ). PutNew (Branch x) bytes Init) n ∙ ap (λ (x : List ℕ). PutNew (Branch main_name) x Init) e
-
 done-keeps : (P : List Event → ℕ → Op → Type 0) (by : Caller) (reply : Reply) (journal : List Event) → Keeps P by (after_put reply) journal
 unfolding Keeps
 done-keeps P by (Is_new x) journal = tt
@@ -103,7 +93,7 @@ abbrev snapshot_put : Op
 snapshot_put = PutNew (Snapshot initial_id) initial_bytes Init
 
 -- what is put after the initial snapshot
-abbrev then_main : Reply → Asks (Unit {0})
+abbrev then_main : Reply → Program (Unit {0})
 then_main reply = after_put reply >>= λ _. put_main
 
 module _ (P : List Event → ℕ → Op → Type 0) (by : Caller) where
@@ -123,5 +113,5 @@ module _ (P : List Event → ℕ → Op → Type 0) (by : Caller) where
   begin-keeps s p journal = (s journal, λ reply new m. second-keeps p reply journal new m)
 
 -- Whatever others do, each put at the beginning is polite.
-pub begin-polite : Spelled → (by : Caller) (journal : List Event) → Keeps (λ journal client op. IsPolite journal op) by begin_program journal
+pub begin-polite : Spelled → (by : Caller) (journal : List Event) → StaysPolite by begin_program journal
 begin-polite laws by journal = begin-keeps (λ h client op. IsPolite h op) by (λ h. snapshot-polite laws.initial h initial_bytes refl) (λ h put. main-polite laws.reference h main_name (ref_bytes initial_id) refl refl put) journal

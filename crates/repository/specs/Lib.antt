@@ -1,5 +1,5 @@
-pub mod Running
 pub mod Beginning
 pub mod Refs
+pub mod Reading
 pub mod Laws
 pub mod Closing

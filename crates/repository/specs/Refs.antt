@@ -17,15 +17,15 @@ use Rattle.store_api.specs.declared.machines.Refusal.{Refusal}
 use Rattle.store_api.specs.declared.machines.Refusal.TheVariants.{BadFile, StoreFault, NoMemory}
 use Rattle.store_api.specs.Machine.{same_key}
 use Rattle.store_api.specs.Program.{Done, Ask}
-use Rattle.play_report.specs.declared.outcome.RefLine.{RefLine}
-use Rattle.repository.specs.Running.{Asks, ◌>>=◌}
+use Rattle.play_outcome.specs.declared.outcome.RefLine.{RefLine}
+use Rattle.store_api.specs.Running.{Program, ◌>>=◌}
 
 -- ---- a listing
-abbrev pub on_listed : Reply → Asks (List Entry)
+abbrev pub on_listed : Reply → Program (List Entry)
 on_listed (Is_listed listed) = Done (Ok listed.entries)
 on_listed _ = Done (Err StoreFault)
 
-abbrev pub list_part : Part → Asks (List Entry)
+abbrev pub list_part : Part → Program (List Entry)
 list_part part = Ask (ListPart part) on_listed
 
 -- a tombstone, or the tag of the tombstone that is listed right behind it
@@ -52,12 +52,12 @@ on_id key None = Err (BadFile key Plain)
 on_id key (Some id) = Ok (line_of key id)
 
 -- a ref that is gone by now is passed over
-abbrev pub on_got : Key → Reply → Asks (Option RefLine)
+abbrev pub on_got : Key → Reply → Program (Option RefLine)
 on_got key (Is_got (Found bytes version now)) = Done (on_id key (ref_of bytes))
 on_got key (Is_got (Absent now)) = Done (Ok None)
 on_got key _ = Done (Err StoreFault)
 
-abbrev pub read_ref : Key → Asks (Option RefLine)
+abbrev pub read_ref : Key → Program (Option RefLine)
 read_ref key = Ask (Get key) (on_got key)
 
 -- ---- all refs
@@ -66,20 +66,34 @@ with_line lines None = lines
 with_line lines (Some line) = lines ++ line ∷ []
 
 -- gets each, behind the lines so far
-abbrev pub read_each : List RefLine → List Key → Asks (List RefLine)
+abbrev pub read_each : List RefLine → List Key → Program (List RefLine)
 read_each lines [] = Done (Ok lines)
 read_each lines (key ∷ keys) = do
   line ← read_ref key
   read_each (with_line lines line) keys
 
--- the branches, and then the tags that have no tombstone
-abbrev pub refs_program : Asks (List RefLine)
-refs_program = do
-  branches ← list_part Branches
-  lines ← read_each [] (live branches)
+-- the tags that have no tombstone, behind the lines so far
+abbrev pub read_tags : List RefLine → Program (List RefLine)
+read_tags lines = do
   tags ← list_part Tags
   read_each lines (live tags)
 
+-- of these branches those that stand, and then the tags
+abbrev pub read_branches : List RefLine → List Entry → Program (List RefLine)
+read_branches lines entries = do
+  more ← read_each lines (live entries)
+  read_tags more
+
+-- all refs, behind the lines so far
+abbrev pub read_all : List RefLine → Program (List RefLine)
+read_all lines = do
+  branches ← list_part Branches
+  read_branches lines branches
+
+abbrev pub refs_program : Program (List RefLine)
+refs_program = read_all []
+
+-- the refusals of a reading
 abbrev pub MayRefuseRefs : Refusal → Type 0
 MayRefuseRefs (BadFile key bad) = Unit {0}
 MayRefuseRefs StoreFault = Unit {0}

@@ -1,58 +1,100 @@
-//! The beginning of a repository.
+//! The machine that begins a repository.
 
-ghost use Rattle.std.specs.Prelude.{◌≡◌, IfErr, OnOk, IsTrue};
-ghost use Rattle.ice_ids.specs.Text.{initial_id};
-ghost use Rattle.store_api.specs.Journal.{WasPut};
-ghost use Rattle.repository.specs.Running.{Runs};
-ghost use Rattle.repository.specs.Beginning.{begin_program, put_initial, put_main, MayRefuseBegin};
+ghost use Rattle.std.specs.Prelude.{◌≡◌, ◌<◌, IfErr, IsTrue};
+ghost use Rattle.store_api.specs.Program.{IsAsk, Steps, NextIsPolite};
+ghost use Rattle.repository.specs.Beginning.{begin_program, begin_rest, begin_left, MayRefuseBegin};
 
-use crate::faults::refusal_of;
-use ice_base::RefName;
+use ice_base::{Bytes, RefName};
 use ice_ids::Id12;
-use plain_object::{initial, initial_law, ref_law, ref_write};
-use std::alloc::Global;
-use store_api::{Key, Refusal, Store, Why};
+use plain_object::{initial, ref_write};
+use std::alloc::{AllocError, Global};
+use store_api::{Key, Machine, Next, Payload, Refusal, Reply, Request, Store, Why, drive};
 
-/// Makes the repository where there is none: puts the initial snapshot, and then the branch `main`
-/// with a reference to it, each where its key is free. What stands there already is left as it is.
-/// (Icechunk specification version 1, "Initialize New Repository".)
-///
-/// Refusals: `StoreFault` where the store failed, and `NoMemory`. A second call goes on where the
-/// first one was cut off.
-pub fn begin<S: Store>(alloc: Global, store: &mut S) -> Result<(), Refusal>
-    ensures runs { Runs (S.view store.old) (S.view store.new) begin_program result }
-    ensures listed { IfErr result MayRefuseBegin }
-{
-    put_initial(alloc, store)?;
-    put_main(alloc, store)
+/// The operation that comes next.
+#[derive(Clone, Copy, Debug)]
+pub enum Beginning {
+    /// The initial snapshot is put.
+    Snapshot,
+    /// The branch `main` is put.
+    Main,
+    /// The machine has ended.
+    Ended,
 }
 
-fn put_initial<S: Store>(alloc: Global, store: &mut S) -> Result<(), Refusal>
-    ensures runs { Runs (S.view store.old) (S.view store.new) put_initial result }
-    ensures put { OnOk result (IsTrue (S.view store.new).caller.tells → WasPut (S.view store.new).seen (Key.Snapshot initial_id)) }
-    ensures listed { IfErr result MayRefuseBegin }
-{
-    initial_law();
-    let Ok(bytes) = initial(alloc) else {
-        return Err(Refusal::NoMemory);
-    };
-    match store.put_new(&Key::Snapshot(Id12::INITIAL), bytes.as_slice(), Why::Init) {
-        Ok(_) => Ok(()),
-        Err(fault) => Err(refusal_of(fault)),
+/// A machine that begins a repository: it puts the initial snapshot, and then the branch `main` with
+/// a reference to it, each where its key is free. It may answer `StoreFault` or `NoMemory`.
+#[derive(Drop)]
+pub struct Begin {
+    alloc: Global,
+    state: Beginning,
+}
+
+impl Machine for Begin {
+    type Answer = ();
+
+    ghost rest = { begin_rest };
+
+    ghost left = { begin_left };
+
+    ghost keeps = { λ old new. Unit {0} };
+
+    ghost may_refuse = { MayRefuseBegin };
+
+    fn request(&self) -> Result<Request<'_>, AllocError> {
+        let (key, bytes) = match self.state {
+            Beginning::Snapshot => (Key::Snapshot(Id12::INITIAL), initial(self.alloc)?),
+            Beginning::Main => (
+                Key::Branch(RefName::main(self.alloc)?),
+                Bytes::of(self.alloc, &ref_write(Id12::INITIAL))?,
+            ),
+            Beginning::Ended => unreachable!(),
+        };
+        Ok(Request::PutNew {
+            key,
+            bytes: Payload::Made(bytes),
+            why: Why::Init,
+        })
     }
+
+    fn answer(&mut self, reply: Reply) -> Result<Next<()>, Refusal> {
+        let state = self.state;
+        self.state = Beginning::Ended;
+        match (state, reply) {
+            (Beginning::Snapshot, Reply::New(_)) => {
+                self.state = Beginning::Main;
+                Ok(Next::Again)
+            }
+            (Beginning::Main, Reply::New(_)) => Ok(Next::Ready(())),
+            _ => Err(Refusal::StoreFault),
+        }
+    }
+
+    fn stop(&mut self) {
+        self.state = Beginning::Ended;
+    }
+
+    ghost may_starve = { tt };
 }
 
-fn put_main<S: Store>(alloc: Global, store: &mut S) -> Result<(), Refusal>
-    requires { IsTrue (S.view store.old).caller.tells → WasPut (S.view store.old).seen (Key.Snapshot initial_id) }
-    ensures runs { Runs (S.view store.old) (S.view store.new) put_main result }
-    ensures listed { IfErr result MayRefuseBegin }
-{
-    ref_law();
-    let Ok(main) = RefName::main(alloc) else {
-        return Err(Refusal::NoMemory);
-    };
-    match store.put_new(&Key::Branch(main), &ref_write(Id12::INITIAL), Why::Init) {
-        Ok(_) => Ok(()),
-        Err(fault) => Err(refusal_of(fault)),
+impl Begin {
+    /// Before its first operation.
+    pub fn new(alloc: Global) -> Begin
+        ensures { begin_rest result ≡ begin_program }
+    {
+        Begin {
+            alloc,
+            state: Beginning::Snapshot,
+        }
+    }
+
+    /// One operation of the store.
+    pub fn step<S: Store>(&mut self, store: &mut S) -> Result<Next<()>, Refusal>
+        requires live { IsAsk (begin_rest self.old) }
+        requires polite { IsTrue (S.view store.old).caller.tells → NextIsPolite (begin_rest self.old) (S.view store.old).seen }
+        ensures step { Steps (S.view store.old) (S.view store.new) (begin_rest self.old) (begin_rest self.new) result }
+        ensures falls { begin_left self.new < begin_left self.old }
+        ensures listed { IfErr result MayRefuseBegin }
+    {
+        drive(self, store)
     }
 }

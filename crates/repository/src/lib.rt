@@ -2,13 +2,14 @@
 #![tactic(auto)]
 
 mod beginning;
-mod faults;
+mod calls;
 mod laws;
 mod refs;
 
-pub use beginning::begin;
+pub use beginning::Begin;
+pub use calls::{begin, read_refs};
 pub use laws::{live_law, refs_law};
-pub use refs::read_refs;
+pub use refs::ReadRefs;
 
 #[cfg(test)]
 mod tests;

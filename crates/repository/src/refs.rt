@@ -1,81 +1,167 @@
-//! The refs of a repository.
+//! The machine that reads the refs of a repository.
 
-ghost use Rattle.std.specs.Prelude.{◌≡◌, false, IfOk, IfErr, OnOk};
+ghost use Rattle.std.specs.Prelude.{◌≡◌, ◌<◌, ◌≤◌, ◌+◌, ◌-◌, drop, length, false, IfOk, IfErr};
 ghost use Rattle.store_api.specs.Machine.{same_key};
-ghost use Rattle.store_api.specs.Program.{is_fault};
-ghost use Rattle.repository.specs.Running.{Runs, Answers};
-ghost use Rattle.repository.specs.Refs.{refs_program, list_part, read_each, read_ref, on_got, line_of, with_line, live, is_gone, MayRefuseRefs};
+ghost use Rattle.store_api.specs.Program.{IsAsk, Steps, Lands, is_fault};
+ghost use Rattle.repository.specs.Refs.{refs_program, read_each, read_branches, on_got, line_of, live, is_gone, MayRefuseRefs};
+ghost use Rattle.repository.specs.Reading.{refs_rest, refs_left, no_length, first_and_live, Answers, AddsLine};
 
-use crate::faults::refusal_of;
 use ice_base::RefName;
 use ice_ids::Id12;
 use plain_object::ref_read;
-use play_report::{RefLine, RefLines};
+use play_outcome::{RefLine, RefLines};
 use std::alloc::{AllocError, Global};
-use store_api::{Bad, Entries, Entry, Got, Key, Listed, Part, Refusal, Reply, Store};
+use std::mem;
+use store_api::{
+    Bad, Entries, Entry, Got, Key, Machine, Next, Part, Refusal, Reply, Request, Store, drive,
+};
 
-/// Reads all refs: the branches, and then the tags that have no tombstone, each in the order of
-/// their names. It lists a part and gets its refs one after the other; one that is dropped between
-/// is passed over.
-///
-/// Refusals: `BadFile` at the first ref whose bytes are no reference, `StoreFault` where the store
-/// failed, and `NoMemory`.
-pub fn read_refs<S: Store>(alloc: Global, store: &mut S) -> Result<RefLines, Refusal>
-    ensures runs { Runs (S.view store.old) (S.view store.new) refs_program result }
-    ensures listed { IfErr result MayRefuseRefs }
-{
-    let branches = list_part(store, Part::Branches)?;
-    let lines = read_each(
-        alloc,
-        store,
-        RefLines::from_vec(Vec::new(alloc)),
-        branches.as_slice(),
-    )?;
-    let tags = list_part(store, Part::Tags)?;
-    read_each(alloc, store, lines, tags.as_slice())
+/// The operation that comes next.
+#[derive(Drop)]
+pub enum Reading {
+    /// The branches are listed.
+    Branches,
+    /// The branch at this place of the listing is got.
+    Branch { entries: Entries, place: usize },
+    /// The tags are listed.
+    Tags,
+    /// The tag at this place of the listing is got.
+    Tag { entries: Entries, place: usize },
+    /// The machine has ended.
+    Ended,
 }
 
-fn list_part<S: Store>(store: &mut S, part: Part) -> Result<Entries, Refusal>
-    ensures runs { Runs (S.view store.old) (S.view store.new) (list_part part) result }
-    ensures listed { IfErr result MayRefuseRefs }
-{
-    match store.list(part) {
-        Ok(Listed { entries, now: _ }) => Ok(entries),
-        Err(fault) => Err(refusal_of(fault)),
-    }
-}
-
-/// Reads the listed refs, behind these lines.
-fn read_each<S: Store>(
+/// A machine that reads all refs: the branches, and then the tags that have no tombstone, each in the
+/// order of their names. It lists a part and gets its refs one after the other; one that is dropped
+/// between is passed over. It may answer `BadFile`, at the first ref whose bytes are no reference,
+/// `StoreFault` or `NoMemory` in place of the lines.
+#[derive(Drop)]
+pub struct ReadRefs {
     alloc: Global,
-    store: &mut S,
     lines: RefLines,
-    entries: &[Entry],
-) -> Result<RefLines, Refusal>
-    ensures runs { Runs (S.view store.old) (S.view store.new) (read_each lines (live entries.now)) result }
-    ensures listed { IfErr result MayRefuseRefs }
-{
-    let mut list = lines.into_vec();
-    for place in 0..entries.len() {
-        let key = &entries[place].key;
-        if is_gone(key, &entries[place + 1..]) {
-            continue;
-        }
-        let line = read_ref(alloc, store, key)?;
-        let Ok(()) = add_line(&mut list, line) else {
-            return Err(Refusal::NoMemory);
-        };
-    }
-    Ok(RefLines::from_vec(list))
+    state: Reading,
 }
 
-fn add_line(list: &mut Vec<RefLine>, line: Option<RefLine>) -> Result<(), AllocError>
-    ensures { OnOk result (list.new.items ≡ with_line list.old.items line) }
-{
-    if let Some(line) = line {
-        list.push(line)?;
+impl Machine for ReadRefs {
+    type Answer = RefLines;
+
+    ghost rest = { refs_rest };
+
+    ghost left = { refs_left };
+
+    ghost keeps = { λ old new. Unit {0} };
+
+    ghost may_refuse = { MayRefuseRefs };
+
+    fn request(&self) -> Result<Request<'_>, AllocError> {
+        match &self.state {
+            Reading::Branches => Ok(Request::List {
+                part: Part::Branches,
+            }),
+            Reading::Tags => Ok(Request::List { part: Part::Tags }),
+            Reading::Branch { entries, place } | Reading::Tag { entries, place } => {
+                Ok(Request::Get {
+                    key: entries.as_slice()[*place].key.copy(self.alloc)?,
+                })
+            }
+            Reading::Ended => unreachable!(),
+        }
     }
-    Ok(())
+
+    fn answer(&mut self, reply: Reply) -> Result<Next<RefLines>, Refusal> {
+        let state = mem::replace(&mut self.state, Reading::Ended);
+        match (state, reply) {
+            (Reading::Branches, Reply::Listed(listed)) => Ok(self.on_branches(listed.entries, 0)),
+            (Reading::Branch { entries, place }, Reply::Got(got)) => {
+                let key = &entries.as_slice()[place].key;
+                add_ref(self.alloc, &mut self.lines, key, got)?;
+                Ok(self.on_branches(entries, place + 1))
+            }
+            (Reading::Tags, Reply::Listed(listed)) => Ok(self.on_tags(listed.entries, 0)),
+            (Reading::Tag { entries, place }, Reply::Got(got)) => {
+                let key = &entries.as_slice()[place].key;
+                add_ref(self.alloc, &mut self.lines, key, got)?;
+                Ok(self.on_tags(entries, place + 1))
+            }
+            _ => Err(Refusal::StoreFault),
+        }
+    }
+
+    fn stop(&mut self) {
+        self.state = Reading::Ended;
+    }
+
+    ghost may_starve = { tt };
+}
+
+impl ReadRefs {
+    /// Before its first operation.
+    pub fn new(alloc: Global) -> ReadRefs
+        ensures { refs_rest result ≡ refs_program }
+    {
+        ReadRefs {
+            alloc,
+            lines: RefLines::new(alloc),
+            state: Reading::Branches,
+        }
+    }
+
+    /// One operation of the store.
+    pub fn step<S: Store>(&mut self, store: &mut S) -> Result<Next<RefLines>, Refusal>
+        requires { IsAsk (refs_rest self.old) }
+        ensures step { Steps (S.view store.old) (S.view store.new) (refs_rest self.old) (refs_rest self.new) result }
+        ensures falls { refs_left self.new < refs_left self.old }
+        ensures listed { IfErr result MayRefuseRefs }
+    {
+        drive(self, store)
+    }
+
+    /// Goes on with the branches from this place of the listing, and behind them with the tags.
+    fn on_branches(&mut self, entries: Entries, from: usize) -> Next<RefLines>
+        requires { from ≤ length entries }
+        ensures lands { Lands (read_branches self.old.lines (drop from entries)) (refs_rest self.new) (Ok result) }
+        ensures falls { refs_left self.new < (length entries - from) + no_length + 3 }
+        ensures short { length entries < no_length }
+    {
+        let place = next_live(entries.as_slice(), from);
+        self.state = if place < entries.len() {
+            Reading::Branch { entries, place }
+        } else {
+            Reading::Tags
+        };
+        Next::Again
+    }
+
+    /// Goes on with the tags from this place of the listing.
+    fn on_tags(&mut self, entries: Entries, from: usize) -> Next<RefLines>
+        requires within { from ≤ length entries }
+        requires ended { self.old.state ≡ Reading.Ended }
+        ensures lands { Lands (read_each self.old.lines (live (drop from entries))) (refs_rest self.new) (Ok result) }
+        ensures falls { refs_left self.new < (length entries - from) + 1 }
+        ensures short { length entries < no_length }
+    {
+        let place = next_live(entries.as_slice(), from);
+        if place < entries.len() {
+            self.state = Reading::Tag { entries, place };
+            return Next::Again;
+        }
+        Next::Ready(mem::replace(&mut self.lines, RefLines::new(self.alloc)))
+    }
+}
+
+/// The place of the next ref that stands, from this place on, or the end.
+fn next_live(entries: &[Entry], from: usize) -> usize
+    requires { from ≤ length entries.now }
+    ensures live { live (drop from entries.now) ≡ first_and_live (drop result entries.now) }
+    ensures behind { from ≤ result }
+    ensures within { result ≤ length entries.now }
+{
+    for place in from..entries.len() {
+        if !is_gone(&entries[place].key, &entries[place + 1..]) {
+            return place;
+        }
+    }
+    entries.len()
 }
 
 /// Whether the key is a tombstone, or the tag of the tombstone that is listed right behind it.
@@ -98,13 +184,18 @@ fn is_tombstone(key: &Key, name: &RefName) -> bool
     }
 }
 
-fn read_ref<S: Store>(alloc: Global, store: &mut S, key: &Key) -> Result<Option<RefLine>, Refusal>
-    ensures runs { Runs (S.view store.old) (S.view store.new) (read_ref key.now) result }
+/// Puts the line of a ref that was got behind the lines. One that is gone by now is passed over.
+fn add_ref(alloc: Global, lines: &mut RefLines, key: &Key, got: Got) -> Result<(), Refusal>
+    ensures adds { AddsLine (on_got key.now (Reply.Got got)) lines.old lines.new result }
+    ensures faultless { IfErr result (λ refusal. is_fault refusal ≡ false) }
     ensures listed { IfErr result MayRefuseRefs }
 {
-    match store.get(key) {
-        Ok(got) => on_got(alloc, key, got),
-        Err(fault) => Err(refusal_of(fault)),
+    let Some(line) = on_got(alloc, key, got)? else {
+        return Ok(());
+    };
+    match lines.push(line) {
+        Ok(()) => Ok(()),
+        Err(_) => Err(Refusal::NoMemory),
     }
 }
 

@@ -7,7 +7,7 @@ use crate::{begin, read_refs};
 use ice_base::{Bytes, RefName};
 use ice_ids::Id12;
 use plain_object::ref_write;
-use play_report::RefLine;
+use play_outcome::RefLine;
 use std::alloc::{AllocError, Global};
 use std::test::Fail;
 use store_api::{

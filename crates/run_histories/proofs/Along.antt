@@ -22,7 +22,7 @@ use Rattle.histories.proofs.Choosing.{Knows}
 use Rattle.commit_path.specs.Owed.{Sessions, IsMade, OwesOver, Owes}
 use Rattle.play_script.specs.declared.scripts.Task.{Task}
 use Rattle.play_tasks.specs.Solving.{IsOfTask}
-use Rattle.play_run.specs.Order.{ids_at, IsOfClient}
+use Rattle.play_tasks.specs.Tasks.{ids_at, IsOfClient}
 use Rattle.run_histories.specs.Runs.{CanBeDrawn, MayDraw}
 use Rattle.run_histories.specs.Told.{IsOfSession, CommitsSession}
 use Rattle.run_histories.proofs.Drawing.{task-drawn, not-initial, ids_at-known}

@@ -22,7 +22,7 @@ use Rattle.play_script.specs.declared.scripts.Line.{Line}
 use Rattle.play_script.specs.declared.scripts.Task.{Task}
 use Rattle.play_tasks.specs.Playing.{asked_by}
 use Rattle.play_tasks.specs.Solving.{ReachesBy, Reaches, IsOfTask}
-use Rattle.play_run.specs.Order.{ids_at}
+use Rattle.play_tasks.specs.Tasks.{ids_at}
 use Rattle.run_histories.specs.Runs.{CanBeDrawn}
 
 -- an id that a client may draw

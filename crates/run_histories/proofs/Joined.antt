@@ -14,7 +14,7 @@ use Rattle.histories.specs.Calls.{IsGiven, CommitsApply}
 use Rattle.histories.proofs.Linked.{history-law}
 use Rattle.histories.proofs.Choosing.{chosen}
 use Rattle.play_script.specs.declared.scripts.Task.{Task}
-use Rattle.play_run.specs.Order.{IsOfClient}
+use Rattle.play_tasks.specs.Tasks.{IsOfClient}
 use Rattle.repository.specs.Beginning.{begin_program}
 use Rattle.repository.specs.Refs.{refs_program}
 use Rattle.run_histories.specs.Runs.{IsSound, RanAlone, IsRun}

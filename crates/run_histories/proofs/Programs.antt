@@ -17,7 +17,7 @@ use Rattle.store_api.specs.declared.events.Event.{Event}
 use Rattle.store_api.specs.declared.machines.Refusal.{Refusal}
 use Rattle.store_api.specs.Journal.{Each}
 use Rattle.store_api.specs.Program.{Prog, Done, Ask, bind, Path}
-use Rattle.play_report.specs.declared.outcome.RefLine.{RefLine}
+use Rattle.play_outcome.specs.declared.outcome.RefLine.{RefLine}
 use Rattle.repository.specs.Running.{Asks, ◌>>=◌, on_answer}
 use Rattle.repository.specs.Beginning.{begin_program, put_main, after_put}
 use Rattle.repository.specs.Refs.{list_part, on_listed, read_ref, on_got, read_each, refs_program, with_line, live}

@@ -13,7 +13,7 @@ use Rattle.histories.specs.Calls.{IsGiven}
 use Rattle.repository.specs.Beginning.{begin_program}
 use Rattle.repository.specs.Refs.{refs_program}
 use Rattle.play_script.specs.declared.scripts.Task.{Task}
-use Rattle.play_run.specs.Order.{IsOfClient}
+use Rattle.play_tasks.specs.Tasks.{IsOfClient}
 
 -- an id that some client may draw
 pub record CanBeDrawn (id : Id12) : Type 0 where

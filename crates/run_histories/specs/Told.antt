@@ -16,10 +16,12 @@ use Rattle.store_api.specs.Journal.{Each, tree_of}
 use Rattle.histories.specs.Repository.{Entry, last}
 use Rattle.histories.specs.Calls.{history_of, IsHistory, BranchesStand}
 use Rattle.session.specs.Sessions.{SessionState, overlay}
+use Rattle.session.specs.Opening.{Asked}
 use Rattle.commit_path.specs.Owed.{IsMade}
+use Rattle.commit_path.specs.Opened.{IsOpened, WasNamed, WasBegun}
 use Rattle.play_script.specs.declared.scripts.Task.{Task}
 use Rattle.play_tasks.specs.Solving.{IsOfTask}
-use Rattle.play_run.specs.Order.{ids_at}
+use Rattle.play_tasks.specs.Tasks.{ids_at}
 use Rattle.run_histories.specs.Runs.{IsSound, IsRun}
 
 -- A commit of a session of its client's task: the task's lines lead to the session and to the id that it draws, the
@@ -63,9 +65,19 @@ abbrev pub CommitsEnter : Draw → List Task → (Id12 → Option Tree) → (ℕ
 CommitsEnter draw tasks trees changes journal event = (branch bytes : List ℕ) (old : Version) (id : Id12) (s : Stored) → event.op ≡ PutOver (Branch branch) bytes old Commit → ref_of bytes ≡ Some id
     → was_done event.reply ≡ true → found journal (Branch branch) ≡ Some s → s.version ≡ old.0 → IsEntered draw tasks trees changes journal event.client branch old.0 id
 
+-- The session began at the last entry of its branch's history, as that was where the client got the branch: it has the entry's version, snapshot and
+-- tree.
+pub record BeganAtLast (trees : Id12 → Option Tree) (changes : ℕ → Changes) (client : ℕ) (a : Asked) (s : SessionState) (start journal : List Event) : Type 0 where
+  pub named : WasNamed client a s.version s.base start journal
+  pub entry : Entry
+  pub is_last : last (history_of trees changes named.got.own.before a.branch) ≡ Some entry
+  pub version : entry.version ≡ s.version
+  pub base : entry.id ≡ s.base
+  pub tree : trees entry.id ≡ Some s.tree
+
 -- After a run: the changes for each position are those before it, and for each commit that it added those of a session
--- of its client's task; each commit that took effect follows on the entry before it. With these changes the journal is
--- sound, so that another run may go on; the histories run over its calls; and the branches stand as their histories say.
+-- of its client's task; each commit that took effect follows on the entry before it; each session that was opened began at the last entry of
+-- its branch. With these changes the journal is sound, so that another run may go on; the histories run over its calls; and the branches stand as their histories say.
 pub record HasHistories (draw : Draw) (tasks : List Task) (before : ℕ → Changes) (old new : List Event) : Type 0 where
   pub added : List Event
   pub is : new ≡ old ++ added
@@ -73,6 +85,7 @@ pub record HasHistories (draw : Draw) (tasks : List Task) (before : ℕ → Chan
   pub same : (n : ℕ) → n < length old → changes n ≡ before n
   pub solved : Each (IsSolved draw tasks changes) old added
   pub commits : Each (CommitsEnter draw tasks (tree_of new) changes) old added
+  pub opened : (client : ℕ) (a : Asked) (s : SessionState) (start : List Event) → WasBegun client a s start new → IsOpened s new → BeganAtLast (tree_of new) changes client a s start new
   pub sound : IsSound new changes
   pub history : IsHistory (tree_of new) changes new
   pub stand : BranchesStand (tree_of new) changes new

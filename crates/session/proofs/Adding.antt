@@ -1,5 +1,5 @@
 -- What adding a group answers and leaves.
-use Rattle.std.proofs.Common.{◌≡◌, refl, sym, ap, subst, ◌∙◌, Bool, true, false, ℕ, List, Option, None, Some, Result, Ok, Err}
+use Rattle.std.proofs.Common.{◌≡◌, inl, inr, refl, sym, ap, subst, ◌∙◌, Bool, true, false, ℕ, List, Option, None, Some, Result, Ok, Err}
 use Rattle.ice_ids.specs.declared.Id8.{Id8}
 use Rattle.std.specs.Prelude.{◌+◌, if◌then◌else◌}
 use Rattle.ice_ids.specs.declared.drawing.CountIds.{CountIds}
@@ -43,7 +43,7 @@ told : (s : SessionState) (p : List ℕ) (fault : EditFault) → group_added s p
 told s p E.NodeExists e = (e, refl)
 told s p E.NoParent e = (e, refl)
 told s p E.Full e = (e, refl)
-told s p E.NoMemory e = refl
+told s p E.NoMemory e = inl refl
 
 pub refused : (s : SessionState) (p : List ℕ) (fault : EditFault) → s.writes ≡ true → Err fault ≡ unless (refusal (overlay s) (Add p any_id)) (tt {0}) → AddsGroup s p (Err (refusal_of_edit fault)) s
 refused s p fault w e =
@@ -79,7 +79,7 @@ by_fault s p id E.Full changes n x = absurd (by_none _ _ E.Full n x.0)
     by_none : (r : Option EditFault) (c : Changes) (fault : EditFault) → r ≡ None → unless r c ≡ Err fault → ⊥
     by_none None c fault n x = cc
     by_none (Some f) c fault n x = cc
-by_fault s p id E.NoMemory changes n x = ap (λ (c : Changes). after s c) x
+by_fault s p id E.NoMemory changes n x = inr (ap (λ (c : Changes). after s c) x)
 
 pub entered : (s : SessionState) (p : List ℕ) (id : Id8) (done : Unit {0}) (r : Result (Unit {0}) EditFault) (changes : Changes) → s.writes ≡ true → ((i : Id8) → Ok done ≡ unless (refusal (overlay s) (Add p i)) (tt {0})) → drawn8 s.ids ≡ Some id
     → Extends s.changes s.tree (Add p id) r changes → AddsGroup s p (answered id r) (after s changes)

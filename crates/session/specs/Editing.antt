@@ -1,5 +1,5 @@
 -- The calls of a session.
-use Rattle.std.specs.Prelude.{◌≡◌, ℕ, true, false, List, [], map, Option, Some, None, Result, Ok, Err}
+use Rattle.std.specs.Prelude.{◌≡◌, ◌⊎◌, ℕ, true, false, List, [], map, Option, Some, None, Result, Ok, Err}
 use Rattle.ice_ids.specs.declared.Id8.{Id8}
 use Rattle.ice_ids.specs.Drawing.{drawn8, after8}
 use Rattle.tree_model.specs.declared.edit.Edit.{Edit}
@@ -43,14 +43,14 @@ group_added s path = elim s.writes [
   | false ↦ Err R.ReadOnly
 ]
 
--- nothing changed but that ids may have been drawn
-abbrev pub SameButIds : SessionState → SessionState → Type 0
-SameButIds old new = new ≡ record old { ids = new.ids }
+-- nothing changed but that one id may have been drawn
+abbrev pub SameOrDrawn : SessionState → SessionState → Type 0
+SameOrDrawn old new = (new ≡ old) ⊎ (new ≡ record old { ids = after8 old.ids })
 
 -- what a call that adds a group answers and leaves
 abbrev pub AddsGroup : SessionState → List ℕ → Result Id8 Refusal → SessionState → Type 0
 AddsGroup old path (Ok id) new = group_added old path ≡ Ok (id, new)
-AddsGroup old path (Err R.NoMemory) new = SameButIds old new
+AddsGroup old path (Err R.NoMemory) new = SameOrDrawn old new
 AddsGroup old path (Err refusal) new = (group_added old path ≡ Err refusal) × (new ≡ old)
 
 abbrev pub listing : List ℕ → Listing

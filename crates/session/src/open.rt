@@ -1,16 +1,17 @@
 //! The machine that opens a session.
 
-ghost use Rattle.std.specs.Prelude.{◌≡◌, ◌<◌, true, false, IfErr, IsTrue};
-ghost use Rattle.store_api.specs.Program.{Lands, IsAsk, Steps, refusal_of};
-ghost use Rattle.session.specs.Opening.{open_program, open_rest, open_left, asked, after_ref, after_base, MayRefuseOpen};
+ghost use Rattle.std.specs.Prelude.{◌≡◌, ◌<◌, true, false, IfErr};
+ghost use Rattle.store_api.specs.Program.{IsAsk, Steps};
+ghost use Rattle.store_api.specs.Driving.{Took};
+ghost use Rattle.session.specs.Opening.{open_program, open_rest, open_left, asked, get_base, MayRefuseOpen};
 
 use crate::Session;
 use crate::opening::Opening;
 use ice_base::RefName;
 use ice_ids::{AnyIds, Id12};
 use plain_object::{PlainFault, ref_read, snapshot_read};
-use std::alloc::Global;
-use store_api::{Bad, Got, Key, Next, Refusal, Reply, Store, StoreFault, Version};
+use std::alloc::{AllocError, Global};
+use store_api::{Bad, Got, Key, Machine, Next, Refusal, Reply, Request, Store, Version, drive};
 
 /// A machine that opens a session: it gets the branch, and then the snapshot that it names. It
 /// answers `NoRef`, `Missing`, `BadFile`, `StoreFault` or `NoMemory` in place of a session.
@@ -21,6 +22,46 @@ pub struct Open {
     writes: bool,
     ids: AnyIds,
     state: Opening,
+}
+
+impl Machine for Open {
+    type Answer = Session;
+
+    ghost rest = { open_rest };
+
+    ghost left = { open_left };
+
+    ghost keeps = { λ old new. Unit {0} };
+
+    ghost may_refuse = { MayRefuseOpen };
+
+    fn request(&self) -> Result<Request<'_>, AllocError> {
+        let key = match self.state {
+            Opening::Ref => Key::Branch(self.branch.copy(self.alloc)?),
+            Opening::Base { id, version: _ } => Key::Snapshot(id),
+            Opening::Ended => unreachable!(),
+        };
+        Ok(Request::Get { key })
+    }
+
+    fn answer(&mut self, reply: Reply) -> Result<Next<Session>, Refusal> {
+        let state = self.state;
+        self.state = Opening::Ended;
+        let Reply::Got(got) = reply else {
+            return Err(Refusal::StoreFault);
+        };
+        match state {
+            Opening::Ref => self.on_ref(got),
+            Opening::Base { id, version } => self.on_base(got, id, version),
+            Opening::Ended => unreachable!(),
+        }
+    }
+
+    fn stop(&mut self) {
+        self.state = Opening::Ended;
+    }
+
+    ghost may_starve = { tt };
 }
 
 impl Open {
@@ -57,63 +98,15 @@ impl Open {
         ensures falls { open_left self.new < open_left self.old }
         ensures listed { IfErr result MayRefuseOpen }
     {
-        match self.state {
-            Opening::Ref => self.step_ref(store),
-            Opening::Base { id, version } => self.step_base(store, id, version),
-            Opening::Ended => unreachable!(),
-        }
-    }
-
-    fn step_ref<S: Store>(&mut self, store: &mut S) -> Result<Next<Session>, Refusal>
-        requires { self.old.state ≡ Opening.Ref }
-        ensures step { Steps (S.view store.old) (S.view store.new) (open_rest self.old) (open_rest self.new) result }
-        ensures falls { open_left self.new < 2 }
-        ensures listed { IfErr result MayRefuseOpen }
-    {
-        let Ok(branch) = self.branch.copy(self.alloc) else {
-            self.state = Opening::Ended;
-            return Err(Refusal::NoMemory);
-        };
-        match store.get(&Key::Branch(branch)) {
-            Ok(got) => self.on_ref(got),
-            Err(fault) => Err(self.on_fault(fault)),
-        }
-    }
-
-    fn step_base<S: Store>(
-        &mut self,
-        store: &mut S,
-        id: Id12,
-        version: Version,
-    ) -> Result<Next<Session>, Refusal>
-        requires { self.old.state ≡ Opening.Base id version }
-        ensures step { Steps (S.view store.old) (S.view store.new) (open_rest self.old) (open_rest self.new) result }
-        ensures falls { open_left self.new < 1 }
-        ensures listed { IfErr result MayRefuseOpen }
-    {
-        match store.get(&Key::Snapshot(id)) {
-            Ok(got) => self.on_base(got, id, version),
-            Err(fault) => Err(self.on_fault(fault)),
-        }
-    }
-
-    fn on_fault(&mut self, fault: StoreFault) -> Refusal
-        ensures refusal { result ≡ refusal_of fault }
-        ensures ended { self.new.state ≡ Opening.Ended }
-    {
-        self.state = Opening::Ended;
-        match fault {
-            StoreFault::Failed => Refusal::StoreFault,
-            StoreFault::NoMemory => Refusal::NoMemory,
-        }
+        drive(self, store)
     }
 
     fn on_ref(&mut self, got: Got) -> Result<Next<Session>, Refusal>
-        ensures lands { Lands (after_ref (asked self.old) (Reply.Got got)) (open_rest self.new) result }
+        requires { self.old.state ≡ Opening.Ended }
+        ensures took { Took (open_program (asked self.old)) (Reply.Got got) (open_rest self.new) result }
         ensures falls { open_left self.new < 2 }
         ensures listed { IfErr result MayRefuseOpen }
     {
-        self.state = Opening::Ended;
         match got {
             Got::Absent { now: _ } => Err(Refusal::NoRef),
             Got::Found {
@@ -134,11 +127,11 @@ impl Open {
     }
 
     fn on_base(&mut self, got: Got, id: Id12, version: Version) -> Result<Next<Session>, Refusal>
-        ensures lands { Lands (after_base (asked self.old) id version.0 (Reply.Got got)) (open_rest self.new) result }
+        requires { self.old.state ≡ Opening.Ended }
+        ensures took { Took (get_base (asked self.old) id version.0) (Reply.Got got) (open_rest self.new) result }
         ensures falls { open_left self.new < 1 }
         ensures listed { IfErr result MayRefuseOpen }
     {
-        self.state = Opening::Ended;
         match got {
             Got::Absent { now: _ } => Err(Refusal::Missing(Key::Snapshot(id))),
             Got::Found {

@@ -9,6 +9,7 @@ ghost use Rattle.session.specs.Sessions.{overlay};
 use change_set::ChangeSet;
 use ice_base::RefName;
 use ice_ids::{AnyIds, Id8, Id12, Ids};
+use ice_items::Items;
 use std::alloc::{AllocError, Global};
 use std::marker::Model;
 use store_api::{Refusal, Version};
@@ -23,42 +24,7 @@ pub struct Listing {
 }
 
 /// A list of nodes.
-#[derive(Debug, Drop)]
-pub struct Listings {
-    list: Vec<Listing>,
-}
-
-impl Model for Listings {
-    ghost use Rattle.std.specs.Prelude.{List};
-    ghost use Rattle.session.specs.declared.session.Listing.{Listing as TheListing};
-
-    ghost Value = { List TheListing };
-
-    ghost view = { λ l. l.list.items };
-}
-
-impl Listings {
-    /// These nodes, in this order.
-    pub fn from_vec(list: Vec<Listing>) -> Listings
-        ensures { result ≡ list.items }
-    {
-        Listings { list }
-    }
-
-    /// The nodes as a slice.
-    pub fn as_slice(&self) -> &[Listing]
-        ensures { result.now ≡ self.now }
-    {
-        self.list.as_slice()
-    }
-
-    /// The nodes, given back.
-    pub fn into_vec(self) -> Vec<Listing>
-        ensures { result.items ≡ self }
-    {
-        self.list
-    }
-}
+pub type Listings = Items<Listing>;
 
 /// A session: a base tree and changes over it. Its reads see the base under the changes, whatever
 /// other clients do.
@@ -105,7 +71,7 @@ fn as_listings(alloc: Global, paths: Vec<Path>) -> Result<Listings, AllocError>
     for path in paths {
         list.push(Listing { path, array: false })?;
     }
-    Ok(Listings { list })
+    Ok(Listings::from_vec(list))
 }
 
 impl Session {
@@ -168,7 +134,7 @@ impl Session {
 
     /// Adds a group at a path, and answers its id. It is refused by `ReadOnly`, `NodeExists`,
     /// `NoParent`, `Full`, `IdsSpent` or `NoMemory`, the first in this order. A refused session is as
-    /// before, apart from an id that may have been drawn where memory ran out.
+    /// before, apart from one id that may have been drawn where memory ran out.
     pub fn add_group(&mut self, path: &Path) -> Result<Id8, Refusal>
         ensures { AddsGroup self.old path.now result self.new }
     {

@@ -1,22 +1,21 @@
 -- Laws of programs.
-use Rattle.std.proofs.Common.{◌≡◌, ℕ, ◌⊎◌, inl, inr, Bool, true, false, List, [], ◌∷◌, ◌++◌, refl, sym, ◌∙◌, ap, subst, append_assoc, append-nil, ne_eqb, eq-eqb, arith}
+use Rattle.std.proofs.Common.{◌≡◌, ℕ, inl, inr, Bool, true, false, List, [], ◌∷◌, ◌++◌, refl, sym, ◌∙◌, ap, subst, append_assoc, append-nil, ne_eqb, eq-eqb, arith}
 use Rattle.std.specs.Prelude.{◌==◌, nat_le, IsTrue, Result, Ok, Err}
 use Rattle.std.proofs.lemmas.List.Elements.{filter-append}
 use Rattle.std.proofs.lemmas.Bool.Decides.{nat_tests}
 use Rattle.store_api.specs.declared.events.Op.{Op}
 use Rattle.store_api.specs.declared.events.Reply.{Reply}
 use Rattle.store_api.specs.declared.events.Reply.TheVariants.{Failed}
-use Rattle.store_api.specs.declared.events.StoreFault.{StoreFault as Fault}
-use Rattle.store_api.specs.declared.events.StoreFault.TheVariants.{Failed as Store_failed, NoMemory as Store_no_memory}
+use Rattle.store_api.specs.declared.events.StoreFault.TheVariants.{Failed as Store_failed}
 use Rattle.store_api.specs.declared.events.Event.{Event}
 use Rattle.store_api.specs.declared.machines.Next.{Next}
 use Rattle.store_api.specs.declared.machines.Next.TheVariants.{Again, Ready}
 use Rattle.store_api.specs.declared.machines.Refusal.{Refusal}
-use Rattle.store_api.specs.declared.machines.Refusal.TheVariants.{StoreFault, NoMemory}
+use Rattle.store_api.specs.declared.machines.Refusal.TheVariants.{NoMemory}
 use Rattle.store_api.specs.Machine.{IsAnswered}
 use Rattle.store_api.specs.Journal.{Each, IsPolite, IsGood}
-use Rattle.store_api.specs.Callers.{Caller, View, IsOther, Waits, Makes, Did, Called, own_event, owns, HasAll}
-use Rattle.store_api.specs.Program.{Prog, Done, IsDone, Path, events_of, Keeps, Leads, Ask, bind, settled, Turns, Works, IsStarved, Blames, Lands, Steps, Grows, is_over, IsSure, refusal_of, is_no_memory, is_fault}
+use Rattle.store_api.specs.Callers.{Caller, View, IsOther, Waits, Makes, Did, Called, own_event, owns, HasAll, Fits}
+use Rattle.store_api.specs.Program.{Prog, Done, IsDone, Path, events_of, Keeps, Leads, Ask, bind, Blames, Lands, Steps, Grows, is_over, IsSure, is_fault}
 use Rattle.store_api.proofs.Journals.{Each-append, Each-weaker, Each-one, Each-none}
 use Rattle.store_api.proofs.Standing.{IsPolite-append}
 
@@ -127,35 +126,20 @@ Keeps-steps P old new p q result t s k = elim s.went [
 ]
 
 -- a step after an answer of the store
-pub Steps-answer : {T A : Type 0} (wrap : A → Reply) (op : Op) (answer : A) (old new : View) (next : Reply → Prog (Result T Refusal)) (q : Prog (Result T Refusal)) (result : Result (Next T) Refusal) → Called wrap op (Ok answer) old new → ((r : Refusal) → result ≡ Err r → is_fault r ≡ false) → Lands (next (wrap answer)) q result → (is_over op ≡ true → IsSure (next (wrap answer)) result) → Steps old new (Ask op next) q result
-Steps-answer {T} wrap op answer old new next q result c f l s = record {
+pub Steps-answer : {T A : Type 0} (wrap : A → Reply) (op : Op) (answer : A) (old new : View) (next : Reply → Prog (Result T Refusal)) (q : Prog (Result T Refusal)) (result : Result (Next T) Refusal) → Fits op (wrap answer) → Called wrap op (Ok answer) old new → ((r : Refusal) → result ≡ Err r → is_fault r ≡ false) → Lands (next (wrap answer)) q result → (is_over op ≡ true → IsSure (next (wrap answer)) result) → Steps old new (Ask op next) q result
+Steps-answer {T} wrap op answer old new next q result fits c f l s = record {
   same = c.same;
   blames = blamed result f;
-  went = inl (record { op = op; next = next; reply = wrap answer; asks = refl; made = c.did; lands = l; sure = s });
+  went = inl (record { op = op; next = next; reply = wrap answer; asks = refl; fits = fits; made = c.did; lands = l; sure = s });
 }
   where
     blamed : (r : Result (Next T) Refusal) → ((x : Refusal) → r ≡ Err x → is_fault x ≡ false) → Blames r old.faults new.faults
     blamed (Ok t) g = c.counted
     blamed (Err x) g = (c.counted, λ y. let n = g x refl in cc)
 
-made-done : {A : Type 0} (wrap : A → Reply) (by : Caller) (op : Op) (old new : List Event) (tells : Bool) → (IsTrue tells → Did wrap by op (Err Store_failed) old new) → (done : Bool) × (IsTrue tells → Makes by op (Failed done) old new)
+pub made-done : {A : Type 0} (wrap : A → Reply) (by : Caller) (op : Op) (old new : List Event) (tells : Bool) → (IsTrue tells → Did wrap by op (Err Store_failed) old new) → (done : Bool) × (IsTrue tells → Makes by op (Failed done) old new)
 made-done wrap by op old new true c = let m = c refl in (m.0, λ t. m.1)
 made-done wrap by op old new false c = (false, λ t. cc)
-
--- a step after a fault of the store
-pub Steps-fault : {T A : Type 0} (wrap : A → Reply) (op : Op) (fault : Fault) (old new : View) (next : Reply → Prog (Result T Refusal)) (q : Prog (Result T Refusal)) → ((done : Bool) → next (Failed done) ≡ Done (Err StoreFault)) → IsDone q → Called wrap op (Err fault) old new → Steps old new (Ask op next) q (Err (refusal_of fault))
-Steps-fault wrap op Store_failed old new next q f d c =
-    let m = made-done wrap old.caller op old.seen new.seen old.caller.tells c.did in
-    record {
-      same = c.same;
-      blames = (c.counted.0, λ y. c.counted);
-      went = inl (record { op = op; next = next; reply = Failed m.0; asks = refl; made = m.1; lands = (d, λ n. f m.0); sure = λ over. f m.0 });
-    }
-Steps-fault wrap op Store_no_memory old new next q f d c = record {
-  same = c.same;
-  blames = (c.counted, λ y. cc);
-  went = inr (record { result_is = refl; waits = c.did; ended = d });
-}
 
 -- a step for which there was no memory before its operation
 pub Steps-none : {T : Type 0} (old : View) (p q : Prog (Result T Refusal)) → IsDone q → Steps old old p q (Err NoMemory)
@@ -234,61 +218,3 @@ Makes-fewer by to f op reply old new m =
       answered = subst (λ (e : Event). IsAnswered m.middle e) (same m.time) m.answered;
       is = m.is ∙ ap (λ (e : Event). m.middle ++ e ∷ []) (same m.time);
     }
-
--- ---- turns of workers
-memory-cases : (r : Refusal) → (r ≡ NoMemory) ⊎ (is_no_memory r ≡ false)
-memory-cases NoMemory = inl refl
-memory-cases _ = inr refl
-
-pub lands-settled : {A B : Type 0} (starved : B → Bool) (f : Result A Refusal → Prog B) → IsStarved starved (f (Err NoMemory)) → (next q : Prog (Result A Refusal)) (result : Result (Next A) Refusal) → Lands next q result → (bind next f ≡ settled f q result) ⊎ IsStarved starved (settled f q result)
-lands-settled starved f s next q (Ok Again) l = inl (ap (λ p. bind p f) l.0)
-lands-settled starved f s next q (Ok (Ready a)) l = inl (ap (λ p. bind p f) l.0)
-lands-settled starved f s next q (Err r) l = elim (memory-cases r) [ inl e ↦ inr (subst (λ x. IsStarved starved (f (Err x))) (sym e) s) | inr e ↦ inl (ap (λ p. bind p f) (l.1 e)) ]
-
--- ... which is sure where the answer is
-pub sure-settled : {A B : Type 0} (f : Result A Refusal → Prog B) (next q : Prog (Result A Refusal)) (result : Result (Next A) Refusal) → Lands next q result → IsSure next result → bind next f ≡ settled f q result
-sure-settled f next q (Ok Again) l s = ap (λ p. bind p f) l.0
-sure-settled f next q (Ok (Ready a)) l s = ap (λ p. bind p f) l.0
-sure-settled f next q (Err r) l s = ap (λ p. bind p f) s
-
-starved-done : {A : Type 0} (starved : A → Bool) (q : Prog A) → IsStarved starved q → IsDone q
-starved-done starved (Done a) s = tt
-starved-done starved (Ask op k) s = s
-
--- a turn keeps what holds of each operation to come
-pub Keeps-turns : {A : Type 0} (P : List Event → ℕ → Op → Type 0) (starved failed : A → Bool) (old new : View) (p q : Prog A) → IsTrue old.caller.tells → Turns starved failed old new p q → Keeps P old.caller p old.seen → Keeps P old.caller q new.seen
-Keeps-turns P starved failed old new p q t s k = elim s.went [
-  | inl w ↦
-      let after = Keeps-asks P old.caller old.seen new.seen w.op w.next w.reply (w.made t) (subst (λ (x : Prog _). Keeps P old.caller x old.seen) w.asks k) in
-      elim w.goes [ inl e ↦ subst (λ (x : Prog _). Keeps P old.caller x new.seen) e after | inr e ↦ Keeps-done P old.caller q new.seen (starved-done starved q e) ]
-  | inr r ↦ Keeps-done P old.caller q new.seen (starved-done starved q r.ended)
-]
-
--- a turn keeps what holds of whatever is answered, where it holds of each answer that want of memory brings: after an
--- operation that is no put over, or after events of others alone
-Leads-starved : {A : Type 0} (Q : A → List Event → Type 0) (starved : A → Bool) (by : Caller) (q : Prog A) (journal : List Event) → ((a : A) → starved a ≡ true → Q a journal) → IsStarved starved q → Leads Q by q journal
-unfolding Leads
-Leads-starved Q starved by (Done a) journal free s = free a s
-Leads-starved Q starved by (Ask op k) journal free s = absurd s
-
-module _ {A : Type 0} (Q : A → List Event → Type 0) (starved failed : A → Bool) (old new : View) (p q : Prog A) (t : IsTrue old.caller.tells)
-    (worked : (op : Op) (next : Reply → Prog A) (reply : Reply) (a : A) → p ≡ Ask op next → is_over op ≡ false → Makes old.caller op reply old.seen new.seen → starved a ≡ true → Q a new.seen)
-    (rested : (a : A) → Waits old.caller old.seen new.seen → starved a ≡ true → Q a new.seen) where
-  Leads-works : Works starved old new p q → Leads Q old.caller p old.seen → Leads Q old.caller q new.seen
-  Leads-works w k = elim w.goes [
-    | inl e ↦ subst (λ (x : Prog A). Leads Q old.caller x new.seen) e after
-    | inr e ↦ by_over (is_over w.op) refl e
-  ]
-    where
-      after : Leads Q old.caller (w.next w.reply) new.seen
-      after = Leads-asks Q old.caller old.seen new.seen w.op w.next w.reply (w.made t) (subst (λ (x : Prog A). Leads Q old.caller x old.seen) w.asks k)
-
-      by_over : (b : Bool) → is_over w.op ≡ b → IsStarved starved q → Leads Q old.caller q new.seen
-      by_over true h s = subst (λ (x : Prog A). Leads Q old.caller x new.seen) (w.sure h) after
-      by_over false h s = Leads-starved Q starved old.caller q new.seen (λ a e. worked w.op w.next w.reply a w.asks h (w.made t) e) s
-
-  pub Leads-turns : Turns starved failed old new p q → Leads Q old.caller p old.seen → Leads Q old.caller q new.seen
-  Leads-turns s k = elim s.went [
-    | inl w ↦ Leads-works w k
-    | inr r ↦ Leads-starved Q starved old.caller q new.seen (λ a e. rested a (r.waits t) e) r.ended
-  ]

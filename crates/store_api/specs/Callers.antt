@@ -3,7 +3,8 @@ use Rattle.std.specs.Prelude.{◌≡◌, ◌≢◌, ℕ, ◌+◌, ◌≤◌, ◌
 use Rattle.ice_base.specs.Ends.{Rose}
 use Rattle.store_api.specs.declared.events.Op.{Op}
 use Rattle.store_api.specs.declared.events.Reply.{Reply}
-use Rattle.store_api.specs.declared.events.Reply.TheVariants.{Failed as Reply_failed}
+use Rattle.store_api.specs.declared.events.Op.TheVariants.{Get, PutNew, PutOver, Remove, RemoveAt, List as ListPart}
+use Rattle.store_api.specs.declared.events.Reply.TheVariants.{Got as Is_got, New as Is_new, Over as Is_over, Gone as Is_gone, GoneAt as Is_gone_at, Listed as Is_listed, Failed as Reply_failed}
 use Rattle.store_api.specs.declared.events.Event.{Event}
 use Rattle.store_api.specs.declared.events.StoreFault.{StoreFault}
 use Rattle.store_api.specs.declared.events.StoreFault.TheVariants.{Failed, NoMemory}
@@ -11,12 +12,14 @@ use Rattle.store_api.specs.Machine.{IsAnswered}
 use Rattle.store_api.specs.Journal.{Each, IsGood, IsPolite}
 
 -- Who calls: whether the store tells it the journal, its client number, and the range of numbers
--- that nobody else has (from `low` to before `end`, or without end).
+-- that nobody else has (from `low` to before `end`, or without end). `home` names the cell of a shared
+-- store, and is empty of a whole one.
 pub record Caller : Type 0 where
   pub tells : Bool
   pub number : ℕ
   pub low : ℕ
   pub end : Option ℕ
+  pub home : List ℕ
 
 abbrev pub is_before : ℕ → Option ℕ → Bool
 is_before n None = true
@@ -44,6 +47,17 @@ pub record Waits (by : Caller) (old new : List Event) : Type 0 where
   pub between : List Event
   pub others : Each (IsOther by) old between
   pub is : new ≡ old ++ between
+
+-- the reply is one of this operation, or the operation failed
+abbrev pub Fits : Op → Reply → Type 0
+Fits (Get key) (Is_got got) = Unit {0}
+Fits (PutNew key bytes why) (Is_new new) = Unit {0}
+Fits (PutOver key bytes old why) (Is_over over) = Unit {0}
+Fits (Remove key why) (Is_gone gone) = Unit {0}
+Fits (RemoveAt key old why) (Is_gone_at gone) = Unit {0}
+Fits (ListPart part) (Is_listed listed) = Unit {0}
+Fits op (Reply_failed done) = Unit {0}
+Fits op _ = ⊥
 
 -- the event of this caller
 abbrev pub own_event : Caller → Op → Reply → ℕ → Event
@@ -86,7 +100,7 @@ as_client client view = record view { caller = record (view.caller) { number = c
 
 -- a client with this number, which nobody else has
 abbrev pub only : Bool → ℕ → Caller
-only tells k = record { tells = tells; number = k; low = k; end = Some (k + 1) }
+only tells k = record { tells = tells; number = k; low = k; end = Some (k + 1); home = [] }
 
 -- it has every number
 pub record HasAll (by : Caller) : Type 0 where

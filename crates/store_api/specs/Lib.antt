@@ -1,5 +1,9 @@
+pub mod Names
 pub mod Machine
 pub mod Journal
 pub mod Callers
 pub mod Program
 pub mod Laws
+pub mod Plays
+pub mod Driving
+pub mod Running

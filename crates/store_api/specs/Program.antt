@@ -5,14 +5,12 @@ use Rattle.store_api.specs.declared.events.Op.{Op}
 use Rattle.store_api.specs.declared.events.Op.TheVariants.{PutOver}
 use Rattle.store_api.specs.declared.events.Reply.{Reply}
 use Rattle.store_api.specs.declared.events.Event.{Event}
-use Rattle.store_api.specs.declared.events.StoreFault.{StoreFault}
-use Rattle.store_api.specs.declared.events.StoreFault.TheVariants.{Failed as Store_failed, NoMemory as Store_no_memory}
 use Rattle.store_api.specs.declared.machines.Next.{Next}
 use Rattle.store_api.specs.declared.machines.Next.TheVariants.{Again, Ready}
 use Rattle.store_api.specs.declared.machines.Refusal.{Refusal}
 use Rattle.store_api.specs.declared.machines.Refusal.TheVariants.{NoMemory, StoreFault as Refused_fault}
 use Rattle.store_api.specs.Journal.{Each, IsGood, IsPolite}
-use Rattle.store_api.specs.Callers.{Caller, View, Makes, Waits}
+use Rattle.store_api.specs.Callers.{Caller, View, Makes, Waits, Fits}
 
 -- what is still to be done: an answer, or an operation and what follows each reply
 pub data Prog (A : Type 0) : Type 0 where
@@ -94,6 +92,7 @@ pub record Moves {T : Type 0} (old new : View) (p q : Prog (Result T Refusal)) (
   pub next : Reply → Prog (Result T Refusal)
   pub reply : Reply
   pub asks : p ≡ Ask op next
+  pub fits : Fits op reply
   pub made : IsTrue old.caller.tells → Makes old.caller op reply old.seen new.seen
   pub lands : Lands (next reply) q result
   pub sure : is_over op ≡ true → IsSure (next reply) result
@@ -114,48 +113,6 @@ pub record Steps {T : Type 0} (old new : View) (p q : Prog (Result T Refusal)) (
   pub same : new.caller ≡ old.caller
   pub blames : Blames result old.faults new.faults
   pub went : Moves old new p q result ⊎ Stops old new q result
-
--- what a machine answers where the store failed
-abbrev pub refusal_of : StoreFault → Refusal
-refusal_of Store_failed = Refused_fault
-refusal_of Store_no_memory = NoMemory
-
--- ---- turns of workers
--- what is left to do after a step of p, where q is left of p
-abbrev pub settled : {A B : Type 0} → (Result A Refusal → Prog B) → Prog (Result A Refusal) → Result (Next A) Refusal → Prog B
-settled f q (Ok Again) = bind q f
-settled f q (Ok (Ready a)) = f (Ok a)
-settled f q (Err refusal) = f (Err refusal)
-
--- the program has ended for want of memory
-abbrev pub IsStarved : {A : Type 0} → (A → Bool) → Prog A → Type 0
-IsStarved starved (Done a) = starved a ≡ true
-IsStarved starved (Ask op k) = ⊥
-
--- One turn of a worker whose outcomes are of type A: `starved` are those that want of memory brings, but not behind a put over.
-pub record Works {A : Type 0} (starved : A → Bool) (old new : View) (p q : Prog A) : Type 0 where
-  pub op : Op
-  pub next : Reply → Prog A
-  pub reply : Reply
-  pub asks : p ≡ Ask op next
-  pub made : IsTrue old.caller.tells → Makes old.caller op reply old.seen new.seen
-  pub goes : (next reply ≡ q) ⊎ IsStarved starved q
-  pub sure : is_over op ≡ true → next reply ≡ q
-
--- a turn for which the store had no memory
-pub record Rests {A : Type 0} (starved : A → Bool) (old new : View) (q : Prog A) : Type 0 where
-  pub waits : IsTrue old.caller.tells → Waits old.caller old.seen new.seen
-  pub ended : IsStarved starved q
-
--- an outcome that tells a fault of the store comes only where the faults rose
-abbrev pub BlamesEnd : {A : Type 0} → (A → Bool) → Prog A → ℕ → ℕ → Type 0
-BlamesEnd failed (Done a) m n = (m ≤ n) × (failed a ≡ true → Rose m n)
-BlamesEnd failed (Ask op k) m n = m ≤ n
-
-pub record Turns {A : Type 0} (starved failed : A → Bool) (old new : View) (p q : Prog A) : Type 0 where
-  pub same : new.caller ≡ old.caller
-  pub blames : BlamesEnd failed q old.faults new.faults
-  pub went : Works starved old new p q ⊎ Rests starved old new q
 
 -- From old to new there were good events, of which these are the client's own.
 pub record Grows (client : ℕ) (own : List Event) (old new : List Event) : Type 0 where

@@ -2,7 +2,7 @@
 
 use crate::{Key, Part, Why};
 use ice_base::Bytes;
-use std::marker::Model;
+use ice_items::Items;
 
 /// The version of an object: the position in the journal of the put that put it.
 #[derive(Clone, Copy, Debug, PartialEq, Eq)]
@@ -95,44 +95,7 @@ pub struct Entry {
 }
 
 /// A list of entries.
-#[derive(Debug, Drop)]
-pub struct Entries {
-    list: Vec<Entry>,
-}
-
-impl Model for Entries {
-    ghost use Rattle.std.specs.Prelude.{List};
-    ghost use Rattle.store_api.specs.declared.events.Entry.{Entry as TheEntry};
-
-    ghost Value = { List TheEntry };
-
-    ghost view = { λ e. e.list.items };
-}
-
-impl Entries {
-    ghost use Rattle.std.specs.Prelude.{◌≡◌};
-
-    /// These entries, in this order.
-    pub fn from_vec(list: Vec<Entry>) -> Entries
-        ensures { result ≡ list.items }
-    {
-        Entries { list }
-    }
-
-    /// The entries as a slice.
-    pub fn as_slice(&self) -> &[Entry]
-        ensures { result.now ≡ self.now }
-    {
-        self.list.as_slice()
-    }
-
-    /// The entries, given back.
-    pub fn into_vec(self) -> Vec<Entry>
-        ensures { result.items ≡ self }
-    {
-        self.list
-    }
-}
+pub type Entries = Items<Entry>;
 
 /// What a listing answers: its entries in the order of their ids or names, a tag before its
 /// tombstone.

@@ -2,13 +2,17 @@
 //! that hold of every journal.
 #![tactic(auto)]
 
+mod driving;
 mod events;
+mod key_display;
 mod keys;
 mod laws;
 mod machines;
 mod names;
 mod operations;
+mod running;
 
+pub use driving::{Machine, Payload, Request, ask, drive, perform};
 pub use events::{
     Entries, Entry, Event, Gone, GoneAt, Got, Listed, New, Op, Over, Reply, StoreFault, Version,
 };
@@ -16,3 +20,4 @@ pub use keys::{Key, Part, Why};
 pub use laws::{names_law, polite_law, trees_law};
 pub use machines::{Bad, Next, Refusal};
 pub use operations::{Base, Store};
+pub use running::run_machine;

@@ -1,6 +1,6 @@
 //! The trait of a store.
 
-ghost use Rattle.std.specs.Prelude.{◌≡◌};
+ghost use Rattle.std.specs.Prelude.{◌≡◌, Bool};
 ghost use Rattle.store_api.specs.Callers.{View, Called, MayCall, HasAll, as_client};
 
 use crate::{Gone, GoneAt, Got, Key, Listed, New, Op, Over, Part, Reply, StoreFault, Version, Why};
@@ -50,9 +50,15 @@ pub trait Store {
 
 /// A whole store: nobody else has part in its journal.
 pub trait Base: Store {
+    /// Whether stores of this type tell their journal.
+    ghost tells: { Bool };
+
     /// Makes the next operations those of this client.
     fn set_client(&mut self, client: u32)
         ensures { Self.view self.new ≡ as_client client (Self.view self.old) };
+
+    /// What the type says, each store of it does.
+    ghost told: { (s : Self) → (Self.view s).caller.tells ≡ Self.tells };
 
     /// Its caller has every client number.
     ghost alone: { (s : Self) → HasAll (Self.view s).caller };

@@ -6,5 +6,5 @@ use Rattle.play_report.proofs.reporting.add_tasks.Given as goal
 
 abbrev pub invariant-loop-name : goal.invariant-loop-name
 invariant-loop-name l =
-    l.out.items ++ tasks_text (map (λ n. n.now) (iter_rest (zip_first l.name-iterator))) (map (λ o. o.now) (iter_rest (zip_second l.name-iterator)))
-    ≡ l.fn.out.items ++ tasks_text (map (λ n. n.now) l.names) (map (λ o. o.now) l.outcomes)
+    l.out.items ++ tasks_text (map (λ n. n.now) (iter_rest (zip_first l.name-iterator))) (iter_rest (zip_second l.name-iterator))
+    ≡ l.fn.out.items ++ tasks_text (map (λ n. n.now) l.names) l.outcomes

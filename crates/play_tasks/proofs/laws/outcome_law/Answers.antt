@@ -1,4 +1,4 @@
-use Rattle.play_tasks.proofs.Told.{TellsOutcome-others}
+use Rattle.play_tasks.proofs.Others.{TellsOutcome-others}
 use Rattle.play_tasks.proofs.laws.outcome_law.Goals as goal
 
 pub returns : goal.returns

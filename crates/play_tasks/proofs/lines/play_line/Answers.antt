@@ -1,5 +1,8 @@
-use Rattle.play_tasks.proofs.Locals.{well_refused, adds_fault}
+use Rattle.std.proofs.Common.{sym, subst}
+use Rattle.play_script.specs.declared.scripts.Call.{Call}
+use Rattle.play_tasks.specs.Lines.{deed}
+use Rattle.play_tasks.specs.Working.{LineComes}
 use Rattle.play_tasks.proofs.lines.play_line.Goals as goal
 
-pub returns-in-Err-clause-clean : goal.returns-in-Err-clause-clean
-returns-in-Err-clause-clean c = well_refused c.refuse.result c.args.line.now.number c.args.shown.items c.in-Err.why c.refuse.ensures (adds_fault c.args.session c.add_group.new.self c.in-Group.path c.in-Err.why c.in-Err.ensures)
+pub returns-in-Commit-clause-comes : goal.returns-in-Commit-clause-comes
+returns-in-Commit-clause-comes c = subst (λ (x : Call). LineComes c.args.line.now.number c.args.shown.items c.args.session (deed c.args.line.now.number x c.args.session) c.play_commit.result) (sym c.in-Commit.is) c.play_commit.ensures.comes

@@ -32,4 +32,4 @@ returns c =
     let s = c.in-None.ensures.steps in
     let ok = c.loop-path.path-iterator.rest.ok in
     let none : c.loop-path.path-iterator.rest.items ≡ [] = nil_from_length c.loop-path.path-iterator.rest.items (sym ok.0 ∙ s.0) in
-    i.0 ∙ ap (map listing) (sym (append-nil c.loop-path.yielded) ∙ ap (λ (l : List (List ℕ)). c.loop-path.yielded ++ l) (sym none) ∙ i.1)
+    c.from_vec.ensures ∙ i.0 ∙ ap (map listing) (sym (append-nil c.loop-path.yielded) ∙ ap (λ (l : List (List ℕ)). c.loop-path.yielded ++ l) (sym none) ∙ i.1)

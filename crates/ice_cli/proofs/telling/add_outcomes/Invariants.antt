@@ -1,8 +1,0 @@
-use Rattle.std.proofs.Common.{◌≡◌, map, drop}
-use Rattle.std.specs.List.{flat_map}
-use Rattle.ice_cli.specs.Telling.{why_ended}
-use Rattle.ice_cli.specs.Adding.{all_added}
-use Rattle.ice_cli.proofs.telling.add_outcomes.Given as goal
-
-abbrev pub invariant-loop-outcome : goal.invariant-loop-outcome
-invariant-loop-outcome l = all_added l.causes (flat_map why_ended (map (λ o. o.now) (drop l.outcome-index l.outcomes))) ≡ all_added l.fn.causes (flat_map why_ended (map (λ o. o.now) l.outcomes))

@@ -1,0 +1,32 @@
+-- What ended a task: a refusal, and whether it tells a want of memory or a fault of the store.
+use Rattle.std.specs.Prelude.{Bool, false, List, [], ◌∷◌}
+use Rattle.store_api.specs.declared.machines.Refusal.{Refusal}
+use Rattle.store_api.specs.Program.{is_no_memory, is_fault}
+use Rattle.play_outcome.specs.declared.outcome.End.{End}
+use Rattle.play_outcome.specs.declared.outcome.End.TheVariants.{Committed, Done, Refused}
+use Rattle.play_outcome.specs.declared.outcome.Outcome.{Outcome}
+
+-- the refusal that ended it, if one did
+abbrev pub end_why : End → List Refusal
+end_why (Committed id) = []
+end_why Done = []
+end_why (Refused line why) = why ∷ []
+
+abbrev pub why_ended : Outcome → List Refusal
+why_ended outcome = end_why outcome.end
+
+abbrev pub end_starved : End → Bool
+end_starved (Committed id) = false
+end_starved Done = false
+end_starved (Refused line why) = is_no_memory why
+
+abbrev pub end_failed : End → Bool
+end_failed (Committed id) = false
+end_failed Done = false
+end_failed (Refused line why) = is_fault why
+
+abbrev pub is_starved : Outcome → Bool
+is_starved outcome = end_starved outcome.end
+
+abbrev pub is_failed : Outcome → Bool
+is_failed outcome = end_failed outcome.end

@@ -1,0 +1,6 @@
+//! Outcomes: what tasks of a script showed and how they ended, and the refs that stand behind them.
+#![tactic(auto)]
+
+mod outcome;
+
+pub use outcome::{End, Outcome, RefLine, RefLines, Shown, Shows};

@@ -1,0 +1,46 @@
+//! Outcomes of tasks.
+
+use ice_base::RefName;
+use ice_ids::Id12;
+use ice_items::Items;
+use store_api::Refusal;
+use zarr_path::Path;
+
+/// A line that a task showed.
+#[derive(Debug, Drop)]
+pub enum Shown {
+    /// A node of a listing that was asked for in this line of the script.
+    Node { line: u32, array: bool, path: Path },
+}
+
+/// Lines that a task showed, in order.
+pub type Shows = Items<Shown>;
+
+/// How a task ended.
+#[derive(Debug, Drop)]
+pub enum End {
+    /// Its commit made this snapshot.
+    Committed(Id12),
+    /// It reached its end without a commit.
+    Done,
+    /// It was refused at this line of the script.
+    Refused { line: u32, why: Refusal },
+}
+
+/// What a task showed, and how it ended.
+#[derive(Debug, Drop)]
+pub struct Outcome {
+    pub shown: Shows,
+    pub end: End,
+}
+
+/// A ref, and the snapshot that it names.
+#[derive(Debug, Drop)]
+pub struct RefLine {
+    pub tag: bool,
+    pub name: RefName,
+    pub id: Id12,
+}
+
+/// Refs, in order.
+pub type RefLines = Items<RefLine>;

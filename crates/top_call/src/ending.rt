@@ -1,0 +1,55 @@
+//! How the program ends.
+
+ghost use Rattle.std.specs.Prelude.{◌≡◌, IfErr};
+ghost use Rattle.std.specs.Process.{exit_status};
+ghost use Rattle.std.specs.IoError.{error_kind};
+ghost use Rattle.top_call.specs.Statuses.{number_of, of_arguments, IsUnread};
+
+use crate::statuses::Status;
+use crate::words::{UsageFault, Word, words_of};
+use std::env::Env;
+use std::io::ErrorKind;
+use std::process::ExitCode;
+use std::{env, io};
+
+/// How a call ended, and the store that it was given.
+#[derive(Drop)]
+pub struct Ended<S> {
+    /// How it ended.
+    pub status: Status,
+    /// The store, after all that was done.
+    pub store: S,
+}
+
+/// The status where a program's arguments can't be had.
+fn unread_arguments(error: &io::Error) -> Status
+    ensures value { result ≡ of_arguments (error_kind error.now) }
+    ensures cause { IsUnread result }
+{
+    match error.kind() {
+        ErrorKind::OutOfMemory => Status::NoMemory,
+        _ => Status::Usage(UsageFault::Words),
+    }
+}
+
+/// The words after the program's name. Where the machine doesn't give its arguments, as where one
+/// isn't UTF-8, they are wrong words.
+pub fn given_words<R: Env + AllocGlobal>(rt: &R) -> Result<Vec<Word>, Status>
+    ensures { IfErr result IsUnread }
+{
+    match env::args(rt) {
+        Ok(args) => Ok(words_of(rt.alloc(), args)?),
+        Err(error) => Err(unread_arguments(&error)),
+    }
+}
+
+/// Says on standard error how the program ended, where that is told, and gives the exit code. What
+/// standard error doesn't take is lost.
+pub fn end<R: Eprint>(rt: &R, status: &Status) -> ExitCode
+    ensures { exit_status result ≡ number_of status.now }
+{
+    if status.is_told() {
+        let _ = eprintln!(rt; "{status}");
+    }
+    ExitCode::from(status.number())
+}

@@ -1,0 +1,17 @@
+//! The top call: it reads the words of the command line, plays the script of an input over a store, and writes the report.
+#![tactic(auto)]
+
+mod ending;
+mod laws;
+mod running;
+mod statuses;
+mod telling;
+#[cfg(test)]
+mod tests;
+mod words;
+
+pub use ending::{Ended, end, given_words};
+pub use laws::{calm_law, numbers_law, refused_law, rows_law};
+pub use running::run;
+pub use statuses::{Causes, Status};
+pub use words::{Command, UsageFault, Word, read_words, words_of};
