@@ -7,5 +7,7 @@
 mod reading;
 mod writing;
 
-pub use reading::{id_follows, id8, id8_of, id12, id12_of, index_follows, index_of, payload_in, u32_of};
+pub use reading::{
+    id_follows, id8, id8_of, id12, id12_of, index_follows, index_of, payload_in, u32_of,
+};
 pub use writing::{bytes_slot, id8_bytes, id8_slot, id12_bytes, id12_slot, index_slot, u64_slot};

@@ -7,12 +7,7 @@ use crate::words::{NoAnswer, small_number_of};
 use std::alloc::Global;
 
 /// Appends a number of a turn.
-fn push_number(
-    alloc: Global,
-    bytes: &mut Vec<u8>,
-    word: &str,
-    turn: u32,
-) -> Result<(), NoAnswer> {
+fn push_number(alloc: Global, bytes: &mut Vec<u8>, word: &str, turn: u32) -> Result<(), NoAnswer> {
     let (first, step) = word.split_once('+').ok_or(NoAnswer::Words)?;
     let more = small_number_of(step)?.wrapping_mul(turn);
     if let Some(first) = first.strip_prefix('d') {

@@ -1,8 +1,7 @@
 //! Scripts of tasks.
 
-use crate::told::fault_told;
 use crate::words::NoAnswer;
-use play_script::{Call, Head, Line, Script, Task};
+use play_script::{Call, EditCall, Head, Line, ReadCall, Script, ScriptFault, Task};
 use std::alloc::{AllocError, Global};
 
 /// Appends the lines of a task.
@@ -10,8 +9,8 @@ fn push_lines(told: &mut String, lines: &[Line]) -> Result<(), AllocError> {
     for line in lines {
         write!(told, "\n    {} ", line.number)?;
         match &line.call {
-            Call::Group { path } => write!(told, "group {path}")?,
-            Call::List { path } => write!(told, "list {path}")?,
+            Call::Edit(EditCall::Group { path }) => write!(told, "group {path}")?,
+            Call::Read(ReadCall::List { path }) => write!(told, "list {path}")?,
             Call::Commit { message } => {
                 let message = str::from_utf8(message.as_slice()).unwrap_or("no text");
                 write!(told, "commit '{message}'")?
@@ -53,6 +52,7 @@ fn script_told(alloc: Global, script: &Script) -> Result<String, AllocError> {
 pub fn tell_script(alloc: Global, text: &[u8]) -> Result<String, NoAnswer> {
     match Script::read(alloc, text) {
         Ok(script) => Ok(script_told(alloc, &script)?),
-        Err(fault) => fault_told(alloc, fault),
+        Err(ScriptFault::At { line, kind }) => Ok(format!(in alloc; "line {line}: {kind}")?),
+        Err(ScriptFault::NoMemory) => Err(NoAnswer::NoMemory),
     }
 }
