@@ -5,8 +5,8 @@ use Rattle.ice_ids.specs.declared.Id12.{Id12}
 use Rattle.tree_model.specs.Changes.{Changes}
 use Rattle.plain_object.specs.Objects.{ref_of}
 use Rattle.store_api.specs.declared.keys.Key.TheVariants.{Branch}
+use Rattle.store_api.specs.declared.events.Version.{Version}
 use Rattle.store_api.specs.declared.events.Op.{Op}
-use Rattle.store_api.specs.declared.events.Op.TheVariants.{Get}
 use Rattle.store_api.specs.declared.events.Got.TheVariants.{Found}
 use Rattle.store_api.specs.declared.events.Reply.{Reply}
 use Rattle.store_api.specs.declared.events.Reply.TheVariants.{Got as Is_got}
@@ -34,7 +34,8 @@ was_last n None bytes version now base names t = absurd (let e = t.1 in cc)
 was_last n (Some e) bytes version now base names t =
     let is = t.is in
     let same_bytes : bytes ≡ t.bytes = cc in
-    let same_version : e.version ≡ version = cc in
+    let versions : version_at e.version ≡ version_at version = cc in
+    let same_version : e.version ≡ version = ap (λ (v : Version). v.0) versions in
     record { entry = e; is = refl; version_is = same_version; base_is = same_id (sym t.names ∙ ap ref_of (sym same_bytes) ∙ names) }
   where
     same_id : Some e.id ≡ Some base → e.id ≡ base
@@ -49,7 +50,7 @@ began-at-last whole changes once history client a s start begun opened =
     let agrees = Each-at (Agrees (tree_of whole) changes) [] own.before own.event own.after answers a.branch on in
     let l : Option Entry = last (history_of (tree_of whole) changes own.before a.branch) in
     let told : TellsCall (length own.before) (Some Open) l (Is_got (Found named.bytes (version_at s.version) named.got.now)) =
-        subst (λ (r : Reply). TellsCall (length own.before) (Some Open) l r) own.reply_is (subst (λ (op : Op). TellsCall (length own.before) (call_of (changes (length own.before)) op) l own.event.reply) own.op_is agrees) in
+    subst (λ (r : Reply). TellsCall (length own.before) (Some Open) l r) own.reply_is (subst (λ (op : Op). TellsCall (length own.before) (call_of (changes (length own.before)) op) l own.event.reply) own.op_is agrees) in
     let was = was_last (length own.before) l named.bytes s.version named.got.now s.base named.names told in
     record {
       named = named;
