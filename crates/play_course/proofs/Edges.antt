@@ -20,10 +20,9 @@ use Rattle.store_api.specs.Machine.{Stored, found, part_of}
 use Rattle.store_api.specs.Journal.{Each, IsGood, NamesPut}
 use Rattle.store_api.specs.Program.{Done}
 use Rattle.store_api.proofs.Journals.{Each-append, Each-one, Each-both}
-use Rattle.play_report.specs.declared.outcome.RefLine.{RefLine}
+use Rattle.play_outcome.specs.declared.outcome.RefLine.{RefLine}
 use Rattle.repository.specs.Beginning.{begin_program, put_main, after_put}
-use Rattle.repository.specs.Refs.{list_part, on_listed, read_ref, on_got, on_id, read_each, refs_program, with_line, live, is_gone}
-use Rattle.repository.proofs.Listed.{after_tags, after_lines, after_branches}
+use Rattle.repository.specs.Refs.{list_part, on_listed, read_ref, on_got, on_id, read_each, read_tags, read_branches, refs_program, with_line, live, is_gone}
 use Rattle.run_histories.proofs.Programs.{IsPlain}
 use Rattle.play_course.specs.Refusing.{is_strange, strange_answer}
 use Rattle.play_course.proofs.Tidy.{tidy-more, IsTidy, IsAny, Puts, all-named}
@@ -175,20 +174,20 @@ module _ (who : Id12 → Type 0) where
       then-meets Reads Reads who (read_ref key) (λ line. read_each (with_line lines line) keys) journal (ref-meets key journal r.0 tidy)
       (λ line h t. each-meets (with_line lines line) keys h r.1 t) (λ why h p. p)
 
-  tags-meets : (lines : List RefLine) (journal : List Event) → Each IsAny [] journal → Meets Reads who (after_lines lines) journal
+  tags-meets : (lines : List RefLine) (journal : List Event) → Each IsAny [] journal → Meets Reads who (read_tags lines) journal
   unfolding Reads Lists
-  tags-meets lines journal tidy = then-meets Lists Reads who (list_part Tags) (after_tags lines) journal (list-meets Tags journal tt tidy)
+  tags-meets lines journal tidy = then-meets Lists Reads who (list_part Tags) (λ tags. read_each lines (live tags)) journal (list-meets Tags journal tt tidy)
       (λ tags h t. each-meets lines (live tags) h (live-refs tags t.1) t.0) (λ why h p. p)
 
-  lines-meets : (branches : List Entry) (journal : List Event) → AllNamedKeys branches → Each IsAny [] journal → Meets Reads who (after_branches branches) journal
+  branches-meets : (lines : List RefLine) (branches : List Entry) (journal : List Event) → AllNamedKeys branches → Each IsAny [] journal → Meets Reads who (read_branches lines branches) journal
   unfolding Reads
-  lines-meets branches journal n tidy = then-meets Reads Reads who (read_each [] (live branches)) after_lines journal (each-meets [] (live branches) journal (live-refs branches n) tidy)
-      (λ lines h t. tags-meets lines h t) (λ why h p. p)
+  branches-meets lines branches journal n tidy = then-meets Reads Reads who (read_each lines (live branches)) read_tags journal (each-meets lines (live branches) journal (live-refs branches n) tidy)
+      (λ more h t. tags-meets more h t) (λ why h p. p)
 
   refs-read : (journal : List Event) → Each IsAny [] journal → Meets Reads who refs_program journal
   unfolding Reads Lists
-  refs-read journal tidy = then-meets Lists Reads who (list_part Branches) after_branches journal (list-meets Branches journal tt tidy)
-      (λ branches h t. lines-meets branches h t.1 t.0) (λ why h p. p)
+  refs-read journal tidy = then-meets Lists Reads who (list_part Branches) (λ branches. read_branches [] branches) journal (list-meets Branches journal tt tidy)
+      (λ branches h t. branches-meets [] branches h t.1 t.0) (λ why h p. p)
 
   reads-plain : {A : Type 0} (r : Result A Refusal) (h : List Event) → Reads r h → strange_answer r ≡ false
   unfolding Reads

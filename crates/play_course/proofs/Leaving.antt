@@ -12,41 +12,40 @@ use Rattle.store_api.specs.declared.machines.Refusal.{Refusal}
 use Rattle.store_api.specs.Machine.{Stored, found}
 use Rattle.store_api.specs.Journal.{IsGood, tree_of}
 use Rattle.store_api.specs.Callers.{Caller, View, HasAll, as_client}
-use Rattle.store_api.specs.Program.{Prog, Done, Path}
+use Rattle.store_api.specs.Program.{Done, Path}
 use Rattle.store_api.proofs.Journals.{Each-none}
 use Rattle.store_api.proofs.Programs.{Path-none}
 use Rattle.histories.specs.Repository.{Entry, last}
 use Rattle.histories.specs.Calls.{history_of, StandsAs}
-use Rattle.repository.specs.Running.{Asks, Ran}
+use Rattle.store_api.specs.Running.{Program, Runs}
 use Rattle.repository.specs.Beginning.{begin_program}
 use Rattle.repository.specs.Refs.{refs_program}
 use Rattle.repository.specs.Closing.{NamesAt, TellsRefs, RefsLaw}
 use Rattle.play_script.specs.declared.scripts.Script.{Script}
 use Rattle.play_script.specs.Well.{IsWell}
-use Rattle.play_report.specs.declared.outcome.Outcome.{Outcome}
-use Rattle.play_report.specs.declared.outcome.RefLine.{RefLine}
-use Rattle.play_run.specs.Order.{IsOfClient}
+use Rattle.play_outcome.specs.declared.outcome.Outcome.{Outcome}
+use Rattle.play_outcome.specs.declared.outcome.RefLine.{RefLine}
+use Rattle.play_tasks.specs.Tasks.{IsOfClient}
 use Rattle.run_histories.specs.Runs.{RanAlone, PlayedAlone, IsSound}
 use Rattle.run_histories.specs.Told.{HasHistories, RunLaw}
-use Rattle.play_tasks.specs.Workers.{worker_rest}
 use Rattle.play_course.specs.declared.course.Played.{Played}
 use Rattle.play_course.specs.Course.{Course, OnlyBegan, Plays}
 use Rattle.play_course.specs.Leaving.{TellsEnds, Leaves}
 
 -- ---- the parts of a run
-ran-alone : {A : Type 0} (by : Caller) (p : Asks A) (result : Result A Refusal) (old new : List Event) → HasAll by → Ran by p result old new → RanAlone p old new
-ran-alone by p result old new all r = elim r.ends [
-  | inl path ↦ record { own = r.own; is = (r.alone all).is; good = (r.alone all).good; left = Done result; path = path }
-  | inr cut ↦ record { own = r.own; is = (r.alone all).is; good = (r.alone all).good; left = cut.left; path = cut.path }
+ran-alone : {A : Type 0} (p : Program A) (result : Result A Refusal) (old new : View) → IsTrue old.caller.tells → HasAll old.caller → Runs old new p result → RanAlone p old.seen new.seen
+ran-alone p result old new told all r = elim r.ends [
+  | inl path ↦ record { own = r.own; is = (r.alone told all).is; good = (r.alone told all).good; left = Done result; path = path }
+  | inr cut ↦ record { own = r.own; is = (r.alone told all).is; good = (r.alone told all).good; left = cut.left; path = cut.path }
 ]
 
-plays-alone : (draw : Draw) (script : Script) (old new : View) (opening : Result (Unit {0}) Refusal) (ends : List (Prog Outcome)) → IsTrue old.caller.tells → Plays draw script old new opening ends → PlayedAlone draw script.tasks old.seen new.seen
-plays-alone draw script old new (Ok done) ends t p = let r = (p.ran t).ran in record { own = r.more; is = r.is; owed = r.careful }
-plays-alone draw script old new (Err why) ends t p = record { own = []; is = ap (λ (v : View). v.seen) p.0 ∙ sym (append-nil old.seen); owed = Each-none (IsOfClient draw script.tasks) old.seen }
+plays-alone : (draw : Draw) (script : Script) (old new : View) (opening : Result (Unit {0}) Refusal) (outcomes : List Outcome) → IsTrue old.caller.tells → Plays draw script old new opening outcomes → PlayedAlone draw script.tasks old.seen new.seen
+plays-alone draw script old new (Ok done) outcomes t p = let r = p.ran.ran in record { own = r.own; is = r.is t; owed = r.careful t }
+plays-alone draw script old new (Err why) outcomes t p = record { own = []; is = ap (λ (v : View). v.seen) p.0 ∙ sym (append-nil old.seen); owed = Each-none (IsOfClient draw script.tasks) old.seen }
 
-pub tells-on : (draw : Draw) (script : Script) (old new : View) (opening : Result (Unit {0}) Refusal) (ends : List (Prog Outcome)) → Plays draw script old new opening ends → IsTrue old.caller.tells → IsTrue new.caller.tells
-tells-on draw script old new (Ok done) ends p t = subst IsTrue (sym p.tells) t
-tells-on draw script old new (Err why) ends p t = subst (λ (v : View). IsTrue v.caller.tells) (sym p.0) t
+pub tells-on : (draw : Draw) (script : Script) (old new : View) (opening : Result (Unit {0}) Refusal) (outcomes : List Outcome) → Plays draw script old new opening outcomes → IsTrue old.caller.tells → IsTrue new.caller.tells
+tells-on draw script old new (Ok done) outcomes p t = subst IsTrue (sym p.tells) t
+tells-on draw script old new (Err why) outcomes p t = subst (λ (v : View). IsTrue v.caller.tells) (sym p.0) t
 
 -- ---- the refs that are told
 -- what stands at a branch is its history's last entry
@@ -75,7 +74,7 @@ module _ (changes : ℕ → Changes) (journal : List Event) where
   told-ends : (lines : List RefLine) → ((branch : List ℕ) → StandsAs (found journal (Branch branch)) (last (history_of (tree_of journal) changes journal branch))) → TellsRefs journal lines → TellsEnds changes journal lines
   told-ends lines stand t = record {
     stand = t;
-    ends = λ name id. (
+    outcomes = λ name id. (
       λ line.
           let n : NamesAt journal (Branch name) id = (t.branches name id).0 line in
           let e = names-ends journal name id (found journal (Branch name)) (last (history_of (tree_of journal) changes journal name)) (stand name) n.stored n.stands n.names in
@@ -87,44 +86,43 @@ module _ (changes : ℕ → Changes) (journal : List Event) where
   }
 
 -- what the closing reading told, where nobody else acts
-ran-told : (by : Caller) (result : Result (List RefLine) Refusal) (old new : List Event) → RefsLaw → HasAll by → Ran by refs_program result old new → (lines : List RefLine) → result ≡ Ok lines → TellsRefs new lines
-ran-told by result old new law all r lines e = elim r.ends [
+ran-told : (result : Result (List RefLine) Refusal) (old new : View) → RefsLaw → IsTrue old.caller.tells → HasAll old.caller → Runs old new refs_program result → (lines : List RefLine) → result ≡ Ok lines → TellsRefs new.seen lines
+ran-told result old new law told all r lines e = elim r.ends [
   | inl path ↦
       let path' : Path refs_program r.own (Done (Ok lines)) = subst (λ (x : Result (List RefLine) Refusal). Path refs_program r.own (Done x)) e path in
-      subst (λ (h : List Event). TellsRefs h lines) (sym (r.alone all).is) (law old r.own lines (r.alone all).good path')
+      subst (λ (h : List Event). TellsRefs h lines) (sym (r.alone told all).is) (law old.seen r.own lines (r.alone told all).good path')
   | inr cut ↦ let no = sym e ∙ cut.result_is in absurd cc
 ]
 
 -- ---- the run
-pub course-leaves : RunLaw → RefsLaw → (draw : Draw) (script : Script) (old new : View) (opening : Result (Unit {0}) Refusal) (ends : List (Prog Outcome)) (refs : Result (List RefLine) Refusal) → length script.tasks < 2 ^ 32 - 1
-    → Course draw script old new opening ends refs → IsTrue old.caller.tells → (before : ℕ → Changes) → IsSound old.seen before → Leaves draw script.tasks before old.seen new.seen refs
-course-leaves run closing draw script old new opening ends refs few c t before sound =
+pub course-leaves : RunLaw → RefsLaw → (draw : Draw) (script : Script) (old new : View) (opening : Result (Unit {0}) Refusal) (outcomes : List Outcome) (refs : Result (List RefLine) Refusal) → length script.tasks < 2 ^ 32 - 1
+    → Course draw script old new opening outcomes refs → IsTrue old.caller.tells → (before : ℕ → Changes) → IsSound old.seen before → Leaves draw script.tasks before old.seen new.seen refs
+course-leaves run closing draw script old new opening outcomes refs few c t before sound =
     let all : HasAll (as_client 0 old).caller = record { low = c.alone.low; end = c.alone.end } in
     let begun_tells : IsTrue c.begun.caller.tells = subst (λ (b : Caller). IsTrue b.tells) (sym c.begins.same) t in
-    let played_tells : IsTrue c.played.caller.tells = tells-on draw script c.begun c.played opening ends c.plays begun_tells in
+    let played_tells : IsTrue c.played.caller.tells = tells-on draw script c.begun c.played opening outcomes c.plays begun_tells in
     let last_all : HasAll (as_client 0 c.played).caller = record { low = c.still_alone.low; end = c.still_alone.end } in
-    let first = ran-alone (as_client 0 old).caller begin_program opening old.seen c.begun.seen all (c.begins.ran t) in
-    let closed = c.reads.ran played_tells in
+    let first = ran-alone begin_program opening (as_client 0 old) c.begun t all c.begins in
     let h = run draw script.tasks before old.seen new.seen sound (record {
       few = few;
       begun = c.begun.seen;
       played = c.played.seen;
       opening = first;
-      playing = plays-alone draw script c.begun c.played opening ends begun_tells c.plays;
-      closing = ran-alone (as_client 0 c.played).caller refs_program refs c.played.seen new.seen last_all closed;
+      playing = plays-alone draw script c.begun c.played opening outcomes begun_tells c.plays;
+      closing = ran-alone refs_program refs (as_client 0 c.played) new played_tells last_all c.reads;
     }) in
     record {
       histories = h;
-      told = λ lines e. told-ends h.changes new.seen lines h.stand (ran-told (as_client 0 c.played).caller refs c.played.seen new.seen closing last_all closed lines e);
+      told = λ lines e. told-ends h.changes new.seen lines h.stand (ran-told refs (as_client 0 c.played) new closing played_tells last_all c.reads lines e);
     }
 
 -- a script has few tasks
 pub few-tasks : (script : Script) → IsWell script → length script.tasks < 2 ^ 32 - 1
 few-tasks script well = let few = well.few in omega (arith, few)
 
-pub played-leaves : RunLaw → RefsLaw → (draw : Draw) (script : Script) (old new : View) (result : Result Played AllocError) → IsWell script → IfOk result (λ played. Course draw script old new played.opening (map worker_rest played.workers.items) played.refs) → IsTrue old.caller.tells → (before : ℕ → Changes) → IsSound old.seen before
+pub played-leaves : RunLaw → RefsLaw → (draw : Draw) (script : Script) (old new : View) (result : Result Played AllocError) → IsWell script → IfOk result (λ played. Course draw script old new played.opening played.outcomes.items played.refs) → IsTrue old.caller.tells → (before : ℕ → Changes) → IsSound old.seen before
     → IfOk result (λ played. Leaves draw script.tasks before old.seen new.seen played.refs)
-played-leaves run closing draw script old new (Ok played) well c t before sound = course-leaves run closing draw script old new played.opening (map worker_rest played.workers.items) played.refs (few-tasks script well) c t before sound
+played-leaves run closing draw script old new (Ok played) well c t before sound = course-leaves run closing draw script old new played.opening played.outcomes.items played.refs (few-tasks script well) c t before sound
 played-leaves run closing draw script old new (Err error) well c t before sound = tt
 
 -- where the repository was begun at most
@@ -135,7 +133,7 @@ began-kept run draw script old new few b t before sound =
       few = few;
       begun = new.seen;
       played = new.seen;
-      opening = ran-alone (as_client 0 old).caller begin_program b.opening old.seen new.seen all (b.begins.ran t);
+      opening = ran-alone begin_program b.opening (as_client 0 old) new t all b.begins;
       playing = record { own = []; is = sym (append-nil new.seen); owed = Each-none (IsOfClient draw script.tasks) new.seen };
       closing = record { own = []; is = sym (append-nil new.seen); good = Each-none IsGood new.seen; left = refs_program; path = Path-none refs_program };
     })

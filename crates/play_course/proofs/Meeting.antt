@@ -1,5 +1,5 @@
 -- What programs of store operations answer, where the events of all are those of a run over an empty store.
-use Rattle.std.proofs.Common.{◌≡◌, ℕ, false, ◌⊎◌, inl, inr, Bool, List, [], ◌∷◌, ◌++◌, length, refl, sym, ◌∙◌, ap, subst, append_assoc, append-nil}
+use Rattle.std.proofs.Common.{◌≡◌, ℕ, true, false, ◌⊎◌, inl, inr, Bool, List, [], ◌∷◌, ◌++◌, length, refl, sym, ◌∙◌, ap, subst, append_assoc, append-nil}
 use Rattle.std.specs.Prelude.{Option, Some, None, Result, Ok, Err}
 use Rattle.ice_ids.specs.declared.Id12.{Id12}
 use Rattle.store_api.specs.declared.keys.Key.{Key}
@@ -12,11 +12,13 @@ use Rattle.store_api.specs.declared.events.Reply.{Reply}
 use Rattle.store_api.specs.declared.events.Reply.TheVariants.{Got as Is_got, New as Is_new, Over as Is_over, Gone as Is_gone, GoneAt as Is_gone_at, Listed as Is_listed, Failed}
 use Rattle.store_api.specs.declared.events.Event.{Event}
 use Rattle.store_api.specs.declared.machines.Refusal.{Refusal}
+use Rattle.store_api.specs.declared.machines.Refusal.TheVariants.{NoMemory}
 use Rattle.store_api.specs.Machine.{Stored, found, version_at, got_of, new_of, IsHonest, UnlessFailed}
 use Rattle.store_api.specs.Journal.{Each, IsGood}
-use Rattle.store_api.specs.Program.{Prog, Done, Ask, bind, Path}
+use Rattle.store_api.specs.Program.{Prog, Done, Ask, bind, Path, is_over}
+use Rattle.store_api.specs.Plays.{Play, Ended, Ask as Ask_play, Or, call, behind, Comes}
 use Rattle.store_api.proofs.Journals.{Each-append, Each-none}
-use Rattle.repository.specs.Running.{Asks, ◌>>=◌, on_answer}
+use Rattle.store_api.specs.Running.{Program, ◌>>=◌, on_answer}
 use Rattle.play_course.specs.Refusing.{strange_answer}
 use Rattle.play_course.proofs.Tidy.{IsTidy, IsAny}
 
@@ -43,11 +45,11 @@ unfolding Meets
 bind-meets Q R who (Done a) f journal m g = g a journal m
 bind-meets Q R who (Ask op next) f journal m g = λ more event others any is. bind-meets Q R who (next event.reply) f ((journal ++ more) ++ event ∷ []) (m more event others any is) g
 
-answer-meets : {A B : Type 0} (Q : Result A Refusal → List Event → Type 0) (R : Result B Refusal → List Event → Type 0) (who : Id12 → Type 0) (f : A → Asks B) → ((a : A) (h : List Event) → Q (Ok a) h → Meets R who (f a) h) → ((why : Refusal) (h : List Event) → Q (Err why) h → R (Err why) h) → (r : Result A Refusal) (h : List Event) → Q r h → Meets R who (on_answer f r) h
+answer-meets : {A B : Type 0} (Q : Result A Refusal → List Event → Type 0) (R : Result B Refusal → List Event → Type 0) (who : Id12 → Type 0) (f : A → Program B) → ((a : A) (h : List Event) → Q (Ok a) h → Meets R who (f a) h) → ((why : Refusal) (h : List Event) → Q (Err why) h → R (Err why) h) → (r : Result A Refusal) (h : List Event) → Q r h → Meets R who (on_answer f r) h
 answer-meets Q R who f go stop (Ok a) h q = go a h q
 answer-meets Q R who f go stop (Err why) h q = done-meets R who (Err why) h (stop why h q)
 
-pub then-meets : {A B : Type 0} (Q : Result A Refusal → List Event → Type 0) (R : Result B Refusal → List Event → Type 0) (who : Id12 → Type 0) (p : Asks A) (f : A → Asks B) (journal : List Event) → Meets Q who p journal → ((a : A) (h : List Event) → Q (Ok a) h → Meets R who (f a) h) → ((why : Refusal) (h : List Event) → Q (Err why) h → R (Err why) h) → Meets R who (p >>= f) journal
+pub then-meets : {A B : Type 0} (Q : Result A Refusal → List Event → Type 0) (R : Result B Refusal → List Event → Type 0) (who : Id12 → Type 0) (p : Program A) (f : A → Program B) (journal : List Event) → Meets Q who p journal → ((a : A) (h : List Event) → Q (Ok a) h → Meets R who (f a) h) → ((why : Refusal) (h : List Event) → Q (Err why) h → R (Err why) h) → Meets R who (p >>= f) journal
 then-meets Q R who p f journal m go stop = bind-meets Q R who p (on_answer f) journal m (answer-meets Q R who f go stop)
 
 pub meets-weaker : {A : Type 0} (Q R : A → List Event → Type 0) → ((a : A) (h : List Event) → Q a h → R a h) → (who : Id12 → Type 0) (p : Prog A) (journal : List Event) → Meets Q who p journal → Meets R who p journal
@@ -55,17 +57,8 @@ unfolding Meets
 meets-weaker Q R f who (Done a) journal m = f a journal m
 meets-weaker Q R f who (Ask op next) journal m = λ more event others any is. meets-weaker Q R f who (next event.reply) ((journal ++ more) ++ event ∷ []) (m more event others any is)
 
--- ---- what others do, and steps
--- what is told of an answer alone stays so
+-- ---- steps
 module _ {A : Type 0} (Q : A → Type 0) (who : Id12 → Type 0) where
-  pub meets-others : (p : Prog A) (old more : List Event) → Each (IsTidy who) old more → Meets (λ a h. Q a) who p old → Meets (λ a h. Q a) who p (old ++ more)
-  unfolding Meets
-  meets-others (Done a) old more others m = m
-  meets-others (Ask op next) old more others m = λ later event o any is.
-      let same : (old ++ more) ++ later ≡ old ++ (more ++ later) = append_assoc old more later in
-      subst (λ (h : List Event). Meets (λ a g. Q a) who (next event.reply) (h ++ event ∷ [])) (sym same)
-      (m (more ++ later) event (Each-append (IsTidy who) old more later others o) (subst (λ (h : List Event). IsAny h event) same any) is)
-
   pub meets-step : (op : Op) (next : Reply → Prog A) (old : List Event) (event : Event) → IsAny old event → event.op ≡ op → Meets (λ a h. Q a) who (Ask op next) old → Meets (λ a h. Q a) who (next event.reply) (old ++ event ∷ [])
   unfolding Meets
   meets-step op next old event any is m =
@@ -79,6 +72,70 @@ module _ {A : Type 0} (Q : A → Type 0) (who : Id12 → Type 0) where
   meets-path p old [] a tidy path m = meets-done (λ b h. Q b) who a old (subst (λ (x : Prog A). Meets (λ b h. Q b) who x old) path m)
   meets-path (Done b) old (x ∷ xs) a tidy path m = absurd path
   meets-path (Ask op next) old (x ∷ xs) a tidy path m = meets-path (next x.reply) (old ++ x ∷ []) xs a tidy.1 path.1 (meets-step op next old x tidy.0 path.0 m)
+
+-- ---- plays
+-- Q holds of whatever the play ends with, with memory or without, whatever others do that draw these ids.
+unfoldable pub PlayMeets : {A : Type 0} → (A → Type 0) → (Id12 → Type 0) → Play A → List Event → Type 0
+PlayMeets Q who (Ended a) journal = Q a
+PlayMeets Q who (Ask_play op starved next) journal =
+    PlayMeets Q who starved journal × ((more : List Event) (event : Event) → Each (IsTidy who) journal more → IsAny (journal ++ more) event → event.op ≡ op → PlayMeets Q who (next event.reply) ((journal ++ more) ++ event ∷ []))
+PlayMeets Q who (Or p q) journal = PlayMeets Q who p journal × PlayMeets Q who q journal
+
+module _ {A : Type 0} (Q : A → Type 0) (who : Id12 → Type 0) where
+  pub ended-meets : (a : A) (journal : List Event) → Q a → PlayMeets Q who (Ended a) journal
+  unfolding PlayMeets
+  ended-meets a journal q = q
+
+  pub meets-ended : (a : A) (journal : List Event) → PlayMeets Q who (Ended a) journal → Q a
+  unfolding PlayMeets
+  meets-ended a journal m = m
+
+  pub or-meets : (p q : Play A) (journal : List Event) → PlayMeets Q who p journal → PlayMeets Q who q journal → PlayMeets Q who (Or p q) journal
+  unfolding PlayMeets
+  or-meets p q journal m n = (m, n)
+
+  pub meets-comes : (p q : Play A) (journal : List Event) → Comes p q → PlayMeets Q who p journal → PlayMeets Q who q journal
+  unfolding PlayMeets
+  meets-comes (Ended a) q journal c m = subst (λ (x : Play A). PlayMeets Q who x journal) (sym c) m
+  meets-comes (Ask_play op s f) q journal c m = subst (λ (x : Play A). PlayMeets Q who x journal) (sym c) m
+  meets-comes (Or p r) q journal (inl c) m = meets-comes p q journal c m.0
+  meets-comes (Or p r) q journal (inr c) m = meets-comes r q journal c m.1
+
+  pub meets-others : (p : Play A) (old more : List Event) → Each (IsTidy who) old more → PlayMeets Q who p old → PlayMeets Q who p (old ++ more)
+  unfolding PlayMeets
+  meets-others (Ended a) old more others m = m
+  meets-others (Ask_play op s next) old more others m = (meets-others s old more others m.0, λ later event o any is.
+      let same : (old ++ more) ++ later ≡ old ++ (more ++ later) = append_assoc old more later in
+      subst (λ (h : List Event). PlayMeets Q who (next event.reply) (h ++ event ∷ [])) (sym same)
+      (m.1 (more ++ later) event (Each-append (IsTidy who) old more later others o) (subst (λ (h : List Event). IsAny h event) same any) is))
+  meets-others (Or p q) old more others m = (meets-others p old more others m.0, meets-others q old more others m.1)
+
+  -- a turn with its operation
+  pub meets-acted : (op : Op) (s : Play A) (next : Reply → Play A) (q : Play A) (old : List Event) (event : Event) → IsAny old event → event.op ≡ op → Comes (next event.reply) q → PlayMeets Q who (Ask_play op s next) old → PlayMeets Q who q (old ++ event ∷ [])
+  unfolding PlayMeets
+  meets-acted op s next q old event any is comes m =
+      let same : old ++ [] ≡ old = append-nil old in
+      meets-comes (next event.reply) q (old ++ event ∷ []) comes
+      (subst (λ (h : List Event). PlayMeets Q who (next event.reply) (h ++ event ∷ [])) same
+      (m.1 [] event (Each-none (IsTidy who) old) (subst (λ (h : List Event). IsAny h event) (sym same) any) is))
+
+  -- a turn for which there was no memory
+  pub meets-starved : (op : Op) (s : Play A) (next : Reply → Play A) (q : Play A) (old : List Event) → Comes s q → PlayMeets Q who (Ask_play op s next) old → PlayMeets Q who q old
+  unfolding PlayMeets
+  meets-starved op s next q old comes m = meets-comes s q old comes m.0
+
+  behind-meets : (op : Op) (p s : Play A) (journal : List Event) (over : Bool) → is_over op ≡ over → PlayMeets Q who p journal → PlayMeets Q who s journal → PlayMeets Q who (behind op p s) journal
+  unfolding PlayMeets
+  behind-meets op p s journal true e m n = rw e m
+  behind-meets op p s journal false e m n = rw e (m, n)
+
+  -- a call, and then what follows its answer
+  pub call-meets : {B : Type 0} (R : Result B Refusal → List Event → Type 0) (p : Program B) (f : Result B Refusal → Play A) (journal : List Event) → Meets R who p journal
+      → ((answer : Result B Refusal) (h : List Event) → R answer h → PlayMeets Q who (f answer) h) → ((h : List Event) → PlayMeets Q who (f (Err NoMemory)) h) → PlayMeets Q who (call p f) journal
+  unfolding Meets PlayMeets
+  call-meets R (Done answer) f journal m g n = g answer journal m
+  call-meets R (Ask op next) f journal m g n = (n journal, λ more event others any is.
+      behind-meets op (call (next event.reply) f) (f (Err NoMemory)) ((journal ++ more) ++ event ∷ []) (is_over op) refl (call-meets R (next event.reply) f ((journal ++ more) ++ event ∷ []) (m more event others any is) g n) (n ((journal ++ more) ++ event ∷ [])))
 
 -- ---- replies
 -- the store failed the operation

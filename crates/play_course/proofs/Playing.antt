@@ -1,42 +1,72 @@
 -- The tasks of a script, as they were run.
-use Rattle.std.proofs.Common.{inl, inr, ◌≡◌, ℕ, ◌<◌, ◌≤◌, List, length, map, sym, ◌∙◌, ap, subst}
-use Rattle.std.specs.Prelude.{Result, Ok, Err, IsTrue, IfOk}
+use Rattle.std.proofs.Common.{◌≡◌, ◌≢◌, ℕ, ◌+◌, ◌≤◌, inl, inr, Bool, true, false, cond, List, [], ◌∷◌, ◌++◌, length, refl, sym, ◌∙◌, ap, subst, arith}
+use Rattle.std.specs.Prelude.{◌==◌, Some, Result, Ok, Err, IsTrue, IfOk, slice_get}
+use Rattle.std.proofs.Common.{eqb-true}
 use Rattle.std.specs.declared.alloc.AllocError.{AllocError}
-use Rattle.std.proofs.lemmas.Option.{slice_get_cases}
 use Rattle.ice_ids.specs.declared.drawing.Draw.{Draw}
-use Rattle.store_api.specs.Callers.{View}
+use Rattle.store_api.specs.declared.events.Event.{Event}
+use Rattle.store_api.specs.declared.machines.Refusal.{Refusal}
+use Rattle.store_api.specs.Journal.{Each, IsGood}
+use Rattle.store_api.specs.Callers.{View, HasAll, IsOther, only, owns, as_client}
+use Rattle.store_api.specs.Program.{events_of}
+use Rattle.store_api.specs.Running.{Program, Runs}
+use Rattle.store_api.proofs.Journals.{Each-both}
 use Rattle.play_script.specs.declared.scripts.Script.{Script}
 use Rattle.play_script.specs.declared.scripts.Task.{Task}
 use Rattle.play_script.specs.declared.scripts.Turn.{Turn}
-use Rattle.play_tasks.specs.declared.worker.Worker.{Worker}
-use Rattle.play_tasks.specs.Workers.{worker_rest}
-use Rattle.play_run.specs.Order.{RanWorkers, IsDoneAt, AllTold, AllBlame, programs_from, places_of}
-use Rattle.play_run.proofs.Rounds.{size_map}
+use Rattle.play_outcome.specs.declared.outcome.Outcome.{Outcome}
+use Rattle.play_tasks.specs.Laws.{OutcomeLaw}
+use Rattle.play_tasks.specs.Tasks.{ids_at, TellsAt, AllTold, AllBlame}
+use Rattle.play_run.specs.Order.{RanTasks, places_of}
 use Rattle.play_course.specs.Course.{turns_in, PlaysTasks}
 
--- a worker at each place, and so one that has ended
-all-ended : (workers : List Worker) → ((k : ℕ) → k < length workers → IsDoneAt k (map worker_rest workers)) → (place : ℕ) → IsDoneAt place (map worker_rest workers)
-all-ended workers ended place p at = elim (slice_get_cases (map worker_rest workers) place).1 [
-  | inl there ↦ ended place (subst (λ (n : ℕ). place < n) (size_map workers) there.1) p at
-  | inr none ↦ let no = sym at ∙ none.1 in absurd cc
-]
-
-pub plays-tasks : {V : Type 0} (draw : Draw) (script : Script) (tasks : List Task) (turns : List Turn) (old new : View) (result : Result V AllocError) (items : V → List Worker) → tasks ≡ script.tasks → turns ≡ turns_in script.turns
-    → (IsTrue old.caller.tells → IfOk result (λ w. RanWorkers draw tasks (places_of turns) (programs_from draw 0 tasks) (map worker_rest (items w)) old.seen new.seen))
-    → IfOk result (λ w. (k : ℕ) → k < length (items w) → IsDoneAt k (map worker_rest (items w)))
-    → (IsTrue old.caller.tells → IfOk result (λ w. AllTold draw tasks (map worker_rest (items w)) old.seen new.seen))
-    → IfOk result (λ w. length (items w) ≡ length tasks)
-    → IfOk result (λ w. AllBlame (map worker_rest (items w)) old.faults new.faults)
+pub plays-tasks : {V : Type 0} (draw : Draw) (script : Script) (tasks : List Task) (turns : List Turn) (old new : View) (result : Result V AllocError) (items : V → List Outcome) → tasks ≡ script.tasks → turns ≡ turns_in script.turns
+    → IfOk result (λ v. RanTasks draw tasks old.caller.tells (places_of turns) (items v) old.seen new.seen)
+    → IfOk result (λ v. length (items v) ≡ length tasks)
+    → IfOk result (λ v. AllBlame (items v) old.faults new.faults)
     → old.faults ≤ new.faults → new.caller.tells ≡ old.caller.tells
-    → IfOk result (λ w. PlaysTasks draw script old new (map worker_rest (items w)))
-plays-tasks draw script tasks turns old new (Err error) items t e ran ended told size blames counted tells = tt
-plays-tasks draw script tasks turns old new (Ok w) items t e ran ended told size blames counted tells = record {
-  size = size_map (items w) ∙ (size ∙ ap length t);
-  ran = subst (λ (ts : List Turn). IsTrue old.caller.tells → RanWorkers draw script.tasks (places_of ts) (programs_from draw 0 script.tasks) (map worker_rest (items w)) old.seen new.seen) e
-      (subst (λ (ts : List Task). IsTrue old.caller.tells → RanWorkers draw ts (places_of turns) (programs_from draw 0 ts) (map worker_rest (items w)) old.seen new.seen) t ran);
-  ended = all-ended (items w) ended;
-  told = subst (λ (ts : List Task). IsTrue old.caller.tells → AllTold draw ts (map worker_rest (items w)) old.seen new.seen) t told;
+    → IfOk result (λ v. PlaysTasks draw script old new (items v))
+plays-tasks draw script tasks turns old new (Err error) items t e ran size blames counted tells = tt
+plays-tasks draw script tasks turns old new (Ok v) items t e ran size blames counted tells = record {
+  size = size ∙ ap length t;
+  ran = subst (λ (ts : List Turn). RanTasks draw script.tasks old.caller.tells (places_of ts) (items v) old.seen new.seen) e
+      (subst (λ (ts : List Task). RanTasks draw ts old.caller.tells (places_of turns) (items v) old.seen new.seen) t ran);
   blames = blames;
   counted = counted;
   tells = tells;
 }
+
+-- ---- what outcomes tell stays so through the events of client 0
+-- the client's own events are its
+own-client : (client : ℕ) (old events : List Event) → Each (λ h e. e.client ≡ client) old (events_of client events)
+unfolding Each
+own-client client old [] = tt
+own-client client old (x ∷ xs) = by_client (x.client == client) refl
+  where
+    by_client : (b : Bool) → (x.client == client) ≡ b → Each (λ h e. e.client ≡ client) old (cond b (x ∷ events_of client xs) (events_of client xs))
+    by_client true e = (eqb-true x.client client e, own-client client (old ++ x ∷ []) xs)
+    by_client false e = own-client client old xs
+
+-- client 0's are others' for each task
+zero-other : (tells : Bool) (place : ℕ) (journal : List Event) (event : Event) → IsGood journal event → event.client ≡ 0 → IsOther (only tells (place + 1)) journal event
+zero-other tells place journal event good is = record {
+  good = good;
+  other = λ e. not_next place (sym is ∙ e);
+  not_owned = ap (owns (only tells (place + 1))) is ∙ below place;
+}
+  where
+    not_next : (k : ℕ) → 0 ≢ k + 1
+    not_next k e = omega (arith, e)
+
+    below : (k : ℕ) → owns (only tells (k + 1)) 0 ≡ false
+    below k = refl
+
+-- a machine that client 0 ran alone leaves what the outcomes tell
+pub told-on : OutcomeLaw → (draw : Draw) (tasks : List Task) (outcomes : List Outcome) (start : List Event) (played new : View) {A : Type 0} (p : Program A) (result : Result A Refusal) → Runs (as_client 0 played) new p result → HasAll played.caller → IsTrue played.caller.tells
+    → AllTold draw tasks outcomes start played.seen → AllTold draw tasks outcomes start new.seen
+told-on law draw tasks outcomes start played new p result r all told before place task outcome at_task at =
+    let adds = r.alone told (record { low = all.low; end = all.end }) in
+    let grows = r.grows told in
+    let mine = subst (λ (xs : List Event). Each (λ h e. e.client ≡ 0) played.seen xs) grows.owned (own-client 0 played.seen grows.more) in
+    let others : Each (IsOther (only true (place + 1))) played.seen r.own = Each-both IsGood (λ h e. e.client ≡ 0) (IsOther (only true (place + 1))) (zero-other true place) played.seen r.own adds.good mine in
+    subst (λ (h : List Event). TellsAt draw place task start outcome h) (sym adds.is) (law (only true (place + 1)) (ids_at draw place) task outcome start played.seen r.own others (before place task outcome at_task at))

@@ -23,7 +23,8 @@ use Rattle.store_api.specs.declared.machines.Refusal.{Refusal}
 use Rattle.store_api.specs.declared.machines.Refusal.TheVariants as R
 use Rattle.store_api.specs.Machine.{found, version_at, is_on}
 use Rattle.store_api.specs.Journal.{Each, WasPut}
-use Rattle.store_api.specs.Program.{Prog, Done}
+use Rattle.store_api.specs.Program.{Done}
+use Rattle.store_api.specs.Plays.{Play, Ended}
 use Rattle.store_api.proofs.Journals.{Each-one}
 use Rattle.store_api.proofs.Slots.{WasPut-append}
 use Rattle.session.specs.declared.session.Listing.{Listing}
@@ -33,16 +34,20 @@ use Rattle.session.specs.Editing.{group_added, unless_refused, drawn_group, any_
 use Rattle.commit_path.specs.declared.commit.Committed.{Committed as Made}
 use Rattle.commit_path.specs.Committing.{commit_program, put_snapshot, put_branch, after_log, after_snapshot, after_branch, snap_for, started, drawn_start}
 use Rattle.play_script.specs.declared.scripts.Call.{Call}
-use Rattle.play_script.specs.declared.scripts.Call.TheVariants.{Group, List as List_call, Commit}
+use Rattle.play_script.specs.declared.scripts.Call.TheVariants.{Edit, Read, Commit}
+use Rattle.play_script.specs.declared.scripts.EditCall.TheVariants.{Group}
+use Rattle.play_script.specs.declared.scripts.ReadCall.TheVariants.{List as List_call}
 use Rattle.play_script.specs.declared.scripts.Line.{Line}
 use Rattle.play_script.specs.declared.scripts.Task.{Task}
-use Rattle.play_report.specs.declared.outcome.Shown.{Shown}
-use Rattle.play_report.specs.declared.outcome.Outcome.{Outcome}
-use Rattle.play_tasks.specs.Playing.{after_group, after_list, after_start, after_commit, after_open, play_call, goes_on, play_lines, asked_by, task_program}
+use Rattle.play_outcome.specs.declared.outcome.Shown.{Shown}
+use Rattle.play_outcome.specs.declared.outcome.End.TheVariants as E
+use Rattle.play_outcome.specs.declared.outcome.Outcome.{Outcome}
+use Rattle.play_tasks.specs.Lines.{Deed, Goes, Commits, deed, silent, still, session_of, nodes_shown}
+use Rattle.play_tasks.specs.Playing.{Rest, after_line, after_start, after_commit, after_open, play_deed, play_lines, refused, asked_by, task_play}
 use Rattle.run_histories.proofs.Drawing.{IsDrawnBy, AreOf, group-draws, start-draws, head-ids}
 use Rattle.play_course.specs.Refusing.{is_strange, strange_answer, strange_end}
 use Rattle.play_course.proofs.Tidy.{tidy-more, IsAny, IsOthers, Puts, stands-readable, put-stands, all-named, spared-snapshot, spared-log, free-others, free-apart}
-use Rattle.play_course.proofs.Meeting.{Plain, Meets, done-meets, ask-meets, bind-meets, got-meets, put-meets}
+use Rattle.play_course.proofs.Meeting.{Plain, Meets, PlayMeets, done-meets, ask-meets, ended-meets, or-meets, call-meets, got-meets, put-meets}
 
 -- ---- the calls of sessions
 -- no refusal of this result is strange
@@ -179,47 +184,53 @@ module _ (client : ℕ) where
       (λ done. done-meets Plain Who (Err R.StoreFault) ((journal ++ more) ++ event ∷ []) refl))
 
   -- ---- the lines of a task
-  abbrev Ends : Outcome → List Event → Type 0
-  Ends o h = strange_end o.end ≡ false
+  abbrev Ends : Outcome → Type 0
+  Ends o = strange_end o.end ≡ false
 
   -- what follows a line, where the session still draws for its client
-  abbrev GoesOn : (SessionState → List Shown → Prog Outcome) → List Event → Type 0
-  GoesOn next journal = (s : SessionState) (shown : List Shown) → AreOf client s.ids → Meets Ends Who (next s shown) journal
+  abbrev GoesOn : Rest → List Event → Type 0
+  GoesOn rest journal = (s : SessionState) (shown : List Shown) → AreOf client s.ids → PlayMeets Ends Who (rest s shown) journal
 
-  group-meets : (line : ℕ) (s : SessionState) (path : List ℕ) (shown : List Shown) (next : SessionState → List Shown → Prog Outcome) (journal : List Event) → AreOf client s.ids → GoesOn next journal → (r : Result (Id8 × SessionState) Refusal) → group_added s path ≡ r → Meets Ends Who (goes_on (after_group line shown r) next) journal
-  group-meets line s path shown next journal known go (Ok p) e = go p.1 shown (group-draws client s p.1 path p.0 known e)
-  group-meets line s path shown next journal known go (Err why) e = done-meets Ends Who _ journal (group-plain s path why e)
+  refused-meets : (line : ℕ) (shown : List Shown) (why : Refusal) (journal : List Event) → is_strange why ≡ false → PlayMeets Ends Who (refused line shown why) journal
+  refused-meets line shown why journal p = ended-meets Ends Who (record { shown = shown; end = E.Refused line why }) journal p
 
-  list-meets : (line : ℕ) (s : SessionState) (path : List ℕ) (shown : List Shown) (next : SessionState → List Shown → Prog Outcome) (journal : List Event) → AreOf client s.ids → GoesOn next journal → (r : Result (List Listing) Refusal) → IsPlain r → Meets Ends Who (goes_on (after_list line s shown r) next) journal
-  list-meets line s path shown next journal known go (Ok nodes) p = go s _ known
-  list-meets line s path shown next journal known go (Err why) p = done-meets Ends Who _ journal (p why refl)
+  group-meets : (line : ℕ) (shown : List Shown) (s : SessionState) (path : List ℕ) (rest : Rest) (journal : List Event) → AreOf client s.ids → GoesOn rest journal → (r : Result (Id8 × SessionState) Refusal) → group_added s path ≡ r → PlayMeets Ends Who (after_line line shown (silent (session_of r)) rest) journal
+  group-meets line shown s path rest journal known go (Ok p) e = go p.1 (shown ++ []) (group-draws client s p.1 path p.0 known e)
+  group-meets line shown s path rest journal known go (Err why) e = refused-meets line shown why journal (group-plain s path why e)
 
-  answered-meets : (line : ℕ) (shown : List Shown) (r : Result Made Refusal) (journal : List Event) → strange_answer r ≡ false → Meets Ends Who (after_commit line shown r) journal
-  answered-meets line shown (Ok made) journal p = done-meets Ends Who _ journal refl
-  answered-meets line shown (Err why) journal p = done-meets Ends Who _ journal p
+  list-meets : (line : ℕ) (shown : List Shown) (s : SessionState) (rest : Rest) (journal : List Event) → AreOf client s.ids → GoesOn rest journal → (r : Result (List Listing) Refusal) → IsPlain r → PlayMeets Ends Who (after_line line shown (still s (nodes_shown line r)) rest) journal
+  list-meets line shown s rest journal known go (Ok nodes) p = go s _ known
+  list-meets line shown s rest journal known go (Err why) p = refused-meets line shown why journal (p why refl)
 
-  start-meets : (line : ℕ) (s : SessionState) (message : List ℕ) (shown : List Shown) (next : SessionState → List Shown → Prog Outcome) (journal : List Event) → AreOf client s.ids → Before journal → (r : Result (Id12 × SessionState) Refusal) → started s ≡ r → Meets Ends Who (goes_on (after_start line message shown r) next) journal
-  start-meets line s message shown next journal known b (Ok p) e =
-      bind-meets Plain Ends Who (commit_program p.1 message p.0) (after_commit line shown) journal (commit-meets p.1 message p.0 journal (start-draws client s p.1 p.0 known e) b) (λ r h plain. answered-meets line shown r h plain)
-  start-meets line s message shown next journal known b (Err why) e = done-meets Ends Who _ journal (started-plain s why e)
+  answered-meets : (line : ℕ) (shown : List Shown) (r : Result Made Refusal) (journal : List Event) → strange_answer r ≡ false → PlayMeets Ends Who (after_commit line shown r) journal
+  answered-meets line shown (Ok made) journal p = ended-meets Ends Who (record { shown = shown; end = E.Committed made.id }) journal refl
+  answered-meets line shown (Err why) journal p = refused-meets line shown why journal p
 
-  call-meets : (line : ℕ) (call : Call) (s : SessionState) (shown : List Shown) (next : SessionState → List Shown → Prog Outcome) (journal : List Event) → AreOf client s.ids → Before journal → GoesOn next journal → Meets Ends Who (goes_on (play_call line call s shown) next) journal
-  call-meets line (Group path) s shown next journal known b go = group-meets line s path shown next journal known go (group_added s path) refl
-  call-meets line (List_call path) s shown next journal known b go = list-meets line s path shown next journal known go (listed s path) (there-plain (node_at (overlay s) path) _)
-  call-meets line (Commit message) s shown next journal known b go = start-meets line s message shown next journal known b (started s) refl
+  start-meets : (line : ℕ) (message : List ℕ) (shown : List Shown) (s : SessionState) (journal : List Event) → AreOf client s.ids → Before journal → (r : Result (Id12 × SessionState) Refusal) → started s ≡ r → PlayMeets Ends Who (after_start line message shown r) journal
+  start-meets line message shown s journal known b (Ok p) e =
+      call-meets Ends Who Plain (commit_program p.1 message p.0) (after_commit line shown) journal (commit-meets p.1 message p.0 journal (start-draws client s p.1 p.0 known e) b)
+      (λ r h plain. answered-meets line shown r h plain) (λ h. answered-meets line shown (Err R.NoMemory) h refl)
+  start-meets line message shown s journal known b (Err why) e = refused-meets line shown why journal (started-plain s why e)
 
-  lines-meets : (lines : List Line) (s : SessionState) (shown : List Shown) (journal : List Event) → AreOf client s.ids → Before journal → Meets Ends Who (play_lines lines s shown) journal
+  deed-meets : (line : ℕ) (call : Call) (shown : List Shown) (s : SessionState) (rest : Rest) (journal : List Event) → AreOf client s.ids → Before journal → GoesOn rest journal → PlayMeets Ends Who (play_deed line shown s (deed line call s) rest) journal
+  deed-meets line (Edit (Group path)) shown s rest journal known b go = group-meets line shown s path rest journal known go (group_added s path) refl
+  deed-meets line (Read (List_call path)) shown s rest journal known b go = list-meets line shown s rest journal known go (listed s path) (there-plain (node_at (overlay s) path) _)
+  deed-meets line (Commit message) shown s rest journal known b go = start-meets line message shown s journal known b (started s) refl
+
+  lines-meets : (lines : List Line) (s : SessionState) (shown : List Shown) (journal : List Event) → AreOf client s.ids → Before journal → PlayMeets Ends Who (play_lines lines s shown) journal
   unfolding play_lines
-  lines-meets [] s shown journal known b = done-meets Ends Who _ journal refl
-  lines-meets (l ∷ ls) s shown journal known b = call-meets l.number l.call s shown (play_lines ls) journal known b (λ t more k. lines-meets ls t more journal k b)
+  lines-meets [] s shown journal known b = ended-meets Ends Who (record { shown = shown; end = E.Done }) journal refl
+  lines-meets (l ∷ ls) s shown journal known b =
+      or-meets Ends Who (play_deed l.number shown s (deed l.number l.call s) (play_lines ls)) (refused l.number shown R.NoMemory) journal
+      (deed-meets l.number l.call shown s (play_lines ls) journal known b (λ t more k. lines-meets ls t more journal k b)) (refused-meets l.number shown R.NoMemory journal refl)
 
-  opened-meets : (task : Task) (a : Asked) (r : Result SessionState Refusal) (journal : List Event) → AreOf client a.ids → Opens a r journal → Meets Ends Who (after_open task r) journal
+  opened-meets : (task : Task) (a : Asked) (r : Result SessionState Refusal) (journal : List Event) → AreOf client a.ids → Opens a r journal → PlayMeets Ends Who (after_open task r) journal
   unfolding Opened
   opened-meets task a (Ok s) journal known o = lines-meets task.body s [] journal (subst (AreOf client) (sym o.1) known) o.0
-  opened-meets task a (Err why) journal known o = done-meets Ends Who _ journal o.1
+  opened-meets task a (Err why) journal known o = refused-meets task.line [] why journal o.1
 
   -- a task of this client is never refused so
-  pub task-meets : (ids : AnyIds) (task : Task) (journal : List Event) → AreOf client ids → Before journal → Meets (λ o h. strange_end o.end ≡ false) Who (task_program ids task) journal
+  pub task-meets : (ids : AnyIds) (task : Task) (journal : List Event) → AreOf client ids → Before journal → PlayMeets (λ o. strange_end o.end ≡ false) Who (task_play ids task) journal
   task-meets ids task journal known b =
-      bind-meets (Opens (asked_by task.head ids)) Ends Who (open_program (asked_by task.head ids)) (after_open task) journal (open-meets (asked_by task.head ids) journal b)
-      (λ r h o. opened-meets task (asked_by task.head ids) r h (subst (AreOf client) (sym (head-ids task.head ids)) known) o)
+      call-meets Ends Who (Opens (asked_by task.head ids)) (open_program (asked_by task.head ids)) (after_open task) journal (open-meets (asked_by task.head ids) journal b)
+      (λ r h o. opened-meets task (asked_by task.head ids) r h (subst (AreOf client) (sym (head-ids task.head ids)) known) o) (λ h. refused-meets task.line [] R.NoMemory h refl)

@@ -15,34 +15,32 @@ use Rattle.store_api.specs.declared.machines.Refusal.TheVariants as R
 use Rattle.store_api.specs.Machine.{found}
 use Rattle.store_api.specs.Journal.{Each}
 use Rattle.store_api.specs.Callers.{Caller, View, HasAll, as_client}
-use Rattle.store_api.specs.Program.{Prog, Done, Ask, IsStarved, Path, is_no_memory}
+use Rattle.store_api.specs.Program.{Done, Path}
+use Rattle.store_api.specs.Plays.{Play, Ended, Ask}
 use Rattle.store_api.proofs.Journals.{Each-append, Each-weaker, Each-one, Each-two, Each-back}
 use Rattle.session.specs.Sessions.{SessionState}
 use Rattle.commit_path.specs.Owed.{Sessions, OwesNew, Owes}
-use Rattle.repository.specs.Running.{Asks, Ran}
+use Rattle.store_api.specs.Running.{Program, Runs}
 use Rattle.repository.specs.Beginning.{begin_program}
 use Rattle.repository.specs.Refs.{refs_program}
 use Rattle.play_script.specs.declared.scripts.Script.{Script}
 use Rattle.play_script.specs.declared.scripts.Task.{Task}
 use Rattle.play_script.specs.Well.{IsWell}
-use Rattle.play_report.specs.declared.outcome.End.{End}
-use Rattle.play_report.specs.declared.outcome.End.TheVariants as E
-use Rattle.play_report.specs.declared.outcome.Outcome.{Outcome}
-use Rattle.play_report.specs.declared.outcome.RefLine.{RefLine}
-use Rattle.play_tasks.specs.Ending.{is_starved}
-use Rattle.play_tasks.specs.Playing.{task_program}
+use Rattle.play_outcome.specs.declared.outcome.Outcome.{Outcome}
+use Rattle.play_outcome.specs.declared.outcome.RefLine.{RefLine}
+use Rattle.play_tasks.specs.Playing.{task_play}
 use Rattle.play_tasks.specs.Solving.{IsOfTask}
-use Rattle.play_tasks.specs.Workers.{worker_rest}
-use Rattle.play_run.specs.Order.{ids_at, programs_from, IsOfClient, Acted, Starved, Turned, InTurns}
+use Rattle.play_tasks.specs.Tasks.{ids_at, plays_from, IsOfClient}
+use Rattle.play_run.specs.Order.{WentOn, FellShort, Turned, InTurns}
 use Rattle.play_run.proofs.Places.{at_set}
-use Rattle.play_run.proofs.Rounds.{program_at}
+use Rattle.play_run.proofs.Rounds.{play_at, ends_of, ends_at}
 use Rattle.run_histories.proofs.Programs.{AllPlain, path-plain, begin-plain, refs-plain}
 use Rattle.run_histories.proofs.Drawing.{IsDrawnBy, task-draws, drawn-apart, ids_at-of}
 use Rattle.play_course.specs.declared.course.Played.{Played}
 use Rattle.play_course.specs.Course.{Course, Plays}
 use Rattle.play_course.specs.Refusing.{is_strange, strange_answer, strange_end, NothingStrange}
 use Rattle.play_course.proofs.Tidy.{IsTidy, IsAny, IsOthers, Puts, PutsNew, puts-weaker, any-of, free-others, spared-snapshot, spared-log, nothing-stands}
-use Rattle.play_course.proofs.Meeting.{Meets, meets-done, meets-others, meets-step, meets-path}
+use Rattle.play_course.proofs.Meeting.{Meets, PlayMeets, meets-ended, meets-others, meets-acted, meets-starved, meets-path}
 use Rattle.play_course.proofs.Tasks.{Before, task-meets}
 use Rattle.play_course.proofs.Leaving.{tells-on, few-tasks}
 use Rattle.play_course.proofs.Edges.{plain-tidy, begin-meets, refs-meets}
@@ -71,16 +69,6 @@ owes-puts mine who f journal (PutOver (TagGone name) bytes old why) o = absurd o
 owes-puts mine who f journal (Remove key why) o = absurd o
 owes-puts mine who f journal (RemoveAt key old why) o = absurd o
 
--- want of memory isn't strange
-starved-plain : (why : Refusal) → is_no_memory why ≡ true → is_strange why ≡ false
-starved-plain R.NoMemory e = refl
-starved-plain _ e = absurd cc
-
-starved-end : (end : End) → is_starved (record { shown = []; end = end }) ≡ true → strange_end end ≡ false
-starved-end (E.Committed id) e = refl
-starved-end E.Done e = refl
-starved-end (E.Refused line why) e = starved-plain why e
-
 module _ (draw : Draw) (tasks : List Task) (few : length tasks < 2 ^ 32 - 1) where
   -- a client's puts are under ids that it drew
   owned : (journal : List Event) (event : Event) → (c : IsOfClient draw tasks journal event) → IsTidy (IsDrawnBy (c.place + 1)) journal event
@@ -99,93 +87,82 @@ module _ (draw : Draw) (tasks : List Task) (few : length tasks < 2 ^ 32 - 1) whe
   }
 
   -- ---- turns
-  -- the worker at a place won't be refused so, or has ended for want of memory
-  abbrev GoesWell : ℕ → Prog Outcome → List Event → Type 0
-  GoesWell k p journal = Meets (λ o h. strange_end o.end ≡ false) (λ id. ¬ IsDrawnBy (k + 1) id) p journal ⊎ IsStarved is_starved p
+  -- the worker at a place won't be refused so
+  abbrev GoesWell : ℕ → Play Outcome → List Event → Type 0
+  GoesWell k p journal = PlayMeets (λ o. strange_end o.end ≡ false) (λ id. ¬ IsDrawnBy (k + 1) id) p journal
 
-  abbrev AllWell : List (Prog Outcome) → List Event → Type 0
-  AllWell ps journal = (k : ℕ) (p : Prog Outcome) → slice_get ps k ≡ Some p → GoesWell k p journal
+  abbrev AllWell : List (Play Outcome) → List Event → Type 0
+  AllWell ps journal = (k : ℕ) (p : Play Outcome) → slice_get ps k ≡ Some p → GoesWell k p journal
 
-  well-others : (k : ℕ) (p : Prog Outcome) (old : List Event) (event : Event) → IsOthers (k + 1) old event → GoesWell k p old → GoesWell k p (old ++ event ∷ [])
-  well-others k p old event o w = elim w [
-    | inl m ↦ inl (meets-others (λ x. strange_end x.end ≡ false) (λ id. ¬ IsDrawnBy (k + 1) id) p old (event ∷ []) (Each-one (IsOthers (k + 1)) old event o) m)
-    | inr s ↦ inr s
-  ]
+  well-others : (k : ℕ) (p : Play Outcome) (old : List Event) (event : Event) → IsOthers (k + 1) old event → GoesWell k p old → GoesWell k p (old ++ event ∷ [])
+  well-others k p old event o m = meets-others (λ x. strange_end x.end ≡ false) (λ id. ¬ IsDrawnBy (k + 1) id) p old (event ∷ []) (Each-one (IsOthers (k + 1)) old event o) m
 
-  well-step : (k : ℕ) (event : Event) (next : Reply → Prog Outcome) (q : Prog Outcome) (old : List Event) → IsAny old event → (next event.reply ≡ q) ⊎ IsStarved is_starved q → GoesWell k (Ask event.op next) old → GoesWell k q (old ++ event ∷ [])
-  well-step k event next q old any goes w = elim w [
-    | inl m ↦ elim goes [
-      | inl is ↦ inl (subst (λ (x : Prog Outcome). Meets (λ o h. strange_end o.end ≡ false) (λ id. ¬ IsDrawnBy (k + 1) id) x (old ++ event ∷ [])) is (meets-step (λ x. strange_end x.end ≡ false) (λ id. ¬ IsDrawnBy (k + 1) id) event.op next old event any refl m))
-      | inr s ↦ inr s
-    ]
-    | inr s ↦ absurd s
-  ]
-
-  well-nothing : (ps : List (Prog Outcome)) (old events : List Event) → events ≡ [] → AllWell ps old → AllWell ps (old ++ events)
+  well-nothing : (ps : List (Play Outcome)) (old events : List Event) → events ≡ [] → AllWell ps old → AllWell ps (old ++ events)
   well-nothing ps old events e all = subst (λ (xs : List Event). AllWell ps (old ++ xs)) (sym e) (subst (λ (h : List Event). AllWell ps h) (sym (append-nil old)) all)
 
-  well-acted : (t : ℕ) (ps qs : List (Prog Outcome)) (old events : List Event) → Each (IsOfClient draw tasks) old events → Acted t ps events qs → AllWell ps old → AllWell qs (old ++ events)
+  well-acted : (t : ℕ) (ps qs : List (Play Outcome)) (old events : List Event) → Each (IsOfClient draw tasks) old events → WentOn t ps events qs → AllWell ps old → AllWell qs (old ++ events)
   well-acted t ps qs old events each a all =
+      let p : Play Outcome = Ask a.event.op a.starved a.next in
       let c : IsOfClient draw tasks old a.event = (Each-two (IsOfClient draw tasks) old a.event [] (subst (λ (xs : List Event). Each (IsOfClient draw tasks) old xs) a.one each)).0 in
-      let mine : GoesWell t a.q (old ++ a.event ∷ []) = well-step t a.event a.next a.q old (anybody old a.event c) a.goes (all t (Ask a.event.op a.next) a.at) in
-      let set_all : AllWell (set ps t a.q) (old ++ a.event ∷ []) = at_set (λ k p. GoesWell k p (old ++ a.event ∷ [])) ps t (Ask a.event.op a.next) a.q a.at mine
+      let mine : GoesWell t a.q (old ++ a.event ∷ []) = meets-acted (λ o. strange_end o.end ≡ false) (λ id. ¬ IsDrawnBy (t + 1) id) a.event.op a.starved a.next a.q old a.event (anybody old a.event c) refl a.comes (all t p a.at) in
+      let set_all : AllWell (set ps t a.q) (old ++ a.event ∷ []) = at_set (λ k p. GoesWell k p (old ++ a.event ∷ [])) ps t p a.q a.at mine
       (λ k p differs at. well-others k p old a.event (another k old a.event (λ e. differs (next_same k t (sym a.client ∙ e))) c) (all k p at)) in
-      subst (λ (xs : List Event). AllWell qs (old ++ xs)) (sym a.one) (subst (λ (xs : List (Prog Outcome)). AllWell xs (old ++ a.event ∷ [])) (sym a.rest) set_all)
+      subst (λ (xs : List Event). AllWell qs (old ++ xs)) (sym a.one) (subst (λ (xs : List (Play Outcome)). AllWell xs (old ++ a.event ∷ [])) (sym a.rest) set_all)
     where
       next_same : (k t : ℕ) → t + 1 ≡ k + 1 → k ≡ t
       next_same k t e = omega (arith, e)
 
-  well-starved : (t : ℕ) (ps qs : List (Prog Outcome)) (old events : List Event) → Starved t ps events qs → AllWell ps old → AllWell qs (old ++ events)
+  well-starved : (t : ℕ) (ps qs : List (Play Outcome)) (old events : List Event) → FellShort t ps events qs → AllWell ps old → AllWell qs (old ++ events)
   well-starved t ps qs old events s all =
-      let set_all : AllWell (set ps t s.q) old = at_set (λ k p. GoesWell k p old) ps t s.p s.q s.at (inr s.ended) (λ k p differs at. all k p at) in
-      well-nothing qs old events s.nothing (subst (λ (xs : List (Prog Outcome)). AllWell xs old) (sym s.rest) set_all)
+      let p : Play Outcome = Ask s.op s.starved s.next in
+      let mine : GoesWell t s.q old = meets-starved (λ o. strange_end o.end ≡ false) (λ id. ¬ IsDrawnBy (t + 1) id) s.op s.starved s.next s.q old s.comes (all t p s.at) in
+      let set_all : AllWell (set ps t s.q) old = at_set (λ k p. GoesWell k p old) ps t p s.q s.at mine (λ k p differs at. all k p at) in
+      well-nothing qs old events s.nothing (subst (λ (xs : List (Play Outcome)). AllWell xs old) (sym s.rest) set_all)
 
-  well-turned : (t : ℕ) (ps qs : List (Prog Outcome)) (old events : List Event) → Each (IsOfClient draw tasks) old events → Turned t ps events qs → AllWell ps old → AllWell qs (old ++ events)
+  well-turned : (t : ℕ) (ps qs : List (Play Outcome)) (old events : List Event) → Each (IsOfClient draw tasks) old events → Turned t ps events qs → AllWell ps old → AllWell qs (old ++ events)
   well-turned t ps qs old events each turned all = elim turned [
-    | inl p ↦ well-nothing qs old events p.nothing (subst (λ (xs : List (Prog Outcome)). AllWell xs old) (sym p.same) all)
+    | inl p ↦ well-nothing qs old events p.nothing (subst (λ (xs : List (Play Outcome)). AllWell xs old) (sym p.same) all)
     | inr r ↦ elim r [
       | inl a ↦ well-acted t ps qs old events each a all
       | inr s ↦ well-starved t ps qs old events s all
     ]
   ]
 
-  well-turns : (ts : List ℕ) (ps qs : List (Prog Outcome)) (old events : List Event) → Each (IsOfClient draw tasks) old events → InTurns ts ps events qs → AllWell ps old → AllWell qs (old ++ events)
+  well-turns : (ts : List ℕ) (ps qs : List (Play Outcome)) (old events : List Event) → Each (IsOfClient draw tasks) old events → InTurns ts ps events qs → AllWell ps old → AllWell qs (old ++ events)
   unfolding InTurns
-  well-turns [] ps qs old events each i all = well-nothing qs old events i.0 (subst (λ (xs : List (Prog Outcome)). AllWell xs old) (sym i.1) all)
+  well-turns [] ps qs old events each i all = well-nothing qs old events i.0 (subst (λ (xs : List (Play Outcome)). AllWell xs old) (sym i.1) all)
   well-turns (t ∷ ts) ps qs old events each i all =
       let parts = Each-back (IsOfClient draw tasks) old i.0 i.1 (subst (λ (xs : List Event). Each (IsOfClient draw tasks) old xs) i.3 each) in
       let first : AllWell i.2 (old ++ i.0) = well-turned t ps i.2 old i.0 parts.0 i.4 all in
       let rest : AllWell qs ((old ++ i.0) ++ i.1) = well-turns ts i.2 qs (old ++ i.0) i.1 parts.1 i.5 first in
       subst (λ (xs : List Event). AllWell qs (old ++ xs)) (sym i.3) (subst (λ (h : List Event). AllWell qs h) (append_assoc old i.0 i.1) rest)
 
-  well-begun : (journal : List Event) → ((client : ℕ) → Before client journal) → AllWell (programs_from draw 0 tasks) journal
+  well-begun : (journal : List Event) → ((client : ℕ) → Before client journal) → AllWell (plays_from draw 0 tasks) journal
   well-begun journal before k p at =
-      let r = program_at draw 0 tasks k p at in
-      let is : p ≡ task_program (ids_at draw k) r.task = r.is ∙ ap (λ (n : ℕ). task_program (ids_at draw n) r.task) (zero-add k) in
-      inl (subst (λ (x : Prog Outcome). Meets (λ o h. strange_end o.end ≡ false) (λ id. ¬ IsDrawnBy (k + 1) id) x journal) (sym is)
-      (task-meets (k + 1) (ids_at draw k) r.task journal (ids_at-of draw tasks k r.task few r.at) (before (k + 1))))
+      let r = play_at draw 0 tasks k p at in
+      let is : p ≡ task_play (ids_at draw k) r.task = r.is ∙ ap (λ (n : ℕ). task_play (ids_at draw n) r.task) (zero-add k) in
+      subst (λ (x : Play Outcome). GoesWell k x journal) (sym is) (task-meets (k + 1) (ids_at draw k) r.task journal (ids_at-of draw tasks k r.task few r.at) (before (k + 1)))
 
-  well-ended : (ps : List (Prog Outcome)) (journal : List Event) → AllWell ps journal → (place : ℕ) (outcome : Outcome) → slice_get ps place ≡ Some (Done outcome) → strange_end outcome.end ≡ false
-  well-ended ps journal all place outcome at = elim (all place (Done outcome) at) [
-    | inl m ↦ meets-done (λ o h. strange_end o.end ≡ false) (λ id. ¬ IsDrawnBy (place + 1) id) outcome journal m
-    | inr s ↦ starved-end outcome.end s
-  ]
+  well-ended : (outcomes : List Outcome) (journal : List Event) → AllWell (ends_of outcomes) journal → (place : ℕ) (outcome : Outcome) → slice_get outcomes place ≡ Some outcome → strange_end outcome.end ≡ false
+  well-ended outcomes journal all place outcome at = meets-ended (λ o. strange_end o.end ≡ false) (λ id. ¬ IsDrawnBy (place + 1) id) outcome journal (all place (Ended outcome) (ends_at outcomes place outcome at))
 
 -- ---- the opening and the closing reading
 -- a program that was run alone: its events put nothing under drawn ids, and it came to its end or wanted memory
-record Alone {A : Type 0} (p : Asks A) (result : Result A Refusal) (old new : List Event) : Type 0 where
+record Alone {A : Type 0} (p : Program A) (result : Result A Refusal) (old new : List Event) : Type 0 where
   pub own : List Event
   pub is : new ≡ old ++ own
   pub tidy : Each (IsTidy (λ id. ⊥)) old own
   pub ends : Path p own (Done result) ⊎ (result ≡ Err R.NoMemory)
 
-was-alone : {A : Type 0} (by : Caller) (p : Asks A) (result : Result A Refusal) (old new : List Event) → AllPlain p → HasAll by → Ran by p result old new → Alone p result old new
-was-alone by p result old new plain all r = elim r.ends [
-  | inl path ↦ record { own = r.own; is = (r.alone all).is; tidy = plain-tidy old r.own (r.alone all).good (path-plain p old r.own (Done result) plain path); ends = inl path }
-  | inr cut ↦ record { own = r.own; is = (r.alone all).is; tidy = plain-tidy old r.own (r.alone all).good (path-plain p old r.own cut.left plain cut.path); ends = inr cut.result_is }
-]
+was-alone : {A : Type 0} (p : Program A) (result : Result A Refusal) (old new : View) → AllPlain p → IsTrue old.caller.tells → HasAll old.caller → Runs old new p result → Alone p result old.seen new.seen
+was-alone p result old new plain told all r =
+    let adds = r.alone told all in
+    elim r.ends [
+      | inl path ↦ record { own = r.own; is = adds.is; tidy = plain-tidy old.seen r.own adds.good (path-plain p old.seen r.own (Done result) plain path); ends = inl path }
+      | inr cut ↦ record { own = r.own; is = adds.is; tidy = plain-tidy old.seen r.own adds.good (path-plain p old.seen r.own cut.left plain cut.path); ends = inr cut.result_is }
+    ]
 
-answers-plain : {A : Type 0} (p : Asks A) (result : Result A Refusal) (old new : List Event) → Alone p result old new → Meets (λ r h. strange_answer r ≡ false) (λ id. ⊥) p old → strange_answer result ≡ false
+answers-plain : {A : Type 0} (p : Program A) (result : Result A Refusal) (old new : List Event) → Alone p result old new → Meets (λ r h. strange_answer r ≡ false) (λ id. ⊥) p old → strange_answer result ≡ false
 answers-plain p result old new a m = elim a.ends [
   | inl path ↦ meets-path (λ r. strange_answer r ≡ false) (λ id. ⊥) p old a.own result (Each-weaker (IsTidy (λ id. ⊥)) IsAny (any-of (λ id. ⊥)) old a.own a.tidy) path m
   | inr none ↦ ap strange_answer none
@@ -207,34 +184,34 @@ module _ (opening : Result (Unit {0}) Refusal) (begun : List Event) (a : Alone b
 
 -- ---- the run
 module _ (draw : Draw) (script : Script) (few : length script.tasks < 2 ^ 32 - 1) where
-  plays-tidy : (old new : View) (opening : Result (Unit {0}) Refusal) (ends : List (Prog Outcome)) → IsTrue old.caller.tells → Plays draw script old new opening ends → Each IsAny [] old.seen → Each IsAny [] new.seen
-  plays-tidy old new (Ok done) ends told p tidy =
-      let r = (p.ran told).ran in
-      subst (λ (h : List Event). Each IsAny [] h) (sym r.is) (Each-append IsAny [] old.seen r.more tidy (Each-weaker (IsOfClient draw script.tasks) IsAny (anybody draw script.tasks few) old.seen r.more r.careful))
-  plays-tidy old new (Err why) ends told p tidy = subst (λ (v : View). Each IsAny [] v.seen) (sym p.0) tidy
+  plays-tidy : (old new : View) (opening : Result (Unit {0}) Refusal) (outcomes : List Outcome) → IsTrue old.caller.tells → Plays draw script old new opening outcomes → Each IsAny [] old.seen → Each IsAny [] new.seen
+  plays-tidy old new (Ok done) outcomes told p tidy =
+      let r = p.ran.ran in
+      subst (λ (h : List Event). Each IsAny [] h) (sym (r.is told)) (Each-append IsAny [] old.seen r.own tidy (Each-weaker (IsOfClient draw script.tasks) IsAny (anybody draw script.tasks few) old.seen r.own (r.careful told)))
+  plays-tidy old new (Err why) outcomes told p tidy = subst (λ (v : View). Each IsAny [] v.seen) (sym p.0) tidy
 
-  plays-plain : (old new : View) (opening : Result (Unit {0}) Refusal) (ends : List (Prog Outcome)) → IsTrue old.caller.tells → Plays draw script old new opening ends → ((client : ℕ) → Before client old.seen) → (place : ℕ) (outcome : Outcome) → slice_get ends place ≡ Some (Done outcome) → strange_end outcome.end ≡ false
-  plays-plain old new (Ok done) ends told p before place outcome at =
-      let r = (p.ran told).ran in
-      well-ended draw script.tasks few ends (old.seen ++ r.more) (well-turns draw script.tasks few _ (programs_from draw 0 script.tasks) ends old.seen r.more r.careful r.order (well-begun draw script.tasks few old.seen before)) place outcome at
-  plays-plain old new (Err why) ends told p before place outcome at = let no = sym (ap (λ (es : List (Prog Outcome)). slice_get es place) p.1) ∙ at in absurd cc
+  plays-plain : (old new : View) (opening : Result (Unit {0}) Refusal) (outcomes : List Outcome) → IsTrue old.caller.tells → Plays draw script old new opening outcomes → ((client : ℕ) → Before client old.seen) → (place : ℕ) (outcome : Outcome) → slice_get outcomes place ≡ Some outcome → strange_end outcome.end ≡ false
+  plays-plain old new (Ok done) outcomes told p before place outcome at =
+      let r = p.ran.ran in
+      well-ended draw script.tasks few outcomes (old.seen ++ r.own) (well-turns draw script.tasks few _ (plays_from draw 0 script.tasks) (ends_of outcomes) old.seen r.own (r.careful told) r.order (well-begun draw script.tasks few old.seen before)) place outcome at
+  plays-plain old new (Err why) outcomes told p before place outcome at = let no = sym (ap (λ (os : List Outcome). slice_get os place) p.1) ∙ at in absurd cc
 
-  pub course-plain : (old new : View) (opening : Result (Unit {0}) Refusal) (ends : List (Prog Outcome)) (refs : Result (List RefLine) Refusal) → Course draw script old new opening ends refs → IsTrue old.caller.tells → old.seen ≡ [] → NothingStrange opening ends refs
-  course-plain old new opening ends refs c told empty =
+  pub course-plain : (old new : View) (opening : Result (Unit {0}) Refusal) (outcomes : List Outcome) (refs : Result (List RefLine) Refusal) → Course draw script old new opening outcomes refs → IsTrue old.caller.tells → old.seen ≡ [] → NothingStrange opening outcomes refs
+  course-plain old new opening outcomes refs c told empty =
       let all : HasAll (as_client 0 old).caller = record { low = c.alone.low; end = c.alone.end } in
       let last_all : HasAll (as_client 0 c.played).caller = record { low = c.still_alone.low; end = c.still_alone.end } in
       let begun_tells : IsTrue c.begun.caller.tells = subst (λ (b : Caller). IsTrue b.tells) (sym c.begins.same) told in
-      let played_tells : IsTrue c.played.caller.tells = tells-on draw script c.begun c.played opening ends c.plays begun_tells in
-      let first : Alone begin_program opening [] c.begun.seen = subst (λ (h : List Event). Alone begin_program opening h c.begun.seen) empty (was-alone (as_client 0 old).caller begin_program opening old.seen c.begun.seen begin-plain all (c.begins.ran told)) in
-      let last : Alone refs_program refs c.played.seen new.seen = was-alone (as_client 0 c.played).caller refs_program refs c.played.seen new.seen refs-plain last_all (c.reads.ran played_tells) in
+      let played_tells : IsTrue c.played.caller.tells = tells-on draw script c.begun c.played opening outcomes c.plays begun_tells in
+      let first : Alone begin_program opening [] c.begun.seen = subst (λ (h : List Event). Alone begin_program opening h c.begun.seen) empty (was-alone begin_program opening (as_client 0 old) c.begun begin-plain told all c.begins) in
+      let last : Alone refs_program refs c.played.seen new.seen = was-alone refs_program refs (as_client 0 c.played) new refs-plain played_tells last_all c.reads in
       let tidy : Each IsAny [] c.begun.seen = begun-tidy opening c.begun.seen first in
       record {
         opened = answers-plain begin_program opening [] c.begun.seen first (begin-meets (λ id. ⊥) []);
-        tasks = plays-plain c.begun c.played opening ends begun_tells c.plays (begun-free opening c.begun.seen first);
-        closed = answers-plain refs_program refs c.played.seen new.seen last (refs-meets (λ id. ⊥) c.played.seen (plays-tidy c.begun c.played opening ends begun_tells c.plays tidy));
+        tasks = plays-plain c.begun c.played opening outcomes begun_tells c.plays (begun-free opening c.begun.seen first);
+        closed = answers-plain refs_program refs c.played.seen new.seen last (refs-meets (λ id. ⊥) c.played.seen (plays-tidy c.begun c.played opening outcomes begun_tells c.plays tidy));
       }
 
-pub played-plain : (draw : Draw) (script : Script) (old new : View) (result : Result Played AllocError) → IsWell script → IfOk result (λ played. Course draw script old new played.opening (map worker_rest played.workers.items) played.refs) → IsTrue old.caller.tells → old.seen ≡ []
-    → IfOk result (λ played. NothingStrange played.opening (map worker_rest played.workers.items) played.refs)
-played-plain draw script old new (Ok played) well c told empty = course-plain draw script (few-tasks script well) old new played.opening (map worker_rest played.workers.items) played.refs c told empty
+pub played-plain : (draw : Draw) (script : Script) (old new : View) (result : Result Played AllocError) → IsWell script → IfOk result (λ played. Course draw script old new played.opening played.outcomes.items played.refs) → IsTrue old.caller.tells → old.seen ≡ []
+    → IfOk result (λ played. NothingStrange played.opening played.outcomes.items played.refs)
+played-plain draw script old new (Ok played) well c told empty = course-plain draw script (few-tasks script well) old new played.opening played.outcomes.items played.refs c told empty
 played-plain draw script old new (Err error) well c told empty = tt

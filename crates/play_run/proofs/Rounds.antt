@@ -175,7 +175,7 @@ ends_size : (outcomes : List Outcome) → length (ends_of outcomes) ≡ length o
 ends_size [] = refl
 ends_size (o ∷ os) = ap suc (ends_size os)
 
-ends_at : (outcomes : List Outcome) (k : ℕ) (outcome : Outcome) → slice_get outcomes k ≡ Some outcome → slice_get (ends_of outcomes) k ≡ Some (Ended outcome)
+pub ends_at : (outcomes : List Outcome) (k : ℕ) (outcome : Outcome) → slice_get outcomes k ≡ Some outcome → slice_get (ends_of outcomes) k ≡ Some (Ended outcome)
 ends_at [] k outcome e = absurd (cc)
 ends_at (o ∷ os) zero outcome e = let same : o ≡ outcome = cc in ap (λ (x : Outcome). Some (Ended x)) same
 ends_at (o ∷ os) (suc k) outcome e = ends_at os k outcome e

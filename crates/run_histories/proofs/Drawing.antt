@@ -1,6 +1,6 @@
 -- The ids that tasks' commits draw.
 use Rattle.std.proofs.Common.{◌≡◌, ◌≢◌, ℕ, ◌+◌, ◌-◌, ◌^◌, ◌<◌, List, [], ◌∷◌, length, refl, sym, ◌∙◌, ap, subst, arith}
-use Rattle.std.specs.Prelude.{Some, Ok, slice_get}
+use Rattle.std.specs.Prelude.{Some, Result, Ok, Err, slice_get}
 use Rattle.std.proofs.lemmas.Option.{slice_get_within}
 use Rattle.ice_ids.specs.declared.Id8.{Id8}
 use Rattle.ice_ids.specs.declared.Id12.{Id12}
@@ -9,17 +9,22 @@ use Rattle.ice_ids.specs.declared.drawing.Draw.{Draw}
 use Rattle.ice_ids.specs.Text.{initial_id}
 use Rattle.ice_ids.specs.Drawing.{IsAnyIds, client_of, drawn12, after8}
 use Rattle.ice_ids.proofs.Drawn.{after8-IsAnyIds, ids_of-IsAnyIds, drawn12-not_initial, drawn12-same}
+use Rattle.store_api.specs.declared.machines.Refusal.{Refusal}
 use Rattle.session.specs.Sessions.{SessionState}
 use Rattle.session.specs.Opening.{begun}
-use Rattle.session.specs.Editing.{group_added}
+use Rattle.session.specs.Editing.{group_added, listed}
 use Rattle.commit_path.specs.Committing.{started}
 use Rattle.commit_path.proofs.Opened.{Added, group-added, start-started}
 use Rattle.play_script.specs.declared.scripts.Call.{Call}
-use Rattle.play_script.specs.declared.scripts.Call.TheVariants.{Group, List as List_call, Commit}
+use Rattle.play_script.specs.declared.scripts.Call.TheVariants.{Edit, Read as Read_call, Commit}
+use Rattle.play_script.specs.declared.scripts.EditCall.TheVariants.{Group}
+use Rattle.play_script.specs.declared.scripts.ReadCall.TheVariants.{List as List_call}
 use Rattle.play_script.specs.declared.scripts.Head.{Head}
 use Rattle.play_script.specs.declared.scripts.Head.TheVariants.{Write, Read}
 use Rattle.play_script.specs.declared.scripts.Line.{Line}
 use Rattle.play_script.specs.declared.scripts.Task.{Task}
+use Rattle.play_outcome.specs.declared.outcome.Shown.{Shown}
+use Rattle.play_tasks.specs.Lines.{Goes, deed, session_of, nodes_shown, silent, still}
 use Rattle.play_tasks.specs.Playing.{asked_by}
 use Rattle.play_tasks.specs.Solving.{ReachesBy, Reaches, IsOfTask}
 use Rattle.play_tasks.specs.Tasks.{ids_at}
@@ -49,15 +54,27 @@ module _ (client : ℕ) where
   pub start-draws : (s t : SessionState) (id : Id12) → AreOf client s.ids → started s ≡ Ok (id, t) → IsDrawnBy client id
   start-draws s t id known e = record { ids = s.ids; known = known.0; client_is = known.1; is = (start-started s t id e).drawn }
 
-  call-draws : (call : Call) (s t : SessionState) (id : Id12) (next : SessionState → Type 0) → AreOf client s.ids → ((mid : SessionState) → AreOf client mid.ids → next mid → IsDrawnBy client id) → ReachesBy call s t id next → IsDrawnBy client id
-  call-draws (Group path) s t id next known go r = go r.1 (group-draws s r.1 path r.0 known r.2) r.3
-  call-draws (List_call path) s t id next known go r = go s known r
-  call-draws (Commit message) s t id next known go r = start-draws s t id known r
+  -- what follows a line still draws for its client
+  abbrev GoesOn : Id12 → (SessionState → Type 0) → Type 0
+  GoesOn id next = (mid : SessionState) → AreOf client mid.ids → next mid → IsDrawnBy client id
+
+  edit-draws : (path : List ℕ) (s t : SessionState) (id : Id12) (next : SessionState → Type 0) → AreOf client s.ids → GoesOn id next → (r : Result (Id8 × SessionState) Refusal) → group_added s path ≡ r → ReachesBy (Goes (silent (session_of r))) s t id next → IsDrawnBy client id
+  edit-draws path s t id next known go (Ok added) e n = go added.1 (group-draws s added.1 path added.0 known e) n
+  edit-draws path s t id next known go (Err why) e n = absurd n
+
+  read-draws : (s t : SessionState) (id : Id12) (next : SessionState → Type 0) → AreOf client s.ids → GoesOn id next → (r : Result (List Shown) Refusal) → ReachesBy (Goes (still s r)) s t id next → IsDrawnBy client id
+  read-draws s t id next known go (Ok shown) n = go s known n
+  read-draws s t id next known go (Err why) n = absurd n
+
+  deed-draws : (line : ℕ) (call : Call) (s t : SessionState) (id : Id12) (next : SessionState → Type 0) → AreOf client s.ids → GoesOn id next → ReachesBy (deed line call s) s t id next → IsDrawnBy client id
+  deed-draws line (Edit (Group path)) s t id next known go r = edit-draws path s t id next known go (group_added s path) refl r
+  deed-draws line (Read_call (List_call path)) s t id next known go r = read-draws s t id next known go (nodes_shown line (listed s path)) r
+  deed-draws line (Commit message) s t id next known go r = start-draws s t id known r
 
   lines-draw : (lines : List Line) (s t : SessionState) (id : Id12) → AreOf client s.ids → Reaches lines s t id → IsDrawnBy client id
   unfolding Reaches
   lines-draw [] s t id known r = absurd r
-  lines-draw (l ∷ ls) s t id known r = call-draws l.call s t id (λ mid. Reaches ls mid t id) known (λ mid k n. lines-draw ls mid t id k n) r
+  lines-draw (l ∷ ls) s t id known r = deed-draws l.number l.call s t id (λ mid. Reaches ls mid t id) known (λ mid k n. lines-draw ls mid t id k n) r
 
 pub head-ids : (head : Head) (ids : AnyIds) → (asked_by head ids).ids ≡ ids
 head-ids (Write branch) ids = refl

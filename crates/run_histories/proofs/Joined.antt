@@ -21,6 +21,7 @@ use Rattle.run_histories.specs.Runs.{IsSound, RanAlone, IsRun}
 use Rattle.run_histories.specs.Told.{CommitsSession, IsSolved, HasHistories, RunLaw, BegunLaw}
 use Rattle.run_histories.proofs.Programs.{IsPlain, AllPlain, path-plain, begin-plain, refs-plain}
 use Rattle.run_histories.proofs.Along.{Fits, plain-fits, client-fits, goes}
+use Rattle.run_histories.proofs.Beginnings.{began-at-last}
 use Rattle.run_histories.proofs.Given.{joined, joined-before, joined-right, solved-given, solved-enter, before-given}
 
 -- ---- what a run adds
@@ -76,6 +77,7 @@ module _ (draw : Draw) (tasks : List Task) where
         same = joined-before before after old;
         solved = solved;
         commits = solved-enter draw tasks changes whole all once old added refl solved (Each-back (CommitsApply (tree_of whole) changes) [] old added law.0.commits).1;
+        opened = began-at-last whole changes once law.0;
         sound = record { good = all; once = once; given = given; draws = g.draws };
         history = law.0;
         stand = law.1;

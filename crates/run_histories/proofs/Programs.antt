@@ -18,9 +18,9 @@ use Rattle.store_api.specs.declared.machines.Refusal.{Refusal}
 use Rattle.store_api.specs.Journal.{Each}
 use Rattle.store_api.specs.Program.{Prog, Done, Ask, bind, Path}
 use Rattle.play_outcome.specs.declared.outcome.RefLine.{RefLine}
-use Rattle.repository.specs.Running.{Asks, ◌>>=◌, on_answer}
+use Rattle.store_api.specs.Running.{Program, ◌>>=◌, on_answer}
 use Rattle.repository.specs.Beginning.{begin_program, put_main, after_put}
-use Rattle.repository.specs.Refs.{list_part, on_listed, read_ref, on_got, read_each, refs_program, with_line, live}
+use Rattle.repository.specs.Refs.{list_part, on_listed, read_ref, on_got, read_each, read_tags, read_branches, refs_program, with_line, live}
 
 -- a new key of the opening
 abbrev IsPlainNew : List ℕ → Key → Type 0
@@ -45,12 +45,12 @@ unfolding AllPlain
 bind-plain (Done a) f p g = g a
 bind-plain (Ask op next) f p g = (p.0, λ reply. bind-plain (next reply) f (p.1 reply) g)
 
-answer-plain : {A B : Type 0} (f : A → Asks B) → ((a : A) → AllPlain (f a)) → (r : Result A Refusal) → AllPlain (on_answer f r)
+answer-plain : {A B : Type 0} (f : A → Program B) → ((a : A) → AllPlain (f a)) → (r : Result A Refusal) → AllPlain (on_answer f r)
 unfolding AllPlain
 answer-plain f g (Ok a) = g a
 answer-plain f g (Err why) = tt
 
-then-plain : {A B : Type 0} (p : Asks A) (f : A → Asks B) → AllPlain p → ((a : A) → AllPlain (f a)) → AllPlain (p >>= f)
+then-plain : {A B : Type 0} (p : Program A) (f : A → Program B) → AllPlain p → ((a : A) → AllPlain (f a)) → AllPlain (p >>= f)
 then-plain p f k g = bind-plain p (on_answer f) k (answer-plain f g)
 
 -- the events of such a program
@@ -114,17 +114,11 @@ unfolding AllPlain
 each-plain lines [] = tt
 each-plain lines (key ∷ keys) = then-plain (read_ref key) (λ line. read_each (with_line lines line) keys) (ref-plain key) (λ line. each-plain (with_line lines line) keys)
 
-abbrev then_tags : List RefLine → Asks (List RefLine)
-then_tags lines = list_part Tags >>= λ tags. read_each lines (live tags)
-
-abbrev then_lines : List Entry → Asks (List RefLine)
-then_lines branches = read_each [] (live branches) >>= then_tags
-
-tags-plain : (lines : List RefLine) → AllPlain (then_tags lines)
+tags-plain : (lines : List RefLine) → AllPlain (read_tags lines)
 tags-plain lines = then-plain (list_part Tags) (λ tags. read_each lines (live tags)) (list-plain Tags) (λ tags. each-plain lines (live tags))
 
-lines-plain : (branches : List Entry) → AllPlain (then_lines branches)
-lines-plain branches = then-plain (read_each [] (live branches)) then_tags (each-plain [] (live branches)) tags-plain
+branches-plain : (lines : List RefLine) (entries : List Entry) → AllPlain (read_branches lines entries)
+branches-plain lines entries = then-plain (read_each lines (live entries)) read_tags (each-plain lines (live entries)) tags-plain
 
 pub refs-plain : AllPlain refs_program
-refs-plain = then-plain (list_part Branches) then_lines (list-plain Branches) lines-plain
+refs-plain = then-plain (list_part Branches) (λ entries. read_branches [] entries) (list-plain Branches) (λ entries. branches-plain [] entries)
