@@ -82,9 +82,9 @@ abbrev pub session_in : Commit → SessionState
 session_in c = c.session
 
 -- the machine's own commit begins, or the session comes back as it was
-abbrev pub Answers : SessionState → List ℕ → Result Commit (SessionState × Refusal) → Type 0
-Answers s message (Ok c) = (started s ≡ Ok (c.id, session_in c)) × (commit_rest c ≡ commit_program (session_in c) message c.id)
-Answers s message (Err refused) = (started s ≡ Err refused.1) × (refused.0 ≡ s)
+abbrev pub CommitStarts : SessionState → List ℕ → Result Commit (SessionState × Refusal) → Type 0
+CommitStarts s message (Ok c) = (started s ≡ Ok (c.id, session_in c)) × (commit_rest c ≡ commit_program (session_in c) message c.id)
+CommitStarts s message (Err refused) = (started s ≡ Err refused.1) × (refused.0 ≡ s)
 
 abbrev pub committing_left : Committing → ℕ
 committing_left Log = 3

@@ -4,7 +4,7 @@ ghost use Rattle.std.specs.Prelude.{◌≡◌, ◌<◌, IfErr, IfOk, IsTrue};
 ghost use Rattle.store_api.specs.Program.{IsAsk, Steps, NextIsPolite};
 ghost use Rattle.tree_model.specs.Touched.{touched};
 ghost use Rattle.plain_object.specs.Objects.{log_bytes as bytes_of_log, snapshot_bytes as bytes_of_snapshot};
-ghost use Rattle.commit_path.specs.Committing.{snap_for, started, commit_program, commit_rest, commit_left, session_in, Answers, MayRefuseCommit};
+ghost use Rattle.commit_path.specs.Committing.{snap_for, started, commit_program, commit_rest, commit_left, session_in, CommitStarts, MayRefuseCommit};
 
 use crate::committing::Committing;
 use ice_base::Bytes;
@@ -157,7 +157,7 @@ impl Commit {
         mut session: Session,
         message: Bytes,
     ) -> Result<Commit, (Session, Refusal)>
-        ensures { Answers session message result }
+        ensures { CommitStarts session message result }
     {
         if !session.writes() {
             return Err((session, Refusal::ReadOnly));

@@ -30,7 +30,7 @@ use Rattle.run_histories.specs.Runs.{RanAlone, PlayedAlone, IsSound}
 use Rattle.run_histories.specs.Told.{HasHistories, RunLaw}
 use Rattle.play_course.specs.declared.course.Played.{Played}
 use Rattle.play_course.specs.Course.{Course, OnlyBegan, Plays}
-use Rattle.play_course.specs.Leaving.{TellsEnds, Leaves}
+use Rattle.play_course.specs.Leaving.{TellsEnds, LeavesBranches}
 use Rattle.play_course.proofs.Playing.{tells-on}
 
 -- ---- the parts of a run
@@ -93,7 +93,7 @@ ran-told result old new law told all r lines e = elim r.ends [
 
 -- ---- the run
 pub course-leaves : RunLaw → RefsLaw → (draw : Draw) (script : Script) (old new : View) (opening : Result (Unit {0}) Refusal) (outcomes : List Outcome) (refs : Result (List RefLine) Refusal) → length script.tasks < 2 ^ 32 - 1
-    → Course draw script old new opening outcomes refs → IsTrue old.caller.tells → (before : ℕ → Changes) → IsSound old.seen before → Leaves draw script.tasks before old.seen new.seen refs
+    → Course draw script old new opening outcomes refs → IsTrue old.caller.tells → (before : ℕ → Changes) → IsSound old.seen before → LeavesBranches draw script.tasks before old.seen new.seen refs
 course-leaves run closing draw script old new opening outcomes refs few c t before sound =
     let all : HasAll (as_client 0 old).caller = record { low = c.alone.low; end = c.alone.end } in
     let begun_tells : IsTrue c.begun.caller.tells = subst (λ (b : Caller). IsTrue b.tells) (sym c.begins.same) t in
@@ -118,7 +118,7 @@ pub few-tasks : (script : Script) → IsWell script → length script.tasks < 2 
 few-tasks script well = let few = well.few in omega (arith, few)
 
 pub played-leaves : RunLaw → RefsLaw → (draw : Draw) (script : Script) (old new : View) (result : Result Played AllocError) → IsWell script → IfOk result (λ played. Course draw script old new played.opening played.outcomes.items played.refs) → IsTrue old.caller.tells → (before : ℕ → Changes) → IsSound old.seen before
-    → IfOk result (λ played. Leaves draw script.tasks before old.seen new.seen played.refs)
+    → IfOk result (λ played. LeavesBranches draw script.tasks before old.seen new.seen played.refs)
 played-leaves run closing draw script old new (Ok played) well c t before sound = course-leaves run closing draw script old new played.opening played.outcomes.items played.refs (few-tasks script well) c t before sound
 played-leaves run closing draw script old new (Err error) well c t before sound = tt
 

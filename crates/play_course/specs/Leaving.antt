@@ -14,7 +14,7 @@ use Rattle.play_outcome.specs.declared.outcome.RefLine.{RefLine}
 use Rattle.run_histories.specs.Told.{HasHistories}
 
 -- the branch's history ends at this snapshot
-pub record EndsAt (changes : ℕ → Changes) (journal : List Event) (branch : List ℕ) (id : Id12) : Type 0 where
+pub record BranchEndsAt (changes : ℕ → Changes) (journal : List Event) (branch : List ℕ) (id : Id12) : Type 0 where
   pub entry : Entry
   pub is_last : last (history_of (tree_of journal) changes journal branch) ≡ Some entry
   pub names : entry.id ≡ id
@@ -22,9 +22,9 @@ pub record EndsAt (changes : ℕ → Changes) (journal : List Event) (branch : L
 -- The lines are those of the refs that stand, and each branch's is the last entry of its history.
 pub record TellsEnds (changes : ℕ → Changes) (journal : List Event) (lines : List RefLine) : Type 0 where
   pub stand : TellsRefs journal lines
-  pub ends : (name : List ℕ) (id : Id12) → (HasLine lines (branch_line name id) ↔ EndsAt changes journal name id)
+  pub ends : (name : List ℕ) (id : Id12) → (HasLine lines (branch_line name id) ↔ BranchEndsAt changes journal name id)
 
 -- From old to new a run kept the histories, and the refs that it tells are their ends.
-pub record Leaves (draw : Draw) (tasks : List Task) (before : ℕ → Changes) (old new : List Event) (refs : Result (List RefLine) Refusal) : Type 0 where
+pub record LeavesBranches (draw : Draw) (tasks : List Task) (before : ℕ → Changes) (old new : List Event) (refs : Result (List RefLine) Refusal) : Type 0 where
   pub histories : HasHistories draw tasks before old new
   pub told : (lines : List RefLine) → refs ≡ Ok lines → TellsEnds histories.changes new lines

@@ -7,7 +7,7 @@ ghost use Rattle.play_tasks.specs.Tasks.{AllTold};
 ghost use Rattle.run_histories.specs.Runs.{IsSound};
 ghost use Rattle.run_histories.specs.Told.{HasHistories};
 ghost use Rattle.play_course.specs.Course.{turns_in, Course, OnlyBegan, PlaysTasks, Plays};
-ghost use Rattle.play_course.specs.Leaving.{Leaves};
+ghost use Rattle.play_course.specs.Leaving.{LeavesBranches};
 ghost use Rattle.play_course.specs.Refusing.{NothingStrange};
 
 use ice_ids::Draw;
@@ -120,7 +120,7 @@ pub fn play<S: Base>(
     ensures kept { IsTrue (S.view store.old).caller.tells → (before : ℕ → Changes) → IsSound (S.view store.old).seen before → IfErr result (λ error. HasHistories draw script.now.tasks before (S.view store.old).seen (S.view store.new).seen) }
     // Over a store that tells its journal, where that is sound, the branches' histories are kept, and the refs that were
     // read are their ends.
-    ensures leaves { IsTrue (S.view store.old).caller.tells → (before : ℕ → Changes) → IsSound (S.view store.old).seen before → IfOk result (λ played. Leaves draw script.now.tasks before (S.view store.old).seen (S.view store.new).seen played.refs) }
+    ensures leaves { IsTrue (S.view store.old).caller.tells → (before : ℕ → Changes) → IsSound (S.view store.old).seen before → IfOk result (λ played. LeavesBranches draw script.now.tasks before (S.view store.old).seen (S.view store.new).seen played.refs) }
     // Over one on which nothing was done before, no drawn id is taken, no object is missing, and every file can be read.
     ensures regular { IsTrue (S.view store.old).caller.tells → (S.view store.old).seen ≡ [] → IfOk result (λ played. NothingStrange played.opening played.outcomes.items played.refs) }
 {

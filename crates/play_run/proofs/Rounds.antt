@@ -22,12 +22,12 @@ use Rattle.play_tasks.specs.Solving.{IsOfTask}
 use Rattle.play_tasks.specs.Laws.{TaskLaw}
 use Rattle.play_tasks.specs.Tasks.{ids_at, TellsAt, plays_from, AllStand, HasEndedAt, AllBlame, AllTold}
 use Rattle.play_run.specs.Order.{places_of, turns_of, InTurns, RanTasks}
-use Rattle.play_run.specs.Taking.{Took}
-use Rattle.play_run.specs.Going.{CanGo, Blame, Went}
+use Rattle.play_run.specs.inside.Taking.{TookTurn}
+use Rattle.play_run.specs.inside.Going.{CanGo, Blame, Went}
 use Rattle.play_run.proofs.Turning.{Went-trans, Went-took}
 
 -- one more turn of the worker at this place
-pub Went-again : (n t : ℕ) (a b c : View) (ps mid qs : List (Play Outcome)) (result : Bool) → Went (replicate n t) a b ps mid → Took t b c mid qs result → Went (replicate (n + 1) t) a c ps qs
+pub Went-again : (n t : ℕ) (a b c : View) (ps mid qs : List (Play Outcome)) (result : Bool) → Went (replicate n t) a b ps mid → TookTurn t b c mid qs result → Went (replicate (n + 1) t) a c ps qs
 Went-again n t a b c ps mid qs result w k = subst (λ (ts : List ℕ). Went ts a c ps qs) (replicate_more n t) (Went-trans (replicate n t) (t ∷ []) a b c ps mid qs w (Went-took t b c mid qs result k))
 
 places_of-append : (xs ys : List Turn) → places_of (xs ++ ys) ≡ places_of xs ++ places_of ys

@@ -26,8 +26,8 @@ use Rattle.play_tasks.specs.Solving.{IsOfTask}
 use Rattle.play_tasks.specs.Tasks.{ids_at, TellsAt, Stands, AllStand, IsOfClient, HasEndedAt}
 use Rattle.play_tasks.proofs.Others.{TellsOutcome-waits}
 use Rattle.play_run.specs.Order.{Turned, InTurns}
-use Rattle.play_run.specs.Taking.{Rested, Stepped, Took}
-use Rattle.play_run.specs.Going.{CanGo, Blame, Kept, Went}
+use Rattle.play_run.specs.inside.Taking.{Rested, Stepped, TookTurn}
+use Rattle.play_run.specs.inside.Going.{CanGo, Blame, Kept, Went}
 use Rattle.play_run.proofs.Places.{at_set}
 
 -- ---- a caller that is alone
@@ -325,7 +325,7 @@ took-stepped t old new ps qs s = elim s.acts.went [
       (λ draw tasks start told all. kept-starved draw tasks start t old new ps qs told all s n)
 ]
 
-pub Went-took : (t : ℕ) (old new : View) (ps qs : List (Play Outcome)) (result : Bool) → Took t old new ps qs result → Went (t ∷ []) old new ps qs
+pub Went-took : (t : ℕ) (old new : View) (ps qs : List (Play Outcome)) (result : Bool) → TookTurn t old new ps qs result → Went (t ∷ []) old new ps qs
 Went-took t old new ps qs true s = took-stepped t old new ps qs s
 Went-took t old new ps qs false r = took-rested t old new ps qs r
 

@@ -1,3 +1,2 @@
 pub mod Order
-pub mod Taking
-pub mod Going
+pub mod inside

@@ -6,8 +6,8 @@ ghost use Rattle.play_script.specs.Well.{IsWellTask, IsWellTurn};
 ghost use Rattle.play_tasks.specs.Workers.{worker_rest};
 ghost use Rattle.play_tasks.specs.Tasks.{HasEndedAt, AllTold, AllBlame};
 ghost use Rattle.play_run.specs.Order.{RanTasks, places_of, turns_of};
-ghost use Rattle.play_run.specs.Taking.{Took, left_at};
-ghost use Rattle.play_run.specs.Going.{CanGo, Went};
+ghost use Rattle.play_run.specs.inside.Taking.{TookTurn, left_at};
+ghost use Rattle.play_run.specs.inside.Going.{CanGo, Went};
 
 use crate::workers::{take_outcomes, workers_for};
 use ice_ids::Draw;
@@ -22,7 +22,7 @@ fn take_turn<S: Base>(workers: &mut [Worker<'_>], t: usize, store: &mut S) -> bo
     requires within { t < length workers.old }
     requires small { length workers.old < 2 ^ 32 - 1 }
     requires stand { CanGo (S.view store.old) (map worker_rest workers.old) }
-    ensures took { Took t (S.view store.old) (S.view store.new) (map worker_rest workers.old) (map worker_rest workers.new) result }
+    ensures took { TookTurn t (S.view store.old) (S.view store.new) (map worker_rest workers.old) (map worker_rest workers.new) result }
     ensures falls { IsTrue result → left_at workers.new t < left_at workers.old t }
 {
     if workers[t].has_ended() {

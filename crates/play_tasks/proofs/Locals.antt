@@ -31,7 +31,7 @@ use Rattle.play_tasks.specs.declared.working.Working.TheVariants as w
 use Rattle.play_tasks.specs.declared.working.Step.TheVariants as step
 use Rattle.play_tasks.specs.Lines.{Deed, Goes, deed}
 use Rattle.play_tasks.specs.Playing.{after_start, after_commit, play_deed, play_lines, ended, refused}
-use Rattle.play_tasks.specs.Working.{is_well, LineComes, working_rest}
+use Rattle.play_tasks.specs.inside.Working.{is_well, LineComes, working_rest}
 
 -- a commit began
 pub start_on : (line : ℕ) (message copied : List ℕ) (shown kept : List Shown) (r : Result (Id12 × SessionState) Refusal) (id : Id12) (t : SessionState) (rest : Prog (Result Made Refusal))

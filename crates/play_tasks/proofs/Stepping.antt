@@ -14,7 +14,7 @@ use Rattle.play_outcome.specs.declared.outcome.Shown.{Shown}
 use Rattle.play_outcome.specs.declared.outcome.Outcome.{Outcome}
 use Rattle.play_outcome.specs.Ending.{is_failed}
 use Rattle.play_tasks.specs.Playing.{after_commit}
-use Rattle.play_tasks.specs.Working.{settled, Faults}
+use Rattle.play_tasks.specs.inside.Working.{settled, Faults}
 
 is_memory : (why : Refusal) → is_no_memory why ≡ true → why ≡ NoMemory
 is_memory NoMemory e = refl

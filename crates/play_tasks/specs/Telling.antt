@@ -74,7 +74,7 @@ pub record WasNotOpened (ids : AnyIds) (task : Task) (client : ℕ) (start : Lis
 
 -- A session was opened at what the client got. The first lines of the body were played on it one after
 -- another, and showed what the task showed. With the lines that are left it ended.
-pub record WasPlayed (ids : AnyIds) (task : Task) (client : ℕ) (start : List Event) (outcome : Outcome) (journal : List Event) : Type 0 where
+pub record WasOpened (ids : AnyIds) (task : Task) (client : ℕ) (start : List Event) (outcome : Outcome) (journal : List Event) : Type 0 where
   pub opened : SessionState
   pub begun : WasBegun client (asked_by task.head ids) opened start journal
   pub read : IsOpened opened journal
@@ -88,4 +88,4 @@ pub record WasPlayed (ids : AnyIds) (task : Task) (client : ℕ) (start : List E
 -- What the outcome of a task whose session draws these ids says of the journal, where the task began at
 -- `start` and its client made no other events from there on.
 abbrev pub TellsOutcome : AnyIds → Task → ℕ → List Event → Outcome → List Event → Type 0
-TellsOutcome ids task client start outcome journal = WasNotOpened ids task client start outcome journal ⊎ WasPlayed ids task client start outcome journal
+TellsOutcome ids task client start outcome journal = WasNotOpened ids task client start outcome journal ⊎ WasOpened ids task client start outcome journal

@@ -3,7 +3,7 @@ use Rattle.std.specs.Prelude.{ℕ}
 use Rattle.store_api.specs.Plays.{Play}
 use Rattle.play_outcome.specs.declared.outcome.Outcome.{Outcome}
 use Rattle.play_tasks.specs.declared.worker.Worker.{Worker}
-use Rattle.play_tasks.specs.Working.{working_rest, working_left}
+use Rattle.play_tasks.specs.inside.Working.{working_rest, working_left}
 
 -- what is still to be done
 abbrev pub worker_rest : Worker → Play Outcome

@@ -3,7 +3,7 @@
 ghost use Rattle.std.specs.Prelude.{◌≡◌, ◌++◌, [], true, map, IfOk, OnErr};
 ghost use Rattle.play_tasks.specs.Lines.{node_shown, deed, Goes, Commits, edited, silent, still, read_by};
 ghost use Rattle.play_tasks.specs.Playing.{play_lines};
-ghost use Rattle.play_tasks.specs.Working.{is_clean, LineComes, Leaves};
+ghost use Rattle.play_tasks.specs.inside.Working.{is_clean, LineComes, LinesCome};
 
 use crate::working::{Step, Working};
 use commit_path::Commit;
@@ -108,7 +108,7 @@ fn play_line(alloc: Global, line: &Line, session: Session, shown: Vec<Shown>) ->
 /// Plays these lines on a session, up to the commit that ends them, or the first that is refused, or the
 /// first for which there is no memory.
 pub(crate) fn play_lines(alloc: Global, lines: &[Line], session: Session) -> Working
-    ensures leaves { Leaves (play_lines lines.now session []) result }
+    ensures leaves { LinesCome (play_lines lines.now session []) result }
     ensures clean { is_clean (Step.Stop result) ≡ true }
 {
     let mut session = session;

@@ -7,7 +7,7 @@ ghost use Rattle.session.specs.Opening.{open_rest, open_left};
 ghost use Rattle.commit_path.specs.Committing.{commit_rest, commit_left};
 ghost use Rattle.play_script.specs.declared.scripts.Task.{Task as TheTask};
 ghost use Rattle.play_tasks.specs.Playing.{after_open, after_commit};
-ghost use Rattle.play_tasks.specs.Working.{is_working, working_rest, working_left, settled, answers_well, Faults};
+ghost use Rattle.play_tasks.specs.inside.Working.{is_working, working_rest, working_left, settled, answers_well, Faults};
 
 use crate::lines::{play_lines, refuse};
 use crate::working::Working;

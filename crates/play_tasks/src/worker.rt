@@ -1,7 +1,7 @@
 //! Workers.
 
 ghost use Rattle.std.specs.Prelude.{◌≡◌, true};
-ghost use Rattle.play_tasks.specs.Working.{is_working};
+ghost use Rattle.play_tasks.specs.inside.Working.{is_working};
 
 use crate::steps::{after_committing, after_opening};
 use crate::working::Working;

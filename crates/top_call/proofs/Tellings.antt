@@ -28,7 +28,7 @@ use Rattle.top_call.specs.declared.statuses.Status.{Status}
 use Rattle.top_call.specs.declared.statuses.Status.TheVariants as S
 use Rattle.top_call.specs.Statuses.{status_of}
 use Rattle.top_call.specs.Telling.{why_of, end_why, why_ended, refusals, is_other, causes, Wrote, Tells, KeepsHistories, KeepsBranches, IsRegular, WasPlayed, WasUntold}
-use Rattle.top_call.specs.Adding.{added, all_added}
+use Rattle.top_call.specs.inside.Adding.{added, all_added}
 use Rattle.top_call.proofs.Rows.{rows-all}
 
 -- ---- causes

@@ -1,5 +1,5 @@
 pub mod Statuses
 pub mod Words
 pub mod Telling
-pub mod Adding
 pub mod Run
+pub mod inside

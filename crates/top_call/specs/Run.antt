@@ -34,7 +34,7 @@ HasNone old new S.NoMemory = Unit {0}
 HasNone old new _ = ⊥
 
 -- the input is the text of a script, which was played, and the report and the status tell of it
-pub record IsRun (draw : Draw) (in_old in_new : InputAt) (s t : View) (out_old out_new : OutputAt) (status : Status) : Type 0 where
+pub record WasRun (draw : Draw) (in_old in_new : InputAt) (s t : View) (out_old out_new : OutputAt) (status : Status) : Type 0 where
   pub script : Script
   pub reads : HasScript in_old in_new script
   pub played : WasPlayed draw script s t out_old out_new status
@@ -57,7 +57,7 @@ Ends draw in_old in_new s t out_old out_new S.ReadFault = Rose in_old.faults in_
 Ends draw in_old in_new s t out_old out_new (S.Script line kind) = HasFault in_old in_new line kind × IsUntouched s t out_old out_new
 Ends draw in_old in_new s t out_old out_new (S.Usage fault) = ⊥
 Ends draw in_old in_new s t out_old out_new S.NoMemory = IsUntouched s t out_old out_new ⊎ IsShort draw in_old in_new s t out_old out_new
-Ends draw in_old in_new s t out_old out_new status = IsRun draw in_old in_new s t out_old out_new status
+Ends draw in_old in_new s t out_old out_new status = WasRun draw in_old in_new s t out_old out_new status
 
 -- ---- laws of what statuses say
 -- the input's first refused line is told, unless the source failed or memory was wanting

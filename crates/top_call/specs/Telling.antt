@@ -16,7 +16,7 @@ use Rattle.tree_model.specs.Changes.{Changes}
 use Rattle.run_histories.specs.Runs.{IsSound}
 use Rattle.run_histories.specs.Told.{HasHistories}
 use Rattle.play_course.specs.Course.{Course, OnlyBegan}
-use Rattle.play_course.specs.Leaving.{Leaves}
+use Rattle.play_course.specs.Leaving.{LeavesBranches}
 use Rattle.play_course.specs.Refusing.{NothingStrange}
 use Rattle.top_call.specs.declared.statuses.Causes.{Causes}
 use Rattle.top_call.specs.declared.statuses.Status.{Status}
@@ -62,7 +62,7 @@ pub record Told (script : Script) (opening : Result (Unit {0}) Refusal) (outcome
 
 -- where the store tells its journal and that is sound, a run keeps the histories, and the refs that it tells are their ends
 abbrev pub KeepsHistories : Draw → Script → View → View → Result (List RefLine) Refusal → Type 0
-KeepsHistories draw script old new refs = IsTrue old.caller.tells → (before : ℕ → Changes) → IsSound old.seen before → Leaves draw script.tasks before old.seen new.seen refs
+KeepsHistories draw script old new refs = IsTrue old.caller.tells → (before : ℕ → Changes) → IsSound old.seen before → LeavesBranches draw script.tasks before old.seen new.seen refs
 
 -- the same of the histories alone, where no refs are told
 abbrev pub KeepsBranches : Draw → Script → View → View → Type 0

@@ -3,7 +3,7 @@
 ghost use Rattle.std.specs.Prelude.{◌≡◌, map, IfOk, IfErr};
 ghost use Rattle.std.specs.List.{flat_map};
 ghost use Rattle.top_call.specs.Telling.{why_of, why_ended, refusals, causes, Wrote, Told};
-ghost use Rattle.top_call.specs.Adding.{added, all_added};
+ghost use Rattle.top_call.specs.inside.Adding.{added, all_added};
 
 use crate::statuses::{Causes, Status};
 use ice_base::{Sink, write_whole};

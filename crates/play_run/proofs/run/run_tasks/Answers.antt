@@ -8,7 +8,7 @@ use Rattle.play_tasks.specs.Workers.{worker_rest}
 use Rattle.play_tasks.specs.Tasks.{HasEndedAt}
 use Rattle.play_run.proofs.Rounds.{workers_size, went_size, begins, written_back, ended_all, ends_of, ran_all, told_all, blamed_all, size_all}
 use Rattle.play_run.specs.Order.{places_of, turns_of}
-use Rattle.play_run.specs.Going.{Went}
+use Rattle.play_run.specs.inside.Going.{Went}
 use Rattle.play_run.proofs.run.run_tasks.Goals as goal
 
 pub run_workers-requires-clause-within : goal.run_workers-requires-clause-within

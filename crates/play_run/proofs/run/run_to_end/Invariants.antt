@@ -1,7 +1,7 @@
 use Rattle.std.proofs.Common.{ℕ, map, replicate}
 use Rattle.play_tasks.specs.Workers.{worker_rest}
-use Rattle.play_run.specs.Taking.{left_at}
-use Rattle.play_run.specs.Going.{Went}
+use Rattle.play_run.specs.inside.Taking.{left_at}
+use Rattle.play_run.specs.inside.Going.{Went}
 use Rattle.play_run.proofs.run.run_to_end.Given as goal
 
 abbrev pub invariant-loop-t : goal.invariant-loop-t

@@ -2,7 +2,7 @@ use Rattle.std.proofs.Common.{◌≡◌, ◌<◌, ℕ, List, map, length}
 use Rattle.play_tasks.specs.Workers.{worker_rest}
 use Rattle.play_tasks.specs.Tasks.{HasEndedAt}
 use Rattle.play_run.specs.Order.{turns_of}
-use Rattle.play_run.specs.Going.{Went}
+use Rattle.play_run.specs.inside.Going.{Went}
 use Rattle.play_run.proofs.run.run_to_ends.Given as goal
 
 abbrev pub invariant-loop-t : goal.invariant-loop-t

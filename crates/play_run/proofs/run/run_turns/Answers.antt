@@ -3,7 +3,7 @@ use Rattle.std.proofs.lemmas.List.{take_more}
 use Rattle.play_script.specs.declared.scripts.Turn.{Turn}
 use Rattle.play_tasks.specs.Workers.{worker_rest}
 use Rattle.play_run.specs.Order.{places_of}
-use Rattle.play_run.specs.Going.{Went}
+use Rattle.play_run.specs.inside.Going.{Went}
 use Rattle.play_run.proofs.Turning.{Went-none, CanGo-went}
 use Rattle.play_run.proofs.Rounds.{Went-places}
 use Rattle.play_run.proofs.run.run_turns.Goals as goal

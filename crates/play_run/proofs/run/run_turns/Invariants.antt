@@ -1,7 +1,7 @@
 use Rattle.std.proofs.Common.{map, take}
 use Rattle.play_tasks.specs.Workers.{worker_rest}
 use Rattle.play_run.specs.Order.{places_of}
-use Rattle.play_run.specs.Going.{Went}
+use Rattle.play_run.specs.inside.Going.{Went}
 use Rattle.play_run.proofs.run.run_turns.Given as goal
 
 abbrev pub invariant-loop-turn : goal.invariant-loop-turn

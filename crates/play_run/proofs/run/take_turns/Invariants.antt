@@ -1,6 +1,6 @@
 use Rattle.std.proofs.Common.{map, replicate}
 use Rattle.play_tasks.specs.Workers.{worker_rest}
-use Rattle.play_run.specs.Going.{Went}
+use Rattle.play_run.specs.inside.Going.{Went}
 use Rattle.play_run.proofs.run.take_turns.Given as goal
 
 abbrev pub invariant-loop : goal.invariant-loop

@@ -1,7 +1,7 @@
 use Rattle.std.proofs.Common.{sym, subst}
 use Rattle.play_script.specs.declared.scripts.Call.{Call}
 use Rattle.play_tasks.specs.Lines.{deed}
-use Rattle.play_tasks.specs.Working.{LineComes}
+use Rattle.play_tasks.specs.inside.Working.{LineComes}
 use Rattle.play_tasks.proofs.lines.play_line.Goals as goal
 
 pub returns-in-Commit-clause-comes : goal.returns-in-Commit-clause-comes

@@ -1,5 +1,5 @@
 use Rattle.play_tasks.specs.Playing.{ended}
-use Rattle.play_tasks.specs.Working.{working_rest}
+use Rattle.play_tasks.specs.inside.Working.{working_rest}
 use Rattle.play_tasks.proofs.Locals.{one_on, one_stop, at_end}
 use Rattle.play_outcome.specs.declared.outcome.End.TheVariants.{Done}
 use Rattle.play_tasks.proofs.lines.play_lines.Goals as goal

@@ -1,7 +1,7 @@
 use Rattle.std.proofs.Common.{◌≡◌, map, drop}
 use Rattle.std.specs.List.{flat_map}
 use Rattle.top_call.specs.Telling.{why_ended}
-use Rattle.top_call.specs.Adding.{all_added}
+use Rattle.top_call.specs.inside.Adding.{all_added}
 use Rattle.top_call.proofs.telling.add_outcomes.Given as goal
 
 abbrev pub invariant-loop-outcome : goal.invariant-loop-outcome

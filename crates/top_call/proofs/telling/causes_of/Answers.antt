@@ -2,7 +2,7 @@ use Rattle.std.proofs.Common.{◌∙◌, ap, map}
 use Rattle.std.specs.List.{flat_map}
 use Rattle.top_call.specs.declared.statuses.Causes.{Causes}
 use Rattle.top_call.specs.Telling.{why_of, why_ended}
-use Rattle.top_call.specs.Adding.{all_added}
+use Rattle.top_call.specs.inside.Adding.{all_added}
 use Rattle.top_call.proofs.Tellings.{all-causes}
 use Rattle.top_call.proofs.telling.causes_of.Goals as goal
 

@@ -5,7 +5,7 @@ use Rattle.commit_path.specs.Committing.{commit_rest}
 use Rattle.play_outcome.specs.Ending.{is_failed}
 use Rattle.play_tasks.specs.declared.working.Working.{Working}
 use Rattle.play_tasks.specs.Playing.{after_open, after_commit}
-use Rattle.play_tasks.specs.Working.{is_working, working_rest}
+use Rattle.play_tasks.specs.inside.Working.{is_working, working_rest}
 use Rattle.play_tasks.proofs.Stepping.{acts, committed}
 use Rattle.play_tasks.proofs.worker.Worker.step.Goals as goal
 

@@ -25,9 +25,9 @@ pub record Stepped (t : ℕ) (old new : View) (ps qs : List (Play Outcome)) : Ty
   pub acts : Acts is_failed (as_client (t + 1) old) new p q
   pub rest : qs ≡ slice_set ps t q
 
-abbrev pub Took : ℕ → View → View → List (Play Outcome) → List (Play Outcome) → Bool → Type 0
-Took t old new ps qs true = Stepped t old new ps qs
-Took t old new ps qs false = Rested t old new ps qs
+abbrev pub TookTurn : ℕ → View → View → List (Play Outcome) → List (Play Outcome) → Bool → Type 0
+TookTurn t old new ps qs true = Stepped t old new ps qs
+TookTurn t old new ps qs false = Rested t old new ps qs
 
 abbrev pub left_of : Option Worker → ℕ
 left_of None = 0

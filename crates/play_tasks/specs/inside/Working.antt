@@ -53,8 +53,8 @@ is_clean (step.On s shown) = true
 is_clean (step.Stop state) = is_well state
 
 -- with memory or without, the play has come to where the worker stands
-abbrev pub Leaves : Play Outcome → Working → Type 0
-Leaves p state = (task : Task) → Comes p (working_rest task state)
+abbrev pub LinesCome : Play Outcome → Working → Type 0
+LinesCome p state = (task : Task) → Comes p (working_rest task state)
 
 -- ---- a step of the machine in it
 -- what is left to do after a step of a machine that has q left
