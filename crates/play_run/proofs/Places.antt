@@ -1,4 +1,4 @@
--- The program at a place.
+-- The play at a place.
 use Rattle.std.proofs.Common.{◌≡◌, ◌≢◌, ℕ, zero, suc, Bool, true, false, List, [], ◌∷◌, refl, sym, ◌∙◌, ap, subst, set, get_or, map, length, ◌<◌, eq-eqb, eqb-true}
 use Rattle.std.proofs.Common.{arith}
 use Rattle.play_tasks.specs.declared.worker.Worker.{Worker}
