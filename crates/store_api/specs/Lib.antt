@@ -1,4 +1,5 @@
 pub mod Machine
+pub mod Orders
 pub mod Journal
 pub mod Callers
 pub mod Program

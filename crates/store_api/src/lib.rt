@@ -8,6 +8,7 @@ mod laws;
 mod machines;
 mod names;
 mod operations;
+mod orders;
 #[cfg(test)]
 mod tests;
 
