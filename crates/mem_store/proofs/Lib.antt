@@ -1,3 +1,5 @@
+pub mod Ties
+pub mod Placing
 pub mod HeldLemmas
 pub mod Orders
 pub mod Parts

@@ -3,3 +3,4 @@ pub mod Rows
 pub mod Memory
 pub mod Plans
 pub mod Failing
+pub mod Places

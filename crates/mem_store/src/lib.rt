@@ -4,6 +4,7 @@
 
 mod answers;
 mod faults;
+mod index;
 mod listing;
 mod mem;
 mod plans;
