@@ -4,6 +4,7 @@ pub mod HeldLemmas
 pub mod Orders
 pub mod Parts
 pub mod Following
+pub mod Changing
 pub mod Listings
 pub mod Times
 pub mod Calls

@@ -4,3 +4,4 @@ pub mod Memory
 pub mod Plans
 pub mod Failing
 pub mod Places
+pub mod Logs

@@ -4,9 +4,10 @@ ghost use Rattle.std.specs.Prelude.{◌≡◌, Bool, if◌then◌else◌, IfOk, 
 ghost use Rattle.store_api.specs.Machine.{same_key};
 ghost use Rattle.mem_store.specs.Places.{shelf_of, place_in, place_left, place_after};
 
+use crate::logs::{key_of, left_by};
 use std::alloc::{AllocError, Global};
 use std::collections::BTreeMap;
-use store_api::{Key, Op, Part, Version};
+use store_api::{Key, Op, Part};
 
 /// The positions of the puts that stand: a map for each part, in the order of its listing.
 #[derive(Debug, Drop)]
@@ -62,5 +63,33 @@ impl Index {
         ensures { (q : Name) → place_in self.new q ≡ (if same_key key.now q then None else place_in self.old q) }
     {
         self.shelves[key.part().place()].remove(key);
+    }
+
+    /// One more operation, at this place. Without memory nothing has changed.
+    pub(crate) fn follow(
+        &mut self,
+        alloc: Global,
+        op: &Op,
+        done: bool,
+        place: u64,
+    ) -> Result<(), AllocError>
+        ensures ok { OnOk result ((q : Name) → place_in self.new q ≡ place_after place op.now done q (place_in self.old q)) }
+        ensures err { OnErr result ((q : Name) → place_in self.new q ≡ place_in self.old q) }
+    {
+        let Some(key) = key_of(op) else {
+            return Ok(());
+        };
+        let at = self.place(key);
+        let left = left_by(op, done, place, at);
+        if left == at {
+            return Ok(());
+        }
+        match left {
+            None => {
+                self.leave(key);
+                Ok(())
+            }
+            Some(place) => self.enter(key.copy(alloc)?, place),
+        }
     }
 }

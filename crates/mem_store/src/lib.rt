@@ -6,6 +6,7 @@ mod answers;
 mod faults;
 mod index;
 mod listing;
+mod logs;
 mod mem;
 mod plans;
 mod requests;

@@ -1,0 +1,96 @@
+//! The events of the journal, as they are kept.
+
+ghost use Rattle.std.specs.Prelude.{◌≡◌, if◌then◌else◌};
+ghost use Rattle.std.specs.Option.{option_copied};
+ghost use Rattle.mem_store.specs.Rows.{key_in};
+ghost use Rattle.mem_store.specs.Places.{place_left, where_at};
+ghost use Rattle.mem_store.specs.Logs.{is_done, bytes_put};
+
+use store_api::{Entries, Key, Op};
+
+/// What an operation was answered by. The reply follows from it: the bytes of an object stand in
+/// the event of their put alone.
+#[derive(Debug, Drop)]
+pub(crate) enum Answer {
+    /// The put that stood at its key.
+    Stood(Option<u64>),
+    /// What a part listed.
+    Listed(Entries),
+    /// The operation failed, done or not done.
+    Failed(bool),
+}
+
+/// An event of the journal.
+#[derive(Debug, Drop)]
+pub(crate) struct Logged {
+    pub(crate) client: u32,
+    pub(crate) op: Op,
+    pub(crate) answer: Answer,
+    pub(crate) time: u64,
+}
+
+impl Answer {
+    /// Whether the operation took effect.
+    pub(crate) fn is_done(&self) -> bool
+        ensures { result ≡ is_done self.now }
+    {
+        match self {
+            Answer::Stood(_) | Answer::Listed(_) => true,
+            Answer::Failed(done) => *done,
+        }
+    }
+}
+
+/// The key that an operation is on.
+pub(crate) fn key_of(op: &Op) -> Option<&Key>
+    ensures { option_copied result ≡ key_in op.now }
+{
+    match op {
+        Op::Get { key }
+        | Op::PutNew { key, .. }
+        | Op::PutOver { key, .. }
+        | Op::Remove { key, .. }
+        | Op::RemoveAt { key, .. } => Some(key),
+        Op::List { .. } => None,
+    }
+}
+
+/// The bytes that an operation puts.
+pub(crate) fn bytes_put(op: &Op) -> &[u8]
+    ensures { result.now ≡ bytes_put op.now }
+{
+    match op {
+        Op::PutNew { bytes, .. } | Op::PutOver { bytes, .. } => bytes.as_slice(),
+        Op::Get { .. } | Op::Remove { .. } | Op::RemoveAt { .. } | Op::List { .. } => &[],
+    }
+}
+
+/// Where this version stands, what comes in its place.
+fn where_at(old: u64, at: Option<u64>, new: Option<u64>) -> Option<u64>
+    ensures { result ≡ where_at old at new }
+{
+    match at {
+        Some(place) if place == old => new,
+        _ => at,
+    }
+}
+
+/// The put that stands at its key after an operation at this place that was done.
+fn place_left(place: u64, op: &Op, at: Option<u64>) -> Option<u64>
+    ensures { result ≡ place_left place op.now at }
+{
+    match op {
+        Op::Get { .. } | Op::List { .. } => at,
+        Op::PutNew { .. } => at.or(Some(place)),
+        Op::PutOver { old, .. } => where_at(old.0, at, Some(place)),
+        Op::Remove { .. } => None,
+        Op::RemoveAt { old, .. } => where_at(old.0, at, None),
+    }
+}
+
+/// The put that stands at its key after an operation at this place.
+pub(crate) fn left_by(op: &Op, done: bool, place: u64, at: Option<u64>) -> Option<u64>
+    ensures { result ≡ (if done then place_left place op.now at else at) }
+{
+    if done { place_left(place, op, at) } else { at }
+}
