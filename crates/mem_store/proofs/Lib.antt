@@ -5,6 +5,8 @@ pub mod Orders
 pub mod Parts
 pub mod Following
 pub mod Changing
+pub mod Told
+pub mod Indexed
 pub mod Listings
 pub mod Times
 pub mod Calls
