@@ -3,5 +3,6 @@ pub mod Rows
 pub mod Memory
 pub mod Plans
 pub mod Failing
+pub mod Shelves
 pub mod Places
 pub mod Logs

@@ -1,25 +1,21 @@
 -- Which put stands at each key, as the code keeps it.
-use Rattle.std.specs.Prelude.{ℕ, ◌==◌, Bool, true, false, if◌then◌else◌, Option, Some, None, slice_get}
-use Rattle.std.specs.Option.{option_and_then}
-use Rattle.std.specs.BTreeMap.{BTreeMap, get}
+use Rattle.std.specs.Prelude.{ℕ, ◌==◌, Bool, true, false, if◌then◌else◌, Option, Some, None}
+use Rattle.std.specs.BTreeMap.{BTreeMap}
 use Rattle.store_api.specs.declared.keys.Key.{Key}
 use Rattle.store_api.specs.declared.keys.Part.{Part}
 use Rattle.store_api.specs.declared.events.Op.{Op}
 use Rattle.store_api.specs.declared.events.Op.TheVariants.{Get, PutNew, PutOver, Remove, RemoveAt, List as ListPart}
-use Rattle.store_api.specs.Machine.{part_of, is_on}
-use Rattle.store_api.specs.Orders.{place_of, key_cmp}
+use Rattle.store_api.specs.Machine.{is_on}
 use Rattle.mem_store.specs.declared.index.Index.{Index}
+use Rattle.mem_store.specs.Shelves.{shelf_at, place_at}
 
 -- the map of a part
 abbrev pub shelf_of : Index → Part → Option (BTreeMap Key ℕ)
-shelf_of index part = slice_get index.shelves (place_of part)
-
-abbrev pub place_on : Option (BTreeMap Key ℕ) → Key → Option ℕ
-place_on shelf key = option_and_then (λ (places : BTreeMap Key ℕ). get key_cmp places key) shelf
+shelf_of index part = shelf_at index.shelves part
 
 -- the position of the put that stands at a key
 abbrev pub place_in : Index → Key → Option ℕ
-place_in index key = place_on (shelf_of index (part_of key)) key
+place_in index key = place_at index.shelves key
 
 abbrev pub where_none : Option ℕ → ℕ → Option ℕ
 where_none None place = Some place

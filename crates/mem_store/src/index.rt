@@ -1,8 +1,6 @@
 //! Which put stands at each key.
 
-ghost use Rattle.std.specs.Prelude.{◌≡◌, Bool, if◌then◌else◌, IfOk, OnErr, OnOk};
-ghost use Rattle.store_api.specs.Machine.{same_key};
-ghost use Rattle.mem_store.specs.Places.{shelf_of, place_in, place_left, place_after};
+ghost use Rattle.mem_store.specs.Shelves.{IsSorted};
 
 use crate::logs::{key_of, left_by};
 use std::alloc::{AllocError, Global};
@@ -13,10 +11,13 @@ use store_api::{Key, Op, Part};
 #[derive(Debug, Drop)]
 pub(crate) struct Index {
     shelves: [BTreeMap<Key, u64>; Part::COUNT],
+    ghost sorted: { IsSorted shelves },
 }
 
 impl Index {
-    ghost use Rattle.std.specs.Prelude.{None};
+    ghost use Rattle.std.specs.Prelude.{◌≡◌, Bool, if◌then◌else◌, None, OnErr, OnOk};
+    ghost use Rattle.store_api.specs.Machine.{same_key};
+    ghost use Rattle.mem_store.specs.Places.{shelf_of, place_in, place_after};
     ghost use Rattle.store_api.specs.declared.keys.Key.{Key as Name};
 
     /// Where nothing stands.
