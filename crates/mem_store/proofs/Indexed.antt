@@ -7,9 +7,11 @@ use Rattle.store_api.specs.declared.events.Op.TheVariants.{Get, PutNew, PutOver,
 use Rattle.store_api.specs.declared.events.Event.{Event}
 use Rattle.store_api.specs.Machine.{Stored, Slot, is_on, was_done, leaves, effect, slot_of, found}
 use Rattle.store_api.proofs.Slots.{slot-append_one, sound}
+use Rattle.mem_store.specs.declared.logs.Answer.{Answer}
+use Rattle.mem_store.specs.declared.logs.Answer.TheVariants.{Stood, Listed, Failed}
 use Rattle.mem_store.specs.Held.{slot_with}
 use Rattle.mem_store.specs.Places.{place_left, place_after}
-use Rattle.mem_store.specs.Logs.{bytes_put, put_by, put_in, puts_in}
+use Rattle.mem_store.specs.Logs.{bytes_put, put_by, put_in, puts_in, reply_in, is_done}
 use Rattle.mem_store.proofs.HeldLemmas.{effect-stands}
 use Rattle.mem_store.proofs.Told.{get-before, get-seam}
 
@@ -64,3 +66,14 @@ indexed-more journal event key at e =
     ∙ (ap (λ (o : Option Stored). (effect key n (slot_with o) event).stands) e
     ∙ (sym (effect-stands key n (slot_of journal key) event)
     ∙ ap (λ (s : Slot). s.stands) (sym (slot-append_one journal event key))))
+
+-- an answer is of an operation that took effect where its reply is
+pub done-reply : (journal : List Event) (now : ℕ) (op : Op) (answer : Answer) → was_done (reply_in journal now op answer) ≡ is_done answer
+done-reply journal now (Get key) (Stood at) = refl
+done-reply journal now (PutNew key bytes why) (Stood at) = refl
+done-reply journal now (PutOver key bytes old why) (Stood at) = refl
+done-reply journal now (Remove key why) (Stood at) = refl
+done-reply journal now (RemoveAt key old why) (Stood at) = refl
+done-reply journal now (ListPart part) (Stood at) = refl
+done-reply journal now op (Listed entries) = refl
+done-reply journal now op (Failed done) = refl

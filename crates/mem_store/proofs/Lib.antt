@@ -7,6 +7,7 @@ pub mod Following
 pub mod Changing
 pub mod Told
 pub mod Indexed
+pub mod Shelved
 pub mod Listings
 pub mod Times
 pub mod Calls

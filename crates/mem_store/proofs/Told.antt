@@ -112,3 +112,12 @@ pub told-last : (logs : List Logged) (log : Logged) → slice_get logs (length l
 told-last logs log e =
     time-last (told logs) (event_in (told (take (length logs - 1) logs)) log)
     (ap (λ (n : ℕ). slice_get (told logs) (n - 1)) (length-told logs) ∙ told-at logs (length logs - 1) log e)
+
+pub told-first : (logs : List Logged) → slice_get logs (length logs - 1) ≡ None → last_time (told logs) ≡ 0
+told-first [] e = ap last_time told-empty
+told-first (log ∷ logs) e = absurd (present (log ∷ logs) (length (log ∷ logs) - 1) (omega arith) e)
+  where
+    present : (xs : List Logged) (i : ℕ) → i < length xs → slice_get xs i ≡ None → ⊥
+    present [] i l e = omega (arith, l)
+    present (x ∷ xs) zero l e = cc
+    present (x ∷ xs) (suc i) l e = present xs i (omega (arith, l)) e

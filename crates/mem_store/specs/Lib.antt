@@ -6,3 +6,6 @@ pub mod Failing
 pub mod Shelves
 pub mod Places
 pub mod Logs
+pub mod Kept
+pub mod Listed
+pub mod Times

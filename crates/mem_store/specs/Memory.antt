@@ -8,6 +8,7 @@ use Rattle.store_api.specs.declared.events.StoreFault.TheVariants.{Failed, NoMem
 use Rattle.store_api.specs.Machine.{found, last_time, IsHonest}
 use Rattle.store_api.specs.Callers.{Caller, View, own_event}
 use Rattle.mem_store.specs.declared.mem.MemStore.{MemStore}
+use Rattle.mem_store.specs.Times.{IsTime}
 
 -- a client that is told the journal and beside which there is no other
 abbrev pub sole : ℕ → Caller
@@ -25,12 +26,6 @@ clock_of s = s.clock
 -- It never fails, so its count of faults stays 0.
 abbrev pub view_of : {C : Type 0} → MemStore C → View
 view_of s = record { caller = sole (client_of s); seen = journal_of s; faults = 0 }
-
--- the greater of the moment that the clock gave and the time of the last operation
-pub record IsTime {C : Type 0} (gives : C → ℕ → C → Type 0) (old new : C) (last time : ℕ) : Type 0 where
-  pub moment : ℕ
-  pub given : gives old moment new
-  pub is : time ≡ max moment last
 
 -- Exactly one event has come: the client's own, with this operation and this reply.
 pub record Adds {C : Type 0} (gives : C → ℕ → C → Type 0) (op : Op) (reply : Reply) (old new : MemStore C) : Type 0 where

@@ -5,6 +5,7 @@
 mod answers;
 mod faults;
 mod index;
+mod journal;
 mod listing;
 mod logs;
 mod mem;

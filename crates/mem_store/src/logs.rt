@@ -2,10 +2,13 @@
 
 ghost use Rattle.std.specs.Prelude.{◌≡◌, if◌then◌else◌};
 ghost use Rattle.std.specs.Option.{option_copied};
+ghost use Rattle.store_api.specs.Machine.{last_time};
+ghost use Rattle.mem_store.specs.Held.{stored_of};
 ghost use Rattle.mem_store.specs.Rows.{key_in};
 ghost use Rattle.mem_store.specs.Places.{place_left, where_at};
-ghost use Rattle.mem_store.specs.Logs.{is_done, bytes_put};
+ghost use Rattle.mem_store.specs.Logs.{is_done, bytes_put, put_in, told};
 
+use crate::answers::Held;
 use store_api::{Entries, Key, Op};
 
 /// What an operation was answered by. The reply follows from it: the bytes of an object stand in
@@ -93,4 +96,32 @@ pub(crate) fn left_by(op: &Op, done: bool, place: u64, at: Option<u64>) -> Optio
     ensures { result ≡ (if done then place_left place op.now at else at) }
 {
     if done { place_left(place, op, at) } else { at }
+}
+
+/// The time of the last event, and 0 before the first.
+pub(crate) fn last_time(logs: &[Logged]) -> u64
+    ensures { result ≡ last_time (told logs.now) }
+{
+    match logs.last() {
+        None => 0,
+        Some(log) => log.time,
+    }
+}
+
+/// What the put at this place put.
+pub(crate) fn put_in(logs: &[Logged], place: u64) -> Held<'_>
+    ensures { stored_of result ≡ put_in (told logs.now) place }
+{
+    match logs.get(place as usize) {
+        None => Held {
+            bytes: &[],
+            version: place,
+            created: 0,
+        },
+        Some(log) => Held {
+            bytes: bytes_put(&log.op),
+            version: place,
+            created: log.time,
+        },
+    }
 }
