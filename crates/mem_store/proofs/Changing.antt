@@ -7,7 +7,7 @@ use Rattle.store_api.specs.declared.events.Op.{Op}
 use Rattle.store_api.specs.declared.events.Op.TheVariants.{Get, PutNew, PutOver, Remove, RemoveAt, List as ListPart}
 use Rattle.store_api.specs.Machine.{same_key, is_on}
 use Rattle.store_api.proofs.Slots.{same_key-true}
-use Rattle.mem_store.specs.Rows.{key_in}
+use Rattle.mem_store.specs.Logs.{key_in}
 use Rattle.mem_store.specs.Places.{place_left, place_after}
 
 on-none : (key : Key) (op : Op) → key_in op ≡ None → is_on key op ≡ false

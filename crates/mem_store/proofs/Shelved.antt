@@ -8,7 +8,6 @@ use Rattle.std.specs.BTreeMap.{BTreeMap, get, keys, is_at, IsOrdered}
 use Rattle.std.specs.Cmp.{IsTotalOrder}
 use Rattle.std.proofs.lemmas.Bool.{cases_eq}
 use Rattle.std.proofs.lemmas.Cmp.{nat_cmp_total, tied_itself}
-
 use Rattle.std.proofs.lemmas.Map.Entries.{place_from_lookup, btree_map_get_place}
 use Rattle.std.proofs.lemmas.Map.Keys.{Less-from_sorted}
 use Rattle.std.proofs.lemmas.Option.{slice_get-map, slice_get_within, get_or_from_slice_get}
@@ -56,10 +55,10 @@ module _ (journal : List Event) (shelves : List (BTreeMap Key ℕ)) (part : Part
 
   part-is : (key : Key) (v : ℕ) → get key_cmp shelf key ≡ Some v → part_of key ≡ part
   part-is key v e = elim (cases_eq (place_of (part_of key)) (place_of part)) [
-      | inl same ↦ part-same (part_of key) part same
-      | inr other ↦
-          let bad : get key_cmp shelf key ≡ None = ap (λ (o : Option (BTreeMap Key ℕ)). place_on o key) (sym is.here) ∙ is.sorted part key other in cc
-    ]
+    | inl same ↦ part-same (part_of key) part same
+    | inr other ↦
+        let bad : get key_cmp shelf key ≡ None = ap (λ (o : Option (BTreeMap Key ℕ)). place_on o key) (sym is.here) ∙ is.sorted part key other in cc
+  ]
 
   stands : (key : Key) (v : ℕ) → get key_cmp shelf key ≡ Some v → found journal key ≡ Some (put_in journal v)
   stands key v e = sym (is.indexed key) ∙ ap (puts_in journal) (placed key (part-is key v e) ∙ e)
@@ -114,8 +113,8 @@ module _ (journal : List Event) (shelves : List (BTreeMap Key ℕ)) (part : Part
       let key-k : slice_get (keys shelf) k ≡ Some b = slice_get-map (λ (x : Key × ℕ). x.0) shelf.entries k ∙ ap (λ (o : Option (Key × ℕ)). option_map (λ (x : Key × ℕ). x.0) o) second.1 in
       let less : key_cmp (get_or (keys shelf) j a) (get_or (keys shelf) k a) ≡ Less = Less-from_sorted key_cmp (keys shelf) j k a is.ordered l (slice_get_within (keys shelf) k b key-k) in
       let less-keys : key_cmp a b ≡ Less =
-        ap (λ (x : Key). key_cmp x b) (sym (get_or_from_slice_get (keys shelf) j a a key-j))
-        ∙ (ap (λ (x : Key). key_cmp (get_or (keys shelf) j a) x) (sym (get_or_from_slice_get (keys shelf) k b a key-k)) ∙ less) in
+      ap (λ (x : Key). key_cmp x b) (sym (get_or_from_slice_get (keys shelf) j a a key-j))
+      ∙ (ap (λ (x : Key). key_cmp (get_or (keys shelf) j a) x) (sym (get_or_from_slice_get (keys shelf) k b a key-k)) ∙ less) in
       let part-a : part_of a ≡ part = part-is a first.0.1 (btree_map_get_place key_total shelf j a first.0.1 is.ordered first.1) in
       let part-b : part_of b ≡ part = part-is b second.0.1 (btree_map_get_place key_total shelf k b second.0.1 is.ordered second.1) in
       ap (λ (x : Entry). listing_cmp x.key e.key) first.2

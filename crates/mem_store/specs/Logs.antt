@@ -1,5 +1,6 @@
 -- The journal as the code keeps it: a reply that a put's bytes answered holds the put's position alone.
 use Rattle.std.specs.Prelude.{ℕ, Bool, true, false, List, [], ◌∷◌, ◌++◌, length, Option, Some, None, option_map, slice_get}
+use Rattle.store_api.specs.declared.keys.Key.{Key}
 use Rattle.store_api.specs.declared.events.Op.{Op}
 use Rattle.store_api.specs.declared.events.Op.TheVariants.{Get, PutNew, PutOver, Remove, RemoveAt, List as ListPart}
 use Rattle.store_api.specs.declared.events.Reply.{Reply}
@@ -9,6 +10,15 @@ use Rattle.store_api.specs.Machine.{Stored, got_of, new_of, over_of, gone_of, go
 use Rattle.mem_store.specs.declared.logs.Answer.{Answer}
 use Rattle.mem_store.specs.declared.logs.Answer.TheVariants.{Stood, Listed, Failed}
 use Rattle.mem_store.specs.declared.logs.Logged.{Logged}
+
+-- the key that an operation is on
+abbrev pub key_in : Op → Option Key
+key_in (Get k) = Some k
+key_in (PutNew k bytes why) = Some k
+key_in (PutOver k bytes old why) = Some k
+key_in (Remove k why) = Some k
+key_in (RemoveAt k old why) = Some k
+key_in (ListPart part) = None
 
 -- the bytes that an operation puts
 abbrev pub bytes_put : Op → List ℕ

@@ -1,8 +1,11 @@
 //! The journal, and which puts stand after it.
 
+ghost use Rattle.std.specs.Prelude.{◌≡◌, IfOk};
+
 use crate::answers::Held;
+use crate::events::EventRef;
 use crate::index::Index;
-use crate::logs::{Answer, Logged, last_time, put_in};
+use crate::logs::{Answer, Logged, event_at, last_time, put_in};
 use ice_base::Clock;
 use std::alloc::{AllocError, Global};
 use std::collections::btree_map::Iter;
@@ -30,9 +33,10 @@ impl Model for Journal {
 }
 
 impl Journal {
-    ghost use Rattle.std.specs.Prelude.{◌≡◌, ◌<◌, ◌^◌, ◌++◌, [], ◌∷◌, length, IfOk, OnErr};
+    ghost use Rattle.std.specs.Prelude.{◌≡◌, ◌<◌, ◌^◌, ◌++◌, [], ◌∷◌, length, option_map, slice_get, IfOk, OnErr};
     ghost use Rattle.store_api.specs.Machine.{found, last_time, IsListing};
     ghost use Rattle.mem_store.specs.Held.{stored_of};
+    ghost use Rattle.mem_store.specs.Lent.{event_lent};
     ghost use Rattle.mem_store.specs.Times.{IsTime};
     ghost use Rattle.mem_store.specs.Logs.{put_in, puts_in, event_in};
     ghost use Rattle.mem_store.specs.Listed.{entries_in};
@@ -52,6 +56,13 @@ impl Journal {
         ensures { result ≡ length self.now }
     {
         self.logs.len()
+    }
+
+    /// The event at a place.
+    pub(crate) fn event(&self, place: usize) -> Option<EventRef<'_>>
+        ensures { option_map event_lent result ≡ slice_get self.now place }
+    {
+        event_at(&self.logs, place)
     }
 
     /// The put that stands at a key.
@@ -122,4 +133,19 @@ impl Journal {
             Err(_) => unreachable!(),
         }
     }
+}
+
+/// A copy of entries.
+pub(crate) fn copy(alloc: Global, entries: &[Entry]) -> Result<Entries, AllocError>
+    ensures { IfOk result (λ copy. copy ≡ entries.now) }
+{
+    let mut list = Vec::new(alloc);
+    for entry in entries {
+        list.push(Entry {
+            key: entry.key.copy(alloc)?,
+            size: entry.size,
+            created: entry.created,
+        })?;
+    }
+    Ok(Entries::from_vec(list))
 }

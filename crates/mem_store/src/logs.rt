@@ -1,15 +1,16 @@
 //! The events of the journal, as they are kept.
 
-ghost use Rattle.std.specs.Prelude.{◌≡◌, if◌then◌else◌};
+ghost use Rattle.std.specs.Prelude.{◌≡◌, length, option_map, slice_get, if◌then◌else◌};
 ghost use Rattle.std.specs.Option.{option_copied};
-ghost use Rattle.store_api.specs.Machine.{last_time};
+ghost use Rattle.store_api.specs.Machine.{last_time, got_of};
 ghost use Rattle.mem_store.specs.Held.{stored_of};
-ghost use Rattle.mem_store.specs.Rows.{key_in};
+ghost use Rattle.mem_store.specs.Lent.{reply_lent, event_lent};
 ghost use Rattle.mem_store.specs.Places.{place_left, where_at};
-ghost use Rattle.mem_store.specs.Logs.{is_done, bytes_put, put_in, told};
+ghost use Rattle.mem_store.specs.Logs.{key_in, is_done, bytes_put, put_in, puts_in, answered_by, reply_in, told};
 
-use crate::answers::Held;
-use store_api::{Entries, Key, Op};
+use crate::answers::{Held, gone_answer, gone_at_answer, new_answer, over_answer};
+use crate::events::{EventRef, ReplyRef};
+use store_api::{Entries, Key, Op, Reply, Version};
 
 /// What an operation was answered by. The reply follows from it: the bytes of an object stand in
 /// the event of their put alone.
@@ -124,4 +125,64 @@ pub(crate) fn put_in(logs: &[Logged], place: u64) -> Held<'_>
             created: log.time,
         },
     }
+}
+
+/// What an operation after these events answers, where the put `at` stands at its key.
+fn answered<'a>(before: &'a [Logged], op: &Op, at: Option<u64>, now: u64) -> ReplyRef<'a>
+    ensures { reply_lent result ≡ answered_by (length (told before.now)) now op.now (puts_in (told before.now) at) }
+{
+    let place = before.len() as u64;
+    match op {
+        Op::Get { .. } => found(before, at, now),
+        Op::PutNew { .. } => ReplyRef::New(new_answer(at, place, now)),
+        Op::PutOver { old, .. } => ReplyRef::Over(over_answer(at, *old, place, now)),
+        Op::Remove { .. } => ReplyRef::Gone(gone_answer(at, now)),
+        Op::RemoveAt { old, .. } => ReplyRef::GoneAt(gone_at_answer(at, *old, now)),
+        Op::List { .. } => ReplyRef::Listed { entries: &[], now },
+    }
+}
+
+/// What a get after these events answers.
+fn found(before: &[Logged], at: Option<u64>, now: u64) -> ReplyRef<'_>
+    ensures { reply_lent result ≡ Reply.Got (got_of now (puts_in (told before.now) at)) }
+{
+    let Some(place) = at else {
+        return ReplyRef::Absent { now };
+    };
+    let put = put_in(before, place);
+    ReplyRef::Found {
+        bytes: put.bytes,
+        version: Version(put.version),
+        now,
+    }
+}
+
+/// The reply of an event after these.
+fn reply_in<'a>(before: &'a [Logged], log: &'a Logged) -> ReplyRef<'a>
+    ensures { reply_lent result ≡ reply_in (told before.now) log.now.time log.now.op log.now.answer }
+{
+    match &log.answer {
+        Answer::Stood(at) => answered(before, &log.op, *at, log.time),
+        Answer::Listed(entries) => ReplyRef::Listed {
+            entries: entries.as_slice(),
+            now: log.time,
+        },
+        Answer::Failed(done) => ReplyRef::Failed { done: *done },
+    }
+}
+
+/// The event at a place.
+pub(crate) fn event_at(logs: &[Logged], place: usize) -> Option<EventRef<'_>>
+    ensures { option_map event_lent result ≡ slice_get (told logs.now) place }
+{
+    if logs.len() <= place {
+        return None;
+    }
+    let log = &logs[place];
+    Some(EventRef {
+        client: log.client,
+        op: &log.op,
+        reply: reply_in(&logs[..place], log),
+        time: log.time,
+    })
 }

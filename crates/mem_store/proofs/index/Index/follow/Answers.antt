@@ -1,7 +1,7 @@
 use Rattle.std.proofs.Common.{◌≡◌, ◌∙◌, ℕ, Bool, cond, Option, Some, None, sym, ap, rules}
 use Rattle.store_api.specs.declared.keys.Key.{Key}
 use Rattle.store_api.specs.Machine.{same_key}
-use Rattle.mem_store.specs.Rows.{key_in}
+use Rattle.mem_store.specs.Logs.{key_in}
 use Rattle.mem_store.specs.Places.{place_in, place_left}
 use Rattle.mem_store.proofs.Changing.{after-some, after-same, same-option, OnOk-then}
 use Rattle.mem_store.proofs.index.Index.follow.Goals as goal
@@ -30,5 +30,5 @@ returns-in_ok-copy-in-Some-left-clause-ok c =
     let named : c.in_ok-copy-in-Some-left.field-0 ≡ k = search rules in
     let left : Some place ≡ cond c.args.done (place_left c.args.place c.args.op.now (f k)) (f k) = sym c.in-Some-left.is ∙ (c.left_by-left.ensures ∙ ap (λ (at : Option ℕ). cond c.args.done (place_left c.args.place c.args.op.now at) at) c.place-at.ensures) in
     OnOk-then c.enter.result c.enter.ensures.ok (λ entered. λ q. entered q
-      ∙ (ap (λ (x : Key). cond (same_key x q) (Some place) (f q)) named
-      ∙ after-some f c.args.place c.args.op.now c.args.done k q (Some place) on left))
+    ∙ (ap (λ (x : Key). cond (same_key x q) (Some place) (f q)) named
+    ∙ after-some f c.args.place c.args.op.now c.args.done k q (Some place) on left))

@@ -1,11 +1,12 @@
-//! One of each operation, failures by plan, and a listing.
+//! Stores in memory: one of each operation, failures by plan, a listing, and a journal of many events.
 
-use crate::{FaultStore, MemStore};
 use ice_base::{Clock, RefName, TickClock};
+use ice_ids::Id12;
+use mem_store::{FaultStore, MemStore, ReplyRef};
 use std::alloc::Global;
 use std::test::Fail;
 use store_api::{
-    Base, Gone, GoneAt, Got, Key, New, Over, Part, Reply, Store, StoreFault, Version, Why,
+    Base, Gone, GoneAt, Got, Key, New, Over, Part, Store, StoreFault, Version, Why,
 };
 
 fn branch(alloc: Global, name: &str) -> Result<Key, Fail> {
@@ -148,12 +149,79 @@ fn failures_by_plan(rt: HostRuntime) -> Result<(), Fail> {
             }
         )
     );
-    let [_, failed, _, done, _] = store.events() else {
-        return Err("not five events".into());
+    assert_eq!(rt; store.inner().number_of_events(), 5);
+    let Some(failed) = store.inner().event(1) else {
+        return Err("no event 1".into());
     };
-    assert!(rt; matches!(failed.reply, Reply::Failed { done: false }));
-    assert!(rt; matches!(done.reply, Reply::Failed { done: true }));
+    assert!(rt; matches!(failed.reply, ReplyRef::Failed { done: false }));
+    let Some(done) = store.inner().event(3) else {
+        return Err("no event 3".into());
+    };
+    assert!(rt; matches!(done.reply, ReplyRef::Failed { done: true }));
     assert_eq!(rt; (done.client, done.time), (7, 3));
+    Ok(())
+}
+
+/// The journal tells the bytes that a get found, also after they were put over.
+#[test]
+fn bytes_that_were_found(rt: HostRuntime) -> Result<(), Fail> {
+    let key = branch(rt.alloc(), "main")?;
+    let mut store = MemStore::new(rt.alloc(), TickClock::new());
+    store.put_new(&key, b"one", Why::Init)?;
+    store.get(&key)?;
+    store.put_over(&key, b"two", Version(0), Why::Reset)?;
+    store.remove(&key, Why::Drop)?;
+    let Some(event) = store.event(1) else {
+        return Err("no event 1".into());
+    };
+    let ReplyRef::Found { bytes, version, .. } = event.reply else {
+        return Err("absent".into());
+    };
+    assert_eq!(rt; (bytes, version), (b"one".as_slice(), Version(0)));
+    assert!(rt; store.event(4).is_none());
+    Ok(())
+}
+
+/// What stands is told without an event.
+#[test]
+fn what_stands(rt: HostRuntime) -> Result<(), Fail> {
+    let key = branch(rt.alloc(), "main")?;
+    let mut store = MemStore::new(rt.alloc(), TickClock::new());
+    store.put_new(&key, b"one", Why::Init)?;
+    store.put_new(&key, b"two", Why::Init)?;
+    assert_eq!(rt; store.standing(&key), Some(Version(0)));
+    store.put_over(&key, b"three", Version(0), Why::Reset)?;
+    assert_eq!(rt; store.standing(&key), Some(Version(2)));
+    store.remove(&key, Why::Drop)?;
+    assert_eq!(rt; store.standing(&key), None);
+    assert_eq!(rt; store.number_of_events(), 4);
+    Ok(())
+}
+
+/// The key of a chunk; the keys ascend with the number.
+fn chunk(number: u32) -> Key {
+    let [a, b, c, d] = number.to_be_bytes();
+    Key::Chunk(Id12([a, b, c, d, 0, 0, 0, 0, 0, 0, 0, 0]))
+}
+
+const PUTS: u32 = 200_000;
+
+const GETS: u32 = 400_000;
+
+/// An operation reads what stands, and not the journal: a walk over the journal would make more than
+/// 100,000,000,000 turns here.
+#[test]
+fn many_events(rt: HostRuntime) -> Result<(), Fail> {
+    let mut store = MemStore::new(rt.alloc(), TickClock::new());
+    for number in 0..PUTS {
+        store.put_new(&chunk(number), b"x", Why::Set)?;
+    }
+    let first = chunk(0);
+    for _ in 0..GETS {
+        store.get(&first)?;
+    }
+    assert_eq!(rt; store.number_of_events(), 600_000);
+    assert_eq!(rt; store.standing(&first), Some(Version(0)));
     Ok(())
 }
 
