@@ -175,10 +175,9 @@ fn reply_in<'a>(before: &'a [Logged], log: &'a Logged) -> ReplyRef<'a>
 pub(crate) fn event_at(logs: &[Logged], place: usize) -> Option<EventRef<'_>>
     ensures { option_map event_lent result ≡ slice_get (told logs.now) place }
 {
-    if logs.len() <= place {
+    let Some(log) = logs.get(place) else {
         return None;
-    }
-    let log = &logs[place];
+    };
     Some(EventRef {
         client: log.client,
         op: &log.op,
