@@ -7,6 +7,8 @@ mod ends;
 #[cfg(test)]
 mod grids;
 #[cfg(test)]
+mod mem_store;
+#[cfg(test)]
 mod reports;
 #[cfg(test)]
 mod tables;

@@ -1,6 +1,6 @@
 -- What an operation of a store in memory does is what the trait of a store asks.
-use Rattle.std.proofs.Common.{◌≡◌, ℕ, ◌≤◌, List, [], ◌∷◌, ◌++◌, length, sym, ◌∙◌, ap, subst, arith}
-use Rattle.std.specs.Prelude.{Result, Ok, Err, IfOk}
+use Rattle.std.proofs.Common.{◌≡◌, ℕ, ◌≤◌, List, [], ◌∷◌, ◌++◌, length, Bool, refl, sym, ◌∙◌, ap, subst, arith}
+use Rattle.std.specs.Prelude.{Result, Ok, Err, IfOk, IsOk}
 use Rattle.store_api.specs.declared.events.Op.{Op}
 use Rattle.store_api.specs.declared.events.Reply.{Reply}
 use Rattle.store_api.specs.declared.events.Reply.TheVariants.{Got, New, Over, Gone, GoneAt, Listed, Failed as Reply_failed}
@@ -11,7 +11,10 @@ use Rattle.store_api.specs.Machine.{found, last_time, IsHonest, UnlessFailed}
 use Rattle.store_api.specs.Callers.{Makes, Called, own_event}
 use Rattle.store_api.proofs.Programs.{Waits-same, Makes-alone}
 use Rattle.mem_store.specs.declared.mem.MemStore.{MemStore}
-use Rattle.mem_store.specs.Memory.{sole, journal_of, client_of, clock_of, view_of, Adds, Answers, IsUnchanged, IsBegun, Exactly}
+use Rattle.mem_store.specs.Memory.{sole, journal_of, client_of, clock_of, view_of, Adds, Answers, IsUnchanged, IsLogged, Exactly}
+use Rattle.mem_store.specs.declared.logs.Answer.{Answer}
+use Rattle.mem_store.specs.declared.logs.Answer.TheVariants.{Failed as Kept_failed}
+use Rattle.mem_store.specs.Logs.{reply_in}
 
 pub unless-holds : (P : Reply → Type 0) (reply : Reply) → P reply → UnlessFailed P reply
 unless-holds P (Reply_failed done) p = tt
@@ -51,21 +54,28 @@ Called-fault reply op NoMemory old new e x = record {
   counted = omega arith;
 }
 
--- an operation that was begun, and then its event
-abbrev pub Adds-begun : {C : Type 0} (gives : C → ℕ → C → Type 0) (op asked : Op) (reply : Reply) (time : ℕ) (old mid new : MemStore C) → IsBegun gives old mid time → op ≡ asked → journal_of new ≡ journal_of mid ++ own_event (sole (client_of mid)) op reply time ∷ [] → client_of new ≡ client_of mid → clock_of new ≡ clock_of mid → Adds gives asked reply old new
-Adds-begun {C} gives op asked reply time old mid new b o journal client clock = record {
+-- the event of an operation that was kept
+pub Adds-logged : {C : Type 0} (gives : C → ℕ → C → Type 0) (op : Op) (answer : Answer) (reply : Reply) (time : ℕ) (old new : MemStore C) → IsLogged gives op answer time old new → reply ≡ reply_in (journal_of old) time op answer → Adds gives op reply old new
+Adds-logged gives op answer reply time old new l e = record {
   time = time;
-  timely = record { moment = b.timely.moment; given = subst (λ (x : C). gives (clock_of old) b.timely.moment x) (sym clock) b.timely.given; is = b.timely.is };
-  fits = b.fits;
-  same = client ∙ b.client;
-  is = journal
-      ∙ (ap (λ (xs : List Event). xs ++ own_event (sole (client_of mid)) op reply time ∷ []) b.journal
-      ∙ (ap (λ (n : ℕ). journal_of old ++ own_event (sole n) op reply time ∷ []) b.client
-      ∙ ap (λ (x : Op). journal_of old ++ own_event (sole (client_of old)) x reply time ∷ []) o));
+  timely = l.timely;
+  fits = l.fits;
+  same = l.same;
+  is = l.is ∙ ap (λ (r : Reply). journal_of old ++ own_event (sole (client_of old)) op r time ∷ []) (sym e);
 }
 
-pub Answers-begun : {C : Type 0} (gives : C → ℕ → C → Type 0) (op asked : Op) (reply : Reply) (time : ℕ) (old mid new : MemStore C) → IsBegun gives old mid time → op ≡ asked → journal_of new ≡ journal_of mid ++ own_event (sole (client_of mid)) op reply time ∷ [] → client_of new ≡ client_of mid → clock_of new ≡ clock_of mid → IsHonest (found (journal_of old)) (length (journal_of old)) time asked reply → Answers gives asked reply old new
-Answers-begun gives op asked reply time old mid new b o journal client clock honest = record { adds = Adds-begun gives op asked reply time old mid new b o journal client clock; honest = honest }
+pub Answers-logged : {C : Type 0} (gives : C → ℕ → C → Type 0) (op : Op) (answer : Answer) (reply : Reply) (time : ℕ) (old new : MemStore C) → IsLogged gives op answer time old new → reply ≡ reply_in (journal_of old) time op answer → IsHonest (found (journal_of old)) (length (journal_of old)) time op reply → Answers gives op reply old new
+unfolding Adds-logged
+Answers-logged gives op answer reply time old new l e honest = record { adds = Adds-logged gives op answer reply time old new l e; honest = honest }
+
+-- the operation that was made is the one that was asked for
+pub logged-op : {C E : Type 0} (gives : C → ℕ → C → Type 0) (asked : Op) (answer : Answer) (time : ℕ) (old new : MemStore C) (r : Result Op E) → IfOk r (λ op. IsLogged gives op answer time old new) → IsOk r → IfOk r (λ op. op ≡ asked) → IsLogged gives asked answer time old new
+logged-op gives asked answer time old new (Ok op) l made e = subst (λ (x : Op). IsLogged gives x answer time old new) e l
+logged-op gives asked answer time old new (Err x) l made e = cc
+
+pub adds_failed : {C E : Type 0} (gives : C → ℕ → C → Type 0) (done : Bool) (time : ℕ) (old new : MemStore C) (r : Result Op E) → IfOk r (λ op. IsLogged gives op (Kept_failed done) time old new) → IfOk r (λ op. Adds gives op (Reply_failed done) old new)
+adds_failed gives done time old new (Ok op) l = Adds-logged gives op (Kept_failed done) (Reply_failed done) time old new l refl
+adds_failed gives done time old new (Err e) l = tt
 
 -- what a fact of an `Ok` says where its value is known
 pub at-ok : {A E : Type 0} (P : A → Type 0) (r : Result A E) (a : A) → r ≡ Ok a → IfOk r P → P a

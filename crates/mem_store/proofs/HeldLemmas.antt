@@ -37,34 +37,8 @@ effect-stands key n slot event =
     (cond-stands (was_done event.reply) _ _ slot (slot_with slot.stands) (leaves-stands n event.time event.op slot) refl)
     refl
 
--- an event on this key that was done, and any other
-pub effect-done : (key : Key) (n : ℕ) (slot : Slot) (event : Event) → is_on key event.op ≡ true → was_done event.reply ≡ true → (effect key n slot event).stands ≡ (leaves n event.time event.op slot).stands
-unfolding effect
-effect-done key n slot event on done = rw (on, done) refl
-
-pub effect-none : (key : Key) (n : ℕ) (slot : Slot) (event : Event) → is_on key event.op && was_done event.reply ≡ false → (effect key n slot event).stands ≡ slot.stands
-unfolding effect
-effect-none key n slot event e = by_tests (is_on key event.op) (was_done event.reply) e
-  where
-    by_tests : (a b : Bool) → a && b ≡ false → (cond a (cond b (leaves n event.time event.op slot) slot) slot).stands ≡ slot.stands
-    by_tests true true e = cc
-    by_tests true false e = refl
-    by_tests false b e = refl
-
 pub found-none : (key : Key) → found [] key ≡ None
 found-none key = ap (λ (s : Slot). s.stands) (slot-none key)
-
--- one more event of the journal
-pub found-more : (journal : List Event) (key : Key) (i : ℕ) (d : Event) (at : Option Stored) → i < length journal → at ≡ found (take i journal) key → (effect key i (slot_with at) (get_or journal i d)).stands ≡ found (take (i + 1) journal) key
-found-more journal key i d at within e =
-    let event : Event = get_or journal i d in
-    let before : List Event = take i journal in
-    let place : length before ≡ i = length-take-le i journal (omega arith) in
-    ap (λ (o : Option Stored). (effect key i (slot_with o) event).stands) e
-    ∙ (sym (effect-stands key i (slot_of before key) event)
-    ∙ (ap (λ (n : ℕ). (effect key n (slot_of before key) event).stands) (sym place)
-    ∙ (ap (λ (s : Slot). s.stands) (sym (slot-append_one before event key))
-    ∙ ap (λ (xs : List Event). found xs key) (sym (take_more journal i d within)))))
 
 -- a copy of what stands is what a get answers
 pub got_from-copy : (now : ℕ) (o : Option Stored) → got_from now (option_map copy_of o) ≡ got_of now o

@@ -1,8 +1,10 @@
+pub mod Ties
+pub mod Placing
 pub mod HeldLemmas
-pub mod Orders
-pub mod Parts
-pub mod Following
-pub mod Listings
+pub mod Changing
+pub mod Told
+pub mod Indexed
+pub mod Shelved
 pub mod Times
 pub mod Calls
 pub mod Failures

@@ -1,5 +1,5 @@
--- What stands at a key, as the code holds it (own).
-use Rattle.std.specs.Prelude.{ℕ, ◌==◌, Bool, false, Option, None, Some, option_map}
+-- What a put put, as the code holds it.
+use Rattle.std.specs.Prelude.{ℕ, Option, None, Some}
 use Rattle.store_api.specs.declared.events.Got.{Got}
 use Rattle.store_api.specs.declared.events.Got.TheVariants.{Found, Absent}
 use Rattle.store_api.specs.Machine.{Stored, Slot, version_at}
@@ -8,14 +8,6 @@ use Rattle.mem_store.specs.declared.answers.Content.{Content}
 
 abbrev pub stored_of : Held → Stored
 stored_of s = record { bytes = s.bytes.now; version = s.version; created = s.created }
-
-abbrev pub stored_at : Option Held → Option Stored
-stored_at at = option_map stored_of at
-
--- this version stands
-abbrev pub stands : Option Stored → ℕ → Bool
-stands None old = false
-stands (Some s) old = s.version == old
 
 -- a key at which this stands
 abbrev pub slot_with : Option Stored → Slot

@@ -1,5 +1,11 @@
 pub mod Held
-pub mod Rows
 pub mod Memory
 pub mod Plans
 pub mod Failing
+pub mod Shelves
+pub mod Places
+pub mod Lent
+pub mod Logs
+pub mod Kept
+pub mod Listed
+pub mod Times

@@ -8,13 +8,16 @@ use Rattle.store_api.specs.declared.events.StoreFault.TheVariants.{Failed, NoMem
 use Rattle.store_api.specs.Machine.{found, last_time, IsHonest}
 use Rattle.store_api.specs.Callers.{Caller, View, own_event}
 use Rattle.mem_store.specs.declared.mem.MemStore.{MemStore}
+use Rattle.mem_store.specs.declared.logs.Answer.{Answer}
+use Rattle.mem_store.specs.Times.{IsTime}
+use Rattle.mem_store.specs.Logs.{event_in}
 
 -- a client that is told the journal and beside which there is no other
 abbrev pub sole : ℕ → Caller
 sole client = record { tells = true; number = client; low = 0; end = None; home = [] }
 
 abbrev pub journal_of : {C : Type 0} → MemStore C → List Event
-journal_of s = s.journal.items
+journal_of s = s.journal
 
 abbrev pub client_of : {C : Type 0} → MemStore C → ℕ
 client_of s = s.client
@@ -25,12 +28,6 @@ clock_of s = s.clock
 -- It never fails, so its count of faults stays 0.
 abbrev pub view_of : {C : Type 0} → MemStore C → View
 view_of s = record { caller = sole (client_of s); seen = journal_of s; faults = 0 }
-
--- the greater of the moment that the clock gave and the time of the last operation
-pub record IsTime {C : Type 0} (gives : C → ℕ → C → Type 0) (old new : C) (last time : ℕ) : Type 0 where
-  pub moment : ℕ
-  pub given : gives old moment new
-  pub is : time ≡ max moment last
 
 -- Exactly one event has come: the client's own, with this operation and this reply.
 pub record Adds {C : Type 0} (gives : C → ℕ → C → Type 0) (op : Op) (reply : Reply) (old new : MemStore C) : Type 0 where
@@ -57,9 +54,9 @@ Exactly gives reply op (Ok a) old new = Answers gives op (reply a) old new
 Exactly gives reply op (Err Failed) old new = ⊥
 Exactly gives reply op (Err NoMemory) old new = IsUnchanged old new
 
--- An operation is begun: its time is known, and no event has come yet.
-pub record IsBegun {C : Type 0} (gives : C → ℕ → C → Type 0) (old new : MemStore C) (time : ℕ) : Type 0 where
+-- Exactly one event has come, the client's own, and it is kept with this answer.
+pub record IsLogged {C : Type 0} (gives : C → ℕ → C → Type 0) (op : Op) (answer : Answer) (time : ℕ) (old new : MemStore C) : Type 0 where
   pub timely : IsTime gives (clock_of old) (clock_of new) (last_time (journal_of old)) time
   pub fits : time < 2 ^ 64
-  pub client : client_of new ≡ client_of old
-  pub journal : journal_of new ≡ journal_of old
+  pub same : client_of new ≡ client_of old
+  pub is : journal_of new ≡ journal_of old ++ event_in (journal_of old) (record { client = client_of old; op = op; answer = answer; time = time }) ∷ []

@@ -2,13 +2,14 @@
 
 ghost use Rattle.std.specs.Prelude.{◌≤◌, length};
 
+use crate::logs::Answer;
 use crate::plans::planned;
 use crate::{MemStore, requests};
 use ice_base::Clock;
 use std::alloc::AllocError;
 use store_api::{
-    Base, Event, Gone, GoneAt, Got, Key, Listed, New, Op, Over, Part, Reply, Store, StoreFault,
-    Version, Why,
+    Base, Gone, GoneAt, Got, Key, Listed, New, Op, Over, Part, Reply, Store, StoreFault, Version,
+    Why,
 };
 
 /// A store in memory that fails the planned calls. A call's number is that of the events since the
@@ -19,7 +20,7 @@ pub struct FaultStore<C> {
     inner: MemStore<C>,
     plan: Vec<(u64, bool)>,
     made_at: usize,
-    ghost within: { made_at ≤ length inner.journal.items },
+    ghost within: { made_at ≤ length inner.journal },
 }
 
 impl<C: Clock> FaultStore<C> {
@@ -42,11 +43,11 @@ impl<C: Clock> FaultStore<C> {
         }
     }
 
-    /// The journal: its events in order.
-    pub fn events(&self) -> &[Event]
-        ensures { result.now ≡ journal_of (inner_of self.now) }
+    /// The store beneath.
+    pub fn inner(&self) -> &MemStore<C>
+        ensures { result.now ≡ inner_of self.now }
     {
-        self.inner.events()
+        &self.inner
     }
 
     /// What is planned for the next call.
@@ -58,6 +59,7 @@ impl<C: Clock> FaultStore<C> {
     }
 
     /// The next operation fails as planned, where there was memory for it.
+    #[tactic(auto, using(crate::proofs::Calls::adds_failed))]
     fn fail(&mut self, op: Result<Op, AllocError>, done: bool) -> StoreFault
         ensures failed { result ≡ StoreFault.Failed → IfOk op (λ op. Adds C.gives op (Reply.Failed done) (inner_of self.old) (inner_of self.new)) }
         ensures made { result ≡ StoreFault.Failed → IsOk op }
@@ -65,11 +67,8 @@ impl<C: Clock> FaultStore<C> {
         ensures plan { plan_of self.new ≡ plan_of self.old }
         ensures made_at { self.new.made_at ≡ self.old.made_at }
     {
-        match self.inner.begin(op) {
-            Ok((op, now)) => {
-                self.inner.add(op, Reply::Failed { done }, now);
-                StoreFault::Failed
-            }
+        match self.inner.log(op, Answer::Failed(done)) {
+            Ok(_) => StoreFault::Failed,
             Err(fault) => fault,
         }
     }

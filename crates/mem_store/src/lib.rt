@@ -3,14 +3,15 @@
 #![tactic(auto)]
 
 mod answers;
+mod events;
 mod faults;
-mod listing;
+mod index;
+mod journal;
+mod logs;
 mod mem;
 mod plans;
 mod requests;
 
+pub use events::{EventRef, ReplyRef};
 pub use faults::FaultStore;
 pub use mem::MemStore;
-
-#[cfg(test)]
-mod tests;

@@ -1,31 +1,34 @@
 //! The store in memory.
 
-ghost use Rattle.std.specs.Prelude.{◌≡◌, ◌<◌, ◌++◌, [], ◌∷◌, refl, true, length, option_map, IfOk, IfErr, vec_len, vec_capacity};
-ghost use Rattle.store_api.specs.Machine.{found, last_time};
-ghost use Rattle.store_api.specs.Callers.{Called, own_event, as_client};
+ghost use Rattle.std.specs.Prelude.{◌≡◌, [], refl, true, length, option_map, slice_get, IfOk, IfErr, OnOk, OnErr, IsOk};
+ghost use Rattle.store_api.specs.Machine.{found, version_at, IsListing};
+ghost use Rattle.store_api.specs.Callers.{Called, as_client};
 ghost use Rattle.mem_store.specs.Held.{copy_of};
-ghost use Rattle.mem_store.specs.Memory.{sole, journal_of, client_of, clock_of, view_of, IsUnchanged, IsBegun, Exactly};
+ghost use Rattle.mem_store.specs.Lent.{event_lent};
+ghost use Rattle.mem_store.specs.Logs.{puts_in};
+ghost use Rattle.mem_store.specs.Memory.{journal_of, client_of, clock_of, view_of, IsLogged, IsUnchanged, Exactly};
 
-use crate::answers::{
-    Content, copied, gone_answer, gone_at_answer, got, new_answer, over_answer, standing,
-};
-use crate::listing::listed_twice;
+use crate::answers::{Content, gone_answer, gone_at_answer, got, new_answer, over_answer};
+use crate::events::EventRef;
+use crate::journal::{Journal, copy};
+use crate::logs::Answer;
 use crate::requests;
-use ice_base::Clock;
+use ice_base::{Bytes, Clock};
 use std::alloc::{AllocError, Global};
 use store_api::{
-    Base, Event, Gone, GoneAt, Got, Key, Listed, New, Op, Over, Part, Reply, Store, StoreFault,
+    Base, Entries, Gone, GoneAt, Got, Key, Listed, New, Op, Over, Part, Reply, Store, StoreFault,
     Version, Why,
 };
 
-/// A store in memory: it keeps its journal and answers from it. It never answers `Failed`. An
-/// operation's time is the greater of its clock's moment and the last operation's time.
+/// A store in memory: it keeps its journal, and which put stands at each key, and answers from
+/// them. It never answers `Failed`. An operation's time is the greater of its clock's moment and the
+/// last operation's time. An operation costs a look-up, and a listing what stands in its part.
 #[derive(Debug, Drop)]
 pub struct MemStore<C> {
     alloc: Global,
     clock: C,
     client: u32,
-    journal: Vec<Event>,
+    journal: Journal,
 }
 
 impl<C: Clock> MemStore<C> {
@@ -39,15 +42,8 @@ impl<C: Clock> MemStore<C> {
             alloc,
             clock,
             client: 0,
-            journal: Vec::new(alloc),
+            journal: Journal::new(alloc),
         }
-    }
-
-    /// The journal: its events in order.
-    pub fn events(&self) -> &[Event]
-        ensures { result.now ≡ journal_of self.now }
-    {
-        self.journal.as_slice()
     }
 
     /// How many events there were.
@@ -57,74 +53,72 @@ impl<C: Clock> MemStore<C> {
         self.journal.len()
     }
 
+    /// The event at a place of the journal.
+    pub fn event(&self, place: usize) -> Option<EventRef<'_>>
+        ensures { option_map event_lent result ≡ slice_get (journal_of self.now) place }
+    {
+        self.journal.event(place)
+    }
+
+    /// The version that stands at a key.
+    pub fn standing(&self, key: &Key) -> Option<Version>
+        ensures { result ≡ option_map (λ s. version_at s.version) (found (journal_of self.now) key.now) }
+    {
+        self.journal.place(key).map(Version)
+    }
+
     pub(crate) fn allocator(&self) -> Global
         ensures { result ≡ self.now.alloc }
     {
         self.alloc
     }
 
-    /// The time of the last operation, and 0 before the first.
-    fn last_time(&self) -> u64
-        ensures { result ≡ last_time (journal_of self.now) }
-    {
-        match self.journal.as_slice().last() {
-            None => 0,
-            Some(event) => event.time,
-        }
-    }
-
-    /// Begins an operation that has taken its memory: makes room for its event and then asks the
-    /// clock, so that want of memory leaves the clock too as it was.
-    pub(crate) fn begin<T: Drop>(
+    /// Adds the event of an operation, and tells its time.
+    pub(crate) fn log(
         &mut self,
-        prepared: Result<T, AllocError>,
-    ) -> Result<(T, u64), StoreFault>
-        ensures prepared { IfOk result (λ begun. prepared ≡ Ok begun.0) }
-        ensures begun { IfOk result (λ begun. IsBegun C.gives self.old self.new begun.1) }
-        ensures room { IfOk result (λ begun. vec_len self.new.journal < vec_capacity self.new.journal) }
+        op: Result<Op, AllocError>,
+        answer: Answer,
+    ) -> Result<u64, StoreFault>
+        ensures logged { IfOk result (λ time. IfOk op (λ op. IsLogged C.gives op answer time self.old self.new)) }
+        ensures made { OnOk result (IsOk op) }
         ensures fault { IfErr result (λ fault. fault ≡ StoreFault.NoMemory) }
-        ensures unchanged { IfErr result (λ fault. IsUnchanged self.old self.new) }
+        ensures unchanged { OnErr result (IsUnchanged self.old self.new) }
     {
-        let Ok(prepared) = prepared else {
+        let Ok(op) = op else {
             return Err(StoreFault::NoMemory);
         };
-        if self.journal.reserve(1).is_err() {
-            return Err(StoreFault::NoMemory);
-        }
-        let moment = self.clock.now();
-        Ok((prepared, moment.max(self.last_time())))
-    }
-
-    /// Adds the event of an operation that was begun.
-    pub(crate) fn add(&mut self, op: Op, reply: Reply, time: u64)
-        requires { vec_len self.old.journal < vec_capacity self.old.journal }
-        ensures journal { journal_of self.new ≡ journal_of self.old ++ own_event (sole (client_of self.old)) op reply time ∷ [] }
-        ensures client { client_of self.new ≡ client_of self.old }
-        ensures clock { clock_of self.new ≡ clock_of self.old }
-    {
-        let event = Event {
-            client: self.client,
-            op,
-            reply,
-            time,
-        };
-        match self.journal.push(event) {
-            Ok(()) => {}
-            Err(_) => unreachable!(),
+        let logged = self
+            .journal
+            .add(self.alloc, &mut self.clock, self.client, op, answer);
+        match logged {
+            Ok(time) => Ok(time),
+            Err(_) => Err(StoreFault::NoMemory),
         }
     }
 
-    /// What a get needs: its operation, and two copies of what stands.
-    fn read(&self, key: &Key) -> Result<(Op, Option<Content>, Option<Content>), AllocError>
-        ensures op { IfOk result (λ read. read.0 ≡ Op.Get key.now) }
-        ensures answer { IfOk result (λ read. read.1 ≡ option_map copy_of (found (journal_of self.now) key.now)) }
-        ensures same { IfOk result (λ read. read.2 ≡ read.1) }
+    /// A copy of what a put put.
+    fn copied(&self, at: Option<u64>) -> Result<Option<Content>, AllocError>
+        ensures { IfOk result (λ copied. copied ≡ option_map copy_of (puts_in (journal_of self.now) at)) }
     {
-        let at = standing(&self.journal, key);
-        let answer = copied(self.alloc, at)?;
-        let kept = copied(self.alloc, at)?;
-        let op = requests::get(self.alloc, key)?;
-        Ok((op, answer, kept))
+        let Some(place) = at else {
+            return Ok(None);
+        };
+        let put = self.journal.put(place);
+        let bytes = Bytes::of(self.alloc, put.bytes)?;
+        Ok(Some(Content {
+            bytes,
+            version: Version(put.version),
+        }))
+    }
+
+    /// A listing, for the caller and for the journal.
+    fn listed_twice(&self, part: Part) -> Result<(Entries, Entries), AllocError>
+        ensures listing { IfOk result (λ pair. IsListing (found (journal_of self.now)) part pair.0) }
+        ensures same { IfOk result (λ pair. pair.1 ≡ pair.0) }
+    {
+        let entries = self.journal.listing(self.alloc, part)?;
+        let kept = copy(self.alloc, entries.as_slice())?;
+        Ok((entries, kept))
     }
 }
 
@@ -135,21 +129,24 @@ impl<C: Clock> Store for MemStore<C> {
         ensures call { Called (λ got. Reply.Got got) (Op.Get key.now) result (view_of self.old) (view_of self.new) }
         ensures exact { Exactly C.gives (λ got. Reply.Got got) (Op.Get key.now) result self.old self.new }
     {
-        let read = self.read(key);
-        let ((op, answer, kept), now) = self.begin(read)?;
-        self.add(op, Reply::Got(got(kept, now)), now);
-        Ok(got(answer, now))
+        let at = self.journal.place(key);
+        let Ok(content) = self.copied(at) else {
+            return Err(StoreFault::NoMemory);
+        };
+        let op = requests::get(self.alloc, key);
+        let now = self.log(op, Answer::Stood(at))?;
+        Ok(got(content, now))
     }
 
     fn put_new(&mut self, key: &Key, bytes: &[u8], why: Why) -> Result<New, StoreFault>
         ensures call { Called (λ new. Reply.New new) (Op.PutNew key.now bytes.now why) result (view_of self.old) (view_of self.new) }
         ensures exact { Exactly C.gives (λ new. Reply.New new) (Op.PutNew key.now bytes.now why) result self.old self.new }
     {
+        let at = self.journal.place(key);
+        let place = self.journal.len() as u64;
         let op = requests::put_new(self.alloc, key, bytes, why);
-        let (op, now) = self.begin(op)?;
-        let new = new_answer(&self.journal, key, now);
-        self.add(op, Reply::New(new), now);
-        Ok(new)
+        let now = self.log(op, Answer::Stood(at))?;
+        Ok(new_answer(at, place, now))
     }
 
     fn put_over(
@@ -162,43 +159,41 @@ impl<C: Clock> Store for MemStore<C> {
         ensures call { Called (λ over. Reply.Over over) (Op.PutOver key.now bytes.now old why) result (view_of self.old) (view_of self.new) }
         ensures exact { Exactly C.gives (λ over. Reply.Over over) (Op.PutOver key.now bytes.now old why) result self.old self.new }
     {
+        let at = self.journal.place(key);
+        let place = self.journal.len() as u64;
         let op = requests::put_over(self.alloc, key, bytes, old, why);
-        let (op, now) = self.begin(op)?;
-        let over = over_answer(&self.journal, key, old, now);
-        self.add(op, Reply::Over(over), now);
-        Ok(over)
+        let now = self.log(op, Answer::Stood(at))?;
+        Ok(over_answer(at, old, place, now))
     }
 
     fn remove(&mut self, key: &Key, why: Why) -> Result<Gone, StoreFault>
         ensures call { Called (λ gone. Reply.Gone gone) (Op.Remove key.now why) result (view_of self.old) (view_of self.new) }
         ensures exact { Exactly C.gives (λ gone. Reply.Gone gone) (Op.Remove key.now why) result self.old self.new }
     {
+        let at = self.journal.place(key);
         let op = requests::remove(self.alloc, key, why);
-        let (op, now) = self.begin(op)?;
-        let gone = gone_answer(&self.journal, key, now);
-        self.add(op, Reply::Gone(gone), now);
-        Ok(gone)
+        let now = self.log(op, Answer::Stood(at))?;
+        Ok(gone_answer(at, now))
     }
 
     fn remove_at(&mut self, key: &Key, old: Version, why: Why) -> Result<GoneAt, StoreFault>
         ensures call { Called (λ gone. Reply.GoneAt gone) (Op.RemoveAt key.now old why) result (view_of self.old) (view_of self.new) }
         ensures exact { Exactly C.gives (λ gone. Reply.GoneAt gone) (Op.RemoveAt key.now old why) result self.old self.new }
     {
+        let at = self.journal.place(key);
         let op = requests::remove_at(self.alloc, key, old, why);
-        let (op, now) = self.begin(op)?;
-        let gone = gone_at_answer(&self.journal, key, old, now);
-        self.add(op, Reply::GoneAt(gone), now);
-        Ok(gone)
+        let now = self.log(op, Answer::Stood(at))?;
+        Ok(gone_at_answer(at, old, now))
     }
 
     fn list(&mut self, part: Part) -> Result<Listed, StoreFault>
         ensures call { Called (λ listed. Reply.Listed listed) (Op.List part) result (view_of self.old) (view_of self.new) }
         ensures exact { Exactly C.gives (λ listed. Reply.Listed listed) (Op.List part) result self.old self.new }
     {
-        let listed = listed_twice(self.alloc, &self.journal, part);
-        let ((entries, kept), now) = self.begin(listed)?;
-        let kept = Listed { entries: kept, now };
-        self.add(Op::List { part }, Reply::Listed(kept), now);
+        let Ok((entries, kept)) = self.listed_twice(part) else {
+            return Err(StoreFault::NoMemory);
+        };
+        let now = self.log(Ok(Op::List { part }), Answer::Listed(kept))?;
         Ok(Listed { entries, now })
     }
 }

@@ -1,5 +1,6 @@
 pub mod Names
 pub mod Machine
+pub mod Orders
 pub mod Journal
 pub mod Callers
 pub mod Program

@@ -10,6 +10,7 @@ mod laws;
 mod machines;
 mod names;
 mod operations;
+mod orders;
 mod running;
 
 pub use driving::{Machine, Payload, Request, ask, drive, perform};

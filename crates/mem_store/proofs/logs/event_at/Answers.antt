@@ -1,0 +1,19 @@
+use Rattle.std.proofs.Common.{◌≡◌, ◌∙◌, ℕ, List, length, take, Option, Some, None, refl, sym, ap, rules}
+use Rattle.std.specs.Prelude.{slice_get}
+use Rattle.std.proofs.lemmas.Option.{slice_get_read}
+use Rattle.store_api.specs.declared.events.Reply.{Reply}
+use Rattle.store_api.specs.declared.events.Event.{Event}
+use Rattle.mem_store.specs.declared.logs.Logged.{Logged}
+use Rattle.mem_store.specs.Lent.{reply_lent}
+use Rattle.mem_store.specs.Logs.{told, event_in, reply_in}
+use Rattle.mem_store.proofs.Told.{told-at, told-past}
+use Rattle.mem_store.proofs.logs.event_at.Goals as goal
+
+pub returns-in_default : goal.returns-in_default
+returns-in_default c = sym (told-past c.args.logs.now c.args.place (search rules))
+
+pub returns : goal.returns
+returns c =
+    let log : Logged = c.in-Some.log.now in
+    let read : slice_get c.args.logs.now c.args.place ≡ Some log = slice_get_read c.args.logs.now (length c.args.logs.now) c.args.place log refl (search rules) (search rules) in
+    ap (λ (r : Reply). Some (record { client = log.client; op = log.op; reply = r; time = log.time })) c.reply_in.ensures ∙ sym (told-at c.args.logs.now c.args.place log read)

@@ -1,0 +1,22 @@
+-- Events that are lent, as the events that they are.
+use Rattle.std.specs.Prelude.{ℕ}
+use Rattle.store_api.specs.declared.events.Got.TheVariants.{Found as Got_found, Absent as Got_absent}
+use Rattle.store_api.specs.declared.events.Reply.{Reply}
+use Rattle.store_api.specs.declared.events.Reply.TheVariants.{Got as Is_got, New as Is_new, Over as Is_over, Gone as Is_gone, GoneAt as Is_gone_at, Listed as Is_listed, Failed as Is_failed}
+use Rattle.store_api.specs.declared.events.Event.{Event}
+use Rattle.mem_store.specs.declared.events.ReplyRef.{ReplyRef}
+use Rattle.mem_store.specs.declared.events.ReplyRef.TheVariants.{Found, Absent, New, Over, Gone, GoneAt, Listed, Failed}
+use Rattle.mem_store.specs.declared.events.EventRef.{EventRef}
+
+abbrev pub reply_lent : ReplyRef → Reply
+reply_lent (Found bytes version now) = Is_got (Got_found bytes.now version now)
+reply_lent (Absent now) = Is_got (Got_absent now)
+reply_lent (New new) = Is_new new
+reply_lent (Over over) = Is_over over
+reply_lent (Gone gone) = Is_gone gone
+reply_lent (GoneAt gone) = Is_gone_at gone
+reply_lent (Listed entries now) = Is_listed (record { entries = entries.now; now = now })
+reply_lent (Failed done) = Is_failed done
+
+abbrev pub event_lent : EventRef → Event
+event_lent event = record { client = event.client; op = event.op.now; reply = reply_lent event.reply; time = event.time }
