@@ -7,8 +7,8 @@ use file_fields::{id_follows, id8, id8_of, id12_of, index_follows, index_of, pay
 use flat_tables::{FileFault, FlatFault, Kind, Table, Vector};
 use ice_ids::Id8;
 use ice_items::Items;
-use tree_model::{ArrayChunks, Ids};
 use std::alloc::Global;
+use tree_model::{ArrayChunks, Ids};
 use zarr_path::Index;
 
 /// Whether an array may stand behind the last one.

@@ -8,9 +8,9 @@ use super::*;
 use flat_tables::{FILE_LIMIT, FileFault, FlatFault, HEADER, HeaderFault, Kind, header_write};
 use ice_ids::{Id8, Id12};
 use ice_items::Items;
-use tree_model::{ArrayChunks, Ids};
 use std::alloc::{AllocError, Global};
 use std::test::Fail;
+use tree_model::{ArrayChunks, Ids};
 use zarr_path::Index;
 
 /// The payload of the log of `sample`, laid out by hand: the root table from place 24 on, ids from 72 and 92 on, the

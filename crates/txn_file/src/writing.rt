@@ -11,8 +11,8 @@ use crate::log::TxnFile;
 use file_fields::{id8_bytes, id8_slot, id12_slot, index_slot};
 use flat_tables::{Flat, Kind, Slot, WriteFault, flat_write, header_write};
 use ice_items::Items;
-use tree_model::{ArrayChunks, Ids};
 use std::alloc::{AllocError, Global};
+use tree_model::{ArrayChunks, Ids};
 use zarr_path::Index;
 
 /// A list of ids.
