@@ -3,7 +3,7 @@ use Rattle.std.proofs.Common.{◌≡◌, ℕ, Bool, true, false, cond, List, dro
 use Rattle.flat_tables.specs.declared.header.Kind.{Kind}
 use Rattle.flat_tables.specs.declared.header.HeaderFault.{HeaderFault}
 use Rattle.flat_tables.specs.declared.fault.FileFault.{FileFault}
-use Rattle.flat_tables.specs.Header.{kind_of, type_of}
+use Rattle.flat_tables.specs.Header.{kind_of}
 use Rattle.flat_tables.specs.Step.{◌>>=◌}
 use Rattle.flat_tables.specs.File.{of_kind, file_of}
 use Rattle.file_fields.specs.Fields.{payload_in}
