@@ -9,6 +9,8 @@ mod grids;
 #[cfg(test)]
 mod reports;
 #[cfg(test)]
+mod run;
+#[cfg(test)]
 mod tables;
 #[cfg(test)]
 mod turns;
