@@ -1,6 +1,6 @@
 -- The histories of a course.
 use Rattle.std.proofs.Common.{◌≡◌, ℕ, ◌<◌, ◌-◌, ◌^◌, inl, inr, List, [], length, refl, sym, ◌∙◌, ap, subst, append-nil, arith}
-use Rattle.std.specs.Prelude.{Option, Some, None, Result, Ok, Err, IsTrue, IfOk, IfErr, map}
+use Rattle.std.specs.Prelude.{Option, Some, None, Result, Ok, Err, IsTrue, IfOk, IfErr}
 use Rattle.std.specs.declared.alloc.AllocError.{AllocError}
 use Rattle.ice_ids.specs.declared.Id12.{Id12}
 use Rattle.ice_ids.specs.declared.drawing.Draw.{Draw}
@@ -31,6 +31,7 @@ use Rattle.run_histories.specs.Told.{HasHistories, RunLaw}
 use Rattle.play_course.specs.declared.course.Played.{Played}
 use Rattle.play_course.specs.Course.{Course, OnlyBegan, Plays}
 use Rattle.play_course.specs.Leaving.{TellsEnds, Leaves}
+use Rattle.play_course.proofs.Playing.{tells-on}
 
 -- ---- the parts of a run
 ran-alone : {A : Type 0} (p : Program A) (result : Result A Refusal) (old new : View) → IsTrue old.caller.tells → HasAll old.caller → Runs old new p result → RanAlone p old.seen new.seen
@@ -42,10 +43,6 @@ ran-alone p result old new told all r = elim r.ends [
 plays-alone : (draw : Draw) (script : Script) (old new : View) (opening : Result (Unit {0}) Refusal) (outcomes : List Outcome) → IsTrue old.caller.tells → Plays draw script old new opening outcomes → PlayedAlone draw script.tasks old.seen new.seen
 plays-alone draw script old new (Ok done) outcomes t p = let r = p.ran.ran in record { own = r.own; is = r.is t; owed = r.careful t }
 plays-alone draw script old new (Err why) outcomes t p = record { own = []; is = ap (λ (v : View). v.seen) p.0 ∙ sym (append-nil old.seen); owed = Each-none (IsOfClient draw script.tasks) old.seen }
-
-pub tells-on : (draw : Draw) (script : Script) (old new : View) (opening : Result (Unit {0}) Refusal) (outcomes : List Outcome) → Plays draw script old new opening outcomes → IsTrue old.caller.tells → IsTrue new.caller.tells
-tells-on draw script old new (Ok done) outcomes p t = subst IsTrue (sym p.tells) t
-tells-on draw script old new (Err why) outcomes p t = subst (λ (v : View). IsTrue v.caller.tells) (sym p.0) t
 
 -- ---- the refs that are told
 -- what stands at a branch is its history's last entry
@@ -74,7 +71,7 @@ module _ (changes : ℕ → Changes) (journal : List Event) where
   told-ends : (lines : List RefLine) → ((branch : List ℕ) → StandsAs (found journal (Branch branch)) (last (history_of (tree_of journal) changes journal branch))) → TellsRefs journal lines → TellsEnds changes journal lines
   told-ends lines stand t = record {
     stand = t;
-    outcomes = λ name id. (
+    ends = λ name id. (
       λ line.
           let n : NamesAt journal (Branch name) id = (t.branches name id).0 line in
           let e = names-ends journal name id (found journal (Branch name)) (last (history_of (tree_of journal) changes journal name)) (stand name) n.stored n.stands n.names in

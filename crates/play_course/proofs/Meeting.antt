@@ -104,10 +104,13 @@ module _ {A : Type 0} (Q : A → Type 0) (who : Id12 → Type 0) where
   pub meets-others : (p : Play A) (old more : List Event) → Each (IsTidy who) old more → PlayMeets Q who p old → PlayMeets Q who p (old ++ more)
   unfolding PlayMeets
   meets-others (Ended a) old more others m = m
-  meets-others (Ask_play op s next) old more others m = (meets-others s old more others m.0, λ later event o any is.
-      let same : (old ++ more) ++ later ≡ old ++ (more ++ later) = append_assoc old more later in
-      subst (λ (h : List Event). PlayMeets Q who (next event.reply) (h ++ event ∷ [])) (sym same)
-      (m.1 (more ++ later) event (Each-append (IsTidy who) old more later others o) (subst (λ (h : List Event). IsAny h event) same any) is))
+  meets-others (Ask_play op s next) old more others m = (
+    meets-others s old more others m.0,
+    λ later event o any is.
+        let same : (old ++ more) ++ later ≡ old ++ (more ++ later) = append_assoc old more later in
+        subst (λ (h : List Event). PlayMeets Q who (next event.reply) (h ++ event ∷ [])) (sym same)
+        (m.1 (more ++ later) event (Each-append (IsTidy who) old more later others o) (subst (λ (h : List Event). IsAny h event) same any) is),
+  )
   meets-others (Or p q) old more others m = (meets-others p old more others m.0, meets-others q old more others m.1)
 
   -- a turn with its operation
@@ -134,8 +137,11 @@ module _ {A : Type 0} (Q : A → Type 0) (who : Id12 → Type 0) where
       → ((answer : Result B Refusal) (h : List Event) → R answer h → PlayMeets Q who (f answer) h) → ((h : List Event) → PlayMeets Q who (f (Err NoMemory)) h) → PlayMeets Q who (call p f) journal
   unfolding Meets PlayMeets
   call-meets R (Done answer) f journal m g n = g answer journal m
-  call-meets R (Ask op next) f journal m g n = (n journal, λ more event others any is.
-      behind-meets op (call (next event.reply) f) (f (Err NoMemory)) ((journal ++ more) ++ event ∷ []) (is_over op) refl (call-meets R (next event.reply) f ((journal ++ more) ++ event ∷ []) (m more event others any is) g n) (n ((journal ++ more) ++ event ∷ [])))
+  call-meets R (Ask op next) f journal m g n = (
+    n journal,
+    λ more event others any is.
+        behind-meets op (call (next event.reply) f) (f (Err NoMemory)) ((journal ++ more) ++ event ∷ []) (is_over op) refl (call-meets R (next event.reply) f ((journal ++ more) ++ event ∷ []) (m more event others any is) g n) (n ((journal ++ more) ++ event ∷ [])),
+  )
 
 -- ---- replies
 -- the store failed the operation

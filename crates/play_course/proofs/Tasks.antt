@@ -24,7 +24,6 @@ use Rattle.store_api.specs.declared.machines.Refusal.TheVariants as R
 use Rattle.store_api.specs.Machine.{found, version_at, is_on}
 use Rattle.store_api.specs.Journal.{Each, WasPut}
 use Rattle.store_api.specs.Program.{Done}
-use Rattle.store_api.specs.Plays.{Play, Ended}
 use Rattle.store_api.proofs.Journals.{Each-one}
 use Rattle.store_api.proofs.Slots.{WasPut-append}
 use Rattle.session.specs.declared.session.Listing.{Listing}
@@ -42,7 +41,7 @@ use Rattle.play_script.specs.declared.scripts.Task.{Task}
 use Rattle.play_outcome.specs.declared.outcome.Shown.{Shown}
 use Rattle.play_outcome.specs.declared.outcome.End.TheVariants as E
 use Rattle.play_outcome.specs.declared.outcome.Outcome.{Outcome}
-use Rattle.play_tasks.specs.Lines.{Deed, Goes, Commits, deed, silent, still, session_of, nodes_shown}
+use Rattle.play_tasks.specs.Lines.{deed, silent, still, session_of, nodes_shown}
 use Rattle.play_tasks.specs.Playing.{Rest, after_line, after_start, after_commit, after_open, play_deed, play_lines, refused, asked_by, task_play}
 use Rattle.run_histories.proofs.Drawing.{IsDrawnBy, AreOf, group-draws, start-draws, head-ids}
 use Rattle.play_course.specs.Refusing.{is_strange, strange_answer, strange_end}

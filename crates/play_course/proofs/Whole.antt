@@ -1,6 +1,6 @@
 -- A run over an empty store gives no strange refusal.
-use Rattle.std.proofs.Common.{◌≡◌, ◌≢◌, ℕ, ◌+◌, ◌-◌, ◌^◌, ◌<◌, ◌⊎◌, inl, inr, true, false, List, [], ◌∷◌, ◌++◌, length, refl, sym, ◌∙◌, ap, subst, append_assoc, append-nil, set, arith, zero-add}
-use Rattle.std.specs.Prelude.{Some, None, Result, Ok, Err, IfOk, IsTrue, slice_get, map}
+use Rattle.std.proofs.Common.{◌≡◌, ◌≢◌, ℕ, ◌+◌, ◌-◌, ◌^◌, ◌<◌, ◌⊎◌, inl, inr, false, List, [], ◌∷◌, ◌++◌, length, refl, sym, ◌∙◌, ap, subst, append_assoc, append-nil, set, arith, zero-add}
+use Rattle.std.specs.Prelude.{Some, None, Result, Ok, Err, IfOk, IsTrue, slice_get}
 use Rattle.std.specs.declared.alloc.AllocError.{AllocError}
 use Rattle.ice_ids.specs.declared.Id12.{Id12}
 use Rattle.ice_ids.specs.declared.drawing.Draw.{Draw}
@@ -8,7 +8,6 @@ use Rattle.store_api.specs.declared.keys.Key.{Key}
 use Rattle.store_api.specs.declared.keys.Key.TheVariants.{Snapshot, Manifest, Txn, Chunk, Branch, Tag, TagGone}
 use Rattle.store_api.specs.declared.events.Op.{Op}
 use Rattle.store_api.specs.declared.events.Op.TheVariants.{Get, PutNew, PutOver, Remove, RemoveAt, List as ListPart}
-use Rattle.store_api.specs.declared.events.Reply.{Reply}
 use Rattle.store_api.specs.declared.events.Event.{Event}
 use Rattle.store_api.specs.declared.machines.Refusal.{Refusal}
 use Rattle.store_api.specs.declared.machines.Refusal.TheVariants as R
@@ -38,11 +37,12 @@ use Rattle.run_histories.proofs.Programs.{AllPlain, path-plain, begin-plain, ref
 use Rattle.run_histories.proofs.Drawing.{IsDrawnBy, task-draws, drawn-apart, ids_at-of}
 use Rattle.play_course.specs.declared.course.Played.{Played}
 use Rattle.play_course.specs.Course.{Course, Plays}
-use Rattle.play_course.specs.Refusing.{is_strange, strange_answer, strange_end, NothingStrange}
+use Rattle.play_course.specs.Refusing.{strange_answer, strange_end, NothingStrange}
 use Rattle.play_course.proofs.Tidy.{IsTidy, IsAny, IsOthers, Puts, PutsNew, puts-weaker, any-of, free-others, spared-snapshot, spared-log, nothing-stands}
 use Rattle.play_course.proofs.Meeting.{Meets, PlayMeets, meets-ended, meets-others, meets-acted, meets-starved, meets-path}
 use Rattle.play_course.proofs.Tasks.{Before, task-meets}
-use Rattle.play_course.proofs.Leaving.{tells-on, few-tasks}
+use Rattle.play_course.proofs.Playing.{tells-on}
+use Rattle.play_course.proofs.Leaving.{few-tasks}
 use Rattle.play_course.proofs.Edges.{plain-tidy, begin-meets, refs-meets}
 
 -- ---- the events of tasks

@@ -3,6 +3,7 @@
 ghost use Rattle.std.specs.Prelude.{◌≡◌, ℕ, [], All, length, IfOk, IfErr, IsTrue};
 ghost use Rattle.tree_model.specs.Changes.{Changes};
 ghost use Rattle.play_script.specs.Well.{IsWell, IsWellTurn};
+ghost use Rattle.play_tasks.specs.Tasks.{AllTold};
 ghost use Rattle.run_histories.specs.Runs.{IsSound};
 ghost use Rattle.run_histories.specs.Told.{HasHistories};
 ghost use Rattle.play_course.specs.Course.{turns_in, Course, OnlyBegan, PlaysTasks, Plays};
@@ -52,6 +53,7 @@ fn run_script<S: Base>(
     requires { IsWell script.now }
     ensures nothing { IfErr result (λ error. S.view store.new ≡ S.view store.old) }
     ensures plays { IfOk result (λ outcomes. PlaysTasks draw script.now (S.view store.old) (S.view store.new) outcomes.items) }
+    ensures told { IsTrue (S.view store.old).caller.tells → IfOk result (λ outcomes. AllTold draw script.now.tasks outcomes.items (S.view store.old).seen (S.view store.new).seen) }
 {
     let turns = turns_of(script);
     run_tasks(alloc, script.tasks.as_slice(), draw, turns, store)
@@ -68,6 +70,7 @@ fn play_tasks<S: Base>(
     requires { IsWell script.now }
     ensures nothing { IfErr result (λ error. S.view store.new ≡ S.view store.old) }
     ensures plays { IfOk result (λ outcomes. Plays draw script.now (S.view store.old) (S.view store.new) opening.now outcomes.items) }
+    ensures told { IsTrue (S.view store.old).caller.tells → IfOk result (λ outcomes. AllTold draw script.now.tasks outcomes.items (S.view store.old).seen (S.view store.new).seen) }
 {
     match opening {
         Ok(()) => run_script(alloc, script, draw, store),
@@ -86,6 +89,7 @@ fn play_through<S: Base>(
     ensures began { IfErr result (λ error. OnlyBegan (S.view store.old) (S.view store.new)) }
     ensures course { IfOk result (λ played. Course draw script.now (S.view store.old) (S.view store.new) played.opening played.outcomes.items played.refs) }
 {
+    outcome_law();
     store.set_client(0);
     let opening = begin(alloc, store);
     let outcomes = play_tasks(alloc, script, draw, &opening, store)?;
@@ -122,6 +126,5 @@ pub fn play<S: Base>(
 {
     run_law();
     refs_law();
-    outcome_law();
     play_through(alloc, script, draw, store)
 }

@@ -88,6 +88,13 @@ both_false true true n = absurd (n refl refl)
 both_false true false n = refl
 both_false false b n = refl
 
+-- another number isn't owned
+pub only-other : (tells : Bool) (k n : ℕ) → n ≢ k + 1 → owns (only tells (k + 1)) n ≡ false
+only-other tells k n differs = both_false (nat_le (k + 1) n) (nat_lt n (k + 1 + 1)) (λ a b. differs (between (leb-true (k + 1) n a) (ltb-true n (k + 1 + 1) b)))
+  where
+    between : k + 1 ≤ n → n < k + 1 + 1 → n ≡ k + 1
+    between a b = omega (arith, a, b)
+
 -- ---- what a step keeps
 PlayKeeps-now : (P : List Event → ℕ → Op → Type 0) (by : Caller) (op : Op) (starved : Play Outcome) (next : Reply → Play Outcome) (p : Play Outcome) (journal : List Event) → p ≡ Ask op starved next → PlayKeeps P by p journal → P journal by.number op
 unfolding PlayKeeps
@@ -183,18 +190,12 @@ module _ (draw : Draw) (tasks : List Task) (start : List Event) (t : ℕ) (old n
       record {
         stand = all_stand s (λ k n. record {
           between = event ∷ [];
-          others = Each-one (IsOther (only tells (k + 1))) old.seen event (record { good = good; other = λ e. n (next_same k t e); not_owned = not_only k (λ e. n (next_same k t e)) });
+          others = Each-one (IsOther (only tells (k + 1))) old.seen event (record { good = good; other = λ e. n (next_same k t e); not_owned = only-other tells k (t + 1) (λ e. n (next_same k t e)) });
           is = added.is;
         });
         is = added.is;
         careful = Each-one (IsOfClient draw tasks) old.seen event (record { place = t; task = mine.task; client = refl; at = mine.at; careful = record { good = good; owes = owed.owes } });
       }
-    where
-      between : (k : ℕ) → k + 1 ≤ t + 1 → t + 1 < k + 1 + 1 → t + 1 ≡ k + 1
-      between k a b = omega (arith, a, b)
-
-      not_only : (k : ℕ) → t + 1 ≢ k + 1 → owns (only tells (k + 1)) (t + 1) ≡ false
-      not_only k n = both_false (nat_le (k + 1) (t + 1)) (nat_lt (t + 1) (k + 1 + 1)) (λ a b. n (between k (leb-true (k + 1) (t + 1) a) (ltb-true (t + 1) (k + 1 + 1) b)))
 
   kept-starved : (s : Stepped t old new ps qs) → Starved (as_client (t + 1) old) new s.p s.q → Kept draw tasks start old new [] qs
   unfolding tells by all_stand
