@@ -1,6 +1,6 @@
 -- What the bytes of an input say of the script that is read from it.
-use Rattle.std.proofs.Common.{◌≡◌, ℕ, ◌+◌, ◌<◌, ◌≤◌, List, [], ◌++◌, length, take, Bool, true, false, refl, sym, ◌∙◌, ap, subst, inl, inr, ltb, arith, length-append}
-use Rattle.std.specs.Prelude.{nat_le, if◌then◌else◌, Some, Result, Ok, Err}
+use Rattle.std.proofs.Common.{◌≡◌, ℕ, ◌+◌, ◌<◌, ◌≤◌, List, [], ◌++◌, length, take, Bool, true, false, refl, sym, ◌∙◌, ap, inl, inr, ltb, arith, length-append}
+use Rattle.std.specs.Prelude.{Some, Err}
 use Rattle.std.proofs.lemmas.Bool.{lt-leb, ltb-true, ltb-false}
 use Rattle.std.proofs.lemmas.List.{take-append-le, append-nil}
 use Rattle.ice_base.specs.Ends.{InputAt, OutputAt, IsInput}

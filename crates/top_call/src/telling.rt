@@ -99,7 +99,13 @@ pub fn finish<K: Sink>(
     ensures told { IfOk result (λ status. Told script.now played.now.opening played.now.outcomes.items played.now.refs (K.at out.old) (K.at out.new) status) }
 {
     let names = names_of(alloc, script.tasks.as_slice())?;
-    let text = report(alloc, &names, &played.opening, &played.outcomes, &played.refs)?;
+    let text = report(
+        alloc,
+        &names,
+        &played.opening,
+        &played.outcomes,
+        &played.refs,
+    )?;
     let unwritten = write_report(out, &text);
     Ok(causes_of(played, unwritten).status())
 }
