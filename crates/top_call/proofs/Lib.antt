@@ -1,3 +1,4 @@
 mod Rows
 pub mod Endings
 pub mod Tellings
+pub mod Readings

@@ -1,8 +1,7 @@
 -- The causes of a run, one after the other and together.
-use Rattle.std.proofs.Common.{Bor, ◌-◌, ◌^◌, ltb, ◌≡◌, ℕ, zero, suc, ◌≤◌, ◌<◌, ◌⊎◌, inl, inr, Bool, true, false, List, [], ◌∷◌, ◌++◌, refl, sym, ◌∙◌, ap, subst, map, take, get_or, length, ◌+◌, arith}
-use Rattle.std.specs.Prelude.{◌||◌, Result, Ok, Err, Option, Some, None, slice_get, IfOk, IfErr, MatchOption}
+use Rattle.std.proofs.Common.{◌-◌, ◌^◌, ltb, ◌≡◌, ℕ, zero, suc, ◌≤◌, ◌<◌, ◌⊎◌, inl, inr, Bool, true, false, List, [], ◌∷◌, ◌++◌, refl, sym, ◌∙◌, ap, arith}
+use Rattle.std.specs.Prelude.{◌||◌, Result, Ok, Err, Some, slice_get, IfOk, IfErr}
 use Rattle.std.specs.declared.alloc.AllocError.{AllocError}
-use Rattle.std.proofs.lemmas.List.{take_more, map-append}
 use Rattle.std.specs.List.{list_any, flat_map}
 use Rattle.std.proofs.lemmas.Bool.{ltb-true, ltb-false}
 use Rattle.std.proofs.lemmas.List.Folds.{list_any-append}
@@ -11,23 +10,20 @@ use Rattle.ice_ids.specs.declared.drawing.Draw.{Draw}
 use Rattle.store_api.specs.declared.machines.Refusal.{Refusal}
 use Rattle.store_api.specs.declared.machines.Refusal.TheVariants as R
 use Rattle.store_api.specs.Callers.{View}
-use Rattle.store_api.specs.Program.{Prog, Done, Ask, IsAsk, IsDone, is_no_memory, is_fault}
+use Rattle.store_api.specs.Program.{is_no_memory, is_fault}
 use Rattle.play_script.specs.declared.scripts.Script.{Script}
-use Rattle.play_report.specs.declared.outcome.End.{End}
-use Rattle.play_report.specs.declared.outcome.End.TheVariants as E
-use Rattle.play_report.specs.declared.outcome.Outcome.{Outcome}
-use Rattle.play_report.specs.declared.outcome.RefLine.{RefLine}
-use Rattle.play_tasks.specs.Ending.{end_failed, is_failed}
-use Rattle.play_tasks.specs.declared.worker.Worker.{Worker}
-use Rattle.play_tasks.specs.Workers.{worker_rest}
-use Rattle.play_run.specs.Order.{IsDoneAt}
-use Rattle.play_run.proofs.Places.{slice_get-place}
+use Rattle.play_outcome.specs.declared.outcome.End.{End}
+use Rattle.play_outcome.specs.declared.outcome.End.TheVariants as E
+use Rattle.play_outcome.specs.declared.outcome.Outcome.{Outcome}
+use Rattle.play_outcome.specs.declared.outcome.RefLine.{RefLine}
+use Rattle.play_outcome.specs.Ending.{end_failed, is_failed}
 use Rattle.play_course.specs.Course.{Course, OnlyBegan, Plays}
 use Rattle.top_call.specs.declared.statuses.Causes.{Causes}
 use Rattle.top_call.specs.declared.statuses.Status.{Status}
 use Rattle.top_call.specs.declared.statuses.Status.TheVariants as S
 use Rattle.top_call.specs.Statuses.{status_of}
-use Rattle.top_call.specs.Telling.{why_of, end_why, why_ended, refusals, is_other, causes, Wrote, Tells, KeepsHistories, KeepsBranches, IsRegular, WasPlayed, WasUntold}
+use Rattle.play_outcome.specs.Ending.{end_why, why_ended}
+use Rattle.top_call.specs.Telling.{why_of, refusals, is_other, causes, Wrote, Told, KeepsHistories, KeepsBranches, IsRegular, WasPlayed, WasUntold}
 use Rattle.top_call.specs.inside.Adding.{added, all_added}
 use Rattle.top_call.proofs.Rows.{rows-all}
 
@@ -107,28 +103,20 @@ has-failed (o ∷ os) e = elim (or-cases (list_any is_fault (why_ended o)) (list
   | inr later ↦ let found = has-failed os later in record { place = suc found.place; outcome = found.outcome; at = found.at; failed = found.failed }
 ]
 
-done-at : (outcomes : List Outcome) (place : ℕ) (o : Outcome) → slice_get outcomes place ≡ Some o → slice_get (map (λ x. Done x) outcomes) place ≡ Some (Done o)
-done-at [] place o e = cc
-done-at (x ∷ xs) zero o e = let same : x ≡ o = some_same e in ap (λ (y : Outcome). Some (Done y)) same
-  where
-    some_same : {A : Type 0} {x y : A} → Some x ≡ Some y → x ≡ y
-    some_same h = cc
-done-at (x ∷ xs) (suc place) o e = done-at xs place o e
-
 -- the faults of a course never fall, and where a part of it tells one, they rose
 module _ (draw : Draw) (script : Script) where
-  plays-counted : (old new : View) (opening : Result (Unit {0}) Refusal) (ends : List (Prog Outcome)) → Plays draw script old new opening ends → old.faults ≤ new.faults
-  plays-counted old new (Ok done) ends p = p.counted
-  plays-counted old new (Err why) ends p = let same : new.faults ≡ old.faults = ap (λ (v : View). v.faults) p.0 in omega (arith, same)
+  plays-counted : (old new : View) (opening : Result (Unit {0}) Refusal) (outcomes : List Outcome) → Plays draw script old new opening outcomes → old.faults ≤ new.faults
+  plays-counted old new (Ok done) outcomes p = p.counted
+  plays-counted old new (Err why) outcomes p = let same : new.faults ≡ old.faults = ap (λ (v : View). v.faults) p.0 in omega (arith, same)
 
-  plays-blame : (old new : View) (opening : Result (Unit {0}) Refusal) (outcomes : List Outcome) → Plays draw script old new opening (map (λ o. Done o) outcomes) → HasFailed outcomes → Rose old.faults new.faults
-  plays-blame old new (Ok done) outcomes p f = p.blames f.place f.outcome (done-at outcomes f.place f.outcome f.at) f.failed
+  plays-blame : (old new : View) (opening : Result (Unit {0}) Refusal) (outcomes : List Outcome) → Plays draw script old new opening outcomes → HasFailed outcomes → Rose old.faults new.faults
+  plays-blame old new (Ok done) outcomes p f = p.blames f.place f.outcome f.at f.failed
   plays-blame old new (Err why) [] p f = let no = f.at in absurd cc
   plays-blame old new (Err why) (o ∷ os) p f = let no = p.1 in absurd cc
 
-  faults-rose : (old new : View) (opening : Result (Unit {0}) Refusal) (outcomes : List Outcome) (refs : Result (List RefLine) Refusal) → Course draw script old new opening (map (λ o. Done o) outcomes) refs → list_any is_fault (refusals opening outcomes refs) ≡ true → Rose old.faults new.faults
+  faults-rose : (old new : View) (opening : Result (Unit {0}) Refusal) (outcomes : List Outcome) (refs : Result (List RefLine) Refusal) → Course draw script old new opening outcomes refs → list_any is_fault (refusals opening outcomes refs) ≡ true → Rose old.faults new.faults
   faults-rose old new opening outcomes refs c e =
-      let mid : c.begun.faults ≤ c.played.faults = plays-counted c.begun c.played opening (map (λ o. Done o) outcomes) c.plays in
+      let mid : c.begun.faults ≤ c.played.faults = plays-counted c.begun c.played opening outcomes c.plays in
       let first = c.begins.faults in
       let last = c.reads.faults in
       let parts = or-cases (list_any is_fault (why_of opening)) (list_any is_fault (flat_map why_ended outcomes ++ why_of refs)) (sym (list_any-append is_fault (why_of opening) (flat_map why_ended outcomes ++ why_of refs)) ∙ e) in
@@ -161,64 +149,17 @@ module _ (draw : Draw) (script : Script) (s t : View) (x y : OutputAt) (status :
       let is : status_of given ≡ S.WriteFault = sym p.told.status_is ∙ e in
       wrote-rose x y _ p.told.unwritten p.told.wrote (((rows-all given).write_fault.0 is).2)
 
--- ---- all tasks of a course have ended
-plays-ended : (draw : Draw) (script : Script) (old new : View) (opening : Result (Unit {0}) Refusal) (ends : List (Prog Outcome)) → Plays draw script old new opening ends → (place : ℕ) → IsDoneAt place ends
-plays-ended draw script old new (Ok done) ends p = p.ended
-plays-ended draw script old new (Err why) [] p = λ place q at. absurd cc
-plays-ended draw script old new (Err why) (e ∷ es) p = let no = p.1 in absurd cc
-
-pub course-ended : (draw : Draw) (script : Script) (old new : View) (opening : Result (Unit {0}) Refusal) (ends : List (Prog Outcome)) (refs : Result (List RefLine) Refusal) → Course draw script old new opening ends refs → (place : ℕ) → IsDoneAt place ends
-course-ended draw script old new opening ends refs c = plays-ended draw script c.begun c.played opening ends c.plays
-
-pub was-played : (draw : Draw) (script : Script) (s t : View) (x y : OutputAt) (opening : Result (Unit {0}) Refusal) (ends : List (Prog Outcome)) (refs : Result (List RefLine) Refusal) (status : Status)
-    → Course draw script s t opening ends refs → KeepsHistories draw script s t refs → IsRegular s opening ends refs → Tells script opening ends refs x y status → WasPlayed draw script s t x y status
-was-played draw script s t x y opening ends refs status c kept regular told = record {
-  opening = opening;
-  outcomes = told.outcomes;
-  refs = refs;
-  course = subst (λ (es : List (Prog Outcome)). Course draw script s t opening es refs) (sym told.ended) c;
-  histories = kept;
-  regular = subst (λ (es : List (Prog Outcome)). IsRegular s opening es refs) (sym told.ended) regular;
-  told = told.told;
-}
-
-pub finished : (draw : Draw) (script : Script) (s t : View) (x y : OutputAt) (opening : Result (Unit {0}) Refusal) (ends : List (Prog Outcome)) (refs : Result (List RefLine) Refusal) (result : Result Status AllocError)
-    → Course draw script s t opening ends refs → KeepsHistories draw script s t refs → IsRegular s opening ends refs → IfOk result (λ status. Tells script opening ends refs x y status) → IfOk result (λ status. WasPlayed draw script s t x y status)
-finished draw script s t x y opening ends refs (Ok status) c kept regular told = was-played draw script s t x y opening ends refs status c kept regular told
-finished draw script s t x y opening ends refs (Err error) c kept regular told = tt
-
--- ---- outcomes of workers
-told-done : (p : Prog Outcome) (r : Option (Bor Outcome)) (o : Bor Outcome) → r ≡ Some o → MatchOption r (IsAsk p) (λ x. p ≡ Done x.now) → p ≡ Done o.now
-told-done p None o e m = cc
-told-done p (Some x) o e m = m ∙ ap (λ (y : Bor Outcome). Done y.now) (same e)
-  where
-    same : Some x ≡ Some o → x ≡ o
-    same h = cc
-
-told-none : (p : Prog Outcome) (r : Option (Bor Outcome)) → r ≡ None → MatchOption r (IsAsk p) (λ x. p ≡ Done x.now) → IsAsk p
-told-none p None e m = m
-told-none p (Some x) e m = cc
-
-not-both : (p : Prog Outcome) → IsDone p → IsAsk p → ⊥
-not-both (Done o) d a = a
-not-both (Ask op k) d a = d
-
-pub outcome-more : (ws : List Worker) (i : ℕ) (w : Worker) (outs more : List (Bor Outcome)) (r : Option (Bor Outcome)) (o : Bor Outcome) → i < length ws → w ≡ get_or ws i w → r ≡ Some o → MatchOption r (IsAsk (worker_rest w)) (λ x. worker_rest w ≡ Done x.now) → map (λ y. Done y) (map (λ y. y.now) outs) ≡ map worker_rest (take i ws) → more ≡ outs ++ o ∷ []
-    → map (λ y. Done y) (map (λ y. y.now) more) ≡ map worker_rest (take (i + 1) ws)
-outcome-more ws i w outs more r o within is e m before is_more =
-    let done = told-done (worker_rest w) r o e m in
-    let left : map (λ y. Done y) (map (λ y. y.now) more) ≡ map (λ y. Done y) (map (λ y. y.now) outs) ++ Done o.now ∷ [] = ap (λ (l : List (Bor Outcome)). map (λ y. Done y) (map (λ y. y.now) l)) is_more ∙ (ap (map (λ y. Done y)) (map-append (λ y. y.now) outs (o ∷ [])) ∙ map-append (λ y. Done y) (map (λ y. y.now) outs) (o.now ∷ [])) in
-    let right : map worker_rest (take (i + 1) ws) ≡ map worker_rest (take i ws) ++ worker_rest w ∷ [] = ap (map worker_rest) (take_more ws i w within ∙ ap (λ (y : Worker). take i ws ++ y ∷ []) (sym is)) ∙ map-append worker_rest (take i ws) (w ∷ []) in
-    left ∙ (ap (λ (l : List (Prog Outcome)). l ++ Done o.now ∷ []) before ∙ (ap (λ (p : Prog Outcome). map worker_rest (take i ws) ++ p ∷ []) (sym done) ∙ sym right))
-
-pub outcome-none : {P : Type 0} (ws : List Worker) (i : ℕ) (w : Worker) (r : Option (Bor Outcome)) → ((place : ℕ) → IsDoneAt place (map worker_rest ws)) → i < length ws → w ≡ get_or ws i w → r ≡ None → MatchOption r (IsAsk (worker_rest w)) (λ x. worker_rest w ≡ Done x.now) → P
-outcome-none ws i w r done within is e m = absurd (not-both (worker_rest w) (done i (worker_rest w) (slice_get-place worker_rest ws i w within is)) (told-none (worker_rest w) r e m))
+-- ---- what was played and told
+pub finished : (draw : Draw) (script : Script) (s t : View) (x y : OutputAt) (opening : Result (Unit {0}) Refusal) (outcomes : List Outcome) (refs : Result (List RefLine) Refusal) (result : Result Status AllocError)
+    → Course draw script s t opening outcomes refs → KeepsHistories draw script s t refs → IsRegular s opening outcomes refs → IfOk result (λ status. Told script opening outcomes refs x y status) → IfOk result (λ status. WasPlayed draw script s t x y status)
+finished draw script s t x y opening outcomes refs (Ok status) c kept regular told = record { opening = opening; outcomes = outcomes; refs = refs; course = c; histories = kept; regular = regular; told = told }
+finished draw script s t x y opening outcomes refs (Err error) c kept regular told = tt
 
 -- ---- where memory ran out
-pub untold : (draw : Draw) (script : Script) (s t : View) (x y : OutputAt) (opening : Result (Unit {0}) Refusal) (ends : List (Prog Outcome)) (refs : Result (List RefLine) Refusal) (result : Result Status AllocError)
-    → Course draw script s t opening ends refs → KeepsHistories draw script s t refs → IfErr result (λ error. y ≡ x) → IfErr result (λ error. WasUntold draw script s t x y)
-untold draw script s t x y opening ends refs (Ok status) c kept out = tt
-untold draw script s t x y opening ends refs (Err error) c kept out = record { out = out; came = inl (record { opening = opening; ends = ends; refs = refs; course = c }); histories = λ told before sound. (kept told before sound).histories }
+pub untold : (draw : Draw) (script : Script) (s t : View) (x y : OutputAt) (opening : Result (Unit {0}) Refusal) (outcomes : List Outcome) (refs : Result (List RefLine) Refusal) (result : Result Status AllocError)
+    → Course draw script s t opening outcomes refs → KeepsHistories draw script s t refs → IfErr result (λ error. y ≡ x) → IfErr result (λ error. WasUntold draw script s t x y)
+untold draw script s t x y opening outcomes refs (Ok status) c kept out = tt
+untold draw script s t x y opening outcomes refs (Err error) c kept out = record { out = out; came = inl (record { opening = opening; outcomes = outcomes; refs = refs; course = c }); histories = λ told before sound. (kept told before sound).histories }
 
 pub unplayed : (draw : Draw) (script : Script) (s t : View) (x : OutputAt) → OnlyBegan s t → KeepsBranches draw script s t → WasUntold draw script s t x x
 unplayed draw script s t x b kept = record { out = refl; came = inr b; histories = kept }

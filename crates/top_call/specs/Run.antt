@@ -1,5 +1,5 @@
 -- What the top call reads, does and writes (own).
-use Rattle.std.specs.Prelude.{◌≡◌, ◌⊎◌, ℕ, List, Ok, Err}
+use Rattle.std.specs.Prelude.{◌≡◌, ◌⊎◌, ℕ, List, Some, Ok, Err}
 use Rattle.ice_base.specs.Ends.{InputAt, OutputAt, IsInput, Rose}
 use Rattle.ice_ids.specs.declared.drawing.Draw.{Draw}
 use Rattle.play_script.specs.declared.faults.ScriptKind.{ScriptKind}
@@ -59,11 +59,12 @@ Ends draw in_old in_new s t out_old out_new (S.Usage fault) = ⊥
 Ends draw in_old in_new s t out_old out_new S.NoMemory = IsUntouched s t out_old out_new ⊎ IsShort draw in_old in_new s t out_old out_new
 Ends draw in_old in_new s t out_old out_new status = WasRun draw in_old in_new s t out_old out_new status
 
--- ---- laws of what statuses say
--- the input's first refused line is told, unless the source failed or memory was wanting
-abbrev pub RefusedLaw : Type 0
-RefusedLaw = (draw : Draw) (in_old in_new : InputAt) (s t : View) (out_old out_new : OutputAt) (status : Status) (text : List ℕ) (line : ℕ) (kind : ScriptKind)
-    → Ends draw in_old in_new s t out_old out_new status → IsInput most_input in_old in_new text → script_of text ≡ Err (line, kind)
+-- ---- which statuses there can be
+-- where the source tells its bytes and a line of them is refused, the status is that line, unless the source failed or memory
+-- was wanting
+abbrev pub TellsRefused : InputAt → Status → Type 0
+TellsRefused input status =
+    (bytes : List ℕ) (line : ℕ) (kind : ScriptKind) → input.left ≡ Some bytes → script_of bytes ≡ Err (line, kind)
     → (status ≡ S.Script line kind) ⊎ ((status ≡ S.ReadFault) ⊎ (status ≡ S.NoMemory))
 
 -- no count of faults rose
@@ -72,15 +73,10 @@ pub record IsCalm (in_old in_new : InputAt) (s t : View) (out_old out_new : Outp
   pub store : ¬ Rose s.faults t.faults
   pub output : ¬ Rose out_old.faults out_new.faults
 
--- the statuses that need no fault
+-- a status that needs no fault
 abbrev pub IsFaultless : Status → Type 0
 IsFaultless S.Ok = Unit {0}
 IsFaultless S.Refused = Unit {0}
 IsFaultless (S.Script line kind) = Unit {0}
 IsFaultless S.NoMemory = Unit {0}
 IsFaultless _ = ⊥
-
-abbrev pub CalmLaw : Type 0
-CalmLaw = (draw : Draw) (in_old in_new : InputAt) (s t : View) (out_old out_new : OutputAt) (status : Status)
-    → Ends draw in_old in_new s t out_old out_new status → (status ≡ S.StoreFault → Rose s.faults t.faults) → (status ≡ S.WriteFault → Rose out_old.faults out_new.faults) → IsCalm in_old in_new s t out_old out_new
-    → IsFaultless status

@@ -7,10 +7,9 @@ use Rattle.store_api.specs.declared.machines.Refusal.{Refusal}
 use Rattle.store_api.specs.Callers.{View}
 use Rattle.store_api.specs.Program.{is_no_memory, is_fault}
 use Rattle.play_script.specs.declared.scripts.Script.{Script}
-use Rattle.play_outcome.specs.declared.outcome.End.{End}
-use Rattle.play_outcome.specs.declared.outcome.End.TheVariants as E
 use Rattle.play_outcome.specs.declared.outcome.Outcome.{Outcome}
 use Rattle.play_outcome.specs.declared.outcome.RefLine.{RefLine}
+use Rattle.play_outcome.specs.Ending.{why_ended}
 use Rattle.play_report.specs.Report.{report_of}
 use Rattle.tree_model.specs.Changes.{Changes}
 use Rattle.run_histories.specs.Runs.{IsSound}
@@ -26,14 +25,6 @@ use Rattle.top_call.specs.Statuses.{status_of}
 abbrev pub why_of : {A : Type 0} → Result A Refusal → List Refusal
 why_of (Ok a) = []
 why_of (Err why) = why ∷ []
-
-abbrev pub end_why : End → List Refusal
-end_why (E.Committed id) = []
-end_why E.Done = []
-end_why (E.Refused line why) = why ∷ []
-
-abbrev pub why_ended : Outcome → List Refusal
-why_ended outcome = end_why outcome.end
 
 -- the refusals of a run, in their order
 abbrev pub refusals : Result (Unit {0}) Refusal → List Outcome → Result (List RefLine) Refusal → List Refusal

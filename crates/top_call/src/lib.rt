@@ -6,12 +6,10 @@ mod laws;
 mod running;
 mod statuses;
 mod telling;
-#[cfg(test)]
-mod tests;
 mod words;
 
 pub use ending::{Ended, end, given_words};
-pub use laws::{calm_law, numbers_law, refused_law, rows_law};
+pub use laws::{numbers_law, rows_law};
 pub use running::run;
 pub use statuses::{Causes, Status};
 pub use words::{Command, UsageFault, Word, read_words, words_of};

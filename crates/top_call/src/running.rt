@@ -4,7 +4,7 @@ ghost use Rattle.std.specs.Prelude.{◌≡◌, Ok, Err, IfOk, IfErr, MatchResult
 ghost use Rattle.ice_base.specs.Ends.{Rose, TakesAtMost};
 ghost use Rattle.play_script.specs.Well.{IsWell};
 ghost use Rattle.top_call.specs.Telling.{WasPlayed, WasUntold};
-ghost use Rattle.top_call.specs.Run.{most_input, HasScript, HasNone, Ends};
+ghost use Rattle.top_call.specs.Run.{most_input, HasScript, HasNone, Ends, TellsRefused, IsCalm, IsFaultless};
 ghost use Rattle.top_call.specs.declared.words.UsageFault.{UsageFault};
 ghost use Rattle.top_call.specs.declared.words.Command.{Command};
 ghost use Rattle.top_call.specs.Words.{command_of};
@@ -59,8 +59,6 @@ fn run_input<I: Source, S: Base, K: Sink>(
 ) -> Status
     ensures ends { Ends draw (I.at input.old) (I.at input.new) (S.view store.old) (S.view store.new) (K.at out.old) (K.at out.new) result }
     ensures bound { TakesAtMost most_input (I.at input.old) (I.at input.new) }
-    ensures store_fault { result ≡ Status.StoreFault → Rose (S.view store.old).faults (S.view store.new).faults }
-    ensures write_fault { result ≡ Status.WriteFault → Rose (K.at out.old).faults (K.at out.new).faults }
 {
     match read_script(alloc, input) {
         Ok(script) => match play_and_report(alloc, &script, draw, store, out) {
@@ -91,10 +89,15 @@ pub fn run<I: Source, S: Base, K: Sink>(
     // At most 1,048,577 bytes of the input are read, whatever the status.
     ensures bound { TakesAtMost most_input (I.at input.old) (I.at input.new) }
 
-    // A fault of the store or of the sink is told only where their counts of faults rose. So where the words are a command, the
-    // script is well and no count rises, the status is Ok or Refused, or NoMemory.
+    // Where the source tells its bytes and the grammar refuses a line of them, the status is the first such line and its kind,
+    // unless the source failed or memory was wanting.
+    ensures refused { (command : Command) → command_of words.now ≡ Ok command → TellsRefused (I.at input.old) result.status }
+
+    // A fault of the store or of the sink is told only where their counts of faults rose. So where the words are a command and
+    // no count rises, the status is Ok, Refused, the line that is refused, or NoMemory.
     ensures store_fault { result.status ≡ Status.StoreFault → Rose (S.view store).faults (S.view result.store).faults }
     ensures write_fault { result.status ≡ Status.WriteFault → Rose (K.at out.old).faults (K.at out.new).faults }
+    ensures calm { (command : Command) → command_of words.now ≡ Ok command → IsCalm (I.at input.old) (I.at input.new) (S.view store) (S.view result.store) (K.at out.old) (K.at out.new) → IsFaultless result.status }
 {
     let mut store = store;
     if let Err(fault) = read_words(words) {

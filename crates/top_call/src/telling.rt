@@ -2,7 +2,8 @@
 
 ghost use Rattle.std.specs.Prelude.{◌≡◌, map, IfOk, IfErr};
 ghost use Rattle.std.specs.List.{flat_map};
-ghost use Rattle.top_call.specs.Telling.{why_of, why_ended, refusals, causes, Wrote, Told};
+ghost use Rattle.play_outcome.specs.Ending.{why_ended};
+ghost use Rattle.top_call.specs.Telling.{why_of, refusals, causes, Wrote, Told};
 ghost use Rattle.top_call.specs.inside.Adding.{added, all_added};
 
 use crate::statuses::{Causes, Status};
@@ -99,7 +100,13 @@ pub fn finish<K: Sink>(
     ensures told { IfOk result (λ status. Told script.now played.now.opening played.now.outcomes.items played.now.refs (K.at out.old) (K.at out.new) status) }
 {
     let names = names_of(alloc, script.tasks.as_slice())?;
-    let text = report(alloc, &names, &played.opening, &played.outcomes, &played.refs)?;
+    let text = report(
+        alloc,
+        &names,
+        &played.opening,
+        &played.outcomes,
+        &played.refs,
+    )?;
     let unwritten = write_report(out, &text);
     Ok(causes_of(played, unwritten).status())
 }

@@ -1,0 +1,204 @@
+//! Whole runs over a store in memory that is empty at first: scripts, and the reports and statuses that belong to them.
+
+use ice_base::{ByteSink, ByteSource, TickClock};
+use ice_ids::Draw;
+use mem_store::{FaultStore, MemStore};
+use play_script::ScriptKind;
+use std::alloc::Global;
+use std::test::Fail;
+use top_call::{Status, UsageFault, Word, run, words_of};
+
+/// Which reads of the input, writes of the output and calls of the store fail; a call of the store may be done all the same.
+#[derive(Clone, Copy)]
+struct Failing<'a> {
+    reads: &'a [u64],
+    writes: &'a [u64],
+    calls: &'a [(u64, bool)],
+}
+
+const NOTHING_FAILS: Failing<'static> = Failing {
+    reads: &[],
+    writes: &[],
+    calls: &[],
+};
+
+/// The words behind the program's name.
+fn words(alloc: Global, said: &[&str]) -> Result<Vec<Word>, Fail> {
+    let mut texts = vec![in alloc; String::from_str(alloc, "icerepo")?]?;
+    for word in said {
+        texts.push(String::from_str(alloc, word)?)?;
+    }
+    Ok(words_of(alloc, texts.into_iter())?)
+}
+
+/// What a run writes, and its status.
+fn ran(
+    alloc: Global,
+    said: &[&str],
+    script: &str,
+    failing: Failing<'_>,
+) -> Result<(String, Status), Fail> {
+    let words = words(alloc, said)?;
+    let script = script.as_bytes().to_vec(alloc)?;
+    let mut input = ByteSource::new(script, failing.reads.to_vec(alloc)?);
+    let mut output = ByteSink::new(alloc, 1000, failing.writes.to_vec(alloc)?)?;
+    let calls = failing.calls.to_vec(alloc)?;
+    let store = FaultStore::new(MemStore::new(alloc, TickClock::new()), calls);
+    let ended = run(alloc, &words, Draw::Count, &mut input, store, &mut output);
+    let report = String::from_utf8_lossy(alloc, output.written())?;
+    Ok((report, ended.status))
+}
+
+/// A script, and the report and the status that it should have.
+struct Row {
+    script: &'static str,
+    report: &'static str,
+    status: Status,
+}
+
+const SMALLEST_COMMIT: &str = "task a write main 0 fail\ngroup /\ncommit first\n";
+
+/// An id is the number of the task's client and the number of ids that it drew before: one for each group, and then the
+/// snapshot's. A version is the number of operations before the one that put it.
+const ROWS: [Row; 7] = [
+    Row {
+        script: "",
+        report: "branch main 1CECHNKREP0F1RSTCMT0\n",
+        status: Status::Ok,
+    },
+    Row {
+        script: SMALLEST_COMMIT,
+        report: "a committed 0000008000000000000G\nbranch main 0000008000000000000G\n",
+        status: Status::Ok,
+    },
+    // The groups that stand already and those of the session itself are shown; a listing without nodes shows none.
+    Row {
+        script: "task a write main 0 fail\n\
+            group /\ngroup /b\nlist /\ngroup /b/c\nlist /\nlist /b/c\ncommit x\n\
+            task r read branch main\nlist /b\n",
+        report: "a 4 list group /b\n\
+            a 6 list group /b\na 6 list group /b/c\n\
+            a committed 0000008000000000001G\n\
+            r 10 list group /b/c\nr done\n\
+            branch main 0000008000000000001G\n",
+        status: Status::Ok,
+    },
+    // A task shows what it came to before the line that is refused.
+    Row {
+        script: "task a write main 0 fail\n\
+            group /\ngroup /b\nlist /\ngroup /c/d\ncommit x\n",
+        report: "a 4 list group /b\na refused 5 noparent\n\
+            branch main 1CECHNKREP0F1RSTCMT0\n",
+        status: Status::Refused,
+    },
+    // Both tasks read the same version before one commits: the other's commit is refused, and what the first made stands.
+    Row {
+        script: "task a write main 0 fail\ngroup /\ngroup /a\ncommit one\n\
+            task b write main 0 fail\ngroup /\ngroup /b\ncommit two\n\
+            task r read branch main\nlist /\nturns a*2 b*2 a*9 b*9 r*9\n",
+        report: "a committed 00000080000000000010\n\
+            b refused 8 conflict 1 8\n\
+            r 10 list group /a\nr done\n\
+            branch main 00000080000000000010\n",
+        status: Status::Refused,
+    },
+    // Between the two gets of an opening another task commits: the session reads what its branch named at the first.
+    Row {
+        script: "task a write main 0 fail\ngroup /\ncommit one\n\
+            task b write main 0 fail\ngroup /b\ncommit two\n\
+            task r read branch main\nlist /\nturns a*5 r b*5 r\n",
+        report: "a committed 0000008000000000000G\n\
+            b committed 000000G000000000000G\n\
+            r done\n\
+            branch main 000000G000000000000G\n",
+        status: Status::Ok,
+    },
+    Row {
+        script: "task a write main 0 fail\ngroup /\ngroop /b\ncommit x\n",
+        report: "",
+        status: Status::Script {
+            line: 3,
+            kind: ScriptKind::Unbuilt,
+        },
+    },
+];
+
+#[test]
+fn scripts(rt: HostRuntime) -> Result<(), Fail> {
+    for row in &ROWS {
+        let (report, status) = ran(rt.alloc(), &["play"], row.script, NOTHING_FAILS)?;
+        assert_eq!(rt; report.as_str(), row.report, "{}", row.script);
+        assert_eq!(rt; status, row.status, "{}", row.script);
+    }
+    Ok(())
+}
+
+/// A run of the smallest commit in which something fails.
+struct FailingRow {
+    failing: Failing<'static>,
+    report: &'static str,
+    status: Status,
+}
+
+const FAILING_ROWS: [FailingRow; 4] = [
+    FailingRow {
+        failing: Failing {
+            reads: &[0],
+            ..NOTHING_FAILS
+        },
+        report: "",
+        status: Status::ReadFault,
+    },
+    FailingRow {
+        failing: Failing {
+            writes: &[0],
+            ..NOTHING_FAILS
+        },
+        report: "",
+        status: Status::WriteFault,
+    },
+    // The opening of the session fails.
+    FailingRow {
+        failing: Failing {
+            calls: &[(2, false)],
+            ..NOTHING_FAILS
+        },
+        report: "a refused 1 storefault\nbranch main 1CECHNKREP0F1RSTCMT0\n",
+        status: Status::StoreFault,
+    },
+    // The put of the branch was done, and its answer was lost.
+    FailingRow {
+        failing: Failing {
+            calls: &[(6, true)],
+            ..NOTHING_FAILS
+        },
+        report: "a refused 3 storefault\nbranch main 0000008000000000000G\n",
+        status: Status::StoreFault,
+    },
+];
+
+#[test]
+fn ends_that_fail(rt: HostRuntime) -> Result<(), Fail> {
+    for row in &FAILING_ROWS {
+        let (report, status) = ran(rt.alloc(), &["play"], SMALLEST_COMMIT, row.failing)?;
+        assert_eq!(rt; report.as_str(), row.report);
+        assert_eq!(rt; status, row.status);
+    }
+    Ok(())
+}
+
+#[test]
+fn wrong_words(rt: HostRuntime) -> Result<(), Fail> {
+    let cases: [(&[&str], UsageFault); 4] = [
+        (&[], UsageFault::NoCommand),
+        (&["Play"], UsageFault::Unknown),
+        (&["pla", "--dir"], UsageFault::Unknown),
+        (&["play", ""], UsageFault::Words),
+    ];
+    for (said, fault) in cases {
+        let (report, status) = ran(rt.alloc(), said, SMALLEST_COMMIT, NOTHING_FAILS)?;
+        assert_eq!(rt; report.as_str(), "");
+        assert_eq!(rt; status, Status::Usage(fault));
+    }
+    Ok(())
+}
