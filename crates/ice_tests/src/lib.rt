@@ -13,6 +13,8 @@ mod reports;
 #[cfg(test)]
 mod run;
 #[cfg(test)]
+mod shelf;
+#[cfg(test)]
 mod tables;
 #[cfg(test)]
 mod turns;

@@ -5,9 +5,7 @@ use ice_ids::Id12;
 use mem_store::{FaultStore, MemStore, ReplyRef};
 use std::alloc::Global;
 use std::test::Fail;
-use store_api::{
-    Base, Gone, GoneAt, Got, Key, New, Over, Part, Store, StoreFault, Version, Why,
-};
+use store_api::{Base, Gone, GoneAt, Got, Key, New, Over, Part, Store, StoreFault, Version, Why};
 
 fn branch(alloc: Global, name: &str) -> Result<Key, Fail> {
     Ok(Key::Branch(RefName::read(alloc, name)?))

@@ -10,6 +10,3 @@ pub use beginning::Begin;
 pub use calls::{begin, read_refs};
 pub use laws::{live_law, refs_law};
 pub use refs::ReadRefs;
-
-#[cfg(test)]
-mod tests;

@@ -3,11 +3,11 @@
 ghost use Rattle.std.specs.Prelude.{◌≡◌, false, []};
 ghost use Rattle.store_api.specs.Callers.{only};
 
-use crate::{begin, read_refs};
 use ice_base::{Bytes, RefName};
 use ice_ids::Id12;
 use plain_object::ref_write;
 use play_outcome::RefLine;
+use repository::{begin, read_refs};
 use std::alloc::{AllocError, Global};
 use std::test::Fail;
 use store_api::{
