@@ -7,7 +7,7 @@ mod ends;
 #[cfg(test)]
 mod grids;
 #[cfg(test)]
-mod mem_store;
+mod memory;
 #[cfg(test)]
 mod reports;
 #[cfg(test)]
