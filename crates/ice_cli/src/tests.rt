@@ -4,11 +4,11 @@ use crate::top_call::run;
 use crate::words::{Command, UsageFault, Word, read_words, words_of};
 use ice_base::{ByteSink, ByteSource, TickClock};
 use ice_ids::Draw;
-use mem_store::{FaultStore, MemStore};
+use mem_store::{FaultStore, MemStore, ReplyRef};
 use play_script::ScriptKind;
 use std::alloc::Global;
 use std::test::Fail;
-use store_api::{Over, Reply};
+use store_api::Over;
 
 fn said(alloc: Global, texts: &[&str]) -> Result<Result<Command, UsageFault>, Fail> {
     let mut words = Vec::new(alloc);
@@ -127,7 +127,7 @@ fn played(
 ) -> Result<(Status, bool, usize), Fail> {
     let (ended, output) = ran(alloc, &["play"], script, failing)?;
     let same = output.written() == printed;
-    Ok((ended.status, same, ended.store.events().len()))
+    Ok((ended.status, same, ended.store.inner().number_of_events()))
 }
 
 const SMALLEST_COMMIT: &[u8] = b"task a write main 0 fail\ngroup /\ncommit first\n";
@@ -170,7 +170,7 @@ fn no_words_at_all(rt: HostRuntime) -> Result<(), Fail> {
     let (ended, output) = ran(rt.alloc(), &[], SMALLEST_COMMIT, NOTHING_FAILS)?;
     assert_eq!(rt; ended.status, Status::Usage(UsageFault::NoCommand));
     assert_eq!(rt; ended.status.number(), 2);
-    assert_eq!(rt; ended.store.events().len(), 0);
+    assert_eq!(rt; ended.store.inner().number_of_events(), 0);
     assert_eq!(rt; output.written(), b"".as_slice());
     Ok(())
 }
@@ -196,10 +196,10 @@ fn sink_that_fails_its_first_write(rt: HostRuntime) -> Result<(), Fail> {
     let (ended, output) = ran(rt.alloc(), &["play"], SMALLEST_COMMIT, failing)?;
     assert_eq!(rt; ended.status, Status::WriteFault);
     assert_eq!(rt; output.written(), b"".as_slice());
-    assert_eq!(rt; ended.store.events().len(), 10);
-    let moved = match ended.store.events()[6].reply {
-        Reply::Over(Over::Done { .. }) => true,
-        _ => false,
+    assert_eq!(rt; ended.store.inner().number_of_events(), 10);
+    let moved = match ended.store.inner().event(6) {
+        Some(event) => matches!(event.reply, ReplyRef::Over(Over::Done { .. })),
+        None => false,
     };
     assert!(rt; moved);
     Ok(())
