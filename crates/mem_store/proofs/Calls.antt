@@ -1,17 +1,16 @@
 -- What an operation of a store in memory does is what the trait of a store asks.
-use Rattle.std.proofs.Common.{◌≡◌, ℕ, ◌≤◌, List, [], ◌∷◌, ◌++◌, length, Bool, refl, sym, ◌∙◌, ap, subst, arith}
+use Rattle.std.proofs.Common.{◌≡◌, ℕ, ◌≤◌, [], ◌∷◌, ◌++◌, length, Bool, refl, sym, ◌∙◌, ap, subst, arith}
 use Rattle.std.specs.Prelude.{Result, Ok, Err, IfOk, IsOk}
 use Rattle.store_api.specs.declared.events.Op.{Op}
 use Rattle.store_api.specs.declared.events.Reply.{Reply}
 use Rattle.store_api.specs.declared.events.Reply.TheVariants.{Got, New, Over, Gone, GoneAt, Listed, Failed as Reply_failed}
-use Rattle.store_api.specs.declared.events.Event.{Event}
 use Rattle.store_api.specs.declared.events.StoreFault.{StoreFault}
 use Rattle.store_api.specs.declared.events.StoreFault.TheVariants.{Failed, NoMemory}
 use Rattle.store_api.specs.Machine.{found, last_time, IsHonest, UnlessFailed}
 use Rattle.store_api.specs.Callers.{Makes, Called, own_event}
 use Rattle.store_api.proofs.Programs.{Waits-same, Makes-alone}
 use Rattle.mem_store.specs.declared.mem.MemStore.{MemStore}
-use Rattle.mem_store.specs.Memory.{sole, journal_of, client_of, clock_of, view_of, Adds, Answers, IsUnchanged, IsLogged, Exactly}
+use Rattle.mem_store.specs.Memory.{sole, journal_of, client_of, view_of, Adds, Answers, IsUnchanged, IsLogged, Exactly}
 use Rattle.mem_store.specs.declared.logs.Answer.{Answer}
 use Rattle.mem_store.specs.declared.logs.Answer.TheVariants.{Failed as Kept_failed}
 use Rattle.mem_store.specs.Logs.{reply_in}

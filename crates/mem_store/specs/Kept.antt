@@ -1,12 +1,11 @@
 -- The journal and its index, as the code keeps them.
-use Rattle.std.specs.Prelude.{◌≡◌, ℕ, List, length, map}
+use Rattle.std.specs.Prelude.{◌≡◌, List}
 use Rattle.store_api.specs.declared.keys.Key.{Key}
 use Rattle.store_api.specs.declared.events.Event.{Event}
-use Rattle.store_api.specs.declared.events.Entry.{Entry}
 use Rattle.store_api.specs.Machine.{found}
 use Rattle.mem_store.specs.declared.journal.Journal.TheInside.{Inside}
 use Rattle.mem_store.specs.Places.{place_in}
-use Rattle.mem_store.specs.Logs.{put_in, puts_in, told}
+use Rattle.mem_store.specs.Logs.{puts_in, told}
 
 abbrev pub journal_kept : Inside → List Event
 journal_kept s = told s.logs.items

@@ -1,5 +1,4 @@
 -- Events that are lent, as the events that they are.
-use Rattle.std.specs.Prelude.{ℕ}
 use Rattle.store_api.specs.declared.events.Got.TheVariants.{Found as Got_found, Absent as Got_absent}
 use Rattle.store_api.specs.declared.events.Reply.{Reply}
 use Rattle.store_api.specs.declared.events.Reply.TheVariants.{Got as Is_got, New as Is_new, Over as Is_over, Gone as Is_gone, GoneAt as Is_gone_at, Listed as Is_listed, Failed as Is_failed}

@@ -1,5 +1,5 @@
 -- The store in memory, and what an operation of it does (own).
-use Rattle.std.specs.Prelude.{◌≡◌, ℕ, ◌<◌, ◌^◌, max, List, [], ◌∷◌, ◌++◌, length, true, None, Result, Ok, Err}
+use Rattle.std.specs.Prelude.{◌≡◌, ℕ, ◌<◌, ◌^◌, List, [], ◌∷◌, ◌++◌, length, true, None, Result, Ok, Err}
 use Rattle.store_api.specs.declared.events.Op.{Op}
 use Rattle.store_api.specs.declared.events.Reply.{Reply}
 use Rattle.store_api.specs.declared.events.Event.{Event}

@@ -1,11 +1,8 @@
-use Rattle.std.proofs.Common.{◌≡◌, ◌∙◌, ℕ, List, length, take, Option, Some, None, refl, sym, ap, rules}
+use Rattle.std.proofs.Common.{◌≡◌, ◌∙◌, length, Some, refl, sym, ap, rules}
 use Rattle.std.specs.Prelude.{slice_get}
 use Rattle.std.proofs.lemmas.Option.{slice_get_read}
 use Rattle.store_api.specs.declared.events.Reply.{Reply}
-use Rattle.store_api.specs.declared.events.Event.{Event}
 use Rattle.mem_store.specs.declared.logs.Logged.{Logged}
-use Rattle.mem_store.specs.Lent.{reply_lent}
-use Rattle.mem_store.specs.Logs.{told, event_in, reply_in}
 use Rattle.mem_store.proofs.Told.{told-at, told-past}
 use Rattle.mem_store.proofs.logs.event_at.Goals as goal
 

@@ -1,4 +1,4 @@
-use Rattle.std.proofs.Common.{◌≡◌, sym}
+use Rattle.std.proofs.Common.{sym}
 use Rattle.mem_store.proofs.Told.{told-first, told-last}
 use Rattle.mem_store.proofs.logs.last_time.Goals as goal
 

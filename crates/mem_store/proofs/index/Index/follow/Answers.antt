@@ -1,4 +1,4 @@
-use Rattle.std.proofs.Common.{◌≡◌, ◌∙◌, ℕ, Bool, cond, Option, Some, None, sym, ap, rules}
+use Rattle.std.proofs.Common.{◌≡◌, ◌∙◌, ℕ, cond, Option, Some, None, sym, ap, rules}
 use Rattle.store_api.specs.declared.keys.Key.{Key}
 use Rattle.store_api.specs.Machine.{same_key}
 use Rattle.mem_store.specs.Logs.{key_in}

@@ -1,4 +1,4 @@
-use Rattle.std.proofs.Common.{◌≡◌, ◌∙◌, ℕ, Option, Some, None, ap, get_or, rules}
+use Rattle.std.proofs.Common.{◌≡◌, ◌∙◌, ℕ, Some, None, ap, get_or, rules}
 use Rattle.std.specs.BTreeMap.{BTreeMap}
 use Rattle.store_api.specs.declared.keys.Key.{Key}
 use Rattle.store_api.specs.Machine.{part_of}

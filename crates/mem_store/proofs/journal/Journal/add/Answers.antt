@@ -1,10 +1,9 @@
-use Rattle.std.proofs.Common.{◌≡◌, ◌∙◌, ℕ, Bool, List, [], ◌∷◌, ◌++◌, length, Option, refl, sym, ap, rules}
+use Rattle.std.proofs.Common.{◌≡◌, ◌∙◌, ℕ, Bool, List, [], ◌∷◌, ◌++◌, length, Option, sym, ap, rules}
 use Rattle.store_api.specs.declared.events.Event.{Event}
-use Rattle.store_api.specs.declared.keys.Key.{Key}
 use Rattle.store_api.specs.Machine.{found, was_done}
 use Rattle.mem_store.specs.declared.logs.Logged.{Logged}
 use Rattle.mem_store.specs.Places.{place_in, place_after}
-use Rattle.mem_store.specs.Logs.{puts_in, is_done, told, event_in}
+use Rattle.mem_store.specs.Logs.{puts_in, told, event_in}
 use Rattle.mem_store.proofs.Told.{told-append, length-told}
 use Rattle.mem_store.proofs.Indexed.{indexed-more, done-reply}
 use Rattle.mem_store.proofs.journal.Journal.add.Goals as goal

@@ -1,5 +1,4 @@
 use Rattle.std.proofs.Common.{◌≡◌, ◌∙◌, List, subst, sym, ap, rules}
-use Rattle.std.specs.Prelude.{IfOk}
 use Rattle.store_api.specs.declared.events.Event.{Event}
 use Rattle.store_api.specs.declared.events.Entry.{Entry}
 use Rattle.store_api.specs.Machine.{found, IsListing}

@@ -1,6 +1,6 @@
-use Rattle.std.proofs.Common.{◌≡◌, ◌∙◌, List, [], Option, None, refl, sym, ap, rules}
+use Rattle.std.proofs.Common.{◌≡◌, ◌∙◌, List, [], sym, ap}
 use Rattle.store_api.specs.declared.events.Event.{Event}
-use Rattle.store_api.specs.Machine.{Stored, found}
+use Rattle.store_api.specs.Machine.{found}
 use Rattle.mem_store.specs.declared.logs.Logged.{Logged}
 use Rattle.mem_store.specs.Logs.{puts_in, told}
 use Rattle.mem_store.proofs.HeldLemmas.{found-none}
