@@ -105,7 +105,10 @@ fn lay_byte(bytes: &mut Vec<u8>, byte: u8, times: usize) -> Result<(), AllocErro
     for _ in 0..times / BLOCK {
         bytes.extend_from_slice(&block)?;
     }
-    bytes.extend_from_slice(&block[..times % BLOCK])
+    for _ in 0..times % BLOCK {
+        bytes.push(byte)?;
+    }
+    Ok(())
 }
 
 /// Writes over the last part what a text like `12=0aff` says.
