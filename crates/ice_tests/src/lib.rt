@@ -11,6 +11,8 @@ mod mem_store;
 #[cfg(test)]
 mod reports;
 #[cfg(test)]
+mod shared;
+#[cfg(test)]
 mod tables;
 #[cfg(test)]
 mod turns;
