@@ -13,6 +13,8 @@ mod reports;
 #[cfg(test)]
 mod run;
 #[cfg(test)]
+mod shared;
+#[cfg(test)]
 mod shelf;
 #[cfg(test)]
 mod tables;
