@@ -101,7 +101,9 @@ fn two_threads_share_a_store(rt: HostRuntime) -> Result<(), Fail> {
     assert_eq!(rt; store.number_of_events(), 4_000);
     let made_by = |client| {
         (0..4_000usize)
-            .filter(|&place| store.event(place).is_some_and(|event| event.client == client))
+            .filter(|&place| store
+                .event(place)
+                .is_some_and(|event| event.client == client))
             .count()
     };
     assert_eq!(rt; (made_by(0), made_by(1)), (2_000, 2_000));
