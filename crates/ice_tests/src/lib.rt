@@ -13,8 +13,6 @@ mod reports;
 #[cfg(test)]
 mod run;
 #[cfg(test)]
-mod shared;
-#[cfg(test)]
 mod shelf;
 #[cfg(test)]
 mod tables;
