@@ -3,15 +3,14 @@ use Rattle.std.proofs.Common.{◌≡◌, ◌⊎◌, inl, inr, ℕ, Bool, true, f
 use Rattle.std.specs.FinMap.{get}
 use Rattle.ice_ids.specs.Text.{same_id8}
 use Rattle.zarr_tree.specs.Nodes.{Node, is_group, is_array}
-use Rattle.zarr_tree.specs.Trees.{Tree, node_at, IsWellFormed, HasArray}
+use Rattle.zarr_tree.specs.Trees.{Tree, node_at, IsWellFormed}
 use Rattle.zarr_tree.specs.Changes.{Changes, is_gone, patched, has_id, own_chunk, chunk_of, apply, IsOver}
 use Rattle.zarr_tree.specs.Touched.{Touched, Touches, lists, lists_chunk, lists_new, lists_deleted, lists_updated}
 use Rattle.zarr_tree.specs.Laws.{DiffersLaw}
 use Rattle.zarr_tree.proofs.Maps.{Path, Index}
-use Rattle.zarr_tree.proofs.NodeLaws.{Text, frozen-array, group_or_array, fits-array}
+use Rattle.zarr_tree.proofs.NodeLaws.{Text, group_or_array}
 use Rattle.zarr_tree.proofs.Apply.{id-refl, Own, node_cases, own_node}
 use Rattle.zarr_tree.proofs.Extend.{own-id}
-use Rattle.zarr_tree.proofs.Over.{patched_over}
 
 or-left : (a b : Bool) → a ≡ true → (a || b) ≡ true
 or-left true b h = refl
@@ -81,37 +80,13 @@ module _ (c : Changes) (t : Tree) (s : Touched) (wt : IsWellFormed t) (o : IsOve
   own_is : (p : Path) (i : Index) (m n : Node) → node_at t p ≡ Some m → m.id ≡ n.id → own_chunk (node_at t p) n.id (t.chunk p i) ≡ t.chunk p i
   own_is p i m n f same = ap (λ b. cond b (t.chunk p i) None) (has m n (node_at t p) f same)
 
-  chunks : (p : Path) (i : Index) (m n : Node) → node_at t p ≡ Some m → node_at (apply c t) p ≡ Some n → m.id ≡ n.id
+  chunks : (p : Path) (i : Index) (m n : Node) → node_at t p ≡ Some m → node_at (apply c t) p ≡ Some n → m.id ≡ n.id → is_array n.text ≡ true
       → ((apply c t).chunk p i ≡ t.chunk p i) ⊎ ((lists_chunk s.updated_chunks n.id i || lists_new s n.id) ≡ true)
-  chunks p i m n f g same = by_case (node_cases c t p n g)
+  chunks p i m n f g same k = by_entry (c.chunks n.id i) refl
     where
-      at_p : (apply c t).chunk p i ≡ chunk_of c.chunks t p i (Some n)
-      at_p = ap (chunk_of c.chunks t p i) g
-
-      by_entry : (k : is_array n.text ≡ true) (x : Option (Option (List ℕ))) → c.chunks n.id i ≡ x → ((apply c t).chunk p i ≡ t.chunk p i) ⊎ ((lists_chunk s.updated_chunks n.id i || lists_new s n.id) ≡ true)
-      by_entry k None e = inl (at_p ∙ (λ j. cond (k j) (unwrap_or (e j) (own_chunk (node_at t p) n.id (t.chunk p i))) None) ∙ own_is p i m n f same)
-      by_entry k (Some x) e = inr (or-left _ (lists_new s n.id) ((ts.updated_chunks n.id i).1 (record { path = p; node = n; found = g; same = refl; kind_of = k; entry = ap is_some e })))
-
-      -- what is no array holds no chunk
-      bare : (r : Own c t p n) → is_array n.text ≡ false → (x : Option (List ℕ)) → t.chunk p i ≡ x → None ≡ x
-      bare r k None e = refl
-      bare r k (Some b) e = absurd (never (wt.chunks p i b e))
-        where
-          never : HasArray t p i b → ⊥
-          never a =
-              let here : a.node ≡ r.before = cc (sym a.found ∙ r.found) in
-              let yes_array : is_array n.text ≡ true =
-              sym (frozen-array r.before.text n.text (patched_over c t o p n r)) ∙ ap (λ (y : Node). is_array y.text) (sym here) ∙ fits-array a.node.text i (Some b) a.fits
-              in
-              cc
-
-      by_array : (r : Own c t p n) (k : Bool) → is_array n.text ≡ k → ((apply c t).chunk p i ≡ t.chunk p i) ⊎ ((lists_chunk s.updated_chunks n.id i || lists_new s n.id) ≡ true)
-      by_array r true k = by_entry k (c.chunks n.id i) refl
-      by_array r false k = inl (at_p ∙ ap (λ b. cond b (unwrap_or (c.chunks n.id i) (own_chunk (node_at t p) n.id (t.chunk p i))) None) k ∙ bare r k (t.chunk p i) refl)
-
-      by_case : (get c.added p ≡ Some n) ⊎ Own c t p n → ((apply c t).chunk p i ≡ t.chunk p i) ⊎ ((lists_chunk s.updated_chunks n.id i || lists_new s n.id) ≡ true)
-      by_case (inl a) = inr (or-right (lists_chunk s.updated_chunks n.id i) _ (added_listed p n a))
-      by_case (inr r) = by_array r (is_array n.text) refl
+      by_entry : (x : Option (Option (List ℕ))) → c.chunks n.id i ≡ x → ((apply c t).chunk p i ≡ t.chunk p i) ⊎ ((lists_chunk s.updated_chunks n.id i || lists_new s n.id) ≡ true)
+      by_entry None e = inl (ap (chunk_of c.chunks t p i) g ∙ (λ j. cond (k j) (unwrap_or (e j) (own_chunk (node_at t p) n.id (t.chunk p i))) None) ∙ own_is p i m n f same)
+      by_entry (Some x) e = inr (or-left _ (lists_new s n.id) ((ts.updated_chunks n.id i).1 (record { path = p; node = n; found = g; same = refl; kind_of = k; entry = ap is_some e })))
 
 pub differs-law : DiffersLaw
 differs-law c t s wt o ts = record { new = new c t s wt o ts; deleted = deleted c t s wt o ts; updated = updated c t s wt o ts; chunks = chunks c t s wt o ts }

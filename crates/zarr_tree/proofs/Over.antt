@@ -1,19 +1,21 @@
 -- Changes lie over a tree whatever ids are added.
-use Rattle.std.proofs.Common.{◌≡◌, ◌⊎◌, inl, inr, ℕ, Bool, true, false, cond, not, ◌||◌, List, Option, Some, None, unwrap_or, refl, sym, ap, subst, ◌∙◌}
+use Rattle.std.proofs.Common.{◌≡◌, ◌⊎◌, inl, inr, ℕ, Bool, true, false, cond, not, ◌||◌, List, Option, Some, None, is_some, refl, sym, ap, ◌∙◌}
 use Rattle.std.specs.FinMap.{get, insert, get-empty}
 use Rattle.ice_ids.specs.declared.Id8.{Id8}
-use Rattle.ice_ids.specs.Text.{same_id8}
 use Rattle.zarr_path.specs.Paths.{path_cmp, same_path, is_within}
 use Rattle.zarr_path.proofs.OrderLaws.{same_path-true}
-use Rattle.zarr_tree.specs.Nodes.{Node, is_metadata, SameFrozen}
-use Rattle.zarr_tree.specs.Trees.{Tree, node_at, IsWellFormed}
+use Rattle.zarr_tree.specs.Nodes.{Node, is_metadata}
+use Rattle.zarr_tree.specs.Trees.{Tree, node_at}
 use Rattle.zarr_tree.specs.Edits.{Edit, Add, SetMeta, Drop, Set, Unset, refusal, with_text}
-use Rattle.zarr_tree.specs.Changes.{Changes, none, is_gone, patched, has_id_within, apply, extended, with_meta, with_entry, HasMetadata, IsOver, IsNormal}
+use Rattle.zarr_tree.specs.Changes.{Changes, none, is_gone, patched, apply, extended, with_meta, with_entry, HasMetadata, IsOver, IsNormal}
+use Rattle.zarr_tree.specs.declared.cases.Case.TheVariants as case
+use Rattle.zarr_tree.specs.Touched.{Touched}
+use Rattle.zarr_tree.specs.Conflicts.{NoHardConflict, without}
 use Rattle.zarr_tree.specs.Laws.{OverLaw}
 use Rattle.zarr_tree.proofs.Maps.{Path, Index, get-put, get-where}
-use Rattle.zarr_tree.proofs.NodeLaws.{Text, frozen-refl, frozen-trans, frozen-metadata}
-use Rattle.zarr_tree.proofs.Apply.{Gone, gone-intro, gone-elim, id-true, Own, node_cases, added_node, own_node}
-use Rattle.zarr_tree.proofs.Extend.{own-id, passed, none_left, Kept, kept_of}
+use Rattle.zarr_tree.proofs.NodeLaws.{Text, frozen-metadata}
+use Rattle.zarr_tree.proofs.Apply.{Gone, gone-intro, gone-elim, added_node, own_node}
+use Rattle.zarr_tree.proofs.Extend.{passed, none_left, Kept, kept_of}
 
 or-left : (a b : Bool) → a ≡ true → (a || b) ≡ true
 or-left true b h = refl
@@ -21,7 +23,7 @@ or-left false b h = cc
 
 -- a node put into `added`
 put_over : (c : Changes) (t : Tree) (p : Path) (x : Node) → IsOver c t → is_metadata x.text ≡ true → ((n : Node) → node_at t p ≡ Some n → is_gone c.dropped t.nodes p ≡ true) → IsOver (record c { added = insert c.added p x }) t
-put_over c t p x o meta free = record { readable = λ q n f. readable q n (cases q n f); free = λ q m n f g. over q m n (cases q m f) g; frozen = o.frozen }
+put_over c t p x o meta free = record { readable = λ q n f. readable q n (cases q n f); free = λ q m n f g. over q m n (cases q m f) g }
   where
     cases : (q : Path) (n : Node) → get (insert c.added p x) q ≡ Some n → ((q ≡ p) × (n ≡ x)) ⊎ (get c.added q ≡ Some n)
     cases q n f = elim (same_path q p) as (λ s. same_path q p ≡ s → ((q ≡ p) × (n ≡ x)) ⊎ (get c.added q ≡ Some n)) [
@@ -46,15 +48,7 @@ bare_gone c t p absent n f = by_case (is_gone c.dropped t.nodes p) refl (get c.a
     by_case false e None g = let bad : None ≡ Some (patched c.metas n) = sym absent ∙ own_node c t p n g e f in cc
     by_case false e (Some x) g = let bad : None ≡ Some x = sym absent ∙ added_node c t p x g in cc
 
--- what stays of the tree's own node keeps its parts
-pub patched_over : (c : Changes) (t : Tree) → IsOver c t → (p : Path) (n : Node) (r : Own c t p n) → SameFrozen r.before.text n.text
-patched_over c t o p n r = subst (λ (x : Node). SameFrozen r.before.text x.text) (sym r.same) (by_meta (c.metas r.before.id) refl)
-  where
-    by_meta : (x : Option Text) → c.metas r.before.id ≡ x → SameFrozen r.before.text (unwrap_or x r.before.text)
-    by_meta None e = frozen-refl r.before.text
-    by_meta (Some x) e = o.frozen r.before.id x p r.before e r.found refl
-
-module _ (c : Changes) (t : Tree) (wt : IsWellFormed t) (o : IsOver c t) where
+module _ (c : Changes) (t : Tree) (o : IsOver c t) where
   meta-over : (p : Path) (m : Text) → refusal (apply c t) (SetMeta p m) ≡ None → (a u : Option Node) → get c.added p ≡ a → node_at (apply c t) p ≡ u → IsOver (with_meta c p m a u) t
   meta-over p m ok (Some n) u e f = put_over c t p (with_text m n) o meta (λ x g. o.free p n x e g)
     where
@@ -66,39 +60,11 @@ module _ (c : Changes) (t : Tree) (wt : IsWellFormed t) (o : IsOver c t) where
           let here : kept.node ≡ n = cc (sym kept.found ∙ added_node c t p n e) in
           sym (frozen-metadata kept.node.text m kept.same) ∙ ap (λ (x : Node). is_metadata x.text) here ∙ o.readable p n e
   meta-over p m ok None None e f = o
-  meta-over p m ok None (Some n) e f = record { readable = o.readable; free = o.free; frozen = λ id x q y h g is. new_frozen id x q y (id_case id x h) g is (node_cases c t p n f) }
-    where
-      kept : Kept (apply c t) p m
-      kept = kept_of (apply c t) p m ok
-
-      same : SameFrozen n.text m
-      same = let here : kept.node ≡ n = cc (sym kept.found ∙ f) in subst (λ (x : Node). SameFrozen x.text m) here kept.same
-
-      id_case : (id : Id8) (x : Text) → cond (same_id8 id n.id) (Some m) (c.metas id) ≡ Some x → ((id ≡ n.id) × (m ≡ x)) ⊎ (c.metas id ≡ Some x)
-      id_case id x h = elim (same_id8 id n.id) as (λ b. same_id8 id n.id ≡ b → cond b (Some m) (c.metas id) ≡ Some x → ((id ≡ n.id) × (m ≡ x)) ⊎ (c.metas id ≡ Some x)) [
-        | true ↦ λ g k. inl (id-true id n.id g, some_same m x k)
-        | false ↦ λ g k. inr k
-      ] refl h
-        where
-          some_same : (x y : Text) → Some x ≡ Some y → x ≡ y
-          some_same x y k = cc
-
-      new_frozen : (id : Id8) (x : Text) (q : Path) (y : Node) → ((id ≡ n.id) × (m ≡ x)) ⊎ (c.metas id ≡ Some x) → node_at t q ≡ Some y → y.id ≡ id → (get c.added p ≡ Some n) ⊎ Own c t p n → SameFrozen y.text x
-      new_frozen id x q y (inr h) g is w = o.frozen id x q y h g is
-      new_frozen id x q y (inl h) g is (inl a) = let bad : None ≡ Some n = sym e ∙ a in cc
-      new_frozen id x q y (inl h) g is (inr r) =
-          let at : q ≡ p = wt.distinct q p y r.before g r.found (is ∙ h.0 ∙ own-id c t p n r) in
-          let here : r.before ≡ y = cc (sym r.found ∙ sym (ap (node_at t) at) ∙ g) in
-          let own : SameFrozen r.before.text n.text = patched_over c t o p n r in
-          subst (λ (z : Node). SameFrozen z.text x) here (subst (SameFrozen r.before.text) h.1 (frozen-trans r.before.text n.text m own same))
+  meta-over p m ok None (Some n) e f = record { readable = o.readable; free = o.free }
 
   drop-over : (p : Path) → IsOver (extended c t (Drop p)) t
-  drop-over p = record { readable = λ q n f. o.readable q n (left q n f); free = λ q m n f g. over q (o.free q m n (left q m f) g); frozen = λ id x q n h f is. o.frozen id x q n (kept_in (has_id_within (apply c t).nodes p id) (c.metas id) x h) f is }
+  drop-over p = record { readable = λ q n f. o.readable q n (left q n f); free = λ q m n f g. over q (o.free q m n (left q m f) g) }
     where
-      kept_in : (b : Bool) (y : Option Text) (x : Text) → cond b None y ≡ Some x → y ≡ Some x
-      kept_in true y x h = cc
-      kept_in false y x h = h
-
       left : (q : Path) (n : Node) → get (extended c t (Drop p)).added q ≡ Some n → get c.added q ≡ Some n
       left q n f = elim (is_within p q) as (λ b. cond (not b) (get c.added q) None ≡ Some n → get c.added q ≡ Some n) [ true ↦ λ h. cc | false ↦ λ h. h ] (sym (get-where c.added (λ r. not (is_within p r)) q) ∙ f)
 
@@ -109,7 +75,7 @@ module _ (c : Changes) (t : Tree) (wt : IsWellFormed t) (o : IsOver c t) where
 
   entry-over : (i : Index) (e : Option (Option (List ℕ))) (u : Option Node) → IsOver (with_entry c i e u) t
   entry-over i e None = o
-  entry-over i e (Some n) = record { readable = o.readable; free = o.free; frozen = o.frozen }
+  entry-over i e (Some n) = record { readable = o.readable; free = o.free }
 
   over : (e : Edit) → HasMetadata e → refusal (apply c t) e ≡ None → IsOver (extended c t e) t
   over (Add p id m) r h = put_over c t p (record { id = id; text = m }) o r (bare_gone c t p (none_left (node_at (apply c t) p) (passed _ _ _ h).0))
@@ -119,13 +85,20 @@ module _ (c : Changes) (t : Tree) (wt : IsWellFormed t) (o : IsOver c t) where
   over (Unset p i) r h = entry-over i _ (node_at (apply c t) p)
 
 none_over : (t : Tree) → IsOver none t
-none_over t = record { readable = λ p n f. absurd (never p n f); free = λ p m n f g. absurd (never p m f); frozen = λ id x p n h f is. cc }
+none_over t = record { readable = λ p n f. absurd (never p n f); free = λ p m n f g. absurd (never p m f) }
   where
     never : (p : Path) (n : Node) → get none.added p ≡ Some n → ⊥
     never p n f = let bad : None ≡ Some n = sym (get-empty path_cmp p) ∙ f in cc
 
 pub normal_over : (c : Changes) (t : Tree) → IsNormal c t → IsOver c t
-normal_over c t nc = record { readable = λ p n f. nc.well_formed.readable p n (added_node c t p n f); free = nc.free; frozen = nc.frozen }
+normal_over c t nc = record { readable = λ p n f. nc.well_formed.readable p n (added_node c t p n f); free = nc.free }
+
+rebased : (c : Changes) (s : Touched) (t u : Tree) (out : Id8 → List ℕ → Bool) → IsOver c t → NoHardConflict c s t u → IsOver (without c out) u
+rebased c s t u out o hard = record { readable = o.readable; free = λ p m n a f. free p m n a f (is_gone c.dropped u.nodes p) refl }
+  where
+    free : (p : Path) (m n : Node) → get c.added p ≡ Some m → node_at u p ≡ Some n → (b : Bool) → is_gone c.dropped u.nodes p ≡ b → b ≡ true
+    free p m n a f true g = refl
+    free p m n a f false g = absurd (hard case.NewNodeConflictsWithExistingNode p None refl (ap is_some a, ap is_some f, g))
 
 pub over-law : OverLaw
-over-law = record { none_over = none_over; kept = λ c t e wt o r h. over c t wt o e r h; normal = normal_over }
+over-law = record { none_over = none_over; kept = λ c t e o r h. over c t o e r h; normal = normal_over; rebased = rebased }

@@ -121,12 +121,10 @@ pub record EntryFits (t u : Tree) (id : Id8) (i : List ℕ) (entry : Option (Lis
   pub fits : Fits node.text i entry
   pub unset : entry ≡ None → StillHas t u id
 
--- changes lie over a tree where what is added has metadata, no added node takes the place of one that isn't gone, and
--- another text leaves the parts that stay
+-- changes lie over a tree where what is added has metadata, and no added node takes the place of one that isn't gone
 pub record IsOver (c : Changes) (t : Tree) : Type 0 where
   pub readable : (p : List ℕ) (n : Node) → get c.added p ≡ Some n → is_metadata n.text ≡ true
   pub free : (p : List ℕ) (m n : Node) → get c.added p ≡ Some m → node_at t p ≡ Some n → is_gone c.dropped t.nodes p ≡ true
-  pub frozen : (id : Id8) (text p : List ℕ) (n : Node) → c.metas id ≡ Some text → node_at t p ≡ Some n → n.id ≡ id → SameFrozen n.text text
 
 -- what changes are that edits have made from none
 pub record IsNormal (c : Changes) (t : Tree) : Type 0 where

@@ -25,11 +25,13 @@ NormalLaw = (c : Changes) (t : Tree) (e : Edit) → IsWellFormed t → IsNormal 
 abbrev pub NoneLaw : Type 0
 NoneLaw = (t : Tree) → IsWellFormed t → (apply none t ≡ t) × IsNormal none t
 
--- changes lie over a tree whatever ids are added: none do, one more edit keeps it, and normal ones do
+-- changes lie over a tree whatever ids are added: none do, one more edit keeps it, normal ones do, and they lie over a later
+-- tree where all conflicts can be solved
 pub record OverLaw : Type 0 where
   pub none_over : (t : Tree) → IsOver none t
-  pub kept : (c : Changes) (t : Tree) (e : Edit) → IsWellFormed t → IsOver c t → HasMetadata e → refusal (apply c t) e ≡ None → IsOver (extended c t e) t
+  pub kept : (c : Changes) (t : Tree) (e : Edit) → IsOver c t → HasMetadata e → refusal (apply c t) e ≡ None → IsOver (extended c t e) t
   pub normal : (c : Changes) (t : Tree) → IsNormal c t → IsOver c t
+  pub rebased : (c : Changes) (s : Touched) (t u : Tree) (out : Id8 → List ℕ → Bool) → IsOver c t → NoHardConflict c s t u → IsOver (without c out) u
 
 -- what changes touch tells all in which the tree under them differs, whatever ids are added
 abbrev pub DiffersLaw : Type 0

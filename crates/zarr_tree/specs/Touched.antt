@@ -105,12 +105,12 @@ pub record Touches (c : Changes) (t : Tree) (s : Touched) : Type 0 where
 -- ---- in what two trees differ
 
 -- the lists tell all in which a later tree differs. A node that stands at its path in one of the trees alone is listed as
--- new or as deleted. Of a node in both, its text is the same, or it is listed as updated or as new; and each of its chunks is
--- the same, or that chunk is listed, or the node as new
+-- new or as deleted. Of a node in both, its text is the same, or it is listed as updated or as new; and each chunk of an
+-- array in both is the same, or that chunk is listed, or the array as new
 pub record DiffersIn (s : Touched) (earlier later : Tree) : Type 0 where
   pub new : (p : List ℕ) (n : Node) → node_at later p ≡ Some n → has_id n.id (node_at earlier p) ≡ false → lists_new s n.id ≡ true
   pub deleted : (p : List ℕ) (n : Node) → node_at earlier p ≡ Some n → has_id n.id (node_at later p) ≡ false → lists_deleted s n.id ≡ true
   pub updated : (p : List ℕ) (m n : Node) → node_at earlier p ≡ Some m → node_at later p ≡ Some n → m.id ≡ n.id
       → (n.text ≡ m.text) ⊎ ((lists_updated s n.id || lists_new s n.id) ≡ true)
-  pub chunks : (p i : List ℕ) (m n : Node) → node_at earlier p ≡ Some m → node_at later p ≡ Some n → m.id ≡ n.id
+  pub chunks : (p i : List ℕ) (m n : Node) → node_at earlier p ≡ Some m → node_at later p ≡ Some n → m.id ≡ n.id → is_array n.text ≡ true
       → (later.chunk p i ≡ earlier.chunk p i) ⊎ ((lists_chunk s.updated_chunks n.id i || lists_new s n.id) ≡ true)
