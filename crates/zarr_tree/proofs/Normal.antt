@@ -11,10 +11,10 @@ use Rattle.zarr_path.proofs.PathLaws.{within-trans, parent-within}
 use Rattle.zarr_tree.specs.declared.edit.EditFault.{EditFault}
 use Rattle.zarr_tree.specs.declared.edit.EditFault.TheVariants.{NodeExists, NoParent, Full}
 use Rattle.zarr_tree.specs.Nodes.{Node, is_metadata, is_group, is_array, array_in, SameFrozen, Fits, same_numbers}
-use Rattle.zarr_tree.specs.Trees.{Tree, node_at, IsWellFormed, HasGroup, HasArray}
+use Rattle.zarr_tree.specs.Trees.{Tree, no_tree, node_at, IsWellFormed, HasGroup, HasArray}
 use Rattle.zarr_tree.specs.Edits.{Edit, Add, SetMeta, Drop, Set, Unset, refusal, edited, most_nodes, is_group_at, is_place, with_text}
 use Rattle.zarr_tree.specs.Changes.{Changes, is_gone, patched, has_id, has_id_within, own_chunk, chunk_of, apply, extended, with_meta, with_entry, IsNormal, StillHas, EntryFits, IsFresh, CanExtend, NamesPath, HasMetadata, none}
-use Rattle.zarr_tree.specs.Laws.{NormalLaw, NoneLaw}
+use Rattle.zarr_tree.specs.Laws.{NormalLaw, NoneLaw, EmptyLaw}
 use Rattle.zarr_tree.proofs.Maps.{Path, Index, get-put, get-where}
 use Rattle.zarr_tree.proofs.ViewLaws.{InGrid, in_grid_is}
 use Rattle.zarr_tree.proofs.NodeLaws.{Text, frozen-refl, frozen-trans, frozen-group, frozen-metadata, fits-frozen, fits-array}
@@ -536,3 +536,15 @@ none-law t wt =
 
     never : (p q : Path) (m : Node) → get none.added p ≡ Some m → p ≡ q
     never p q m f = absurd (never_here p m f)
+
+pub empty-law : EmptyLaw
+empty-law = record {
+  named = λ p n f. absurd (never p n f);
+  readable = λ p n f. absurd (never p n f);
+  distinct = λ p q m n f g e. absurd (never p m f);
+  parents = λ p n f ne. absurd (never p n f);
+  chunks = λ p i b h. cc;
+}
+  where
+    never : (p : Path) (n : Node) → node_at no_tree p ≡ Some n → ⊥
+    never p n f = let bad : None ≡ Some n = sym (get-empty path_cmp p) ∙ f in cc

@@ -4,7 +4,7 @@ use Rattle.std.specs.FinMap.{FinMap}
 use Rattle.ice_ids.specs.declared.Id8.{Id8}
 use Rattle.zarr_path.specs.Paths.{path_cmp}
 use Rattle.zarr_tree.specs.Nodes.{Node}
-use Rattle.zarr_tree.specs.Trees.{Tree, IsWellFormed}
+use Rattle.zarr_tree.specs.Trees.{Tree, no_tree, IsWellFormed}
 use Rattle.zarr_tree.specs.Edits.{Edit, refusal, change}
 use Rattle.zarr_tree.specs.Changes.{Changes, none, apply, extended, extend, IsOver, IsNormal, CanExtend, NamesPath, HasMetadata, result_map}
 use Rattle.zarr_tree.specs.Touched.{Touched, Touches, IsOrdered, DiffersIn}
@@ -24,6 +24,10 @@ NormalLaw = (c : Changes) (t : Tree) (e : Edit) → IsWellFormed t → IsNormal 
 -- no changes are normal, and leave a tree as it is
 abbrev pub NoneLaw : Type 0
 NoneLaw = (t : Tree) → IsWellFormed t → (apply none t ≡ t) × IsNormal none t
+
+-- the tree without a node is well formed
+abbrev pub EmptyLaw : Type 0
+EmptyLaw = IsWellFormed no_tree
 
 -- changes lie over a tree whatever ids are added: none do, one more edit keeps it, normal ones do, and they lie over a later
 -- tree where all conflicts can be solved

@@ -1,6 +1,6 @@
 //! Laws of trees and changes: each function's clause is the law, and its body is empty.
 
-ghost use Rattle.zarr_tree.specs.Laws.{ChangeLaw, NormalLaw, NoneLaw, OverLaw, DiffersLaw, TouchedLaw, OrderedLaw, CommuteLaw, RebaseLaw};
+ghost use Rattle.zarr_tree.specs.Laws.{ChangeLaw, NormalLaw, NoneLaw, EmptyLaw, OverLaw, DiffersLaw, TouchedLaw, OrderedLaw, CommuteLaw, RebaseLaw};
 
 /// An edit on the tree under changes is one more edit in the changes, with the same refusal.
 pub fn change_law()
@@ -15,6 +15,11 @@ pub fn normal_law()
 /// No changes are normal, and leave a tree as it is.
 pub fn none_law()
     ensures { NoneLaw }
+{}
+
+/// The tree without a node is well formed.
+pub fn empty_law()
+    ensures { EmptyLaw }
 {}
 
 /// One more edit keeps changes over a tree, whatever id is added.
