@@ -1,15 +1,22 @@
 -- The laws of trees and changes.
-use Rattle.std.specs.Prelude.{◌≡◌, ℕ, Bool, List, Option, None}
+use Rattle.std.specs.Prelude.{◌≡◌, ℕ, Bool, List, Option, None, true, Some}
 use Rattle.std.specs.FinMap.{FinMap}
 use Rattle.ice_ids.specs.declared.Id8.{Id8}
 use Rattle.zarr_path.specs.Paths.{path_cmp}
-use Rattle.zarr_tree.specs.Nodes.{Node}
+use Rattle.zarr_meta.specs.declared.views.ArrayView.{ArrayView}
+use Rattle.zarr_meta.specs.Grids.{has_grid}
+use Rattle.zarr_meta.specs.Kinds.{size_of}
+use Rattle.zarr_tree.specs.Nodes.{Node, array_in}
 use Rattle.zarr_tree.specs.Trees.{Tree, no_tree, IsWellFormed}
 use Rattle.zarr_tree.specs.Edits.{Edit, refusal, change}
 use Rattle.zarr_tree.specs.Changes.{Changes, none, apply, extended, extend, IsOver, IsNormal, CanExtend, NamesPath, HasMetadata, result_map}
 use Rattle.zarr_tree.specs.Touched.{Touched, Touches, IsOrdered, DiffersIn}
 use Rattle.zarr_tree.specs.Conflicts.{IsApart, NoConflict, NoHardConflict, without}
 use Rattle.zarr_tree.specs.Held.{Held, changes_of, touched}
+
+-- the chunks of an array that a text describes are those of a grid
+abbrev pub GridLaw : Type 0
+GridLaw = (text : List ℕ) (a : ArrayView) → array_in text ≡ Some a → has_grid (size_of a.kind) a.shape a.chunks ≡ true
 
 -- an edit on the tree under changes is one more edit in the changes, with the same refusal
 abbrev pub ChangeLaw : Type 0

@@ -1,6 +1,11 @@
 //! Laws of trees and changes: each function's clause is the law, and its body is empty.
 
-ghost use Rattle.zarr_tree.specs.Laws.{ChangeLaw, NormalLaw, NoneLaw, EmptyLaw, OverLaw, DiffersLaw, TouchedLaw, OrderedLaw, CommuteLaw, RebaseLaw};
+ghost use Rattle.zarr_tree.specs.Laws.{GridLaw, ChangeLaw, NormalLaw, NoneLaw, EmptyLaw, OverLaw, DiffersLaw, TouchedLaw, OrderedLaw, CommuteLaw, RebaseLaw};
+
+/// The chunks of an array that a text describes are those of a grid.
+pub fn grid_law()
+    ensures { GridLaw }
+{}
 
 /// An edit on the tree under changes is one more edit in the changes, with the same refusal.
 pub fn change_law()

@@ -11,7 +11,7 @@ mod lists;
 pub use cases::Case;
 pub use edit::{EditFault, Frozen, MOST_NODES};
 pub use laws::{
-    change_law, commute_law, differs_law, empty_law, none_law, normal_law, ordered_law, over_law,
-    rebase_law, touched_law,
+    change_law, commute_law, differs_law, empty_law, grid_law, none_law, normal_law, ordered_law,
+    over_law, rebase_law, touched_law,
 };
 pub use lists::{ArrayChunks, Ids, Touched};
