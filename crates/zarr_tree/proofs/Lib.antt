@@ -1,0 +1,13 @@
+pub mod ViewLaws
+pub mod NodeLaws
+pub mod Maps
+pub mod Apply
+pub mod Above
+pub mod Extend
+pub mod Normal
+pub mod Over
+pub mod Differing
+pub mod Commute
+pub mod Rebase
+pub mod Ordered
+pub mod Listing

@@ -1,0 +1,26 @@
+//! The kinds of conflicts.
+
+/// How changes conflict with a later commit, by the names of Icechunk's conflict detector.
+#[derive(Clone, Copy, Debug, PartialEq, Eq)]
+pub enum Case {
+    /// A node is added where another one stands.
+    NewNodeConflictsWithExistingNode,
+    /// A node is added beneath a group that isn't there any more.
+    NewNodeInInvalidGroup,
+    /// The metadata of a node is changed on both sides.
+    ZarrMetadataDoubleUpdate,
+    /// The metadata of an array is changed that was deleted.
+    ZarrMetadataUpdateOfDeletedArray,
+    /// The metadata of a group is changed that was deleted.
+    ZarrMetadataUpdateOfDeletedGroup,
+    /// A chunk is written on both sides.
+    ChunkDoubleUpdate,
+    /// Chunks of an array are written that was deleted.
+    ChunksUpdatedInDeletedArray,
+    /// Chunks of an array are written whose metadata was changed.
+    ChunksUpdatedInUpdatedArray,
+    /// An array is dropped whose metadata or chunks were changed.
+    DeleteOfUpdatedArray,
+    /// A group is dropped whose metadata was changed, or beneath which a node was added.
+    DeleteOfUpdatedGroup,
+}
