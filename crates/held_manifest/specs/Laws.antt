@@ -1,0 +1,17 @@
+-- Holding a file and reading it agree.
+use Rattle.std.specs.Prelude.{◌≡◌, ◌⊎◌, ℕ, List, Result, Ok, Err}
+use Rattle.flat_tables.specs.declared.fault.FileFault.{FileFault}
+use Rattle.flat_tables.specs.declared.fault.FileFault.TheVariants.{NoMemory}
+use Rattle.flat_tables.specs.Rows.{Reads}
+use Rattle.manifest_file.specs.declared.manifest.ManifestFile.{ManifestFile}
+use Rattle.manifest_file.specs.Manifests.{manifest_of}
+use Rattle.held_manifest.specs.Files.{Holds}
+
+-- the same manifest, or the same fault, unless memory ran out in the reading
+abbrev pub Agree : Result ManifestFile FileFault → Result ManifestFile (List ℕ × FileFault) → List ℕ → Type 0
+Agree (Ok manifest) held file = held ≡ Ok manifest
+Agree (Err fault) held file = (fault ≡ NoMemory) ⊎ (held ≡ Err (file, fault))
+
+-- whatever reading a file and holding it answer, they agree
+abbrev pub HeldLaw : Type 0
+HeldLaw = (file : List ℕ) (read : Result ManifestFile FileFault) (held : Result ManifestFile (List ℕ × FileFault)) → Reads (λ m. m) read (manifest_of file) → Holds file held → Agree read held file

@@ -1,0 +1,5 @@
+pub mod Places
+pub mod Views
+pub mod LookUp
+pub mod Files
+pub mod Laws

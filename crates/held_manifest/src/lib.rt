@@ -1,0 +1,18 @@
+//! Manifests that are read in place: the file stays as it came, and its parts are found when they are asked for.
+//!
+//! [`hold`] takes a file that stands for a manifest and refuses another one with its first fault; no call takes memory.
+//! Arrays and chunks are found by halves.
+#![tactic(auto)]
+
+mod arrays;
+mod chunks;
+mod held;
+mod indices;
+pub mod laws;
+mod looking;
+mod places;
+
+pub use chunks::{RefView, Refs};
+pub use held::{Held, hold};
+pub use looking::{chunk_place, is_within, look_up};
+pub use places::PlaceView;
