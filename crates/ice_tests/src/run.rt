@@ -3,10 +3,9 @@
 use ice_base::{ByteSink, ByteSource, TickClock};
 use ice_ids::Draw;
 use mem_store::{FaultStore, MemStore};
-use play_script::ScriptKind;
 use std::alloc::Global;
 use std::test::Fail;
-use top_call::{Status, UsageFault, Word, run, words_of};
+use top_call::{Word, run, words_of};
 
 /// Which reads of the input, writes of the output and calls of the store fail; a call of the store may be done all the same.
 #[derive(Clone, Copy)]
@@ -31,13 +30,13 @@ fn words(alloc: Global, said: &[&str]) -> Result<Vec<Word>, Fail> {
     Ok(words_of(alloc, texts.into_iter())?)
 }
 
-/// What a run writes, and its status.
+/// What a run writes, its status, and the line on standard error.
 fn ran(
     alloc: Global,
     said: &[&str],
     script: &str,
     failing: Failing<'_>,
-) -> Result<(String, Status), Fail> {
+) -> Result<(String, u8, String), Fail> {
     let words = words(alloc, said)?;
     let script = script.as_bytes().to_vec(alloc)?;
     let mut input = ByteSource::new(script, failing.reads.to_vec(alloc)?);
@@ -46,14 +45,16 @@ fn ran(
     let store = FaultStore::new(MemStore::new(alloc, TickClock::new()), calls);
     let ended = run(alloc, &words, Draw::Count, &mut input, store, &mut output);
     let report = String::from_utf8_lossy(alloc, output.written())?;
-    Ok((report, ended.status))
+    let line = ended.status.to_string(alloc)?;
+    Ok((report, ended.status.number(), line))
 }
 
-/// A script, and the report and the status that it should have.
+/// A script, and the report, the status and the line on standard error that it should have.
 struct Row {
     script: &'static str,
     report: &'static str,
-    status: Status,
+    status: u8,
+    line: &'static str,
 }
 
 const SMALLEST_COMMIT: &str = "task a write main 0 fail\ngroup /\ncommit first\n";
@@ -64,12 +65,14 @@ const ROWS: [Row; 7] = [
     Row {
         script: "",
         report: "branch main 1CECHNKREP0F1RSTCMT0\n",
-        status: Status::Ok,
+        status: 0,
+        line: "",
     },
     Row {
         script: SMALLEST_COMMIT,
         report: "a committed 0000008000000000000G\nbranch main 0000008000000000000G\n",
-        status: Status::Ok,
+        status: 0,
+        line: "",
     },
     // The groups that stand already and those of the session itself are shown; a listing without nodes shows none.
     Row {
@@ -81,7 +84,8 @@ const ROWS: [Row; 7] = [
             a committed 0000008000000000001G\n\
             r 10 list group /b/c\nr done\n\
             branch main 0000008000000000001G\n",
-        status: Status::Ok,
+        status: 0,
+        line: "",
     },
     // A task shows what it came to before the line that is refused.
     Row {
@@ -89,7 +93,8 @@ const ROWS: [Row; 7] = [
             group /\ngroup /b\nlist /\ngroup /c/d\ncommit x\n",
         report: "a 4 list group /b\na refused 5 noparent\n\
             branch main 1CECHNKREP0F1RSTCMT0\n",
-        status: Status::Refused,
+        status: 1,
+        line: "",
     },
     // Both tasks read the same version before one commits: the other's commit is refused, and what the first made stands.
     Row {
@@ -100,7 +105,8 @@ const ROWS: [Row; 7] = [
             b refused 8 conflict 1 8\n\
             r 10 list group /a\nr done\n\
             branch main 00000080000000000010\n",
-        status: Status::Refused,
+        status: 1,
+        line: "",
     },
     // Between the two gets of an opening another task commits: the session reads what its branch named at the first.
     Row {
@@ -111,24 +117,24 @@ const ROWS: [Row; 7] = [
             b committed 000000G000000000000G\n\
             r done\n\
             branch main 000000G000000000000G\n",
-        status: Status::Ok,
+        status: 0,
+        line: "",
     },
     Row {
         script: "task a write main 0 fail\ngroup /\ngroop /b\ncommit x\n",
         report: "",
-        status: Status::Script {
-            line: 3,
-            kind: ScriptKind::Unbuilt,
-        },
+        status: 3,
+        line: "icerepo: script line 3: unbuilt",
     },
 ];
 
 #[test]
 fn scripts(rt: HostRuntime) -> Result<(), Fail> {
     for row in &ROWS {
-        let (report, status) = ran(rt.alloc(), &["play"], row.script, NOTHING_FAILS)?;
+        let (report, status, line) = ran(rt.alloc(), &["play"], row.script, NOTHING_FAILS)?;
         assert_eq!(rt; report.as_str(), row.report, "{}", row.script);
         assert_eq!(rt; status, row.status, "{}", row.script);
+        assert_eq!(rt; line.as_str(), row.line, "{}", row.script);
     }
     Ok(())
 }
@@ -137,7 +143,8 @@ fn scripts(rt: HostRuntime) -> Result<(), Fail> {
 struct FailingRow {
     failing: Failing<'static>,
     report: &'static str,
-    status: Status,
+    status: u8,
+    line: &'static str,
 }
 
 const FAILING_ROWS: [FailingRow; 4] = [
@@ -147,7 +154,8 @@ const FAILING_ROWS: [FailingRow; 4] = [
             ..NOTHING_FAILS
         },
         report: "",
-        status: Status::ReadFault,
+        status: 4,
+        line: "icerepo: read fault",
     },
     FailingRow {
         failing: Failing {
@@ -155,7 +163,8 @@ const FAILING_ROWS: [FailingRow; 4] = [
             ..NOTHING_FAILS
         },
         report: "",
-        status: Status::WriteFault,
+        status: 5,
+        line: "icerepo: write fault",
     },
     // The opening of the session fails.
     FailingRow {
@@ -164,7 +173,8 @@ const FAILING_ROWS: [FailingRow; 4] = [
             ..NOTHING_FAILS
         },
         report: "a refused 1 storefault\nbranch main 1CECHNKREP0F1RSTCMT0\n",
-        status: Status::StoreFault,
+        status: 6,
+        line: "icerepo: store fault",
     },
     // The put of the branch was done, and its answer was lost.
     FailingRow {
@@ -173,32 +183,30 @@ const FAILING_ROWS: [FailingRow; 4] = [
             ..NOTHING_FAILS
         },
         report: "a refused 3 storefault\nbranch main 0000008000000000000G\n",
-        status: Status::StoreFault,
+        status: 6,
+        line: "icerepo: store fault",
     },
 ];
 
 #[test]
 fn ends_that_fail(rt: HostRuntime) -> Result<(), Fail> {
     for row in &FAILING_ROWS {
-        let (report, status) = ran(rt.alloc(), &["play"], SMALLEST_COMMIT, row.failing)?;
-        assert_eq!(rt; report.as_str(), row.report);
-        assert_eq!(rt; status, row.status);
+        let (report, status, line) = ran(rt.alloc(), &["play"], SMALLEST_COMMIT, row.failing)?;
+        assert_eq!(rt; report.as_str(), row.report, "{}", row.line);
+        assert_eq!(rt; status, row.status, "{}", row.line);
+        assert_eq!(rt; line.as_str(), row.line);
     }
     Ok(())
 }
 
 #[test]
 fn wrong_words(rt: HostRuntime) -> Result<(), Fail> {
-    let cases: [(&[&str], UsageFault); 4] = [
-        (&[], UsageFault::NoCommand),
-        (&["Play"], UsageFault::Unknown),
-        (&["pla", "--dir"], UsageFault::Unknown),
-        (&["play", ""], UsageFault::Words),
-    ];
-    for (said, fault) in cases {
-        let (report, status) = ran(rt.alloc(), said, SMALLEST_COMMIT, NOTHING_FAILS)?;
+    let cases: [&[&str]; 4] = [&[], &["Play"], &["pla", "--dir"], &["play", ""]];
+    for said in cases {
+        let (report, status, line) = ran(rt.alloc(), said, SMALLEST_COMMIT, NOTHING_FAILS)?;
         assert_eq!(rt; report.as_str(), "");
-        assert_eq!(rt; status, Status::Usage(fault));
+        assert_eq!(rt; status, 2, "{said:?}");
+        assert_eq!(rt; line.as_str(), "icerepo: usage");
     }
     Ok(())
 }
