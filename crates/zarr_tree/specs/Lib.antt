@@ -1,4 +1,6 @@
 pub mod Nodes
+pub mod Codes
+pub mod Rows
 pub mod Trees
 pub mod Edits
 pub mod Changes

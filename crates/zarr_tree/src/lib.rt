@@ -7,6 +7,7 @@ mod cases;
 mod edit;
 mod laws;
 mod lists;
+mod nodes;
 
 pub use cases::Case;
 pub use edit::{EditFault, Frozen, MOST_NODES};
@@ -15,3 +16,4 @@ pub use laws::{
     over_law, rebase_law, touched_law,
 };
 pub use lists::{ArrayChunks, Ids, Touched};
+pub use nodes::{Found, Node, TreeLike};

@@ -1,0 +1,4 @@
+pub mod Readings
+pub mod Trees
+pub mod Loading
+pub mod Laws

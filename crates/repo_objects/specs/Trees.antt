@@ -1,0 +1,98 @@
+-- The tree of a snapshot, by what was put. (Icechunk specification version 1, "Snapshots", "Manifests", "Chunks"; which
+-- manifest of a node's list has a chunk is own.)
+use Rattle.std.specs.Prelude.{◌≡◌, ℕ, ◌+◌, nat_le, if◌then◌else◌, List, [], length, take, drop, map, find, Option, Some, None, option_map, option_and_then, IsSome, IfSome}
+use Rattle.std.specs.Option.{unwrap_or}
+use Rattle.std.specs.List.{Contains}
+use Rattle.std.specs.FinMap.{FinMap, from_entries}
+use Rattle.ice_ids.specs.declared.Id12.{Id12}
+use Rattle.zarr_path.specs.Paths.{path_cmp, same_path}
+use Rattle.zarr_meta.specs.declared.views.ArrayView.{ArrayView}
+use Rattle.zarr_tree.specs.Nodes.{Node, array_in}
+use Rattle.zarr_tree.specs.Trees.{Tree, IsWellFormed}
+use Rattle.snapshot_file.specs.declared.nodes.ManifestRef.{ManifestRef}
+use Rattle.snapshot_file.specs.declared.nodes.NodeKind.{NodeKind}
+use Rattle.snapshot_file.specs.declared.nodes.NodeKind.TheVariants.{Group, Array}
+use Rattle.snapshot_file.specs.declared.nodes.NodeRow.{NodeRow}
+use Rattle.manifest_file.specs.declared.manifest.Place.{Place}
+use Rattle.manifest_file.specs.declared.manifest.Place.TheVariants.{Inline, Object}
+use Rattle.manifest_file.specs.declared.manifest.ManifestFile.{ManifestFile}
+use Rattle.held_manifest.specs.LookUp.{Listed, chunk_place}
+use Rattle.repo_objects.specs.Readings.{manifest_by}
+
+-- ---- nodes
+
+-- the node of a row
+abbrev pub node_of : NodeRow → Node
+node_of row = record { id = row.id; text = row.user_data }
+
+-- the nodes of rows, by their paths
+abbrev pub nodes_in : List NodeRow → FinMap path_cmp Node
+nodes_in rows = from_entries (map (λ row. (row.path, node_of row)) rows)
+
+-- the row at a path
+abbrev pub row_at : List NodeRow → List ℕ → Option NodeRow
+row_at rows p = find (λ row. same_path row.path p) rows
+
+-- the manifests that an array names
+abbrev pub manifests_of : NodeKind → List ManifestRef
+manifests_of Group = []
+manifests_of (Array shape names manifests) = manifests
+
+-- ---- chunks
+
+-- the bytes of manifests and of objects with chunks, as they were put
+pub record Puts : Type 0 where
+  pub manifest : Id12 → Option (List ℕ)
+  pub chunk : Id12 → Option (List ℕ)
+
+-- a part of an object
+abbrev pub part_of : (offset size : ℕ) → List ℕ → Option (List ℕ)
+part_of offset size bytes = if nat_le (offset + size) (length bytes) then Some (take size (drop offset bytes)) else None
+
+-- the bytes at a place
+abbrev pub bytes_at : Puts → Place → Option (List ℕ)
+bytes_at puts (Inline bytes) = Some bytes
+bytes_at puts (Object id offset size) = option_and_then (part_of offset size) (puts.chunk id)
+
+-- a manifest that was put, and that reads as one
+abbrev pub manifest_put : Puts → Id12 → Option ManifestFile
+manifest_put puts id = option_and_then (manifest_by id) (puts.manifest id)
+
+-- an unreadable manifest counts as one without chunks
+abbrev pub or_empty : Id12 → Option ManifestFile → ManifestFile
+or_empty id manifest = unwrap_or manifest (record { id = id; arrays = [] })
+
+-- the manifests that an array names, each with its extents there
+abbrev pub listed : Puts → List ManifestRef → List Listed
+listed puts manifests = map (λ m. (m.extents, or_empty m.id (manifest_put puts m.id))) manifests
+
+-- where a row's chunk is, if it is an array's
+abbrev pub place_in : Puts → NodeRow → List ℕ → Option ArrayView → Option Place
+place_in puts row i None = None
+place_in puts row i (Some array) = chunk_place (length array.shape) row.id i (listed puts (manifests_of row.kind))
+
+abbrev pub place_under : Puts → NodeRow → List ℕ → Option Place
+place_under puts row i = place_in puts row i (array_in row.user_data)
+
+abbrev pub chunk_under : Puts → List ℕ → Option NodeRow → Option (List ℕ)
+chunk_under puts i None = None
+chunk_under puts i (Some row) = option_and_then (bytes_at puts) (place_under puts row i)
+
+-- ---- trees
+
+-- the tree of a snapshot's rows
+abbrev pub tree_under : Puts → List NodeRow → Tree
+tree_under puts rows = record {
+  nodes = nodes_in rows;
+  chunk = λ p i. chunk_under puts i (row_at rows p);
+}
+
+-- all that the rows name was put and is readable: their manifests, and the bytes at the places of their chunks
+pub record IsReadable (puts : Puts) (rows : List NodeRow) : Type 0 where
+  pub manifests : (p : List ℕ) (row : NodeRow) (m : ManifestRef) → row_at rows p ≡ Some row → Contains (manifests_of row.kind) m → IsSome (manifest_put puts m.id)
+  pub chunks : (p i : List ℕ) (row : NodeRow) (place : Place) → row_at rows p ≡ Some row → place_under puts row i ≡ Some place → IsSome (bytes_at puts place)
+
+-- the rows have a tree: all is readable, and it is well formed
+pub record HasTree (puts : Puts) (rows : List NodeRow) : Type 0 where
+  pub readable : IsReadable puts rows
+  pub well_formed : IsWellFormed (tree_under puts rows)
