@@ -62,7 +62,7 @@ row_fault row = kind_fault row.kind (meta_of row.user_data)
 -- the first row with a fault, where the first one has this number
 unfoldable pub first_bad : (at : ℕ) → List NodeRow → Option Bad
 first_bad at [] = None
-first_bad at (row ∷ rows) = elim row_fault row [
+first_bad at (row ∷ rows) = elim (row_fault row) [
   | Some fault ↦ Some (Node at fault)
   | None ↦ first_bad (at + 1) rows
 ]
@@ -92,7 +92,7 @@ read_log id file = in_file (txn_of file) >>= λ log. under id log.id log
 -- ---- references
 abbrev pub id_in : Option (List ℕ) → Result Id12 Bad
 id_in None = Err (Ref ref.Member)
-id_in (Some text) = elim id12_of_text text [
+id_in (Some text) = elim (id12_of_text text) [
   | Ok id ↦ Ok id
   | Err fault ↦ Err (Ref (ref.Id fault))
 ]

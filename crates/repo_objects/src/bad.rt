@@ -3,6 +3,7 @@
 use flat_tables::FileFault;
 use ice_ids::Id12;
 use ref_file::RefFault;
+use std::alloc::{AllocError, AllocFailed};
 use zarr_meta::MetaFault;
 
 /// Why the bytes of an object aren't what its key asks for.
@@ -38,4 +39,26 @@ pub enum Unread {
     Bad(Bad),
     /// Memory ran out.
     NoMemory,
+}
+
+impl From<AllocError> for Unread {
+    ghost use Rattle.std.specs.Prelude.{◌≡◌};
+    ghost use Rattle.repo_objects.specs.declared.bad.Unread.TheVariants.{NoMemory};
+
+    ghost from_gives = { λ _ why. why ≡ NoMemory };
+
+    fn from(_error: AllocError) -> Unread {
+        Unread::NoMemory
+    }
+}
+
+impl<T: Drop> From<AllocFailed<T>> for Unread {
+    ghost use Rattle.std.specs.Prelude.{◌≡◌};
+    ghost use Rattle.repo_objects.specs.declared.bad.Unread.TheVariants.{NoMemory};
+
+    ghost from_gives = { λ _ why. why ≡ NoMemory };
+
+    fn from(_error: AllocFailed<T>) -> Unread {
+        Unread::NoMemory
+    }
 }

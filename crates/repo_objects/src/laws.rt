@@ -1,0 +1,27 @@
+//! Laws of the definitions: each function's clause is the law, and its body is empty.
+
+ghost use Rattle.repo_objects.specs.Laws.{SnapshotLaw, InitialLaw, LogLaw, RefLaw};
+
+use snapshot_file::initial_law as initial_file_law;
+
+/// What is written of a snapshot is read under its id; what is read can be written.
+pub fn snapshot_law()
+    ensures { SnapshotLaw }
+{}
+
+/// The bytes of the initial snapshot are read as the initial snapshot.
+pub fn initial_law()
+    ensures { InitialLaw }
+{
+    initial_file_law();
+}
+
+/// What is written of a log is read under its id.
+pub fn log_law()
+    ensures { LogLaw }
+{}
+
+/// What is written of a reference is read as its id.
+pub fn ref_law()
+    ensures { RefLaw }
+{}

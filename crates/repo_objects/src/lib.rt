@@ -1,0 +1,15 @@
+//! The objects of a repository: what the bytes at a key stand for, the trees of snapshots, and what is written.
+//!
+//! A snapshot, a manifest and a log are read under the id of their key: a file that tells another id is refused. The texts of
+//! a snapshot's nodes are read as metadata with it.
+#![tactic(auto)]
+
+mod bad;
+mod laws;
+mod loaded;
+mod readings;
+
+pub use bad::{Bad, Unread};
+pub use laws::{initial_law, log_law, ref_law, snapshot_law};
+pub use loaded::Loaded;
+pub use readings::{log_read, manifest_hold, ref_read};

@@ -1,0 +1,135 @@
+//! Snapshots that were read, with the metadata of their nodes.
+
+ghost use Rattle.std.specs.Prelude.{◌≡◌, not, is_some, Ok};
+ghost use Rattle.snapshot_file.specs.declared.snapshot.SnapshotFile.{SnapshotFile as TheFile};
+ghost use Rattle.repo_objects.specs.Readings.{kind_fault, row_fault, first_bad, read_snapshot};
+ghost use Rattle.repo_objects.specs.Loading.{Loads, LoadsMeta, LoadsMetas};
+ghost use Rattle.zarr_path.specs.Paths.{path_cmp};
+ghost use Rattle.repo_objects.specs.Trees.{nodes_in};
+
+use crate::bad::{Bad, Unread};
+use crate::readings::unread;
+use ice_ids::Id12;
+use ice_items::Items;
+use snapshot_file::{NodeKind, NodeRow, SnapshotFile};
+use std::alloc::Global;
+use std::cmp::Ordering;
+use std::marker::Model;
+use zarr_meta::{Meta, MetaFault, View};
+use zarr_tree::{Found, TreeLike};
+
+/// A snapshot that was read, and the metadata of its nodes. Contracts see what the snapshot says.
+#[derive(Debug, Drop)]
+pub struct Loaded {
+    file: SnapshotFile,
+    metas: Items<Meta>,
+}
+
+impl Model for Loaded {
+    ghost use Rattle.snapshot_file.specs.declared.snapshot.SnapshotFile.{SnapshotFile as TheFile};
+    ghost use Rattle.snapshot_file.specs.Layout.{IsWritable};
+    ghost use Rattle.repo_objects.specs.Loading.{AreMetas};
+
+    ghost Value = { TheFile };
+
+    ghost view = { λ l. l.file };
+
+    ghost invariant = { λ l. IsWritable l.file × AreMetas l.file.nodes l.metas };
+}
+
+/// Whether a text that says this may stand in a row of this kind.
+fn is_kind(kind: &NodeKind, view: &View) -> bool
+    ensures { result ≡ not (is_some (kind_fault kind.now (Ok view.now))) }
+{
+    matches!(
+        (kind, view),
+        (NodeKind::Group, View::Group) | (NodeKind::Array { .. }, View::Array(_))
+    )
+}
+
+impl Loaded {
+    /// Reads the file of a snapshot under the id of its key, with the metadata of its nodes. (Icechunk specification version
+    /// 1, "Snapshots"; that the texts of nodes are metadata, and that ids agree, is own.)
+    pub fn read(alloc: Global, id: Id12, file: &[u8]) -> Result<Loaded, Unread>
+        ensures { Loads (read_snapshot id file.now) result }
+    {
+        let file = snapshot_file::read(alloc, file).map_err(unread)?;
+        if file.id != id {
+            return Err(Unread::Bad(Bad::WrongId(file.id)));
+        }
+        let metas = read_metas(alloc, file.nodes.as_slice())?;
+        Ok(Loaded { file, metas })
+    }
+
+    /// What the snapshot says.
+    pub fn file(&self) -> &SnapshotFile
+        ensures { result.now ≡ self.now }
+    {
+        &self.file
+    }
+}
+
+/// The metadata of row number `at`.
+fn row_meta(alloc: Global, at: usize, row: &NodeRow) -> Result<Meta, Unread>
+    ensures { LoadsMeta at row.now result }
+{
+    let meta = match Meta::read(alloc, row.user_data.as_slice()) {
+        Ok(meta) => meta,
+        Err(MetaFault::NoMemory) => return Err(Unread::NoMemory),
+        Err(fault) => return Err(Unread::Bad(Bad::Node { at, fault })),
+    };
+    if is_kind(&row.kind, &meta.view) {
+        Ok(meta)
+    } else {
+        Err(Unread::Bad(Bad::Node {
+            at,
+            fault: MetaFault::NodeType,
+        }))
+    }
+}
+
+/// The metadata of rows.
+fn read_metas(alloc: Global, rows: &[NodeRow]) -> Result<Items<Meta>, Unread>
+    ensures { LoadsMetas rows.now result }
+{
+    let mut metas = Vec::with_capacity(alloc, rows.len())?;
+    for at in 0..rows.len() {
+        metas.push(row_meta(alloc, at, &rows[at])?)?;
+    }
+    Ok(Items::from_vec(metas))
+}
+
+/// How a row's path compares with another.
+fn compare(row: &NodeRow, path: &str) -> Ordering
+    ensures { result ≡ path_cmp row.now.path path.now }
+{
+    row.path.as_str().cmp(path)
+}
+
+impl TreeLike for Loaded {
+    ghost nodes = { λ s. nodes_in s.nodes };
+
+    fn find(&self, path: &str) -> Option<Found<'_>> {
+        let rows = self.file.nodes.as_slice();
+        let at = rows.binary_search_by(|row| compare(row, path)).ok()?;
+        Some(Found {
+            id: rows[at].id,
+            meta: &self.metas.as_slice()[at],
+        })
+    }
+
+    fn len(&self) -> usize {
+        self.metas.len()
+    }
+
+    fn row(&self, at: usize) -> (&str, Found<'_>) {
+        let row = &self.file.nodes.as_slice()[at];
+        (
+            row.path.as_str(),
+            Found {
+                id: row.id,
+                meta: &self.metas.as_slice()[at],
+            },
+        )
+    }
+}

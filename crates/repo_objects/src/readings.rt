@@ -1,0 +1,67 @@
+//! Logs, manifests and references, read under the ids of their keys.
+
+ghost use Rattle.std.specs.Prelude.{◌≡◌, MatchResult, Ok, Err};
+ghost use Rattle.repo_objects.specs.Readings.{read_manifest, read_log, read_ref};
+ghost use Rattle.repo_objects.specs.Loading.{Loads};
+
+use crate::bad::{Bad, Unread};
+use flat_tables::FileFault;
+use held_manifest::{Held, hold};
+use ice_base::Bytes;
+use ice_ids::Id12;
+use ref_file::RefFault;
+use std::alloc::Global;
+use txn_file::TxnFile;
+
+/// Why a file isn't read.
+pub(crate) fn unread(fault: FileFault) -> Unread {
+    match fault {
+        FileFault::NoMemory => Unread::NoMemory,
+        fault => Unread::Bad(Bad::File(fault)),
+    }
+}
+
+/// Reads a transaction log under the id of its key, which is that of its snapshot. (Icechunk specification version 1,
+/// "Transaction log".)
+pub fn log_read(alloc: Global, id: Id12, file: &[u8]) -> Result<TxnFile, Unread>
+    ensures { Loads (read_log id file.now) result }
+{
+    match txn_file::read(alloc, file) {
+        Err(fault) => Err(unread(fault)),
+        Ok(log) => {
+            if log.id == id {
+                Ok(log)
+            } else {
+                Err(Unread::Bad(Bad::WrongId(log.id)))
+            }
+        }
+    }
+}
+
+/// Holds the file of a manifest, to be read in place, under the id of its key. It takes no memory. (Icechunk specification
+/// version 1, "Manifests".)
+pub fn manifest_hold(id: Id12, file: Bytes) -> Result<Held, Bad>
+    ensures { result ≡ read_manifest id file }
+{
+    match hold(file) {
+        Err((_, fault)) => Err(Bad::File(fault)),
+        Ok(held) => {
+            if held.id() == id {
+                Ok(held)
+            } else {
+                Err(Bad::WrongId(held.id()))
+            }
+        }
+    }
+}
+
+/// Reads a reference: the id of the snapshot to which it refers. (Icechunk specification version 1, "Reference Files".)
+pub fn ref_read(alloc: Global, file: &[u8]) -> Result<Id12, Unread>
+    ensures { Loads (read_ref file.now) result }
+{
+    match ref_file::ref_read(alloc, file) {
+        Ok(id) => Ok(id),
+        Err(RefFault::NoMemory) => Err(Unread::NoMemory),
+        Err(fault) => Err(Unread::Bad(Bad::Ref(fault))),
+    }
+}
