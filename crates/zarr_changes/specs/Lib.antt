@@ -1,2 +1,4 @@
+pub mod inside
+pub mod Codes
 pub mod Edits
 pub mod Sets

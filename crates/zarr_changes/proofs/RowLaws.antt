@@ -1,0 +1,75 @@
+-- Rows in the order of their keys, and the map that they make.
+use Rattle.std.proofs.Common.{◌≡◌, ℕ, Bool, true, false, cond, ◌&&◌, T, List, [], ◌∷◌, map, length, Option, Some, None, is_some, refl, sym, ap, subst, ◌∙◌}
+use Rattle.std.specs.declared.cmp.Ordering.{Ordering}
+use Rattle.std.specs.declared.cmp.Ordering.TheVariants.{Less, Equal, Greater}
+use Rattle.std.specs.Ordering.{is_lt, ordering_reverse}
+use Rattle.std.specs.List.{list_all}
+use Rattle.std.specs.Cmp.{IsTotalOrder, tied_itself}
+use Rattle.std.specs.BTreeMap.{insert_entry}
+use Rattle.std.specs.FinMap.{FinMap, IsAntisymmetric, find, put, get, insert, is_sorted, same_map, entries, entries_sorted, entries-insert, from_entries, from_sorted, len, len-entries, get-entries, get-from_entries, entries-from_sorted, get-from_sorted}
+use Rattle.zarr_path.specs.Paths.{path_cmp, same_path}
+use Rattle.zarr_path.proofs.OrderLaws.{total, exact, same_path-true, same_path-refl}
+use Rattle.zarr_tree.proofs.Maps.{same}
+
+pub both : (a b : Bool) → T a → T b → T (a && b)
+both true b p q = q
+both false b p q = p
+
+pub first : (a b : Bool) → T (a && b) → T a
+first true b p = tt
+first false b p = p
+
+pub second : (a b : Bool) → T (a && b) → T b
+second true b p = p
+second false b p = absurd p
+
+pub less : (o : Ordering) → T (is_lt o) → o ≡ Less
+less Less p = refl
+less Equal p = absurd p
+less Greater p = absurd p
+
+pub T-true : (b : Bool) → b ≡ true → T b
+T-true true e = tt
+T-true false e = cc
+
+pub true-T : (b : Bool) → T b → b ≡ true
+true-T true h = refl
+true-T false h = absurd h
+
+module _ {K X : Type 0} (R : K → K → Ordering) (o : IsTotalOrder R) (one : IsAntisymmetric R) where
+  -- rows in order are the map's own
+  made-sorted : (es : List (K × X)) → T (is_sorted R es) → from_entries {R = R} es ≡ from_sorted es
+  made-sorted es h = same_map o one _ _ (λ q. get-from_entries o es q ∙ sym (get-from_sorted R es q h))
+
+  pub entries-made : (es : List (K × X)) → T (is_sorted R es) → entries (from_entries {R = R} es) ≡ es
+  entries-made es h = ap entries (made-sorted es h) ∙ entries-from_sorted R es h
+
+  pub len-made : (es : List (K × X)) → T (is_sorted R es) → len (from_entries {R = R} es) ≡ length es
+  len-made es h = len-entries (from_entries {R = R} es) ∙ ap length (entries-made es h)
+
+  pub entries-put : (es : List (K × X)) (k : K) (v : X) → T (is_sorted R es) → entries (insert (from_entries {R = R} es) k v) ≡ put R k v es
+  entries-put es k v h = entries-insert o (from_entries {R = R} es) k v ∙ ap (put R k v) (entries-made es h)
+
+  pub sorted-put : (es : List (K × X)) (k : K) (v : X) → T (is_sorted R es) → T (is_sorted R (put R k v es))
+  sorted-put es k v h = subst (λ x. T (is_sorted R x)) (entries-put es k v h) (entries_sorted (insert (from_entries {R = R} es) k v))
+
+  pub made_entries : (m : FinMap R X) → from_entries (entries m) ≡ m
+  made_entries m = same_map o one _ _ (λ q. get-from_entries o (entries m) q ∙ sym (get-entries m q))
+
+  pub made-put : (es : List (K × X)) (k : K) (v : X) → T (is_sorted R es) → from_entries {R = R} (put R k v es) ≡ insert (from_entries es) k v
+  made-put es k v h = ap from_entries (sym (entries-put es k v h)) ∙ made_entries (insert (from_entries es) k v)
+
+-- ---- what a map of the library keeps, seen by other keys and values
+module _ {K L X Y : Type 0} (R : K → K → Ordering) (S : L → L → Ordering) (f : K → L) (g : X → Y) (alike : (x y : K) → S (f x) (f y) ≡ R x y) where
+  abbrev seen : List (K × X) → List (L × Y)
+  seen es = map (λ (e : K × X). (f e.0, g e.1)) es
+
+  seen-cons : (e : K × X) (es : List (K × X)) (k : K) (v : X) → seen (insert_entry R es k v) ≡ put S (f k) (g v) (seen es)
+      → (r : Ordering) → R k e.0 ≡ r → seen (insert_entry R (e ∷ es) k v) ≡ put S (f k) (g v) (seen (e ∷ es))
+  seen-cons e es k v rest Less h = let i : S (f k) (f e.0) ≡ Less = alike k e.0 ∙ h in rw (h, i) refl
+  seen-cons e es k v rest Equal h = let i : S (f k) (f e.0) ≡ Equal = alike k e.0 ∙ h in rw (h, i) refl
+  seen-cons e es k v rest Greater h = let i : S (f k) (f e.0) ≡ Greater = alike k e.0 ∙ h in rw (h, i) (ap (λ (x : List (L × Y)). (f e.0, g e.1) ∷ x) rest)
+
+  pub seen-insert : (es : List (K × X)) (k : K) (v : X) → seen (insert_entry R es k v) ≡ put S (f k) (g v) (seen es)
+  seen-insert [] k v = refl
+  seen-insert (e ∷ es) k v = seen-cons e es k v (seen-insert es k v) (R k e.0) refl
