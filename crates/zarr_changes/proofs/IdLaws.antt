@@ -1,5 +1,5 @@
 -- Ids in the order of their bytes.
-use Rattle.std.proofs.Common.{◌≡◌, ℕ, Bool, true, false, cond, ◌&&◌, ◌||◌, T, List, [], ◌∷◌, map, Option, Some, None, option_map, Bor, refl, sym, ap, subst, ◌∙◌}
+use Rattle.std.proofs.Common.{◌≡◌, ℕ, Bool, true, false, cond, ◌&&◌, ◌||◌, T, List, [], ◌∷◌, ◌++◌, map, Option, Some, None, option_map, Bor, append_assoc, refl, sym, ap, subst, ◌∙◌}
 use Rattle.std.specs.Prelude.{find}
 use Rattle.std.specs.Option.{option_copied}
 use Rattle.std.specs.declared.cmp.Ordering.{Ordering}
@@ -20,8 +20,8 @@ use Rattle.zarr_tree.specs.Touched.{lists, IdsAscend}
 use Rattle.zarr_tree.specs.Held.{meta_in}
 use Rattle.zarr_tree.proofs.Apply.{id-true, id-refl}
 use Rattle.zarr_changes.specs.Edits.{with_id, with_row}
-use Rattle.zarr_changes.specs.inside.Rows.{text_rows}
-use Rattle.zarr_changes.proofs.RowLaws.{both, T-true, entries-made, entries-put, seen-insert}
+use Rattle.zarr_changes.specs.inside.Kept.{text_rows}
+use Rattle.zarr_changes.proofs.RowLaws.{both, T-true, entries-made, entries-put, entries-insert_last, seen-insert}
 
 pub id_total : IsTotalOrder id8_cmp
 id_total = record {
@@ -109,3 +109,13 @@ insert_row es k m h =
 pub text_copied : (r : Option (Bor Meta)) → option_map (λ (m : Bor Meta). m.now.text) r ≡ option_map (λ (m : Meta). m.text) (option_copied r)
 text_copied None = refl
 text_copied (Some m) = refl
+
+-- texts in order
+pub texts-sorted : (es : List (Id8 × Meta)) → IdsAscend (keys_of es) → T (is_sorted id8_cmp (text_rows es))
+texts-sorted es h = rows-sorted id8_cmp (text_rows es) (subst IdsAscend (sym (keys-texts es)) h)
+
+-- the next text, behind those before it
+pub text_next : (copy rest all : List (Id8 × List ℕ)) (k : Id8) (text : List ℕ) → T (is_sorted id8_cmp all) → copy ++ (k, text) ∷ rest ≡ all → with_row copy k text ++ rest ≡ all
+text_next copy rest all k text h e =
+    ap (λ (x : List (Id8 × List ℕ)). x ++ rest) (entries-insert_last id8_cmp id_total id_exact copy k text rest (subst (λ (x : List (Id8 × List ℕ)). T (is_sorted id8_cmp x)) (sym e) h))
+    ∙ append_assoc copy ((k, text) ∷ []) rest ∙ e

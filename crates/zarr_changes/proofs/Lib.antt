@@ -1,3 +1,3 @@
 pub mod RowLaws
 pub mod IdLaws
-pub mod Kept
+pub mod KeptLaws

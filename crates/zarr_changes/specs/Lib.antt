@@ -1,4 +1,5 @@
 pub mod inside
+pub mod Rows
 pub mod Codes
 pub mod Edits
 pub mod Sets

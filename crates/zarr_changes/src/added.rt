@@ -1,14 +1,18 @@
 //! Added nodes by their paths.
 
-ghost use Rattle.std.specs.Prelude.{◌≡◌, ◌==◌, [], length, IfOk, OnOk, OnErr};
+ghost use Rattle.std.specs.Prelude.{◌≡◌, ◌==◌, [], ◌∷◌, length, IfOk, OnOk, OnErr, IfSome, MatchOption, IsTrue};
+ghost use Rattle.std.specs.String.{string_bytes};
+ghost use Rattle.zarr_path.specs.Paths.{is_path};
+ghost use Rattle.zarr_changes.specs.Rows.{row_found, IsInOrder};
 ghost use Rattle.std.specs.Option.{option_copied};
 ghost use Rattle.std.specs.FinMap as map;
 
 use std::alloc::{AllocError, Global};
 use std::collections::BTreeMap;
+use std::collections::btree_map::Iter;
 use std::marker::Model;
 use zarr_path::Path;
-use zarr_tree::Node;
+use zarr_tree::{Found, Node};
 
 /// Nodes by their paths. Contracts see a finite map from the bytes of the paths.
 #[derive(Debug, Drop)]
@@ -21,7 +25,8 @@ impl Model for Added {
     ghost use Rattle.zarr_path.specs.Paths.{path_cmp};
     ghost use Rattle.zarr_tree.specs.Codes.{coded_path, coded_node};
     ghost use Rattle.zarr_tree.specs.Nodes.{Node as TheNode};
-    ghost use Rattle.zarr_changes.specs.inside.Rows.{node_rows, IsInOrder, ArePaths};
+    ghost use Rattle.zarr_changes.specs.Rows.{IsInOrder, ArePaths};
+    ghost use Rattle.zarr_changes.specs.inside.Kept.{node_rows};
 
     ghost Value = { map.FinMap path_cmp TheNode };
 
@@ -66,8 +71,66 @@ impl Added {
         ensures ok { OnOk result (self.new ≡ map.insert self.old path.now node) }
         ensures err { OnErr result (self.new ≡ self.old) }
     {
-        let text = String::from_str(alloc, path.as_str())?;
+        self.enter(String::from_str(alloc, path.as_str())?, node)
+    }
+
+    /// Enters a node at the path of this text.
+    fn enter(&mut self, text: String, node: Node) -> Result<(), AllocError>
+        requires { IsTrue (is_path (string_bytes text)) }
+        ensures ok { OnOk result (self.new ≡ map.insert self.old (string_bytes text) node) }
+        ensures err { OnErr result (self.new ≡ self.old) }
+    {
         self.nodes.insert(text, node)?;
         Ok(())
+    }
+
+    /// The same nodes once more.
+    pub(crate) fn copy(&self, alloc: Global) -> Result<Added, AllocError>
+        ensures { IfOk result (λ nodes. nodes ≡ self.now) }
+    {
+        let mut copy = Added::new(alloc);
+        for (text, node) in self.nodes.iter() {
+            copy.enter(text.clone()?, node.copy(alloc)?)?;
+        }
+        Ok(copy)
+    }
+
+    /// The paths and their nodes, in the order of the bytes of the paths.
+    pub(crate) fn rows(&self) -> AddedRows<'_>
+        ensures { result ≡ map.entries self.now }
+    {
+        AddedRows {
+            rest: self.nodes.iter(),
+        }
+    }
+}
+
+/// Nodes that are walked in the order of the bytes of their paths. Contracts see the rows that are left.
+#[derive(Drop)]
+pub(crate) struct AddedRows<'a> {
+    rest: Iter<'a, String, Node>,
+}
+
+impl<'a> Model for AddedRows<'a> {
+    ghost use Rattle.zarr_tree.specs.Held.{Rows};
+    ghost use Rattle.zarr_changes.specs.Rows.{IsInOrder, ArePaths};
+    ghost use Rattle.zarr_changes.specs.inside.Kept.{node_rows};
+
+    ghost Value = { Rows };
+
+    ghost view = { λ a. node_rows a.rest };
+
+    ghost invariant = { λ a. IsInOrder (node_rows a.rest) × ArePaths (node_rows a.rest) };
+}
+
+impl<'a> AddedRows<'a> {
+    /// The next path and its node, if any are left.
+    pub(crate) fn next(&mut self) -> Option<(&'a str, Found<'a>)>
+        ensures row { MatchOption result (self.old ≡ []) (λ row. self.old ≡ row_found row ∷ self.new) }
+        ensures path { IfSome result (λ row. IsTrue (is_path row.0.now)) }
+        ensures order { IsInOrder self.old }
+    {
+        let (text, node) = self.rest.next()?;
+        Some((text.as_str(), node.found()))
     }
 }

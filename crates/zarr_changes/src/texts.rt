@@ -21,7 +21,7 @@ impl Model for Texts {
     ghost use Rattle.std.specs.Map.{keys_of};
     ghost use Rattle.ice_ids.specs.declared.Id8.{Id8 as TheId};
     ghost use Rattle.zarr_tree.specs.Touched.{IdsAscend};
-    ghost use Rattle.zarr_changes.specs.inside.Rows.{text_rows};
+    ghost use Rattle.zarr_changes.specs.inside.Kept.{text_rows};
 
     ghost Value = { List (TheId × List ℕ) };
 
@@ -61,5 +61,16 @@ impl Texts {
     {
         self.metas.insert(id, meta)?;
         Ok(())
+    }
+
+    /// The same metadata once more.
+    pub(crate) fn copy(&self, alloc: Global) -> Result<Texts, AllocError>
+        ensures { IfOk result (λ texts. texts ≡ self.now) }
+    {
+        let mut copy = Texts::new(alloc);
+        for (id, meta) in self.metas.iter() {
+            copy.insert(*id, meta.copy(alloc)?)?;
+        }
+        Ok(copy)
     }
 }

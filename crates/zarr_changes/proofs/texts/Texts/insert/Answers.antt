@@ -1,6 +1,6 @@
 use Rattle.std.proofs.Common.{ap, ◌∙◌}
 use Rattle.zarr_changes.specs.Edits.{with_row}
-use Rattle.zarr_changes.specs.inside.Rows.{text_rows}
+use Rattle.zarr_changes.specs.inside.Kept.{text_rows}
 use Rattle.zarr_changes.proofs.IdLaws.{insert_row}
 use Rattle.zarr_changes.proofs.texts.Texts.insert.Goals as goal
 

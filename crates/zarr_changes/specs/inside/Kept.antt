@@ -1,11 +1,8 @@
 -- The rows of the maps that the code keeps; no public contract cites this.
-use Rattle.std.specs.Prelude.{ℕ, List, map, T, String}
-use Rattle.std.specs.List.{list_all}
+use Rattle.std.specs.Prelude.{ℕ, List, map, String}
 use Rattle.std.specs.Global.{Global}
 use Rattle.std.specs.String.{string_bytes}
-use Rattle.std.specs.FinMap.{is_sorted}
 use Rattle.ice_ids.specs.declared.Id8.{Id8}
-use Rattle.zarr_path.specs.Paths.{path_cmp, is_path}
 use Rattle.zarr_meta.specs.declared.metas.Meta.{Meta}
 use Rattle.zarr_tree.specs.Nodes.{Node}
 use Rattle.zarr_tree.specs.Held.{Rows}
@@ -17,10 +14,3 @@ text_rows metas = map (λ e. (e.0, e.1.text)) metas
 -- the paths of nodes, as bytes, and the nodes
 abbrev pub node_rows : List (String Global × Node) → Rows
 node_rows nodes = map (λ e. (string_bytes e.0, e.1)) nodes
-
--- the keys of rows rise, and are paths
-abbrev pub IsInOrder : Rows → Type 0
-IsInOrder rows = T (is_sorted path_cmp rows)
-
-abbrev pub ArePaths : Rows → Type 0
-ArePaths rows = T (list_all (λ row. is_path row.0) rows)
