@@ -1,3 +1,5 @@
 pub mod RowLaws
 pub mod IdLaws
 pub mod KeptLaws
+pub mod Walking
+pub mod Over

@@ -4,6 +4,7 @@
 
 mod added;
 mod ids;
+mod looking;
 mod set;
 mod texts;
 

@@ -1,21 +1,21 @@
 //! The set of changes.
 
-ghost use Rattle.std.specs.Prelude.{◌≡◌};
+ghost use Rattle.std.specs.Prelude.{◌≡◌, IfOk};
 ghost use Rattle.zarr_changes.specs.Edits.{nothing};
 
 use crate::added::Added;
 use crate::ids::IdSet;
 use crate::texts::Texts;
-use std::alloc::Global;
+use std::alloc::{AllocError, Global};
 use std::marker::Model;
 
 /// What a session has changed of its base, the tree that it began with. Each call is passed the same base, and speaks of
 /// the overlay: the base under the changes. Contracts see what is held.
 #[derive(Debug, Drop)]
 pub struct ChangeSet {
-    added: Added,
-    dropped: IdSet,
-    metas: Texts,
+    pub(crate) added: Added,
+    pub(crate) dropped: IdSet,
+    pub(crate) metas: Texts,
 }
 
 impl Model for ChangeSet {
@@ -41,5 +41,16 @@ impl ChangeSet {
             dropped: IdSet::new(alloc),
             metas: Texts::new(alloc),
         }
+    }
+
+    /// The same changes once more.
+    pub fn copy(&self, alloc: Global) -> Result<ChangeSet, AllocError>
+        ensures { IfOk result (λ set. set ≡ self.now) }
+    {
+        Ok(ChangeSet {
+            added: self.added.copy(alloc)?,
+            dropped: self.dropped.copy()?,
+            metas: self.metas.copy(alloc)?,
+        })
     }
 }
