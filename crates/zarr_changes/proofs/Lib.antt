@@ -3,3 +3,5 @@ pub mod IdLaws
 pub mod KeptLaws
 pub mod Walking
 pub mod Over
+pub mod OwnLaws
+pub mod Merging

@@ -75,36 +75,37 @@ module _ {K L X Y : Type 0} (R : K → K → Ordering) (S : L → L → Ordering
   seen-insert (e ∷ es) k v = seen-cons e es k v (seen-insert es k v) (R k e.0) refl
 
 -- ---- a last row
-module _ {K X : Type 0} (R : K → K → Ordering) (o : IsTotalOrder R) (one : IsAntisymmetric R) where
-  abbrev pub is_below : K → List (K × X) → Bool
-  is_below x es = list_all (λ (e : K × X). is_lt (R x e.0)) es
+-- x is below the keys of these rows, as `is_sorted` has it
+abbrev pub is_below : {K X : Type 0} → (K → K → Ordering) → K → List (K × X) → Bool
+is_below R x es = list_all (λ e. is_lt (R x e.0)) es
 
+module _ {K X : Type 0} (R : K → K → Ordering) (o : IsTotalOrder R) (one : IsAntisymmetric R) where
   -- what stands in the middle of rows in order is above what comes before it
-  above-first : (x : K) (es : List (K × X)) (k : K) (v : X) (rest : List (K × X)) → T (is_below x (es ++ (k, v) ∷ rest)) → R x k ≡ Less
-  above-first x [] k v rest h = less (R x k) (first (is_lt (R x k)) (is_below x rest) h)
-  above-first x (e ∷ es) k v rest h = above-first x es k v rest (second (is_lt (R x e.0)) (is_below x (es ++ (k, v) ∷ rest)) h)
+  above-first : (x : K) (es : List (K × X)) (k : K) (v : X) (rest : List (K × X)) → T (is_below R x (es ++ (k, v) ∷ rest)) → R x k ≡ Less
+  above-first x [] k v rest h = less (R x k) (first (is_lt (R x k)) (is_below R x rest) h)
+  above-first x (e ∷ es) k v rest h = above-first x es k v rest (second (is_lt (R x e.0)) (is_below R x (es ++ (k, v) ∷ rest)) h)
 
   -- so it is put behind them
   pub put-last : (es : List (K × X)) (k : K) (v : X) (rest : List (K × X)) → T (is_sorted R (es ++ (k, v) ∷ rest)) → put R k v es ≡ es ++ (k, v) ∷ []
   put-last [] k v rest h = refl
   put-last (e ∷ es) k v rest h =
-      let lower : R e.0 k ≡ Less = above-first e.0 es k v rest (first (is_below e.0 (es ++ (k, v) ∷ rest)) (is_sorted R (es ++ (k, v) ∷ rest)) h) in
+      let lower : R e.0 k ≡ Less = above-first e.0 es k v rest (first (is_below R e.0 (es ++ (k, v) ∷ rest)) (is_sorted R (es ++ (k, v) ∷ rest)) h) in
       let turn : R k e.0 ≡ Greater = o.antisymm k e.0 ∙ ap ordering_reverse lower in
-      rw turn (ap (λ (x : List (K × X)). e ∷ x) (put-last es k v rest (second (is_below e.0 (es ++ (k, v) ∷ rest)) (is_sorted R (es ++ (k, v) ∷ rest)) h)))
+      rw turn (ap (λ (x : List (K × X)). e ∷ x) (put-last es k v rest (second (is_below R e.0 (es ++ (k, v) ∷ rest)) (is_sorted R (es ++ (k, v) ∷ rest)) h)))
 
-  below-before : (x : K) (es fs : List (K × X)) → T (is_below x (es ++ fs)) → T (is_below x es)
+  below-before : (x : K) (es fs : List (K × X)) → T (is_below R x (es ++ fs)) → T (is_below R x es)
   below-before x [] fs h = tt
-  below-before x (e ∷ es) fs h = both (is_lt (R x e.0)) (is_below x es) (first (is_lt (R x e.0)) (is_below x (es ++ fs)) h) (below-before x es fs (second (is_lt (R x e.0)) (is_below x (es ++ fs)) h))
+  below-before x (e ∷ es) fs h = both (is_lt (R x e.0)) (is_below R x es) (first (is_lt (R x e.0)) (is_below R x (es ++ fs)) h) (below-before x es fs (second (is_lt (R x e.0)) (is_below R x (es ++ fs)) h))
 
   pub sorted-before : (es fs : List (K × X)) → T (is_sorted R (es ++ fs)) → T (is_sorted R es)
   sorted-before [] fs h = tt
   sorted-before (e ∷ es) fs h =
-      both (is_below e.0 es) (is_sorted R es) (below-before e.0 es fs (first (is_below e.0 (es ++ fs)) (is_sorted R (es ++ fs)) h))
-      (sorted-before es fs (second (is_below e.0 (es ++ fs)) (is_sorted R (es ++ fs)) h))
+      both (is_below R e.0 es) (is_sorted R es) (below-before e.0 es fs (first (is_below R e.0 (es ++ fs)) (is_sorted R (es ++ fs)) h))
+      (sorted-before es fs (second (is_below R e.0 (es ++ fs)) (is_sorted R (es ++ fs)) h))
 
   pub sorted-after : (es fs : List (K × X)) → T (is_sorted R (es ++ fs)) → T (is_sorted R fs)
   sorted-after [] fs h = h
-  sorted-after (e ∷ es) fs h = sorted-after es fs (second (is_below e.0 (es ++ fs)) (is_sorted R (es ++ fs)) h)
+  sorted-after (e ∷ es) fs h = sorted-after es fs (second (is_below R e.0 (es ++ fs)) (is_sorted R (es ++ fs)) h)
 
   -- one row more of a list in order
   pub entries-insert_last : (es : List (K × X)) (k : K) (v : X) (rest : List (K × X)) → T (is_sorted R (es ++ (k, v) ∷ rest)) → entries (insert (from_entries {R = R} es) k v) ≡ es ++ (k, v) ∷ []

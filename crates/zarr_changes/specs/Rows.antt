@@ -1,5 +1,5 @@
 -- Rows of paths and nodes, in the order of the paths. (Own.)
-use Rattle.std.specs.Prelude.{ℕ, List, ◌++◌, map, drop, not, T}
+use Rattle.std.specs.Prelude.{ℕ, Bool, true, List, [], ◌∷◌, ◌++◌, map, drop, not, Option, Some, None, T}
 use Rattle.std.specs.Borrow.{Bor}
 use Rattle.std.specs.List.{filter, list_all}
 use Rattle.std.specs.FinMap.{FinMap, is_sorted, entries, from_entries}
@@ -30,3 +30,13 @@ overlay first second = from_entries (first ++ second)
 abbrev pub own_rows : {P : Type 0} → Held P → FinMap path_cmp Node → (at : ℕ) → Rows
 own_rows h nodes at =
     map (λ row. (row.0, patched (meta_in h.metas) row.1)) (filter (λ row. not (is_gone (lists h.dropped) nodes row.0)) (drop at (entries nodes)))
+
+-- a row, if there is one, and the others
+abbrev pub rows_from : Option (Bor (List ℕ) × Found) → Rows → Rows
+rows_from None rest = []
+rows_from (Some row) rest = row_found row ∷ rest
+
+-- whether the row, if there is one, is at a path
+abbrev pub is_named : Option (Bor (List ℕ) × Found) → Bool
+is_named None = true
+is_named (Some row) = is_path row.0.now

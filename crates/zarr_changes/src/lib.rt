@@ -5,7 +5,9 @@
 mod added;
 mod ids;
 mod looking;
+mod overlay;
 mod set;
 mod texts;
 
+pub use overlay::{Overlay, Row};
 pub use set::ChangeSet;
