@@ -5,3 +5,4 @@ pub mod Walking
 pub mod Over
 pub mod OwnLaws
 pub mod Merging
+pub mod AddLaws

@@ -1,12 +1,12 @@
 -- The rows of a tree that stay under what is held.
-use Rattle.std.proofs.Common.{◌≡◌, ℕ, zero, suc, ◌+◌, ◌<◌, ◌≤◌, Bool, true, false, cond, not, T, List, [], ◌∷◌, ◌++◌, map, drop, length, Option, Some, None, option_map, refl, sym, ap, subst, ◌∙◌, add-one, arith}
+use Rattle.std.proofs.Common.{◌≡◌, ℕ, zero, suc, ◌+◌, ◌<◌, ◌≤◌, Bool, true, false, cond, not, T, List, [], ◌∷◌, ◌++◌, map, drop, length, Option, Some, None, option_map, refl, sym, ap, subst, ◌∙◌, add-one, arith, length-append}
 use Rattle.std.specs.Prelude.{slice_get}
 use Rattle.std.specs.Option.{option_or}
 use Rattle.std.specs.Ordering.{is_lt}
 use Rattle.std.specs.List.{filter, list_all}
-use Rattle.std.specs.FinMap.{FinMap, find, get, len, entries, entries_sorted, is_sorted, get-entries, len-entries}
+use Rattle.std.specs.FinMap.{FinMap, find, get, len, len-empty, len-insert, contains_key, from_entries, entries, entries_sorted, is_sorted, get-entries, len-entries}
 use Rattle.zarr_path.specs.Paths.{path_cmp, same_path}
-use Rattle.zarr_path.proofs.OrderLaws.{same_path-true}
+use Rattle.zarr_path.proofs.OrderLaws.{total, same_path-true}
 use Rattle.zarr_tree.specs.Nodes.{Node}
 use Rattle.zarr_tree.specs.Changes.{is_gone, patched}
 use Rattle.zarr_tree.specs.Touched.{lists}
@@ -27,6 +27,16 @@ drop-end [] zero h = refl
 drop-end [] (suc at) h = refl
 drop-end (x ∷ xs) zero h = absurd (omega arith)
 drop-end (x ∷ xs) (suc at) h = drop-end xs at (omega arith)
+
+at_most_more : (b : Bool) (n : ℕ) → cond b n (n + 1) ≤ n + 1
+at_most_more true n = omega arith
+at_most_more false n = omega arith
+
+-- a map has no more entries than the rows that it was made of
+len-made-most : (es : Rows) → len (from_entries {R = path_cmp} es) ≤ length es
+len-made-most [] = omega (arith, len-empty path_cmp Node)
+len-made-most (e ∷ es) =
+    omega (arith, len-made-most es, len-insert total (from_entries {R = path_cmp} es) e.0 e.1, at_most_more (contains_key (from_entries {R = path_cmp} es) e.0) (len (from_entries {R = path_cmp} es)))
 
 module _ {P : Type 0} (h : Held P) (nodes : FinMap path_cmp Node) where
   abbrev stays : List ℕ × Node → Bool
@@ -112,3 +122,21 @@ module _ {P : Type 0} (h : Held P) (nodes : FinMap path_cmp Node) where
   over-rows = same (nodes_over h nodes) (overlay (entries h.added) (own_rows h nodes 0)) (λ q.
       node-over h nodes q ∙ sym (get-made (entries h.added ++ own_rows h nodes 0) q ∙ find-append q (entries h.added) (own_rows h nodes 0)
       ∙ (λ i. option_or (sym (get-entries h.added q) i) (find-own q i))))
+
+  -- ---- how many there are
+  length-own : (es : Rows) → length (map with_text (filter stays es)) ≤ length es
+  length-own [] = omega arith
+  length-own (e ∷ es) =
+      let rest = length-own es in
+      elim (stays e) as (λ b. length (map with_text (cond b (e ∷ filter stays es) (filter stays es))) ≤ length (e ∷ es)) [ true ↦ omega (arith, rest) | false ↦ omega (arith, rest) ]
+
+  pub len-over : len (nodes_over h nodes) ≤ len h.added + len nodes
+  len-over = omega (
+    arith,
+    ap len over-rows,
+    len-made-most (entries h.added ++ own_rows h nodes 0),
+    length-append (entries h.added) (own_rows h nodes 0),
+    length-own (entries nodes),
+    len-entries h.added,
+    len-entries nodes,
+  )

@@ -3,3 +3,4 @@ pub mod Rows
 pub mod Codes
 pub mod Edits
 pub mod Sets
+pub mod Laws
