@@ -57,7 +57,7 @@ module _ {A : Type 0} (R : A → A → Ordering) where
   rows-sorted [] h = tt
   rows-sorted {X} (e ∷ es) h = both (list_all (λ (x : A × X). is_lt (R e.0 x.0)) es) (is_sorted R es) (below_rows e.0 es h.0) (rows-sorted es h.1)
 
-abbrev marks : List Id8 → List (Id8 × Unit {0})
+abbrev pub marks : List Id8 → List (Id8 × Unit {0})
 marks xs = map (λ (x : Id8). (x, tt {0})) xs
 
 keys-marks : (xs : List Id8) → keys_of (marks xs) ≡ xs

@@ -6,3 +6,4 @@ pub mod Over
 pub mod OwnLaws
 pub mod Merging
 pub mod AddLaws
+pub mod TouchLaws

@@ -1,9 +1,10 @@
 //! Added nodes by their paths.
 
-ghost use Rattle.std.specs.Prelude.{◌≡◌, ◌==◌, [], ◌∷◌, length, IfOk, OnOk, OnErr, IfSome, MatchOption, IsTrue};
+ghost use Rattle.std.specs.Prelude.{◌≡◌, [], ◌∷◌, not, IfOk, OnOk, OnErr, IfSome, MatchOption, IsTrue};
 ghost use Rattle.std.specs.String.{string_bytes};
 ghost use Rattle.zarr_path.specs.Paths.{is_path};
 ghost use Rattle.zarr_changes.specs.Rows.{row_found, IsInOrder};
+ghost use Rattle.zarr_changes.specs.inside.Touching.{has_metadata};
 ghost use Rattle.std.specs.Option.{option_copied};
 ghost use Rattle.std.specs.FinMap as map;
 
@@ -52,6 +53,13 @@ impl Added {
         ensures { result ≡ map.len self.now }
     {
         self.nodes.len()
+    }
+
+    /// Whether there are none.
+    pub(crate) fn is_empty(&self) -> bool
+        ensures { result ≡ not (has_metadata (map.entries self.now)) }
+    {
+        self.rows().next().is_none()
     }
 
     /// The node at a path. It takes no memory.

@@ -11,6 +11,7 @@ mod kinds;
 mod laws;
 mod listing;
 mod looking;
+mod net;
 mod overlay;
 mod set;
 mod texts;
