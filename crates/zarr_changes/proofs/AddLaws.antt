@@ -1,5 +1,5 @@
 -- What adding a node answers.
-use Rattle.std.proofs.Common.{◌≡◌, Bool, true, false, cond, not, ◌&&◌, Option, Some, None, Result, Ok, Err, is_some, option_map, refl, sym, ap, ◌∙◌}
+use Rattle.std.proofs.Common.{◌≡◌, false, cond, not, ◌&&◌, Option, Some, None, Result, Ok, Err, is_some, option_map, refl, ap, ◌∙◌}
 use Rattle.std.specs.Prelude.{IsErrAnd, nat_le}
 use Rattle.std.specs.FinMap.{FinMap, get, len}
 use Rattle.zarr_path.specs.Paths.{path_cmp, same_path, root, parent_of}

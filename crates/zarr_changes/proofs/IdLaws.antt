@@ -1,5 +1,5 @@
 -- Ids in the order of their bytes.
-use Rattle.std.proofs.Common.{◌≡◌, ℕ, Bool, true, false, cond, ◌&&◌, ◌||◌, T, List, [], ◌∷◌, ◌++◌, map, Option, Some, None, option_map, Bor, append_assoc, refl, sym, ap, subst, ◌∙◌}
+use Rattle.std.proofs.Common.{◌≡◌, ℕ, Bool, true, false, cond, ◌||◌, T, List, [], ◌∷◌, ◌++◌, map, Option, Some, None, option_map, Bor, append_assoc, refl, sym, ap, subst, ◌∙◌}
 use Rattle.std.specs.Prelude.{find}
 use Rattle.std.specs.Option.{option_copied}
 use Rattle.std.specs.declared.cmp.Ordering.{Ordering}
@@ -12,7 +12,7 @@ use Rattle.std.specs.List.Sorted.{IsStrictlySortedBy}
 use Rattle.std.specs.Map.{lookup, keys_of}
 use Rattle.std.specs.BTreeMap.{is_at, insert_entry}
 use Rattle.std.specs.BTreeSet.{insert_key}
-use Rattle.std.specs.FinMap.{FinMap, IsAntisymmetric, is_sorted, put, slice_cmp-IsAntisymmetric, nat_cmp-IsAntisymmetric}
+use Rattle.std.specs.FinMap.{IsAntisymmetric, is_sorted, put, slice_cmp-IsAntisymmetric, nat_cmp-IsAntisymmetric}
 use Rattle.ice_ids.specs.declared.Id8.{Id8}
 use Rattle.ice_ids.specs.Text.{same_id8, id8_cmp}
 use Rattle.zarr_meta.specs.declared.metas.Meta.{Meta}
@@ -21,7 +21,7 @@ use Rattle.zarr_tree.specs.Held.{meta_in}
 use Rattle.zarr_tree.proofs.Apply.{id-true, id-refl}
 use Rattle.zarr_changes.specs.Edits.{with_id, with_row}
 use Rattle.zarr_changes.specs.inside.Kept.{text_rows}
-use Rattle.zarr_changes.proofs.RowLaws.{both, T-true, entries-made, entries-put, entries-insert_last, seen-insert}
+use Rattle.zarr_changes.proofs.RowLaws.{both, T-true, entries-put, entries-insert_last, seen-insert}
 
 pub id_total : IsTotalOrder id8_cmp
 id_total = record {

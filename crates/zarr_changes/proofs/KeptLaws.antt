@@ -1,5 +1,5 @@
 -- Added nodes, as the code keeps them.
-use Rattle.std.proofs.Common.{◌≡◌, ℕ, suc, Bool, true, false, cond, ◌&&◌, T, List, [], ◌∷◌, ◌++◌, append_assoc, append-nil, map, length, Some, String, Global, refl, sym, ap, subst, ◌∙◌}
+use Rattle.std.proofs.Common.{◌≡◌, ℕ, suc, true, cond, T, List, [], ◌∷◌, ◌++◌, append_assoc, append-nil, length, Some, String, Global, refl, sym, ap, subst, ◌∙◌}
 use Rattle.std.specs.declared.cmp.Ordering.{Ordering}
 use Rattle.std.specs.declared.cmp.Ordering.TheVariants.{Less, Equal, Greater}
 use Rattle.std.specs.List.{list_all}
@@ -8,7 +8,7 @@ use Rattle.std.specs.Map.{lookup}
 use Rattle.std.specs.BTreeMap.{is_at, insert_entry}
 use Rattle.std.specs.Ordering.{nat_cmp, is_eq}
 use Rattle.std.specs.Cmp.Lexicographic.{slice_cmp}
-use Rattle.std.specs.FinMap.{FinMap, find, put, get, insert, empty, entries, entries_sorted, entries-insert, same_entries_map, is_sorted, from_entries, len}
+use Rattle.std.specs.FinMap.{FinMap, find, put, get, insert, empty, entries, entries_sorted, entries-insert, same_entries_map, from_entries, len}
 use Rattle.zarr_path.specs.Paths.{path_cmp, is_path}
 use Rattle.zarr_path.proofs.OrderLaws.{total, exact}
 use Rattle.zarr_tree.specs.Nodes.{Node}

@@ -1,5 +1,5 @@
 -- The nodes of a tree under what is held: what stands at a path, and the rows.
-use Rattle.std.proofs.Common.{◌≡◌, Option, Some, None, sym, ap, ◌∙◌}
+use Rattle.std.proofs.Common.{◌≡◌, Option, None, ap, ◌∙◌}
 use Rattle.std.specs.Option.{option_or}
 use Rattle.std.specs.FinMap.{FinMap, get}
 use Rattle.zarr_path.specs.Paths.{path_cmp}

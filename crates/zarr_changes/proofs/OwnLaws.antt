@@ -1,9 +1,9 @@
 -- The rows of a tree that stay under what is held.
-use Rattle.std.proofs.Common.{◌≡◌, ℕ, zero, suc, ◌+◌, ◌<◌, ◌≤◌, Bool, true, false, cond, not, T, List, [], ◌∷◌, ◌++◌, map, drop, length, Option, Some, None, option_map, refl, sym, ap, subst, ◌∙◌, add-one, arith, length-append}
+use Rattle.std.proofs.Common.{◌≡◌, ℕ, zero, suc, ◌+◌, ◌≤◌, Bool, true, false, cond, not, T, List, [], ◌∷◌, ◌++◌, map, drop, length, Option, Some, None, option_map, refl, sym, ap, ◌∙◌, add-one, arith, length-append}
 use Rattle.std.specs.Prelude.{slice_get}
 use Rattle.std.specs.Option.{option_or}
 use Rattle.std.specs.Ordering.{is_lt}
-use Rattle.std.specs.List.{filter, list_all}
+use Rattle.std.specs.List.{filter}
 use Rattle.std.specs.FinMap.{FinMap, find, get, len, len-empty, len-insert, contains_key, from_entries, entries, entries_sorted, is_sorted, get-entries, len-entries}
 use Rattle.zarr_path.specs.Paths.{path_cmp, same_path}
 use Rattle.zarr_path.proofs.OrderLaws.{total, same_path-true}

@@ -1,15 +1,12 @@
 -- Rows in the order of their keys, and the map that they make.
-use Rattle.std.proofs.Common.{◌≡◌, ℕ, Bool, true, false, cond, ◌&&◌, T, List, [], ◌∷◌, ◌++◌, map, length, Option, Some, None, is_some, refl, sym, ap, subst, ◌∙◌}
+use Rattle.std.proofs.Common.{◌≡◌, Bool, true, false, ◌&&◌, T, List, [], ◌∷◌, ◌++◌, map, length, refl, sym, ap, subst, ◌∙◌}
 use Rattle.std.specs.declared.cmp.Ordering.{Ordering}
 use Rattle.std.specs.declared.cmp.Ordering.TheVariants.{Less, Equal, Greater}
 use Rattle.std.specs.Ordering.{is_lt, ordering_reverse}
 use Rattle.std.specs.List.{list_all}
-use Rattle.std.specs.Cmp.{IsTotalOrder, tied_itself}
+use Rattle.std.specs.Cmp.{IsTotalOrder}
 use Rattle.std.specs.BTreeMap.{insert_entry}
-use Rattle.std.specs.FinMap.{FinMap, IsAntisymmetric, find, put, get, insert, is_sorted, same_map, entries, entries_sorted, entries-insert, from_entries, from_sorted, len, len-entries, get-entries, get-from_entries, entries-from_sorted, get-from_sorted}
-use Rattle.zarr_path.specs.Paths.{path_cmp, same_path}
-use Rattle.zarr_path.proofs.OrderLaws.{total, exact, same_path-true, same_path-refl}
-use Rattle.zarr_tree.proofs.Maps.{same}
+use Rattle.std.specs.FinMap.{FinMap, IsAntisymmetric, put, insert, is_sorted, same_map, entries, entries_sorted, entries-insert, from_entries, from_sorted, len, len-entries, get-entries, get-from_entries, entries-from_sorted, get-from_sorted}
 
 pub both : (a b : Bool) → T a → T b → T (a && b)
 both true b p q = q

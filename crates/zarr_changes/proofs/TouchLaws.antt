@@ -1,12 +1,12 @@
 -- What is touched, gathered row by row.
-use Rattle.std.proofs.Common.{◌≡◌, ℕ, zero, suc, ◌+◌, ◌≤◌, Bool, true, false, cond, not, ◌&&◌, ◌||◌, T, List, [], ◌∷◌, ◌++◌, map, drop, length, append_assoc, append-nil, Option, Some, None, is_some, refl, sym, ap, ◌∙◌, ◌⊎◌, inl, inr, add-one, arith}
-use Rattle.std.specs.Prelude.{find, slice_get, nat_eq}
+use Rattle.std.proofs.Common.{◌≡◌, ℕ, zero, suc, ◌+◌, ◌≤◌, Bool, true, false, cond, not, ◌&&◌, ◌||◌, List, [], ◌∷◌, ◌++◌, map, drop, length, append_assoc, append-nil, Option, Some, None, is_some, refl, sym, ap, ◌∙◌, ◌⊎◌, inl, inr, add-one, arith}
+use Rattle.std.specs.Prelude.{slice_get, nat_eq}
 use Rattle.std.specs.Option.{option_or}
 use Rattle.std.specs.Ordering.{eq_by_cmp, is_eq}
 use Rattle.std.specs.Cmp.{tied_itself}
 use Rattle.std.specs.List.{filter, list_any}
 use Rattle.std.specs.FinMap as map
-use Rattle.std.specs.FinMap.{FinMap, get, insert, keys, contains_key-keys, entries, from_entries, len, len-entries, get-insert, get-from_entries, get-entries, same_map}
+use Rattle.std.specs.FinMap.{FinMap, get, insert, keys, contains_key-keys, entries, from_entries, len, len-entries, get-insert, get-from_entries, same_map}
 use Rattle.ice_ids.specs.declared.Id8.{Id8}
 use Rattle.ice_ids.specs.Text.{same_id8, id8_cmp}
 use Rattle.std.proofs.lemmas.Bool.{false_from_ne_true}

@@ -1,12 +1,12 @@
 -- The walk up the texts before a path's slashes.
-use Rattle.std.proofs.Common.{◌≡◌, ◌≢◌, ℕ, Bool, true, false, cond, ◌&&◌, ◌||◌, eqb, List, [], ◌∷◌, ◌++◌, append_assoc, drop, length, Option, Some, None, option_map, refl, sym, ap, ◌∙◌, ◌⊎◌, inl, inr, arith}
+use Rattle.std.proofs.Common.{◌≡◌, ◌≢◌, ℕ, Bool, true, false, cond, ◌&&◌, ◌||◌, List, [], ◌∷◌, ◌++◌, append_assoc, drop, length, Option, Some, None, refl, sym, ap, ◌∙◌, ◌⊎◌, inl, inr, arith}
 use Rattle.std.specs.Prelude.{nat_eq, ◌==◌}
 use Rattle.std.specs.List.{starts_with}
 use Rattle.std.specs.Cmp.{both_ways}
 use Rattle.std.proofs.lemmas.Slice.Eq.{starts_is}
 use Rattle.std.specs.FinMap.{FinMap, get}
 use Rattle.ice_ids.specs.declared.Id8.{Id8}
-use Rattle.zarr_path.specs.Paths.{path_cmp, same_path, root, folder, is_within, before_slash, before_slash_after}
+use Rattle.zarr_path.specs.Paths.{path_cmp, root, folder, is_within, before_slash, before_slash_after}
 use Rattle.zarr_path.proofs.PathLaws.{Under, within_cases, within-refl, within_under, folder_cases, by_numbers}
 use Rattle.zarr_tree.specs.Nodes.{Node}
 use Rattle.zarr_tree.specs.Trees.{Tree}

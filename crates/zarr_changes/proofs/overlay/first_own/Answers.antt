@@ -1,4 +1,4 @@
-use Rattle.std.proofs.Common.{◌≡◌, ◌≤◌, ◌∙◌, sym, arith}
+use Rattle.std.proofs.Common.{◌≤◌, ◌∙◌, sym, arith}
 use Rattle.std.specs.FinMap.{len}
 use Rattle.zarr_tree.specs.Rows.{node_found}
 use Rattle.zarr_changes.proofs.OwnLaws.{own-gone, own-stays, own-end}

@@ -1,10 +1,9 @@
-use Rattle.std.proofs.Common.{◌≡◌, ℕ, List, ◌++◌, ◌∷◌, ap, sym, subst, ◌∙◌}
+use Rattle.std.proofs.Common.{◌≡◌, ◌++◌, ◌∷◌, ap, sym, subst, ◌∙◌}
 use Rattle.std.specs.String.{string_bytes}
-use Rattle.std.specs.FinMap.{FinMap, entries, insert}
+use Rattle.std.specs.FinMap.{entries, insert}
 use Rattle.std.specs.Map.Iter.{deref_pair}
 use Rattle.std.proofs.lemmas.Map.Iter.{rest_more, rest_all}
-use Rattle.zarr_path.specs.Paths.{path_cmp, is_path}
-use Rattle.zarr_tree.specs.Nodes.{Node}
+use Rattle.zarr_path.specs.Paths.{is_path}
 use Rattle.zarr_changes.specs.Rows.{ArePaths}
 use Rattle.zarr_changes.specs.inside.Kept.{node_rows}
 use Rattle.zarr_changes.proofs.KeptLaws.{kept_entries, copy_start, node_next, row_path, copy_end}

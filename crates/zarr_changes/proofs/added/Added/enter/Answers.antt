@@ -10,8 +10,7 @@ use Rattle.zarr_changes.proofs.added.Added.enter.Goals as goal
 
 pub invariant_of-self-2 : goal.invariant_of-self-2
 invariant_of-self-2 c =
-    let rows : c.insert.new.self.entries ≡ _ = c.in_ok-insert.ensures.entries in
-    (
+    let rows : c.insert.new.self.entries ≡ _ = c.in_ok-insert.ensures.entries in (
       subst (λ (es : Kept). IsInOrder (node_rows es)) (sym rows) (inserted_in_order c.self.inside.nodes.entries c.args.text c.args.node c.self.invariant.0),
       subst (λ (es : Kept). ArePaths (node_rows es)) (sym rows) (inserted_paths c.self.inside.nodes.entries c.args.text c.args.node (T-true _ c.requires) c.self.invariant.1),
     )

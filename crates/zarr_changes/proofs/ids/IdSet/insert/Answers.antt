@@ -1,5 +1,4 @@
-use Rattle.std.proofs.Common.{◌≡◌, ◌∙◌, ap, sym, subst}
-use Rattle.zarr_tree.specs.Touched.{IdsAscend}
+use Rattle.std.proofs.Common.{◌∙◌, ap}
 use Rattle.zarr_changes.specs.Edits.{with_id}
 use Rattle.zarr_changes.proofs.IdLaws.{insert_with}
 use Rattle.zarr_changes.proofs.ids.IdSet.insert.Goals as goal

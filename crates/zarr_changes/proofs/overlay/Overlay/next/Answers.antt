@@ -1,4 +1,4 @@
-use Rattle.std.proofs.Common.{◌≡◌, ◌∙◌, sym, None}
+use Rattle.std.proofs.Common.{◌∙◌, sym}
 use Rattle.zarr_changes.proofs.Merging.{step_none, step_first, step_second, step_less, step_equal, step_greater}
 use Rattle.zarr_changes.proofs.overlay.Overlay.next.Goals as goal
 

@@ -1,7 +1,7 @@
-use Rattle.std.proofs.Common.{◌≡◌, ◌∙◌, ap, sym, not, ◌&&◌, List, []}
+use Rattle.std.proofs.Common.{◌≡◌, ◌∙◌, ap, sym, not, ◌&&◌, []}
 use Rattle.std.specs.FinMap.{entries}
 use Rattle.manifest_file.specs.declared.manifest.Place.{Place}
-use Rattle.zarr_tree.specs.Held.{Held, Entry}
+use Rattle.zarr_tree.specs.Held.{Held}
 use Rattle.zarr_changes.specs.inside.Touching.{has_metadata, touches_own}
 use Rattle.zarr_changes.proofs.TouchLaws.{untouched}
 use Rattle.zarr_changes.proofs.set.ChangeSet.is_empty.Goals as goal

@@ -1,4 +1,4 @@
-use Rattle.std.proofs.Common.{◌≡◌, ◌+◌, ℕ, length, option_map}
+use Rattle.std.proofs.Common.{◌≡◌, ◌+◌, length, option_map}
 use Rattle.std.specs.Option.{option_map_or}
 use Rattle.zarr_tree.specs.Changes.{is_gone}
 use Rattle.zarr_tree.specs.Touched.{lists}

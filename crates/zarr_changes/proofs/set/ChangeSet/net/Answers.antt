@@ -1,8 +1,8 @@
-use Rattle.std.proofs.Common.{◌≡◌, ◌∙◌, ap, sym, [], List, ℕ}
+use Rattle.std.proofs.Common.{◌≡◌, ◌∙◌, ap, sym, []}
 use Rattle.std.specs.FinMap.{entries}
 use Rattle.manifest_file.specs.declared.manifest.Place.{Place}
 use Rattle.zarr_tree.specs.Nodes.{is_group, is_array}
-use Rattle.zarr_tree.specs.Held.{Held, Rows, ids_of}
+use Rattle.zarr_tree.specs.Held.{Held, ids_of}
 use Rattle.zarr_changes.proofs.TouchLaws.{no_chunks}
 use Rattle.zarr_changes.proofs.set.ChangeSet.net.Goals as goal
 

@@ -1,7 +1,7 @@
 use Rattle.std.proofs.Common.{◌≡◌, ◌∙◌, ap, sym}
 use Rattle.std.specs.FinMap.{entries}
 use Rattle.manifest_file.specs.declared.manifest.Place.{Place}
-use Rattle.zarr_tree.specs.Held.{Held, Rows}
+use Rattle.zarr_tree.specs.Held.{Held}
 use Rattle.zarr_changes.specs.Rows.{own_rows, overlay, rows_from}
 use Rattle.zarr_changes.proofs.OwnLaws.{over-rows}
 use Rattle.zarr_changes.proofs.Merging.{refilled}

@@ -1,4 +1,4 @@
-use Rattle.std.proofs.Common.{option_map, ap, sym, ◌∙◌}
+use Rattle.std.proofs.Common.{option_map, ap, ◌∙◌}
 use Rattle.zarr_tree.specs.Held.{meta_in}
 use Rattle.zarr_changes.proofs.IdLaws.{looked_up, text_copied}
 use Rattle.zarr_changes.proofs.texts.Texts.get.Goals as goal
