@@ -7,3 +7,4 @@ pub mod OwnLaws
 pub mod Merging
 pub mod AddLaws
 pub mod TouchLaws
+pub mod EditLaws

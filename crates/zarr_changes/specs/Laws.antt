@@ -3,10 +3,10 @@ use Rattle.std.specs.Prelude.{◌≡◌, ℕ, List, Option}
 use Rattle.ice_ids.specs.declared.Id8.{Id8}
 use Rattle.zarr_tree.specs.Nodes.{Node}
 use Rattle.zarr_tree.specs.Trees.{Tree}
-use Rattle.zarr_tree.specs.Edits.{Add, refusal}
+use Rattle.zarr_tree.specs.Edits.{Add, SetMeta, Drop, refusal}
 use Rattle.zarr_tree.specs.Changes.{extended}
 use Rattle.zarr_tree.specs.Held.{Held, changes_of}
-use Rattle.zarr_changes.specs.Edits.{with_added}
+use Rattle.zarr_changes.specs.Edits.{with_added, with_text_at, without_node}
 use Rattle.zarr_changes.specs.Sets.{add_refusal}
 
 -- a tree refuses a node by its nodes alone
@@ -17,3 +17,13 @@ RefusalLaw = (t : Tree) (p : List ℕ) (id : Id8) (text : List ℕ) → refusal 
 abbrev pub AddedLaw : Type 0 → Type 0
 AddedLaw P = (bytes_at : P → Option (List ℕ)) (h : Held P) (t : Tree) (p : List ℕ) (n : Node)
     → changes_of bytes_at (with_added h p n) ≡ extended (changes_of bytes_at h) t (Add p n.id n.text)
+
+-- another text is one more edit in them
+abbrev pub TextLaw : Type 0 → Type 0
+TextLaw P = (bytes_at : P → Option (List ℕ)) (h : Held P) (t : Tree) (p text : List ℕ)
+    → changes_of bytes_at (with_text_at h t.nodes p text) ≡ extended (changes_of bytes_at h) t (SetMeta p text)
+
+-- and so is a node, and all beneath it, taken away
+abbrev pub DropLaw : Type 0 → Type 0
+DropLaw P = (bytes_at : P → Option (List ℕ)) (h : Held P) (t : Tree) (p : List ℕ)
+    → changes_of bytes_at (without_node h t.nodes p) ≡ extended (changes_of bytes_at h) t (Drop p)

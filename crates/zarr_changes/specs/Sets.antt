@@ -1,12 +1,12 @@
 -- What the calls of a change set answer. (Own.)
-use Rattle.std.specs.Prelude.{◌≡◌, ℕ, Bool, not, ◌&&◌, nat_le, if◌then◌else◌, List, map, Option, Some, None, is_some, Result, Ok, Err}
+use Rattle.std.specs.Prelude.{◌≡◌, ℕ, Bool, not, ◌&&◌, nat_le, if◌then◌else◌, List, map, Option, Some, None, is_some, option_map, Result, Ok, Err}
 use Rattle.std.specs.List.{filter}
 use Rattle.std.specs.FinMap.{FinMap, get, len, entries}
 use Rattle.zarr_path.specs.Paths.{path_cmp, same_path, root, parent_of, is_beneath}
 use Rattle.zarr_tree.specs.declared.edit.EditFault.{EditFault}
-use Rattle.zarr_tree.specs.declared.edit.EditFault.TheVariants.{NodeExists, NoParent, Full, NoMemory}
-use Rattle.zarr_tree.specs.Nodes.{Node, is_array}
-use Rattle.zarr_tree.specs.Edits.{is_group_at, most_nodes}
+use Rattle.zarr_tree.specs.declared.edit.EditFault.TheVariants.{NodeExists, NoParent, Full, FrozenField, NoMemory}
+use Rattle.zarr_tree.specs.Nodes.{Node, is_array, frozen_change}
+use Rattle.zarr_tree.specs.Edits.{is_group_at, at_node, most_nodes}
 use Rattle.zarr_tree.specs.Held.{Held, Rows}
 
 -- the edit is entered, or refused for this reason, and then what is held stays; it also stays where memory runs out, which may
@@ -23,6 +23,13 @@ add_refusal nodes p =
     (if not (same_path p root) && not (is_group_at (get nodes (parent_of p))) then Some NoParent else
     (if nat_le most_nodes (len nodes) then Some Full else
     None))
+
+-- why the node at a path can't have another text, or be taken away
+abbrev pub text_refusal : FinMap path_cmp Node → (path text : List ℕ) → Option EditFault
+text_refusal nodes p text = at_node (get nodes p) (λ n. option_map FrozenField (frozen_change n.text text))
+
+abbrev pub drop_refusal : FinMap path_cmp Node → (path : List ℕ) → Option EditFault
+drop_refusal nodes p = at_node (get nodes p) (λ n. None)
 
 -- the paths of rows beneath a path, and whether they are arrays'
 abbrev pub beneath_in : Rows → (path : List ℕ) → List (List ℕ × Bool)

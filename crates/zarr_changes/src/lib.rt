@@ -6,6 +6,8 @@
 
 mod added;
 mod adding;
+mod changing;
+mod frozen;
 mod ids;
 mod kinds;
 mod laws;
