@@ -7,7 +7,7 @@ use Rattle.std.specs.declared.cmp.Ordering.TheVariants.{Less, Equal, Greater}
 use Rattle.std.specs.Ordering.{eq_by_cmp, is_eq, is_lt}
 use Rattle.std.specs.Cmp.{IsTotalOrder, Equal-is, both_ways, tied_itself}
 use Rattle.std.specs.Cmp.Lexicographic.{nat_list_cmp_total}
-use Rattle.std.specs.List.{list_any, list_all, AllByRecursion}
+use Rattle.std.specs.List.{list_any, list_all, filter, AllByRecursion}
 use Rattle.std.specs.List.Sorted.{IsStrictlySortedBy}
 use Rattle.std.specs.Map.{lookup, keys_of}
 use Rattle.std.specs.BTreeMap.{is_at, insert_entry}
@@ -119,3 +119,14 @@ pub text_next : (copy rest all : List (Id8 × List ℕ)) (k : Id8) (text : List 
 text_next copy rest all k text h e =
     ap (λ (x : List (Id8 × List ℕ)). x ++ rest) (entries-insert_last id8_cmp id_total id_exact copy k text rest (subst (λ (x : List (Id8 × List ℕ)). T (is_sorted id8_cmp x)) (sym e) h))
     ∙ append_assoc copy ((k, text) ∷ []) rest ∙ e
+
+-- those texts whose ids pass a test
+pub texts-filter : (test : Id8 → Bool) (es : List (Id8 × Meta)) → text_rows (filter (λ (e : Id8 × Meta). test e.0) es) ≡ filter (λ (row : Id8 × List ℕ). test row.0) (text_rows es)
+texts-filter test [] = refl
+texts-filter test (e ∷ es) = by_test (test e.0) (texts-filter test es)
+  where
+    by_test : (b : Bool) → text_rows (filter (λ (x : Id8 × Meta). test x.0) es) ≡ filter (λ (row : Id8 × List ℕ). test row.0) (text_rows es)
+        → text_rows (cond b (e ∷ filter (λ (x : Id8 × Meta). test x.0) es) (filter (λ (x : Id8 × Meta). test x.0) es))
+        ≡ cond b ((e.0, e.1.text) ∷ filter (λ (row : Id8 × List ℕ). test row.0) (text_rows es)) (filter (λ (row : Id8 × List ℕ). test row.0) (text_rows es))
+    by_test true rest = ap (λ (rows : List (Id8 × List ℕ)). (e.0, e.1.text) ∷ rows) rest
+    by_test false rest = rest

@@ -1,22 +1,22 @@
 -- Added nodes, as the code keeps them.
-use Rattle.std.proofs.Common.{◌≡◌, ℕ, suc, true, cond, T, List, [], ◌∷◌, ◌++◌, append_assoc, append-nil, length, Some, String, Global, refl, sym, ap, subst, ◌∙◌}
+use Rattle.std.proofs.Common.{◌≡◌, ℕ, suc, Bool, true, false, cond, T, List, [], ◌∷◌, ◌++◌, append_assoc, append-nil, length, Option, Some, None, String, Global, refl, sym, ap, subst, ◌∙◌}
 use Rattle.std.specs.declared.cmp.Ordering.{Ordering}
 use Rattle.std.specs.declared.cmp.Ordering.TheVariants.{Less, Equal, Greater}
-use Rattle.std.specs.List.{list_all}
+use Rattle.std.specs.List.{list_all, filter}
 use Rattle.std.specs.String.{string_bytes, string_cmp}
 use Rattle.std.specs.Map.{lookup}
 use Rattle.std.specs.BTreeMap.{is_at, insert_entry}
-use Rattle.std.specs.Ordering.{nat_cmp, is_eq}
+use Rattle.std.specs.Ordering.{nat_cmp, is_eq, is_lt}
 use Rattle.std.specs.Cmp.Lexicographic.{slice_cmp}
-use Rattle.std.specs.FinMap.{FinMap, find, put, get, insert, empty, entries, entries_sorted, entries-insert, same_entries_map, from_entries, len}
-use Rattle.zarr_path.specs.Paths.{path_cmp, is_path}
-use Rattle.zarr_path.proofs.OrderLaws.{total, exact}
+use Rattle.std.specs.FinMap.{FinMap, find, put, get, insert, empty, entries, entries_sorted, entries-insert, same_entries_map, is_sorted, retain_keys, from_entries, len}
+use Rattle.zarr_path.specs.Paths.{path_cmp, same_path, is_path}
+use Rattle.zarr_path.proofs.OrderLaws.{total, exact, same_path-true}
 use Rattle.zarr_tree.specs.Nodes.{Node}
 use Rattle.zarr_tree.specs.Held.{Rows}
-use Rattle.zarr_tree.proofs.Maps.{get-made}
+use Rattle.zarr_tree.proofs.Maps.{same, get-made, get-where}
 use Rattle.zarr_changes.specs.Rows.{IsInOrder, ArePaths}
 use Rattle.zarr_changes.specs.inside.Kept.{node_rows}
-use Rattle.zarr_changes.proofs.RowLaws.{both, first, second, true-T, entries-made, put-last, len-made, made-put, sorted-put, seen-insert}
+use Rattle.zarr_changes.proofs.RowLaws.{is_below, both, first, second, true-T, entries-made, put-last, len-made, made-put, sorted-put, seen-insert}
 
 abbrev pub Kept : Type 0
 Kept = List (String Global × Node)
@@ -83,3 +83,70 @@ row_path before rest all p x h e = true-T _ (in_middle before (subst ArePaths (s
 
 pub copy_end : (m all : FinMap path_cmp Node) (rows : Rows) → entries m ++ rows ≡ entries all → rows ≡ [] → m ≡ all
 copy_end m all rows e h = same_entries_map m all (sym (append-nil (entries m)) ∙ ap (λ (x : Rows). entries m ++ x) (sym h) ∙ e)
+
+-- ---- those rows whose paths pass a test
+module _ (test : List ℕ → Bool) where
+  abbrev passing : Rows → Rows
+  passing rows = filter (λ (row : List ℕ × Node). test row.0) rows
+
+  pub rows-filter : (es : Kept) → node_rows (filter (λ (e : String Global × Node). test (string_bytes e.0)) es) ≡ passing (node_rows es)
+  rows-filter [] = refl
+  rows-filter (e ∷ es) = by_test (test (string_bytes e.0)) (rows-filter es)
+    where
+      by_test : (b : Bool) → node_rows (filter (λ (x : String Global × Node). test (string_bytes x.0)) es) ≡ passing (node_rows es)
+          → node_rows (cond b (e ∷ filter (λ (x : String Global × Node). test (string_bytes x.0)) es) (filter (λ (x : String Global × Node). test (string_bytes x.0)) es))
+          ≡ cond b ((string_bytes e.0, e.1) ∷ passing (node_rows es)) (passing (node_rows es))
+      by_test true rest = ap (λ (rows : Rows). (string_bytes e.0, e.1) ∷ rows) rest
+      by_test false rest = rest
+
+  below-passing : (x : List ℕ) (rows : Rows) → T (is_below path_cmp x rows) → T (is_below path_cmp x (passing rows))
+  below-passing x [] h = tt
+  below-passing x (e ∷ es) h =
+      let rest = below-passing x es (second (is_lt (path_cmp x e.0)) (is_below path_cmp x es) h) in
+      elim (test e.0) as (λ b. T (is_below path_cmp x (cond b (e ∷ passing es) (passing es)))) [
+        | true ↦ both (is_lt (path_cmp x e.0)) (is_below path_cmp x (passing es)) (first (is_lt (path_cmp x e.0)) (is_below path_cmp x es) h) rest
+        | false ↦ rest
+      ]
+
+  sorted-passing : (rows : Rows) → IsInOrder rows → IsInOrder (passing rows)
+  sorted-passing [] h = tt
+  sorted-passing (e ∷ es) h =
+      let rest = sorted-passing es (second (is_below path_cmp e.0 es) (is_sorted path_cmp es) h) in
+      elim (test e.0) as (λ b. IsInOrder (cond b (e ∷ passing es) (passing es))) [
+        | true ↦ both (is_below path_cmp e.0 (passing es)) (is_sorted path_cmp (passing es)) (below-passing e.0 es (first (is_below path_cmp e.0 es) (is_sorted path_cmp es) h)) rest
+        | false ↦ rest
+      ]
+
+  paths-passing : (rows : Rows) → ArePaths rows → ArePaths (passing rows)
+  paths-passing [] h = tt
+  paths-passing (e ∷ es) h =
+      let rest = paths-passing es (second (is_path e.0) (list_all (λ (row : List ℕ × Node). is_path row.0) es) h) in
+      elim (test e.0) as (λ b. ArePaths (cond b (e ∷ passing es) (passing es))) [
+        | true ↦ both (is_path e.0) (list_all (λ (row : List ℕ × Node). is_path row.0) (passing es)) (first (is_path e.0) (list_all (λ (row : List ℕ × Node). is_path row.0) es) h) rest
+        | false ↦ rest
+      ]
+
+  find-passing : (q : List ℕ) (rows : Rows) → find path_cmp q (passing rows) ≡ cond (test q) (find path_cmp q rows) None
+  find-passing q [] = elim (test q) as (λ b. ◌≡◌ {A = Option Node} None (cond b None None)) [ true ↦ refl | false ↦ refl ]
+  find-passing q (e ∷ es) = by_case (same_path q e.0) refl (test e.0) refl (test q) refl (find-passing q es)
+    where
+      by_case : (s : Bool) → same_path q e.0 ≡ s → (b : Bool) → test e.0 ≡ b → (c : Bool) → test q ≡ c → find path_cmp q (passing es) ≡ cond (test q) (find path_cmp q es) None
+          → find path_cmp q (cond b (e ∷ passing es) (passing es)) ≡ cond (test q) (cond s (Some e.1) (find path_cmp q es)) None
+      by_case true k true g true f rest = ap (λ x. cond x (Some e.1) (find path_cmp q (passing es))) k ∙ sym (ap (λ x. cond x (Some e.1) None) f)
+      by_case true k true g false f rest = let bad : false ≡ true = sym f ∙ ap test (same_path-true q e.0 k) ∙ g in cc
+      by_case true k false g true f rest = let bad : true ≡ false = sym f ∙ ap test (same_path-true q e.0 k) ∙ g in cc
+      by_case true k false g false f rest = rest ∙ ap (λ x. cond x (find path_cmp q es) None) f ∙ sym (ap (λ x. cond x (Some e.1) None) f)
+      by_case false k true g c f rest = ap (λ x. cond x (Some e.1) (find path_cmp q (passing es))) k ∙ rest
+      by_case false k false g c f rest = rest
+
+  module _ (es kept : Kept) (is : kept ≡ filter (λ (e : String Global × Node). test (string_bytes e.0)) es) where
+    pub kept_in_order : IsInOrder (node_rows es) → IsInOrder (node_rows kept)
+    kept_in_order h = subst IsInOrder (sym (ap node_rows is ∙ rows-filter es)) (sorted-passing (node_rows es) h)
+
+    pub kept_paths : ArePaths (node_rows es) → ArePaths (node_rows kept)
+    kept_paths h = subst ArePaths (sym (ap node_rows is ∙ rows-filter es)) (paths-passing (node_rows es) h)
+
+    pub kept_map : from_entries {R = path_cmp} (node_rows kept) ≡ retain_keys (from_entries (node_rows es)) test
+    kept_map =
+        ap (from_entries {R = path_cmp}) (ap node_rows is ∙ rows-filter es)
+        ∙ same _ _ (λ q. get-made (passing (node_rows es)) q ∙ find-passing q (node_rows es) ∙ ap (λ o. cond (test q) o None) (sym (get-made (node_rows es) q)) ∙ sym (get-where (from_entries (node_rows es)) test q))

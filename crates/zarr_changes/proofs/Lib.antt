@@ -8,3 +8,4 @@ pub mod Merging
 pub mod AddLaws
 pub mod TouchLaws
 pub mod EditLaws
+pub mod DropLaws

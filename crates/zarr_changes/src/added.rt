@@ -2,7 +2,7 @@
 
 ghost use Rattle.std.specs.Prelude.{◌≡◌, [], ◌∷◌, not, IfOk, OnOk, OnErr, IfSome, MatchOption, IsTrue};
 ghost use Rattle.std.specs.String.{string_bytes};
-ghost use Rattle.zarr_path.specs.Paths.{is_path};
+ghost use Rattle.zarr_path.specs.Paths.{is_path, is_within};
 ghost use Rattle.zarr_changes.specs.Rows.{row_found, IsInOrder};
 ghost use Rattle.zarr_changes.specs.inside.Touching.{has_metadata};
 ghost use Rattle.std.specs.Option.{option_copied};
@@ -12,7 +12,7 @@ use std::alloc::{AllocError, Global};
 use std::collections::BTreeMap;
 use std::collections::btree_map::Iter;
 use std::marker::Model;
-use zarr_path::Path;
+use zarr_path::{Path, is_within};
 use zarr_tree::{Found, Node};
 
 /// Nodes by their paths. Contracts see a finite map from the bytes of the paths.
@@ -90,6 +90,13 @@ impl Added {
     {
         self.nodes.insert(text, node)?;
         Ok(())
+    }
+
+    /// Takes away the node at a path, and all beneath it.
+    pub(crate) fn remove_within(&mut self, of: &str)
+        ensures { self.new ≡ map.retain_keys self.old (λ path. not (is_within of.now path)) }
+    {
+        self.nodes.retain(|text, _| !is_within(of, text.as_str()));
     }
 
     /// The same nodes once more.

@@ -1,6 +1,6 @@
 //! Laws of change sets: each function's clause is the law, and its body is empty.
 
-ghost use Rattle.zarr_changes.specs.Laws.{RefusalLaw, AddedLaw};
+ghost use Rattle.zarr_changes.specs.Laws.{RefusalLaw, AddedLaw, TextLaw, DropLaw};
 
 /// A tree refuses a node by its nodes alone.
 pub fn refusal_law()
@@ -10,4 +10,14 @@ pub fn refusal_law()
 /// A node more is one more edit in the changes.
 pub fn added_law<P>()
     ensures { AddedLaw P }
+{}
+
+/// Other metadata is one more edit in the changes.
+pub fn text_law<P>()
+    ensures { TextLaw P }
+{}
+
+/// A node, and all beneath it, taken away is one more edit in the changes.
+pub fn drop_law<P>()
+    ensures { DropLaw P }
 {}

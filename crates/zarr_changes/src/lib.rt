@@ -7,6 +7,7 @@
 mod added;
 mod adding;
 mod changing;
+mod dropping;
 mod frozen;
 mod ids;
 mod kinds;
@@ -18,6 +19,6 @@ mod overlay;
 mod set;
 mod texts;
 
-pub use laws::{added_law, refusal_law};
+pub use laws::{added_law, drop_law, refusal_law, text_law};
 pub use overlay::{Overlay, Row};
 pub use set::ChangeSet;

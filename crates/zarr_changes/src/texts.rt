@@ -1,9 +1,12 @@
 //! Metadata of nodes by their ids.
 
-ghost use Rattle.std.specs.Prelude.{◌≡◌, ◌==◌, [], length, IfOk, OnOk, OnErr, option_map};
+ghost use Rattle.std.specs.Prelude.{◌≡◌, ◌==◌, [], length, not, IfOk, OnOk, OnErr, option_map};
+ghost use Rattle.std.specs.List.{filter};
+ghost use Rattle.zarr_tree.specs.Touched.{lists};
 ghost use Rattle.zarr_tree.specs.Held.{meta_in};
 ghost use Rattle.zarr_changes.specs.Edits.{with_row};
 
+use crate::ids::IdSet;
 use ice_ids::Id8;
 use std::alloc::{AllocError, Global};
 use std::collections::BTreeMap;
@@ -61,6 +64,13 @@ impl Texts {
     {
         self.metas.insert(id, meta)?;
         Ok(())
+    }
+
+    /// Takes away the metadata of these nodes.
+    pub(crate) fn remove_all(&mut self, ids: &IdSet)
+        ensures { self.new ≡ filter (λ row. not (lists ids.now row.0)) self.old }
+    {
+        self.metas.retain(|id, _| !ids.contains(id));
     }
 
     /// The same metadata once more.
