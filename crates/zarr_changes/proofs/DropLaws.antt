@@ -1,5 +1,5 @@
 -- Dropped nodes.
-use Rattle.std.proofs.Common.{◌≡◌, ℕ, Bool, true, false, cond, not, ◌&&◌, ◌||◌, T, List, [], ◌∷◌, map, Option, Some, None, is_some, option_map, refl, sym, ap, ◌∙◌}
+use Rattle.std.proofs.Common.{◌≡◌, ℕ, Bool, true, false, cond, not, ◌&&◌, ◌||◌, T, List, [], ◌∷◌, Option, Some, None, is_some, option_map, length, refl, sym, ap, ◌∙◌, arith}
 use Rattle.std.specs.Prelude.{find, option_and_then}
 use Rattle.std.specs.declared.cmp.Ordering.{Ordering}
 use Rattle.std.specs.declared.cmp.Ordering.TheVariants.{Less, Equal, Greater}
@@ -15,15 +15,15 @@ use Rattle.zarr_path.proofs.OrderLaws.{same_path-true, same_path-refl}
 use Rattle.zarr_tree.specs.Nodes.{Node, same_numbers}
 use Rattle.zarr_tree.specs.Trees.{Tree}
 use Rattle.zarr_tree.specs.Edits.{at_node}
-use Rattle.zarr_tree.specs.Changes.{has_id, has_id_within, extended}
+use Rattle.zarr_tree.specs.Changes.{has_id, has_id_within}
 use Rattle.zarr_tree.specs.Touched.{lists}
-use Rattle.zarr_tree.specs.Held.{Held, Rows, Entry, meta_in, entry_in, changes_of, nodes_over}
+use Rattle.zarr_tree.specs.Held.{Held, Rows, Entry, meta_in, entry_in, nodes_over}
 use Rattle.zarr_tree.proofs.Apply.{IdWithin, id_within-elim, id_within-intro, id-true, id-refl, both, first, second}
 use Rattle.zarr_tree.proofs.Ordered.{lists-in_order}
 use Rattle.zarr_changes.specs.Edits.{with_id, with_dropped, without_node}
 use Rattle.zarr_changes.specs.Sets.{drop_refusal}
 use Rattle.zarr_changes.specs.Laws.{DropLaw}
-use Rattle.zarr_changes.specs.inside.Own.{within_rows}
+use Rattle.zarr_changes.specs.inside.Own.{within_rows, texts_left}
 use Rattle.zarr_changes.proofs.RowLaws as rows
 use Rattle.zarr_changes.proofs.IdLaws.{id_total, same_ids, marks, contains_lists}
 
@@ -200,17 +200,27 @@ drop-law {P} bytes_at h t p = λ i. record {
         ∙ mapped (λ (place : Option P). option_and_then bytes_at place) (has_id_within (nodes_over h t.nodes) p id) (entry_in h.chunks id j)
 
 -- ---- a node taken away, as the code does it
+pub no_texts : {P : Type 0} (h : Held P) (a b : Id8 → Bool) → length h.metas ≡ 0 → texts_left h a ≡ texts_left h b
+no_texts h a b e = none_of h.metas e
+  where
+    none_of : (rows : List (Id8 × List ℕ)) → length rows ≡ 0 → filter (λ (row : Id8 × List ℕ). not (a row.0)) rows ≡ filter (λ (row : Id8 × List ℕ). not (b row.0)) rows
+    none_of [] e = refl
+    none_of (row ∷ rows) e = absurd (omega arith)
+
+pub same_texts : {P : Type 0} (h : Held P) (a b : Id8 → Bool) → ((id : Id8) → a id ≡ b id) → texts_left h a ≡ texts_left h b
+same_texts h a b e = λ i. filter (λ (row : Id8 × List ℕ). not (e row.0 i)) h.metas
+
 module _ {P : Type 0} (h : Held P) (nodes : FinMap path_cmp Node) (p : List ℕ) (n : Node) (found : get (nodes_over h nodes) p ≡ Some n) where
   pub drop_allowed : drop_refusal (nodes_over h nodes) p ≡ None
   drop_allowed = ap (λ (o : Option Node). at_node o (λ m. None)) found
 
   pub dropped_node : (own : Bool) (ids dropped : List Id8) (added : FinMap path_cmp Node) (metas : List (Id8 × List ℕ)) → own ≡ has_id n.id (get nodes p)
-      → dropped ≡ cond own (with_id h.dropped n.id) h.dropped → added ≡ retain_keys h.added (λ q. not (is_within p q)) → metas ≡ filter (λ row. not (lists ids row.0)) h.metas
-      → ((id : Id8) → lists ids id ≡ has_id_within (nodes_over h nodes) p id) → h.chunks ≡ []
+      → dropped ≡ cond own (with_id h.dropped n.id) h.dropped → added ≡ retain_keys h.added (λ q. not (is_within p q)) → metas ≡ texts_left h (lists ids)
+      → texts_left h (lists ids) ≡ texts_left h (has_id_within (nodes_over h nodes) p) → h.chunks ≡ []
       → ◌≡◌ {A = Held P} (record { dropped = dropped; added = added; metas = metas; chunks = [] }) (without_node h nodes p)
   dropped_node own ids dropped added metas is out left kept within none_held = λ i. record {
     dropped = (out ∙ ap (λ b. cond b (with_id h.dropped n.id) h.dropped) is ∙ ap (λ (o : Option Node). with_dropped h.dropped o (get nodes p)) (sym found)) i;
     added = left i;
-    metas = (kept ∙ (λ j. filter (λ (row : Id8 × List ℕ). not (within row.0 j)) h.metas)) i;
+    metas = (kept ∙ within) i;
     chunks = ap (filter (λ (e : Entry P). not (has_id_within (nodes_over h nodes) p e.0))) (sym none_held) i;
   }

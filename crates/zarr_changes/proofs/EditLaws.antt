@@ -1,19 +1,17 @@
 -- Single edits of what is held, and the changes that they are.
-use Rattle.std.proofs.Common.{◌≡◌, ℕ, Bool, true, false, cond, not, ◌&&◌, ◌||◌, List, [], ◌∷◌, map, Option, Some, None, is_some, option_map, refl, sym, ap, ◌∙◌}
+use Rattle.std.proofs.Common.{◌≡◌, ℕ, Bool, true, false, cond, List, [], ◌∷◌, Option, Some, None, is_some, option_map, refl, sym, ap, ◌∙◌}
 use Rattle.std.specs.Prelude.{find}
-use Rattle.std.specs.Option.{option_or}
 use Rattle.std.specs.Ordering.{eq_by_cmp}
 use Rattle.std.specs.Cmp.{both_ways}
 use Rattle.std.specs.FinMap as map
-use Rattle.std.specs.FinMap.{FinMap, get, insert, entries, from_entries, get-entries, get-insert, get-from_entries}
+use Rattle.std.specs.FinMap.{FinMap, get, insert, from_entries, get-entries, get-insert, get-from_entries}
 use Rattle.ice_ids.specs.declared.Id8.{Id8}
 use Rattle.ice_ids.specs.Text.{same_id8, id8_cmp}
 use Rattle.zarr_path.specs.Paths.{path_cmp}
 use Rattle.zarr_tree.specs.declared.edit.Frozen.{Frozen}
 use Rattle.zarr_tree.specs.declared.edit.EditFault.TheVariants.{FrozenField}
 use Rattle.zarr_tree.specs.Nodes.{Node, frozen_change}
-use Rattle.zarr_tree.specs.Trees.{Tree}
-use Rattle.zarr_tree.specs.Edits.{SetMeta, at_node}
+use Rattle.zarr_tree.specs.Edits.{at_node}
 use Rattle.zarr_tree.specs.Changes as changes
 use Rattle.zarr_tree.specs.Changes.{Changes, extended, nodes_under}
 use Rattle.zarr_tree.specs.Held.{Held, meta_in, changes_of, nodes_over}
@@ -21,7 +19,6 @@ use Rattle.zarr_tree.proofs.Apply.{id-true, id-refl}
 use Rattle.zarr_changes.specs.Edits.{with_row, with_meta, with_text_at}
 use Rattle.zarr_changes.specs.Sets.{text_refusal}
 use Rattle.zarr_changes.specs.Laws.{TextLaw}
-use Rattle.zarr_changes.specs.inside.Own.{own_node}
 use Rattle.zarr_changes.proofs.IdLaws.{id_total, same_ids}
 use Rattle.zarr_changes.proofs.Over.{over-added}
 

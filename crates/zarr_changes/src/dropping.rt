@@ -9,7 +9,7 @@ ghost use Rattle.zarr_tree.specs.Touched.{lists};
 ghost use Rattle.zarr_tree.specs.Held.{nodes_over};
 ghost use Rattle.zarr_changes.specs.Edits.{without_node};
 ghost use Rattle.zarr_changes.specs.Sets.{drop_refusal, Enters};
-ghost use Rattle.zarr_changes.specs.inside.Own.{within_rows};
+ghost use Rattle.zarr_changes.specs.inside.Own.{within_rows, texts_left};
 
 use crate::ids::IdSet;
 use crate::overlay::Overlay;
@@ -47,6 +47,22 @@ fn ids_within<B: TreeLike>(
 }
 
 impl ChangeSet {
+    /// The ids of the overlay's nodes at a path and beneath it, as far as other metadata may be theirs: where there is none,
+    /// the overlay isn't walked.
+    fn ids_with_texts<B: TreeLike>(
+        &self,
+        alloc: Global,
+        base: &B,
+        path: &str,
+    ) -> Result<IdSet, AllocError>
+        ensures { IfOk result (λ ids. texts_left self.now (lists ids) ≡ texts_left self.now (has_id_within (nodes_over self.now (B.nodes base.now)) path.now)) }
+    {
+        if self.metas.is_empty() {
+            return Ok(IdSet::new(alloc));
+        }
+        ids_within(alloc, self.over(base), path)
+    }
+
     /// Drops the overlay's node at a path, and all beneath it. After a refusal, and where memory runs out, the set is as
     /// before.
     pub fn drop_node<B: TreeLike>(
@@ -62,7 +78,7 @@ impl ChangeSet {
             return Err(EditFault::NoNode);
         };
         let id = found.id;
-        let ids = ids_within(alloc, self.over(base), text)?;
+        let ids = self.ids_with_texts(alloc, base, text)?;
         if has_own(base, text, id) {
             self.dropped.insert(id)?;
         }

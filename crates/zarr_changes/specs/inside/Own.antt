@@ -1,6 +1,6 @@
 -- Nodes of a tree that stay under what is held; no public contract cites this.
-use Rattle.std.specs.Prelude.{List, ℕ, Bool, ◌&&◌, if◌then◌else◌, Option, None, option_map}
-use Rattle.std.specs.List.{list_any}
+use Rattle.std.specs.Prelude.{List, ℕ, Bool, not, ◌&&◌, if◌then◌else◌, Option, None, option_map}
+use Rattle.std.specs.List.{list_any, filter}
 use Rattle.std.specs.FinMap.{FinMap, get}
 use Rattle.ice_ids.specs.declared.Id8.{Id8}
 use Rattle.ice_ids.specs.Text.{same_id8}
@@ -17,3 +17,7 @@ own_node h nodes p = if is_gone (lists h.dropped) nodes p then None else option_
 -- whether one of the rows at or beneath a path has this id
 abbrev pub within_rows : Rows → (path : List ℕ) → Id8 → Bool
 within_rows rows p id = list_any (λ row. is_within p row.0 && same_id8 row.1.id id) rows
+
+-- the other texts but those of these nodes
+abbrev pub texts_left : {P : Type 0} → Held P → (gone : Id8 → Bool) → List (Id8 × List ℕ)
+texts_left h gone = filter (λ row. not (gone row.0)) h.metas

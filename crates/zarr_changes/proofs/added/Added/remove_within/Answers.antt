@@ -1,4 +1,4 @@
-use Rattle.std.proofs.Common.{◌≡◌, ◌∙◌, ℕ, List, Bool, String, Global, not, refl, sym, ap, rules}
+use Rattle.std.proofs.Common.{◌≡◌, ◌∙◌, ℕ, List, Bool, String, Global, not, refl, ap, rules}
 use Rattle.std.specs.List.{filter}
 use Rattle.std.specs.String.{string_bytes}
 use Rattle.std.specs.FinMap.{FinMap, retain_keys}
@@ -17,8 +17,7 @@ stayed c =
 
 pub invariant_of-self : goal.invariant_of-self
 invariant_of-self c =
-    let test : List ℕ → Bool = λ path. not (is_within c.args.of.now path) in
-    (
+    let test : List ℕ → Bool = λ path. not (is_within c.args.of.now path) in (
       kept_in_order test c.self.inside.nodes.entries c.retain.new.self.entries (stayed c) c.self.invariant.0,
       kept_paths test c.self.inside.nodes.entries c.retain.new.self.entries (stayed c) c.self.invariant.1,
     )

@@ -1,5 +1,5 @@
-use Rattle.std.proofs.Common.{◌≡◌, ◌∙◌, ℕ, List, [], Bool, cond, not, ap, sym, Some, option_map}
-use Rattle.std.specs.FinMap.{FinMap, get, entries, retain_keys}
+use Rattle.std.proofs.Common.{◌≡◌, ◌∙◌, ℕ, List, cond, not, ap, sym, Some, option_map}
+use Rattle.std.specs.FinMap.{FinMap, get, retain_keys}
 use Rattle.std.specs.List.{filter}
 use Rattle.ice_ids.specs.declared.Id8.{Id8}
 use Rattle.manifest_file.specs.declared.manifest.Place.{Place}
@@ -11,8 +11,8 @@ use Rattle.zarr_tree.specs.Touched.{lists}
 use Rattle.zarr_tree.specs.Held.{Held, nodes_over}
 use Rattle.zarr_changes.specs.declared.set.ChangeSet.TheInside.{Inside}
 use Rattle.zarr_changes.specs.Edits.{with_id}
-use Rattle.zarr_changes.specs.inside.Own.{within_rows}
-use Rattle.zarr_changes.proofs.DropLaws.{within-entries, drop_allowed, dropped_node}
+use Rattle.zarr_changes.specs.inside.Own.{texts_left}
+use Rattle.zarr_changes.proofs.DropLaws.{drop_allowed, dropped_node}
 use Rattle.zarr_changes.proofs.set.ChangeSet.drop_node.Goals as goal
 use Rattle.zarr_changes.proofs.set.ChangeSet.drop_node.Goals.{then-has_own+in_ok-insert, else-has_own}
 
@@ -37,10 +37,9 @@ returns g c =
     c.remove_within.ensures ∙ (λ i. retain_keys (same_added i) (λ q. not (is_within (c.as_str-text.ensures.value i) q))) ∙ ap (λ (h : Held Place). retain_keys h.added (λ q. not (is_within p q))) c.self.view_is in
     let kept : c.remove_all.new.self ≡ filter (λ (row : Id8 × List ℕ). not (lists c.in_ok-ids.ids row.0)) held.metas =
     c.remove_all.ensures ∙ ap (filter (λ (row : Id8 × List ℕ). not (lists c.in_ok-ids.ids row.0))) (same_metas ∙ ap (λ (h : Held Place). h.metas) c.self.view_is) in
-    let within : (id : Id8) → lists c.in_ok-ids.ids id ≡ has_id_within (nodes_over held nodes) p id = λ id.
-    c.in_ok-ids.ensures id ∙ (λ i. within_rows (c.over.ensures i) (c.as_str-text.ensures.value i) id) ∙ within-entries (nodes_over held nodes) p id in
-    (
+    let within : texts_left held (lists c.in_ok-ids.ids) ≡ texts_left held (has_id_within (nodes_over held nodes) p) =
+    c.in_ok-ids.ensures ∙ (λ i. texts_left held (has_id_within (nodes_over held nodes) (c.as_str-text.ensures.value i))) in (
       drop_allowed held nodes p n found,
       dropped_node held nodes p n found c.has_own.result c.in_ok-ids.ids c.if-has_own.self-inside.dropped c.remove_within.new.self c.remove_all.new.self own
-      (out ∙ ap (λ (h : Held Place). cond c.has_own.result (with_id h.dropped n.id) h.dropped) c.self.view_is) left kept within (ap (λ (h : Held Place). h.chunks) (sym c.self.view_is)),
+          (out ∙ ap (λ (h : Held Place). cond c.has_own.result (with_id h.dropped n.id) h.dropped) c.self.view_is) left kept within (ap (λ (h : Held Place). h.chunks) (sym c.self.view_is)),
     )

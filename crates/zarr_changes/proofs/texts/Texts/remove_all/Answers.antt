@@ -1,4 +1,4 @@
-use Rattle.std.proofs.Common.{◌≡◌, ◌∙◌, ℕ, List, not, refl, sym, ap, rules}
+use Rattle.std.proofs.Common.{◌≡◌, ◌∙◌, ℕ, List, not, refl, ap, rules}
 use Rattle.std.specs.List.{filter}
 use Rattle.ice_ids.specs.declared.Id8.{Id8}
 use Rattle.zarr_meta.specs.declared.metas.Meta.{Meta}
