@@ -1,3 +1,4 @@
 pub mod Ids
 pub mod Again
 pub mod Ordered
+pub mod Orders
