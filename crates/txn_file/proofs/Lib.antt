@@ -1,4 +1,7 @@
+pub mod Each
 pub mod Ids
 pub mod Again
 pub mod Ordered
 pub mod Orders
+pub mod Blocks
+pub mod Bytes

@@ -6,7 +6,6 @@ use Rattle.std.specs.Ordering.{is_lt, nat_cmp}
 use Rattle.std.specs.Cmp.Lexicographic.{slice_cmp, nat_list_cmp_total}
 use Rattle.std.specs.List.{AllByRecursion}
 use Rattle.std.specs.List.Sorted.{IsStrictlySortedBy}
-use Rattle.ice_ids.specs.declared.Id8.{Id8}
 use Rattle.ice_ids.specs.declared.Id12.{Id12}
 use Rattle.flat_tables.specs.Rows.{Ascends}
 use Rattle.file_fields.specs.Fields.{id_key, index_key}
@@ -14,17 +13,14 @@ use Rattle.zarr_tree.specs.declared.lists.ArrayChunks.{ArrayChunks}
 use Rattle.zarr_tree.specs.declared.lists.Touched.{Touched}
 use Rattle.zarr_tree.specs.Touched as touched
 use Rattle.txn_file.specs.Logs.{array_key}
-use Rattle.txn_file.specs.Layout.{IdsAscend, ChunksAscend, IsOrdered}
+use Rattle.txn_file.specs.Layout.{IsOrdered}
 use Rattle.txn_file.specs.Laws.{TouchedLaw}
+use Rattle.txn_file.proofs.Each.{each}
 
 less_is : (o : Ordering) → is_lt o ≡ true → o ≡ Less
 less_is Less e = refl
 less_is Equal e = cc
 less_is Greater e = cc
-
-each : {A : Type 0} {P Q : A → Type 0} → ((x : A) → P x → Q x) → (xs : List A) → AllByRecursion P xs → AllByRecursion Q xs
-each to [] are = tt
-each to (x ∷ xs) are = (to x are.0, each to xs are.1)
 
 -- ---- a list by a key
 module _ {A : Type 0} (key : A → List ℕ) where

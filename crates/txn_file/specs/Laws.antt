@@ -1,5 +1,6 @@
 -- Laws of transaction logs and their files.
-use Rattle.std.specs.Prelude.{◌≡◌, ◌≤◌, ℕ, List, length, Ok}
+use Rattle.std.specs.Prelude.{◌≡◌, ◌≤◌, ℕ, nat_lt, true, List, length, Ok}
+use Rattle.std.specs.List.{list_all}
 use Rattle.ice_ids.specs.declared.Id12.{Id12}
 use Rattle.flat_tables.specs.File.{file_limit}
 use Rattle.zarr_tree.specs.declared.lists.Touched.{Touched}
@@ -20,3 +21,7 @@ RoundTripLaw = (log : TxnFile) → IsLog log → IsOrdered log → length (log_f
 pub record TouchedLaw : Type 0 where
   pub writable : (id : Id12) (s : Touched) → touched.IsOrdered s → IsOrdered (record { id = id; lists = s })
   pub listed : (id : Id12) (s : Touched) → IsOrdered (record { id = id; lists = s }) → touched.IsOrdered s
+
+-- the file of a log is bytes
+abbrev pub BytesLaw : Type 0
+BytesLaw = (log : TxnFile) → IsLog log → list_all (λ n. nat_lt n 256) (log_file log) ≡ true

@@ -2,11 +2,12 @@
 use Rattle.std.specs.Prelude.{ℕ, List, [], ◌∷◌, ◌++◌, length, map, None}
 use Rattle.std.specs.List.{flat_map, AllByRecursion}
 use Rattle.ice_ids.specs.declared.Id8.{Id8}
+use Rattle.ice_ids.specs.Text.{IsId8, IsId12}
 use Rattle.flat_tables.specs.declared.header.Kind.TheVariants as kinds
 use Rattle.flat_tables.specs.Header.{header}
 use Rattle.flat_tables.specs.Rows.{Ascends}
 use Rattle.flat_tables.specs.Layout.{Part, Block, offset_to, vector_block, tables_block, table_block, payload}
-use Rattle.file_fields.specs.Fields.{id_key, index_key, id8_part, id12_part, index_part, IsId8, IsId12, IsIndex}
+use Rattle.file_fields.specs.Fields.{id_key, index_key, id8_part, id12_part, index_part, IsIndex}
 use Rattle.zarr_tree.specs.declared.lists.ArrayChunks.{ArrayChunks}
 use Rattle.txn_file.specs.declared.log.TxnFile.{TxnFile}
 use Rattle.txn_file.specs.Logs.{array_key}
@@ -65,7 +66,7 @@ pub record IsOrdered (log : TxnFile) : Type 0 where
   pub arrays : Ascends array_key None log.lists.updated_chunks
   pub chunks : AllByRecursion ChunksAscend log.lists.updated_chunks
 
--- what the types say of a log: ids have their length, and indices have numbers of 32 bits
+-- what the types say of a log: ids are 12 or 8 bytes, and indices have numbers of 32 bits
 abbrev pub AreIds : List Id8 → Type 0
 AreIds ids = AllByRecursion IsId8 ids
 
