@@ -4,3 +4,7 @@ pub mod Again
 pub mod WasRead
 pub mod InitialLaws
 pub mod Listed
+pub mod Bytes
+pub mod PlacesWere
+pub mod NodesSized
+pub mod Sized
