@@ -4,7 +4,6 @@ pub mod Again
 pub mod WasRead
 pub mod InitialLaws
 pub mod Listed
-pub mod Bytes
-pub mod PlacesWere
 pub mod NodesSized
 pub mod Sized
+pub mod WrittenBytes

@@ -1,77 +1,24 @@
 -- The nodes that were read from a payload of bytes have what their types say.
-use Rattle.std.proofs.Common.{◌≡◌, ℕ, zero, suc, ◌+◌, ◌<◌, ◌≤◌, Bool, true, false, cond, nat_eq, List, [], ◌∷◌, length, map, take, drop, Option, Some, None, Result, Ok, Err, refl, sym, ap, subst, arith}
+use Rattle.std.proofs.Common.{◌≡◌, ℕ, Bool, true, false, cond, nat_eq, List, map, take, drop, Option, Some, None, Ok, subst}
 use Rattle.std.specs.Prelude.{IfSome}
 use Rattle.std.specs.List.{AllByRecursion}
 use Rattle.zarr_path.specs.Paths.{is_path}
 use Rattle.ice_base.specs.Lists.{IsBytes}
-use Rattle.ice_ids.specs.declared.Id8.{Id8}
-use Rattle.ice_ids.specs.declared.Id12.{Id12}
-use Rattle.flat_tables.specs.declared.fault.FlatFault.{FlatFault}
 use Rattle.flat_tables.specs.declared.fault.FileFault.{FileFault}
 use Rattle.flat_tables.specs.Step.{◌>>=◌}
-use Rattle.flat_tables.specs.Places.{TableIn, VectorIn, struct_of, scalar_of, text_of, child_of, vector_of, items_from, items_of, all_of, table_of}
-use Rattle.flat_tables.specs.Rows.{flat, required, optional_rows, rows, each, in_order}
-use Rattle.flat_tables.proofs.Loop.{ReadsFrom, bind_ok, rows_read, were_read, each_were}
+use Rattle.flat_tables.specs.Places.{TableIn, VectorIn, scalar_of, text_of, child_of, vector_of, items_of, all_of, table_of}
+use Rattle.flat_tables.specs.Rows.{flat, required}
+use Rattle.flat_tables.proofs.Loop.{bind_ok}
 use Rattle.file_fields.specs.Fields.{id8_of, id12_of}
+use Rattle.file_fields.proofs.Bytes.{bytes_take, bytes_drop, number_32, number_64}
+use Rattle.file_fields.proofs.Places.{flat_was, required_was, some_was, value_was, then_was, vector_was, all_bytes, child_bytes, element_bytes, text_is, id8_is, id12_is}
+use Rattle.file_fields.proofs.WasRead.{rows_below, optional_found, items_give}
 use Rattle.snapshot_file.specs.declared.nodes.ManifestRef.{ManifestRef}
 use Rattle.snapshot_file.specs.declared.nodes.NodeKind.{NodeKind}
 use Rattle.snapshot_file.specs.declared.nodes.NodeKind.TheVariants.{Group, Array}
 use Rattle.snapshot_file.specs.declared.nodes.NodeRow.{NodeRow}
 use Rattle.snapshot_file.specs.Nodes.{dimension_of, extent_of, manifest_of, manifest_at, manifests_in, manifests_of, name_at, names_in, names_of, shape_of, array_of, kind_of, proper_path, known_kind, node_of, node_at}
 use Rattle.snapshot_file.specs.Layout.{IsDimension, IsExtent, IsName, IsManifest, IsArray, IsKind, IsNode}
-use Rattle.snapshot_file.proofs.Bytes.{bytes_take, bytes_drop, number_32, number_64}
-use Rattle.snapshot_file.proofs.PlacesWere.{flat_was, required_was, some_was, value_was, then_was, vector_was, item_bytes, child_bytes, element_bytes, struct_long, struct_bytes, text_is}
-
--- ---- rows
-
-each_has : {A : Type 0} (P : A → Type 0) (f : ℕ → Result A FileFault) (n : ℕ) → ((i : ℕ) (x : A) → i < n → f i ≡ Ok x → P x) → (xs : List A) (i : ℕ) → i + length xs ≤ n → ReadsFrom f i xs → AllByRecursion P xs
-each_has P f n has [] i le reads = tt
-each_has P f n has (x ∷ xs) i le reads = (has i x (omega arith) reads.0, each_has P f n has xs (i + 1) (omega arith) reads.1)
-
--- each row has what the reading of each gives
-rows_have : {A : Type 0} (P : A → Type 0) (f : ℕ → Result A FileFault) (n : ℕ) (xs : List A) → ((i : ℕ) (x : A) → i < n → f i ≡ Ok x → P x) → rows (each f) [] n ≡ Ok xs → AllByRecursion P xs
-rows_have {A = A} P f n xs has e =
-    let r = rows_read (each f) [] n xs e in
-    subst (λ (ys : List A). AllByRecursion P ys) (sym r.all_is) (each_has P f n has r.more 0 (omega (arith, r.len)) (each_were f [] r.more 0 refl r.reads))
-
-pub ordered_have : {A : Type 0} (P : A → Type 0) (key : A → List ℕ) (slot : ℕ) (f : ℕ → Result A FileFault) (n : ℕ) (xs : List A) → ((i : ℕ) (x : A) → i < n → f i ≡ Ok x → P x) → rows (in_order key slot (each f)) [] n ≡ Ok xs → AllByRecursion P xs
-ordered_have {A = A} P key slot f n xs has e =
-    let r = rows_read (in_order key slot (each f)) [] n xs e in
-    subst (λ (ys : List A). AllByRecursion P ys) (sym r.all_is) (each_has P f n has r.more 0 (omega (arith, r.len)) (each_were f [] r.more 0 refl (were_read key slot (each f) [] r.more r.reads)))
-
--- rows of a vector that may be absent
-pub optional_have : {A : Type 0} (P : List A → Type 0) (v : Result (Option VectorIn) FlatFault) (read : VectorIn → Result (List A) FileFault) (xs : List A) → P [] → ((w : VectorIn) → v ≡ Ok (Some w) → read w ≡ Ok xs → P xs) → optional_rows v read ≡ Ok xs → P xs
-optional_have {A = A} P (Ok None) read xs none has e = subst P (value_was {A = List A} {E = FileFault} [] xs e) none
-optional_have P (Ok (Some w)) read xs none has e = has w refl e
-optional_have P (Err fault) read xs none has e = absurd cc
-
--- what is made of the elements of a vector
-items_have : {A : Type 0} (P : A → Type 0) (make : List ℕ → A) (v : VectorIn) → IsBytes v.bytes → ((bytes : List ℕ) → IsBytes bytes → P (make bytes)) → (i n : ℕ) → AllByRecursion P (map make (items_from v i n))
-items_have P make v are has i zero = tt
-items_have P make v are has i (suc n) = (has _ (item_bytes v i are), items_have P make v are has (i + 1) n)
-
--- ---- ids
-
--- an id that was read has its length, and is of bytes
-pub record IdWas (n : ℕ) (bytes : List ℕ) : Type 0 where
-  pub long : length bytes ≡ n
-  pub small : IsBytes bytes
-
-pub id8_was : (t : TableIn) (k : ℕ) (id : Id8) → IsBytes t.bytes → id8_of t k ≡ Ok id → IdWas 8 id.0
-unfolding id8_of
-id8_was t k id are e =
-    let a = bind_ok (required k (struct_of t k 8)) _ id e in
-    let s = required_was k (struct_of t k 8) a.0 a.1 in
-    let is : a.0 ≡ id.0 = ap (λ (x : Id8). x.0) (value_was {A = Id8} {E = FileFault} (record { 0 = a.0 }) id a.2) in
-    subst (IdWas 8) is (record { long = struct_long t k 8 a.0 s; small = struct_bytes t k 8 a.0 are s })
-
-pub id12_was : (t : TableIn) (k : ℕ) (id : Id12) → IsBytes t.bytes → id12_of t k ≡ Ok id → IdWas 12 id.0
-unfolding id12_of
-id12_was t k id are e =
-    let a = bind_ok (required k (struct_of t k 12)) _ id e in
-    let s = required_was k (struct_of t k 12) a.0 a.1 in
-    let is : a.0 ≡ id.0 = ap (λ (x : Id12). x.0) (value_was {A = Id12} {E = FileFault} (record { 0 = a.0 }) id a.2) in
-    subst (IdWas 12) is (record { long = struct_long t k 12 a.0 s; small = struct_bytes t k 12 a.0 are s })
 
 -- ---- manifests
 
@@ -85,15 +32,15 @@ manifest_is t manifest are e =
     let v = bind_ok (required 1 (vector_of t 1 8)) _ manifest id.2 in
     let was = vector_was t 1 8 v.0 are (required_was 1 (vector_of t 1 8) v.0 v.1) in
     let made : ManifestRef = record { id = id.0; extents = map extent_of (items_of v.0) } in
-    let is : IsManifest made = record { id = (id12_was t 0 id.0 are id.1).long; extents = items_have IsExtent extent_of v.0 was.bytes extent_is 0 v.0.count } in
+    let is : IsManifest made = record { id = id12_is t 0 id.0 are id.1; extents = items_give IsExtent extent_of v.0 was.bytes extent_is 0 v.0.count } in
     subst IsManifest (value_was {A = ManifestRef} {E = FileFault} made manifest v.2) is
 
 manifests_are : (t : TableIn) (manifests : List ManifestRef) → IsBytes t.bytes → manifests_of t ≡ Ok manifests → AllByRecursion IsManifest manifests
 unfolding manifests_of manifest_at
 manifests_are t manifests are e =
-    optional_have (AllByRecursion IsManifest) (vector_of t 2 4) manifests_in manifests tt (λ v found read.
+    optional_found (AllByRecursion IsManifest) (vector_of t 2 4) manifests_in manifests tt (λ v found read.
     let was = vector_was t 2 4 v are found in
-    rows_have IsManifest (manifest_at v) v.count manifests (λ i x lt is.
+    rows_below IsManifest (manifest_at v) v.count manifests (λ i x lt is.
     let c = bind_ok (flat (table_of v i)) manifest_of x is in
     manifest_is c.0 x (element_bytes v i c.0 was.bytes (flat_was (table_of v i) c.0 c.1)) c.2) read) e
 
@@ -109,7 +56,7 @@ names_are t None e = tt
 names_are t (Some names) e =
     let o = bind_ok (flat (vector_of t 1 4)) _ (Some names) e in
     let v = some_was o.0 names_in names o.2 in
-    rows_have IsName (name_at v.0) v.0.count names (λ i name lt is.
+    rows_below IsName (name_at v.0) v.0.count names (λ i name lt is.
     let c = bind_ok (flat (table_of v.0 i)) (λ table. flat (text_of table 0)) name is in
     name_is c.0 name c.2) v.1
 
@@ -123,7 +70,7 @@ unfolding shape_of
 shape_is t shape are e =
     let v = bind_ok (required 0 (vector_of t 0 16)) _ shape e in
     let was = vector_was t 0 16 v.0 are (required_was 0 (vector_of t 0 16) v.0 v.1) in
-    subst (AllByRecursion IsDimension) (value_was {A = List (ℕ × ℕ)} {E = FileFault} (map dimension_of (items_of v.0)) shape v.2) (items_have IsDimension dimension_of v.0 was.bytes dimension_is 0 v.0.count)
+    subst (AllByRecursion IsDimension) (value_was {A = List (ℕ × ℕ)} {E = FileFault} (map dimension_of (items_of v.0)) shape v.2) (items_give IsDimension dimension_of v.0 was.bytes dimension_is 0 v.0.count)
 
 array_is : (t : TableIn) (kind : NodeKind) → IsBytes t.bytes → array_of t ≡ Ok kind → IsKind kind
 unfolding array_of
@@ -169,9 +116,10 @@ node_is at t node are e =
     let beneath = child_bytes t 4 table.0 are (required_was 4 (child_of t 4) table.0 table.1) in
     let some : kind_of type.0 table.0 ≡ Ok (Some known.0) = subst (λ (o : Option NodeKind). kind_of type.0 table.0 ≡ Ok o) (known_was at kind.0 known.0 known.1) kind.1 in
     let is : IsNode made = record {
-      id = (id8_was t 0 id.0 are id.1).long;
+      id = id8_is t 0 id.0 are id.1;
       path = (then_was (is_path path.0) _ path.0 proper.0 proper.1).0;
       text = text_is t 1 path.0 (required_was 1 (text_of t 1) path.0 path.1);
+      user_data = all_bytes text.0 (vector_was t 2 1 text.0 are (required_was 2 (vector_of t 2 1) text.0 text.1)).bytes;
       kind = kind_is type.0 table.0 known.0 beneath some;
     } in
     subst IsNode (value_was {A = NodeRow} {E = FileFault} made node known.2) is

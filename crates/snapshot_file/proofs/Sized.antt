@@ -11,17 +11,18 @@ use Rattle.flat_tables.specs.Rows.{flat, required, at_most}
 use Rattle.flat_tables.specs.Layout.{payload}
 use Rattle.flat_tables.proofs.Files.{length_file}
 use Rattle.flat_tables.proofs.Loop.{bind_ok}
-use Rattle.file_fields.specs.Fields.{id12_of, IsId12}
-use Rattle.file_fields.proofs.WasRead.{payload_was}
+use Rattle.ice_ids.specs.Text.{IsId12}
+use Rattle.file_fields.specs.Fields.{id12_of}
+use Rattle.file_fields.proofs.Bytes.{bytes_tested, bytes_take, bytes_drop, number_32, number_64}
+use Rattle.file_fields.proofs.Places.{flat_was, required_was, value_was, VectorWas, vector_was, item_bytes, item_long, root_bytes, struct_long, struct_bytes, scalar_fits, text_is, id12_is}
+use Rattle.file_fields.proofs.WasRead.{ordered_below, optional_found, payload_was}
 use Rattle.snapshot_file.specs.declared.nodes.NodeRow.{NodeRow}
 use Rattle.snapshot_file.specs.declared.snapshot.ManifestInfo.{ManifestInfo}
 use Rattle.snapshot_file.specs.declared.snapshot.SnapshotFile.{SnapshotFile}
 use Rattle.snapshot_file.specs.Nodes.{node_at}
 use Rattle.snapshot_file.specs.Snapshots.{node_limit, node_key, file_key, nodes_of, properties_of, info_of, info_at, files_in, files_of, first_unlisted, id_if, payload_of, snapshot_of}
 use Rattle.snapshot_file.specs.Layout.{snapshot_block, snapshot_bytes, IsNode, IsInfo, IsSnapshot, IsWritable}
-use Rattle.snapshot_file.proofs.Bytes.{bytes_tested, bytes_take, bytes_drop, number_32, number_64}
-use Rattle.snapshot_file.proofs.PlacesWere.{flat_was, required_was, value_was, VectorWas, vector_was, item_bytes, item_long, root_bytes, struct_long, scalar_fits, text_is}
-use Rattle.snapshot_file.proofs.NodesSized.{ordered_have, optional_have, id12_was, node_at_is}
+use Rattle.snapshot_file.proofs.NodesSized.{node_at_is}
 use Rattle.snapshot_file.proofs.WasRead.{listed_read, payload_writable}
 use Rattle.snapshot_file.proofs.Again.{snapshot_again}
 
@@ -33,11 +34,11 @@ nodes_are t nodes are e =
     let v = bind_ok (required 2 (vector_of t 2 4)) _ nodes e in
     let few = bind_ok (at_most node_limit v.0.count) _ nodes v.2 in
     let was = vector_was t 2 4 v.0 are (required_was 2 (vector_of t 2 4) v.0 v.1) in
-    ordered_have IsNode node_key 2 (node_at v.0) v.0.count nodes (λ i node lt is. node_at_is v.0 i node was.bytes is) few.2
+    ordered_below IsNode node_key 2 (node_at v.0) v.0.count nodes (λ i node lt is. node_at_is v.0 i node was.bytes is) few.2
 
 info_sized : (bytes : List ℕ) → length bytes ≡ 32 → IsBytes bytes → IsInfo (info_of bytes)
 info_sized bytes long are = record {
-  id = length-take-le 12 bytes (omega (arith, long));
+  id = (length-take-le 12 bytes (omega (arith, long)), bytes_take 12 bytes are);
   size = number_64 (take 8 (drop 16 bytes)) (bytes_take 8 (drop 16 bytes) (bytes_drop 16 bytes are));
   refs = number_32 (take 4 (drop 24 bytes)) (bytes_take 4 (drop 24 bytes) (bytes_drop 24 bytes are));
 }
@@ -48,15 +49,15 @@ info_at_is v i file was lt e = subst IsInfo (value_was {A = ManifestInfo} {E = F
 files_are : (t : TableIn) (files : List ManifestInfo) → IsBytes t.bytes → files_of t ≡ Ok files → AllByRecursion IsInfo files
 unfolding files_of
 files_are t files are e =
-    optional_have (AllByRecursion IsInfo) (vector_of t 6 32) files_in files tt (λ v found read.
+    optional_found (AllByRecursion IsInfo) (vector_of t 6 32) files_in files tt (λ v found read.
     let was = vector_was t 6 32 v are found in
-    ordered_have IsInfo file_key 6 (info_at v) v.count files (λ i file lt is. info_at_is v i file was lt is) read) e
+    ordered_below IsInfo file_key 6 (info_at v) v.count files (λ i file lt is. info_at_is v i file was lt is) read) e
 
 -- ---- the snapshot
 
 parent_is : (t : TableIn) (parent : Option (List ℕ)) → IsBytes t.bytes → struct_of t 1 12 ≡ Ok parent → IfSome (id_if parent) IsId12
 parent_is t None are e = tt
-parent_is t (Some bytes) are e = struct_long t 1 12 bytes e
+parent_is t (Some bytes) are e = (struct_long t 1 12 bytes e, struct_bytes t 1 12 bytes are e)
 
 payload_sized : (payload : List ℕ) (s : SnapshotFile) → IsBytes payload → payload_of payload ≡ Ok s → IsSnapshot s
 unfolding payload_of
@@ -73,7 +74,7 @@ payload_sized payload s are e =
     let listed = listed_read (first_unlisted files.0 nodes.0) made s files.2 in
     let in_bytes = root_bytes payload t.0 are (flat_was (root_of payload) t.0 t.1) in
     let is : IsSnapshot made = record {
-      id = (id12_was t.0 0 id.0 in_bytes id.1).long;
+      id = id12_is t.0 0 id.0 in_bytes id.1;
       parent = parent_is t.0 parent.0 in_bytes (flat_was (struct_of t.0 1 12) parent.0 parent.1);
       nodes = nodes_are t.0 nodes.0 in_bytes nodes.1;
       flushed_at = scalar_fits t.0 3 flushed_at.0 in_bytes (required_was 3 (scalar_of t.0 3 8) flushed_at.0 flushed_at.1);

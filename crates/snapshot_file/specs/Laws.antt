@@ -12,3 +12,5 @@ pub record ReadLaw : Type 0 where
   pub writable : (file : List ℕ) (s : SnapshotFile) → snapshot_of file ≡ Ok s → IsWritable s
   -- and what is written is read again
   pub again : (s : SnapshotFile) → IsSnapshot s → IsWritable s → length (snapshot_bytes s) ≤ file_limit → snapshot_of (snapshot_bytes s) ≡ Ok s
+  -- what is written is bytes
+  pub bytes : (s : SnapshotFile) → IsSnapshot s → list_all (λ n. nat_lt n 256) (snapshot_bytes s) ≡ true

@@ -6,13 +6,18 @@ use Rattle.std.proofs.lemmas.Bool.{ltb-false}
 use Rattle.std.proofs.lemmas.List.{length-drop, length-take-le}
 use Rattle.std.proofs.lemmas.Str.{IsUtf8-from_is_utf8}
 use Rattle.std.proofs.Math.Nat.{mul-le-mul_right}
-use Rattle.ice_base.specs.Lists.{IsBytes}
 use Rattle.flat_tables.specs.declared.fault.FlatFault.{FlatFault}
 use Rattle.flat_tables.specs.declared.fault.FlatFault.TheVariants.{Outside, NotText}
+use Rattle.flat_tables.specs.declared.fault.FileFault.{FileFault}
 use Rattle.flat_tables.specs.Step.{◌>>=◌, on_some}
-use Rattle.flat_tables.specs.Places.{TableIn, VectorIn, span, number_at, back_from, table_at, target_of, root_of, field_of, struct_of, scalar_of, child_of, vector_at, vector_of, text_at, text_of, item_of, table_of}
+use Rattle.flat_tables.specs.Places.{TableIn, VectorIn, span, number_at, back_from, table_at, target_of, root_of, field_of, struct_of, scalar_of, child_of, vector_at, vector_of, text_at, text_of, item_of, all_of, table_of}
 use Rattle.flat_tables.specs.Rows.{flat, required}
-use Rattle.snapshot_file.proofs.Bytes.{bytes_take, bytes_drop, number_64}
+use Rattle.flat_tables.proofs.Loop.{bind_ok}
+use Rattle.ice_ids.specs.declared.Id8.{Id8}
+use Rattle.ice_ids.specs.declared.Id12.{Id12}
+use Rattle.ice_ids.specs.Text.{IsId8, IsId12}
+use Rattle.file_fields.specs.Fields.{id8_of, id12_of}
+use Rattle.file_fields.proofs.Bytes.{AreBytes, bytes_take, bytes_drop, number_64}
 
 -- ---- steps
 
@@ -59,8 +64,8 @@ spanned bytes p n xs e =
     let a = else_was (ltb (length bytes) (p + n)) (Outside p) (Ok (take n (drop p bytes))) xs e in
     record { ends = ltb-false (length bytes) (p + n) a.0; is = cc }
 
-span_bytes : (bytes : List ℕ) (p n : ℕ) (xs : List ℕ) → IsBytes bytes → span bytes p n ≡ Ok xs → IsBytes xs
-span_bytes bytes p n xs are e = subst IsBytes (spanned bytes p n xs e).is (bytes_take n (drop p bytes) (bytes_drop p bytes are))
+span_bytes : (bytes : List ℕ) (p n : ℕ) (xs : List ℕ) → AreBytes bytes → span bytes p n ≡ Ok xs → AreBytes xs
+span_bytes bytes p n xs are e = subst AreBytes (spanned bytes p n xs e).is (bytes_take n (drop p bytes) (bytes_drop p bytes are))
 
 span_long : (bytes : List ℕ) (p n : ℕ) (xs : List ℕ) → span bytes p n ≡ Ok xs → length xs ≡ n
 span_long bytes p n xs e =
@@ -87,25 +92,25 @@ table_in bytes p t e =
     let fields = step_was (span bytes p m.0) _ t wide.1 in
     ap (λ (x : TableIn). x.bytes) (value_was {A = TableIn} {E = FlatFault} (record { bytes = bytes; at = p; vtable = v.0; entries = n.0; size = m.0 }) t fields.2)
 
-pub root_bytes : (bytes : List ℕ) (t : TableIn) → IsBytes bytes → root_of bytes ≡ Ok t → IsBytes t.bytes
+pub root_bytes : (bytes : List ℕ) (t : TableIn) → AreBytes bytes → root_of bytes ≡ Ok t → AreBytes t.bytes
 unfolding root_of
 root_bytes bytes t are e =
     let u = step_was (number_at w32 bytes 0) _ t e in
-    subst IsBytes (table_in bytes u.0 t u.2) are
+    subst AreBytes (table_in bytes u.0 t u.2) are
 
-pub child_bytes : (t : TableIn) (k : ℕ) (c : TableIn) → IsBytes t.bytes → child_of t k ≡ Ok (Some c) → IsBytes c.bytes
+pub child_bytes : (t : TableIn) (k : ℕ) (c : TableIn) → AreBytes t.bytes → child_of t k ≡ Ok (Some c) → AreBytes c.bytes
 unfolding child_of
 child_bytes t k c are e =
     let a = step_was (field_of t k 4) _ (Some c) e in
     let p = some_was a.0 (λ q. target_of t.bytes q >>= table_at t.bytes) c a.2 in
     let q = step_was (target_of t.bytes p.0) (table_at t.bytes) c p.1 in
-    subst IsBytes (table_in t.bytes q.0 c q.2) are
+    subst AreBytes (table_in t.bytes q.0 c q.2) are
 
-pub element_bytes : (v : VectorIn) (i : ℕ) (t : TableIn) → IsBytes v.bytes → table_of v i ≡ Ok t → IsBytes t.bytes
+pub element_bytes : (v : VectorIn) (i : ℕ) (t : TableIn) → AreBytes v.bytes → table_of v i ≡ Ok t → AreBytes t.bytes
 unfolding table_of
 element_bytes v i t are e =
     let q = step_was (target_of v.bytes (v.first + i * 4)) (table_at v.bytes) t e in
-    subst IsBytes (table_in v.bytes q.0 t q.2) are
+    subst AreBytes (table_in v.bytes q.0 t q.2) are
 
 -- ---- fields
 
@@ -117,7 +122,7 @@ struct_long t k n xs e =
     let p = some_was a.0 (λ q. span t.bytes q n) xs a.2 in
     span_long t.bytes p.0 n xs p.1
 
-pub struct_bytes : (t : TableIn) (k n : ℕ) (xs : List ℕ) → IsBytes t.bytes → struct_of t k n ≡ Ok (Some xs) → IsBytes xs
+pub struct_bytes : (t : TableIn) (k n : ℕ) (xs : List ℕ) → AreBytes t.bytes → struct_of t k n ≡ Ok (Some xs) → AreBytes xs
 unfolding struct_of
 struct_bytes t k n xs are e =
     let a = step_was (field_of t k n) _ (Some xs) e in
@@ -125,7 +130,7 @@ struct_bytes t k n xs are e =
     span_bytes t.bytes p.0 n xs are p.1
 
 -- a number of 8 bytes has its width
-pub scalar_fits : (t : TableIn) (k n : ℕ) → IsBytes t.bytes → scalar_of t k 8 ≡ Ok (Some n) → n < 2 ^ 64
+pub scalar_fits : (t : TableIn) (k n : ℕ) → AreBytes t.bytes → scalar_of t k 8 ≡ Ok (Some n) → n < 2 ^ 64
 unfolding scalar_of
 scalar_fits t k n are e =
     let a = step_was (field_of t k 8) _ (Some n) e in
@@ -155,11 +160,11 @@ text_is t k text e =
 
 -- a vector that was read is of bytes, has elements of the size that was wanted, and ends within the payload
 pub record VectorWas (v : VectorIn) (n : ℕ) : Type 0 where
-  pub bytes : IsBytes v.bytes
+  pub bytes : AreBytes v.bytes
   pub size : v.size ≡ n
   pub ends : v.first + v.count * n ≤ length v.bytes
 
-vector_in : (bytes : List ℕ) (size q : ℕ) (v : VectorIn) → IsBytes bytes → vector_at bytes size q ≡ Ok v → VectorWas v size
+vector_in : (bytes : List ℕ) (size q : ℕ) (v : VectorIn) → AreBytes bytes → vector_at bytes size q ≡ Ok v → VectorWas v size
 unfolding vector_at
 vector_in bytes size q v are e =
     let n = step_was (number_at w32 bytes q) _ v e in
@@ -168,7 +173,7 @@ vector_in bytes size q v are e =
     let was : VectorWas made size = record { bytes = are; size = refl; ends = (spanned bytes (q + 4) (n.0 * size) s.0 s.1).ends } in
     subst (λ (x : VectorIn). VectorWas x size) (value_was {A = VectorIn} {E = FlatFault} made v s.2) was
 
-pub vector_was : (t : TableIn) (k size : ℕ) (v : VectorIn) → IsBytes t.bytes → vector_of t k size ≡ Ok (Some v) → VectorWas v size
+pub vector_was : (t : TableIn) (k size : ℕ) (v : VectorIn) → AreBytes t.bytes → vector_of t k size ≡ Ok (Some v) → VectorWas v size
 unfolding vector_of
 vector_was t k size v are e =
     let a = step_was (field_of t k 4) _ (Some v) e in
@@ -177,8 +182,11 @@ vector_was t k size v are e =
     vector_in t.bytes size q.0 v are q.2
 
 -- an element has its size and is of bytes
-pub item_bytes : (v : VectorIn) (i : ℕ) → IsBytes v.bytes → IsBytes (item_of v i)
+pub item_bytes : (v : VectorIn) (i : ℕ) → AreBytes v.bytes → AreBytes (item_of v i)
 item_bytes v i are = bytes_take v.size (drop (v.first + i * v.size) v.bytes) (bytes_drop (v.first + i * v.size) v.bytes are)
+
+pub all_bytes : (v : VectorIn) → AreBytes v.bytes → AreBytes (all_of v)
+all_bytes v are = bytes_take (v.count * v.size) (drop v.first v.bytes) (bytes_drop v.first v.bytes are)
 
 pub item_long : (v : VectorIn) (size i : ℕ) → VectorWas v size → i < v.count → length (item_of v i) ≡ size
 item_long v size i was lt =
@@ -186,3 +194,20 @@ item_long v size i was lt =
     let one : (i + 1) * size ≡ i * size + size = omega arith in
     let within : size ≤ length (drop (v.first + i * size) v.bytes) = omega (arith, length-drop (v.first + i * size) v.bytes, was.ends) in
     rw was.size (length-take-le size (drop (v.first + i * size) v.bytes) within)
+
+-- ---- ids
+
+-- an id that was read has its length, and is of bytes
+pub id8_is : (t : TableIn) (k : ℕ) (id : Id8) → AreBytes t.bytes → id8_of t k ≡ Ok id → IsId8 id
+unfolding id8_of
+id8_is t k id are e =
+    let a = bind_ok (required k (struct_of t k 8)) _ id e in
+    let s = required_was k (struct_of t k 8) a.0 a.1 in
+    subst IsId8 (value_was {A = Id8} {E = FileFault} (record { 0 = a.0 }) id a.2) (struct_long t k 8 a.0 s, struct_bytes t k 8 a.0 are s)
+
+pub id12_is : (t : TableIn) (k : ℕ) (id : Id12) → AreBytes t.bytes → id12_of t k ≡ Ok id → IsId12 id
+unfolding id12_of
+id12_is t k id are e =
+    let a = bind_ok (required k (struct_of t k 12)) _ id e in
+    let s = required_was k (struct_of t k 12) a.0 a.1 in
+    subst IsId12 (value_was {A = Id12} {E = FileFault} (record { 0 = a.0 }) id a.2) (struct_long t k 12 a.0 s, struct_bytes t k 12 a.0 are s)
