@@ -7,6 +7,7 @@
 
 mod fields;
 mod initial_snapshot;
+mod laws;
 mod lists;
 mod node_reading;
 mod node_writing;
@@ -17,6 +18,7 @@ mod snapshot;
 mod writing;
 
 pub use initial_snapshot::{INITIAL_FILE, initial, initial_law};
+pub use laws::read_law;
 pub use lists::{Extents, Names, Shape};
 pub use nodes::{ManifestRef, NodeKind, NodeRow};
 pub use reading::read;
