@@ -31,21 +31,6 @@ rows_count read n xs e =
     let r = rows_read read [] n xs e in
     ap length r.all_is ∙ r.len
 
-each_has : {A : Type 0} (P : A → Type 0) (f : ℕ → Result A FileFault) → ((i : ℕ) (x : A) → f i ≡ Ok x → P x) → (xs : List A) (i : ℕ) → ReadsFrom f i xs → AllByRecursion P xs
-each_has P f has [] i reads = tt
-each_has P f has (x ∷ xs) i reads = (has i x reads.0, each_has P f has xs (i + 1) reads.1)
-
-pub rows_have : {A : Type 0} (P : A → Type 0) (key : A → List ℕ) (slot : ℕ) (f : ℕ → Result A FileFault) (n : ℕ) (xs : List A) → ((i : ℕ) (x : A) → f i ≡ Ok x → P x) → rows (in_order key slot (each f)) [] n ≡ Ok xs → AllByRecursion P xs
-rows_have {A = A} P key slot f n xs has e =
-    let r = rows_read (in_order key slot (each f)) [] n xs e in
-    subst (λ (ys : List A). AllByRecursion P ys) (sym r.all_is) (each_has P f has r.more 0 (each_were f [] r.more 0 refl (were_read key slot (each f) [] r.more r.reads)))
-
--- rows of a vector that may be absent
-pub optional_has : {A : Type 0} (P : List A → Type 0) (v : Result (Option VectorIn) FlatFault) (read : VectorIn → Result (List A) FileFault) (xs : List A) → P [] → ((w : VectorIn) → read w ≡ Ok xs → P xs) → optional_rows v read ≡ Ok xs → P xs
-optional_has P (Ok None) read xs none has e = let is : [] ≡ xs = cc in subst P is none
-optional_has P (Ok (Some w)) read xs none has e = has w e
-optional_has P (Err fault) read xs none has e = absurd cc
-
 each_below : {A : Type 0} (P : A → Type 0) (f : ℕ → Result A FileFault) (n : ℕ) → ((i : ℕ) (x : A) → i < n → f i ≡ Ok x → P x) → (xs : List A) (i : ℕ) → i + length xs ≤ n → ReadsFrom f i xs → AllByRecursion P xs
 each_below P f n has [] i le reads = tt
 each_below P f n has (x ∷ xs) i le reads = (has i x (omega arith) reads.0, each_below P f n has xs (i + 1) (omega arith) reads.1)
@@ -61,11 +46,19 @@ ordered_below {A = A} P key slot f n xs has e =
     let r = rows_read (in_order key slot (each f)) [] n xs e in
     subst (λ (ys : List A). AllByRecursion P ys) (sym r.all_is) (each_below P f n has r.more 0 (omega (arith, r.len)) (each_were f [] r.more 0 refl (were_read key slot (each f) [] r.more r.reads)))
 
+-- what holds of each, whatever its number
+pub rows_have : {A : Type 0} (P : A → Type 0) (key : A → List ℕ) (slot : ℕ) (f : ℕ → Result A FileFault) (n : ℕ) (xs : List A) → ((i : ℕ) (x : A) → f i ≡ Ok x → P x) → rows (in_order key slot (each f)) [] n ≡ Ok xs → AllByRecursion P xs
+rows_have P key slot f n xs has e = ordered_below P key slot f n xs (λ i x lt. has i x) e
+
 -- rows of a vector that may be absent, and that was found
 pub optional_found : {A : Type 0} (P : List A → Type 0) (v : Result (Option VectorIn) FlatFault) (read : VectorIn → Result (List A) FileFault) (xs : List A) → P [] → ((w : VectorIn) → v ≡ Ok (Some w) → read w ≡ Ok xs → P xs) → optional_rows v read ≡ Ok xs → P xs
 optional_found P (Ok None) read xs none has e = subst P (value_is [] xs e) none
 optional_found P (Ok (Some w)) read xs none has e = has w refl e
 optional_found P (Err fault) read xs none has e = absurd cc
+
+-- and one that may have been any
+pub optional_has : {A : Type 0} (P : List A → Type 0) (v : Result (Option VectorIn) FlatFault) (read : VectorIn → Result (List A) FileFault) (xs : List A) → P [] → ((w : VectorIn) → read w ≡ Ok xs → P xs) → optional_rows v read ≡ Ok xs → P xs
+optional_has P v read xs none has e = optional_found P v read xs none (λ w found. has w) e
 
 -- what is made of the elements of a vector
 pub items_give : {A : Type 0} (P : A → Type 0) (make : List ℕ → A) (v : VectorIn) → AreBytes v.bytes → ((bytes : List ℕ) → AreBytes bytes → P (make bytes)) → (i n : ℕ) → AllByRecursion P (map make (items_from v i n))
