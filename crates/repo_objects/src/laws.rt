@@ -4,13 +4,15 @@ ghost use Rattle.repo_objects.specs.Laws.{SnapshotLaw, InitialLaw, LogLaw, RefLa
 
 use ice_ids::laws::texts_of_object_ids;
 use ref_file::written_refs;
-use snapshot_file::initial_law as initial_file_law;
+use snapshot_file::{initial_law as initial_file_law, read_law};
 use txn_file::laws::round_trip_law;
 
 /// What is written of a snapshot is read under its id; what is read can be written.
 pub fn snapshot_law()
     ensures { SnapshotLaw }
-{}
+{
+    read_law();
+}
 
 /// The bytes of the initial snapshot are read as the initial snapshot.
 pub fn initial_law()
