@@ -1,6 +1,6 @@
 -- Single edits of what a session holds of its changes. (Own.)
-use Rattle.std.specs.Prelude.{ℕ, Bool, not, ◌&&◌, if◌then◌else◌, List, Option, Some, None, tt}
-use Rattle.std.specs.FinMap.{FinMap, get, insert, retain_keys, entries, keys, from_entries}
+use Rattle.std.specs.Prelude.{ℕ, not, if◌then◌else◌, List, [], map, Option, Some, None}
+use Rattle.std.specs.FinMap.{FinMap, empty, get, insert, retain_keys, entries, keys, from_entries}
 use Rattle.std.specs.List.{filter}
 use Rattle.ice_ids.specs.declared.Id8.{Id8}
 use Rattle.ice_ids.specs.Text.{id8_cmp}

@@ -1,2 +1,6 @@
+pub mod inside
+pub mod Rows
+pub mod Codes
 pub mod Edits
 pub mod Sets
+pub mod Laws

@@ -1,8 +1,8 @@
 //! Nodes, and what can be looked up in as one looks in a tree.
 
-ghost use Rattle.std.specs.Prelude.{◌≡◌, ◌<◌, slice_get, Some, IfOk, option_map};
+ghost use Rattle.std.specs.Prelude.{◌≡◌, ◌<◌, slice_get, Some, IfOk, IsTrue, option_map};
 ghost use Rattle.std.specs.FinMap as map;
-ghost use Rattle.zarr_path.specs.Paths.{path_cmp};
+ghost use Rattle.zarr_path.specs.Paths.{path_cmp, is_path};
 ghost use Rattle.zarr_tree.specs.Nodes.{Node as TheNode};
 ghost use Rattle.zarr_tree.specs.Rows.{node_found};
 
@@ -80,8 +80,9 @@ pub trait TreeLike {
     fn len(&self) -> usize
         ensures { result ≡ map.len (nodes self.now) };
 
-    /// Node number `at` in the order of the bytes of the paths, with its path.
+    /// Node number `at` in the order of the bytes of the paths, with its path, which is that of a node.
     fn row(&self, at: usize) -> (&str, Found<'_>)
         requires { at < map.len (nodes self.now) }
-        ensures { slice_get (map.entries (nodes self.now)) at ≡ Some (result.0.now, node_found result.1) };
+        ensures row { slice_get (map.entries (nodes self.now)) at ≡ Some (result.0.now, node_found result.1) }
+        ensures path { IsTrue (is_path result.0.now) };
 }

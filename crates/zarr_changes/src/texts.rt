@@ -1,0 +1,76 @@
+//! Metadata of nodes by their ids.
+
+ghost use Rattle.std.specs.Prelude.{◌≡◌, ◌==◌, [], length, IfOk, OnOk, OnErr, option_map};
+ghost use Rattle.zarr_tree.specs.Held.{meta_in};
+ghost use Rattle.zarr_changes.specs.Edits.{with_row};
+
+use ice_ids::Id8;
+use std::alloc::{AllocError, Global};
+use std::collections::BTreeMap;
+use std::marker::Model;
+use zarr_meta::Meta;
+
+/// Metadata of nodes. Contracts see the ids and the texts, in the order of the ids' bytes.
+#[derive(Debug, Drop)]
+pub(crate) struct Texts {
+    metas: BTreeMap<Id8, Meta>,
+}
+
+impl Model for Texts {
+    ghost use Rattle.std.specs.Prelude.{ℕ, List};
+    ghost use Rattle.std.specs.Map.{keys_of};
+    ghost use Rattle.ice_ids.specs.declared.Id8.{Id8 as TheId};
+    ghost use Rattle.zarr_tree.specs.Touched.{IdsAscend};
+    ghost use Rattle.zarr_changes.specs.inside.Kept.{text_rows};
+
+    ghost Value = { List (TheId × List ℕ) };
+
+    ghost view = { λ t. text_rows t.metas.entries };
+
+    ghost invariant = { λ t. IdsAscend (keys_of t.metas.entries) };
+}
+
+impl Texts {
+    /// No metadata. It takes no memory.
+    pub(crate) fn new(alloc: Global) -> Texts
+        ensures { result ≡ [] }
+    {
+        Texts {
+            metas: BTreeMap::new(alloc),
+        }
+    }
+
+    /// Whether there is none.
+    pub(crate) fn is_empty(&self) -> bool
+        ensures { result ≡ (length self.now == 0) }
+    {
+        self.metas.is_empty()
+    }
+
+    /// The metadata of a node.
+    pub(crate) fn get(&self, id: &Id8) -> Option<&Meta>
+        ensures { option_map (λ meta. meta.now.text) result ≡ meta_in self.now id.now }
+    {
+        self.metas.get(id)
+    }
+
+    /// Metadata of a node, in place of what it has here. Where memory runs out, all is as before.
+    pub(crate) fn insert(&mut self, id: Id8, meta: Meta) -> Result<(), AllocError>
+        ensures ok { OnOk result (self.new ≡ with_row self.old id meta.text) }
+        ensures err { OnErr result (self.new ≡ self.old) }
+    {
+        self.metas.insert(id, meta)?;
+        Ok(())
+    }
+
+    /// The same metadata once more.
+    pub(crate) fn copy(&self, alloc: Global) -> Result<Texts, AllocError>
+        ensures { IfOk result (λ texts. texts ≡ self.now) }
+    {
+        let mut copy = Texts::new(alloc);
+        for (id, meta) in self.metas.iter() {
+            copy.insert(*id, meta.copy(alloc)?)?;
+        }
+        Ok(copy)
+    }
+}
