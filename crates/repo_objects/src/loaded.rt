@@ -1,15 +1,16 @@
 //! Snapshots that were read, with the metadata of their nodes.
 
-ghost use Rattle.std.specs.Prelude.{◌≡◌, ◌<◌, not, is_some, Some, None, Ok, length, slice_get, option_map};
+ghost use Rattle.std.specs.Prelude.{◌≡◌, ◌<◌, not, is_some, Some, None, Ok, IsTrue, length, slice_get, option_map};
 ghost use Rattle.snapshot_file.specs.declared.snapshot.SnapshotFile.{SnapshotFile as TheFile};
 ghost use Rattle.repo_objects.specs.Readings.{kind_fault, row_fault, first_bad, read_snapshot};
 ghost use Rattle.repo_objects.specs.Loading.{Loads};
 ghost use Rattle.repo_objects.specs.inside.Metas.{LoadsMeta, LoadsMetas};
-ghost use Rattle.zarr_path.specs.Paths.{path_cmp};
+ghost use Rattle.zarr_path.specs.Paths.{path_cmp, is_path};
 ghost use Rattle.repo_objects.specs.Trees.{node_of, nodes_in};
 ghost use Rattle.repo_objects.specs.inside.Places.{IsPlace};
 ghost use Rattle.flat_tables.specs.Rows.{Ascends};
 ghost use Rattle.snapshot_file.specs.Snapshots.{node_key};
+ghost use Rattle.snapshot_file.specs.Layout.{IsWritable};
 ghost use Rattle.zarr_tree.specs.Rows.{node_found};
 
 use crate::bad::{Bad, Unread};
@@ -69,9 +70,10 @@ impl Loaded {
         Ok(Loaded { file, metas })
     }
 
-    /// What the snapshot says.
+    /// What the snapshot says, which can be written.
     pub fn file(&self) -> &SnapshotFile
-        ensures { result.now ≡ self.now }
+        ensures value { result.now ≡ self.now }
+        ensures writable { IsWritable self.now }
     {
         &self.file
     }
@@ -125,7 +127,8 @@ fn place(rows: &[NodeRow], path: &str) -> Option<usize>
 /// The path of row number `at`.
 fn path_at(rows: &[NodeRow], at: usize) -> &str
     requires { at < length rows.now }
-    ensures { option_map node_key (slice_get rows.now at) ≡ Some result.now }
+    ensures value { option_map node_key (slice_get rows.now at) ≡ Some result.now }
+    ensures path { IsTrue (is_path result.now) }
 {
     rows[at].path.as_str()
 }

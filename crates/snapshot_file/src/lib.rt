@@ -5,6 +5,7 @@
 //! of a snapshot, which is read again as that snapshot.
 #![tactic(auto)]
 
+mod copies;
 mod fields;
 mod initial_snapshot;
 mod laws;
@@ -17,6 +18,7 @@ mod reading;
 mod snapshot;
 mod writing;
 
+pub use copies::{copy_manifests, copy_names};
 pub use initial_snapshot::{INITIAL_FILE, initial, initial_law};
 pub use laws::read_law;
 pub use lists::{Extents, Names, Shape};

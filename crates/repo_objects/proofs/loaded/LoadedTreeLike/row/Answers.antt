@@ -14,7 +14,7 @@ path_at-requires c =
 pub found-requires : goal.found-requires
 found-requires c = below_len _ _ (ap (λ (s : SnapshotFile). s.nodes) c.self.view_is) c.self.invariant.0.nodes c.args.at c.requires
 
-pub returns : goal.returns
-returns c =
-    let named = ap (λ (xs : List NodeRow). option_map node_key (slice_get xs c.args.at)) (sym c.as_slice.ensures) ∙ c.path_at.ensures in
+pub returns-clause-row : goal.returns-clause-row
+returns-clause-row c =
+    let named = ap (λ (xs : List NodeRow). option_map node_key (slice_get xs c.args.at)) (sym c.as_slice.ensures) ∙ c.path_at.ensures.value in
     row-nodes _ _ (ap (λ (s : SnapshotFile). s.nodes) c.self.view_is) c.self.invariant.0.nodes c.args.at _ _ named c.found.ensures
