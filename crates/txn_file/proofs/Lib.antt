@@ -3,5 +3,4 @@ pub mod Ids
 pub mod Again
 pub mod Ordered
 pub mod Orders
-pub mod Blocks
-pub mod Bytes
+pub mod WrittenBytes

@@ -1,41 +1,19 @@
 ghost use Rattle.std.specs.Prelude.{◌≡◌, ◌+◌, length, IsTrue, IfOk, OnOk, Ok};
 ghost use Rattle.std.specs.List.{AllByRecursion};
-ghost use Rattle.ice_base.specs.Lists.{IsBytes};
 ghost use Rattle.flat_tables.specs.File.{Writes};
 ghost use Rattle.flat_tables.specs.Layout.{payload};
 ghost use Rattle.flat_tables.specs.Trees.{layout, part_of, is_writable, is_writable_slot};
 ghost use Rattle.txn_file.specs.Logs.{txn_of};
-ghost use Rattle.ice_ids.specs.Text.{IsId8, IsId12};
 ghost use Rattle.file_fields.specs.Fields.{IsIndex};
 ghost use Rattle.txn_file.specs.Layout.{ids_part, index_block, indices_part, array_block, arrays_part, log_block, log_file, IsOrdered, AreIds, IsArray, IsLog};
 
 use crate::log::TxnFile;
 use file_fields::{id8_bytes, id8_slot, id12_slot, index_slot};
 use flat_tables::{Flat, Kind, Slot, WriteFault, flat_write, header_write};
-use ice_ids::{Id8, Id12};
 use ice_items::Items;
 use std::alloc::{AllocError, Global};
 use zarr_path::Index;
 use zarr_tree::{ArrayChunks, Ids};
-
-/// Bytes are below 256; this is said for contracts alone.
-fn bytes_fit(bytes: &[u8])
-    ensures { IsBytes bytes.now }
-{}
-
-/// An id of a node is 8 bytes; this is said for contracts alone.
-fn node_id_fits(id: &Id8)
-    ensures { IsId8 id.now }
-{
-    bytes_fit(&id.0);
-}
-
-/// An id of an object is 12 bytes; this is said for contracts alone.
-fn object_id_fits(id: &Id12)
-    ensures { IsId12 id.now }
-{
-    bytes_fit(&id.0);
-}
 
 /// A list of ids.
 fn ids_slot(alloc: Global, ids: &Ids) -> Result<Slot, AllocError>
@@ -45,7 +23,6 @@ fn ids_slot(alloc: Global, ids: &Ids) -> Result<Slot, AllocError>
 {
     let mut bytes: Vec<u8> = Vec::new(alloc);
     for id in ids.as_slice() {
-        node_id_fits(id);
         bytes.extend_from_slice(&id8_bytes(id))?;
     }
     Ok(Slot::Structs {
@@ -86,7 +63,6 @@ fn array_table(alloc: Global, array: &ArrayChunks) -> Result<Flat, AllocError>
     ensures writable { IfOk result (λ f. IsTrue (is_writable f)) }
     ensures sized { OnOk result (IsArray array.now) }
 {
-    node_id_fits(&array.node);
     let node = id8_slot(alloc, &array.node)?;
     let chunks = indices_slot(alloc, &array.chunks)?;
     Ok(Flat {
@@ -114,7 +90,6 @@ fn log_table(alloc: Global, log: &TxnFile) -> Result<Flat, AllocError>
     ensures writable { IfOk result (λ f. IsTrue (is_writable f)) }
     ensures sized { OnOk result (IsLog log.now) }
 {
-    object_id_fits(&log.id);
     let lists = &log.lists;
     let slots = [
         id12_slot(alloc, &log.id)?,
