@@ -1,5 +1,5 @@
 -- The metadata of rows, read one after another.
-use Rattle.std.proofs.Common.{◌≡◌, ℕ, ◌+◌, ◌<◌, ◌≤◌, List, [], ◌∷◌, ◌++◌, map, length, drop, get_or, Option, None, Some, option_map, Result, Ok, Err, refl, sym, ap, ◌∙◌, arith, append_assoc}
+use Rattle.std.proofs.Common.{◌≡◌, ℕ, ◌+◌, ◌<◌, ◌≤◌, List, [], ◌∷◌, ◌++◌, map, length, drop, get_or, None, Some, option_map, Ok, Err, refl, sym, ap, ◌∙◌, arith, append_assoc}
 use Rattle.std.proofs.lemmas.List.{map-append, length-map, drop_more, drop_all, append-nil}
 use Rattle.std.specs.Prelude.{slice_get}
 use Rattle.std.proofs.lemmas.Option.{slice_get-get_or, slice_get-map}
@@ -9,7 +9,6 @@ use Rattle.repo_objects.specs.declared.bad.Unread.{Unread}
 use Rattle.repo_objects.specs.declared.bad.Unread.TheVariants as unread
 use Rattle.repo_objects.specs.declared.bad.Bad.TheVariants.{Node}
 use Rattle.repo_objects.specs.Readings.{row_fault, first_bad}
-use Rattle.zarr_tree.specs.Nodes.{Node as TheNode}
 use Rattle.repo_objects.specs.Trees.{node_of}
 use Rattle.repo_objects.specs.inside.Metas.{AreMetas, LoadsMeta, LoadsMetas}
 

@@ -1,11 +1,10 @@
 -- What the bytes of a reference stand for.
-use Rattle.std.proofs.Common.{◌≡◌, ℕ, List, Result, Ok, Err, refl}
+use Rattle.std.proofs.Common.{◌≡◌, ℕ, List, Ok, Err, refl}
 use Rattle.ice_ids.specs.declared.Id12.{Id12}
 use Rattle.zarr_meta.proofs.TextLaws.{json_of_read, json_of_refused}
 use Rattle.ref_file.specs.Refs.{RefersTo, Refuses}
 use Rattle.ref_file.specs.declared.RefFault.{RefFault}
 use Rattle.ref_file.specs.declared.RefFault.TheVariants.{Json, Member, Id, NoMemory}
-use Rattle.repo_objects.specs.declared.bad.Bad.TheVariants.{Ref}
 use Rattle.repo_objects.specs.declared.bad.Unread.{Unread}
 use Rattle.repo_objects.specs.Readings.{id_in, read_ref}
 use Rattle.repo_objects.specs.Loading.{Loads}

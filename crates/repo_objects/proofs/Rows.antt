@@ -1,5 +1,5 @@
 -- Rows in the order of their paths, and the map of their nodes.
-use Rattle.std.proofs.Common.{◌≡◌, ℕ, zero, suc, ◌+◌, ◌-◌, ◌<◌, ◌≤◌, true, false, Bool, cond, ◌&&◌, T, List, [], ◌∷◌, map, length, get_or, Option, None, Some, option_map, Result, Ok, Err, refl, sym, ap, subst, ◌∙◌, arith, inl, inr, add-one}
+use Rattle.std.proofs.Common.{◌≡◌, ℕ, zero, suc, ◌<◌, true, false, Bool, ◌&&◌, T, List, [], ◌∷◌, map, length, get_or, Option, None, Some, option_map, Result, Ok, Err, refl, sym, ap, subst, ◌∙◌, arith, inl, inr, add-one}
 use Rattle.std.specs.Prelude.{slice_get}
 use Rattle.std.specs.declared.cmp.Ordering.{Ordering}
 use Rattle.std.specs.declared.cmp.Ordering.TheVariants.{Less, Equal, Greater}
@@ -7,12 +7,12 @@ use Rattle.std.specs.Ordering.{is_lt, is_eq, ordering_index, ordering_reverse}
 use Rattle.std.specs.List.{list_all}
 use Rattle.std.specs.List.Sorted.{IsSearchInRange, IsBinarySearchResult, IsNonDecreasingBy}
 use Rattle.std.specs.Result.{result_ok}
-use Rattle.std.specs.FinMap.{find, get, len, entries, is_sorted, from_entries, from_sorted, entries-from_sorted, get-from_sorted, len-entries}
+use Rattle.std.specs.FinMap.{find, len, entries, is_sorted, from_sorted, entries-from_sorted, get-from_sorted, len-entries}
 use Rattle.std.proofs.lemmas.Bool.{cases_lt}
 use Rattle.std.proofs.lemmas.List.{length-map}
 use Rattle.std.proofs.lemmas.List.Sorted.{searchable_from_sorted}
-use Rattle.std.proofs.lemmas.Option.{slice_get-get_or, slice_get-map}
-use Rattle.flat_tables.specs.Rows.{Ascends, follows}
+use Rattle.std.proofs.lemmas.Option.{slice_get-map}
+use Rattle.flat_tables.specs.Rows.{Ascends}
 use Rattle.zarr_path.specs.Paths.{path_cmp, same_path}
 use Rattle.zarr_path.proofs.OrderLaws.{total, exact}
 use Rattle.zarr_tree.specs.Nodes.{Node}

@@ -1,5 +1,5 @@
 -- What a reader answers, by what the file says.
-use Rattle.std.proofs.Common.{◌≡◌, ◌⊎◌, ℕ, suc, true, false, List, [], ◌∷◌, get_or, None, Result, Ok, Err, refl, sym, ap, ◌∙◌, subst, inl, inr, Fits, w8, arith}
+use Rattle.std.proofs.Common.{◌≡◌, ℕ, suc, true, false, List, [], ◌∷◌, get_or, None, Result, Ok, Err, refl, sym, ap, ◌∙◌, subst, inl, inr, Fits, w8, arith}
 use Rattle.std.specs.Prelude.{nat_lt}
 use Rattle.std.specs.List.{list_all}
 use Rattle.std.proofs.lemmas.Bool.{lt-ltb}

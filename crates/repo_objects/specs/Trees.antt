@@ -1,6 +1,6 @@
 -- The tree of a snapshot, by what was put. (Icechunk specification version 1, "Snapshots", "Manifests", "Chunks"; which
 -- manifest of a node's list has a chunk is own.)
-use Rattle.std.specs.Prelude.{◌≡◌, ℕ, ◌+◌, nat_le, if◌then◌else◌, List, [], length, take, drop, map, find, Option, Some, None, option_map, option_and_then, IsSome, IfSome}
+use Rattle.std.specs.Prelude.{◌≡◌, ℕ, ◌+◌, nat_le, if◌then◌else◌, List, [], length, take, drop, map, find, Option, Some, None, option_and_then, IsSome}
 use Rattle.std.specs.Option.{unwrap_or}
 use Rattle.std.specs.List.{Contains}
 use Rattle.std.specs.FinMap.{FinMap, from_entries}
