@@ -2,15 +2,21 @@
 use Rattle.std.proofs.Common.{◌≡◌, ◌∙◌, ◌⊎◌, inl, inr, ℕ, ◌+◌, ◌≤◌, Bool, true, false, cond, List, [], ◌∷◌, Option, Some, None, option_map, Result, Ok, Err, refl, sym, ap, subst}
 use Rattle.std.specs.Result.{result_ok}
 use Rattle.std.specs.List.{filter, AllByRecursion}
-use Rattle.std.specs.Str.{bytes_eq}
+use Rattle.std.specs.Prelude.{is_ok, ok_or}
+use Rattle.std.specs.Str.{bytes_eq, is_utf8}
 use Rattle.std.specs.FinMap.{get, len}
 use Rattle.std.proofs.lemmas.Slice.Eq.{bytes_eq-Decides}
+use Rattle.std.proofs.lemmas.Str.{IsUtf8-from_is_utf8}
+use Rattle.serde_json.specs.Read.{read}
+use Rattle.file_fields.proofs.Bytes.{utf8_bytes}
+use Rattle.ice_base.specs.Lists.{IsBytes}
 use Rattle.ice_ids.specs.Text.{same_id8}
 use Rattle.ice_ids.proofs.TextLaws.{same_id8-self}
 use Rattle.zarr_meta.specs.declared.faults.MetaFault.{MetaFault}
 use Rattle.zarr_meta.specs.declared.views.View.{View}
 use Rattle.zarr_meta.specs.declared.views.View.TheVariants as view
-use Rattle.zarr_meta.specs.Meta.{meta_of}
+use Rattle.zarr_meta.specs.declared.faults.MetaFault.TheVariants as fault
+use Rattle.zarr_meta.specs.Meta.{◌>>=◌, json_of, view_of, meta_of}
 use Rattle.zarr_tree.specs.Nodes.{Node, array_of_view, is_group, is_group_view}
 use Rattle.zarr_tree.specs.Trees.{Tree}
 use Rattle.zarr_tree.specs.Changes.{Changes, patched}
@@ -132,9 +138,18 @@ filter_all : {A : Type 0} (Q : A → Type 0) (test : A → Bool) (xs : List A) �
 filter_all Q test [] all = tt
 filter_all Q test (x ∷ xs) all = elim (test x) as (λ b. AllByRecursion Q (cond b (x ∷ filter test xs) (filter test xs))) [ true ↦ (all.0, filter_all Q test xs all.1) | false ↦ filter_all Q test xs all.1 ]
 
+-- metadata is text, and so bytes
+text_bytes : (text : List ℕ) → IsGroupText text → IsBytes text
+unfolding meta_of json_of
+text_bytes text h = utf8_bytes text (IsUtf8-from_is_utf8 text (by_test (is_utf8 text) refl (ap is_ok h)))
+  where
+    by_test : (b : Bool) → is_utf8 text ≡ b → is_ok (ok_or (cond b (read text) None) fault.Json >>= view_of) ≡ true → is_utf8 text ≡ true
+    by_test true e h = e
+    by_test false e h = cc
+
 -- the row of an added group is a node's, and has no fault
 group_node : (p : Path) (n : Node) → IsFineGroup p n → IsNode (group_row p n)
-group_node p n fine = record { id = fine.id.0; path = fine.path; text = fine.text; kind = tt }
+group_node p n fine = record { id = fine.id; path = fine.path; text = fine.text; user_data = text_bytes n.text (group_text n.text fine.group); kind = tt }
 
 group_good : (p : Path) (n : Node) → IsGroupText n.text → IsGood (group_row p n)
 group_good p n text = ap (kind_fault Group) text
@@ -142,8 +157,8 @@ group_good p n text = ap (kind_fault Group) text
 pub proper-law : ProperLaw
 proper-law s h stamp message proper none_changed groups stamped utf8 few = record {
   sized = record {
-    id = stamped.id.0;
-    parent = stamped.parent.0;
+    id = stamped.id;
+    parent = stamped.parent;
     nodes = each_row IsNode h s.nodes none_changed (λ p n added. let fine = groups p n added in (group_text n.text fine.group, group_node p n fine)) proper.sized.nodes;
     flushed_at = stamped.flushed_at;
     message = utf8;
