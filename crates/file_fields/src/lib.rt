@@ -1,7 +1,8 @@
 //! The payloads of files, and ids, indices, bytes and numbers in their tables: what the kinds of files that hold them have in common.
 //!
 //! Beside its calls, the crate has the lemmas of `proofs/`: `LoopLaws` for loops that read rows in order, `BuildingLaws`
-//! for loops that build fields, and `Again` for ids and indices that were written and are read again.
+//! for loops that build fields, `Again` for ids and indices that were written and are read again, `WasRead` and `Places`
+//! for what was read of a payload, and `Blocks` for what is laid out of bytes.
 #![tactic(auto)]
 
 mod reading;

@@ -1,6 +1,7 @@
-ghost use Rattle.std.specs.Prelude.{◌≡◌, ◌<◌, ◌^◌, IsTrue, IfOk, OnOk};
+ghost use Rattle.std.specs.Prelude.{◌≡◌, ◌<◌, ◌^◌, IsTrue, IfOk, OnOk, All};
 ghost use Rattle.flat_tables.specs.Layout.{scalar};
 ghost use Rattle.flat_tables.specs.Trees.{part_of, is_writable_slot};
+ghost use Rattle.ice_ids.specs.Text as ids;
 ghost use Rattle.file_fields.specs.Fields.{id8_part, id12_part, index_part, bytes_part, IsId8, IsId12, IsIndex};
 
 use flat_tables::Slot;
@@ -8,11 +9,18 @@ use ice_ids::{Id8, Id12};
 use std::alloc::{AllocError, Global};
 use zarr_path::Index;
 
+/// Bytes are below 256. It does nothing: the contract tells what the type says.
+fn bytes_fit(bytes: &[u8])
+    ensures { All (λ byte. byte < 256) bytes.now }
+{}
+
 /// The bytes of a node id.
 pub fn id8_bytes(id: &Id8) -> [u8; 8]
     ensures bytes { result ≡ id.now.0 }
     ensures sized { IsId8 id.now }
+    ensures id { ids.IsId8 id.now }
 {
+    bytes_fit(&id.0);
     id.0
 }
 
@@ -20,7 +28,9 @@ pub fn id8_bytes(id: &Id8) -> [u8; 8]
 pub fn id12_bytes(id: &Id12) -> [u8; 12]
     ensures bytes { result ≡ id.now.0 }
     ensures sized { IsId12 id.now }
+    ensures id { ids.IsId12 id.now }
 {
+    bytes_fit(&id.0);
     id.0
 }
 
@@ -29,6 +39,7 @@ pub fn id8_slot(alloc: Global, id: &Id8) -> Result<Slot, AllocError>
     ensures part { IfOk result (λ s. part_of s ≡ id8_part id.now) }
     ensures writable { IfOk result (λ s. IsTrue (is_writable_slot s)) }
     ensures sized { IsId8 id.now }
+    ensures id { ids.IsId8 id.now }
 {
     Ok(Slot::Struct {
         align: 1,
@@ -41,6 +52,7 @@ pub fn id12_slot(alloc: Global, id: &Id12) -> Result<Slot, AllocError>
     ensures part { IfOk result (λ s. part_of s ≡ id12_part id.now) }
     ensures writable { IfOk result (λ s. IsTrue (is_writable_slot s)) }
     ensures sized { IsId12 id.now }
+    ensures id { ids.IsId12 id.now }
 {
     Ok(Slot::Struct {
         align: 1,

@@ -4,8 +4,8 @@ use crate::told::{again, digits, fault_told, push_ids};
 use crate::words::NoAnswer;
 use flat_tables::{Kind, WriteFault, header_read, header_write};
 use std::alloc::{AllocError, Global};
-use tree_model::{ArrayChunks, Ids};
 use txn_file::TxnFile;
+use zarr_tree::{ArrayChunks, Ids};
 
 /// The kind that a file's header names.
 pub fn tell_header(alloc: Global, file: &[u8]) -> Result<String, NoAnswer> {
@@ -61,13 +61,14 @@ fn push_chunks(told: &mut String, arrays: &[ArrayChunks]) -> Result<(), AllocErr
 /// What a transaction log says.
 fn log_told(alloc: Global, log: &TxnFile) -> Result<String, AllocError> {
     let mut told = format!(in alloc; "log {}", log.id)?;
-    push_list(&mut told, "new_groups", &log.new_groups)?;
-    push_list(&mut told, "new_arrays", &log.new_arrays)?;
-    push_list(&mut told, "deleted_groups", &log.deleted_groups)?;
-    push_list(&mut told, "deleted_arrays", &log.deleted_arrays)?;
-    push_list(&mut told, "updated_arrays", &log.updated_arrays)?;
-    push_list(&mut told, "updated_groups", &log.updated_groups)?;
-    push_chunks(&mut told, log.updated_chunks.as_slice())?;
+    let lists = &log.lists;
+    push_list(&mut told, "new_groups", &lists.new_groups)?;
+    push_list(&mut told, "new_arrays", &lists.new_arrays)?;
+    push_list(&mut told, "deleted_groups", &lists.deleted_groups)?;
+    push_list(&mut told, "deleted_arrays", &lists.deleted_arrays)?;
+    push_list(&mut told, "updated_arrays", &lists.updated_arrays)?;
+    push_list(&mut told, "updated_groups", &lists.updated_groups)?;
+    push_chunks(&mut told, lists.updated_chunks.as_slice())?;
     Ok(told)
 }
 

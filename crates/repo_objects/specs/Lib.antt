@@ -2,3 +2,4 @@ pub mod Readings
 pub mod Trees
 pub mod Loading
 pub mod Laws
+pub mod inside

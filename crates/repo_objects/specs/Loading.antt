@@ -1,11 +1,6 @@
--- What the readers answer, and the nodes of a snapshot that was read.
-use Rattle.std.specs.Prelude.{◌≡◌, ⊤, ℕ, List, map, Option, Some, None, Result, Ok, Err}
-use Rattle.zarr_meta.specs.declared.metas.Meta.{Meta}
-use Rattle.snapshot_file.specs.declared.nodes.NodeRow.{NodeRow}
+-- What the readers answer.
+use Rattle.std.specs.Prelude.{◌≡◌, ⊤, Result, Ok, Err}
 use Rattle.repo_objects.specs.declared.bad.Bad.{Bad}
-use Rattle.repo_objects.specs.declared.bad.Bad.TheVariants.{Node}
-use Rattle.repo_objects.specs.Readings.{row_fault, first_bad}
-use Rattle.zarr_meta.specs.declared.faults.MetaFault.{MetaFault}
 use Rattle.repo_objects.specs.declared.bad.Unread.{Unread}
 use Rattle.repo_objects.specs.declared.bad.Unread.TheVariants as unread
 
@@ -14,19 +9,3 @@ abbrev pub Loads : {A : Type 0} → Result A Bad → Result A Unread → Type 0
 Loads expected (Ok x) = expected ≡ Ok x
 Loads expected (Err (unread.Bad bad)) = expected ≡ Err bad
 Loads expected (Err unread.NoMemory) = ⊤
-
--- the metadata of the rows, one after another
-abbrev pub AreMetas : List NodeRow → List Meta → Type 0
-AreMetas rows metas = map (λ meta. meta.text) metas ≡ map (λ row. row.user_data) rows
-
--- the metadata of a row, or the fault of row number `at`
-abbrev pub LoadsMeta : (at : ℕ) → NodeRow → Result Meta Unread → Type 0
-LoadsMeta at row (Ok meta) = (row_fault row ≡ None) × (meta.text ≡ row.user_data)
-LoadsMeta at row (Err (unread.Bad bad)) = (fault : MetaFault) × (row_fault row ≡ Some fault) × (bad ≡ Node at fault)
-LoadsMeta at row (Err unread.NoMemory) = ⊤
-
--- the metadata of rows, or the first row's fault
-abbrev pub LoadsMetas : List NodeRow → Result (List Meta) Unread → Type 0
-LoadsMetas rows (Ok metas) = (first_bad 0 rows ≡ None) × AreMetas rows metas
-LoadsMetas rows (Err (unread.Bad bad)) = first_bad 0 rows ≡ Some bad
-LoadsMetas rows (Err unread.NoMemory) = ⊤

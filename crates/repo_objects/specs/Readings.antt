@@ -1,7 +1,7 @@
 -- What the bytes of an object stand for, under the id of its key, or why they stand for nothing. (Icechunk specification
 -- version 1, "File Layout"; that a file tells the id of its key, and that the texts of a snapshot's nodes are metadata,
 -- is own.)
-use Rattle.std.specs.Prelude.{ℕ, ◌+◌, nat_lt, if◌then◌else◌, List, [], ◌∷◌, Option, Some, None, option_and_then, Result, Ok, Err}
+use Rattle.std.specs.Prelude.{ℕ, ◌+◌, nat_lt, if◌then◌else◌, List, [], ◌∷◌, Option, Some, None, Result, Ok, Err}
 use Rattle.std.specs.List.{list_all}
 use Rattle.std.specs.Result.{result_ok}
 use Rattle.ice_ids.specs.declared.Id12.{Id12}
@@ -26,7 +26,6 @@ use Rattle.manifest_file.specs.Manifests.{manifest_of}
 use Rattle.txn_file.specs.declared.log.TxnFile.{TxnFile}
 use Rattle.txn_file.specs.Logs.{txn_of}
 use Rattle.ref_file.specs.Refs.{member_name}
-use Rattle.ref_file.specs.declared.RefFault.{RefFault}
 use Rattle.ref_file.specs.declared.RefFault.TheVariants as ref
 use Rattle.repo_objects.specs.declared.bad.Bad.{Bad}
 use Rattle.repo_objects.specs.declared.bad.Bad.TheVariants.{File, Ref, WrongId, Node}

@@ -1,6 +1,6 @@
 -- The tree of a snapshot, by what was put. (Icechunk specification version 1, "Snapshots", "Manifests", "Chunks"; which
 -- manifest of a node's list has a chunk is own.)
-use Rattle.std.specs.Prelude.{◌≡◌, ℕ, ◌+◌, nat_le, if◌then◌else◌, List, [], length, take, drop, map, find, Option, Some, None, option_map, option_and_then, IsSome, IfSome}
+use Rattle.std.specs.Prelude.{◌≡◌, ℕ, ◌+◌, nat_le, if◌then◌else◌, List, [], length, take, drop, map, find, Option, Some, None, option_and_then, IsSome}
 use Rattle.std.specs.Option.{unwrap_or}
 use Rattle.std.specs.List.{Contains}
 use Rattle.std.specs.FinMap.{FinMap, from_entries}
@@ -16,6 +16,8 @@ use Rattle.snapshot_file.specs.declared.nodes.NodeRow.{NodeRow}
 use Rattle.manifest_file.specs.declared.manifest.Place.{Place}
 use Rattle.manifest_file.specs.declared.manifest.Place.TheVariants.{Inline, Object}
 use Rattle.manifest_file.specs.declared.manifest.ManifestFile.{ManifestFile}
+use Rattle.manifest_file.specs.declared.manifest.ArrayRefs.{ArrayRefs}
+use Rattle.manifest_file.specs.declared.manifest.ChunkRef.{ChunkRef}
 use Rattle.held_manifest.specs.LookUp.{Listed, chunk_place}
 use Rattle.repo_objects.specs.Readings.{manifest_by}
 
@@ -77,6 +79,26 @@ place_under puts row i = place_in puts row i (array_in row.user_data)
 abbrev pub chunk_under : Puts → List ℕ → Option NodeRow → Option (List ℕ)
 chunk_under puts i None = None
 chunk_under puts i (Some row) = option_and_then (bytes_at puts) (place_under puts row i)
+
+-- ---- what is named
+
+-- rows name a manifest
+pub record NamesManifest (rows : List NodeRow) (id : Id12) : Type 0 where
+  pub row : NodeRow
+  pub among : Contains rows row
+  pub manifest : ManifestRef
+  pub named : Contains (manifests_of row.kind) manifest
+  pub is : manifest.id ≡ id
+
+-- a manifest has a chunk in an object
+pub record NamesChunk (manifest : ManifestFile) (id : Id12) : Type 0 where
+  pub array : ArrayRefs
+  pub among : Contains manifest.arrays array
+  pub chunk : ChunkRef
+  pub has : Contains array.refs chunk
+  pub offset : ℕ
+  pub size : ℕ
+  pub is : chunk.place ≡ Object id offset size
 
 -- ---- trees
 

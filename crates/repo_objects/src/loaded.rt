@@ -1,11 +1,17 @@
 //! Snapshots that were read, with the metadata of their nodes.
 
-ghost use Rattle.std.specs.Prelude.{◌≡◌, not, is_some, Ok};
+ghost use Rattle.std.specs.Prelude.{◌≡◌, ◌<◌, not, is_some, Some, None, Ok, IsTrue, length, slice_get, option_map};
 ghost use Rattle.snapshot_file.specs.declared.snapshot.SnapshotFile.{SnapshotFile as TheFile};
 ghost use Rattle.repo_objects.specs.Readings.{kind_fault, row_fault, first_bad, read_snapshot};
-ghost use Rattle.repo_objects.specs.Loading.{Loads, LoadsMeta, LoadsMetas};
-ghost use Rattle.zarr_path.specs.Paths.{path_cmp};
-ghost use Rattle.repo_objects.specs.Trees.{nodes_in};
+ghost use Rattle.repo_objects.specs.Loading.{Loads};
+ghost use Rattle.repo_objects.specs.inside.Metas.{LoadsMeta, LoadsMetas};
+ghost use Rattle.zarr_path.specs.Paths.{path_cmp, is_path};
+ghost use Rattle.repo_objects.specs.Trees.{node_of, nodes_in};
+ghost use Rattle.repo_objects.specs.inside.Places.{IsPlace};
+ghost use Rattle.flat_tables.specs.Rows.{Ascends};
+ghost use Rattle.snapshot_file.specs.Snapshots.{node_key};
+ghost use Rattle.snapshot_file.specs.Layout.{IsWritable};
+ghost use Rattle.zarr_tree.specs.Rows.{node_found};
 
 use crate::bad::{Bad, Unread};
 use crate::readings::unread;
@@ -28,7 +34,7 @@ pub struct Loaded {
 impl Model for Loaded {
     ghost use Rattle.snapshot_file.specs.declared.snapshot.SnapshotFile.{SnapshotFile as TheFile};
     ghost use Rattle.snapshot_file.specs.Layout.{IsWritable};
-    ghost use Rattle.repo_objects.specs.Loading.{AreMetas};
+    ghost use Rattle.repo_objects.specs.inside.Metas.{AreMetas};
 
     ghost Value = { TheFile };
 
@@ -53,7 +59,10 @@ impl Loaded {
     pub fn read(alloc: Global, id: Id12, file: &[u8]) -> Result<Loaded, Unread>
         ensures { Loads (read_snapshot id file.now) result }
     {
-        let file = snapshot_file::read(alloc, file).map_err(unread)?;
+        let file = match snapshot_file::read(alloc, file) {
+            Ok(file) => file,
+            Err(fault) => return Err(unread(fault)),
+        };
         if file.id != id {
             return Err(Unread::Bad(Bad::WrongId(file.id)));
         }
@@ -61,9 +70,10 @@ impl Loaded {
         Ok(Loaded { file, metas })
     }
 
-    /// What the snapshot says.
+    /// What the snapshot says, which can be written.
     pub fn file(&self) -> &SnapshotFile
-        ensures { result.now ≡ self.now }
+        ensures value { result.now ≡ self.now }
+        ensures writable { IsWritable self.now }
     {
         &self.file
     }
@@ -106,16 +116,42 @@ fn compare(row: &NodeRow, path: &str) -> Ordering
     row.path.as_str().cmp(path)
 }
 
+/// The number of the row at a path, found by halves.
+fn place(rows: &[NodeRow], path: &str) -> Option<usize>
+    requires { Ascends node_key None rows.now }
+    ensures { IsPlace rows.now path.now result }
+{
+    rows.binary_search_by(|row| compare(row, path)).ok()
+}
+
+/// The path of row number `at`.
+fn path_at(rows: &[NodeRow], at: usize) -> &str
+    requires { at < length rows.now }
+    ensures value { option_map node_key (slice_get rows.now at) ≡ Some result.now }
+    ensures path { IsTrue (is_path result.now) }
+{
+    rows[at].path.as_str()
+}
+
+impl Loaded {
+    /// The node of row number `at`.
+    fn found(&self, at: usize) -> Found<'_>
+        requires { at < length self.now.nodes }
+        ensures { option_map node_of (slice_get self.now.nodes at) ≡ Some (node_found result) }
+    {
+        Found {
+            id: self.file.nodes.as_slice()[at].id,
+            meta: &self.metas.as_slice()[at],
+        }
+    }
+}
+
 impl TreeLike for Loaded {
     ghost nodes = { λ s. nodes_in s.nodes };
 
     fn find(&self, path: &str) -> Option<Found<'_>> {
-        let rows = self.file.nodes.as_slice();
-        let at = rows.binary_search_by(|row| compare(row, path)).ok()?;
-        Some(Found {
-            id: rows[at].id,
-            meta: &self.metas.as_slice()[at],
-        })
+        let at = place(self.file.nodes.as_slice(), path)?;
+        Some(self.found(at))
     }
 
     fn len(&self) -> usize {
@@ -123,13 +159,6 @@ impl TreeLike for Loaded {
     }
 
     fn row(&self, at: usize) -> (&str, Found<'_>) {
-        let row = &self.file.nodes.as_slice()[at];
-        (
-            row.path.as_str(),
-            Found {
-                id: row.id,
-                meta: &self.metas.as_slice()[at],
-            },
-        )
+        (path_at(self.file.nodes.as_slice(), at), self.found(at))
     }
 }

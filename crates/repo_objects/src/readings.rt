@@ -3,6 +3,7 @@
 ghost use Rattle.std.specs.Prelude.{◌≡◌, MatchResult, Ok, Err};
 ghost use Rattle.repo_objects.specs.Readings.{read_manifest, read_log, read_ref};
 ghost use Rattle.repo_objects.specs.Loading.{Loads};
+ghost use Rattle.repo_objects.specs.inside.Metas.{unread_of, unread_ref_of};
 
 use crate::bad::{Bad, Unread};
 use flat_tables::FileFault;
@@ -14,7 +15,9 @@ use std::alloc::Global;
 use txn_file::TxnFile;
 
 /// Why a file isn't read.
-pub(crate) fn unread(fault: FileFault) -> Unread {
+pub(crate) fn unread(fault: FileFault) -> Unread
+    ensures { result ≡ unread_of fault }
+{
     match fault {
         FileFault::NoMemory => Unread::NoMemory,
         fault => Unread::Bad(Bad::File(fault)),
@@ -23,6 +26,7 @@ pub(crate) fn unread(fault: FileFault) -> Unread {
 
 /// Reads a transaction log under the id of its key, which is that of its snapshot. (Icechunk specification version 1,
 /// "Transaction log".)
+#[tactic(auto, using(crate::proofs::Steps::log_fault, crate::proofs::Steps::log_same, crate::proofs::Steps::log_other))]
 pub fn log_read(alloc: Global, id: Id12, file: &[u8]) -> Result<TxnFile, Unread>
     ensures { Loads (read_log id file.now) result }
 {
@@ -40,6 +44,7 @@ pub fn log_read(alloc: Global, id: Id12, file: &[u8]) -> Result<TxnFile, Unread>
 
 /// Holds the file of a manifest, to be read in place, under the id of its key. It takes no memory. (Icechunk specification
 /// version 1, "Manifests".)
+#[tactic(auto, using(crate::proofs::Steps::manifest_fault, crate::proofs::Steps::manifest_same, crate::proofs::Steps::manifest_other))]
 pub fn manifest_hold(id: Id12, file: Bytes) -> Result<Held, Bad>
     ensures { result ≡ read_manifest id file }
 {
@@ -55,13 +60,23 @@ pub fn manifest_hold(id: Id12, file: Bytes) -> Result<Held, Bad>
     }
 }
 
+/// Why a reference isn't read.
+fn unread_ref(fault: RefFault) -> Unread
+    ensures { result ≡ unread_ref_of fault }
+{
+    match fault {
+        RefFault::NoMemory => Unread::NoMemory,
+        fault => Unread::Bad(Bad::Ref(fault)),
+    }
+}
+
 /// Reads a reference: the id of the snapshot to which it refers. (Icechunk specification version 1, "Reference Files".)
+
 pub fn ref_read(alloc: Global, file: &[u8]) -> Result<Id12, Unread>
     ensures { Loads (read_ref file.now) result }
 {
     match ref_file::ref_read(alloc, file) {
         Ok(id) => Ok(id),
-        Err(RefFault::NoMemory) => Err(Unread::NoMemory),
-        Err(fault) => Err(Unread::Bad(Bad::Ref(fault))),
+        Err(fault) => Err(unread_ref(fault)),
     }
 }

@@ -13,7 +13,8 @@ use Rattle.flat_tables.specs.Rows.{each, in_order, Ascends}
 use Rattle.flat_tables.specs.Layout.{zeros, part_if, payload}
 use Rattle.flat_tables.proofs.Files.{file_again}
 use Rattle.flat_tables.proofs.Loop.{ReadsFrom, ordered_reads, rows_again, at_most_ok}
-use Rattle.file_fields.specs.Fields.{id12_part, IsId12}
+use Rattle.ice_ids.specs.Text.{IsId12}
+use Rattle.file_fields.specs.Fields.{id12_part}
 use Rattle.file_fields.proofs.Again.{ordered_again, id12_again}
 use Rattle.flat_tables.proofs.Again.{IsField, IsTable, SlotRead, eight, inline_field, offset_field, scalar_field, absent_field, root_again, struct_again, struct_absent, scalar_again, text_again, vector_absent, structs_again, tables_again, tables_behind, EachBehind}
 use Rattle.snapshot_file.specs.declared.nodes.NodeRow.{NodeRow}
@@ -47,8 +48,8 @@ info_back : (file : ManifestInfo) → IsInfo file → info_of (info_bytes file) 
 info_back file is =
     let head = info_head file.id in
     let tail = info_tail file.size file.refs in
-    let len : length head ≡ 16 = omega (arith, length-append file.id.0 (zeros 4), is.id) in
-    let id : take 12 (info_bytes file) ≡ file.id.0 = ap (take 12) (append_assoc file.id.0 (zeros 4) tail) ∙ take_at file.id.0 (zeros 4 ++ tail) 12 is.id in
+    let len : length head ≡ 16 = omega (arith, length-append file.id.0 (zeros 4), is.id.0) in
+    let id : take 12 (info_bytes file) ≡ file.id.0 = ap (take 12) (append_assoc file.id.0 (zeros 4) tail) ∙ take_at file.id.0 (zeros 4 ++ tail) 12 is.id.0 in
     let behind : drop 16 (info_bytes file) ≡ tail = drop_at head tail 16 len in
     let size : from_le_bytes w64 (take 8 (drop 16 (info_bytes file))) ≡ file.size = ap (λ (bytes : List ℕ). from_le_bytes w64 (take 8 bytes)) behind ∙ from_le_bytes-to_le_bytes_8 file.size is.size in
     let further : drop 24 (info_bytes file) ≡ drop 8 tail = sym (drop-drop 8 16 (info_bytes file)) ∙ ap (drop 8) behind in
@@ -79,19 +80,19 @@ abbrev bytes_if : Option Id12 → Option (List ℕ)
 bytes_if id = option_map (λ i. i.0) id
 
 parent_again : (t : TableIn) (parent : Option Id12) → IfSome parent IsId12 → SlotRead t 1 (part_if id12_part parent) → struct_of t 1 12 ≡ Ok (bytes_if parent)
-parent_again t None len slot = struct_absent t 1 12 slot
-parent_again t (Some id) len slot = struct_again t 1 1 12 id.0 len slot
+parent_again t None is slot = struct_absent t 1 12 slot
+parent_again t (Some id) is slot = struct_again t 1 1 12 id.0 is.0 slot
 
 parent_back : (parent : Option Id12) → id_if (bytes_if parent) ≡ parent
 parent_back None = refl
 parent_back (Some id) = refl
 
 parent_field : (parent : Option Id12) → IfSome parent IsId12 → IsField (part_if id12_part parent)
-parent_field None len = absent_field
-parent_field (Some id) len = inline_field 1 id.0 (lit≤ tt) (omega (arith, len))
+parent_field None is = absent_field
+parent_field (Some id) is = inline_field 1 id.0 (lit≤ tt) (omega (arith, is.0))
 
 snapshot_fields : (s : SnapshotFile) → IsSnapshot s → IsTable (snapshot_parts s)
-snapshot_fields s is = record { fields = (inline_field 1 s.id.0 (lit≤ tt) (omega (arith, is.id)), (parent_field s.parent is.parent, (offset_field _, (scalar_field 8 s.flushed_at (lit≤ tt), (offset_field _, (absent_field, (offset_field _, tt))))))); few = lit≤ tt }
+snapshot_fields s is = record { fields = (inline_field 1 s.id.0 (lit≤ tt) (omega (arith, is.id.0)), (parent_field s.parent is.parent, (offset_field _, (scalar_field 8 s.flushed_at (lit≤ tt), (offset_field _, (absent_field, (offset_field _, tt))))))); few = lit≤ tt }
 
 payload_again : (s : SnapshotFile) → IsSnapshot s → IsWritable s → length (payload (snapshot_block s)) < 2 ^ 32 → payload_of (payload (snapshot_block s)) ≡ Ok s
 unfolding payload_of snapshot_block properties_of
@@ -105,7 +106,7 @@ payload_again s is can small =
     let s4 = s3.1 in
     let s5 = s4.1 in
     let s6 = s5.1 in
-    let id = id12_again t 0 s.id is.id p.slots.0 in
+    let id = id12_again t 0 s.id is.id.0 p.slots.0 in
     let parent = parent_again t s.parent is.parent s1.0 in
     let nodes = nodes_again t s.nodes p.small is.nodes can.few can.nodes s2.0 in
     let flushed_at = scalar_again t 3 8 s.flushed_at (eight s.flushed_at is.flushed_at) s3.0 in

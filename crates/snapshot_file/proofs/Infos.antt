@@ -12,4 +12,4 @@ info_is v i file e = rw (← e) refl
 
 -- they are 32
 pub info_bytes_long : (file : ManifestInfo) → IsInfo file → length (info_bytes file) ≡ 32
-info_bytes_long file is = omega (arith, length-append (info_head file.id) (info_tail file.size file.refs), length-append file.id.0 (zeros 4), is.id)
+info_bytes_long file is = omega (arith, length-append (info_head file.id) (info_tail file.size file.refs), length-append file.id.0 (zeros 4), is.id.0)

@@ -8,6 +8,7 @@ use Rattle.flat_tables.specs.Layout.{payload, table_block, tables_block, text_bl
 use Rattle.snapshot_file.specs.Snapshots.{snapshot_of, first_unlisted}
 use Rattle.snapshot_file.specs.Layout.{snapshot_block, snapshot_bytes, IsSnapshot, IsWritable}
 use Rattle.snapshot_file.specs.Initial.{initial_snapshot}
+use Rattle.file_fields.proofs.Bytes.{bytes_tested}
 use Rattle.snapshot_file.proofs.Again.{snapshot_again}
 
 message_utf8 : IsUtf8 initial_snapshot.message
@@ -17,7 +18,7 @@ message_utf8 =
     (All-from_recursion (λ b. b < 128) (codes "Repository initialized") (lit< tt, (lit< tt, (lit< tt, (lit< tt, (lit< tt, (lit< tt, (lit< tt, (lit< tt, (lit< tt, (lit< tt, (lit< tt, (lit< tt, (lit< tt, (lit< tt, (lit< tt, (lit< tt, (lit< tt, (lit< tt, (lit< tt, (lit< tt, (lit< tt, (lit< tt, tt))))))))))))))))))))))))
 
 initial_is : IsSnapshot initial_snapshot
-initial_is = record { id = refl; parent = tt; nodes = tt; flushed_at = lit< tt; message = message_utf8; files = tt }
+initial_is = record { id = (refl, bytes_tested initial_snapshot.id.0 refl); parent = tt; nodes = tt; flushed_at = lit< tt; message = message_utf8; files = tt }
 
 initial_can : IsWritable initial_snapshot
 unfolding first_unlisted

@@ -4,3 +4,6 @@ pub mod Again
 pub mod WasRead
 pub mod InitialLaws
 pub mod Listed
+pub mod NodesSized
+pub mod Sized
+pub mod WrittenBytes

@@ -55,12 +55,12 @@ shape_sized (x ∷ xs) = (refl, shape_sized xs)
 -- ---- manifests
 
 manifest_fields : (manifest : ManifestRef) → IsManifest manifest → IsTable (manifest_parts manifest)
-manifest_fields manifest is = record { fields = (inline_field 1 manifest.id.0 (lit≤ tt) (omega (arith, is.id)), (offset_field _, tt)); few = lit≤ tt }
+manifest_fields manifest is = record { fields = (inline_field 1 manifest.id.0 (lit≤ tt) (omega (arith, is.id.0)), (offset_field _, tt)); few = lit≤ tt }
 
 manifest_again : (manifest : ManifestRef) (t : TableIn) → IsManifest manifest → HasParts t (manifest_parts manifest) → manifest_of t ≡ Ok manifest
 unfolding manifest_of
 manifest_again manifest t is parts =
-    let id = id12_again t 0 manifest.id is.id parts.slots.0 in
+    let id = id12_again t 0 manifest.id is.id.0 parts.slots.0 in
     let v = structs_again t 1 4 8 extent_bytes manifest.extents (lit< tt) (extents_sized manifest.extents) parts.small parts.slots.1.0 in
     rw (id, v.is, v.items, extents_back manifest.extents is.extents) refl
 
@@ -114,7 +114,7 @@ kind_again (Array shape names manifests) t is parts =
 
 pub node_fields : (node : NodeRow) → IsNode node → IsTable (node_parts node)
 unfolding kind_block
-node_fields node is = record { fields = (inline_field 1 node.id.0 (lit≤ tt) (omega (arith, is.id)), (offset_field _, (offset_field _, (scalar_field 1 (type_of node.kind) (lit≤ tt), (offset_field _, tt))))); few = lit≤ tt }
+node_fields node is = record { fields = (inline_field 1 node.id.0 (lit≤ tt) (omega (arith, is.id.0)), (offset_field _, (offset_field _, (scalar_field 1 (type_of node.kind) (lit≤ tt), (offset_field _, tt))))); few = lit≤ tt }
 
 type_fits : (kind : NodeKind) → Fits 1 (type_of kind)
 type_fits Group = one 2 (lit< tt)
@@ -127,7 +127,7 @@ node_again at node t is parts =
     let s2 = s1.1 in
     let s3 = s2.1 in
     let s4 = s3.1 in
-    let id = id8_again t 0 node.id is.id parts.slots.0 in
+    let id = id8_again t 0 node.id is.id.0 parts.slots.0 in
     let path = text_again t 1 node.path is.text parts.small s1.0 in
     let text = vector_again t 2 1 1 (length node.user_data) node.user_data (lit< tt) (omega arith) parts.small s2.0 in
     let type = scalar_again t 3 1 (type_of node.kind) (type_fits node.kind) s3.0 in

@@ -14,7 +14,7 @@ use Rattle.snapshot_file.specs.Layout.{IsWritable}
 use Rattle.file_fields.specs.Fields.{id12_of}
 use Rattle.file_fields.proofs.WasRead.{rows_ascend, rows_count, optional_has, within_limit}
 
-listed_read : (at : Option ℕ) (x s : SnapshotFile) → unless_unlisted at x ≡ Ok s → (at ≡ None) × (x ≡ s)
+pub listed_read : (at : Option ℕ) (x s : SnapshotFile) → unless_unlisted at x ≡ Ok s → (at ≡ None) × (x ≡ s)
 listed_read None x s e = (refl, cc)
 listed_read (Some at) x s e = absurd cc
 
@@ -36,7 +36,7 @@ files_read : (t : TableIn) (files : List ManifestInfo) → files_of t ≡ Ok fil
 unfolding files_of
 files_read t files e = optional_has (Ascends file_key None) (vector_of t 6 32) files_in files tt (λ v read. rows_ascend file_key 6 (each (info_at v)) v.count files read) e
 
-payload_writable : (payload : List ℕ) (s : SnapshotFile) → payload_of payload ≡ Ok s → IsWritable s
+pub payload_writable : (payload : List ℕ) (s : SnapshotFile) → payload_of payload ≡ Ok s → IsWritable s
 unfolding payload_of
 payload_writable payload s e =
     let t = bind_ok (flat (root_of payload)) _ s e in

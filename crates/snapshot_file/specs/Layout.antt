@@ -4,8 +4,10 @@ use Rattle.std.specs.List.{flat_map, AllByRecursion}
 use Rattle.std.specs.Int.{w32, w64, to_le_bytes}
 use Rattle.std.specs.Str.{IsUtf8}
 use Rattle.zarr_path.specs.Paths.{is_path}
+use Rattle.ice_base.specs.Lists.{IsBytes}
 use Rattle.ice_ids.specs.declared.Id12.{Id12}
-use Rattle.file_fields.specs.Fields.{id8_part, id12_part, bytes_part, IsId8, IsId12}
+use Rattle.ice_ids.specs.Text.{IsId8, IsId12}
+use Rattle.file_fields.specs.Fields.{id8_part, id12_part, bytes_part}
 use Rattle.flat_tables.specs.declared.header.Kind.TheVariants as kinds
 use Rattle.flat_tables.specs.Header.{header}
 use Rattle.flat_tables.specs.Rows.{Ascends}
@@ -111,7 +113,7 @@ pub record IsWritable (s : SnapshotFile) : Type 0 where
   pub files : Ascends file_key None s.manifest_files
   pub listed : first_unlisted s.manifest_files s.nodes ≡ None
 
--- what the types say of a snapshot: ids have their length, numbers their width, and texts are UTF-8
+-- what the types say of a snapshot: ids are 12 or 8 bytes, numbers have their width, texts are UTF-8, and data is bytes
 abbrev pub IsDimension : ℕ × ℕ → Type 0
 IsDimension dimension = (dimension.0 < 2 ^ 64) × (dimension.1 < 2 ^ 64)
 
@@ -138,6 +140,7 @@ pub record IsNode (node : NodeRow) : Type 0 where
   pub id : IsId8 node.id
   pub path : is_path node.path ≡ true
   pub text : IsUtf8 node.path
+  pub user_data : IsBytes node.user_data
   pub kind : IsKind node.kind
 
 pub record IsInfo (file : ManifestInfo) : Type 0 where

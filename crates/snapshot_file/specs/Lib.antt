@@ -2,3 +2,4 @@ pub mod Nodes
 pub mod Snapshots
 pub mod Layout
 pub mod Initial
+pub mod Laws

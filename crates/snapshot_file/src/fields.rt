@@ -3,7 +3,7 @@ ghost use Rattle.std.specs.Int.{w32, w64, to_le_bytes};
 ghost use Rattle.std.specs.Str.{IsUtf8};
 ghost use Rattle.flat_tables.specs.Layout.{scalar};
 ghost use Rattle.flat_tables.specs.Trees.{part_of, is_writable_slot};
-ghost use Rattle.file_fields.specs.Fields.{IsId12};
+ghost use Rattle.ice_ids.specs.Text.{IsId12};
 ghost use Rattle.snapshot_file.specs.Layout.{text_part, dimension_bytes, extent_bytes, info_head, info_tail, IsDimension, IsExtent};
 
 use file_fields::id12_bytes;

@@ -5,8 +5,10 @@
 //! of a snapshot, which is read again as that snapshot.
 #![tactic(auto)]
 
+mod copies;
 mod fields;
 mod initial_snapshot;
+mod laws;
 mod lists;
 mod node_reading;
 mod node_writing;
@@ -16,7 +18,9 @@ mod reading;
 mod snapshot;
 mod writing;
 
+pub use copies::{copy_manifests, copy_names};
 pub use initial_snapshot::{INITIAL_FILE, initial, initial_law};
+pub use laws::read_law;
 pub use lists::{Extents, Names, Shape};
 pub use nodes::{ManifestRef, NodeKind, NodeRow};
 pub use reading::read;

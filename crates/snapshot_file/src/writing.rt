@@ -3,7 +3,8 @@ ghost use Rattle.std.specs.List.{AllByRecursion};
 ghost use Rattle.flat_tables.specs.File.{Writes};
 ghost use Rattle.flat_tables.specs.Layout.{payload, part_if};
 ghost use Rattle.flat_tables.specs.Trees.{layout, part_of, is_writable, is_writable_slot};
-ghost use Rattle.file_fields.specs.Fields.{id12_part, IsId12};
+ghost use Rattle.ice_ids.specs.Text.{IsId12};
+ghost use Rattle.file_fields.specs.Fields.{id12_part};
 ghost use Rattle.snapshot_file.specs.Snapshots.{snapshot_of};
 ghost use Rattle.snapshot_file.specs.Layout.{nodes_part, files_part, snapshot_block, snapshot_bytes, IsWritable, IsNode, IsInfo, IsSnapshot};
 

@@ -2,12 +2,13 @@
 use Rattle.std.specs.Prelude.{ℕ, List, [], ◌∷◌, ◌++◌, length, map, None}
 use Rattle.std.specs.List.{flat_map, AllByRecursion}
 use Rattle.ice_ids.specs.declared.Id8.{Id8}
-use Rattle.tree_model.specs.declared.lists.ArrayChunks.{ArrayChunks}
+use Rattle.ice_ids.specs.Text.{IsId8, IsId12}
 use Rattle.flat_tables.specs.declared.header.Kind.TheVariants as kinds
 use Rattle.flat_tables.specs.Header.{header}
 use Rattle.flat_tables.specs.Rows.{Ascends}
 use Rattle.flat_tables.specs.Layout.{Part, Block, offset_to, vector_block, tables_block, table_block, payload}
-use Rattle.file_fields.specs.Fields.{id_key, index_key, id8_part, id12_part, index_part, IsId8, IsId12, IsIndex}
+use Rattle.file_fields.specs.Fields.{id_key, index_key, id8_part, id12_part, index_part, IsIndex}
+use Rattle.zarr_tree.specs.declared.lists.ArrayChunks.{ArrayChunks}
 use Rattle.txn_file.specs.declared.log.TxnFile.{TxnFile}
 use Rattle.txn_file.specs.Logs.{array_key}
 
@@ -38,8 +39,8 @@ arrays_part arrays = offset_to (tables_block (map array_block arrays))
 -- table TransactionLog
 abbrev pub log_parts : TxnFile → List Part
 log_parts log =
-    id12_part log.id ∷ ids_part log.new_groups ∷ ids_part log.new_arrays ∷ ids_part log.deleted_groups ∷ ids_part log.deleted_arrays
-    ∷ ids_part log.updated_arrays ∷ ids_part log.updated_groups ∷ arrays_part log.updated_chunks ∷ []
+    id12_part log.id ∷ ids_part log.lists.new_groups ∷ ids_part log.lists.new_arrays ∷ ids_part log.lists.deleted_groups ∷ ids_part log.lists.deleted_arrays
+    ∷ ids_part log.lists.updated_arrays ∷ ids_part log.lists.updated_groups ∷ arrays_part log.lists.updated_chunks ∷ []
 
 unfoldable pub log_block : TxnFile → Block
 log_block log = table_block (log_parts log)
@@ -56,16 +57,16 @@ abbrev pub ChunksAscend : ArrayChunks → Type 0
 ChunksAscend array = Ascends index_key None array.chunks
 
 pub record IsOrdered (log : TxnFile) : Type 0 where
-  pub new_groups : IdsAscend log.new_groups
-  pub new_arrays : IdsAscend log.new_arrays
-  pub deleted_groups : IdsAscend log.deleted_groups
-  pub deleted_arrays : IdsAscend log.deleted_arrays
-  pub updated_arrays : IdsAscend log.updated_arrays
-  pub updated_groups : IdsAscend log.updated_groups
-  pub arrays : Ascends array_key None log.updated_chunks
-  pub chunks : AllByRecursion ChunksAscend log.updated_chunks
+  pub new_groups : IdsAscend log.lists.new_groups
+  pub new_arrays : IdsAscend log.lists.new_arrays
+  pub deleted_groups : IdsAscend log.lists.deleted_groups
+  pub deleted_arrays : IdsAscend log.lists.deleted_arrays
+  pub updated_arrays : IdsAscend log.lists.updated_arrays
+  pub updated_groups : IdsAscend log.lists.updated_groups
+  pub arrays : Ascends array_key None log.lists.updated_chunks
+  pub chunks : AllByRecursion ChunksAscend log.lists.updated_chunks
 
--- what the types say of a log: ids have their length, and indices have numbers of 32 bits
+-- what the types say of a log: ids are 12 or 8 bytes, and indices have numbers of 32 bits
 abbrev pub AreIds : List Id8 → Type 0
 AreIds ids = AllByRecursion IsId8 ids
 
@@ -75,10 +76,10 @@ pub record IsArray (array : ArrayChunks) : Type 0 where
 
 pub record IsLog (log : TxnFile) : Type 0 where
   pub id : IsId12 log.id
-  pub new_groups : AreIds log.new_groups
-  pub new_arrays : AreIds log.new_arrays
-  pub deleted_groups : AreIds log.deleted_groups
-  pub deleted_arrays : AreIds log.deleted_arrays
-  pub updated_arrays : AreIds log.updated_arrays
-  pub updated_groups : AreIds log.updated_groups
-  pub updated_chunks : AllByRecursion IsArray log.updated_chunks
+  pub new_groups : AreIds log.lists.new_groups
+  pub new_arrays : AreIds log.lists.new_arrays
+  pub deleted_groups : AreIds log.lists.deleted_groups
+  pub deleted_arrays : AreIds log.lists.deleted_arrays
+  pub updated_arrays : AreIds log.lists.updated_arrays
+  pub updated_groups : AreIds log.lists.updated_groups
+  pub updated_chunks : AllByRecursion IsArray log.lists.updated_chunks

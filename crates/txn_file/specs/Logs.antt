@@ -2,7 +2,6 @@
 -- and that lists stand in order, is own.)
 use Rattle.std.specs.Prelude.{ℕ, List, [], Result, Ok}
 use Rattle.ice_ids.specs.declared.Id8.{Id8}
-use Rattle.tree_model.specs.declared.lists.ArrayChunks.{ArrayChunks}
 use Rattle.flat_tables.specs.declared.header.Kind.TheVariants as kinds
 use Rattle.flat_tables.specs.declared.fault.FileFault.{FileFault}
 use Rattle.flat_tables.specs.Step.{◌>>=◌}
@@ -10,6 +9,8 @@ use Rattle.flat_tables.specs.Places.{TableIn, VectorIn, root_of, vector_of, item
 use Rattle.flat_tables.specs.Rows.{flat, required, optional_rows, rows, each, in_order}
 use Rattle.flat_tables.specs.File.{file_of}
 use Rattle.file_fields.specs.Fields.{id_key, index_key, id8_of, id12_of, index_of}
+use Rattle.zarr_tree.specs.declared.lists.ArrayChunks.{ArrayChunks}
+use Rattle.zarr_tree.specs.declared.lists.Touched.{Touched}
 use Rattle.txn_file.specs.declared.log.TxnFile.{TxnFile}
 
 -- arrays stand in the order of their ids
@@ -50,11 +51,9 @@ arrays_in v = rows (in_order array_key 7 (each (array_at v))) [] v.count
 unfoldable pub arrays_of : TableIn → Result (List ArrayChunks) FileFault
 arrays_of t = optional_rows (vector_of t 7 4) arrays_in
 
--- table TransactionLog: what the payload says, or its first fault
-unfoldable pub log_of : List ℕ → Result TxnFile FileFault
-log_of payload = do
-  t ← flat (root_of payload)
-  id ← id12_of t 0
+-- table TransactionLog: its lists, and the log that the payload says, or its first fault
+unfoldable pub lists_of : TableIn → Result Touched FileFault
+lists_of t = do
   new_groups ← ids_of t 1
   new_arrays ← ids_of t 2
   deleted_groups ← ids_of t 3
@@ -63,7 +62,6 @@ log_of payload = do
   updated_groups ← ids_of t 6
   updated_chunks ← arrays_of t
   Ok (record {
-    id = id;
     new_groups = new_groups;
     new_arrays = new_arrays;
     deleted_groups = deleted_groups;
@@ -72,6 +70,13 @@ log_of payload = do
     updated_groups = updated_groups;
     updated_chunks = updated_chunks;
   })
+
+unfoldable pub log_of : List ℕ → Result TxnFile FileFault
+log_of payload = do
+  t ← flat (root_of payload)
+  id ← id12_of t 0
+  lists ← lists_of t
+  Ok (record { id = id; lists = lists })
 
 -- the log that a file stands for, or the file's first fault
 unfoldable pub txn_of : List ℕ → Result TxnFile FileFault

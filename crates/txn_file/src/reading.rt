@@ -1,6 +1,6 @@
 ghost use Rattle.std.specs.Prelude.{◌≡◌, ◌<◌, option_map, option_copied};
 ghost use Rattle.flat_tables.specs.Rows.{Reads, follows};
-ghost use Rattle.txn_file.specs.Logs.{array_key, ids_in, ids_of, index_at, indices_in, array_of, array_at, arrays_in, arrays_of, log_of, txn_of};
+ghost use Rattle.txn_file.specs.Logs.{array_key, ids_in, ids_of, index_at, indices_in, array_of, array_at, arrays_in, arrays_of, lists_of, log_of, txn_of};
 
 use crate::log::TxnFile;
 use file_fields::{id_follows, id8, id8_of, id12_of, index_follows, index_of, payload_in};
@@ -8,8 +8,8 @@ use flat_tables::{FileFault, FlatFault, Kind, Table, Vector};
 use ice_ids::Id8;
 use ice_items::Items;
 use std::alloc::Global;
-use tree_model::{ArrayChunks, Ids};
 use zarr_path::Index;
+use zarr_tree::{ArrayChunks, Ids, Touched};
 
 /// Whether an array may stand behind the last one.
 fn array_follows(last: Option<&ArrayChunks>, array: &ArrayChunks) -> bool
@@ -126,22 +126,19 @@ fn arrays_of(alloc: Global, table: &Table) -> Result<Items<ArrayChunks>, FileFau
     }
 }
 
-/// What a payload says.
-#[tactic(auto, unfolding(crate::specs::Logs::log_of))]
-fn log_of(alloc: Global, payload: &[u8]) -> Result<TxnFile, FileFault>
-    ensures { Reads (λ x. x) result (log_of payload.now) }
+/// The lists of a log's table.
+#[tactic(auto, unfolding(crate::specs::Logs::lists_of))]
+fn lists_of(alloc: Global, table: &Table) -> Result<Touched, FileFault>
+    ensures { Reads (λ x. x) result (lists_of table.now) }
 {
-    let table = Table::root(payload)?;
-    let id = id12_of(&table, 0)?;
-    let new_groups = ids_of(alloc, &table, 1)?;
-    let new_arrays = ids_of(alloc, &table, 2)?;
-    let deleted_groups = ids_of(alloc, &table, 3)?;
-    let deleted_arrays = ids_of(alloc, &table, 4)?;
-    let updated_arrays = ids_of(alloc, &table, 5)?;
-    let updated_groups = ids_of(alloc, &table, 6)?;
-    let updated_chunks = arrays_of(alloc, &table)?;
-    Ok(TxnFile {
-        id,
+    let new_groups = ids_of(alloc, table, 1)?;
+    let new_arrays = ids_of(alloc, table, 2)?;
+    let deleted_groups = ids_of(alloc, table, 3)?;
+    let deleted_arrays = ids_of(alloc, table, 4)?;
+    let updated_arrays = ids_of(alloc, table, 5)?;
+    let updated_groups = ids_of(alloc, table, 6)?;
+    let updated_chunks = arrays_of(alloc, table)?;
+    Ok(Touched {
         new_groups,
         new_arrays,
         deleted_groups,
@@ -150,6 +147,17 @@ fn log_of(alloc: Global, payload: &[u8]) -> Result<TxnFile, FileFault>
         updated_groups,
         updated_chunks,
     })
+}
+
+/// What a payload says.
+#[tactic(auto, unfolding(crate::specs::Logs::log_of))]
+fn log_of(alloc: Global, payload: &[u8]) -> Result<TxnFile, FileFault>
+    ensures { Reads (λ x. x) result (log_of payload.now) }
+{
+    let table = Table::root(payload)?;
+    let id = id12_of(&table, 0)?;
+    let lists = lists_of(alloc, &table)?;
+    Ok(TxnFile { id, lists })
 }
 
 /// Reads the file of a transaction log: the value that the file stands for, or its first fault. The faults of the file

@@ -12,8 +12,8 @@ use file_fields::{id8_bytes, id8_slot, id12_slot, index_slot};
 use flat_tables::{Flat, Kind, Slot, WriteFault, flat_write, header_write};
 use ice_items::Items;
 use std::alloc::{AllocError, Global};
-use tree_model::{ArrayChunks, Ids};
 use zarr_path::Index;
+use zarr_tree::{ArrayChunks, Ids};
 
 /// A list of ids.
 fn ids_slot(alloc: Global, ids: &Ids) -> Result<Slot, AllocError>
@@ -90,15 +90,16 @@ fn log_table(alloc: Global, log: &TxnFile) -> Result<Flat, AllocError>
     ensures writable { IfOk result (λ f. IsTrue (is_writable f)) }
     ensures sized { OnOk result (IsLog log.now) }
 {
+    let lists = &log.lists;
     let slots = [
         id12_slot(alloc, &log.id)?,
-        ids_slot(alloc, &log.new_groups)?,
-        ids_slot(alloc, &log.new_arrays)?,
-        ids_slot(alloc, &log.deleted_groups)?,
-        ids_slot(alloc, &log.deleted_arrays)?,
-        ids_slot(alloc, &log.updated_arrays)?,
-        ids_slot(alloc, &log.updated_groups)?,
-        arrays_slot(alloc, &log.updated_chunks)?,
+        ids_slot(alloc, &lists.new_groups)?,
+        ids_slot(alloc, &lists.new_arrays)?,
+        ids_slot(alloc, &lists.deleted_groups)?,
+        ids_slot(alloc, &lists.deleted_arrays)?,
+        ids_slot(alloc, &lists.updated_arrays)?,
+        ids_slot(alloc, &lists.updated_groups)?,
+        arrays_slot(alloc, &lists.updated_chunks)?,
     ];
     Ok(Flat {
         slots: Vec::from_array(alloc, slots)?,

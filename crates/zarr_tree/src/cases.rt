@@ -1,4 +1,6 @@
-//! The kinds of conflicts.
+//! Conflicts, and their kinds.
+
+use zarr_path::{Index, Path};
 
 /// How changes conflict with a later commit, by the names of Icechunk's conflict detector.
 #[derive(Clone, Copy, Debug, PartialEq, Eq)]
@@ -23,4 +25,15 @@ pub enum Case {
     DeleteOfUpdatedArray,
     /// A group is dropped whose metadata was changed, or beneath which a node was added.
     DeleteOfUpdatedGroup,
+}
+
+/// A conflict of changes with a later commit.
+#[derive(Debug, Drop)]
+pub struct Conflict {
+    /// How they conflict.
+    pub case: Case,
+    /// The node's path in the tree before the later commit, or that of an added node.
+    pub path: Path,
+    /// The chunk, where both sides wrote one.
+    pub index: Option<Index>,
 }

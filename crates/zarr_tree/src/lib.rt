@@ -9,7 +9,7 @@ mod laws;
 mod lists;
 mod nodes;
 
-pub use cases::Case;
+pub use cases::{Case, Conflict};
 pub use edit::{EditFault, Frozen, MOST_NODES};
 pub use laws::{
     change_law, commute_law, differs_law, empty_law, grid_law, none_law, normal_law, ordered_law,

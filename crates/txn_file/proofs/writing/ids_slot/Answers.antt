@@ -1,6 +1,7 @@
 use Rattle.std.proofs.Common.{◌≡◌, ◌++◌, ap, ◌∙◌, arith, lit<, refl, [], get_or}
 use Rattle.flat_tables.proofs.Building.{no_bytes, one_more_item, structs_writable}
-use Rattle.file_fields.specs.Fields.{id_key, IsId8}
+use Rattle.ice_ids.specs.Text.{IsId8}
+use Rattle.file_fields.specs.Fields.{id_key}
 use Rattle.txn_file.specs.Layout.{ids_part}
 use Rattle.file_fields.proofs.BuildingLaws.{element_is, all_more, all_taken, structs_of}
 use Rattle.txn_file.proofs.writing.ids_slot.Goals as goal
@@ -17,7 +18,7 @@ loop-id-preserved c =
     let grown : c.extend_from_slice.new.self.items ≡ c.loop-id.bytes.items ++ id_key id = c.in_ok-extend_from_slice.ensures.items ∙ ap (λ bytes. c.loop-id.bytes.items ++ bytes) c.id8_bytes.ensures.bytes in
     record {
       built = one_more_item id_key (λ x. x) 8 ids i id c.loop-id.bytes.items c.extend_from_slice.new.self.items c.loop-id-test.true is c.loop-id.invariant.built grown c.id8_bytes.ensures.sized;
-      sized = all_more IsId8 ids i id c.loop-id-test.true is c.loop-id.invariant.sized c.id8_bytes.ensures.sized;
+      sized = all_more IsId8 ids i id c.loop-id-test.true is c.loop-id.invariant.sized c.id8_bytes.ensures.id;
     }
 
 pub returns-clause-part : goal.returns-clause-part

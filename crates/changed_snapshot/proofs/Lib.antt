@@ -1,0 +1,9 @@
+pub mod Found
+pub mod NodesHold
+pub mod TreeHolds
+pub mod Keeping
+pub mod Orders
+pub mod Named
+pub mod Proper
+pub mod IdSets
+pub mod Halves

@@ -1,0 +1,4 @@
+pub mod inside
+pub mod Rows
+pub mod Laws
+pub mod Written

@@ -1,0 +1,58 @@
+-- The snapshot that a commit writes: its base's rows under changes on nodes. (Icechunk specification version 1, "Snapshots";
+-- that a row's slots beside its manifests are written from its text is own.)
+use Rattle.std.specs.Prelude.{ℕ, Bool, ◌&&◌, if◌then◌else◌, List, [], map, zip, Option, Some, None}
+use Rattle.std.specs.List.{filter, list_any}
+use Rattle.std.specs.Str.{bytes_eq}
+use Rattle.std.specs.FinMap.{entries}
+use Rattle.ice_ids.specs.declared.Id8.{Id8}
+use Rattle.ice_ids.specs.declared.Id12.{Id12}
+use Rattle.ice_ids.specs.Text.{same_id8, same_id12}
+use Rattle.zarr_meta.specs.declared.views.ArrayView.{ArrayView}
+use Rattle.zarr_tree.specs.Nodes.{Node, array_in}
+use Rattle.zarr_tree.specs.Held.{Held, nodes_over}
+use Rattle.snapshot_file.specs.declared.nodes.ManifestRef.{ManifestRef}
+use Rattle.snapshot_file.specs.declared.nodes.NodeKind.{NodeKind}
+use Rattle.snapshot_file.specs.declared.nodes.NodeKind.TheVariants.{Group, Array}
+use Rattle.snapshot_file.specs.declared.nodes.NodeRow.{NodeRow}
+use Rattle.snapshot_file.specs.declared.snapshot.ManifestInfo.{ManifestInfo}
+use Rattle.snapshot_file.specs.declared.snapshot.SnapshotFile.{SnapshotFile}
+use Rattle.repo_objects.specs.Trees.{nodes_in, row_at, manifests_of}
+use Rattle.changed_snapshot.specs.declared.written.Stamp.{Stamp}
+
+-- what a row says of a node whose text says this, and whose chunks these manifests have
+abbrev pub kind_of : Option ArrayView → List ManifestRef → NodeKind
+kind_of None manifests = Group
+kind_of (Some array) manifests = Array (zip array.shape array.chunks) array.names manifests
+
+-- a row of a node, which keeps these manifests
+abbrev pub row_of : (path : List ℕ) → Node → List ManifestRef → NodeRow
+row_of p n manifests = record { id = n.id; path = p; user_data = n.text; kind = kind_of (array_in n.text) manifests }
+
+-- the base's own row, where it is that of the same node: as it is where the text is the same, and else with the new text
+abbrev pub row_from : (path : List ℕ) → Node → Option NodeRow → NodeRow
+row_from p n None = row_of p n []
+row_from p n (Some row) =
+    if same_id8 row.id n.id then (if bytes_eq row.user_data n.text then row else row_of p n (manifests_of row.kind)) else row_of p n []
+
+-- the rows of a tree's nodes under what is held
+unfoldable pub rows_over : {P : Type 0} → Held P → List NodeRow → List NodeRow
+rows_over h rows = map (λ entry. row_from entry.0 entry.1 (row_at rows entry.0)) (entries (nodes_over h (nodes_in rows)))
+
+-- whether rows name a manifest
+abbrev pub names_in : List NodeRow → Id12 → Bool
+names_in rows id = list_any (λ row. list_any (λ manifest. same_id12 manifest.id id) (manifests_of row.kind)) rows
+
+-- the manifests that are still named
+abbrev pub files_over : List ManifestInfo → List NodeRow → List ManifestInfo
+files_over files rows = filter (λ file. names_in rows file.id) files
+
+-- the snapshot of a base's rows and manifests under what is held
+abbrev pub snapshot_over : {P : Type 0} → Held P → List NodeRow → List ManifestInfo → Stamp → (message : List ℕ) → SnapshotFile
+snapshot_over h rows files stamp message = record {
+  id = stamp.id;
+  parent = Some stamp.parent;
+  nodes = rows_over h rows;
+  flushed_at = stamp.flushed_at;
+  message = message;
+  manifest_files = files_over files (rows_over h rows);
+}

@@ -1,0 +1,152 @@
+//! The rows of a snapshot under changes.
+
+ghost use Rattle.std.specs.Prelude.{◌≡◌, Some, None, IfOk, IsTrue, option_copied};
+ghost use Rattle.std.specs.List.{zip};
+ghost use Rattle.zarr_path.specs.Paths.{path_cmp, is_path};
+ghost use Rattle.zarr_tree.specs.Nodes.{array_of_view};
+ghost use Rattle.zarr_tree.specs.Rows.{node_found};
+ghost use Rattle.flat_tables.specs.Rows.{Ascends};
+ghost use Rattle.snapshot_file.specs.Snapshots.{node_key};
+ghost use Rattle.repo_objects.specs.Trees.{manifests_of, row_at};
+ghost use Rattle.changed_snapshot.specs.Rows.{kind_of, row_of, row_from, rows_over};
+
+use ice_items::Items;
+use repo_objects::Loaded;
+use snapshot_file::{ManifestRef, NodeKind, NodeRow, Shape, copy_manifests, copy_names};
+use std::alloc::{AllocError, Global};
+use std::cmp::Ordering;
+use zarr_changes::ChangeSet;
+use zarr_meta::{ArrayView, View};
+use zarr_path::Path;
+use zarr_tree::Found;
+
+/// The manifests that a row names.
+pub(crate) fn manifests_of(kind: &NodeKind) -> &[ManifestRef]
+    ensures { result.now ≡ manifests_of kind.now }
+{
+    match kind {
+        NodeKind::Group => &[],
+        NodeKind::Array { manifests, .. } => manifests.as_slice(),
+    }
+}
+
+/// Lengths of dimensions, each with that of a chunk.
+fn shape_of(alloc: Global, lengths: &[u64], chunks: &[u64]) -> Result<Shape, AllocError>
+    ensures { IfOk result (λ shape. shape ≡ zip lengths.now chunks.now) }
+{
+    let mut shape = Vec::with_capacity(alloc, lengths.len())?;
+    for (length, chunk) in lengths.iter().zip(chunks) {
+        shape.push((*length, *chunk))?;
+    }
+    Ok(Items::from_vec(shape))
+}
+
+/// What a row says of a node with this metadata, and with these manifests.
+fn kind_of(alloc: Global, view: &View, manifests: &[ManifestRef]) -> Result<NodeKind, AllocError>
+    ensures { IfOk result (λ kind. kind ≡ kind_of (array_of_view (Some view.now)) manifests.now) }
+{
+    match view {
+        View::Group => Ok(NodeKind::Group),
+        View::Array(array) => Ok(NodeKind::Array {
+            shape: shape_of(alloc, array.shape.as_slice(), array.chunks.as_slice())?,
+            names: copy_names(alloc, &array.names)?,
+            manifests: copy_manifests(alloc, manifests)?,
+        }),
+    }
+}
+
+/// A row of a node at a path, which keeps these manifests.
+fn row_of(
+    alloc: Global,
+    path: Path,
+    found: &Found,
+    manifests: &[ManifestRef],
+) -> Result<NodeRow, AllocError>
+    ensures { IfOk result (λ row. row ≡ row_of path (node_found found.now) manifests.now) }
+{
+    Ok(NodeRow {
+        id: found.id,
+        path,
+        user_data: found.meta.text.copy(alloc)?,
+        kind: kind_of(alloc, &found.meta.view, manifests)?,
+    })
+}
+
+/// The row of a node at a path, where the base has this one there.
+fn row_from(
+    alloc: Global,
+    path: Path,
+    found: &Found,
+    old: Option<&NodeRow>,
+) -> Result<NodeRow, AllocError>
+    ensures { IfOk result (λ row. row ≡ row_from path (node_found found.now) (option_copied old.entry)) }
+{
+    let Some(old) = old else {
+        return row_of(alloc, path, found, &[]);
+    };
+    if old.id != found.id {
+        return row_of(alloc, path, found, &[]);
+    }
+    if old.user_data.as_slice() == found.meta.text.as_slice() {
+        return old.copy(alloc);
+    }
+    row_of(alloc, path, found, manifests_of(&old.kind))
+}
+
+/// How a row's path compares with another.
+fn compare(row: &NodeRow, path: &str) -> Ordering
+    ensures { result ≡ path_cmp row.now.path path.now }
+{
+    row.path.as_str().cmp(path)
+}
+
+/// The row at a path, found by halves.
+fn row_at<'a>(rows: &'a [NodeRow], path: &str) -> Option<&'a NodeRow>
+    requires { Ascends node_key None rows.now }
+    ensures { option_copied result ≡ row_at rows.now path.now }
+{
+    match rows.binary_search_by(|row| compare(row, path)) {
+        Ok(at) => Some(&rows[at]),
+        Err(_) => None,
+    }
+}
+
+/// The path of this text.
+fn path_of(alloc: Global, text: &str) -> Result<Path, AllocError>
+    requires { IsTrue (is_path text.now) }
+    ensures { IfOk result (λ path. path ≡ text.now) }
+{
+    Path::read(alloc, text).map_err(|_| AllocError)
+}
+
+/// The row of a node at a path, over the rows of a base.
+fn row_over(
+    alloc: Global,
+    old: &[NodeRow],
+    path: &str,
+    found: &Found,
+) -> Result<NodeRow, AllocError>
+    requires ascend { Ascends node_key None old.now }
+    requires path { IsTrue (is_path path.now) }
+    ensures { IfOk result (λ row. row ≡ row_from path.now (node_found found.now) (row_at old.now path.now)) }
+{
+    row_from(alloc, path_of(alloc, path)?, found, row_at(old, path))
+}
+
+/// The rows of a base's nodes under changes.
+#[tactic(auto, unfolding(crate::specs::Rows::rows_over))]
+pub(crate) fn rows_over(
+    alloc: Global,
+    base: &Loaded,
+    changes: &ChangeSet,
+) -> Result<Items<NodeRow>, AllocError>
+    ensures { IfOk result (λ rows. rows ≡ rows_over changes.now base.now.nodes) }
+{
+    let old = base.file().nodes.as_slice();
+    let mut left = changes.over(base);
+    let mut rows = Vec::with_capacity(alloc, old.len())?;
+    while let Some((path, found)) = left.next() {
+        rows.push(row_over(alloc, old, path, &found)?)?;
+    }
+    Ok(Items::from_vec(rows))
+}

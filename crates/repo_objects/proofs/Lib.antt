@@ -1,0 +1,5 @@
+pub mod Steps
+pub mod Refs
+pub mod Metas
+pub mod Rows
+pub mod Again
