@@ -5,14 +5,13 @@ use Rattle.std.specs.FinMap.{get}
 use Rattle.zarr_tree.specs.Nodes.{Node, SameFrozen}
 use Rattle.zarr_tree.specs.Trees.{Tree}
 use Rattle.zarr_tree.specs.Touched.{lists}
-use Rattle.zarr_tree.specs.Changes.{Changes, is_gone, patched, apply, IsNormal, IsOver}
-use Rattle.zarr_tree.specs.Held.{Held, meta_in, changes_of, nodes_over}
-use Rattle.zarr_tree.proofs.Maps.{Path}
+use Rattle.zarr_tree.specs.Changes.{Changes, patched, IsNormal, IsOver}
+use Rattle.zarr_tree.specs.Held.{Held, meta_in, changes_of}
 use Rattle.zarr_tree.proofs.NodeLaws.{frozen-refl}
 use Rattle.zarr_tree.proofs.Apply.{Gone, gone-elim, Own, node_cases}
 use Rattle.manifest_file.specs.declared.manifest.Place.{Place}
 use Rattle.snapshot_file.specs.declared.nodes.NodeRow.{NodeRow}
-use Rattle.repo_objects.specs.Trees.{Puts, bytes_at, nodes_in, tree_under}
+use Rattle.repo_objects.specs.Trees.{Puts, bytes_at, tree_under}
 use Rattle.changed_snapshot.specs.Laws.{KeepsFrozen, FrozenLaw}
 
 -- a node with the text that these entries tell, or its own

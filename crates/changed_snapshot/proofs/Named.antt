@@ -1,16 +1,15 @@
 -- All that the rows under changes name is still listed.
-use Rattle.std.proofs.Common.{◌≡◌, ◌∙◌, ℕ, ◌+◌, Bool, true, false, cond, not, ◌&&◌, ◌||◌, List, [], ◌∷◌, length, Option, Some, None, refl, sym, ap}
+use Rattle.std.proofs.Common.{◌≡◌, ◌∙◌, ℕ, ◌+◌, Bool, true, false, cond, not, ◌||◌, List, [], ◌∷◌, Option, Some, None, refl, sym, ap}
 use Rattle.std.specs.Prelude.{position}
 use Rattle.std.specs.List.{list_any, list_all, filter, position_from, AllByRecursion}
 use Rattle.std.specs.Str.{bytes_eq}
-use Rattle.std.specs.FinMap.{get}
 use Rattle.std.proofs.lemmas.Iterator.Adapters.{position_from-zero}
 use Rattle.ice_ids.specs.declared.Id12.{Id12}
 use Rattle.ice_ids.specs.Text.{same_id8, same_id12}
 use Rattle.ice_ids.proofs.TextLaws.{same_id12-true, same_id12-self}
 use Rattle.zarr_meta.specs.declared.views.ArrayView.{ArrayView}
 use Rattle.zarr_tree.specs.Nodes.{Node, array_in}
-use Rattle.zarr_tree.specs.Held.{Held, nodes_over}
+use Rattle.zarr_tree.specs.Held.{Held}
 use Rattle.zarr_tree.proofs.Maps.{Path}
 use Rattle.zarr_tree.proofs.Apply.{both, first, second}
 use Rattle.snapshot_file.specs.declared.nodes.ManifestRef.{ManifestRef}

@@ -30,13 +30,13 @@ use Rattle.snapshot_file.specs.declared.nodes.NodeRow.{NodeRow}
 use Rattle.snapshot_file.specs.declared.snapshot.ManifestInfo.{ManifestInfo}
 use Rattle.snapshot_file.specs.declared.snapshot.SnapshotFile.{SnapshotFile}
 use Rattle.snapshot_file.specs.Snapshots.{file_key}
-use Rattle.snapshot_file.specs.Layout.{IsNode, IsInfo, IsSnapshot, IsWritable}
+use Rattle.snapshot_file.specs.Layout.{IsNode, IsInfo, IsWritable}
 use Rattle.repo_objects.specs.declared.bad.Bad.{Bad}
 use Rattle.repo_objects.specs.declared.bad.Bad.TheVariants as bad
 use Rattle.repo_objects.specs.Readings.{kind_fault, row_fault, first_bad}
 use Rattle.repo_objects.specs.Trees.{node_of, nodes_in, row_at, manifests_of}
 use Rattle.changed_snapshot.specs.declared.written.Stamp.{Stamp}
-use Rattle.changed_snapshot.specs.Rows.{kind_of, row_of, row_from, names_in, rows_over, files_over, snapshot_over}
+use Rattle.changed_snapshot.specs.Rows.{kind_of, row_of, row_from, names_in, rows_over, snapshot_over}
 use Rattle.changed_snapshot.specs.Laws.{IsFineGroup, ProperLaw}
 use Rattle.changed_snapshot.proofs.Found.{all_over, row_has, node_at_row}
 use Rattle.changed_snapshot.proofs.Orders.{rows_ascend, rows_many, filter_ascends}

@@ -1,10 +1,9 @@
 -- Where no chunk is changed, the tree of the rows is the base's tree under the changes.
-use Rattle.std.proofs.Common.{◌≡◌, ◌∙◌, ℕ, eqb, eqb-true, Bool, true, false, cond, List, [], length, not, Option, Some, None, is_some, option_map, refl, sym, ap, subst}
+use Rattle.std.proofs.Common.{◌≡◌, ◌∙◌, ℕ, eqb, eqb-true, Bool, true, false, cond, List, [], length, not, Option, Some, None, is_some, option_map, refl, sym, ap}
 use Rattle.std.specs.Option.{option_and_then, unwrap_or}
 use Rattle.std.specs.Str.{bytes_eq}
 use Rattle.std.specs.FinMap.{get}
 use Rattle.std.proofs.lemmas.Slice.Eq.{bytes_eq-Decides}
-use Rattle.ice_ids.specs.declared.Id8.{Id8}
 use Rattle.ice_ids.specs.Text.{same_id8}
 use Rattle.ice_ids.proofs.TextLaws.{same_id8-true}
 use Rattle.zarr_meta.specs.declared.views.ArrayView.{ArrayView}
@@ -13,15 +12,13 @@ use Rattle.zarr_meta.specs.declared.views.View.TheVariants as view
 use Rattle.zarr_meta.specs.Meta.{view_in}
 use Rattle.zarr_tree.specs.declared.edit.Frozen.{Frozen}
 use Rattle.zarr_tree.specs.Nodes.{Node, SameFrozen, array_of_view, array_in, is_array, array_change, view_change}
-use Rattle.zarr_tree.specs.Trees.{Tree}
-use Rattle.zarr_tree.specs.Changes.{Changes, has_id, own_chunk, chunk_of, nodes_under, apply}
+use Rattle.zarr_tree.specs.Changes.{own_chunk, chunk_of, apply}
 use Rattle.zarr_tree.specs.Held.{Held, changes_of, entry_in, nodes_over}
 use Rattle.zarr_tree.proofs.Maps.{Path, Index}
 use Rattle.manifest_file.specs.declared.manifest.Place.{Place}
-use Rattle.held_manifest.specs.LookUp.{Listed, look_up, chunk_place}
-use Rattle.snapshot_file.specs.declared.nodes.ManifestRef.{ManifestRef}
+use Rattle.held_manifest.specs.LookUp.{look_up, chunk_place}
 use Rattle.snapshot_file.specs.declared.nodes.NodeRow.{NodeRow}
-use Rattle.repo_objects.specs.Trees.{Puts, bytes_at, node_of, nodes_in, row_at, manifests_of, listed, place_in, place_under, chunk_under, tree_under}
+use Rattle.repo_objects.specs.Trees.{Puts, bytes_at, node_of, nodes_in, row_at, manifests_of, listed, place_in, chunk_under, tree_under}
 use Rattle.changed_snapshot.specs.Rows.{kind_of, row_of, row_from, rows_over}
 use Rattle.changed_snapshot.specs.Laws.{KeepsFrozen, TreeLaw}
 use Rattle.changed_snapshot.proofs.Found.{row_over, node_at_row}

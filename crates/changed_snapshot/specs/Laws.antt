@@ -1,9 +1,9 @@
 -- What the snapshot of a base under changes stands for.
-use Rattle.std.specs.Prelude.{◌≡◌, ℕ, ◌<◌, ◌≤◌, ◌^◌, true, List, [], None, Some}
+use Rattle.std.specs.Prelude.{◌≡◌, ℕ, ◌<◌, ◌≤◌, ◌^◌, true, List, [], Some}
 use Rattle.std.specs.Str.{IsUtf8}
-use Rattle.std.specs.FinMap.{FinMap, get, len}
+use Rattle.std.specs.FinMap.{get, len}
 use Rattle.ice_ids.specs.Text.{IsId12, IsId8}
-use Rattle.zarr_path.specs.Paths.{path_cmp, is_path}
+use Rattle.zarr_path.specs.Paths.{is_path}
 use Rattle.zarr_tree.specs.Nodes.{Node, SameFrozen, is_group}
 use Rattle.zarr_tree.specs.Changes.{apply, IsNormal, IsOver}
 use Rattle.zarr_tree.specs.Edits.{most_nodes}

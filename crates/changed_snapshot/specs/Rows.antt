@@ -1,10 +1,9 @@
 -- The snapshot that a commit writes: its base's rows under changes on nodes. (Icechunk specification version 1, "Snapshots";
 -- that a row's slots beside its manifests are written from its text is own.)
-use Rattle.std.specs.Prelude.{ℕ, Bool, ◌&&◌, if◌then◌else◌, List, [], map, zip, Option, Some, None}
+use Rattle.std.specs.Prelude.{ℕ, Bool, if◌then◌else◌, List, [], map, zip, Option, Some, None}
 use Rattle.std.specs.List.{filter, list_any}
 use Rattle.std.specs.Str.{bytes_eq}
 use Rattle.std.specs.FinMap.{entries}
-use Rattle.ice_ids.specs.declared.Id8.{Id8}
 use Rattle.ice_ids.specs.declared.Id12.{Id12}
 use Rattle.ice_ids.specs.Text.{same_id8, same_id12}
 use Rattle.zarr_meta.specs.declared.views.ArrayView.{ArrayView}

@@ -1,6 +1,5 @@
 use Rattle.std.proofs.Common.{◌≡◌, ◌∙◌, ◌+◌, ◌∷◌, ◌||◌, drop, ap, sym}
 use Rattle.std.proofs.lemmas.List.{drop_more}
-use Rattle.ice_ids.specs.declared.Id12.{Id12}
 use Rattle.snapshot_file.specs.declared.nodes.ManifestRef.{ManifestRef}
 use Rattle.changed_snapshot.specs.inside.Named.{has_id, have_id}
 use Rattle.changed_snapshot.proofs.IdSets.{next_id}

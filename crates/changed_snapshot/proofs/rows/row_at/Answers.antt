@@ -1,8 +1,8 @@
-use Rattle.std.proofs.Common.{rules, of_calls, ◌≡◌, ◌∙◌, Some, Ok, Err, sym, ap}
+use Rattle.std.proofs.Common.{rules, of_calls, ◌∙◌, Some, Ok, Err, sym, ap}
 use Rattle.std.proofs.lemmas.Fn.{always_returns_same}
 use Rattle.zarr_path.specs.Paths.{path_cmp}
 use Rattle.snapshot_file.specs.declared.nodes.NodeRow.{NodeRow}
-use Rattle.changed_snapshot.proofs.Halves.{IsFound, searched}
+use Rattle.changed_snapshot.proofs.Halves.{searched}
 use Rattle.changed_snapshot.proofs.rows.row_at.Goals as goal
 
 -- the closure compares a row's path
