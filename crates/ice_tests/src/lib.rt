@@ -7,15 +7,11 @@ mod ends;
 #[cfg(test)]
 mod grids;
 #[cfg(test)]
-mod held;
-#[cfg(test)]
 mod memory;
 #[cfg(test)]
 mod reports;
 #[cfg(test)]
 mod run;
-#[cfg(test)]
-mod shared;
 #[cfg(test)]
 mod shelf;
 #[cfg(test)]

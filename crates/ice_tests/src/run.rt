@@ -3,9 +3,10 @@
 use ice_base::{ByteSink, ByteSource, TickClock};
 use ice_ids::Draw;
 use mem_store::{FaultStore, MemStore};
+use play_script::ScriptKind;
 use std::alloc::Global;
 use std::test::Fail;
-use top_call::{Word, run, words_of};
+use top_call::{Status, UsageFault, Word, run, words_of};
 
 /// Which reads of the input, writes of the output and calls of the store fail; a call of the store may be done all the same.
 #[derive(Clone, Copy)]
@@ -30,13 +31,13 @@ fn words(alloc: Global, said: &[&str]) -> Result<Vec<Word>, Fail> {
     Ok(words_of(alloc, texts.into_iter())?)
 }
 
-/// What a run writes, its status, and the line on standard error.
+/// What a run writes, and its status.
 fn ran(
     alloc: Global,
     said: &[&str],
     script: &str,
     failing: Failing<'_>,
-) -> Result<(String, u8, String), Fail> {
+) -> Result<(String, Status), Fail> {
     let words = words(alloc, said)?;
     let script = script.as_bytes().to_vec(alloc)?;
     let mut input = ByteSource::new(script, failing.reads.to_vec(alloc)?);
@@ -45,16 +46,14 @@ fn ran(
     let store = FaultStore::new(MemStore::new(alloc, TickClock::new()), calls);
     let ended = run(alloc, &words, Draw::Count, &mut input, store, &mut output);
     let report = String::from_utf8_lossy(alloc, output.written())?;
-    let line = ended.status.to_string(alloc)?;
-    Ok((report, ended.status.number(), line))
+    Ok((report, ended.status))
 }
 
-/// A script, and the report, the status and the line on standard error that it should have.
+/// A script, and the report and the status that it should have.
 struct Row {
     script: &'static str,
     report: &'static str,
-    status: u8,
-    line: &'static str,
+    status: Status,
 }
 
 const SMALLEST_COMMIT: &str = "task a write main 0 fail\ngroup /\ncommit first\n";
@@ -65,14 +64,12 @@ const ROWS: [Row; 7] = [
     Row {
         script: "",
         report: "branch main 1CECHNKREP0F1RSTCMT0\n",
-        status: 0,
-        line: "",
+        status: Status::Ok,
     },
     Row {
         script: SMALLEST_COMMIT,
         report: "a committed 0000008000000000000G\nbranch main 0000008000000000000G\n",
-        status: 0,
-        line: "",
+        status: Status::Ok,
     },
     // The groups that stand already and those of the session itself are shown; a listing without nodes shows none.
     Row {
@@ -84,8 +81,7 @@ const ROWS: [Row; 7] = [
             a committed 0000008000000000001G\n\
             r 10 list group /b/c\nr done\n\
             branch main 0000008000000000001G\n",
-        status: 0,
-        line: "",
+        status: Status::Ok,
     },
     // A task shows what it came to before the line that is refused.
     Row {
@@ -93,8 +89,7 @@ const ROWS: [Row; 7] = [
             group /\ngroup /b\nlist /\ngroup /c/d\ncommit x\n",
         report: "a 4 list group /b\na refused 5 noparent\n\
             branch main 1CECHNKREP0F1RSTCMT0\n",
-        status: 1,
-        line: "",
+        status: Status::Refused,
     },
     // Both tasks read the same version before one commits: the other's commit is refused, and what the first made stands.
     Row {
@@ -105,8 +100,7 @@ const ROWS: [Row; 7] = [
             b refused 8 conflict 1 8\n\
             r 10 list group /a\nr done\n\
             branch main 00000080000000000010\n",
-        status: 1,
-        line: "",
+        status: Status::Refused,
     },
     // Between the two gets of an opening another task commits: the session reads what its branch named at the first.
     Row {
@@ -117,24 +111,24 @@ const ROWS: [Row; 7] = [
             b committed 000000G000000000000G\n\
             r done\n\
             branch main 000000G000000000000G\n",
-        status: 0,
-        line: "",
+        status: Status::Ok,
     },
     Row {
         script: "task a write main 0 fail\ngroup /\ngroop /b\ncommit x\n",
         report: "",
-        status: 3,
-        line: "icerepo: script line 3: unbuilt",
+        status: Status::Script {
+            line: 3,
+            kind: ScriptKind::Unbuilt,
+        },
     },
 ];
 
 #[test]
 fn scripts(rt: HostRuntime) -> Result<(), Fail> {
     for row in &ROWS {
-        let (report, status, line) = ran(rt.alloc(), &["play"], row.script, NOTHING_FAILS)?;
+        let (report, status) = ran(rt.alloc(), &["play"], row.script, NOTHING_FAILS)?;
         assert_eq!(rt; report.as_str(), row.report, "{}", row.script);
         assert_eq!(rt; status, row.status, "{}", row.script);
-        assert_eq!(rt; line.as_str(), row.line, "{}", row.script);
     }
     Ok(())
 }
@@ -143,8 +137,7 @@ fn scripts(rt: HostRuntime) -> Result<(), Fail> {
 struct FailingRow {
     failing: Failing<'static>,
     report: &'static str,
-    status: u8,
-    line: &'static str,
+    status: Status,
 }
 
 const FAILING_ROWS: [FailingRow; 4] = [
@@ -154,8 +147,7 @@ const FAILING_ROWS: [FailingRow; 4] = [
             ..NOTHING_FAILS
         },
         report: "",
-        status: 4,
-        line: "icerepo: read fault",
+        status: Status::ReadFault,
     },
     FailingRow {
         failing: Failing {
@@ -163,8 +155,7 @@ const FAILING_ROWS: [FailingRow; 4] = [
             ..NOTHING_FAILS
         },
         report: "",
-        status: 5,
-        line: "icerepo: write fault",
+        status: Status::WriteFault,
     },
     // The opening of the session fails.
     FailingRow {
@@ -173,8 +164,7 @@ const FAILING_ROWS: [FailingRow; 4] = [
             ..NOTHING_FAILS
         },
         report: "a refused 1 storefault\nbranch main 1CECHNKREP0F1RSTCMT0\n",
-        status: 6,
-        line: "icerepo: store fault",
+        status: Status::StoreFault,
     },
     // The put of the branch was done, and its answer was lost.
     FailingRow {
@@ -183,30 +173,32 @@ const FAILING_ROWS: [FailingRow; 4] = [
             ..NOTHING_FAILS
         },
         report: "a refused 3 storefault\nbranch main 0000008000000000000G\n",
-        status: 6,
-        line: "icerepo: store fault",
+        status: Status::StoreFault,
     },
 ];
 
 #[test]
 fn ends_that_fail(rt: HostRuntime) -> Result<(), Fail> {
     for row in &FAILING_ROWS {
-        let (report, status, line) = ran(rt.alloc(), &["play"], SMALLEST_COMMIT, row.failing)?;
-        assert_eq!(rt; report.as_str(), row.report, "{}", row.line);
-        assert_eq!(rt; status, row.status, "{}", row.line);
-        assert_eq!(rt; line.as_str(), row.line);
+        let (report, status) = ran(rt.alloc(), &["play"], SMALLEST_COMMIT, row.failing)?;
+        assert_eq!(rt; report.as_str(), row.report);
+        assert_eq!(rt; status, row.status);
     }
     Ok(())
 }
 
 #[test]
 fn wrong_words(rt: HostRuntime) -> Result<(), Fail> {
-    let cases: [&[&str]; 4] = [&[], &["Play"], &["pla", "--dir"], &["play", ""]];
-    for said in cases {
-        let (report, status, line) = ran(rt.alloc(), said, SMALLEST_COMMIT, NOTHING_FAILS)?;
+    let cases: [(&[&str], UsageFault); 4] = [
+        (&[], UsageFault::NoCommand),
+        (&["Play"], UsageFault::Unknown),
+        (&["pla", "--dir"], UsageFault::Unknown),
+        (&["play", ""], UsageFault::Words),
+    ];
+    for (said, fault) in cases {
+        let (report, status) = ran(rt.alloc(), said, SMALLEST_COMMIT, NOTHING_FAILS)?;
         assert_eq!(rt; report.as_str(), "");
-        assert_eq!(rt; status, 2, "{said:?}");
-        assert_eq!(rt; line.as_str(), "icerepo: usage");
+        assert_eq!(rt; status, Status::Usage(fault));
     }
     Ok(())
 }
