@@ -160,8 +160,8 @@ rm "$room/refuses"
 true >"$room/slow"
 for it in INT:130 TERM:143 HUP:129; do
     rm -f "$room/child"
-    # (by a program that has no signal ignored, as sh has SIGINT in what it starts beside it)
-    env --default-signal=INT "$top/icerepo" </dev/null >/dev/null 2>&1 &
+    # (by a program that has no signal ignored, as sh has SIGINT in what it starts beside it, and nohup SIGHUP)
+    env --default-signal=INT,HUP "$top/icerepo" </dev/null >/dev/null 2>&1 &
     tries=0
     while [ ! -s "$room/child" ] && [ "$tries" -lt 100 ]; do
         sleep 0.05
