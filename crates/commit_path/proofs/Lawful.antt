@@ -1,7 +1,7 @@
 -- The laws of openings and commits.
 use Rattle.std.proofs.Common.{◌≡◌, refl, List, ◌++◌, Result, Ok, Err}
 use Rattle.std.specs.Prelude.{IfOk}
-use Rattle.ice_ids.proofs.Drawn.{drawn8-IsId8, drawn12-IsId12}
+use Rattle.ice_ids.proofs.Drawn.{drawn12-IsId12}
 use Rattle.store_api.specs.declared.events.Event.{Event}
 use Rattle.store_api.specs.declared.machines.Refusal.{Refusal}
 use Rattle.store_api.specs.Journal.{Each}
@@ -15,8 +15,10 @@ use Rattle.commit_path.specs.Answered.{ChangedNothing}
 use Rattle.commit_path.specs.Opened.{OpeningTells}
 use Rattle.commit_path.specs.Spelled.{IsSpelled}
 use Rattle.commit_path.specs.Laws.{OpeningLaw, SessionLaw, CommitLaw, AnswersLaw}
-use Rattle.commit_path.proofs.Owing.{Spellings, IsOpened-append, commit-careful}
-use Rattle.commit_path.proofs.Opened.{Opens, open-careful, open-leads, group-added, group-opened, group-spelled, start-started, started-opened, started-spelled}
+use Rattle.commit_path.proofs.Spelling.{Spellings}
+use Rattle.commit_path.proofs.Adding.{group-added, added-spelled, added-opened}
+use Rattle.commit_path.proofs.Owing.{IsOpened-append, commit-careful}
+use Rattle.commit_path.proofs.Opened.{Opens, open-careful, open-leads, start-started, started-opened, started-spelled, started-short}
 use Rattle.commit_path.proofs.Answering.{ChangedNothing-others, CommitTells-others, commit-told}
 use Rattle.commit_path.proofs.Staying.{open-stays, commit-stays}
 use Rattle.commit_path.proofs.Reading.{GetsTell, Leads-both, WasBegun-append, RefusalTells-others, open-told}
@@ -36,9 +38,9 @@ opening-law L by a start journal c = (open-careful by (λ t id. ⊥) a journal, 
 
 pub session-law : SessionLaw
 session-law = record {
-  edited = λ s t path id journal is_a text e w o.
-      let a = group-added s t path id e in
-      (group-spelled s t path id a (record { id = drawn8-IsId8 s.ids id a.drawn; path = is_a; text = text }) w, group-opened s t path id journal a o);
+  edited = λ s t path text id journal is_a utf8 e w o.
+      let a = group-added s t path text id e in
+      (added-spelled s t path text id a is_a utf8 w, added-opened s t path text id a journal o);
   kept = IsOpened-append;
 }
 
@@ -49,7 +51,8 @@ commit-law L by s t message id start journal e m w o c =
     let is_id = drawn12-IsId12 s.ids id a.drawn in
     let w' = started-spelled s t id a w in
     let o' = started-opened s t id journal a o in
-    (commit-careful L by mine t message id (refl, refl) is_id w' m journal o', commit-stays by start t message id journal c, commit-told L by t message id is_id w' m start journal o' c)
+    let logs = started-short s t id a in
+    (commit-careful L by mine t message id (refl, refl) is_id w' m logs journal o', commit-stays by start t message id journal c, commit-told L by t message id is_id w' m logs start journal o' c)
 
 OpeningTells-others : (by : Caller) (a : Asked) (answer : Result SessionState Refusal) (start journal more : List Event) → Each (IsOther by) journal more → OpeningTells by.number a start answer journal → OpeningTells by.number a start answer (journal ++ more)
 OpeningTells-others by a (Ok s) start journal more others t = (WasBegun-append by.number a s start journal more t.0, IsOpened-append s journal more (good-waits by journal more others) t.1, ChangedNothing-others by start journal more others t.2)

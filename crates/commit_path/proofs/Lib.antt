@@ -1,5 +1,7 @@
-pub mod Rows
+pub mod Named
+pub mod Spelling
 pub mod Telling
+pub mod Adding
 pub mod Owing
 pub mod Opened
 pub mod Answering

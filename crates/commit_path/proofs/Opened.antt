@@ -1,73 +1,123 @@
--- What an opening keeps, and what a session knows that was opened and edited.
-use Rattle.std.proofs.Common.{◌≡◌, ℕ, true, false, List, ◌++◌, refl, sym, ◌∙◌, ap, subst, Bool}
-use Rattle.std.specs.Prelude.{Option, Some, None, option_map, Result, Ok, Err}
-use Rattle.ice_ids.specs.declared.Id8.{Id8}
+-- What an opening keeps, what a session knows that was opened, and what it knows when a commit begins.
+use Rattle.std.proofs.Common.{◌≡◌, ℕ, ◌+◌, ◌≤◌, Bool, true, false, cond, List, [], ◌∷◌, ◌++◌, map, length, refl, sym, ◌∙◌, ap, subst, arith}
+use Rattle.std.specs.Prelude.{Option, Some, None, option_map, Result, Ok, Err, if◌then◌else◌}
+use Rattle.std.specs.Option.{option_or}
+use Rattle.std.specs.Result.{result_ok}
+use Rattle.std.specs.FinMap.{FinMap, get, len, contains_key, from_entries, get-empty, len-empty, len-insert}
 use Rattle.ice_ids.specs.declared.Id12.{Id12}
 use Rattle.ice_ids.specs.Text.{IsId12}
-use Rattle.std.specs.Prelude.{if◌then◌else◌}
-use Rattle.ice_ids.specs.Drawing.{drawn8, after8, drawn12, after12}
-use Rattle.tree_model.specs.Touched.{touched, is_untouched}
-use Rattle.tree_model.specs.declared.edit.Edit.TheVariants.{Add}
-use Rattle.tree_model.specs.declared.edit.EditFault.{EditFault}
-use Rattle.tree_model.specs.Trees.{refusal}
-use Rattle.tree_model.specs.Changes.{extended}
-use Rattle.plain_object.specs.Objects.{Snapshot as Snap, snapshot_of, ref_of}
+use Rattle.ice_ids.specs.Drawing.{drawn12}
+use Rattle.flat_tables.specs.declared.header.Kind.TheVariants as kinds
+use Rattle.zarr_path.specs.Paths.{path_cmp}
+use Rattle.zarr_path.proofs.OrderLaws.{total}
+use Rattle.zarr_tree.specs.Nodes.{Node}
+use Rattle.zarr_tree.specs.Trees.{Tree}
+use Rattle.zarr_tree.specs.Edits.{most_nodes}
+use Rattle.zarr_tree.specs.Changes.{Changes, is_gone, patched}
+use Rattle.zarr_tree.specs.Touched.{is_untouched}
+use Rattle.zarr_tree.specs.Held.{changes_of, nodes_over, touched}
+use Rattle.zarr_tree.proofs.Maps.{same}
+use Rattle.zarr_tree.proofs.Apply.{node-apply, gone-false}
+use Rattle.zarr_changes.specs.Edits.{nothing}
+use Rattle.manifest_file.specs.declared.manifest.Place.{Place}
+use Rattle.snapshot_file.specs.declared.nodes.NodeRow.{NodeRow}
+use Rattle.snapshot_file.specs.declared.snapshot.SnapshotFile.{SnapshotFile}
+use Rattle.snapshot_file.specs.Snapshots.{node_limit}
+use Rattle.txn_file.specs.Layout.{log_file}
+use Rattle.repo_objects.specs.declared.bad.Bad.{Bad}
+use Rattle.repo_objects.specs.Readings.{read_snapshot, read_ref, ref_of}
+use Rattle.repo_objects.specs.Trees.{node_of, nodes_in}
 use Rattle.store_api.specs.declared.keys.Key.TheVariants.{Snapshot, Branch}
+use Rattle.store_api.specs.declared.events.Version.{Version}
 use Rattle.store_api.specs.declared.events.Op.TheVariants.{Get}
 use Rattle.store_api.specs.declared.events.Got.TheVariants.{Found, Absent}
 use Rattle.store_api.specs.declared.events.Reply.{Reply}
 use Rattle.store_api.specs.declared.events.Reply.TheVariants.{Got as Is_got}
 use Rattle.store_api.specs.declared.events.Event.{Event}
 use Rattle.store_api.specs.declared.machines.Refusal.{Refusal}
-use Rattle.store_api.specs.Journal.{Each, StoodAt, tree_in, IsGood}
-use Rattle.store_api.proofs.Slots.{StoodAt-append}
 use Rattle.store_api.specs.declared.machines.Refusal.TheVariants as R
+use Rattle.store_api.specs.Journal.{Each, StoodAt, snap_in, IsGood}
 use Rattle.store_api.specs.Callers.{Caller, Makes}
-use Rattle.store_api.specs.Program.{Keeps, Leads}
-use Rattle.session.specs.Sessions.{SessionState, overlay}
-use Rattle.session.specs.Opening.{Asked, open_program, after_ref, after_name, after_base, begun, read_base}
-use Rattle.session.specs.Editing.{group_added, unless_refused, drawn_group, any_id}
-use Rattle.commit_path.specs.Committing.{started, drawn_start}
+use Rattle.store_api.specs.Program.{Done, Keeps, Leads}
+use Rattle.store_api.specs.Running.{Program, on_answer}
+use Rattle.store_api.proofs.Slots.{StoodAt-append}
+use Rattle.repo_read.specs.declared.answers.Resolved.{Resolved}
+use Rattle.repo_read.specs.Answers.{at_key, resolved_at, ref_told, snapshot_told}
+use Rattle.session.specs.Sessions.{SessionState, base_nodes}
+use Rattle.session.specs.Opening.{Asked, open_program, base_program, begun}
+use Rattle.commit_path.specs.Committing.{started, drawn_start, after_draw, log_for, is_long}
 use Rattle.commit_path.specs.Owed.{Sessions, IsCareful}
-use Rattle.commit_path.specs.Spelled.{IsFine, IsSpelled}
-use Rattle.commit_path.proofs.Rows.{fine-insert, fine-none}
-use Rattle.commit_path.proofs.Telling.{Had, get-had, makes-keeps}
+use Rattle.commit_path.specs.Spelled.{IsSpelled}
 use Rattle.commit_path.specs.Opened.{IsOpened}
-use Rattle.commit_path.proofs.Owing.{Spellings}
-use Rattle.tree_model.proofs.Normal.{free-extended, none-free}
+use Rattle.commit_path.proofs.Spelling.{Spellings}
+use Rattle.commit_path.proofs.Telling.{Had, get-had, makes-keeps}
+
+-- ---- the program behind its replies
+-- what follows where the branch's bytes read so, and where the snapshot's do
+abbrev pub after_ref : Asked → Result Resolved Refusal → Program SessionState
+after_ref a named = on_answer (base_program a) named
+
+abbrev pub after_base : Asked → Resolved → Result SnapshotFile Refusal → Program SessionState
+after_base a named snap = on_answer (λ (s : SnapshotFile). Done (Ok (begun a named.id named.version.0 s))) snap
 
 -- ---- an opening asks for nothing that is owed
 module _ (by : Caller) (mine : Sessions) where
-  base-careful : (a : Asked) (base : Id12) (version : ℕ) (reply : Reply) (journal : List Event) → Keeps (IsCareful mine) by (after_base a base version reply) journal
+  base-careful : (a : Asked) (named : Resolved) (snap : Result SnapshotFile Refusal) (journal : List Event) → Keeps (IsCareful mine) by (after_base a named snap) journal
   unfolding Keeps
-  base-careful a base version (Is_got (Found bytes put now)) journal = tt
-  base-careful a base version (Is_got (Absent now)) journal = tt
-  base-careful a base version _ journal = tt
+  base-careful a named (Ok s) journal = tt
+  base-careful a named (Err why) journal = tt
 
-  name-careful : (a : Asked) (version : ℕ) (named : Option Id12) (journal : List Event) → Keeps (IsCareful mine) by (after_name a version named) journal
+  ref-careful : (a : Asked) (named : Result Resolved Refusal) (journal : List Event) → Keeps (IsCareful mine) by (after_ref a named) journal
   unfolding Keeps
-  name-careful a version None journal = tt
-  name-careful a version (Some base) journal = (record { polite = tt; owes = tt }, λ reply new m. base-careful a base version reply new)
-
-  ref-careful : (a : Asked) (reply : Reply) (journal : List Event) → Keeps (IsCareful mine) by (after_ref a reply) journal
-  unfolding Keeps
-  ref-careful a (Is_got (Found bytes version now)) journal = name-careful a version.0 (ref_of bytes) journal
-  ref-careful a (Is_got (Absent now)) journal = tt
-  ref-careful a _ journal = tt
+  ref-careful a (Ok named) journal = (record { polite = tt; owes = tt }, λ reply new m. base-careful a named (snapshot_told named.id reply) new)
+  ref-careful a (Err why) journal = tt
 
   -- whatever others do, each operation of an opening is polite, and owes nothing
   pub open-careful : (a : Asked) (journal : List Event) → Keeps (IsCareful mine) by (open_program a) journal
   unfolding Keeps
-  open-careful a journal = (record { polite = tt; owes = tt }, λ reply new m. ref-careful a reply new)
+  open-careful a journal = (record { polite = tt; owes = tt }, λ reply new m. ref-careful a (ref_told a.branch reply) new)
+
+-- ---- a session without changes
+abbrev no_changes : Changes
+no_changes = changes_of (λ (place : Place). None) nothing
+
+abbrev bare : FinMap path_cmp Node → Tree
+bare nodes = record { nodes = nodes; chunk = λ p i. None }
+
+same-node : (o : Option Node) → option_map (patched no_changes.metas) o ≡ o
+same-node None = refl
+same-node (Some n) = refl
+
+none-over : (nodes : FinMap path_cmp Node) → nodes_over (nothing {P = Place}) nodes ≡ nodes
+none-over nodes = same _ _ (λ p.
+    node-apply no_changes (bare nodes) p
+    ∙ ap (λ (o : Option Node). option_or o (cond (is_gone no_changes.dropped nodes p) None (option_map (patched no_changes.metas) (get nodes p)))) (get-empty path_cmp p)
+    ∙ ap (λ (b : Bool). cond b None (option_map (patched no_changes.metas) (get nodes p))) (gone-false no_changes.dropped (bare nodes) p (λ g. let d = g.dropped_id in cc))
+    ∙ same-node (get nodes p))
+
+one-more : (b : Bool) (n m : ℕ) → n ≤ m → cond b n (n + 1) ≤ m + 1
+one-more true n m l = omega arith
+one-more false n m l = omega arith
+
+entries-few : (es : List (List ℕ × Node)) → len (from_entries {R = path_cmp} es) ≤ length es
+entries-few [] = let e = len-empty path_cmp Node in omega (arith, e)
+entries-few (x ∷ xs) =
+    let e = len-insert total (from_entries {R = path_cmp} xs) x.0 x.1 in
+    let l = one-more (contains_key (from_entries {R = path_cmp} xs) x.0) (len (from_entries {R = path_cmp} xs)) (length xs) (entries-few xs) in
+    omega (arith, e, l)
+
+length-rows : (rows : List NodeRow) → length {A = List ℕ × Node} (map (λ (row : NodeRow). (row.path, node_of row)) rows) ≡ length rows
+length-rows [] = refl
+length-rows (row ∷ rows) = let e = length-rows rows in omega (arith, e)
+
+begun-few : (rows : List NodeRow) → length rows ≤ node_limit → len (nodes_over (nothing {P = Place}) (nodes_in rows)) ≤ most_nodes
+begun-few rows l =
+    let e = entries-few (map (λ (row : NodeRow). (row.path, node_of row)) rows) in
+    let n = length-rows rows in
+    subst (λ (m : FinMap path_cmp Node). len m ≤ most_nodes) (sym (none-over (nodes_in rows))) (omega (arith, e, n, l))
 
 -- ---- what an opened session knows
--- it begins at a snapshot
-pub record Begins (a : Asked) (s : SessionState) : Type 0 where
-  pub snap : Snap
-  pub is : s ≡ begun a s.base s.version snap
-
 pub record IsReady (a : Asked) (s : SessionState) (journal : List Event) : Type 0 where
-  pub begins : Begins a s
   pub opened : IsOpened s journal
   pub spelled : IsSpelled s
 
@@ -77,122 +127,92 @@ Opens a (Ok s) journal = IsReady a s journal
 Opens a (Err why) journal = Unit {0}
 
 -- the branch named a base
-record Named (a : Asked) (version : ℕ) (base : Id12) (journal : List Event) : Type 0 where
+record Named (a : Asked) (named : Resolved) (journal : List Event) : Type 0 where
   pub named_by : List ℕ
-  pub named : StoodAt journal (Branch a.branch) version named_by
-  pub names : ref_of named_by ≡ Some base
+  pub stood : StoodAt journal (Branch a.branch) named.version.0 named_by
+  pub names : ref_of named_by ≡ Some named.id
 
-module _ (L : Spellings) (by : Caller) where
-  at-base : (a : Asked) (base : Id12) (version : ℕ) (bytes : List ℕ) (found : ℕ) (journal : List Event) (o : Option Snap) → snapshot_of bytes ≡ o → IsId12 base → Named a version base journal → Had journal (Snapshot base) bytes found → Opens a (read_base a base version o) journal
-  at-base a base version bytes found journal None e i n h = tt
-  at-base a base version bytes found journal (Some snap) e i n h =
-      let writable = (L.snap.read bytes snap e).0 in
+Named-append : (a : Asked) (named : Resolved) (journal more : List Event) → Each IsGood journal more → Named a named journal → Named a named (journal ++ more)
+Named-append a named journal more g n = record { named_by = n.named_by; stood = StoodAt-append journal more (Branch a.branch) named.version.0 n.named_by n.stood; names = n.names }
+
+module _ (L : Spellings) (by : Caller) (a : Asked) where
+  at-base : (named : Resolved) (bytes : List ℕ) (version : ℕ) (journal : List Event) → IsId12 named.id → Named a named journal → Had journal (Snapshot named.id) bytes version
+      → (r : Result SnapshotFile Bad) → read_snapshot named.id bytes ≡ r → Leads (Opens a) by (after_base a named (at_key (Snapshot named.id) r)) journal
+  unfolding Leads
+  at-base named bytes version journal i n h (Err bad) e = tt
+  at-base named bytes version journal i n h (Ok snap) e =
+      let proper = L.snap.read named.id bytes snap (ap result_ok e) in
       record {
-        begins = record { snap = snap; is = refl };
         opened = record {
           named_by = n.named_by;
-          named = n.named;
+          named = n.stood;
           names = n.names;
           put = h.put;
-          tree = λ once. ap tree_in h.last ∙ ap (λ (x : Option Snap). option_map (λ (y : Snap). y.tree) x) e;
+          had = record { version = version; bytes = bytes; stood = h.stood; snap = snap; read = ap result_ok e; rows_are = refl };
+          rows = λ once. ap (λ (o : Option (List ℕ)). option_map (λ (s : SnapshotFile). s.nodes) (snap_in named.id o)) h.last ∙ ap (λ (r : Result SnapshotFile Bad). option_map (λ (s : SnapshotFile). s.nodes) (result_ok r)) e;
         };
         spelled = record {
           base = i;
-          tree = λ p x at. record { id = writable.ids p x at; path = writable.paths p x at; text = writable.texts p x at };
-          added = fine-none;
-          free = none-free snap.tree;
+          of_snapshot = record { file = snap; proper = proper; rows = refl; files = refl };
+          dropped = refl;
+          metas = refl;
+          chunks = refl;
+          groups = λ p m f. let none = get-empty {X = Node} path_cmp p in absurd cc;
+          free = λ p m f. let none = get-empty {X = Node} path_cmp p in absurd cc;
+          few = begun-few snap.nodes proper.writable.few;
         };
       }
 
-  base-leads : (a : Asked) (base : Id12) (version : ℕ) (reply : Reply) (old new : List Event) → IsId12 base → Named a version base old → Makes by (Get (Snapshot base)) reply old new → Leads (Opens a) by (after_base a base version reply) new
+  base-leads : (named : Resolved) (reply : Reply) (old new : List Event) → IsId12 named.id → Named a named old → Makes by (Get (Snapshot named.id)) reply old new → Leads (Opens a) by (after_base a named (snapshot_told named.id reply)) new
   unfolding Leads
-  base-leads a base version (Is_got (Found bytes put now)) old new i n m =
-      let h = get-had by (Snapshot base) bytes put now old new m in
-      at-base a base version bytes put.0 new (snapshot_of bytes) refl i (makes-keeps (Named a version base) (kept a version base) by (Get (Snapshot base)) (Is_got (Found bytes put now)) old new tt m n) h
-    where
-      kept : (a : Asked) (version : ℕ) (base : Id12) (journal more : List Event) → Each IsGood journal more → Named a version base journal → Named a version base (journal ++ more)
-      kept a version base journal more g n = record { named_by = n.named_by; named = StoodAt-append journal more (Branch a.branch) version n.named_by n.named; names = n.names }
-  base-leads a base version (Is_got (Absent now)) old new i n m = tt
-  base-leads a base version _ old new i n m = tt
+  base-leads named (Is_got (Found bytes put now)) old new i n m =
+      let h = get-had by (Snapshot named.id) bytes put now old new m in
+      at-base named bytes put.0 new i (makes-keeps (Named a named) (Named-append a named) by (Get (Snapshot named.id)) (Is_got (Found bytes put now)) old new tt m n) h (read_snapshot named.id bytes) refl
+  base-leads named (Is_got (Absent now)) old new i n m = tt
+  base-leads named _ old new i n m = tt
 
-  name-leads : (a : Asked) (version : ℕ) (bytes : List ℕ) (journal : List Event) (o : Option Id12) → ref_of bytes ≡ o → StoodAt journal (Branch a.branch) version bytes → Leads (Opens a) by (after_name a version o) journal
+  at-ref : (bytes : List ℕ) (version : Version) (journal : List Event) → StoodAt journal (Branch a.branch) version.0 bytes
+      → (r : Result Id12 Bad) → read_ref bytes ≡ r → Leads (Opens a) by (after_ref a (resolved_at version (at_key (Branch a.branch) r))) journal
   unfolding Leads
-  name-leads a version bytes journal None e s = tt
-  name-leads a version bytes journal (Some base) e s = λ reply new m. base-leads a base version reply journal new (L.reference.read bytes base e).0 (record { named_by = bytes; named = s; names = e }) m
+  at-ref bytes version journal s (Err bad) e = tt
+  at-ref bytes version journal s (Ok base) e =
+      let names : ref_of bytes ≡ Some base = ap result_ok e in
+      λ reply new m. base-leads (record { id = base; version = version }) reply journal new (L.reference.read bytes base names) (record { named_by = bytes; stood = s; names = names }) m
 
-  ref-leads : (a : Asked) (reply : Reply) (old new : List Event) → Makes by (Get (Branch a.branch)) reply old new → Leads (Opens a) by (after_ref a reply) new
+  ref-leads : (reply : Reply) (old new : List Event) → Makes by (Get (Branch a.branch)) reply old new → Leads (Opens a) by (after_ref a (ref_told a.branch reply)) new
   unfolding Leads
-  ref-leads a (Is_got (Found bytes version now)) old new m = name-leads a version.0 bytes new (ref_of bytes) refl (get-had by (Branch a.branch) bytes version now old new m).stood
-  ref-leads a (Is_got (Absent now)) old new m = tt
-  ref-leads a _ old new m = tt
+  ref-leads (Is_got (Found bytes version now)) old new m = at-ref bytes version new (get-had by (Branch a.branch) bytes version now old new m).stood (read_ref bytes) refl
+  ref-leads (Is_got (Absent now)) old new m = tt
+  ref-leads _ old new m = tt
 
   -- an opening ends with a session that is ready, or is refused
-  pub open-leads : (a : Asked) (journal : List Event) → Leads (Opens a) by (open_program a) journal
+  pub open-leads : (journal : List Event) → Leads (Opens a) by (open_program a) journal
   unfolding Leads
-  open-leads a journal = λ reply new m. ref-leads a reply journal new m
-
--- ---- edits
--- what an added group's session is
-pub record Added (s t : SessionState) (path : List ℕ) (id : Id8) : Type 0 where
-  pub drawn : drawn8 s.ids ≡ Some id
-  pub free : refusal (overlay s) (Add path any_id) ≡ None
-  pub is : t ≡ record s { changes = extended s.changes s.tree (Add path id); ids = after8 s.ids }
-
-by_draw : (s t : SessionState) (path : List ℕ) (id : Id8) (r : Option EditFault) (o : Option Id8) → refusal (overlay s) (Add path any_id) ≡ r → drawn8 s.ids ≡ o → unless_refused r (drawn_group s path o) ≡ Ok (id, t) → Added s t path id
-by_draw s t path id None None r d e = absurd (cc)
-by_draw s t path id None (Some i) r d e =
-    let p : ◌≡◌ {A = Id8 × SessionState} (i, record s { changes = extended s.changes s.tree (Add path i); ids = after8 s.ids }) (id, t) = ok_same _ _ e in
-    let same : i ≡ id = ap (λ (q : Id8 × SessionState). q.0) p in
-    record {
-      drawn = d ∙ ap (λ (x : Id8). Some x) same;
-      free = r;
-      is = sym (ap (λ (q : Id8 × SessionState). q.1) p) ∙ ap (λ (x : Id8). record s { changes = extended s.changes s.tree (Add path x); ids = after8 s.ids }) same;
-    }
-  where
-    ok_same : (p q : Id8 × SessionState) → ◌≡◌ {A = Result (Id8 × SessionState) Refusal} (Ok p) (Ok q) → p ≡ q
-    ok_same p q e = cc
-by_draw s t path id (Some fault) None r d e = absurd (cc)
-by_draw s t path id (Some fault) (Some i) r d e = absurd (cc)
-
-writes_or : Bool → Result (Id8 × SessionState) Refusal → Result (Id8 × SessionState) Refusal
-writes_or w r = elim w [
-  | true ↦ r
-  | false ↦ Err R.ReadOnly
-]
-
-by_writes : (s t : SessionState) (path : List ℕ) (id : Id8) (w : Bool) → writes_or w (unless_refused (refusal (overlay s) (Add path any_id)) (drawn_group s path (drawn8 s.ids))) ≡ Ok (id, t) → Added s t path id
-unfolding writes_or
-by_writes s t path id true e = by_draw s t path id (refusal (overlay s) (Add path any_id)) (drawn8 s.ids) refl refl e
-by_writes s t path id false e = absurd (cc)
-
-pub group-added : (s t : SessionState) (path : List ℕ) (id : Id8) → group_added s path ≡ Ok (id, t) → Added s t path id
-unfolding group_added writes_or
-group-added s t path id e = by_writes s t path id s.writes e
-
-pub group-opened : (s t : SessionState) (path : List ℕ) (id : Id8) (journal : List Event) → Added s t path id → IsOpened s journal → IsOpened t journal
-group-opened s t path id journal a o = subst (λ (x : SessionState). IsOpened x journal) (sym a.is) (record { named_by = o.named_by; named = o.named; names = o.names; put = o.put; tree = o.tree })
-
-pub group-spelled : (s t : SessionState) (path : List ℕ) (id : Id8) → Added s t path id → IsFine path (record { id = id }) → IsSpelled s → IsSpelled t
-group-spelled s t path id a f w = subst IsSpelled (sym a.is) (record {
-  base = w.base;
-  tree = w.tree;
-  added = fine-insert s.changes.added path (record { id = id }) f w.added;
-  free = free-extended s.changes s.tree (Add path id) w.free a.free;
-})
+  open-leads journal = λ reply new m. ref-leads reply journal new m
 
 -- ---- starting a commit
 pub record Started (s t : SessionState) (id : Id12) : Type 0 where
   pub drawn : drawn12 s.ids ≡ Some id
-  pub is : t ≡ record s { ids = after12 s.ids }
+  pub short : is_long (log_file (log_for s id)) ≡ false
+  pub is : t ≡ after_draw s
 
 start_same : (p q : Id12 × SessionState) → ◌≡◌ {A = Result (Id12 × SessionState) Refusal} (Ok p) (Ok q) → p ≡ q
 start_same p q e = cc
 
+by_length : (s t : SessionState) (id i : Id12) (long : Bool) → drawn12 s.ids ≡ Some i → is_long (log_file (log_for s i)) ≡ long → cond {A = Result (Id12 × SessionState) Refusal} long (Err (R.TooLarge kinds.Log)) (Ok (i, after_draw s)) ≡ Ok (id, t) → Started s t id
+by_length s t id i true d l e = absurd (cc)
+by_length s t id i false d l e =
+    let p = start_same (i, after_draw s) (id, t) e in
+    let same : i ≡ id = ap (λ (q : Id12 × SessionState). q.0) p in
+    record {
+      drawn = d ∙ ap (λ (x : Id12). Some x) same;
+      short = subst (λ (x : Id12). is_long (log_file (log_for s x)) ≡ false) same l;
+      is = sym (ap (λ (q : Id12 × SessionState). q.1) p);
+    }
+
 by_start : (s t : SessionState) (id : Id12) (o : Option Id12) → drawn12 s.ids ≡ o → drawn_start s o ≡ Ok (id, t) → Started s t id
 by_start s t id None d e = absurd (cc)
-by_start s t id (Some i) d e =
-    let p = start_same (i, record s { ids = after12 s.ids }) (id, t) e in
-    record { drawn = d ∙ ap (λ (q : Id12 × SessionState). Some q.0) p; is = sym (ap (λ (q : Id12 × SessionState). q.1) p) }
+by_start s t id (Some i) d e = by_length s t id i (is_long (log_file (log_for s i))) d refl e
 
 by_tests : (s t : SessionState) (id : Id12) (w u : Bool) → (if w then (if u then Err R.NothingToCommit else drawn_start s (drawn12 s.ids)) else Err R.ReadOnly) ≡ Ok (id, t) → Started s t id
 by_tests s t id true true e = absurd (cc)
@@ -201,10 +221,23 @@ by_tests s t id false u e = absurd (cc)
 
 pub start-started : (s t : SessionState) (id : Id12) → started s ≡ Ok (id, t) → Started s t id
 unfolding started
-start-started s t id e = by_tests s t id s.writes (is_untouched (touched s.changes s.tree)) e
+start-started s t id e = by_tests s t id s.writes (is_untouched (touched s.held (base_nodes s))) e
 
 pub started-opened : (s t : SessionState) (id : Id12) (journal : List Event) → Started s t id → IsOpened s journal → IsOpened t journal
-started-opened s t id journal a o = subst (λ (x : SessionState). IsOpened x journal) (sym a.is) (record { named_by = o.named_by; named = o.named; names = o.names; put = o.put; tree = o.tree })
+started-opened s t id journal a o = subst (λ (x : SessionState). IsOpened x journal) (sym a.is) (record { named_by = o.named_by; named = o.named; names = o.names; put = o.put; had = o.had; rows = o.rows })
 
 pub started-spelled : (s t : SessionState) (id : Id12) → Started s t id → IsSpelled s → IsSpelled t
-started-spelled s t id a w = subst IsSpelled (sym a.is) (record { base = w.base; tree = w.tree; added = w.added; free = w.free })
+started-spelled s t id a w = subst IsSpelled (sym a.is) (record {
+  base = w.base;
+  of_snapshot = record { file = w.of_snapshot.file; proper = w.of_snapshot.proper; rows = w.of_snapshot.rows; files = w.of_snapshot.files };
+  dropped = w.dropped;
+  metas = w.metas;
+  chunks = w.chunks;
+  groups = w.groups;
+  free = w.free;
+  few = w.few;
+})
+
+-- the log stays as long as it was
+pub started-short : (s t : SessionState) (id : Id12) → Started s t id → is_long (log_file (log_for t id)) ≡ false
+started-short s t id a = subst (λ (x : SessionState). is_long (log_file (log_for x id)) ≡ false) (sym a.is) a.short

@@ -1,7 +1,6 @@
 -- Laws of openings, of the sessions that they open, and of commits.
 use Rattle.std.specs.Prelude.{◌≡◌, ℕ, ◌++◌, true, List, Result, Ok, IfOk}
-use Rattle.std.specs.Str.{is_utf8}
-use Rattle.ice_base.specs.Lists.{IsBytes}
+use Rattle.std.specs.Str.{is_utf8, IsUtf8}
 use Rattle.ice_ids.specs.declared.Id8.{Id8}
 use Rattle.ice_ids.specs.declared.Id12.{Id12}
 use Rattle.zarr_path.specs.Paths.{is_path}
@@ -30,14 +29,14 @@ OpeningLaw = (by : Caller) (a : Asked) (start journal : List Event) → ChangedN
 
 -- what a session knows stays so when a group is added, and whatever good events come
 pub record SessionLaw : Type 0 where
-  pub edited : (s t : SessionState) (path : List ℕ) (id : Id8) (journal : List Event) → is_path path ≡ true → is_utf8 path ≡ true → group_added s path ≡ Ok (id, t) → IsSpelled s → IsOpened s journal → IsSpelled t × IsOpened t journal
+  pub edited : (s t : SessionState) (path text : List ℕ) (id : Id8) (journal : List Event) → is_path path ≡ true → is_utf8 path ≡ true → group_added s path text ≡ Ok (id, t) → IsSpelled s → IsOpened s journal → IsSpelled t × IsOpened t journal
   pub kept : (s : SessionState) (journal more : List Event) → Each IsGood journal more → IsOpened s journal → IsOpened s (journal ++ more)
 
 -- Whatever others do, each operation of a commit of such a session is polite, and owed for this session
 -- and this id alone; wherever it may find no memory, its client has changed no branch; and its answer
 -- tells the journal.
 abbrev pub CommitLaw : Type 0
-CommitLaw = (by : Caller) (s t : SessionState) (message : List ℕ) (id : Id12) (start journal : List Event) → started s ≡ Ok (id, t) → IsBytes message → IsSpelled s → IsOpened s journal → ChangedNothing by.number start journal
+CommitLaw = (by : Caller) (s t : SessionState) (message : List ℕ) (id : Id12) (start journal : List Event) → started s ≡ Ok (id, t) → IsUtf8 message → IsSpelled s → IsOpened s journal → ChangedNothing by.number start journal
     → Keeps (IsCareful (λ u i. (u ≡ t) × (i ≡ id))) by (commit_program t message id) journal × Stays (ChangedNothing by.number start) by (commit_program t message id) journal
     × Leads (CommitTells by.number t message id start) by (commit_program t message id) journal
 

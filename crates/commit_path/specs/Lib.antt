@@ -4,3 +4,4 @@ pub mod Answered
 pub mod Opened
 pub mod Spelled
 pub mod Laws
+pub mod inside

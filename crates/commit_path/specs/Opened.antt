@@ -2,7 +2,9 @@
 -- specification version 1, "Read from Repository".)
 use Rattle.std.specs.Prelude.{◌≡◌, ◌⊎◌, ℕ, List, Some, None, Result, Ok, Err}
 use Rattle.ice_ids.specs.declared.Id12.{Id12}
-use Rattle.plain_object.specs.Objects.{Snapshot as Snap, snapshot_of, ref_of}
+use Rattle.snapshot_file.specs.declared.snapshot.SnapshotFile.{SnapshotFile}
+use Rattle.repo_objects.specs.declared.bad.Bad.{Bad}
+use Rattle.repo_objects.specs.Readings.{read_snapshot, read_ref, snapshot_by, ref_of}
 use Rattle.store_api.specs.declared.keys.Key.{Key}
 use Rattle.store_api.specs.declared.keys.Key.TheVariants.{Snapshot, Branch}
 use Rattle.store_api.specs.declared.events.Op.{Op}
@@ -13,20 +15,21 @@ use Rattle.store_api.specs.declared.events.Event.{Event}
 use Rattle.store_api.specs.declared.machines.Refusal.{Refusal}
 use Rattle.store_api.specs.declared.machines.Refusal.TheVariants.{NoRef, Missing, BadFile, StoreFault, NoMemory}
 use Rattle.store_api.specs.Machine.{found, version_at}
-use Rattle.store_api.specs.Journal.{WasPut, StoodAt, tree_of, IsOnce}
+use Rattle.store_api.specs.Journal.{WasPut, StoodAt, HadRows, rows_of, IsOnce}
 use Rattle.session.specs.Sessions.{SessionState}
 use Rattle.session.specs.Opening.{Asked, begun}
 use Rattle.commit_path.specs.Answered.{HasOwn, ChangedNothing, WasFailed}
 
 -- ---- what a session knows
--- The branch stood at the session's version, with a reference to its base; the base was put, and where
--- nothing is put again, its tree is the session's.
+-- The branch stood at the session's version, with a reference to its base; a put of the base had the session's rows, and
+-- where nothing is put again, they are its rows.
 pub record IsOpened (s : SessionState) (journal : List Event) : Type 0 where
   pub named_by : List ℕ
   pub named : StoodAt journal (Branch s.branch) s.version named_by
   pub names : ref_of named_by ≡ Some s.base
   pub put : WasPut journal (Snapshot s.base)
-  pub tree : IsOnce journal → tree_of journal s.base ≡ Some s.tree
+  pub had : HadRows journal s.base s.rows
+  pub rows : IsOnce journal → rows_of journal s.base ≡ Some s.rows
 
 -- ---- a client's own gets
 -- the client's own get of the key was answered with these bytes and this version
@@ -47,14 +50,14 @@ pub record WasNamed (client : ℕ) (a : Asked) (version : ℕ) (base : Id12) (st
   pub names : ref_of bytes ≡ Some base
 
 -- ---- the answers
--- The session begins at the snapshot that the client got at the branch, with that snapshot's tree and no changes.
+-- The session begins at the snapshot that the client got at the branch, with that snapshot's rows and no changes.
 pub record WasBegun (client : ℕ) (a : Asked) (s : SessionState) (start journal : List Event) : Type 0 where
   pub named : WasNamed client a s.version s.base start journal
   pub bytes : List ℕ
   pub version : ℕ
   pub got : WasGot client (Snapshot s.base) bytes version start journal
-  pub snap : Snap
-  pub read : snapshot_of bytes ≡ Some snap
+  pub snap : SnapshotFile
+  pub read : snapshot_by s.base bytes ≡ Some snap
   pub begins : s ≡ begun a s.base s.version snap
 
 -- the branch names a snapshot that isn't there
@@ -65,16 +68,16 @@ pub record WasMissing (client : ℕ) (a : Asked) (key : Key) (start journal : Li
   pub key_is : key ≡ Snapshot base
   pub absent : WasAbsent client (Snapshot base) start journal
 
--- the branch isn't a reference
-pub record WasNoReference (client : ℕ) (a : Asked) (key : Key) (start journal : List Event) : Type 0 where
+-- the branch isn't a reference, for this cause
+pub record WasNoReference (client : ℕ) (a : Asked) (key : Key) (bad : Bad) (start journal : List Event) : Type 0 where
   pub key_is : key ≡ Branch a.branch
   pub bytes : List ℕ
   pub version : ℕ
   pub got : WasGot client (Branch a.branch) bytes version start journal
-  pub unread : ref_of bytes ≡ None
+  pub unread : read_ref bytes ≡ Err bad
 
--- the branch names a snapshot that isn't readable
-pub record WasNoSnapshot (client : ℕ) (a : Asked) (key : Key) (start journal : List Event) : Type 0 where
+-- the branch names a snapshot that isn't readable, for this cause
+pub record WasNoSnapshot (client : ℕ) (a : Asked) (key : Key) (bad : Bad) (start journal : List Event) : Type 0 where
   pub version : ℕ
   pub base : Id12
   pub named : WasNamed client a version base start journal
@@ -82,7 +85,7 @@ pub record WasNoSnapshot (client : ℕ) (a : Asked) (key : Key) (start journal :
   pub bytes : List ℕ
   pub put : ℕ
   pub got : WasGot client (Snapshot base) bytes put start journal
-  pub unread : snapshot_of bytes ≡ None
+  pub unread : read_snapshot base bytes ≡ Err bad
 
 -- an operation of an opening: the get of the branch that was asked for, or that of a snapshot
 abbrev pub IsOfOpening : Asked → Op → Type 0
@@ -92,7 +95,7 @@ IsOfOpening a op = (op ≡ Get (Branch a.branch)) ⊎ ((id : Id12) × (op ≡ Ge
 abbrev pub RefusalTells : ℕ → Asked → List Event → Refusal → List Event → Type 0
 RefusalTells client a start NoRef journal = WasAbsent client (Branch a.branch) start journal × ChangedNothing client start journal
 RefusalTells client a start (Missing key) journal = WasMissing client a key start journal × ChangedNothing client start journal
-RefusalTells client a start (BadFile key bad) journal = (WasNoReference client a key start journal ⊎ WasNoSnapshot client a key start journal) × ChangedNothing client start journal
+RefusalTells client a start (BadFile key bad) journal = (WasNoReference client a key bad start journal ⊎ WasNoSnapshot client a key bad start journal) × ChangedNothing client start journal
 RefusalTells client a start StoreFault journal = WasFailed client (IsOfOpening a) start journal
 RefusalTells client a start NoMemory journal = ChangedNothing client start journal
 RefusalTells client a start _ journal = ⊥

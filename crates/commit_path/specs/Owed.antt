@@ -1,8 +1,10 @@
 -- What a client that commits sessions owes of each of its operations.
 use Rattle.std.specs.Prelude.{◌≡◌, ℕ, List, Some}
 use Rattle.ice_ids.specs.declared.Id12.{Id12}
-use Rattle.tree_model.specs.Touched.{touched}
-use Rattle.plain_object.specs.Objects.{Snapshot as Snap, snapshot_of, ref_of}
+use Rattle.zarr_tree.specs.Held.{touched}
+use Rattle.snapshot_file.specs.declared.snapshot.SnapshotFile.{SnapshotFile}
+use Rattle.repo_objects.specs.Readings.{snapshot_by, ref_of}
+use Rattle.repo_objects.specs.Trees.{Puts, tree_under, NamesManifest}
 use Rattle.store_api.specs.declared.keys.Key.{Key}
 use Rattle.store_api.specs.declared.keys.Key.TheVariants.{Snapshot, Txn, Branch}
 use Rattle.store_api.specs.declared.keys.Why.{Why}
@@ -10,23 +12,26 @@ use Rattle.store_api.specs.declared.keys.Why.TheVariants.{Commit}
 use Rattle.store_api.specs.declared.events.Op.{Op}
 use Rattle.store_api.specs.declared.events.Op.TheVariants.{Get, PutNew, PutOver, List as ListPart}
 use Rattle.store_api.specs.declared.events.Event.{Event}
-use Rattle.store_api.specs.Journal.{WasPut, tree_of, snap_made, log_made, IsOnce, IsPolite, IsGood}
-use Rattle.session.specs.Sessions.{SessionState, overlay}
+use Rattle.store_api.specs.Journal.{WasPut, rows_of, snap_made, log_made, IsOnce, IsPolite, IsGood}
+use Rattle.session.specs.Sessions.{SessionState, base_nodes, overlay}
 
 -- The client's sessions at their commits, with the id that each commit draws.
 abbrev pub Sessions : Type 1
 Sessions = SessionState → Id12 → Type 0
 
--- The snapshot is a session's: the parent that it first named is the base, its log lists exactly what
--- the session's changes touch, and its tree is the base's under them.
+-- The snapshot is a session's: the parent that it first named is the base, whose rows are the session's; its log lists exactly
+-- what the session's changes touch; its tree is the base's under them, whatever was put; and it names no manifest that the base
+-- doesn't name.
 pub record IsMade (s : SessionState) (id : Id12) (journal : List Event) : Type 0 where
   pub base_put : WasPut journal (Snapshot s.base)
-  pub base_tree : tree_of journal s.base ≡ Some s.tree
-  pub snap : Snap
+  pub base_rows : rows_of journal s.base ≡ Some s.rows
+  pub snap : SnapshotFile
   pub made : snap_made journal id ≡ Some snap
+  pub rows : rows_of journal id ≡ Some snap.nodes
   pub parent : snap.parent ≡ Some s.base
-  pub logged : log_made journal id ≡ Some (touched s.changes s.tree)
-  pub tree : tree_of journal id ≡ Some (overlay s)
+  pub logged : log_made journal id ≡ Some (touched s.held (base_nodes s))
+  pub tree : (puts : Puts) → tree_under puts snap.nodes ≡ overlay puts s
+  pub own : (manifest : Id12) → NamesManifest snap.nodes manifest → NamesManifest s.rows manifest
 
 -- a branch is put over for a commit of one of the client's sessions, on its branch, at the version that
 -- it had read, with its snapshot
@@ -40,17 +45,19 @@ pub record OwesOver (mine : Sessions) (journal : List Event) (branch bytes : Lis
   pub why_is : why ≡ Commit
   pub made : IsOnce journal → IsMade session id journal
 
--- a snapshot is put that is one of the client's sessions'
+-- a snapshot is put that is one of the client's sessions': its base is the parent, and has the session's rows; its tree is the
+-- base's under the changes, whatever was put; and it names no manifest that the base doesn't name
 pub record OwesSnap (mine : Sessions) (journal : List Event) (id : Id12) (bytes : List ℕ) : Type 0 where
   pub session : SessionState
   pub is_mine : mine session id
-  pub snap : Snap
-  pub read : snapshot_of bytes ≡ Some snap
+  pub snap : SnapshotFile
+  pub read : snapshot_by id bytes ≡ Some snap
   pub parent : snap.parent ≡ Some session.base
-  pub tree : snap.tree ≡ overlay session
+  pub tree : (puts : Puts) → tree_under puts snap.nodes ≡ overlay puts session
+  pub own : (manifest : Id12) → NamesManifest snap.nodes manifest → NamesManifest session.rows manifest
   pub base_put : WasPut journal (Snapshot session.base)
-  pub base_tree : IsOnce journal → tree_of journal session.base ≡ Some session.tree
-  pub logged : IsOnce journal → log_made journal id ≡ Some (touched session.changes session.tree)
+  pub base_rows : IsOnce journal → rows_of journal session.base ≡ Some session.rows
+  pub logged : IsOnce journal → log_made journal id ≡ Some (touched session.held (base_nodes session))
 
 -- a log is put under an id that one of the client's sessions drew
 pub record OwesLog (mine : Sessions) (id : Id12) : Type 0 where

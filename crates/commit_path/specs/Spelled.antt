@@ -1,32 +1,29 @@
--- Sessions whose tree and changes can be written as objects. (Own.)
-use Rattle.std.specs.Prelude.{◌≡◌, ℕ, true, List, [], ◌∷◌, Some}
-use Rattle.std.specs.Str.{is_utf8}
-use Rattle.std.specs.FinMap.{entries}
-use Rattle.ice_ids.specs.Text.{IsId8, IsId12}
-use Rattle.zarr_path.specs.Paths.{is_path}
-use Rattle.tree_model.specs.declared.node.Node.{Node}
-use Rattle.tree_model.specs.Trees.{Tree, node_at}
-use Rattle.tree_model.specs.Changes.{IsFree}
-use Rattle.session.specs.Sessions.{SessionState}
+-- Sessions that can be written as objects. (Own.)
+use Rattle.std.specs.Prelude.{◌≡◌, ◌≤◌, ℕ, List, [], Some, None}
+use Rattle.std.specs.FinMap.{get, len}
+use Rattle.ice_ids.specs.Text.{IsId12}
+use Rattle.zarr_tree.specs.Nodes.{Node}
+use Rattle.zarr_tree.specs.Edits.{most_nodes}
+use Rattle.snapshot_file.specs.declared.snapshot.SnapshotFile.{SnapshotFile}
+use Rattle.repo_objects.specs.Laws.{IsProper}
+use Rattle.changed_snapshot.specs.Laws.{AddsGroups}
+use Rattle.session.specs.Sessions.{SessionState, base_nodes, nodes_seen}
 
--- a path and a node that can be written
-pub record IsFine (p : List ℕ) (n : Node) : Type 0 where
-  pub id : IsId8 n.id
-  pub path : is_path p ≡ true
-  pub text : is_utf8 p ≡ true
+-- what a session has of its base is of a snapshot that can be written
+pub record IsOfSnapshot (s : SessionState) : Type 0 where
+  pub file : SnapshotFile
+  pub proper : IsProper file
+  pub rows : file.nodes ≡ s.rows
+  pub files : file.manifest_files ≡ s.files
 
--- each row can be written
-abbrev pub AllFine : List (List ℕ × Node) → Type 0
-AllFine [] = Unit {0}
-AllFine (r ∷ rs) = IsFine r.0 r.1 × AllFine rs
-
--- each node of a tree can be written
-abbrev pub TreeFine : Tree → Type 0
-TreeFine t = (p : List ℕ) (n : Node) → node_at t p ≡ Some n → IsFine p n
-
--- A session's tree and its changes can be written, and the changes add nothing where the tree has a node.
+-- A session's base can be written, and its changes: they add groups alone, at paths where the base has no node, and no more than
+-- a tree may have.
 pub record IsSpelled (s : SessionState) : Type 0 where
   pub base : IsId12 s.base
-  pub tree : TreeFine s.tree
-  pub added : AllFine (entries s.changes.added)
-  pub free : IsFree s.changes s.tree
+  pub of_snapshot : IsOfSnapshot s
+  pub dropped : s.held.dropped ≡ []
+  pub metas : s.held.metas ≡ []
+  pub chunks : s.held.chunks ≡ []
+  pub groups : AddsGroups s.held
+  pub free : (p : List ℕ) (n : Node) → get s.held.added p ≡ Some n → get (base_nodes s) p ≡ None
+  pub few : len (nodes_seen s) ≤ most_nodes

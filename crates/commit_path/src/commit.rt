@@ -1,20 +1,23 @@
 //! The machine that commits a session.
 
-ghost use Rattle.std.specs.Prelude.{◌≡◌, ◌<◌, IfErr, IfOk, IsTrue};
+ghost use Rattle.std.specs.Prelude.{◌≡◌, ◌<◌, IfErr, IsTrue};
 ghost use Rattle.store_api.specs.Program.{IsAsk, Steps, NextIsPolite};
-ghost use Rattle.tree_model.specs.Touched.{touched};
-ghost use Rattle.plain_object.specs.Objects.{log_bytes as bytes_of_log, snapshot_bytes as bytes_of_snapshot};
-ghost use Rattle.commit_path.specs.Committing.{snap_for, started, commit_program, commit_rest, commit_left, session_in, CommitStarts, MayRefuseCommit};
+ghost use Rattle.txn_file.specs.Layout.{log_file};
+ghost use Rattle.commit_path.specs.Committing.{log_for, started, commit_program, after_log, after_snapshot, after_branch, commit_rest, commit_left, session_in, CommitStarts, MayRefuseCommit};
+ghost use Rattle.commit_path.specs.inside.Working.{IsUnwritten, WritesFile, LandsCalmly, LandsSurely};
 
 use crate::committing::Committing;
-use ice_base::Bytes;
+use flat_tables::{Kind, WriteFault};
+use ice_base::{Bytes, Text};
 use ice_ids::Id12;
-use plain_object::{log_write, ref_write, snapshot_write};
+use ref_file::ref_write;
 use session::Session;
 use std::alloc::{AllocError, Global};
+use std::mem;
 use store_api::{
     Key, Machine, New, Next, Over, Payload, Refusal, Reply, Request, Store, Version, Why, drive,
 };
+use txn_file::TxnFile;
 
 /// What a commit answers: the id of the new snapshot, and the version at which the branch names it.
 #[derive(Clone, Copy, Debug)]
@@ -27,41 +30,38 @@ pub struct Committed {
 
 /// A machine that commits a session: it puts the transaction log, then the snapshot, whose parent is
 /// the session's base, and then the branch over the version that the session had read. The session
-/// stays in it, and comes back after a refusal.
+/// stays in it, and comes back after a refusal. The bytes of each put are made before it, with the reply
+/// to the one before.
 #[derive(Drop)]
 pub struct Commit {
     alloc: Global,
     session: Session,
-    message: Bytes,
+    message: Text,
     id: Id12,
     state: Committing,
 }
 
-/// The bytes of the transaction log.
-fn log_bytes(alloc: Global, session: &Session) -> Result<Bytes, AllocError>
-    ensures { IfOk result (λ bytes. bytes ≡ bytes_of_log (touched session.now.changes session.now.tree)) }
+/// Why a file isn't written.
+fn unwritten(kind: Kind, fault: WriteFault) -> Refusal
+    ensures { IsUnwritten kind fault result }
 {
-    let touched = session.net()?;
-    log_write(alloc, &touched)
+    match fault {
+        WriteFault::TooLarge(_) => Refusal::TooLarge(kind),
+        WriteFault::NoMemory => Refusal::NoMemory,
+    }
 }
 
-/// The bytes of the snapshot.
-fn snapshot_bytes(
-    alloc: Global,
-    session: &Session,
-    message: &Bytes,
-    flushed_at: u64,
-) -> Result<Bytes, AllocError>
-    ensures { IfOk result (λ bytes. bytes ≡ bytes_of_snapshot (snap_for session.now message.now flushed_at)) }
+/// The file of the transaction log.
+fn write_log(alloc: Global, session: &Session, id: Id12) -> Result<Bytes, Refusal>
+    ensures { WritesFile Kind.Log (log_file (log_for session.now id)) result }
 {
-    let tree = session.tree()?;
-    snapshot_write(
-        alloc,
-        Some(session.base()),
-        flushed_at,
-        &tree,
-        message.as_slice(),
-    )
+    let Ok(lists) = session.net() else {
+        return Err(Refusal::NoMemory);
+    };
+    match txn_file::write(alloc, &TxnFile { id, lists }) {
+        Ok(file) => Ok(Bytes::from_vec(file)),
+        Err(fault) => Err(unwritten(Kind::Log, fault)),
+    }
 }
 
 impl Machine for Commit {
@@ -76,25 +76,20 @@ impl Machine for Commit {
     ghost may_refuse = { MayRefuseCommit };
 
     fn request(&self) -> Result<Request<'_>, AllocError> {
-        match self.state {
-            Committing::Log => Ok(Request::PutNew {
+        match &self.state {
+            Committing::Log(file) => Ok(Request::PutNew {
                 key: Key::Txn(self.id),
-                bytes: Payload::Made(log_bytes(self.alloc, &self.session)?),
+                bytes: Payload::Held(file.as_slice()),
                 why: Why::Set,
             }),
-            Committing::Snapshot { flushed_at } => Ok(Request::PutNew {
+            Committing::Snapshot(file) => Ok(Request::PutNew {
                 key: Key::Snapshot(self.id),
-                bytes: Payload::Made(snapshot_bytes(
-                    self.alloc,
-                    &self.session,
-                    &self.message,
-                    flushed_at,
-                )?),
+                bytes: Payload::Held(file.as_slice()),
                 why: Why::Set,
             }),
-            Committing::Branch => Ok(Request::PutOver {
+            Committing::Branch(file) => Ok(Request::PutOver {
                 key: Key::Branch(self.session.branch().copy(self.alloc)?),
-                bytes: Payload::Made(Bytes::of(self.alloc, &ref_write(self.id))?),
+                bytes: Payload::Held(file.as_slice()),
                 old: self.session.version(),
                 why: Why::Commit,
             }),
@@ -103,39 +98,11 @@ impl Machine for Commit {
     }
 
     fn answer(&mut self, reply: Reply) -> Result<Next<Committed>, Refusal> {
-        let state = self.state;
-        self.state = Committing::Ended;
+        let state = mem::replace(&mut self.state, Committing::Ended);
         match (state, reply) {
-            (Committing::Log, Reply::New(New::Done { version: _, now })) => {
-                self.state = Committing::Snapshot { flushed_at: now };
-                Ok(Next::Again)
-            }
-            (Committing::Log, Reply::New(New::Present { version: _, now: _ })) => {
-                Err(Refusal::IdTaken(Key::Txn(self.id)))
-            }
-            (
-                Committing::Snapshot { flushed_at: _ },
-                Reply::New(New::Done { version: _, now: _ }),
-            ) => {
-                self.state = Committing::Branch;
-                Ok(Next::Again)
-            }
-            (
-                Committing::Snapshot { flushed_at: _ },
-                Reply::New(New::Present { version: _, now: _ }),
-            ) => Err(Refusal::IdTaken(Key::Snapshot(self.id))),
-            (Committing::Branch, Reply::Over(Over::Done { version, now: _ })) => {
-                Ok(Next::Ready(Committed {
-                    id: self.id,
-                    version,
-                }))
-            }
-            (Committing::Branch, Reply::Over(Over::Moved { found, now: _ })) => {
-                Err(Refusal::Conflict {
-                    old: self.session.version(),
-                    found,
-                })
-            }
+            (Committing::Log(_), Reply::New(new)) => self.on_log(new),
+            (Committing::Snapshot(_), Reply::New(new)) => self.on_snapshot(new),
+            (Committing::Branch(_), Reply::Over(over)) => self.on_branch(over),
             _ => Err(Refusal::StoreFault),
         }
     }
@@ -148,14 +115,77 @@ impl Machine for Commit {
 }
 
 impl Commit {
-    /// Begins a commit, for which the session draws the id of the new snapshot. It is refused by
-    /// `ReadOnly`, `NothingToCommit` or `IdsSpent`, the first in this order, and then the session
-    /// comes back as it was.
+    /// The log was put: the snapshot is flushed at the time that the reply tells.
+    fn on_log(&mut self, new: New) -> Result<Next<Committed>, Refusal>
+        requires { self.old.state ≡ Committing.Ended }
+        ensures took { LandsCalmly (after_log self.old.session self.old.message self.old.id (Reply.New new)) (commit_rest self.new) result }
+        ensures falls { commit_left self.new < 3 }
+        ensures kept { session_in self.new ≡ session_in self.old }
+        ensures listed { IfErr result MayRefuseCommit }
+    {
+        let now = match new {
+            New::Done { version: _, now } => now,
+            New::Present { version: _, now: _ } => {
+                return Err(Refusal::IdTaken(Key::Txn(self.id)));
+            }
+        };
+        match self.session.write(self.id, now, &self.message) {
+            Ok(file) => {
+                self.state = Committing::Snapshot(file);
+                Ok(Next::Again)
+            }
+            Err(fault) => Err(unwritten(Kind::Snapshot, fault)),
+        }
+    }
+
+    /// The snapshot was put: the reference's bytes are made, so that nothing behind its put takes memory.
+    fn on_snapshot(&mut self, new: New) -> Result<Next<Committed>, Refusal>
+        requires { self.old.state ≡ Committing.Ended }
+        ensures took { LandsCalmly (after_snapshot self.old.session self.old.id (Reply.New new)) (commit_rest self.new) result }
+        ensures falls { commit_left self.new < 2 }
+        ensures kept { session_in self.new ≡ session_in self.old }
+        ensures listed { IfErr result MayRefuseCommit }
+    {
+        if let New::Present { version: _, now: _ } = new {
+            return Err(Refusal::IdTaken(Key::Snapshot(self.id)));
+        }
+        match Bytes::of(self.alloc, &ref_write(self.id)) {
+            Ok(file) => {
+                self.state = Committing::Branch(file);
+                Ok(Next::Again)
+            }
+            Err(_) => Err(Refusal::NoMemory),
+        }
+    }
+
+    /// The branch was put over, or not.
+    fn on_branch(&mut self, over: Over) -> Result<Next<Committed>, Refusal>
+        requires { self.old.state ≡ Committing.Ended }
+        ensures took { LandsSurely (after_branch self.old.session self.old.id (Reply.Over over)) (commit_rest self.new) result }
+        ensures falls { commit_left self.new < 1 }
+        ensures kept { session_in self.new ≡ session_in self.old }
+        ensures listed { IfErr result MayRefuseCommit }
+    {
+        match over {
+            Over::Done { version, now: _ } => Ok(Next::Ready(Committed {
+                id: self.id,
+                version,
+            })),
+            Over::Moved { found, now: _ } => Err(Refusal::Conflict {
+                old: self.session.version(),
+                found,
+            }),
+        }
+    }
+
+    /// Begins a commit: the session draws the id of the new snapshot, and the file of its log is made. It is refused by
+    /// `ReadOnly`, `NothingToCommit`, `IdsSpent` or `TooLarge`, the first in this order, or by `NoMemory`, and then the
+    /// session comes back as it was, apart from the id that was drawn.
     #[tactic(auto, unfolding(crate::specs::Committing::started))]
     pub fn start(
         alloc: Global,
         mut session: Session,
-        message: Bytes,
+        message: Text,
     ) -> Result<Commit, (Session, Refusal)>
         ensures { CommitStarts session message result }
     {
@@ -165,15 +195,18 @@ impl Commit {
         if session.is_unchanged() {
             return Err((session, Refusal::NothingToCommit));
         }
-        match session.draw() {
-            Some(id) => Ok(Commit {
+        let Some(id) = session.draw() else {
+            return Err((session, Refusal::IdsSpent));
+        };
+        match write_log(alloc, &session, id) {
+            Ok(file) => Ok(Commit {
                 alloc,
                 session,
                 message,
                 id,
-                state: Committing::Log,
+                state: Committing::Log(file),
             }),
-            None => Err((session, Refusal::IdsSpent)),
+            Err(why) => Err((session, why)),
         }
     }
 

@@ -1,14 +1,16 @@
 //! Where a commit stands.
 
-/// The operation that comes next.
-#[derive(Clone, Copy, Debug)]
+use ice_base::Bytes;
+
+/// The operation that comes next, with the bytes that it puts.
+#[derive(Debug, Drop)]
 pub enum Committing {
     /// The transaction log is put.
-    Log,
-    /// The snapshot is put, flushed at this time.
-    Snapshot { flushed_at: u64 },
+    Log(Bytes),
+    /// The snapshot is put.
+    Snapshot(Bytes),
     /// The branch is put over.
-    Branch,
+    Branch(Bytes),
     /// The machine has ended.
     Ended,
 }

@@ -2,7 +2,8 @@
 
 ghost use Rattle.commit_path.specs.Laws.{OpeningLaw, SessionLaw, CommitLaw, AnswersLaw};
 
-use plain_object::{initial_law, log_law, ref_law, snapshot_law};
+use changed_snapshot::proper_law;
+use repo_objects::{initial_law, log_law, ref_law, snapshot_law};
 
 /// Whatever others do, each operation of an opening is polite, its client has changed no branch
 /// wherever it may find no memory, and its answer tells the journal: a session begins at the snapshot
@@ -14,6 +15,7 @@ pub fn opening_law()
     log_law();
     ref_law();
     initial_law();
+    proper_law();
 }
 
 /// What an opened session knows of its base stays so when groups are added, and whatever good events
@@ -32,6 +34,7 @@ pub fn commit_law()
     log_law();
     ref_law();
     initial_law();
+    proper_law();
 }
 
 /// What answers of openings and commits tell stays so, whatever good events others make.

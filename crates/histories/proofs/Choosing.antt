@@ -1,7 +1,7 @@
 -- Changes that are known at each event, as a function of positions.
 use Rattle.std.proofs.Common.{◌≡◌, ℕ, ◌<◌, ◌≤◌, cond, List, [], ◌∷◌, ◌++◌, length, refl, sym, ◌∙◌, ap, subst, arith, length-append, eq-eqb, ne_eqb}
 use Rattle.std.specs.Prelude.{◌==◌}
-use Rattle.tree_model.specs.Changes.{Changes, none}
+use Rattle.zarr_tree.specs.Changes.{Changes, none}
 use Rattle.store_api.specs.declared.events.Event.{Event}
 use Rattle.store_api.specs.Journal.{Each}
 

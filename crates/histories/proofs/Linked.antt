@@ -2,9 +2,9 @@
 use Rattle.std.proofs.Common.{◌≡◌, inl, inr, ℕ, ◌+◌, Bool, true, false, cond, List, [], ◌∷◌, ◌++◌, length, refl, sym, ◌∙◌, ap, subst, arith, add-zero, append_assoc, append-nil, eqb-true}
 use Rattle.std.specs.Prelude.{Option, Some, None, option_map, ◌==◌}
 use Rattle.ice_ids.specs.declared.Id12.{Id12}
-use Rattle.tree_model.specs.Trees.{Tree}
-use Rattle.tree_model.specs.Changes.{Changes, apply}
-use Rattle.plain_object.specs.Objects.{ref_of}
+use Rattle.zarr_tree.specs.Trees.{Tree}
+use Rattle.zarr_tree.specs.Changes.{Changes, apply}
+use Rattle.repo_objects.specs.Readings.{ref_of}
 use Rattle.store_api.specs.declared.keys.Key.{Key}
 use Rattle.store_api.specs.declared.keys.Key.TheVariants.{Branch}
 use Rattle.store_api.specs.declared.keys.Why.{Why}

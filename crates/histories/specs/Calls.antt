@@ -1,9 +1,10 @@
 -- The ref calls of a journal, and what the histories of branches say of them.
 use Rattle.std.specs.Prelude.{◌≡◌, ◌⊎◌, ℕ, ◌+◌, if◌then◌else◌, Bool, true, false, cond, List, [], ◌∷◌, length, Option, Some, None, option_map}
 use Rattle.ice_ids.specs.declared.Id12.{Id12}
-use Rattle.tree_model.specs.Trees.{Tree}
-use Rattle.tree_model.specs.Changes.{Changes, apply}
-use Rattle.plain_object.specs.Objects.{Snapshot as Snap, ref_of}
+use Rattle.zarr_tree.specs.Trees.{Tree}
+use Rattle.zarr_tree.specs.Changes.{Changes, apply}
+use Rattle.snapshot_file.specs.declared.snapshot.SnapshotFile.{SnapshotFile as Snap}
+use Rattle.repo_objects.specs.Readings.{ref_of}
 use Rattle.store_api.specs.declared.keys.Key.TheVariants.{Branch}
 use Rattle.store_api.specs.declared.keys.Why.{Why}
 use Rattle.store_api.specs.declared.keys.Why.TheVariants.{Commit as For_commit}

@@ -1,8 +1,8 @@
 -- Branches as lists of trees. There are no objects, files or retries here.
 use Rattle.std.specs.Prelude.{ℕ, ◌==◌, if◌then◌else◌, List, [], ◌∷◌, Option, Some, None, option_map}
 use Rattle.ice_ids.specs.declared.Id12.{Id12}
-use Rattle.tree_model.specs.Trees.{Tree}
-use Rattle.tree_model.specs.Changes.{Changes, apply}
+use Rattle.zarr_tree.specs.Trees.{Tree}
+use Rattle.zarr_tree.specs.Changes.{Changes, apply}
 
 -- what a branch named from some version on: a snapshot, and the tree that it has, if it is readable
 pub record Entry : Type 0 where

@@ -1,117 +1,155 @@
-//! Edits and changes of trees. ` + ` stands between a tree and the nodes that are added, and ` ? ` before a path that is
-//! looked at.
+//! Changes of the initial snapshot, which has no nodes. `/a=7` adds a group whose id is of this number, and `/x=8:array` an
+//! array of 4 numbers; `~/a` gives the metadata of a group, and `~/x:array` that of an array of 6; `-/a` drops.
+//! ` ? ` stands before a path that is looked at.
 
+use crate::files::push_lists;
+use crate::loads::node_told;
 use crate::texts::path_of;
-use crate::told::{fault_told, push_ids};
-use crate::trees::{row_of, tree_of, tree_told};
-use crate::words::NoAnswer;
-use change_set::ChangeSet;
+use crate::words::{NoAnswer, small_number_of};
+use ice_ids::{Id8, Id12};
+use repo_objects::Loaded;
+use snapshot_file::INITIAL_FILE;
 use std::alloc::{AllocError, Global};
-use tree_model::{Changes, Edit, Node, Nodes, Tree, apply, change, touched};
+use zarr_changes::ChangeSet;
+use zarr_meta::{IntKind, Meta};
+use zarr_tree::EditFault;
 
-/// The node of a look-up.
-fn found_told(alloc: Global, found: Option<Node>) -> Result<String, AllocError> {
-    match found {
-        Some(node) => format!(in alloc; "{}", node.id),
-        None => String::from_str(alloc, "no node"),
+/// The initial snapshot, its changes, and what is told of refused ones.
+#[derive(Drop)]
+struct Changed {
+    base: Loaded,
+    set: ChangeSet,
+    told: String,
+}
+
+/// The id of this number.
+fn id_of(number: u32) -> Id8 {
+    let [a, b, c, d] = number.to_be_bytes();
+    Id8([0, 0, 0, 0, a, b, c, d])
+}
+
+/// A text up to a mark, and what stands behind it, if anything does.
+fn parted(text: &str, mark: char) -> (&str, &str) {
+    match text.split_once(mark) {
+        Some((before, behind)) => (before, behind),
+        None => (text, ""),
     }
 }
 
-/// A tree to which nodes are pushed; those that come before another one are told. Then, where a path is asked for, the
-/// node there, in a copy.
-pub fn tell_tree(alloc: Global, text: &str) -> Result<String, NoAnswer> {
-    let (words, asked) = match text.split_once(" ? ") {
-        Some((words, path)) => (words, Some(path)),
-        None => (text, None),
-    };
-    let mut tree = Tree::new(alloc);
-    let mut told = String::new(alloc);
-    for word in words.split(' ') {
-        let (path, node) = row_of(alloc, word)?;
-        if !tree.push(path, node)? {
-            write!(told, "not behind: {word}, ")?;
+/// The metadata of a group, or of an array of so many numbers.
+fn meta_of(alloc: Global, kind: &str, len: u64) -> Result<Meta, NoAnswer> {
+    if kind.is_empty() {
+        return Ok(Meta::plain_group(alloc)?);
+    }
+    if kind != "array" {
+        return Err(NoAnswer::Words);
+    }
+    match Meta::plain_array(alloc, IntKind::Uint8, &[len], &[2], 0) {
+        Ok(meta) => Ok(meta),
+        Err(_) => Err(NoAnswer::Words),
+    }
+}
+
+impl Changed {
+    /// No changes.
+    fn new(alloc: Global) -> Result<Changed, NoAnswer> {
+        let Ok(base) = Loaded::read(alloc, Id12::INITIAL, &INITIAL_FILE) else {
+            return Err(NoAnswer::NoMemory);
+        };
+        Ok(Changed {
+            base,
+            set: ChangeSet::new(alloc),
+            told: String::new(alloc),
+        })
+    }
+
+    /// Adds the node of a word. A refusal is told with that of the call that only asks.
+    fn add(&mut self, alloc: Global, word: &str) -> Result<(), NoAnswer> {
+        let (path, node) = parted(word, '=');
+        let (number, kind) = parted(node, ':');
+        let path = path_of(alloc, path)?;
+        let id = id_of(small_number_of(number)?);
+        let meta = meta_of(alloc, kind, 4)?;
+        let may = self.set.may_add(&self.base, &path);
+        if let Err(fault) = self.set.add(alloc, &self.base, &path, id, meta) {
+            write!(self.told, "{word} {fault:?}, before that {may:?}, ")?;
         }
+        Ok(())
     }
-    let copy = tree.copy(alloc)?;
-    match asked {
-        Some(path) => told.push_str(found_told(alloc, copy.find(path))?.as_str())?,
-        None => write!(told, "{} nodes{}", copy.len(), tree_told(alloc, &copy)?)?,
-    }
-    Ok(told)
-}
 
-/// The tree that an edit of a tree gives.
-pub fn tell_edit(alloc: Global, text: &str) -> Result<String, NoAnswer> {
-    let (words, word) = text.split_once(" + ").ok_or(NoAnswer::Words)?;
-    let tree = tree_of(alloc, words)?;
-    let (path, node) = row_of(alloc, word)?;
-    match change(alloc, &tree, &Edit::Add { path, id: node.id }) {
-        Ok(after) => Ok(format!(in alloc; "{} nodes{}", after.len(), tree_told(alloc, &after)?)?),
-        Err(fault) => fault_told(alloc, fault),
-    }
-}
-
-/// A tree under changes, and what they touch.
-pub fn tell_apply(alloc: Global, text: &str) -> Result<String, NoAnswer> {
-    let (words, more) = text.split_once(" + ").ok_or(NoAnswer::Words)?;
-    let tree = tree_of(alloc, words)?;
-    let mut added = Nodes::new(alloc);
-    for word in more.split(' ') {
-        let (path, node) = row_of(alloc, word)?;
-        added.insert(path, node)?;
-    }
-    let changes = Changes { added };
-    let lists = touched(alloc, &changes, &tree)?;
-    let mut told = String::new(alloc);
-    push_ids(&mut told, "new_groups", lists.new_groups.as_slice())?;
-    told.push_str(tree_told(alloc, &apply(alloc, &changes, &tree)?)?.as_str())?;
-    Ok(told)
-}
-
-/// Adds nodes to a set of changes, and tells each refusal.
-fn add_all(
-    alloc: Global,
-    base: &Tree,
-    set: &mut ChangeSet,
-    words: &str,
-) -> Result<String, NoAnswer> {
-    let mut told = String::new(alloc);
-    for word in words.split(' ') {
-        let (path, node) = row_of(alloc, word)?;
-        let may = set.may_add(base, &path);
-        if let Err(fault) = set.add(alloc, base, &path, node.id) {
-            write!(told, "{word} {fault:?}, before that {may:?}, ")?;
+    /// Gives the node at the path of a word other metadata, or drops it.
+    fn change(&mut self, alloc: Global, word: &str) -> Result<Result<(), EditFault>, NoAnswer> {
+        if let Some(path) = word.strip_prefix('-') {
+            let path = path_of(alloc, path)?;
+            return Ok(self.set.drop_node(alloc, &self.base, &path));
         }
+        let (path, kind) = parted(word.strip_prefix('~').ok_or(NoAnswer::Words)?, ':');
+        let path = path_of(alloc, path)?;
+        let meta = meta_of(alloc, kind, 6)?;
+        Ok(self.set.set_meta(alloc, &self.base, &path, meta))
     }
-    Ok(told)
+
+    /// Makes the changes of words, and tells each refusal.
+    fn change_all(&mut self, alloc: Global, words: &str) -> Result<(), NoAnswer> {
+        for word in words.split(' ') {
+            if word.starts_with('/') {
+                self.add(alloc, word)?;
+            } else if let Err(fault) = self.change(alloc, word)? {
+                write!(self.told, "{word} {fault:?}, ")?;
+            }
+        }
+        Ok(())
+    }
+
+    /// The nodes that there are now, in a copy of the changes.
+    fn push_rows(&mut self, alloc: Global) -> Result<(), AllocError> {
+        let copy = self.set.copy(alloc)?;
+        let mut rows = copy.over(&self.base);
+        while let Some((path, found)) = rows.next() {
+            let node = node_told(alloc, found)?;
+            write!(self.told, "\n  {path} {node}")?;
+        }
+        Ok(())
+    }
+
+    /// The net changes, and the nodes that there are now.
+    fn push_all(&mut self, alloc: Global) -> Result<(), AllocError> {
+        if self.set.is_empty(&self.base) {
+            return self.told.push_str("no changes");
+        }
+        let net = self.set.net(alloc, &self.base)?;
+        self.told.push_str("changes")?;
+        push_lists(&mut self.told, &net)?;
+        self.push_rows(alloc)
+    }
+
+    /// The node at a path, and the paths beneath it.
+    fn push_found(&mut self, alloc: Global, text: &str) -> Result<(), NoAnswer> {
+        let path = path_of(alloc, text)?;
+        match self.set.lookup(&self.base, text) {
+            Some(found) => self.told.push_str(node_told(alloc, found)?.as_str())?,
+            None => self.told.push_str("no node")?,
+        }
+        for (inner, is_array) in self.set.beneath(alloc, &self.base, &path)? {
+            let kind = if is_array { "array" } else { "group" };
+            write!(self.told, "\n  {inner} {kind}")?;
+        }
+        Ok(())
+    }
 }
 
-/// What a set of changes shows at a path and beneath it.
-fn look(alloc: Global, base: &Tree, set: &ChangeSet, text: &str) -> Result<String, NoAnswer> {
-    let path = path_of(alloc, text)?;
-    let mut told = found_told(alloc, set.lookup(base, text))?;
-    for inner in set.beneath(alloc, base, &path)? {
-        write!(told, "\n  {inner}")?;
-    }
-    Ok(told)
-}
-
-/// A set of changes over a tree: the refusals, whether it is empty, its net changes and its tree; or what it shows.
+/// A set of changes: the refusals, its net changes and the nodes; or what is found at a path.
 pub fn tell_changes(alloc: Global, text: &str) -> Result<String, NoAnswer> {
-    let (words, rest) = text.split_once(" + ").ok_or(NoAnswer::Words)?;
-    let base = tree_of(alloc, words)?;
-    let mut set = ChangeSet::new(alloc);
-    if let Some((more, path)) = rest.split_once(" ? ") {
-        add_all(alloc, &base, &mut set, more)?;
-        return look(alloc, &base, &set.copy(alloc)?, path);
+    let mut changed = Changed::new(alloc)?;
+    match text.split_once(" ? ") {
+        Some((words, path)) => {
+            changed.change_all(alloc, words)?;
+            changed.push_found(alloc, path)?;
+        }
+        None => {
+            changed.change_all(alloc, text)?;
+            changed.push_all(alloc)?;
+        }
     }
-    let mut told = add_all(alloc, &base, &mut set, rest)?;
-    if set.is_empty() {
-        told.push_str("no changes")?;
-        return Ok(told);
-    }
-    let net = set.net(alloc, &base)?;
-    push_ids(&mut told, "new_groups", net.new_groups.as_slice())?;
-    told.push_str(tree_told(alloc, &set.tree(alloc, &base)?)?.as_str())?;
-    Ok(told)
+    Ok(changed.told)
 }

@@ -5,7 +5,7 @@ use crate::words::NoAnswer;
 use flat_tables::{Kind, WriteFault, header_read, header_write};
 use std::alloc::{AllocError, Global};
 use txn_file::TxnFile;
-use zarr_tree::{ArrayChunks, Ids};
+use zarr_tree::{ArrayChunks, Ids, Touched};
 
 /// The kind that a file's header names.
 pub fn tell_header(alloc: Global, file: &[u8]) -> Result<String, NoAnswer> {
@@ -58,17 +58,21 @@ fn push_chunks(told: &mut String, arrays: &[ArrayChunks]) -> Result<(), AllocErr
     Ok(())
 }
 
+/// Appends the lists of net changes that aren't empty.
+pub fn push_lists(told: &mut String, lists: &Touched) -> Result<(), AllocError> {
+    push_list(told, "new_groups", &lists.new_groups)?;
+    push_list(told, "new_arrays", &lists.new_arrays)?;
+    push_list(told, "deleted_groups", &lists.deleted_groups)?;
+    push_list(told, "deleted_arrays", &lists.deleted_arrays)?;
+    push_list(told, "updated_arrays", &lists.updated_arrays)?;
+    push_list(told, "updated_groups", &lists.updated_groups)?;
+    push_chunks(told, lists.updated_chunks.as_slice())
+}
+
 /// What a transaction log says.
-fn log_told(alloc: Global, log: &TxnFile) -> Result<String, AllocError> {
+pub fn log_told(alloc: Global, log: &TxnFile) -> Result<String, AllocError> {
     let mut told = format!(in alloc; "log {}", log.id)?;
-    let lists = &log.lists;
-    push_list(&mut told, "new_groups", &lists.new_groups)?;
-    push_list(&mut told, "new_arrays", &lists.new_arrays)?;
-    push_list(&mut told, "deleted_groups", &lists.deleted_groups)?;
-    push_list(&mut told, "deleted_arrays", &lists.deleted_arrays)?;
-    push_list(&mut told, "updated_arrays", &lists.updated_arrays)?;
-    push_list(&mut told, "updated_groups", &lists.updated_groups)?;
-    push_chunks(&mut told, lists.updated_chunks.as_slice())?;
+    push_lists(&mut told, &log.lists)?;
     Ok(told)
 }
 

@@ -1,14 +1,11 @@
 //! The kinds of cases.
 
-use crate::changing::{tell_apply, tell_changes, tell_edit, tell_tree};
+use crate::changing::tell_changes;
 use crate::files::{tell_header, tell_header_of, tell_log, tell_log_again};
 use crate::grids::{tell_grid, tell_in_grid};
+use crate::loads::{tell_known_log, tell_known_ref, tell_loaded};
 use crate::manifests::{tell_manifest, tell_manifest_again};
 use crate::metas::{tell_json, tell_member, tell_meta, tell_meta_text, tell_number, tell_plain};
-use crate::plain::{
-    tell_plain_initial, tell_plain_log, tell_plain_log_again, tell_plain_ref, tell_plain_snapshot,
-    tell_plain_snapshot_again,
-};
 use crate::refusals::tell_refusal;
 use crate::scripts::tell_script;
 use crate::snapshots::{tell_initial, tell_snapshot, tell_snapshot_again};
@@ -45,12 +42,10 @@ fn tell_file(alloc: Global, kind: &str, bytes: &[u8]) -> Result<String, NoAnswer
         "manifest_again" => tell_manifest_again(alloc, bytes),
         "log" => tell_log(alloc, bytes),
         "log_again" => tell_log_again(alloc, bytes),
-        "plain_snapshot" => tell_plain_snapshot(alloc, bytes),
-        "plain_snapshot_again" => tell_plain_snapshot_again(alloc, bytes),
-        "plain_log" => tell_plain_log(alloc, bytes),
-        "plain_log_again" => tell_plain_log_again(alloc, bytes),
+        "loaded" => tell_loaded(alloc, bytes),
+        "known_log" => tell_known_log(alloc, bytes),
+        "known_ref" => tell_known_ref(alloc, bytes),
         "script" => tell_script(alloc, bytes),
-        "plain_ref" => tell_plain_ref(alloc, bytes),
         _ => tell_text(alloc, kind, text_of(bytes)?),
     }
 }
@@ -71,7 +66,6 @@ fn tell_text(alloc: Global, kind: &str, text: &str) -> Result<String, NoAnswer> 
         "ref_of" => tell_ref_of(alloc, text),
         "header_of" => tell_header_of(alloc, text),
         "initial_snapshot" => tell_initial(alloc),
-        "plain_initial" => tell_plain_initial(alloc),
         _ => tell_words(alloc, kind, text),
     }
 }
@@ -82,9 +76,6 @@ fn tell_words(alloc: Global, kind: &str, text: &str) -> Result<String, NoAnswer>
         "plain_meta" => tell_plain(alloc, text),
         "grid" => tell_grid(alloc, text),
         "in_grid" => tell_in_grid(alloc, text),
-        "tree" => tell_tree(alloc, text),
-        "edit" => tell_edit(alloc, text),
-        "apply" => tell_apply(alloc, text),
         "changes" => tell_changes(alloc, text),
         "object" => tell_object(alloc, text),
         "refusal" => tell_refusal(alloc, text),

@@ -9,17 +9,16 @@ mod files;
 mod grids;
 mod kept;
 mod kinds;
+mod loads;
 mod manifests;
 mod metas;
 mod parts;
-mod plain;
 mod refusals;
 mod scripts;
 mod snapshots;
 mod store_keys;
 mod texts;
 mod told;
-mod trees;
 mod words;
 
 use answering::answer;

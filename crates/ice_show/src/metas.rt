@@ -61,7 +61,7 @@ fn view_told(alloc: Global, view: &View) -> Result<String, AllocError> {
 }
 
 /// Why a text is no metadata.
-fn meta_fault_told(alloc: Global, fault: &MetaFault) -> Result<String, AllocError> {
+pub fn meta_fault_told(alloc: Global, fault: &MetaFault) -> Result<String, AllocError> {
     match fault {
         MetaFault::Extra(name) => format!(in alloc; "fault extra {}", name.as_str()),
         fault => format!(in alloc; "fault {fault}"),

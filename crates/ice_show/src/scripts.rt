@@ -11,10 +11,7 @@ fn push_lines(told: &mut String, lines: &[Line]) -> Result<(), AllocError> {
         match &line.call {
             Call::Edit(EditCall::Group { path }) => write!(told, "group {path}")?,
             Call::Read(ReadCall::List { path }) => write!(told, "list {path}")?,
-            Call::Commit { message } => {
-                let message = str::from_utf8(message.as_slice()).unwrap_or("no text");
-                write!(told, "commit '{message}'")?
-            }
+            Call::Commit { message } => write!(told, "commit '{}'", message.as_str())?,
         }
     }
     Ok(())

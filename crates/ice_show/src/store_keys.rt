@@ -15,7 +15,7 @@ fn name_of(alloc: Global, text: &str) -> Result<RefName, NoAnswer> {
 }
 
 /// The id of an object.
-fn id_of(text: &str) -> Result<Id12, NoAnswer> {
+pub fn id_of(text: &str) -> Result<Id12, NoAnswer> {
     match Id12::read(text.as_bytes()) {
         Ok(id) => Ok(id),
         Err(_) => Err(NoAnswer::Words),

@@ -73,6 +73,14 @@ pub fn indices_of(alloc: Global, word: &str) -> Result<Vec<u32>, NoAnswer> {
     Ok(numbers)
 }
 
+/// A number of 64 bits.
+pub fn number_of(word: &str) -> Result<u64, NoAnswer> {
+    match word.parse::<u64>() {
+        Ok(number) => Ok(number),
+        Err(_) => Err(NoAnswer::Words),
+    }
+}
+
 /// A number of 32 bits.
 pub fn small_number_of(word: &str) -> Result<u32, NoAnswer> {
     match word.parse::<u32>() {

@@ -4,9 +4,11 @@ use ice_base::RefName;
 use ice_ids::Id12;
 use play_outcome::{End, Outcome, RefLine, RefLines, Shown, Shows};
 use play_report::report;
+use ref_file::RefFault;
+use repo_objects::Bad;
 use std::alloc::Global;
 use std::test::Fail;
-use store_api::{Bad, Key, Refusal};
+use store_api::{Key, Refusal};
 use zarr_path::Path;
 
 const ID: Id12 = Id12::INITIAL;
@@ -71,7 +73,8 @@ fn tasks_and_refs(rt: HostRuntime) -> Result<(), Fail> {
 fn nothing_was_played(rt: HostRuntime) -> Result<(), Fail> {
     let alloc = rt.alloc();
     let opening = Err(Refusal::StoreFault);
-    let refs = Err(Refusal::BadFile(Key::Branch(RefName::main(alloc)?), Bad::Plain));
+    let main = Key::Branch(RefName::main(alloc)?);
+    let refs = Err(Refusal::BadFile(main, Bad::Ref(RefFault::Json)));
     let text = report(alloc, &[b"a"], &opening, &[], &refs)?;
     let wanted = "init refused storefault\nrefs refused badfile refs/branch.main/ref.json\n";
     assert_eq!(rt; text.as_slice(), wanted.as_bytes());

@@ -5,14 +5,15 @@ ghost use Rattle.store_api.specs.Callers.{only};
 
 use ice_base::{Bytes, RefName};
 use ice_ids::Id12;
-use plain_object::ref_write;
 use play_outcome::RefLine;
+use ref_file::{RefFault, ref_write};
+use repo_objects::Bad;
 use repository::{begin, read_refs};
 use std::alloc::{AllocError, Global};
 use std::test::Fail;
 use store_api::{
-    Bad, Entries, Entry, Gone, GoneAt, Got, Key, Listed, New, Over, Part, Refusal, Store,
-    StoreFault, Version, Why,
+    Entries, Entry, Gone, GoneAt, Got, Key, Listed, New, Over, Part, Refusal, Store, StoreFault,
+    Version, Why,
 };
 
 /// The branches `late`, that is gone by the time that it is got, and `main`; the tags `a` and `b`,
@@ -155,6 +156,11 @@ fn a_bad_ref_is_refused(rt: HostRuntime) -> Result<(), Fail> {
         puts: 0,
     };
     let refused = read_refs(rt.alloc(), &mut store);
-    assert!(rt; matches!(refused, Err(Refusal::BadFile(Key::Tag(_), Bad::Plain))));
+    assert!(rt;
+        matches!(
+            refused,
+            Err(Refusal::BadFile(Key::Tag(_), Bad::Ref(RefFault::Member)))
+        )
+    );
     Ok(())
 }

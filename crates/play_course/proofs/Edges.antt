@@ -1,9 +1,12 @@
 -- What the opening and the closing reading answer in a run over an empty store.
 use Rattle.std.proofs.Common.{◌≡◌, ℕ, zero, suc, inl, inr, Bool, true, false, cond, List, [], ◌∷◌, ◌++◌, refl, sym, ◌∙◌, ap, subst}
-use Rattle.std.specs.Prelude.{Option, Some, None, Result, Ok, Err, slice_get}
+use Rattle.std.specs.Prelude.{Some, None, Result, Ok, Err, slice_get}
 use Rattle.ice_ids.specs.declared.Id12.{Id12}
-use Rattle.plain_object.specs.Objects.{snapshot_of, initial_snapshot}
-use Rattle.plain_object.proofs.SnapshotLaws.{initial-law}
+use Rattle.snapshot_file.specs.Initial.{initial_snapshot}
+use Rattle.repo_objects.specs.declared.bad.Bad.{Bad}
+use Rattle.repo_objects.specs.Readings.{snapshot_by, read_ref as read_bytes}
+use Rattle.repo_objects.specs.Laws.{InitialLaw}
+use Rattle.ice_ids.specs.Text.{initial_id}
 use Rattle.store_api.specs.declared.keys.Key.{Key}
 use Rattle.store_api.specs.declared.keys.Key.TheVariants.{Snapshot, Manifest, Txn, Chunk, Branch, Tag, TagGone}
 use Rattle.store_api.specs.declared.keys.Part.{Part}
@@ -26,26 +29,26 @@ use Rattle.repository.specs.Refs.{list_part, on_listed, read_ref, on_got, on_id,
 use Rattle.run_histories.proofs.Programs.{IsPlain}
 use Rattle.play_course.specs.Refusing.{is_strange, strange_answer}
 use Rattle.play_course.proofs.Tidy.{tidy-more, IsTidy, IsAny, Puts, all-named}
-use Rattle.play_course.proofs.Meeting.{Plain, Meets, done-meets, ask-meets, then-meets, meets-weaker, got-meets, replied}
+use Rattle.play_course.proofs.Meeting.{was-read, Plain, Meets, done-meets, ask-meets, then-meets, meets-weaker, got-meets, replied}
 
 -- ---- the events of the opening and the closing reading
-plain-puts : (op : Op) → IsPlain op → Puts (λ id. ⊥) op
-plain-puts (Get key) p = tt
-plain-puts (ListPart part) p = tt
-plain-puts (PutNew (Snapshot id) bytes why) p = ((initial_snapshot, ap snapshot_of p.1 ∙ initial-law), inl p.0)
-plain-puts (PutNew (Branch name) bytes why) p = tt
-plain-puts (PutNew (Manifest id) bytes why) p = absurd p
-plain-puts (PutNew (Txn id) bytes why) p = absurd p
-plain-puts (PutNew (Chunk id) bytes why) p = absurd p
-plain-puts (PutNew (Tag name) bytes why) p = absurd p
-plain-puts (PutNew (TagGone name) bytes why) p = absurd p
-plain-puts (PutOver key bytes old why) p = absurd p
-plain-puts (Remove key why) p = absurd p
-plain-puts (RemoveAt key old why) p = absurd p
+plain-puts : InitialLaw → (op : Op) → IsPlain op → Puts (λ id. ⊥) op
+plain-puts initial (Get key) p = tt
+plain-puts initial (ListPart part) p = tt
+plain-puts initial (PutNew (Snapshot id) bytes why) p = ((initial_snapshot, ap (λ (i : Id12). snapshot_by i bytes) p.0 ∙ (ap (snapshot_by initial_id) p.1 ∙ initial)), inl p.0)
+plain-puts initial (PutNew (Branch name) bytes why) p = tt
+plain-puts initial (PutNew (Manifest id) bytes why) p = absurd p
+plain-puts initial (PutNew (Txn id) bytes why) p = absurd p
+plain-puts initial (PutNew (Chunk id) bytes why) p = absurd p
+plain-puts initial (PutNew (Tag name) bytes why) p = absurd p
+plain-puts initial (PutNew (TagGone name) bytes why) p = absurd p
+plain-puts initial (PutOver key bytes old why) p = absurd p
+plain-puts initial (Remove key why) p = absurd p
+plain-puts initial (RemoveAt key old why) p = absurd p
 
 -- they put nothing under any client's ids
-pub plain-tidy : (old own : List Event) → Each IsGood old own → Each (λ journal event. IsPlain event.op) old own → Each (IsTidy (λ id. ⊥)) old own
-plain-tidy old own good plain = Each-both IsGood (λ journal event. IsPlain event.op) (IsTidy (λ id. ⊥)) (λ journal event g p. record { good = g; puts = plain-puts event.op p }) old own good plain
+pub plain-tidy : InitialLaw → (old own : List Event) → Each IsGood old own → Each (λ journal event. IsPlain event.op) old own → Each (IsTidy (λ id. ⊥)) old own
+plain-tidy initial old own good plain = Each-both IsGood (λ journal event. IsPlain event.op) (IsTidy (λ id. ⊥)) (λ journal event g p. record { good = g; puts = plain-puts initial event.op p }) old own good plain
 
 -- ---- answers
 module _ (who : Id12 → Type 0) where
@@ -163,7 +166,7 @@ module _ (who : Id12 → Type 0) where
       let after = tidy-next journal more event tidy others any in
       got-meets Reads who (on_got key) (journal ++ more) event any.good ((journal ++ more) ++ event ∷ []) key is
       (λ s at. let n = named-at key (journal ++ more) s r (tidy-more who journal more tidy others) at in
-      subst (λ (o : Option Id12). Meets Reads who (Done (on_id key o)) ((journal ++ more) ++ event ∷ [])) (sym n.reference) (done-meets Reads who (on_id key (Some n.id)) ((journal ++ more) ++ event ∷ []) after))
+      subst (λ (o : Result Id12 Bad). Meets Reads who (Done (on_id key o)) ((journal ++ more) ++ event ∷ [])) (sym (was-read (read_bytes s.bytes) n.id n.reference)) (done-meets Reads who (on_id key (Ok n.id)) ((journal ++ more) ++ event ∷ []) after))
       (λ gone. done-meets Reads who (Ok None) ((journal ++ more) ++ event ∷ []) after)
       (λ done. done-meets Reads who (Err StoreFault) ((journal ++ more) ++ event ∷ []) refl))
 

@@ -4,8 +4,8 @@ use Rattle.std.specs.Prelude.{Option, Some, None, Result, Ok, Err, IsTrue, IfOk,
 use Rattle.std.specs.declared.alloc.AllocError.{AllocError}
 use Rattle.ice_ids.specs.declared.Id12.{Id12}
 use Rattle.ice_ids.specs.declared.drawing.Draw.{Draw}
-use Rattle.tree_model.specs.Changes.{Changes}
-use Rattle.plain_object.specs.Objects.{ref_of}
+use Rattle.zarr_tree.specs.Changes.{Changes}
+use Rattle.repo_objects.specs.Readings.{ref_of}
 use Rattle.store_api.specs.declared.events.Event.{Event}
 use Rattle.store_api.specs.declared.keys.Key.TheVariants.{Branch}
 use Rattle.store_api.specs.declared.machines.Refusal.{Refusal}

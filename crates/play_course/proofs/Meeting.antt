@@ -1,6 +1,7 @@
 -- What programs of store operations answer, where the events of all are those of a run over an empty store.
 use Rattle.std.proofs.Common.{◌≡◌, ℕ, true, false, ◌⊎◌, inl, inr, Bool, List, [], ◌∷◌, ◌++◌, length, refl, sym, ◌∙◌, ap, subst, append_assoc, append-nil}
 use Rattle.std.specs.Prelude.{Option, Some, None, Result, Ok, Err}
+use Rattle.std.specs.Result.{result_ok}
 use Rattle.ice_ids.specs.declared.Id12.{Id12}
 use Rattle.store_api.specs.declared.keys.Key.{Key}
 use Rattle.store_api.specs.declared.keys.Why.{Why}
@@ -189,6 +190,11 @@ module _ {A : Type 0} (Q : A → List Event → Type 0) (who : Id12 → Type 0) 
     | inl h ↦ subst (λ (r : Reply). Meets Q who (next r) after) (sym (h ∙ ap (λ (o : Option Stored). Is_new (new_of (length journal) event.time o)) free)) put
     | inr f ↦ subst (λ (r : Reply). Meets Q who (next r) after) (sym f.is) (failed f.done)
   ]
+
+-- what was read
+pub was-read : {A E : Type 0} (r : Result A E) (a : A) → result_ok r ≡ Some a → r ≡ Ok a
+was-read (Ok x) a e = cc
+was-read (Err why) a e = cc
 
 -- ---- answers
 -- a result that isn't refused as no run over an empty store is

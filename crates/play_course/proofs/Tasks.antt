@@ -5,12 +5,21 @@ use Rattle.ice_ids.specs.declared.Id8.{Id8}
 use Rattle.ice_ids.specs.declared.Id12.{Id12}
 use Rattle.ice_ids.specs.declared.drawing.AnyIds.{AnyIds}
 use Rattle.ice_ids.specs.Drawing.{drawn8, drawn12}
-use Rattle.tree_model.specs.declared.edit.Edit.TheVariants.{Add}
-use Rattle.tree_model.specs.declared.edit.EditFault.{EditFault}
-use Rattle.tree_model.specs.declared.edit.EditFault.TheVariants as F
-use Rattle.tree_model.specs.Trees.{refusal, node_at}
-use Rattle.tree_model.specs.Touched.{touched, is_untouched}
-use Rattle.plain_object.specs.Objects.{Snapshot as Snap, log_bytes, snapshot_bytes, ref_bytes}
+use Rattle.flat_tables.specs.declared.header.Kind.TheVariants as kinds
+use Rattle.zarr_meta.specs.declared.faults.MetaFault.{MetaFault}
+use Rattle.zarr_meta.specs.Meta.{meta_of}
+use Rattle.zarr_meta.specs.Plain.{group_text}
+use Rattle.zarr_tree.specs.declared.edit.EditFault.{EditFault}
+use Rattle.zarr_tree.specs.declared.edit.EditFault.TheVariants as F
+use Rattle.zarr_tree.specs.Held.{touched}
+use Rattle.zarr_tree.specs.Touched.{is_untouched}
+use Rattle.zarr_changes.specs.Sets.{add_refusal}
+use Rattle.snapshot_file.specs.declared.snapshot.SnapshotFile.{SnapshotFile}
+use Rattle.snapshot_file.specs.Layout.{snapshot_bytes}
+use Rattle.txn_file.specs.Layout.{log_file}
+use Rattle.ref_file.specs.Refs.{ref_bytes}
+use Rattle.repo_objects.specs.declared.bad.Bad.{Bad}
+use Rattle.repo_objects.specs.Readings.{read_snapshot, read_ref}
 use Rattle.store_api.specs.declared.keys.Key.{Key}
 use Rattle.store_api.specs.declared.keys.Key.TheVariants.{Snapshot, Txn, Branch}
 use Rattle.store_api.specs.declared.keys.Why.TheVariants.{Set, Commit as For_commit}
@@ -23,15 +32,18 @@ use Rattle.store_api.specs.declared.machines.Refusal.{Refusal}
 use Rattle.store_api.specs.declared.machines.Refusal.TheVariants as R
 use Rattle.store_api.specs.Machine.{found, version_at, is_on}
 use Rattle.store_api.specs.Journal.{Each, WasPut}
-use Rattle.store_api.specs.Program.{Done}
+use Rattle.store_api.specs.Program.{Done, Ask}
 use Rattle.store_api.proofs.Journals.{Each-one}
 use Rattle.store_api.proofs.Slots.{WasPut-append}
 use Rattle.session.specs.declared.session.Listing.{Listing}
-use Rattle.session.specs.Sessions.{SessionState, overlay}
-use Rattle.session.specs.Opening.{Asked, open_program, get_base, after_ref, after_name, after_base, read_base}
-use Rattle.session.specs.Editing.{group_added, unless_refused, drawn_group, any_id, if_there, listed}
+use Rattle.store_api.specs.Running.{Program, on_answer}
+use Rattle.repo_read.specs.declared.answers.Resolved.{Resolved}
+use Rattle.repo_read.specs.Answers.{at_key, resolved_at, ref_told, snapshot_told}
+use Rattle.session.specs.Sessions.{SessionState, base_nodes, nodes_seen}
+use Rattle.session.specs.Opening.{Asked, open_program, base_program, begun}
+use Rattle.session.specs.Editing.{group_fault, group_added, unless_bad, unless_refused, refusal_of_edit, drawn_node, if_there, listed}
 use Rattle.commit_path.specs.declared.commit.Committed.{Committed as Made}
-use Rattle.commit_path.specs.Committing.{commit_program, put_snapshot, put_branch, after_log, after_snapshot, after_branch, snap_for, started, drawn_start}
+use Rattle.commit_path.specs.Committing.{commit_program, put_branch, after_log, after_snapshot, after_branch, after_draw, is_long, log_for, snap_for, started, drawn_start}
 use Rattle.play_script.specs.declared.scripts.Call.{Call}
 use Rattle.play_script.specs.declared.scripts.Call.TheVariants.{Edit, Read, Commit}
 use Rattle.play_script.specs.declared.scripts.EditCall.TheVariants.{Group}
@@ -46,7 +58,7 @@ use Rattle.play_tasks.specs.Playing.{Rest, after_line, after_start, after_commit
 use Rattle.run_histories.proofs.Drawing.{IsDrawnBy, AreOf, group-draws, start-draws, head-ids}
 use Rattle.play_course.specs.Refusing.{is_strange, strange_answer, strange_end}
 use Rattle.play_course.proofs.Tidy.{tidy-more, IsAny, IsOthers, Puts, stands-readable, put-stands, all-named, spared-snapshot, spared-log, free-others, free-apart}
-use Rattle.play_course.proofs.Meeting.{Plain, Meets, PlayMeets, done-meets, ask-meets, ended-meets, or-meets, call-meets, got-meets, put-meets}
+use Rattle.play_course.proofs.Meeting.{was-read, Plain, Meets, PlayMeets, done-meets, ask-meets, ended-meets, or-meets, call-meets, got-meets, put-meets}
 
 -- ---- the calls of sessions
 -- no refusal of this result is strange
@@ -56,16 +68,28 @@ IsPlain {A} r = (why : Refusal) → ◌≡◌ {A = Result A Refusal} r (Err why)
 refused_as : {A : Type 0} (why given : Refusal) → is_strange given ≡ false → ◌≡◌ {A = Result A Refusal} (Err given) (Err why) → is_strange why ≡ false
 refused_as why given plain e = let same : given ≡ why = cc in subst (λ (w : Refusal). is_strange w ≡ false) same plain
 
-drawn-plain : (s : SessionState) (path : List ℕ) (o : Option Id8) → IsPlain (drawn_group s path o)
-drawn-plain s path None why e = refused_as why R.IdsSpent refl e
-drawn-plain s path (Some id) why e = cc
+drawn-plain : (s : SessionState) (path text : List ℕ) (o : Option Id8) → IsPlain (drawn_node s path text o)
+drawn-plain s path text None why e = refused_as why R.IdsSpent refl e
+drawn-plain s path text (Some id) why e = cc
+
+edit-plain : (fault : EditFault) → is_strange (refusal_of_edit fault) ≡ false
+edit-plain F.NodeExists = refl
+edit-plain F.NoParent = refl
+edit-plain F.Full = refl
+edit-plain F.NoNode = refl
+edit-plain (F.FrozenField part) = refl
+edit-plain F.NotArray = refl
+edit-plain F.OutOfGrid = refl
+edit-plain (F.ChunkLength want got) = refl
+edit-plain F.NoMemory = refl
 
 unless-plain : (o : Option EditFault) (r : Result (Id8 × SessionState) Refusal) → IsPlain r → IsPlain (unless_refused o r)
 unless-plain None r p why e = p why e
-unless-plain (Some F.NodeExists) r p why e = refused_as why R.NodeExists refl e
-unless-plain (Some F.NoParent) r p why e = refused_as why R.NoParent refl e
-unless-plain (Some F.Full) r p why e = refused_as why R.Full refl e
-unless-plain (Some F.NoMemory) r p why e = refused_as why R.NoMemory refl e
+unless-plain (Some fault) r p why e = refused_as why (refusal_of_edit fault) (edit-plain fault) e
+
+text-plain : (o : Option MetaFault) (r : Result (Id8 × SessionState) Refusal) → IsPlain r → IsPlain (unless_bad o r)
+text-plain None r p why e = p why e
+text-plain (Some fault) r p why e = refused_as why (R.BadMeta fault) refl e
 
 writes_or : Bool → Result (Id8 × SessionState) Refusal → Result (Id8 × SessionState) Refusal
 writes_or w r = elim w [
@@ -78,17 +102,24 @@ unfolding writes_or
 writes-plain true r p why e = p why e
 writes-plain false r p why e = refused_as why R.ReadOnly refl e
 
-group-plain : (s : SessionState) (path : List ℕ) → IsPlain (group_added s path)
+group-plain : (s : SessionState) (path text : List ℕ) → IsPlain (group_added s path text)
 unfolding group_added writes_or
-group-plain s path = writes-plain s.writes (unless_refused (refusal (overlay s) (Add path any_id)) (drawn_group s path (drawn8 s.ids))) (unless-plain (refusal (overlay s) (Add path any_id)) (drawn_group s path (drawn8 s.ids)) (drawn-plain s path (drawn8 s.ids)))
+group-plain s path text =
+    let added : Result (Id8 × SessionState) Refusal = unless_refused (add_refusal (nodes_seen s) path) (drawn_node s path text (drawn8 s.ids)) in
+    let plain : IsPlain added = unless-plain (add_refusal (nodes_seen s) path) (drawn_node s path text (drawn8 s.ids)) (drawn-plain s path text (drawn8 s.ids)) in
+    writes-plain s.writes (unless_bad (group_fault (meta_of text)) added) (text-plain (group_fault (meta_of text)) added plain)
 
 there-plain : {A B : Type 0} (o : Option A) (b : B) → IsPlain (if_there o b)
 there-plain None b why e = refused_as why R.NoNode refl e
 there-plain (Some a) b why e = cc
 
+log-plain : (s : SessionState) (id : Id12) (long : Bool) → IsPlain {A = Id12 × SessionState} (if long then Err (R.TooLarge kinds.Log) else Ok (id, after_draw s))
+log-plain s id true why e = refused_as why (R.TooLarge kinds.Log) refl e
+log-plain s id false why e = cc
+
 start-plain : (s : SessionState) (o : Option Id12) → IsPlain (drawn_start s o)
 start-plain s None why e = refused_as why R.IdsSpent refl e
-start-plain s (Some id) why e = cc
+start-plain s (Some id) why e = log-plain s id (is_long (log_file (log_for s id))) why e
 
 tests-plain : (s : SessionState) (w u : Bool) → IsPlain (if w then (if u then Err R.NothingToCommit else drawn_start s (drawn12 s.ids)) else Err R.ReadOnly)
 tests-plain s true true why e = refused_as why R.NothingToCommit refl e
@@ -97,7 +128,7 @@ tests-plain s false u why e = refused_as why R.ReadOnly refl e
 
 started-plain : (s : SessionState) → IsPlain (started s)
 unfolding started
-started-plain s = tests-plain s s.writes (is_untouched (touched s.changes s.tree))
+started-plain s = tests-plain s s.writes (is_untouched (touched s.held (base_nodes s)))
 
 -- ---- what a client knows
 module _ (client : ℕ) where
@@ -132,25 +163,34 @@ module _ (client : ℕ) where
   abbrev Opens : Asked → Result SessionState Refusal → List Event → Type 0
   Opens a r h = Before h × Opened a r
 
-  base-meets : (a : Asked) (base : Id12) (version : ℕ) (journal : List Event) → Before journal → WasPut journal (Snapshot base) → Meets (Opens a) Who (get_base a base version) journal
+  -- what follows the reply to the get of the branch, and what follows the one to the get of the snapshot
+  abbrev after_ref : Asked → Result Resolved Refusal → Program SessionState
+  after_ref a = on_answer (base_program a)
+
+  abbrev after_base : Asked → Resolved → Result SnapshotFile Refusal → Program SessionState
+  after_base a named = on_answer (λ snap. Done (Ok (begun a named.id named.version.0 snap)))
+
+  base-meets : (a : Asked) (named : Resolved) (journal : List Event) → Before journal → WasPut journal (Snapshot named.id) → Meets (Opens a) Who (base_program a named) journal
   unfolding Opened
-  base-meets a base version journal b put = ask-meets (Opens a) Who (Get (Snapshot base)) (after_base a base version) journal (λ more event others any is.
+  base-meets a named journal b put = ask-meets (Opens a) Who (Get (Snapshot named.id)) (λ reply. after_base a named (snapshot_told named.id reply)) journal (λ more event others any is.
       let mid = before-others journal more others b in
-      let after = before-got (journal ++ more) event (Snapshot base) any is mid in
-      got-meets (Opens a) Who (after_base a base version) (journal ++ more) event any.good ((journal ++ more) ++ event ∷ []) (Snapshot base) is
-      (λ s at. let can = stands-readable base (journal ++ more) s mid.tidy at in
-      subst (λ (o : Option Snap). Meets (Opens a) Who (Done (read_base a base version o)) ((journal ++ more) ++ event ∷ [])) (sym can.1) (done-meets (Opens a) Who (read_base a base version (Some can.0)) ((journal ++ more) ++ event ∷ []) (after, refl)))
-      (λ gone. absurd (put-stands (Snapshot base) (journal ++ more) mid.tidy (WasPut-append journal more (Snapshot base) put) gone))
+      let after = before-got (journal ++ more) event (Snapshot named.id) any is mid in
+      got-meets (Opens a) Who (λ reply. after_base a named (snapshot_told named.id reply)) (journal ++ more) event any.good ((journal ++ more) ++ event ∷ []) (Snapshot named.id) is
+      (λ s at. let can = stands-readable named.id (journal ++ more) s mid.tidy at in
+      subst (λ (r : Result SnapshotFile Bad). Meets (Opens a) Who (after_base a named (at_key (Snapshot named.id) r)) ((journal ++ more) ++ event ∷ [])) (sym (was-read (read_snapshot named.id s.bytes) can.0 can.1))
+      (done-meets (Opens a) Who (Ok (begun a named.id named.version.0 can.0)) ((journal ++ more) ++ event ∷ []) (after, refl)))
+      (λ gone. absurd (put-stands (Snapshot named.id) (journal ++ more) mid.tidy (WasPut-append journal more (Snapshot named.id) put) gone))
       (λ done. done-meets (Opens a) Who (Err R.StoreFault) ((journal ++ more) ++ event ∷ []) (after, refl)))
 
   open-meets : (a : Asked) (journal : List Event) → Before journal → Meets (Opens a) Who (open_program a) journal
   unfolding Opened
-  open-meets a journal b = ask-meets (Opens a) Who (Get (Branch a.branch)) (after_ref a) journal (λ more event others any is.
+  open-meets a journal b = ask-meets (Opens a) Who (Get (Branch a.branch)) (λ reply. after_ref a (ref_told a.branch reply)) journal (λ more event others any is.
       let mid = before-others journal more others b in
       let after = before-got (journal ++ more) event (Branch a.branch) any is mid in
-      got-meets (Opens a) Who (after_ref a) (journal ++ more) event any.good ((journal ++ more) ++ event ∷ []) (Branch a.branch) is
+      got-meets (Opens a) Who (λ reply. after_ref a (ref_told a.branch reply)) (journal ++ more) event any.good ((journal ++ more) ++ event ∷ []) (Branch a.branch) is
       (λ s at. let n = (all-named (journal ++ more) mid.tidy).branches a.branch s at in
-      subst (λ (o : Option Id12). Meets (Opens a) Who (after_name a s.version o) ((journal ++ more) ++ event ∷ [])) (sym n.reference) (base-meets a n.id s.version ((journal ++ more) ++ event ∷ []) after (WasPut-append (journal ++ more) (event ∷ []) (Snapshot n.id) n.put)))
+      subst (λ (r : Result Id12 Bad). Meets (Opens a) Who (after_ref a (resolved_at (version_at s.version) (at_key (Branch a.branch) r))) ((journal ++ more) ++ event ∷ [])) (sym (was-read (read_ref s.bytes) n.id n.reference))
+      (base-meets a (record { id = n.id; version = version_at s.version }) ((journal ++ more) ++ event ∷ []) after (WasPut-append (journal ++ more) (event ∷ []) (Snapshot n.id) n.put)))
       (λ gone. done-meets (Opens a) Who (Err R.NoRef) ((journal ++ more) ++ event ∷ []) (after, refl))
       (λ done. done-meets (Opens a) Who (Err R.StoreFault) ((journal ++ more) ++ event ∷ []) (after, refl)))
 
@@ -168,18 +208,21 @@ module _ (client : ℕ) where
   over-meets : (s : SessionState) (id : Id12) (journal : List Event) → Meets Plain Who (put_branch s id) journal
   over-meets s id journal = ask-meets Plain Who (PutOver (Branch s.branch) (ref_bytes id) (version_at s.version) For_commit) (after_branch s id) journal (λ more event others any is. branch-meets s id event.reply ((journal ++ more) ++ event ∷ []))
 
-  snapshot-meets : (s : SessionState) (message : List ℕ) (id : Id12) (flushed : ℕ) (journal : List Event) → IsDrawnBy client id → found journal (Snapshot id) ≡ None → Meets Plain Who (put_snapshot s message id flushed) journal
-  snapshot-meets s message id flushed journal d free = ask-meets Plain Who (PutNew (Snapshot id) (snapshot_bytes (snap_for s message flushed)) Set) (after_snapshot s id) journal (λ more event others any is.
-      put-meets Plain Who (after_snapshot s id) (journal ++ more) event any.good ((journal ++ more) ++ event ∷ []) (Snapshot id) (snapshot_bytes (snap_for s message flushed)) Set is (snapshot-free id d journal more others free)
+  -- unless the file is too long
+  snapshot-meets : (s : SessionState) (id : Id12) (file : List ℕ) (journal : List Event) (long : Bool) → IsDrawnBy client id → found journal (Snapshot id) ≡ None
+      → Meets Plain Who (if long then Done (Err (R.TooLarge kinds.Snapshot)) else Ask (PutNew (Snapshot id) file Set) (after_snapshot s id)) journal
+  snapshot-meets s id file journal true d free = done-meets Plain Who (Err (R.TooLarge kinds.Snapshot)) journal refl
+  snapshot-meets s id file journal false d free = ask-meets Plain Who (PutNew (Snapshot id) file Set) (after_snapshot s id) journal (λ more event others any is.
+      put-meets Plain Who (after_snapshot s id) (journal ++ more) event any.good ((journal ++ more) ++ event ∷ []) (Snapshot id) file Set is (snapshot-free id d journal more others free)
       (over-meets s id ((journal ++ more) ++ event ∷ []))
       (λ done. done-meets Plain Who (Err R.StoreFault) ((journal ++ more) ++ event ∷ []) refl))
 
   commit-meets : (s : SessionState) (message : List ℕ) (id : Id12) (journal : List Event) → IsDrawnBy client id → Before journal → Meets Plain Who (commit_program s message id) journal
-  commit-meets s message id journal d b = ask-meets Plain Who (PutNew (Txn id) (log_bytes (touched s.changes s.tree)) Set) (after_log s message id) journal (λ more event others any is.
+  commit-meets s message id journal d b = ask-meets Plain Who (PutNew (Txn id) (log_file (log_for s id)) Set) (after_log s message id) journal (λ more event others any is.
       let mid = before-others journal more others b in
       let off : is_on (Snapshot id) event.op ≡ false = ap (is_on (Snapshot id)) is in
-      put-meets Plain Who (after_log s message id) (journal ++ more) event any.good ((journal ++ more) ++ event ∷ []) (Txn id) (log_bytes (touched s.changes s.tree)) Set is (mid.free id d).1
-      (snapshot-meets s message id event.time ((journal ++ more) ++ event ∷ []) d (free-apart (Snapshot id) (journal ++ more) event off (mid.free id d).0))
+      put-meets Plain Who (after_log s message id) (journal ++ more) event any.good ((journal ++ more) ++ event ∷ []) (Txn id) (log_file (log_for s id)) Set is (mid.free id d).1
+      (snapshot-meets s id (snapshot_bytes (snap_for s message id event.time)) ((journal ++ more) ++ event ∷ []) (is_long (snapshot_bytes (snap_for s message id event.time))) d (free-apart (Snapshot id) (journal ++ more) event off (mid.free id d).0))
       (λ done. done-meets Plain Who (Err R.StoreFault) ((journal ++ more) ++ event ∷ []) refl))
 
   -- ---- the lines of a task
@@ -193,9 +236,9 @@ module _ (client : ℕ) where
   refused-meets : (line : ℕ) (shown : List Shown) (why : Refusal) (journal : List Event) → is_strange why ≡ false → PlayMeets Ends Who (refused line shown why) journal
   refused-meets line shown why journal p = ended-meets Ends Who (record { shown = shown; end = E.Refused line why }) journal p
 
-  group-meets : (line : ℕ) (shown : List Shown) (s : SessionState) (path : List ℕ) (rest : Rest) (journal : List Event) → AreOf client s.ids → GoesOn rest journal → (r : Result (Id8 × SessionState) Refusal) → group_added s path ≡ r → PlayMeets Ends Who (after_line line shown (silent (session_of r)) rest) journal
-  group-meets line shown s path rest journal known go (Ok p) e = go p.1 (shown ++ []) (group-draws client s p.1 path p.0 known e)
-  group-meets line shown s path rest journal known go (Err why) e = refused-meets line shown why journal (group-plain s path why e)
+  group-meets : (line : ℕ) (shown : List Shown) (s : SessionState) (path text : List ℕ) (rest : Rest) (journal : List Event) → AreOf client s.ids → GoesOn rest journal → (r : Result (Id8 × SessionState) Refusal) → group_added s path text ≡ r → PlayMeets Ends Who (after_line line shown (silent (session_of r)) rest) journal
+  group-meets line shown s path text rest journal known go (Ok p) e = go p.1 (shown ++ []) (group-draws client s p.1 path text p.0 known e)
+  group-meets line shown s path text rest journal known go (Err why) e = refused-meets line shown why journal (group-plain s path text why e)
 
   list-meets : (line : ℕ) (shown : List Shown) (s : SessionState) (rest : Rest) (journal : List Event) → AreOf client s.ids → GoesOn rest journal → (r : Result (List Listing) Refusal) → IsPlain r → PlayMeets Ends Who (after_line line shown (still s (nodes_shown line r)) rest) journal
   list-meets line shown s rest journal known go (Ok nodes) p = go s _ known
@@ -212,8 +255,8 @@ module _ (client : ℕ) where
   start-meets line message shown s journal known b (Err why) e = refused-meets line shown why journal (started-plain s why e)
 
   deed-meets : (line : ℕ) (call : Call) (shown : List Shown) (s : SessionState) (rest : Rest) (journal : List Event) → AreOf client s.ids → Before journal → GoesOn rest journal → PlayMeets Ends Who (play_deed line shown s (deed line call s) rest) journal
-  deed-meets line (Edit (Group path)) shown s rest journal known b go = group-meets line shown s path rest journal known go (group_added s path) refl
-  deed-meets line (Read (List_call path)) shown s rest journal known b go = list-meets line shown s rest journal known go (listed s path) (there-plain (node_at (overlay s) path) _)
+  deed-meets line (Edit (Group path)) shown s rest journal known b go = group-meets line shown s path group_text rest journal known go (group_added s path group_text) refl
+  deed-meets line (Read (List_call path)) shown s rest journal known b go = list-meets line shown s rest journal known go (listed s path) (there-plain _ _)
   deed-meets line (Commit message) shown s rest journal known b go = start-meets line message shown s journal known b (started s) refl
 
   lines-meets : (lines : List Line) (s : SessionState) (shown : List Shown) (journal : List Event) → AreOf client s.ids → Before journal → PlayMeets Ends Who (play_lines lines s shown) journal

@@ -3,7 +3,8 @@ use Rattle.std.proofs.Common.{◌≡◌, ◌≢◌, ℕ, ◌⊎◌, inl, inr, tr
 use Rattle.std.specs.Prelude.{Some, None}
 use Rattle.ice_ids.specs.declared.Id12.{Id12}
 use Rattle.ice_ids.specs.Text.{initial_id}
-use Rattle.plain_object.specs.Objects.{Snapshot as Snap, snapshot_of}
+use Rattle.snapshot_file.specs.declared.snapshot.SnapshotFile.{SnapshotFile}
+use Rattle.repo_objects.specs.Readings.{snapshot_by}
 use Rattle.store_api.specs.declared.keys.Key.{Key}
 use Rattle.store_api.specs.declared.keys.Key.TheVariants.{Snapshot, Manifest, Txn, Chunk, Branch, Tag, TagGone}
 use Rattle.store_api.specs.declared.events.Op.{Op}
@@ -19,13 +20,13 @@ use Rattle.run_histories.proofs.Along.{Removes, unused-one}
 use Rattle.run_histories.proofs.Drawing.{IsDrawnBy, drawn-not_initial}
 
 -- ---- events
--- bytes that are a snapshot's
-abbrev pub CanRead : List ℕ → Type 0
-CanRead bytes = (s : Snap) × (snapshot_of bytes ≡ Some s)
+-- bytes that are read as a snapshot under this id
+abbrev pub CanRead : Id12 → List ℕ → Type 0
+CanRead id bytes = (s : SnapshotFile) × (snapshot_by id bytes ≡ Some s)
 
 -- a new snapshot can be read, and it is the initial one or under one of these ids; so is a log
 abbrev pub PutsNew : (Id12 → Type 0) → List ℕ → Key → Type 0
-PutsNew who bytes (Snapshot id) = CanRead bytes × ((id ≡ initial_id) ⊎ who id)
+PutsNew who bytes (Snapshot id) = CanRead id bytes × ((id ≡ initial_id) ⊎ who id)
 PutsNew who bytes (Txn id) = who id
 PutsNew who bytes (Manifest id) = Unit {0}
 PutsNew who bytes (Chunk id) = Unit {0}
@@ -97,35 +98,35 @@ along P Inv step old (x ∷ xs) each inv = subst Inv (append_assoc old (x ∷ []
 
 -- ---- what stands
 -- what a slot holds can be read
-abbrev ReadSlot : Slot → Type 0
-ReadSlot slot = (s : Stored) → slot.stands ≡ Some s → CanRead s.bytes
+abbrev ReadSlot : Id12 → Slot → Type 0
+ReadSlot id slot = (s : Stored) → slot.stands ≡ Some s → CanRead id s.bytes
 
-stands-read : (n time : ℕ) (bytes : List ℕ) (slot : Slot) → CanRead bytes → ReadSlot (put_at n time bytes slot)
-stands-read n time bytes slot can s e = let same : bytes ≡ s.bytes = cc in subst CanRead same can
+stands-read : (id : Id12) (n time : ℕ) (bytes : List ℕ) (slot : Slot) → CanRead id bytes → ReadSlot id (put_at n time bytes slot)
+stands-read id n time bytes slot can s e = let same : bytes ≡ s.bytes = cc in subst (CanRead id) same can
 
-leaves-read : (who : Id12 → Type 0) (id : Id12) (n time : ℕ) (op : Op) (slot : Slot) → Puts who op → is_on (Snapshot id) op ≡ true → ReadSlot slot → ReadSlot (leaves n time op slot)
+leaves-read : (who : Id12 → Type 0) (id : Id12) (n time : ℕ) (op : Op) (slot : Slot) → Puts who op → is_on (Snapshot id) op ≡ true → ReadSlot id slot → ReadSlot id (leaves n time op slot)
 leaves-read who id n time (Get key) slot p on r = r
 leaves-read who id n time (ListPart part) slot p on r = r
 leaves-read who id n time (PutNew key bytes why) slot p on r =
     let at : PutsNew who bytes (Snapshot id) = subst (λ (k : Key). PutsNew who bytes k) (same_key-true key (Snapshot id) on) p in
-    free-cases ReadSlot slot.stands (put_at n time bytes slot) slot r (λ free. stands-read n time bytes slot at.0)
+    free-cases (ReadSlot id) slot.stands (put_at n time bytes slot) slot r (λ free. stands-read id n time bytes slot at.0)
 leaves-read who id n time (PutOver key bytes old why) slot p on r = absurd (subst PutsOver (same_key-true key (Snapshot id) on) p)
 leaves-read who id n time (Remove key why) slot p on r = absurd p
 leaves-read who id n time (RemoveAt key old why) slot p on r = absurd p
 
 abbrev AllRead : Id12 → List Event → Type 0
-AllRead id journal = ReadSlot (slot_of journal (Snapshot id))
+AllRead id journal = ReadSlot id (slot_of journal (Snapshot id))
 
 read-one : (id : Id12) (journal : List Event) (event : Event) → IsAny journal event → AllRead id journal → AllRead id (journal ++ event ∷ [])
 read-one id journal event t r =
-    subst ReadSlot (sym (slot-append_one journal event (Snapshot id)))
-    (effect-cases ReadSlot (Snapshot id) (length journal) (slot_of journal (Snapshot id)) event r (λ on done. leaves-read (λ i. Unit {0}) id (length journal) event.time event.op (slot_of journal (Snapshot id)) t.puts on r))
+    subst (ReadSlot id) (sym (slot-append_one journal event (Snapshot id)))
+    (effect-cases (ReadSlot id) (Snapshot id) (length journal) (slot_of journal (Snapshot id)) event r (λ on done. leaves-read (λ i. Unit {0}) id (length journal) event.time event.op (slot_of journal (Snapshot id)) t.puts on r))
 
 read-none : (id : Id12) → AllRead id []
-read-none id = subst ReadSlot (sym (slot-none (Snapshot id))) (λ s e. absurd cc)
+read-none id = subst (ReadSlot id) (sym (slot-none (Snapshot id))) (λ s e. absurd cc)
 
 -- a snapshot that stands can be read
-pub stands-readable : (id : Id12) (journal : List Event) (s : Stored) → Each IsAny [] journal → found journal (Snapshot id) ≡ Some s → CanRead s.bytes
+pub stands-readable : (id : Id12) (journal : List Event) (s : Stored) → Each IsAny [] journal → found journal (Snapshot id) ≡ Some s → CanRead id s.bytes
 stands-readable id journal s tidy e = along IsAny (AllRead id) (read-one id) [] journal tidy (read-none id) s e
 
 -- ---- what was put stands

@@ -20,6 +20,7 @@ use Rattle.store_api.proofs.Journals.{Each-append, Each-weaker, Each-one, Each-t
 use Rattle.session.specs.Sessions.{SessionState}
 use Rattle.commit_path.specs.Owed.{Sessions, OwesNew, Owes}
 use Rattle.store_api.specs.Running.{Program, Runs}
+use Rattle.repo_objects.specs.Laws.{InitialLaw}
 use Rattle.repository.specs.Beginning.{begin_program}
 use Rattle.repository.specs.Refs.{refs_program}
 use Rattle.play_script.specs.declared.scripts.Script.{Script}
@@ -154,12 +155,12 @@ record Alone {A : Type 0} (p : Program A) (result : Result A Refusal) (old new :
   pub tidy : Each (IsTidy (λ id. ⊥)) old own
   pub ends : Path p own (Done result) ⊎ (result ≡ Err R.NoMemory)
 
-was-alone : {A : Type 0} (p : Program A) (result : Result A Refusal) (old new : View) → AllPlain p → IsTrue old.caller.tells → HasAll old.caller → Runs old new p result → Alone p result old.seen new.seen
-was-alone p result old new plain told all r =
+was-alone : InitialLaw → {A : Type 0} (p : Program A) (result : Result A Refusal) (old new : View) → AllPlain p → IsTrue old.caller.tells → HasAll old.caller → Runs old new p result → Alone p result old.seen new.seen
+was-alone initial p result old new plain told all r =
     let adds = r.alone told all in
     elim r.ends [
-      | inl path ↦ record { own = r.own; is = adds.is; tidy = plain-tidy old.seen r.own adds.good (path-plain p old.seen r.own (Done result) plain path); ends = inl path }
-      | inr cut ↦ record { own = r.own; is = adds.is; tidy = plain-tidy old.seen r.own adds.good (path-plain p old.seen r.own cut.left plain cut.path); ends = inr cut.result_is }
+      | inl path ↦ record { own = r.own; is = adds.is; tidy = plain-tidy initial old.seen r.own adds.good (path-plain p old.seen r.own (Done result) plain path); ends = inl path }
+      | inr cut ↦ record { own = r.own; is = adds.is; tidy = plain-tidy initial old.seen r.own adds.good (path-plain p old.seen r.own cut.left plain cut.path); ends = inr cut.result_is }
     ]
 
 answers-plain : {A : Type 0} (p : Program A) (result : Result A Refusal) (old new : List Event) → Alone p result old new → Meets (λ r h. strange_answer r ≡ false) (λ id. ⊥) p old → strange_answer result ≡ false
@@ -196,14 +197,14 @@ module _ (draw : Draw) (script : Script) (few : length script.tasks < 2 ^ 32 - 1
       well-ended draw script.tasks few outcomes (old.seen ++ r.own) (well-turns draw script.tasks few _ (plays_from draw 0 script.tasks) (ends_of outcomes) old.seen r.own (r.careful told) r.order (well-begun draw script.tasks few old.seen before)) place outcome at
   plays-plain old new (Err why) outcomes told p before place outcome at = let no = sym (ap (λ (os : List Outcome). slice_get os place) p.1) ∙ at in absurd cc
 
-  pub course-plain : (old new : View) (opening : Result (Unit {0}) Refusal) (outcomes : List Outcome) (refs : Result (List RefLine) Refusal) → Course draw script old new opening outcomes refs → IsTrue old.caller.tells → old.seen ≡ [] → NothingStrange opening outcomes refs
-  course-plain old new opening outcomes refs c told empty =
+  pub course-plain : InitialLaw → (old new : View) (opening : Result (Unit {0}) Refusal) (outcomes : List Outcome) (refs : Result (List RefLine) Refusal) → Course draw script old new opening outcomes refs → IsTrue old.caller.tells → old.seen ≡ [] → NothingStrange opening outcomes refs
+  course-plain initial old new opening outcomes refs c told empty =
       let all : HasAll (as_client 0 old).caller = record { low = c.alone.low; end = c.alone.end } in
       let last_all : HasAll (as_client 0 c.played).caller = record { low = c.still_alone.low; end = c.still_alone.end } in
       let begun_tells : IsTrue c.begun.caller.tells = subst (λ (b : Caller). IsTrue b.tells) (sym c.begins.same) told in
       let played_tells : IsTrue c.played.caller.tells = tells-on draw script c.begun c.played opening outcomes c.plays begun_tells in
-      let first : Alone begin_program opening [] c.begun.seen = subst (λ (h : List Event). Alone begin_program opening h c.begun.seen) empty (was-alone begin_program opening (as_client 0 old) c.begun begin-plain told all c.begins) in
-      let last : Alone refs_program refs c.played.seen new.seen = was-alone refs_program refs (as_client 0 c.played) new refs-plain played_tells last_all c.reads in
+      let first : Alone begin_program opening [] c.begun.seen = subst (λ (h : List Event). Alone begin_program opening h c.begun.seen) empty (was-alone initial begin_program opening (as_client 0 old) c.begun begin-plain told all c.begins) in
+      let last : Alone refs_program refs c.played.seen new.seen = was-alone initial refs_program refs (as_client 0 c.played) new refs-plain played_tells last_all c.reads in
       let tidy : Each IsAny [] c.begun.seen = begun-tidy opening c.begun.seen first in
       record {
         opened = answers-plain begin_program opening [] c.begun.seen first (begin-meets (λ id. ⊥) []);
@@ -211,7 +212,7 @@ module _ (draw : Draw) (script : Script) (few : length script.tasks < 2 ^ 32 - 1
         closed = answers-plain refs_program refs c.played.seen new.seen last (refs-meets (λ id. ⊥) c.played.seen (plays-tidy c.begun c.played opening outcomes begun_tells c.plays tidy));
       }
 
-pub played-plain : (draw : Draw) (script : Script) (old new : View) (result : Result Played AllocError) → IsWell script → IfOk result (λ played. Course draw script old new played.opening played.outcomes.items played.refs) → IsTrue old.caller.tells → old.seen ≡ []
+pub played-plain : InitialLaw → (draw : Draw) (script : Script) (old new : View) (result : Result Played AllocError) → IsWell script → IfOk result (λ played. Course draw script old new played.opening played.outcomes.items played.refs) → IsTrue old.caller.tells → old.seen ≡ []
     → IfOk result (λ played. NothingStrange played.opening played.outcomes.items played.refs)
-played-plain draw script old new (Ok played) well c told empty = course-plain draw script (few-tasks script well) old new played.opening played.outcomes.items played.refs c told empty
-played-plain draw script old new (Err error) well c told empty = tt
+played-plain initial draw script old new (Ok played) well c told empty = course-plain draw script (few-tasks script well) initial old new played.opening played.outcomes.items played.refs c told empty
+played-plain initial draw script old new (Err error) well c told empty = tt

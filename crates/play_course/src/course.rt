@@ -1,7 +1,7 @@
 //! The course of a run.
 
 ghost use Rattle.std.specs.Prelude.{◌≡◌, ℕ, [], All, length, IfOk, IfErr, IsTrue};
-ghost use Rattle.tree_model.specs.Changes.{Changes};
+ghost use Rattle.zarr_tree.specs.Changes.{Changes};
 ghost use Rattle.play_script.specs.Well.{IsWell, IsWellTurn};
 ghost use Rattle.play_tasks.specs.Tasks.{AllTold};
 ghost use Rattle.run_histories.specs.Runs.{IsSound};
@@ -15,6 +15,7 @@ use play_outcome::{Outcome, RefLines};
 use play_run::run_tasks;
 use play_script::{Script, Turn};
 use play_tasks::outcome_law;
+use repo_objects::initial_law;
 use repository::{begin, read_refs, refs_law};
 use run_histories::run_law;
 use std::alloc::{AllocError, Global};
@@ -124,6 +125,7 @@ pub fn play<S: Base>(
     // Over one on which nothing was done before, no drawn id is taken, no object is missing, and every file can be read.
     ensures regular { IsTrue (S.view store.old).caller.tells → (S.view store.old).seen ≡ [] → IfOk result (λ played. NothingStrange played.opening played.outcomes.items played.refs) }
 {
+    initial_law();
     run_law();
     refs_law();
     play_through(alloc, script, draw, store)

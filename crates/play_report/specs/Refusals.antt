@@ -1,5 +1,14 @@
 -- The texts of refusals (own).
-use Rattle.std.specs.Prelude.{ℕ, List, Option, Some, None, codes, decimal}
+use Rattle.std.specs.Prelude.{ℕ, List, [], ◌∷◌, ◌++◌, Option, Some, None, codes, decimal}
+use Rattle.ice_ids.specs.Text.{id12_text}
+use Rattle.flat_tables.specs.declared.header.Kind.{Kind}
+use Rattle.flat_tables.specs.declared.header.Kind.TheVariants as kinds
+use Rattle.zarr_meta.specs.Shown.{text_of}
+use Rattle.zarr_tree.specs.declared.edit.Frozen.{Frozen}
+use Rattle.zarr_tree.specs.declared.edit.Frozen.TheVariants as frozen
+use Rattle.zarr_tree.specs.declared.cases.Case.{Case}
+use Rattle.zarr_tree.specs.declared.cases.Case.TheVariants as case
+use Rattle.zarr_tree.specs.declared.cases.Conflict.{Conflict}
 use Rattle.store_api.specs.declared.events.Version.{Version}
 use Rattle.store_api.specs.declared.machines.Refusal.{Refusal}
 use Rattle.store_api.specs.declared.machines.Refusal.TheVariants as R
@@ -11,18 +20,85 @@ abbrev pub version_text : Option Version → List ℕ
 version_text (Some version) = decimal version.0
 version_text None = codes "-"
 
+-- the name of a part of metadata that stays as it is
+abbrev pub frozen_text : Frozen → List ℕ
+frozen_text frozen.NodeType = codes "node_type"
+frozen_text frozen.Rank = codes "rank"
+frozen_text frozen.DataType = codes "data_type"
+frozen_text frozen.ChunkGrid = codes "chunk_grid"
+frozen_text frozen.Codecs = codes "codecs"
+
+-- the name of a kind of files
+abbrev pub kind_text : Kind → List ℕ
+kind_text kinds.Snapshot = codes "snapshot"
+kind_text kinds.Manifest = codes "manifest"
+kind_text kinds.Log = codes "log"
+
+-- the number of a kind of conflicts
+abbrev pub case_number : Case → ℕ
+case_number case.NewNodeConflictsWithExistingNode = 1
+case_number case.NewNodeInInvalidGroup = 2
+case_number case.ZarrMetadataDoubleUpdate = 3
+case_number case.ZarrMetadataUpdateOfDeletedArray = 4
+case_number case.ZarrMetadataUpdateOfDeletedGroup = 5
+case_number case.ChunkDoubleUpdate = 6
+case_number case.ChunksUpdatedInDeletedArray = 7
+case_number case.ChunksUpdatedInUpdatedArray = 8
+case_number case.DeleteOfUpdatedArray = 9
+case_number case.DeleteOfUpdatedGroup = 10
+
+-- further numbers of an index, each behind a comma
+abbrev pub more_numbers : List ℕ → List ℕ
+more_numbers [] = []
+more_numbers (n ∷ ns) = codes "," ++ decimal n ++ more_numbers ns
+
+-- the numbers of an index, and `-` where there are none
+abbrev pub index_text : List ℕ → List ℕ
+index_text [] = codes "-"
+index_text (n ∷ ns) = decimal n ++ more_numbers ns
+
+-- the index of a chunk behind a colon, if there is one
+abbrev pub place_text : Option (List ℕ) → List ℕ
+place_text None = []
+place_text (Some index) = codes ":" ++ index_text index
+
+abbrev pub conflict_text : Conflict → List ℕ
+conflict_text c = decimal (case_number c.case) ++ codes ":" ++ c.path ++ place_text c.index
+
+-- conflicts, each behind a space
+abbrev pub conflicts_text : List Conflict → List ℕ
+conflicts_text [] = []
+conflicts_text (c ∷ cs) = codes " " ++ conflict_text c ++ conflicts_text cs
+
 abbrev pub refusal_text : Refusal → List ℕ
 refusal_text R.NoRef = codes "noref"
 refusal_text R.NoNode = codes "nonode"
 refusal_text R.NodeExists = codes "nodeexists"
 refusal_text R.NoParent = codes "noparent"
+refusal_text (R.BadMeta fault) = codes "badmeta" space text_of fault
+refusal_text (R.FrozenField part) = codes "frozen" space frozen_text part
+refusal_text R.OutOfGrid = codes "outofgrid"
+refusal_text (R.ChunkLength want got) = codes "chunklength" space decimal want space decimal got
+refusal_text R.NotArray = codes "notarray"
 refusal_text R.ReadOnly = codes "readonly"
 refusal_text R.Full = codes "full"
 refusal_text (R.Missing key) = codes "missing" space key_name key
 refusal_text (R.BadFile key bad) = codes "badfile" space key_name key
+refusal_text R.TooDeep = codes "toodeep"
 refusal_text R.StoreFault = codes "storefault"
 refusal_text (R.IdTaken key) = codes "idtaken" space key_name key
 refusal_text R.NoMemory = codes "nomemory"
 refusal_text R.IdsSpent = codes "idsspent"
+refusal_text R.BadKey = codes "badkey"
 refusal_text (R.Conflict old found) = codes "conflict" space decimal old.0 space version_text found
 refusal_text R.NothingToCommit = codes "nothing"
+refusal_text (R.TooLarge kind) = codes "toolarge" space kind_text kind
+refusal_text (R.InDoubt snapshot) = codes "indoubt" space id12_text snapshot
+refusal_text (R.Left at conflicts) = codes "left" space id12_text at ++ conflicts_text conflicts
+refusal_text (R.NotAncestor head) = codes "notancestor" space id12_text head
+refusal_text (R.RefExists version) = codes "refexists" space decimal version.0
+refusal_text R.NoSnapshot = codes "nosnapshot"
+refusal_text R.TagGone = codes "taggone"
+refusal_text R.MainKept = codes "mainkept"
+refusal_text (R.Moved found) = codes "moved" space version_text found
+refusal_text (R.CutoffAhead now) = codes "cutoffahead" space decimal now

@@ -1,12 +1,17 @@
 //! What stands in a report, line by line, behind the first word of the line.
 
-ghost use Rattle.std.specs.Prelude.{◌≡◌, IfOk, string_bytes};
-ghost use Rattle.play_report.specs.Refusals.{refusal_text, version_text};
+ghost use Rattle.std.specs.Prelude.{◌≡◌, ◌++◌, IfOk, OnOk, codes, decimal, string_bytes};
+ghost use Rattle.ice_ids.specs.Text.{id12_text};
+ghost use Rattle.play_report.specs.Words.{◌space◌};
+ghost use Rattle.play_report.specs.Refusals.{case_number, conflict_text, conflicts_text, frozen_text, index_text, kind_text, refusal_text, version_text};
 ghost use Rattle.play_report.specs.Report.{node_kind, shown_text, end_text, ref_text};
 
+use flat_tables::Kind;
+use ice_ids::Id12;
 use play_outcome::{End, RefLine, Shown};
 use std::alloc::{AllocError, Global};
 use store_api::{Refusal, Version};
+use zarr_tree::{Case, Conflict, Frozen};
 
 fn version_text(alloc: Global, found: Option<Version>) -> Result<String, AllocError>
     ensures { IfOk result (λ text. string_bytes text ≡ version_text found) }
@@ -17,8 +22,106 @@ fn version_text(alloc: Global, found: Option<Version>) -> Result<String, AllocEr
     }
 }
 
-/// The text of a refusal: its word, and behind it the object's name or the two versions, after
-/// spaces. A branch that was found absent is told as `-`.
+/// The name of a part of metadata that stays as it is.
+fn frozen_text(part: Frozen) -> &'static str
+    ensures { result.now ≡ frozen_text part }
+{
+    match part {
+        Frozen::NodeType => "node_type",
+        Frozen::Rank => "rank",
+        Frozen::DataType => "data_type",
+        Frozen::ChunkGrid => "chunk_grid",
+        Frozen::Codecs => "codecs",
+    }
+}
+
+/// The name of a kind of files.
+fn kind_text(kind: Kind) -> &'static str
+    ensures { result.now ≡ kind_text kind }
+{
+    match kind {
+        Kind::Snapshot => "snapshot",
+        Kind::Manifest => "manifest",
+        Kind::Log => "log",
+    }
+}
+
+/// The number of a kind of conflicts.
+fn case_number(case: Case) -> u8
+    ensures { result ≡ case_number case }
+{
+    match case {
+        Case::NewNodeConflictsWithExistingNode => 1,
+        Case::NewNodeInInvalidGroup => 2,
+        Case::ZarrMetadataDoubleUpdate => 3,
+        Case::ZarrMetadataUpdateOfDeletedArray => 4,
+        Case::ZarrMetadataUpdateOfDeletedGroup => 5,
+        Case::ChunkDoubleUpdate => 6,
+        Case::ChunksUpdatedInDeletedArray => 7,
+        Case::ChunksUpdatedInUpdatedArray => 8,
+        Case::DeleteOfUpdatedArray => 9,
+        Case::DeleteOfUpdatedGroup => 10,
+    }
+}
+
+/// Appends the numbers of an index, joined by commas, and `-` where there are none.
+fn add_index(alloc: Global, text: &mut String, index: &[u32]) -> Result<(), AllocError>
+    ensures { OnOk result (string_bytes text.new ≡ string_bytes text.old ++ index_text index.now) }
+{
+    let Some((first, more)) = index.split_first() else {
+        return text.push_str("-");
+    };
+    text.push_str(&first.to_string(alloc)?)?;
+    for number in more {
+        text.push_str(",")?;
+        text.push_str(&number.to_string(alloc)?)?;
+    }
+    Ok(())
+}
+
+/// Appends a conflict.
+fn add_conflict(alloc: Global, text: &mut String, conflict: &Conflict) -> Result<(), AllocError>
+    ensures { OnOk result (string_bytes text.new ≡ string_bytes text.old ++ conflict_text conflict.now) }
+{
+    text.push_str(&case_number(conflict.case).to_string(alloc)?)?;
+    text.push_str(":")?;
+    text.push_str(conflict.path.as_str())?;
+    if let Some(index) = &conflict.index {
+        text.push_str(":")?;
+        add_index(alloc, text, index.parts())?;
+    }
+    Ok(())
+}
+
+/// The snapshot of a commit, and its conflicts that stay.
+fn left_text(alloc: Global, at: Id12, conflicts: &[Conflict]) -> Result<String, AllocError>
+    ensures { IfOk result (λ text. string_bytes text ≡ codes "left" space id12_text at ++ conflicts_text conflicts.now) }
+{
+    let mut text = format!(in alloc; "left {at}")?;
+    for conflict in conflicts {
+        text.push_str(" ")?;
+        add_conflict(alloc, &mut text, conflict)?;
+    }
+    Ok(text)
+}
+
+/// A word, and the version that stood at a ref behind it.
+fn moved_text(alloc: Global, found: Option<Version>) -> Result<String, AllocError>
+    ensures { IfOk result (λ text. string_bytes text ≡ codes "moved" space version_text found) }
+{
+    let found = version_text(alloc, found)?;
+    format!(in alloc; "moved {found}")
+}
+
+/// The version that was read of a branch, and the one that stood there, behind a word.
+fn lost_text(alloc: Global, old: Version, found: Option<Version>) -> Result<String, AllocError>
+    ensures { IfOk result (λ text. string_bytes text ≡ codes "conflict" space decimal old.0 space version_text found) }
+{
+    let found = version_text(alloc, found)?;
+    format!(in alloc; "conflict {} {found}", old.0)
+}
+
+/// The text of a refusal: its word, and behind it, after spaces, what it tells. A ref that was found absent is told as `-`.
 pub fn refusal_text(alloc: Global, why: &Refusal) -> Result<String, AllocError>
     ensures { IfOk result (λ text. string_bytes text ≡ refusal_text why.now) }
 {
@@ -27,19 +130,33 @@ pub fn refusal_text(alloc: Global, why: &Refusal) -> Result<String, AllocError>
         Refusal::NoNode => String::from_str(alloc, "nonode"),
         Refusal::NodeExists => String::from_str(alloc, "nodeexists"),
         Refusal::NoParent => String::from_str(alloc, "noparent"),
+        Refusal::BadMeta(fault) => format!(in alloc; "badmeta {fault}"),
+        Refusal::FrozenField(part) => format!(in alloc; "frozen {}", frozen_text(*part)),
+        Refusal::OutOfGrid => String::from_str(alloc, "outofgrid"),
+        Refusal::ChunkLength { want, got } => format!(in alloc; "chunklength {want} {got}"),
+        Refusal::NotArray => String::from_str(alloc, "notarray"),
         Refusal::ReadOnly => String::from_str(alloc, "readonly"),
         Refusal::Full => String::from_str(alloc, "full"),
         Refusal::Missing(key) => format!(in alloc; "missing {key}"),
         Refusal::BadFile(key, _) => format!(in alloc; "badfile {key}"),
+        Refusal::TooDeep => String::from_str(alloc, "toodeep"),
         Refusal::StoreFault => String::from_str(alloc, "storefault"),
         Refusal::IdTaken(key) => format!(in alloc; "idtaken {key}"),
         Refusal::NoMemory => String::from_str(alloc, "nomemory"),
         Refusal::IdsSpent => String::from_str(alloc, "idsspent"),
-        Refusal::Conflict { old, found } => {
-            let found = version_text(alloc, *found)?;
-            format!(in alloc; "conflict {} {found}", old.0)
-        }
+        Refusal::BadKey => String::from_str(alloc, "badkey"),
+        Refusal::Conflict { old, found } => lost_text(alloc, *old, *found),
         Refusal::NothingToCommit => String::from_str(alloc, "nothing"),
+        Refusal::TooLarge(kind) => format!(in alloc; "toolarge {}", kind_text(*kind)),
+        Refusal::InDoubt { snapshot } => format!(in alloc; "indoubt {snapshot}"),
+        Refusal::Left { at, conflicts } => left_text(alloc, *at, conflicts.as_slice()),
+        Refusal::NotAncestor { head } => format!(in alloc; "notancestor {head}"),
+        Refusal::RefExists(version) => format!(in alloc; "refexists {}", version.0),
+        Refusal::NoSnapshot => String::from_str(alloc, "nosnapshot"),
+        Refusal::TagGone => String::from_str(alloc, "taggone"),
+        Refusal::MainKept => String::from_str(alloc, "mainkept"),
+        Refusal::Moved { found } => moved_text(alloc, *found),
+        Refusal::CutoffAhead { now } => format!(in alloc; "cutoffahead {now}"),
     }
 }
 

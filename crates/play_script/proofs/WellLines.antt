@@ -1,9 +1,8 @@
 -- What heads, body lines and turns are where they are read.
-use Rattle.std.proofs.Common.{◌≡◌, ℕ, ◌+◌, ◌<◌, ◌≤◌, Bool, true, false, cond, nat_eq, List, [], ◌∷◌, length, Option, None, Some, Result, Ok, refl, sym, ap, subst, ◌∙◌, arith}
+use Rattle.std.proofs.Common.{◌≡◌, ℕ, ◌+◌, ◌<◌, ◌≤◌, List, [], ◌∷◌, length, Option, None, Some, Result, Ok, refl, sym, ap, subst, ◌∙◌, arith, IsTrue}
+use Rattle.std.specs.Str.{is_utf8}
 use Rattle.std.specs.Prelude.{IfSome, unwrap_or, codes}
 use Rattle.std.proofs.lemmas.Bool.{cond_both}
-use Rattle.std.proofs.lemmas.List.Elements.{All-tail}
-use Rattle.ice_base.specs.Lists.{IsBytes}
 use Rattle.ice_base.specs.Names.{main_name}
 use Rattle.play_script.specs.declared.faults.ScriptKind.{ScriptKind}
 use Rattle.play_script.specs.declared.scripts.Call.{Call}
@@ -20,25 +19,10 @@ use Rattle.play_script.specs.declared.forms.Form.{Form}
 use Rattle.play_script.specs.Words.{Text, cut_of, one, two, three}
 use Rattle.play_script.specs.Parts.{◌&◌, made}
 use Rattle.play_script.specs.Values.{◌reads◌, fixed, path_of, branch_of, count_of}
-use Rattle.play_script.specs.Forms.{taken, lone_path, edit_of, read_of, commit_of, form, no_form, form_of, write_head_of, read_head_of, head_of}
+use Rattle.play_script.specs.Forms.{message_of, lone_path, edit_of, read_of, commit_of, form, no_form, form_of, write_head_of, read_head_of, head_of}
 use Rattle.play_script.specs.Places.{class_of, client_from, turn, turn_of}
 use Rattle.play_script.specs.Well.{IsWellPath, IsWellEdit, IsWellRead, IsWellCall, head_branch, IsWellTurn}
-use Rattle.play_script.proofs.Inversions.{made_ok, both_ok, taken_ok, path_ok, branch_ok, count_ok}
-
--- what is left of a line of bytes is bytes
-abbrev pub AreLeft : Option Text → Type 0
-AreLeft rest = IfSome rest IsBytes
-
-by_cut : (t : Bool) (b : ℕ) (bs : Text) → IsBytes bs → AreLeft (cut_of 32 bs).1 → AreLeft (cond {A = Text × Option Text} t ([], Some bs) (b ∷ (cut_of 32 bs).0, (cut_of 32 bs).1)).1
-by_cut true b bs h left = h
-by_cut false b bs h left = left
-
-pub cut_left : (line : Text) → IsBytes line → AreLeft (cut_of 32 line).1
-unfolding cut_of
-cut_left [] h = tt
-cut_left (b ∷ bs) h =
-    let rest = All-tail (λ b. b < 256) b bs h in
-    by_cut (nat_eq b 32) b bs rest (cut_left bs rest)
+use Rattle.play_script.proofs.Inversions.{made_ok, both_ok, taken_ok, tested_ok, path_ok, branch_ok, count_ok}
 
 lone_path_ok : (rest : Option Text) (path : Text) → lone_path rest ≡ Ok path → IsWellPath path
 unfolding lone_path
@@ -58,14 +42,13 @@ unfolding read_of
 read_ok first rest =
     cond_both (first reads codes "list") _ _ (IsRight IsWellRead) (λ _ x h. let m = made_ok read.List (lone_path rest) x h in subst IsWellRead m.2 (lone_path_ok rest m.0 m.1)) (λ _. tt)
 
-left_ok : (rest : Option Text) (message : Text) → AreLeft rest → taken rest (λ message. Ok message) ≡ Ok message → IsBytes message
-left_ok None message left h = absurd (cc)
-left_ok (Some text) message left h = let e : text ≡ message = cc in subst IsBytes e left
+text_ok : (text message : Text) → message_of text ≡ Ok message → IsTrue (is_utf8 message)
+text_ok text message h = let t = tested_ok (is_utf8 text) text message h in subst (λ (x : Text). IsTrue (is_utf8 x)) t.1 t.0
 
-commit_ok : (first : Text) (rest : Option Text) → AreLeft rest → IsRight IsBytes (commit_of first rest)
+commit_ok : (first : Text) (rest : Option Text) → IsRight (λ message. IsTrue (is_utf8 message)) (commit_of first rest)
 unfolding commit_of
-commit_ok first rest left =
-    cond_both (first reads codes "commit") _ _ (IsRight IsBytes) (λ _ x h. left_ok rest x left h) (λ _. tt)
+commit_ok first rest =
+    cond_both (first reads codes "commit") _ _ (IsRight (λ message. IsTrue (is_utf8 message))) (λ _ x h. let t = taken_ok rest message_of x h in text_ok t.0 x t.2) (λ _. tt)
 
 -- a call is well, and of this class
 abbrev pub IsOf : Class → Call → Type 0
@@ -79,12 +62,12 @@ class_ok : {A : Type 0} (P : A → Type 0) (class : Class) (call : A → Call) (
 class_ok P class call None other one right rest = rest
 class_ok P class call (Some r) other one right rest = λ v h. let m = made_ok call r v h in subst (IsOf class) m.2 (one m.0 (right m.0 m.1))
 
-pub form_ok : (first : Text) (rest : Option Text) → AreLeft rest → IsWellForm (form_of first rest)
+pub form_ok : (first : Text) (rest : Option Text) → IsWellForm (form_of first rest)
 unfolding form_of
-form_ok first rest left =
+form_ok first rest =
     class_ok IsWellEdit c.Edit call.Edit (edit_of first rest) _ (λ x w. (w, refl)) (edit_ok first rest)
     (class_ok IsWellRead c.Read call.Read (read_of first rest) _ (λ x w. (w, refl)) (read_ok first rest)
-    (class_ok IsBytes c.Commit call.Commit (commit_of first rest) no_form (λ x w. (w, refl)) (commit_ok first rest left) (λ v h. absurd (cc))))
+    (class_ok (λ message. IsTrue (is_utf8 message)) c.Commit call.Commit (commit_of first rest) no_form (λ x w. (w, refl)) (commit_ok first rest) (λ v h. absurd (cc))))
 
 -- a head names the branch that is built
 abbrev pub IsOnMain : Result Head ScriptKind → Type 0

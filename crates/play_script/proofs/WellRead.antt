@@ -2,7 +2,7 @@
 use Rattle.std.proofs.Common.{◌≡◌, ℕ, ◌+◌, ◌≤◌, true, false, List, [], ◌∷◌, length, Option, Some, Result, Ok, Err, refl, subst, arith, length-append}
 use Rattle.std.specs.Prelude.{IfOk, ◌&&◌, ◌||◌, not, nat_lt, nat_le, codes, take}
 use Rattle.std.specs.Str.{is_utf8}
-use Rattle.std.proofs.lemmas.Bool.{and_parts, or_parts, not-true, not-false, ltb-true, ltb-false, cond_both}
+use Rattle.std.proofs.lemmas.Bool.{and_parts, or_parts, not-true, ltb-true, ltb-false, cond_both}
 use Rattle.std.proofs.lemmas.List.Elements.{All-nil, All-push}
 use Rattle.play_script.specs.declared.faults.ScriptKind.{ScriptKind}
 use Rattle.play_script.specs.declared.faults.ScriptKind.TheVariants as k
@@ -21,22 +21,21 @@ use Rattle.play_script.specs.declared.faults.ScriptFault.{ScriptFault}
 use Rattle.play_script.specs.Reading.{most_bytes, at_line, lines_from, empty, feeds, script_of, IsReading}
 use Rattle.play_script.specs.Well.{IsLineNumber, IsWellTask, IsWellTurn, IsWell}
 use Rattle.play_script.proofs.Inversions.{made_ok, both_ok, only_if_ok, taken_ok, each_ok, task_name_ok}
-use Rattle.play_script.proofs.Utf8.{text_bytes}
-use Rattle.play_script.proofs.WellLines.{AreLeft, cut_left, form_ok, head_ok, turn_ok}
+use Rattle.play_script.proofs.WellLines.{form_ok, head_ok, turn_ok}
 use Rattle.play_script.proofs.WellTasks.{tasks_more, length-onto_last, names-onto_last, names_more, no_turns}
 
 -- a script that is read, if one is
 abbrev IsWellIfRead : Result Script ScriptKind → Type 0
 IsWellIfRead r = (t : Script) → r ≡ Ok t → IsWell t
 
-body_well : (s : Script) (n : ℕ) (first : Text) (rest : Option Text) → IsWell s → IsLineNumber n → AreLeft rest → IsWellIfRead (body_line s n first rest)
+body_well : (s : Script) (n : ℕ) (first : Text) (rest : Option Text) → IsWell s → IsLineNumber n → IsWellIfRead (body_line s n first rest)
 unfolding body_line
-body_well s n first rest w number left t h =
+body_well s n first rest w number t h =
     let f = form_of first rest in
     let m = made_ok (λ (v : Unit {0} × Call). with_line s n v.1) (only_if (is_open s && takes (last s.tasks) f.class) k.Unbuilt & f.call) t h in
     let b = both_ok (only_if (is_open s && takes (last s.tasks) f.class) k.Unbuilt) f.call m.0 m.1 in
     let placed = and_parts (is_open s) (takes (last s.tasks) f.class) (only_if_ok _ _ _ b.0) in
-    let call = form_ok first rest left m.0.1 b.1 in
+    let call = form_ok first rest m.0.1 b.1 in
     let line : Line = record { number = n; call = m.0.1 } in
     subst IsWell m.2 (record {
       few = rw (length-onto_last line s.tasks) w.few;
@@ -81,19 +80,19 @@ turns_well s rest w t h =
     let turns = each_ok (IsWellTurn (length s.tasks)) (turn_of s.tasks) (pieces 32 rest) m.0.1 (turn_ok s.tasks) b.1 in
     subst IsWell m.2 (record { few = w.few; tasks = w.tasks; names = w.names; turns = turns })
 
-words_well : (s : Script) (n : ℕ) (first : Text) (rest : Option Text) → IsWell s → IsLineNumber n → AreLeft rest → IsWellIfRead (words_line s n first rest)
+words_well : (s : Script) (n : ℕ) (first : Text) (rest : Option Text) → IsWell s → IsLineNumber n → IsWellIfRead (words_line s n first rest)
 unfolding words_line
-words_well s n first rest w number left =
+words_well s n first rest w number =
     cond_both (first reads codes "task") _ _ IsWellIfRead (λ _. head_well s n rest w number) (λ _.
     cond_both (first reads codes "turns") _ _ IsWellIfRead (λ _. turns_well s rest w) (λ _.
-    body_well s n first rest w number left))
+    body_well s n first rest w number))
 
 line_well : (s : Script) (n : ℕ) (line : Text) → IsWell s → 1 ≤ n → IsWellIfRead (line_at s n line)
 unfolding line_at
 line_well s n line w some =
     cond_both (nat_lt most_lines n || not (is_utf8 line)) _ _ IsWellIfRead (λ _ t h. absurd (cc)) (λ placed.
     let parts = or_parts (nat_lt most_lines n) (not (is_utf8 line)) placed in
-    words_well s n (cut_of 32 line).0 (cut_of 32 line).1 w (some, ltb-false most_lines n parts.0) (cut_left line (text_bytes line (not-false _ parts.1))))
+    words_well s n (cut_of 32 line).0 (cut_of 32 line).1 w (some, ltb-false most_lines n parts.0))
 
 -- what more lines make of it
 more_lines : (n : ℕ) (r : Result Script ScriptKind) (more : Script → Result Script (ℕ × ScriptKind)) (t : Script) → IsWellIfRead r → ((s : Script) → IsWell s → more s ≡ Ok t → IsWell t) → at_line n r more ≡ Ok t → IsWell t

@@ -1,4 +1,5 @@
 -- Own: the forms of heads and body lines, each by its words.
+use Rattle.std.specs.Str.{is_utf8}
 use Rattle.std.specs.Prelude.{if◌then◌else◌, Option, Some, None, option_map, unwrap_or, Result, Ok, Err, codes}
 use Rattle.play_script.specs.declared.faults.ScriptKind.{ScriptKind}
 use Rattle.play_script.specs.declared.faults.ScriptKind.TheVariants as k
@@ -38,10 +39,14 @@ unfoldable pub read_of : Text → Option Text → Option (Result ReadCall Script
 read_of first rest =
     if first reads codes "list" then Some (made read.List (lone_path rest)) else None
 
+-- a text of the language is UTF-8
+abbrev pub message_of : Text → Result Text ScriptKind
+message_of text = if is_utf8 text then Ok text else Err k.Unbuilt
+
 -- `commit MESSAGE`: the rest of the line, perhaps empty
 unfoldable pub commit_of : Text → Option Text → Option (Result Text ScriptKind)
 commit_of first rest =
-    if first reads codes "commit" then Some (taken rest (λ message. Ok message)) else None
+    if first reads codes "commit" then Some (taken rest message_of) else None
 
 -- lines of a class
 abbrev pub form : {A : Type 0} → Class → (A → Call) → Option (Result A ScriptKind) → Option Form

@@ -1,6 +1,5 @@
 -- Own: what holds of every script that was read.
 use Rattle.std.specs.Prelude.{◌≡◌, ◌≢◌, ℕ, ◌≤◌, List, [], ◌∷◌, length, map, IfSome, IsTrue, All, AllPairs}
-use Rattle.ice_base.specs.Lists.{IsBytes}
 use Rattle.ice_base.specs.Names.{main_name}
 use Rattle.std.specs.Str.{is_utf8}
 use Rattle.zarr_path.specs.Paths.{is_path}
@@ -33,7 +32,7 @@ IsWellRead (read.List path) = IsWellPath path
 abbrev pub IsWellCall : Call → Type 0
 IsWellCall (call.Edit change) = IsWellEdit change
 IsWellCall (call.Read look) = IsWellRead look
-IsWellCall (call.Commit message) = IsBytes message
+IsWellCall (call.Commit message) = IsTrue (is_utf8 message)
 
 -- a number of a line
 abbrev pub IsLineNumber : ℕ → Type 0

@@ -4,13 +4,13 @@ ghost use Rattle.std.specs.Prelude.{◌≡◌, IfOk, Ok};
 ghost use Rattle.play_script.specs.Words.{seen};
 ghost use Rattle.play_script.specs.declared.scripts.Call.TheVariants as Call;
 ghost use Rattle.play_script.specs.declared.scripts.Class.TheVariants as Class;
-ghost use Rattle.play_script.specs.Forms.{taken, lone_path, edit_of, read_of, commit_of, form, form_of, write_head_of, read_head_of, head_of};
+ghost use Rattle.play_script.specs.Forms.{taken, lone_path, edit_of, read_of, commit_of, form, form_of, write_head_of, read_head_of, head_of, message_of};
 
 use crate::faults::{ScriptKind, both};
 use crate::scripts::{Call, Class, EditCall, Head, ReadCall};
-use crate::values::{branch_in, fixed, path_in};
+use crate::values::{branch_in, fixed, message_in, path_in};
 use crate::words::{one, three, two};
-use ice_base::Bytes;
+use ice_base::Text;
 use std::alloc::{AllocError, Global};
 use zarr_path::Path;
 
@@ -35,11 +35,11 @@ fn lone_path(alloc: Global, rest: Option<&str>) -> Result<Result<Path, ScriptKin
 }
 
 /// All that is left of a line.
-fn message(alloc: Global, rest: Option<&str>) -> Result<Result<Bytes, ScriptKind>, AllocError>
-    ensures { IfOk result (λ r. r ≡ taken (seen rest.entry) (λ message. Ok message)) }
+fn message(alloc: Global, rest: Option<&str>) -> Result<Result<Text, ScriptKind>, AllocError>
+    ensures { IfOk result (λ r. r ≡ taken (seen rest.entry) message_of) }
 {
     match rest {
-        Some(message) => Ok(Ok(Bytes::of(alloc, message.as_bytes())?)),
+        Some(text) => Ok(Ok(message_in(alloc, text)?)),
         None => Ok(Err(ScriptKind::Unbuilt)),
     }
 }

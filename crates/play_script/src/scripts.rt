@@ -1,7 +1,7 @@
 //! What a script says.
 
 use crate::values::TaskName;
-use ice_base::{Bytes, RefName};
+use ice_base::{RefName, Text};
 use ice_items::Items;
 use zarr_path::Path;
 
@@ -35,7 +35,7 @@ pub enum Call {
     /// Commits the changes.
     Commit {
         /// The commit's message, any UTF-8.
-        message: Bytes,
+        message: Text,
     },
 }
 

@@ -1,13 +1,14 @@
 //! What a word stands for.
 
-ghost use Rattle.std.specs.Prelude.{◌≡◌, IfOk};
+ghost use Rattle.std.specs.Prelude.{◌≡◌, IfOk, Ok};
 ghost use Rattle.std.specs.List.{list_all};
 ghost use Rattle.std.specs.Char.{is_ascii_digit};
 ghost use Rattle.play_script.specs.Values.{is_digits, number_of, is_task_name, is_task_byte, task_name_of, path_of, branch_of, fixed, count_of};
 ghost use Rattle.play_script.specs.Words.{seen};
+ghost use Rattle.play_script.specs.Forms.{message_of};
 
 use crate::faults::ScriptKind;
-use ice_base::RefName;
+use ice_base::{RefName, Text};
 use std::alloc::{AllocError, Global};
 use std::marker::Model;
 use zarr_path::{Path, PathFault};
@@ -84,6 +85,13 @@ pub fn path_in(alloc: Global, word: &str) -> Result<Result<Path, ScriptKind>, Al
         Err(PathFault::NoMemory) => Err(AllocError),
         Err(_) => Ok(Err(ScriptKind::Unbuilt)),
     }
+}
+
+/// The message that is all of a text.
+pub fn message_in(alloc: Global, text: &str) -> Result<Text, AllocError>
+    ensures { IfOk result (λ message. message_of text.now ≡ Ok message) }
+{
+    Text::of(alloc, text)
 }
 
 /// The branch that a word names.

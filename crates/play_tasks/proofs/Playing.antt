@@ -2,11 +2,13 @@
 use Rattle.std.proofs.Common.{◌≡◌, inl, inr, ℕ, refl, sym, ap, subst, ◌∙◌, List, [], ◌∷◌, ◌++◌, append_assoc, append-nil, Result, Ok, Err}
 use Rattle.std.specs.Prelude.{All}
 use Rattle.std.proofs.lemmas.List.Elements.{All-head, All-tail}
-use Rattle.ice_base.specs.Lists.{IsBytes}
+use Rattle.std.specs.Str.{IsUtf8}
+use Rattle.std.proofs.lemmas.Str.{IsUtf8-from_is_utf8}
 use Rattle.ice_ids.specs.declared.Id8.{Id8}
 use Rattle.ice_ids.specs.declared.Id12.{Id12}
 use Rattle.ice_ids.specs.declared.drawing.AnyIds.{AnyIds}
-use Rattle.ice_ids.proofs.Drawn.{drawn8-IsId8, drawn12-IsId12}
+use Rattle.ice_ids.proofs.Drawn.{drawn12-IsId12}
+use Rattle.zarr_meta.specs.Plain.{group_text}
 use Rattle.store_api.specs.declared.events.Event.{Event}
 use Rattle.store_api.specs.declared.machines.Refusal.{Refusal}
 use Rattle.store_api.specs.declared.machines.Refusal.TheVariants.{NoMemory}
@@ -22,8 +24,10 @@ use Rattle.commit_path.specs.Owed.{Sessions, IsCareful}
 use Rattle.commit_path.specs.Answered.{ChangedNothing, CommitTells}
 use Rattle.commit_path.specs.Opened.{IsOpened, WasBegun}
 use Rattle.commit_path.specs.Spelled.{IsSpelled}
-use Rattle.commit_path.proofs.Owing.{Spellings, IsOpened-append, commit-careful}
-use Rattle.commit_path.proofs.Opened.{Opens, open-careful, open-leads, group-added, group-opened, group-spelled, start-started, started-opened, started-spelled}
+use Rattle.commit_path.proofs.Spelling.{Spellings}
+use Rattle.commit_path.proofs.Lawful.{session-law}
+use Rattle.commit_path.proofs.Owing.{IsOpened-append, commit-careful}
+use Rattle.commit_path.proofs.Opened.{Opens, open-careful, open-leads, start-started, started-opened, started-spelled, started-short}
 use Rattle.commit_path.proofs.Answering.{ChangedNothing-none, commit-told}
 use Rattle.commit_path.proofs.Reading.{GetsTell, Leads-both, WasBegun-append, open-told}
 use Rattle.commit_path.proofs.Staying.{open-stays, commit-stays}
@@ -48,29 +52,26 @@ record IsReady (s : SessionState) (journal : List Event) : Type 0 where
   pub opened : IsOpened s journal
   pub spelled : IsSpelled s
 
-group-ready : (s : SessionState) (path : List ℕ) (went : List Shown × SessionState) (journal : List Event) → IsWellPath path → IsReady s journal → (r : Result (Id8 × SessionState) Refusal) → group_added s path ≡ r → silent (session_of r) ≡ Ok went → IsReady went.1 journal
-group-ready s path went journal well ready (Err why) e d = absurd cc
-group-ready s path went journal well ready (Ok added) e d =
-    let a = group-added s added.1 path added.0 e in
+group-ready : (s : SessionState) (path text : List ℕ) (went : List Shown × SessionState) (journal : List Event) → IsWellPath path → IsReady s journal → (r : Result (Id8 × SessionState) Refusal) → group_added s path text ≡ r → silent (session_of r) ≡ Ok went → IsReady went.1 journal
+group-ready s path text went journal well ready (Err why) e d = absurd cc
+group-ready s path text went journal well ready (Ok added) e d =
+    let kept = session-law.edited s added.1 path text added.0 journal well.0 well.1 e ready.spelled ready.opened in
     let is : ([], added.1) ≡ went = cc in
-    subst (λ (x : List Shown × SessionState). IsReady x.1 journal) is (record {
-      opened = group-opened s added.1 path added.0 journal a ready.opened;
-      spelled = group-spelled s added.1 path added.0 a (record { id = drawn8-IsId8 s.ids added.0 a.drawn; path = well.0; text = well.1 }) ready.spelled;
-    })
+    subst (λ (x : List Shown × SessionState). IsReady x.1 journal) is (record { opened = kept.1; spelled = kept.0 })
 
 read-ready : (s : SessionState) (went : List Shown × SessionState) (journal : List Event) → IsReady s journal → (r : Result (List Shown) Refusal) → still s r ≡ Ok went → IsReady went.1 journal
 read-ready s went journal ready (Err why) d = absurd cc
 read-ready s went journal ready (Ok shown) d = let is : (shown, s) ≡ went = cc in subst (λ (x : List Shown × SessionState). IsReady x.1 journal) is ready
 
 deed-ready : (line : ℕ) (x : Call) (s : SessionState) (went : List Shown × SessionState) (journal : List Event) → IsWellCall x → IsReady s journal → deed line x s ≡ Goes (Ok went) → IsReady went.1 journal
-deed-ready line (call.Edit (edit.Group path)) s went journal well ready d = group-ready s path went journal well ready (group_added s path) refl (cc)
+deed-ready line (call.Edit (edit.Group path)) s went journal well ready d = group-ready s path group_text went journal well ready (group_added s path group_text) refl (cc)
 deed-ready line (call.Read look) s went journal well ready d = read-ready s went journal ready (read_by line look s) (cc)
 deed-ready line (call.Commit message) s went journal well ready d = absurd cc
 
-deed-bytes : (line : ℕ) (x : Call) (s : SessionState) (message : List ℕ) → IsWellCall x → deed line x s ≡ Commits message → IsBytes message
-deed-bytes line (call.Edit change) s message well d = absurd cc
-deed-bytes line (call.Read look) s message well d = absurd cc
-deed-bytes line (call.Commit own) s message well d = let is : own ≡ message = cc in subst IsBytes is well
+deed-utf8 : (line : ℕ) (x : Call) (s : SessionState) (message : List ℕ) → IsWellCall x → deed line x s ≡ Commits message → IsUtf8 message
+deed-utf8 line (call.Edit change) s message well d = absurd cc
+deed-utf8 line (call.Read look) s message well d = absurd cc
+deed-utf8 line (call.Commit own) s message well d = let is : own ≡ message = cc in subst IsUtf8 is (IsUtf8-from_is_utf8 own well)
 
 -- ---- the lines that are left
 -- what these lines come to on a session, where this was shown before them
@@ -133,19 +134,20 @@ module _ (L : Spellings) (by : Caller) (mine : Sessions) (start : List Event) wh
     answer-well t id e (Ok made) journal tells = ends-well (l ∷ ls) s shown (Committed made.id) journal (answered t id e (Ok made) journal tells)
     answer-well t id e (Err why) journal tells = ends-well (l ∷ ls) s shown (Refused l.number why) journal (answered t id e (Err why) journal tells)
 
-    start-well : (journal : List Event) → IsBytes message → IsReady s journal → Nothing journal → ((t : SessionState) (id : Id12) → started s ≡ Ok (id, t) → mine t id) → (r : Result (Id12 × SessionState) Refusal) → started s ≡ r → GoesWell (l ∷ ls) s shown (after_start l.number message shown r) journal
+    start-well : (journal : List Event) → IsUtf8 message → IsReady s journal → Nothing journal → ((t : SessionState) (id : Id12) → started s ≡ Ok (id, t) → mine t id) → (r : Result (Id12 × SessionState) Refusal) → started s ≡ r → GoesWell (l ∷ ls) s shown (after_start l.number message shown r) journal
     start-well journal m ready c own (Err why) e = refused-well l ls s shown why journal c (subst (λ (d : Deed). Refuses d s why) (sym commits) e)
     start-well journal m ready c own (Ok p) e =
         let a = start-started s p.1 p.0 e in
         let id = drawn12-IsId12 s.ids p.0 a.drawn in
         let w = started-spelled s p.1 p.0 a ready.spelled in
         let o = started-opened s p.1 p.0 journal a ready.opened in
+        let logs = started-short s p.1 p.0 a in
         let program = commit_program p.1 message p.0 in
         let tells = CommitTells by.number p.1 message p.0 start in
-        let told = commit-told L by p.1 message p.0 id w m start journal o c in
+        let told = commit-told L by p.1 message p.0 id w m logs start journal o c in
         let stays = commit-stays by start p.1 message p.0 journal c in (
           PlayKeeps-call (Minds mine start) tells Nothing by program (after_commit l.number shown) journal
-              (Keeps-minds mine start by program journal (commit-careful L by mine p.1 message p.0 (own p.1 p.0 e) id w m journal o) stays)
+              (Keeps-minds mine start by program journal (commit-careful L by mine p.1 message p.0 (own p.1 p.0 e) id w m logs journal o) stays)
               told
               stays
               (λ answer h q. (answer-well p.1 p.0 e answer h q).0)
@@ -167,7 +169,7 @@ module _ (L : Spellings) (by : Caller) (mine : Sessions) (start : List Event) wh
       let rest = go went.1 (shown ++ went.0) (deed-ready l.number l.call s went journal well ready e) (λ t id reaches. own t id (subst (λ (d : Deed). ReachesBy d s t id (λ mid. Reaches ls mid t id)) (sym e) reaches)) in
       (rest.0, PlayLeads-weaker (Ending by.number start ls went.1 (shown ++ went.0)) (Ending by.number start (l ∷ ls) s shown) (λ outcome h x. one-more by.number start l ls s went.1 shown went.0 outcome h e x) by (play_lines ls went.1 (shown ++ went.0)) journal rest.1)
   deed-well l ls s shown journal well ready c own go (Commits message) e =
-      start-well l ls s shown message e journal (deed-bytes l.number l.call s message well e) ready c (λ t id x. own t id (subst (λ (d : Deed). ReachesBy d s t id (λ mid. Reaches ls mid t id)) (sym e) x)) (started s) refl
+      start-well l ls s shown message e journal (deed-utf8 l.number l.call s message well e) ready c (λ t id x. own t id (subst (λ (d : Deed). ReachesBy d s t id (λ mid. Reaches ls mid t id)) (sym e) x)) (started s) refl
 
   lines-well : (ls : List Line) (journal : List Event) → All IsWellLine ls → Nothing journal → AllGoWell ls journal
   unfolding PlayKeeps PlayLeads play_lines Reaches
@@ -216,7 +218,7 @@ module _ (L : Spellings) (by : Caller) (ids : AnyIds) (task : Task) (start : Lis
   opened-task well (Ok s) journal q =
       let ready : IsReady s journal = record { opened = q.1.opened; spelled = q.1.spelled } in
       let lines = lines-well L by Mine start task.body journal well.body q.0.1 s [] ready
-      (λ t id reaches. record { base = s.base; version = s.version; snap = q.1.begins.snap; reaches = subst (λ (x : SessionState). Reaches task.body x t id) q.1.begins.is reaches }) in
+      (λ t id reaches. record { base = s.base; version = s.version; snap = q.0.0.snap; reaches = subst (λ (x : SessionState). Reaches task.body x t id) q.0.0.begins reaches }) in
       let carried = PlayLeads-carry (Begun s) (λ h more g b. (WasBegun-append by.number (asked_by task.head ids) s start h more b.0, IsOpened-append s h more g b.1)) Mine start by (play_lines task.body s []) journal (Ending by.number start task.body s []) lines.0 (q.0.0, q.1.opened) lines.1 in
       (lines.0, PlayLeads-weaker (λ outcome h. Begun s h × Ending by.number start task.body s [] outcome h) Outcomes (λ outcome h x. played s outcome h x.0 x.1) by (play_lines task.body s []) journal carried)
 

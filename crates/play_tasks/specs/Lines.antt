@@ -1,6 +1,7 @@
 -- What a line of a task does to its session. Its play, what it shows, what refuses it and which session it leads to are all read from here.
 use Rattle.std.specs.Prelude.{ℕ, List, [], map, Result, Ok, Err}
 use Rattle.ice_ids.specs.declared.Id8.{Id8}
+use Rattle.zarr_meta.specs.Plain.{group_text}
 use Rattle.store_api.specs.declared.machines.Refusal.{Refusal}
 use Rattle.session.specs.declared.session.Listing.{Listing}
 use Rattle.session.specs.Sessions.{SessionState}
@@ -22,7 +23,7 @@ session_of (Err why) = Err why
 
 -- the session behind an edit, or why it is refused
 abbrev pub edited : EditCall → SessionState → Result SessionState Refusal
-edited (Group path) s = session_of (group_added s path)
+edited (Group path) s = session_of (group_added s path group_text)
 
 -- ---- reads
 -- a node of a listing that this line of the script asked for

@@ -2,7 +2,7 @@
 use Rattle.std.specs.Prelude.{◌≡◌, ℕ, List, [], ◌∷◌, Ok, Err}
 use Rattle.ice_ids.specs.declared.Id12.{Id12}
 use Rattle.ice_ids.specs.declared.drawing.AnyIds.{AnyIds}
-use Rattle.plain_object.specs.Objects.{Snapshot}
+use Rattle.snapshot_file.specs.declared.snapshot.SnapshotFile.{SnapshotFile}
 use Rattle.session.specs.Sessions.{SessionState}
 use Rattle.session.specs.Opening.{begun}
 use Rattle.commit_path.specs.Committing.{started}
@@ -26,5 +26,5 @@ Reaches (l ∷ ls) s t id = ReachesBy (deed l.number l.call s) s t id (λ mid. R
 pub record IsOfTask (ids : AnyIds) (task : Task) (t : SessionState) (id : Id12) : Type 0 where
   pub base : Id12
   pub version : ℕ
-  pub snap : Snapshot
+  pub snap : SnapshotFile
   pub reaches : Reaches task.body (begun (asked_by task.head ids) base version snap) t id

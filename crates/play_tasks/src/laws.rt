@@ -2,7 +2,8 @@
 
 ghost use Rattle.play_tasks.specs.Laws.{OutcomeLaw, TaskLaw};
 
-use plain_object::{initial_law, log_law, ref_law, snapshot_law};
+use changed_snapshot::proper_law;
+use repo_objects::{initial_law, log_law, ref_law, snapshot_law};
 
 /// Whatever others do, each operation of a task is polite, and what the task owes, and comes before
 /// the task's client changed a branch; and its outcome tells the journal: which session was opened,
@@ -14,6 +15,7 @@ pub fn task_law()
     log_law();
     ref_law();
     initial_law();
+    proper_law();
 }
 
 /// What the outcome of a task tells stays so, whatever good events others make.

@@ -7,12 +7,15 @@ ghost use Rattle.play_tasks.specs.inside.Working.{is_clean, LineComes, LinesCome
 
 use crate::working::{Step, Working};
 use commit_path::Commit;
-use ice_base::Bytes;
+use ice_base::Text;
 use play_outcome::{End, Outcome, Shown, Shows};
 use play_script::{Call, EditCall, Line, ReadCall};
 use session::{Listing, Session};
 use std::alloc::{AllocError, Global};
 use store_api::Refusal;
+
+/// The shortest metadata of a group.
+const GROUP_TEXT: &[u8] = br#"{"zarr_format":3,"node_type":"group"}"#;
 
 /// The task was refused at this line of the script.
 pub(crate) fn refuse(line: u32, shown: Vec<Shown>, why: Refusal) -> Working
@@ -47,7 +50,7 @@ fn play_edit(line: u32, edit: &EditCall, mut session: Session, shown: Vec<Shown>
     ensures clean { is_clean result ≡ true }
 {
     let went = match edit {
-        EditCall::Group { path } => session.add_group(path),
+        EditCall::Group { path } => session.add_group(path, GROUP_TEXT),
     };
     match went {
         Ok(_) => Step::On { session, shown },
@@ -74,7 +77,7 @@ fn play_read(line: u32, read: &ReadCall, session: Session, mut shown: Vec<Shown>
 fn play_commit(
     alloc: Global,
     line: u32,
-    message: &Bytes,
+    message: &Text,
     session: Session,
     shown: Vec<Shown>,
 ) -> Step

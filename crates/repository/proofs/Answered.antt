@@ -1,8 +1,10 @@
 -- What a reading may answer where each of its operations is answered by what stands.
 use Rattle.std.proofs.Common.{◌≡◌, ℕ, zero, suc, List, [], ◌∷◌, ◌++◌, length, refl, sym, ◌∙◌, ap, subst, append_assoc, append-nil}
 use Rattle.std.specs.Prelude.{Option, Some, None, Result, Ok, Err, cond}
+use Rattle.std.specs.Result.{result_ok}
 use Rattle.ice_ids.specs.declared.Id12.{Id12}
-use Rattle.plain_object.specs.Objects.{ref_of}
+use Rattle.repo_objects.specs.declared.bad.Bad.{Bad}
+use Rattle.repo_objects.specs.Readings.{read_ref as read_bytes, ref_of}
 use Rattle.store_api.specs.declared.keys.Key.{Key}
 use Rattle.store_api.specs.declared.keys.Key.TheVariants.{Branch, Tag}
 use Rattle.store_api.specs.declared.keys.Part.{Part}
@@ -164,15 +166,15 @@ ok_line (Err refusal) = None
 abbrev TellsLine : Key → List ℕ → Option RefLine → Type 0
 TellsLine key bytes line = (id : Id12) × (ref_of bytes ≡ Some id) × (line ≡ line_of key id)
 
-named-yields : (key : Key) (bytes : List ℕ) (line : Option RefLine) (o : Option Id12) → ref_of bytes ≡ o → ◌≡◌ {A = Result (Option RefLine) Refusal} (on_id key o) (Ok line) → TellsLine key bytes line
-named-yields key bytes line None e y = absurd cc
-named-yields key bytes line (Some id) e y = (id, e, sym (ap ok_line y))
+named-yields : (key : Key) (bytes : List ℕ) (line : Option RefLine) (r : Result Id12 Bad) → read_bytes bytes ≡ r → ◌≡◌ {A = Result (Option RefLine) Refusal} (on_id key r) (Ok line) → TellsLine key bytes line
+named-yields key bytes line (Err bad) e y = absurd cc
+named-yields key bytes line (Ok id) e y = (id, ap result_ok e, sym (ap ok_line y))
 
 got-yields : (at : Key → Option Stored) (key : Key) (s : Stored) (line : Option RefLine) (reply : Reply) → at key ≡ Some s → UnlessFailed (IsToldBy at (Get key)) reply → Yields at (on_got key reply) (Ok line) → TellsLine key s.bytes line
 unfolding Yields
 got-yields at key s line (Is_got (Found bytes version now)) h t y =
     let same : bytes ≡ s.bytes = ap bytes_in (t.1 ∙ ap (λ (o : Option Stored). Is_got (got_of t.0 o)) h) in
-    subst (λ (b : List ℕ). TellsLine key b line) same (named-yields key bytes line (ref_of bytes) refl y)
+    subst (λ (b : List ℕ). TellsLine key b line) same (named-yields key bytes line (read_bytes bytes) refl y)
 got-yields at key s line (Is_got (Absent now)) h t y =
     let there = t.1 ∙ ap (λ (o : Option Stored). Is_got (got_of t.0 o)) h in absurd cc
 got-yields at key s line (Is_listed x) h t y = absurd cc

@@ -1,5 +1,5 @@
 -- What is put at the beginning is polite, whatever others do.
-use Rattle.std.proofs.Common.{◌≡◌, ◌<◌, ltb, true, inl, inr, ℕ, List, [], ◌∷◌, length, refl, sym, ◌∙◌, ap, subst}
+use Rattle.std.proofs.Common.{◌≡◌, ◌<◌, ltb, true, inl, inr, ℕ, List, [], ◌∷◌, length, refl, ◌∙◌, ap, arith}
 use Rattle.std.specs.Prelude.{Option, Some, None}
 use Rattle.std.specs.Option.{option_or}
 use Rattle.std.specs.List.{All, list_all}
@@ -7,8 +7,10 @@ use Rattle.std.proofs.lemmas.Bool.{and_parts, ltb-true}
 use Rattle.std.proofs.lemmas.List.Elements.{All-nil, All-cons}
 use Rattle.ice_ids.specs.Text.{IsId12}
 use Rattle.ice_ids.specs.Text.{initial_id}
-use Rattle.plain_object.specs.Objects.{Snapshot as Snap, initial_bytes, initial_snapshot, snapshot_of, ref_of, ref_bytes}
-use Rattle.plain_object.specs.Laws.{InitialLaw, RefLaw}
+use Rattle.snapshot_file.specs.Initial.{initial_snapshot}
+use Rattle.ref_file.specs.Refs.{ref_bytes}
+use Rattle.repo_objects.specs.Readings.{snapshot_by, ref_of}
+use Rattle.repo_objects.specs.Laws.{initial_bytes, InitialLaw, RefLaw}
 use Rattle.store_api.specs.declared.keys.Key.{Key}
 use Rattle.store_api.specs.declared.keys.Key.TheVariants.{Snapshot, Branch}
 use Rattle.store_api.specs.declared.keys.Why.{Why}
@@ -20,7 +22,7 @@ use Rattle.store_api.specs.declared.events.Reply.{Reply}
 use Rattle.store_api.specs.declared.events.Reply.TheVariants.{Got as Is_got, New as Is_new, Over as Is_over, Gone as Is_gone, GoneAt as Is_gone_at, Listed as Is_listed, Failed}
 use Rattle.store_api.specs.declared.events.Event.{Event}
 use Rattle.store_api.specs.Machine.{Stored, Slot, slot_of, found, effect, put_at, where_free}
-use Rattle.store_api.specs.Journal.{WasPut, ParentPut, IsPolite}
+use Rattle.store_api.specs.Journal.{WasPut, IsPolite}
 use Rattle.ice_base.specs.Names.{main_name}
 use Rattle.store_api.specs.Callers.{Caller, Makes, own_event}
 use Rattle.store_api.specs.Program.{Keeps}
@@ -66,13 +68,12 @@ all-bytes (b ∷ bytes) e =
 initial_id-IsId12 : IsId12 initial_id
 initial_id-IsId12 = (refl, all-bytes initial_id.0 refl)
 
-no-parent : (journal : List Event) (o : Option Snap) → o ≡ Some initial_snapshot → ParentPut journal o
-unfolding initial_snapshot
-no-parent journal o e = subst (λ (x : Option Snap). ParentPut journal x) (sym e) (λ id k. cc)
-
 -- ---- politeness
+-- the initial snapshot names no parent and no manifests
 pub snapshot-polite : InitialLaw → (journal : List Event) (bytes : List ℕ) → bytes ≡ initial_bytes → IsPolite journal (PutNew (Snapshot initial_id) bytes Init)
-snapshot-polite law journal bytes e = (inl refl, no-parent journal (snapshot_of bytes) (ap snapshot_of e ∙ law))
+snapshot-polite law journal bytes e =
+    let read : snapshot_by initial_id bytes ≡ Some initial_snapshot = ap (snapshot_by initial_id) e ∙ law in
+    (inl refl, rw read (λ id named. cc), rw read (λ id named. let few = named.among.1 in absurd (omega (arith, few))))
 
 pub main-polite : RefLaw → (journal : List Event) (name bytes : List ℕ) → name ≡ main_name → bytes ≡ ref_bytes initial_id → WasPut journal (Snapshot initial_id) → IsPolite journal (PutNew (Branch name) bytes Init)
 main-polite law journal name bytes n e put =

@@ -1,7 +1,8 @@
 -- The program that makes a repository (Icechunk specification version 1, "Initialize New Repository").
 use Rattle.std.specs.Prelude.{ℕ, List, Ok, Err}
 use Rattle.ice_ids.specs.Text.{initial_id}
-use Rattle.plain_object.specs.Objects.{initial_bytes, ref_bytes}
+use Rattle.repo_objects.specs.Laws.{initial_bytes}
+use Rattle.ref_file.specs.Refs.{ref_bytes}
 use Rattle.store_api.specs.declared.keys.Key.{Key}
 use Rattle.store_api.specs.declared.keys.Key.TheVariants.{Snapshot, Branch}
 use Rattle.store_api.specs.declared.keys.Why.TheVariants.{Init}

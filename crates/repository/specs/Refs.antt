@@ -2,7 +2,8 @@
 -- are objects of their own).
 use Rattle.std.specs.Prelude.{Bool, true, false, if◌then◌else◌, List, [], ◌∷◌, ◌++◌, Option, Some, None, Result, Ok, Err}
 use Rattle.ice_ids.specs.declared.Id12.{Id12}
-use Rattle.plain_object.specs.Objects.{ref_of}
+use Rattle.repo_objects.specs.declared.bad.Bad.{Bad}
+use Rattle.repo_objects.specs.Readings.{read_ref as read_bytes}
 use Rattle.store_api.specs.declared.keys.Key.{Key}
 use Rattle.store_api.specs.declared.keys.Key.TheVariants.{Branch, Tag, TagGone}
 use Rattle.store_api.specs.declared.keys.Part.{Part}
@@ -12,7 +13,6 @@ use Rattle.store_api.specs.declared.events.Got.TheVariants.{Found, Absent}
 use Rattle.store_api.specs.declared.events.Entry.{Entry}
 use Rattle.store_api.specs.declared.events.Reply.{Reply}
 use Rattle.store_api.specs.declared.events.Reply.TheVariants.{Got as Is_got, Listed as Is_listed}
-use Rattle.store_api.specs.declared.machines.Bad.TheVariants.{Plain}
 use Rattle.store_api.specs.declared.machines.Refusal.{Refusal}
 use Rattle.store_api.specs.declared.machines.Refusal.TheVariants.{BadFile, StoreFault, NoMemory}
 use Rattle.store_api.specs.Machine.{same_key}
@@ -47,13 +47,13 @@ line_of (Tag name) id = Some (record { tag = true; name = name; id = id })
 line_of _ id = None
 
 -- bytes that are no reference are a bad file
-abbrev pub on_id : Key → Option Id12 → Result (Option RefLine) Refusal
-on_id key None = Err (BadFile key Plain)
-on_id key (Some id) = Ok (line_of key id)
+abbrev pub on_id : Key → Result Id12 Bad → Result (Option RefLine) Refusal
+on_id key (Err bad) = Err (BadFile key bad)
+on_id key (Ok id) = Ok (line_of key id)
 
 -- a ref that is gone by now is passed over
 abbrev pub on_got : Key → Reply → Program (Option RefLine)
-on_got key (Is_got (Found bytes version now)) = Done (on_id key (ref_of bytes))
+on_got key (Is_got (Found bytes version now)) = Done (on_id key (read_bytes bytes))
 on_got key (Is_got (Absent now)) = Done (Ok None)
 on_got key _ = Done (Err StoreFault)
 

@@ -1,12 +1,14 @@
 //! The machine that begins a repository.
 
-ghost use Rattle.std.specs.Prelude.{◌≡◌, ◌<◌, IfErr, IsTrue};
+ghost use Rattle.std.specs.Prelude.{◌≡◌, ◌<◌, IfErr, IfOk, IsTrue};
+ghost use Rattle.repo_objects.specs.Laws.{initial_bytes};
 ghost use Rattle.store_api.specs.Program.{IsAsk, Steps, NextIsPolite};
 ghost use Rattle.repository.specs.Beginning.{begin_program, begin_rest, begin_left, MayRefuseBegin};
 
 use ice_base::{Bytes, RefName};
 use ice_ids::Id12;
-use plain_object::{initial, ref_write};
+use ref_file::ref_write;
+use snapshot_file::{INITIAL_FILE, initial_law};
 use std::alloc::{AllocError, Global};
 use store_api::{Key, Machine, Next, Payload, Refusal, Reply, Request, Store, Why, drive};
 
@@ -29,6 +31,14 @@ pub struct Begin {
     state: Beginning,
 }
 
+/// The file of the initial snapshot.
+fn initial_file(alloc: Global) -> Result<Bytes, AllocError>
+    ensures { IfOk result (λ file. file ≡ initial_bytes) }
+{
+    initial_law();
+    Bytes::of(alloc, &INITIAL_FILE)
+}
+
 impl Machine for Begin {
     type Answer = ();
 
@@ -42,7 +52,7 @@ impl Machine for Begin {
 
     fn request(&self) -> Result<Request<'_>, AllocError> {
         let (key, bytes) = match self.state {
-            Beginning::Snapshot => (Key::Snapshot(Id12::INITIAL), initial(self.alloc)?),
+            Beginning::Snapshot => (Key::Snapshot(Id12::INITIAL), initial_file(self.alloc)?),
             Beginning::Main => (
                 Key::Branch(RefName::main(self.alloc)?),
                 Bytes::of(self.alloc, &ref_write(Id12::INITIAL))?,

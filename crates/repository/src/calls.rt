@@ -6,8 +6,8 @@ ghost use Rattle.repository.specs.Beginning.{begin_program, MayRefuseBegin};
 ghost use Rattle.repository.specs.Refs.{refs_program, MayRefuseRefs};
 
 use crate::{Begin, ReadRefs};
-use plain_object::{initial_law, ref_law};
 use play_outcome::RefLines;
+use repo_objects::{initial_law, ref_law};
 use std::alloc::Global;
 use store_api::{Refusal, Store, run_machine};
 

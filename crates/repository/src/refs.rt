@@ -8,12 +8,12 @@ ghost use Rattle.repository.specs.Reading.{refs_rest, refs_left, no_length, firs
 
 use ice_base::RefName;
 use ice_ids::Id12;
-use plain_object::ref_read;
 use play_outcome::{RefLine, RefLines};
+use repo_objects::{Unread, ref_read};
 use std::alloc::{AllocError, Global};
 use std::mem;
 use store_api::{
-    Bad, Entries, Entry, Got, Key, Machine, Next, Part, Refusal, Reply, Request, Store, drive,
+    Entries, Entry, Got, Key, Machine, Next, Part, Refusal, Reply, Request, Store, drive,
 };
 
 /// The operation that comes next.
@@ -212,13 +212,14 @@ fn on_got(alloc: Global, key: &Key, got: Got) -> Result<Option<RefLine>, Refusal
     else {
         return Ok(None);
     };
-    match ref_read(bytes.as_slice()) {
-        Some(id) => match line_of(alloc, key, id) {
+    match ref_read(alloc, bytes.as_slice()) {
+        Ok(id) => match line_of(alloc, key, id) {
             Ok(line) => Ok(line),
             Err(_) => Err(Refusal::NoMemory),
         },
-        None => match key.copy(alloc) {
-            Ok(key) => Err(Refusal::BadFile(key, Bad::Plain)),
+        Err(Unread::NoMemory) => Err(Refusal::NoMemory),
+        Err(Unread::Bad(bad)) => match key.copy(alloc) {
+            Ok(key) => Err(Refusal::BadFile(key, bad)),
             Err(_) => Err(Refusal::NoMemory),
         },
     }

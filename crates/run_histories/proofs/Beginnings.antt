@@ -2,8 +2,8 @@
 use Rattle.std.proofs.Common.{◌≡◌, ℕ, true, List, [], ◌∷◌, ◌++◌, length, refl, sym, ◌∙◌, ap, subst}
 use Rattle.std.specs.Prelude.{Option, Some, None}
 use Rattle.ice_ids.specs.declared.Id12.{Id12}
-use Rattle.tree_model.specs.Changes.{Changes}
-use Rattle.plain_object.specs.Objects.{ref_of}
+use Rattle.zarr_tree.specs.Changes.{Changes}
+use Rattle.repo_objects.specs.Readings.{ref_of}
 use Rattle.store_api.specs.declared.keys.Key.TheVariants.{Branch}
 use Rattle.store_api.specs.declared.events.Version.{Version}
 use Rattle.store_api.specs.declared.events.Op.{Op}
@@ -12,7 +12,7 @@ use Rattle.store_api.specs.declared.events.Reply.{Reply}
 use Rattle.store_api.specs.declared.events.Reply.TheVariants.{Got as Is_got}
 use Rattle.store_api.specs.declared.events.Event.{Event}
 use Rattle.store_api.specs.Machine.{is_on, version_at}
-use Rattle.store_api.specs.Journal.{Each, IsOnce, tree_of}
+use Rattle.store_api.specs.Journal.{Each, puts_of, IsOnce, tree_of}
 use Rattle.store_api.proofs.Journals.{Each-at}
 use Rattle.store_api.proofs.Slots.{same_key-refl}
 use Rattle.histories.specs.Repository.{Entry, last, Open}
@@ -20,6 +20,7 @@ use Rattle.histories.specs.Calls.{history_of, call_of, TellsCall, Agrees, IsHist
 use Rattle.session.specs.Sessions.{SessionState}
 use Rattle.session.specs.Opening.{Asked}
 use Rattle.commit_path.specs.Opened.{IsOpened, WasBegun}
+use Rattle.commit_path.proofs.Owing.{tree-by_rows}
 use Rattle.run_histories.specs.Told.{BeganAtLast}
 
 -- a get of a branch that was answered with a reference was answered with the last entry
@@ -41,7 +42,7 @@ was_last n (Some e) bytes version now base names t =
     same_id : Some e.id ≡ Some base → e.id ≡ base
     same_id h = cc
 
-pub began-at-last : (whole : List Event) (changes : ℕ → Changes) → IsOnce whole → IsHistory (tree_of whole) changes whole → (client : ℕ) (a : Asked) (s : SessionState) (start : List Event) → WasBegun client a s start whole → IsOpened s whole → BeganAtLast (tree_of whole) changes client a s start whole
+pub began-at-last : (whole : List Event) (changes : ℕ → Changes) → IsOnce whole → IsHistory (tree_of whole) changes whole → (client : ℕ) (a : Asked) (s : SessionState) (start : List Event) → WasBegun client a s start whole → IsOpened s whole → BeganAtLast (puts_of whole) (tree_of whole) changes client a s start whole
 began-at-last whole changes once history client a s start begun opened =
     let named = begun.named in
     let own = named.got.own in
@@ -58,5 +59,5 @@ began-at-last whole changes once history client a s start begun opened =
       is_last = was.is;
       version = was.version_is;
       base = was.base_is;
-      tree = ap (tree_of whole) was.base_is ∙ opened.tree once;
+      tree = ap (tree_of whole) was.base_is ∙ tree-by_rows whole s.base s.rows (opened.rows once);
     }

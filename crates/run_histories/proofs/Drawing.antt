@@ -9,12 +9,14 @@ use Rattle.ice_ids.specs.declared.drawing.Draw.{Draw}
 use Rattle.ice_ids.specs.Text.{initial_id}
 use Rattle.ice_ids.specs.Drawing.{IsAnyIds, client_of, drawn12, after8}
 use Rattle.ice_ids.proofs.Drawn.{after8-IsAnyIds, ids_of-IsAnyIds, drawn12-not_initial, drawn12-same}
+use Rattle.zarr_meta.specs.Plain.{group_text}
 use Rattle.store_api.specs.declared.machines.Refusal.{Refusal}
 use Rattle.session.specs.Sessions.{SessionState}
 use Rattle.session.specs.Opening.{begun}
 use Rattle.session.specs.Editing.{group_added, listed}
 use Rattle.commit_path.specs.Committing.{started}
-use Rattle.commit_path.proofs.Opened.{Added, group-added, start-started}
+use Rattle.commit_path.proofs.Adding.{Added, group-added}
+use Rattle.commit_path.proofs.Opened.{start-started}
 use Rattle.play_script.specs.declared.scripts.Call.{Call}
 use Rattle.play_script.specs.declared.scripts.Call.TheVariants.{Edit, Read as Read_call, Commit}
 use Rattle.play_script.specs.declared.scripts.EditCall.TheVariants.{Group}
@@ -43,9 +45,9 @@ AreOf client ids = IsAnyIds ids × (client_of ids ≡ client)
 
 module _ (client : ℕ) where
   -- a session to which a group was added still draws for its client
-  pub group-draws : (s t : SessionState) (path : List ℕ) (new : Id8) → AreOf client s.ids → group_added s path ≡ Ok (new, t) → AreOf client t.ids
-  group-draws s t path new known e =
-      let a : Added s t path new = group-added s t path new e in
+  pub group-draws : (s t : SessionState) (path text : List ℕ) (new : Id8) → AreOf client s.ids → group_added s path text ≡ Ok (new, t) → AreOf client t.ids
+  group-draws s t path text new known e =
+      let a : Added s t path text new = group-added s t path text new e in
       let ids : t.ids ≡ after8 s.ids = ap (λ (x : SessionState). x.ids) a.is in
       let after = after8-IsAnyIds s.ids known.0 in
       subst (AreOf client) (sym ids) (after.0, after.1 ∙ known.1)
@@ -58,16 +60,16 @@ module _ (client : ℕ) where
   abbrev GoesOn : Id12 → (SessionState → Type 0) → Type 0
   GoesOn id next = (mid : SessionState) → AreOf client mid.ids → next mid → IsDrawnBy client id
 
-  edit-draws : (path : List ℕ) (s t : SessionState) (id : Id12) (next : SessionState → Type 0) → AreOf client s.ids → GoesOn id next → (r : Result (Id8 × SessionState) Refusal) → group_added s path ≡ r → ReachesBy (Goes (silent (session_of r))) s t id next → IsDrawnBy client id
-  edit-draws path s t id next known go (Ok added) e n = go added.1 (group-draws s added.1 path added.0 known e) n
-  edit-draws path s t id next known go (Err why) e n = absurd n
+  edit-draws : (path text : List ℕ) (s t : SessionState) (id : Id12) (next : SessionState → Type 0) → AreOf client s.ids → GoesOn id next → (r : Result (Id8 × SessionState) Refusal) → group_added s path text ≡ r → ReachesBy (Goes (silent (session_of r))) s t id next → IsDrawnBy client id
+  edit-draws path text s t id next known go (Ok added) e n = go added.1 (group-draws s added.1 path text added.0 known e) n
+  edit-draws path text s t id next known go (Err why) e n = absurd n
 
   read-draws : (s t : SessionState) (id : Id12) (next : SessionState → Type 0) → AreOf client s.ids → GoesOn id next → (r : Result (List Shown) Refusal) → ReachesBy (Goes (still s r)) s t id next → IsDrawnBy client id
   read-draws s t id next known go (Ok shown) n = go s known n
   read-draws s t id next known go (Err why) n = absurd n
 
   deed-draws : (line : ℕ) (call : Call) (s t : SessionState) (id : Id12) (next : SessionState → Type 0) → AreOf client s.ids → GoesOn id next → ReachesBy (deed line call s) s t id next → IsDrawnBy client id
-  deed-draws line (Edit (Group path)) s t id next known go r = edit-draws path s t id next known go (group_added s path) refl r
+  deed-draws line (Edit (Group path)) s t id next known go r = edit-draws path group_text s t id next known go (group_added s path group_text) refl r
   deed-draws line (Read_call (List_call path)) s t id next known go r = read-draws s t id next known go (nodes_shown line (listed s path)) r
   deed-draws line (Commit message) s t id next known go r = start-draws s t id known r
 

@@ -4,20 +4,21 @@ use Rattle.std.specs.Prelude.{Option, Some, option_map}
 use Rattle.std.proofs.lemmas.Bool.{lt-ltb, le-ltb}
 use Rattle.ice_ids.specs.declared.Id12.{Id12}
 use Rattle.ice_ids.specs.declared.drawing.Draw.{Draw}
-use Rattle.tree_model.specs.Changes.{Changes, apply}
-use Rattle.plain_object.specs.Objects.{Snapshot as Snap}
+use Rattle.zarr_tree.specs.Trees.{Tree}
+use Rattle.zarr_tree.specs.Changes.{Changes, apply}
+use Rattle.snapshot_file.specs.declared.snapshot.SnapshotFile.{SnapshotFile as Snap}
 use Rattle.store_api.specs.declared.keys.Key.TheVariants.{Snapshot}
 use Rattle.store_api.specs.declared.events.Event.{Event}
-use Rattle.store_api.specs.Journal.{Each, IsGood, IsGoodJournal, IsOnce, IsFirst, WasPut, ParentPut, tree_of, snap_made}
+use Rattle.store_api.specs.Journal.{Each, IsGood, IsGoodJournal, IsOnce, IsFirst, WasPut, ParentPut, puts_of, tree_of, snap_made}
 use Rattle.store_api.proofs.Journals.{Each-back, Each-both}
 use Rattle.store_api.proofs.Slots.{WasPut-append}
-use Rattle.store_api.proofs.Standing.{standing, snap_made-put}
+use Rattle.store_api.proofs.Standing.{standing, rows-stay, snap_made-put}
 use Rattle.store_api.proofs.Naming.{names-law}
 use Rattle.histories.specs.Calls.{LeadsFromParent, IsGiven, CommitsApply}
 use Rattle.histories.proofs.Choosing.{Knows, chosen, choice}
-use Rattle.session.specs.Sessions.{SessionState, overlay}
+use Rattle.session.specs.Sessions.{SessionState, base_tree, changes_in, overlay}
 use Rattle.commit_path.specs.Owed.{IsMade}
-use Rattle.commit_path.proofs.Owing.{once-front, once-back}
+use Rattle.commit_path.proofs.Owing.{once-front, once-back, tree-by_rows}
 use Rattle.play_script.specs.declared.scripts.Task.{Task}
 use Rattle.run_histories.specs.Told.{IsSolved, CommitsEnter}
 
@@ -73,17 +74,30 @@ module _ (journal rest : List Event) (f : Follows journal rest) (session : Sessi
       base_same : Some session.base ≡ Some base → session.base ≡ base
       base_same e = cc
 
-  made-tree : tree_of (journal ++ rest) id ≡ Some (overlay session)
-  made-tree = standing id journal rest f.once (snap_made-put journal id m.snap m.made) f.good f.first ∙ m.tree
+  -- by what was put until then
+  made-stands : tree_of (journal ++ rest) id ≡ Some (overlay (puts_of journal) session)
+  made-stands =
+      standing id journal rest f.once (snap_made-put journal id m.snap m.made) f.good f.first
+      ∙ tree-by_rows journal id m.snap.nodes m.rows
+      ∙ ap (λ (t : Tree). Some t) (m.tree (puts_of journal))
 
-  base-tree : tree_of (journal ++ rest) session.base ≡ Some session.tree
-  base-tree = standing session.base journal rest f.once m.base_put f.good f.first ∙ m.base_tree
+  base-stands : tree_of (journal ++ rest) session.base ≡ Some (base_tree (puts_of journal) session)
+  base-stands = standing session.base journal rest f.once m.base_put f.good f.first ∙ tree-by_rows journal session.base session.rows m.base_rows
 
-  made-leads : (c : Changes) → c ≡ session.changes → LeadsFromParent (tree_of (journal ++ rest)) c journal id
+  -- by what was put at last
+  made-tree : tree_of (journal ++ rest) id ≡ Some (overlay (puts_of (journal ++ rest)) session)
+  made-tree =
+      tree-by_rows (journal ++ rest) id m.snap.nodes (rows-stay id journal rest f.once (snap_made-put journal id m.snap m.made) f.good f.first ∙ m.rows)
+      ∙ ap (λ (t : Tree). Some t) (m.tree (puts_of (journal ++ rest)))
+
+  base-tree : tree_of (journal ++ rest) session.base ≡ Some (base_tree (puts_of (journal ++ rest)) session)
+  base-tree = tree-by_rows (journal ++ rest) session.base session.rows (rows-stay session.base journal rest f.once m.base_put f.good f.first ∙ m.base_rows)
+
+  made-leads : (c : Changes) → c ≡ changes_in (puts_of journal) session → LeadsFromParent (tree_of (journal ++ rest)) c journal id
   made-leads c changes base snap made parent =
-      made-tree
-      ∙ ap (λ (x : Changes). Some (apply x session.tree)) (sym changes)
-      ∙ ap (option_map (apply c)) (sym base-tree)
+      made-stands
+      ∙ ap (λ (x : Changes). Some (apply x (base_tree (puts_of journal) session))) (sym changes)
+      ∙ ap (option_map (apply c)) (sym base-stands)
       ∙ ap (λ (i : Id12). option_map (apply c) (tree_of (journal ++ rest) i)) (made-base base snap made parent)
 
 module _ (draw : Draw) (tasks : List Task) (changes : ℕ → Changes) (whole : List Event) (good : IsGoodJournal whole) (once : IsOnce whole) where
@@ -107,26 +121,26 @@ module _ (draw : Draw) (tasks : List Task) (changes : ℕ → Changes) (whole : 
   abbrev Both : List Event → Event → Type 0
   Both journal event = IsSolved draw tasks changes journal event × CommitsApply (tree_of whole) changes journal event
 
-  enters-one : (journal : List Event) (event : Event) (rest : List Event) → whole ≡ journal ++ event ∷ rest → Both journal event → CommitsEnter draw tasks (tree_of whole) changes journal event
+  enters-one : (journal : List Event) (event : Event) (rest : List Event) → whole ≡ journal ++ event ∷ rest → Both journal event → CommitsEnter draw tasks (puts_of whole) (tree_of whole) changes journal event
   enters-one journal event rest w both branch bytes old id stored op_is names done stands version =
       let s = both.0 branch bytes old id op_is names in
       let c = both.1 branch bytes old id stored op_is names done stands version in
       let f = follows journal (event ∷ rest) w in
       let base : s.session.base ≡ c.before.id = made-base journal (event ∷ rest) f s.session id s.made c.before.id c.child.snap c.child.made c.child.parent_is in
-      let base_has : tree_of whole s.session.base ≡ Some s.session.tree = subst (λ (h : List Event). tree_of h s.session.base ≡ Some s.session.tree) (sym w) (base-tree journal (event ∷ rest) f s.session id s.made) in
+      let base_has : tree_of whole s.session.base ≡ Some (base_tree (puts_of whole) s.session) = subst (λ (h : List Event). tree_of h s.session.base ≡ Some (base_tree (puts_of h) s.session)) (sym w) (base-tree journal (event ∷ rest) f s.session id s.made) in
       record {
         of_session = s;
         before = c.before;
         is_last = c.is_last;
         version = c.version;
         base = sym base;
-        base_tree = subst (λ (i : Id12). tree_of whole i ≡ Some s.session.tree) base base_has;
-        tree = subst (λ (h : List Event). tree_of h id ≡ Some (overlay s.session)) (sym w) (made-tree journal (event ∷ rest) f s.session id s.made);
+        base_is = subst (λ (i : Id12). tree_of whole i ≡ Some (base_tree (puts_of whole) s.session)) base base_has;
+        tree = subst (λ (h : List Event). tree_of h id ≡ Some (overlay (puts_of h) s.session)) (sym w) (made-tree journal (event ∷ rest) f s.session id s.made);
       }
 
-  pub solved-enter : (old more : List Event) → whole ≡ old ++ more → Each (IsSolved draw tasks changes) old more → Each (CommitsApply (tree_of whole) changes) old more → Each (CommitsEnter draw tasks (tree_of whole) changes) old more
+  pub solved-enter : (old more : List Event) → whole ≡ old ++ more → Each (IsSolved draw tasks changes) old more → Each (CommitsApply (tree_of whole) changes) old more → Each (CommitsEnter draw tasks (puts_of whole) (tree_of whole) changes) old more
   solved-enter old more w a b =
-      along-whole Both (CommitsEnter draw tasks (tree_of whole) changes) whole old more w enters-one
+      along-whole Both (CommitsEnter draw tasks (puts_of whole) (tree_of whole) changes) whole old more w enters-one
       (Each-both (IsSolved draw tasks changes) (CommitsApply (tree_of whole) changes) Both (λ h e p q. (p, q)) old more a b)
 
 -- ---- the commits before

@@ -1,7 +1,7 @@
 -- The law of runs.
 use Rattle.std.proofs.Common.{◌≡◌, ℕ, List, [], ◌++◌, refl, sym, ◌∙◌, ap, subst, append_assoc}
 use Rattle.ice_ids.specs.declared.drawing.Draw.{Draw}
-use Rattle.tree_model.specs.Changes.{Changes, none}
+use Rattle.zarr_tree.specs.Changes.{Changes, none}
 use Rattle.store_api.specs.declared.keys.Key.{Key}
 use Rattle.store_api.specs.declared.keys.Key.TheVariants.{Snapshot, Txn}
 use Rattle.store_api.specs.declared.events.Event.{Event}

@@ -2,7 +2,7 @@
 use Rattle.std.proofs.Common.{◌≡◌, ℕ, List, [], ◌∷◌, ◌++◌, refl, sym, subst}
 use Rattle.std.specs.Prelude.{Result, Ok, Err}
 use Rattle.ice_ids.specs.Text.{initial_id}
-use Rattle.plain_object.specs.Objects.{initial_bytes}
+use Rattle.repo_objects.specs.Laws.{initial_bytes}
 use Rattle.store_api.specs.declared.keys.Key.{Key}
 use Rattle.store_api.specs.declared.keys.Key.TheVariants.{Snapshot, Branch}
 use Rattle.store_api.specs.declared.keys.Part.{Part}

@@ -4,7 +4,7 @@ use Rattle.ice_ids.specs.declared.Id12.{Id12}
 use Rattle.ice_ids.specs.declared.drawing.AnyIds.{AnyIds}
 use Rattle.ice_ids.specs.declared.drawing.Draw.{Draw}
 use Rattle.ice_ids.specs.Drawing.{IsAnyIds, drawn12}
-use Rattle.tree_model.specs.Changes.{Changes}
+use Rattle.zarr_tree.specs.Changes.{Changes}
 use Rattle.store_api.specs.declared.keys.Key.TheVariants.{Snapshot, Txn}
 use Rattle.store_api.specs.declared.events.Event.{Event}
 use Rattle.store_api.specs.Journal.{Each, IsGood, IsGoodJournal, IsOnce, IsUnused, tree_of}

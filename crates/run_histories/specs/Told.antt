@@ -2,9 +2,9 @@
 use Rattle.std.specs.Prelude.{◌≡◌, ℕ, ◌+◌, ◌<◌, true, List, [], ◌++◌, length, Option, Some, slice_get}
 use Rattle.ice_ids.specs.declared.Id12.{Id12}
 use Rattle.ice_ids.specs.declared.drawing.Draw.{Draw}
-use Rattle.tree_model.specs.Trees.{Tree}
-use Rattle.tree_model.specs.Changes.{Changes, none}
-use Rattle.plain_object.specs.Objects.{ref_of}
+use Rattle.zarr_tree.specs.Trees.{Tree}
+use Rattle.zarr_tree.specs.Changes.{Changes, none}
+use Rattle.repo_objects.specs.Readings.{ref_of}
 use Rattle.store_api.specs.declared.keys.Key.TheVariants.{Branch}
 use Rattle.store_api.specs.declared.keys.Why.TheVariants.{Commit}
 use Rattle.store_api.specs.declared.events.Version.{Version}
@@ -12,10 +12,11 @@ use Rattle.store_api.specs.declared.events.Op.{Op}
 use Rattle.store_api.specs.declared.events.Op.TheVariants.{PutOver}
 use Rattle.store_api.specs.declared.events.Event.{Event}
 use Rattle.store_api.specs.Machine.{Stored, found, was_done}
-use Rattle.store_api.specs.Journal.{Each, tree_of}
+use Rattle.store_api.specs.Journal.{Each, puts_of, tree_of}
 use Rattle.histories.specs.Repository.{Entry, last}
 use Rattle.histories.specs.Calls.{history_of, IsHistory, BranchesStand}
-use Rattle.session.specs.Sessions.{SessionState, overlay}
+use Rattle.repo_objects.specs.Trees.{Puts}
+use Rattle.session.specs.Sessions.{SessionState, base_tree, changes_in, overlay}
 use Rattle.session.specs.Opening.{Asked}
 use Rattle.commit_path.specs.Owed.{IsMade}
 use Rattle.commit_path.specs.Opened.{IsOpened, WasNamed, WasBegun}
@@ -25,8 +26,9 @@ use Rattle.play_tasks.specs.Tasks.{ids_at}
 use Rattle.run_histories.specs.Runs.{IsSound, IsRun}
 
 -- A commit of a session of its client's task: the task's lines lead to the session and to the id that it draws, the
--- branch is the session's, put over at the version that it had read, and the changes are the session's; and what was put under the id is the session's snapshot, with its
--- base as parent, the base's tree under its changes as tree, and a log of all that they touch.
+-- branch is the session's, put over at the version that it had read, and the changes are the session's, by what was put
+-- until then; and what was put under the id is the session's snapshot, with its base as parent, the base's tree under its
+-- changes as tree, and a log of all that they touch.
 pub record IsOfSession (draw : Draw) (tasks : List Task) (changes : Changes) (journal : List Event) (client : ℕ) (branch : List ℕ) (old : ℕ) (id : Id12) : Type 0 where
   pub place : ℕ
   pub client_is : client ≡ place + 1
@@ -36,7 +38,7 @@ pub record IsOfSession (draw : Draw) (tasks : List Task) (changes : Changes) (jo
   pub of_task : IsOfTask (ids_at draw place) task session id
   pub branch_is : branch ≡ session.branch
   pub version_is : old ≡ session.version
-  pub changes_are : changes ≡ session.changes
+  pub changes_are : changes ≡ changes_in (puts_of journal) session
   pub made : IsMade session id journal
 
 -- where the client's operation commits a snapshot to a branch, the commit is of a session of its task, with these changes
@@ -49,43 +51,44 @@ abbrev pub IsSolved : Draw → List Task → (ℕ → Changes) → List Event �
 IsSolved draw tasks changes journal event = CommitsSession draw tasks (changes (length journal)) journal event.client event.op
 
 -- A commit that took effect, of a session of its client's task. It follows directly on the last entry of its branch:
--- the entry has the version that the session had read, its snapshot is the session's base, and its tree is the one that the session
--- began with; the commit's tree is that one under exactly the session's changes.
-pub record IsEntered (draw : Draw) (tasks : List Task) (trees : Id12 → Option Tree) (changes : ℕ → Changes) (journal : List Event) (client : ℕ) (branch : List ℕ) (old : ℕ) (id : Id12) : Type 0 where
+-- the entry has the version that the session had read, its snapshot is the session's base, and its tree is the one of the
+-- session's rows, by what was put; the commit's tree is that one under exactly the session's changes.
+pub record IsEntered (draw : Draw) (tasks : List Task) (puts : Puts) (trees : Id12 → Option Tree) (changes : ℕ → Changes) (journal : List Event) (client : ℕ) (branch : List ℕ) (old : ℕ) (id : Id12) : Type 0 where
   pub of_session : IsOfSession draw tasks (changes (length journal)) journal client branch old id
   pub before : Entry
   pub is_last : last (history_of trees changes journal branch) ≡ Some before
   pub version : before.version ≡ old
   pub base : before.id ≡ of_session.session.base
-  pub base_tree : trees before.id ≡ Some of_session.session.tree
-  pub tree : trees id ≡ Some (overlay of_session.session)
+  pub base_is : trees before.id ≡ Some (base_tree puts of_session.session)
+  pub tree : trees id ≡ Some (overlay puts of_session.session)
 
 -- where the event is a commit that took effect, also by a lost answer
-abbrev pub CommitsEnter : Draw → List Task → (Id12 → Option Tree) → (ℕ → Changes) → List Event → Event → Type 0
-CommitsEnter draw tasks trees changes journal event = (branch bytes : List ℕ) (old : Version) (id : Id12) (s : Stored) → event.op ≡ PutOver (Branch branch) bytes old Commit → ref_of bytes ≡ Some id
-    → was_done event.reply ≡ true → found journal (Branch branch) ≡ Some s → s.version ≡ old.0 → IsEntered draw tasks trees changes journal event.client branch old.0 id
+abbrev pub CommitsEnter : Draw → List Task → Puts → (Id12 → Option Tree) → (ℕ → Changes) → List Event → Event → Type 0
+CommitsEnter draw tasks puts trees changes journal event = (branch bytes : List ℕ) (old : Version) (id : Id12) (s : Stored) → event.op ≡ PutOver (Branch branch) bytes old Commit → ref_of bytes ≡ Some id
+    → was_done event.reply ≡ true → found journal (Branch branch) ≡ Some s → s.version ≡ old.0 → IsEntered draw tasks puts trees changes journal event.client branch old.0 id
 
--- The session began at the last entry of its branch's history, as that was where the client got the branch: it has the entry's version, snapshot and
--- tree.
-pub record BeganAtLast (trees : Id12 → Option Tree) (changes : ℕ → Changes) (client : ℕ) (a : Asked) (s : SessionState) (start journal : List Event) : Type 0 where
+-- The session began at the last entry of its branch's history, as that was where the client got the branch: it has the
+-- entry's version, snapshot and tree.
+pub record BeganAtLast (puts : Puts) (trees : Id12 → Option Tree) (changes : ℕ → Changes) (client : ℕ) (a : Asked) (s : SessionState) (start journal : List Event) : Type 0 where
   pub named : WasNamed client a s.version s.base start journal
   pub entry : Entry
   pub is_last : last (history_of trees changes named.got.own.before a.branch) ≡ Some entry
   pub version : entry.version ≡ s.version
   pub base : entry.id ≡ s.base
-  pub tree : trees entry.id ≡ Some s.tree
+  pub tree : trees entry.id ≡ Some (base_tree puts s)
 
 -- After a run: the changes for each position are those before it, and for each commit that it added those of a session
--- of its client's task; each commit that took effect follows on the entry before it; each session that was opened began at the last entry of
--- its branch. With these changes the journal is sound, so that another run may go on; the histories run over its calls; and the branches stand as their histories say.
+-- of its client's task; each commit that took effect follows on the entry before it; each session that was opened began
+-- at the last entry of its branch. With these changes the journal is sound, so that another run may go on; the histories
+-- run over its calls; and the branches stand as their histories say. Trees are by what was put in the whole journal.
 pub record HasHistories (draw : Draw) (tasks : List Task) (before : ℕ → Changes) (old new : List Event) : Type 0 where
   pub added : List Event
   pub is : new ≡ old ++ added
   pub changes : ℕ → Changes
   pub same : (n : ℕ) → n < length old → changes n ≡ before n
   pub solved : Each (IsSolved draw tasks changes) old added
-  pub commits : Each (CommitsEnter draw tasks (tree_of new) changes) old added
-  pub opened : (client : ℕ) (a : Asked) (s : SessionState) (start : List Event) → WasBegun client a s start new → IsOpened s new → BeganAtLast (tree_of new) changes client a s start new
+  pub commits : Each (CommitsEnter draw tasks (puts_of new) (tree_of new) changes) old added
+  pub opened : (client : ℕ) (a : Asked) (s : SessionState) (start : List Event) → WasBegun client a s start new → IsOpened s new → BeganAtLast (puts_of new) (tree_of new) changes client a s start new
   pub sound : IsSound new changes
   pub history : IsHistory (tree_of new) changes new
   pub stand : BranchesStand (tree_of new) changes new

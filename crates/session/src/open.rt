@@ -2,16 +2,16 @@
 
 ghost use Rattle.std.specs.Prelude.{◌≡◌, ◌<◌, true, false, IfErr};
 ghost use Rattle.store_api.specs.Program.{IsAsk, Steps};
-ghost use Rattle.store_api.specs.Driving.{Took};
-ghost use Rattle.session.specs.Opening.{open_program, open_rest, open_left, asked, get_base, MayRefuseOpen};
+ghost use Rattle.store_api.specs.Driving.{Awaits, Took};
+ghost use Rattle.session.specs.Opening.{open_program, base_program, open_rest, open_left, asked, MayRefuseOpen};
 
 use crate::Session;
 use crate::opening::Opening;
 use ice_base::RefName;
-use ice_ids::{AnyIds, Id12};
-use plain_object::{PlainFault, ref_read, snapshot_read};
+use ice_ids::AnyIds;
+use repo_read::{Resolved, ref_told, snapshot_told};
 use std::alloc::{AllocError, Global};
-use store_api::{Bad, Got, Key, Machine, Next, Refusal, Reply, Request, Store, Version, drive};
+use store_api::{Key, Machine, Next, Refusal, Reply, Request, Store, drive};
 
 /// A machine that opens a session: it gets the branch, and then the snapshot that it names. It
 /// answers `NoRef`, `Missing`, `BadFile`, `StoreFault` or `NoMemory` in place of a session.
@@ -38,7 +38,7 @@ impl Machine for Open {
     fn request(&self) -> Result<Request<'_>, AllocError> {
         let key = match self.state {
             Opening::Ref => Key::Branch(self.branch.copy(self.alloc)?),
-            Opening::Base { id, version: _ } => Key::Snapshot(id),
+            Opening::Base(named) => Key::Snapshot(named.id),
             Opening::Ended => unreachable!(),
         };
         Ok(Request::Get { key })
@@ -47,12 +47,9 @@ impl Machine for Open {
     fn answer(&mut self, reply: Reply) -> Result<Next<Session>, Refusal> {
         let state = self.state;
         self.state = Opening::Ended;
-        let Reply::Got(got) = reply else {
-            return Err(Refusal::StoreFault);
-        };
         match state {
-            Opening::Ref => self.on_ref(got),
-            Opening::Base { id, version } => self.on_base(got, id, version),
+            Opening::Ref => self.on_ref(reply),
+            Opening::Base(named) => self.on_base(named, reply),
             Opening::Ended => unreachable!(),
         }
     }
@@ -101,59 +98,30 @@ impl Open {
         drive(self, store)
     }
 
-    fn on_ref(&mut self, got: Got) -> Result<Next<Session>, Refusal>
-        requires { self.old.state ≡ Opening.Ended }
-        ensures took { Took (open_program (asked self.old)) (Reply.Got got) (open_rest self.new) result }
+    fn on_ref(&mut self, reply: Reply) -> Result<Next<Session>, Refusal>
+        requires ended { self.old.state ≡ Opening.Ended }
+        requires awaited { Awaits (open_program (asked self.old)) reply }
+        ensures took { Took (open_program (asked self.old)) reply (open_rest self.new) result }
         ensures falls { open_left self.new < 2 }
         ensures listed { IfErr result MayRefuseOpen }
     {
-        match got {
-            Got::Absent { now: _ } => Err(Refusal::NoRef),
-            Got::Found {
-                bytes,
-                version,
-                now: _,
-            } => match ref_read(bytes.as_slice()) {
-                Some(id) => {
-                    self.state = Opening::Base { id, version };
-                    Ok(Next::Again)
-                }
-                None => match self.branch.copy(self.alloc) {
-                    Ok(branch) => Err(Refusal::BadFile(Key::Branch(branch), Bad::Plain)),
-                    Err(_) => Err(Refusal::NoMemory),
-                },
-            },
-        }
+        let named = ref_told(self.alloc, &self.branch, reply)?;
+        self.state = Opening::Base(named);
+        Ok(Next::Again)
     }
 
-    fn on_base(&mut self, got: Got, id: Id12, version: Version) -> Result<Next<Session>, Refusal>
-        requires { self.old.state ≡ Opening.Ended }
-        ensures took { Took (get_base (asked self.old) id version.0) (Reply.Got got) (open_rest self.new) result }
+    fn on_base(&mut self, named: Resolved, reply: Reply) -> Result<Next<Session>, Refusal>
+        requires ended { self.old.state ≡ Opening.Ended }
+        requires awaited { Awaits (base_program (asked self.old) named) reply }
+        ensures took { Took (base_program (asked self.old) named) reply (open_rest self.new) result }
         ensures falls { open_left self.new < 1 }
         ensures listed { IfErr result MayRefuseOpen }
     {
-        match got {
-            Got::Absent { now: _ } => Err(Refusal::Missing(Key::Snapshot(id))),
-            Got::Found {
-                bytes,
-                version: _,
-                now: _,
-            } => match snapshot_read(self.alloc, bytes.as_slice()) {
-                Err(PlainFault::Malformed) => Err(Refusal::BadFile(Key::Snapshot(id), Bad::Plain)),
-                Err(PlainFault::NoMemory) => Err(Refusal::NoMemory),
-                Ok(file) => match self.branch.copy(self.alloc) {
-                    Err(_) => Err(Refusal::NoMemory),
-                    Ok(branch) => Ok(Next::Ready(Session::begin(
-                        self.alloc,
-                        branch,
-                        self.writes,
-                        self.ids,
-                        id,
-                        version,
-                        file.tree,
-                    ))),
-                },
-            },
-        }
+        let loaded = snapshot_told(self.alloc, named.id, reply)?;
+        let Ok(branch) = self.branch.copy(self.alloc) else {
+            return Err(Refusal::NoMemory);
+        };
+        let session = Session::begin(self.alloc, branch, self.writes, self.ids, named, loaded);
+        Ok(Next::Ready(session))
     }
 }

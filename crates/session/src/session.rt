@@ -1,20 +1,29 @@
 //! Sessions.
 
 ghost use Rattle.std.specs.Prelude.{◌≡◌, List, Bool, IfOk, map};
-ghost use Rattle.std.specs.Option.{is_some};
-ghost use Rattle.tree_model.specs.Touched.{touched, is_untouched};
-ghost use Rattle.session.specs.Editing.{AddsGroup, Answers, listed, refusal_of_edit, listing};
-ghost use Rattle.session.specs.Sessions.{overlay};
+ghost use Rattle.snapshot_file.specs.Layout.{snapshot_bytes};
+ghost use Rattle.changed_snapshot.specs.Rows.{snapshot_over};
+ghost use Rattle.changed_snapshot.specs.Written.{Writes};
+ghost use Rattle.zarr_tree.specs.Held.{touched};
+ghost use Rattle.zarr_tree.specs.Touched.{is_untouched};
+ghost use Rattle.session.specs.Editing.{AddsGroup, Answers, listed, refusal_of_edit};
+ghost use Rattle.session.specs.Sessions.{base_nodes};
+ghost use Rattle.session.specs.inside.Reads.{ReadsGroup};
 
-use change_set::ChangeSet;
-use ice_base::RefName;
+use changed_snapshot::{Stamp, write_over};
+use flat_tables::WriteFault;
+use ice_base::{Bytes, RefName, Text};
 use ice_ids::{AnyIds, Id8, Id12, Ids};
 use ice_items::Items;
+use repo_objects::Loaded;
+use repo_read::Resolved;
 use std::alloc::{AllocError, Global};
 use std::marker::Model;
 use store_api::{Refusal, Version};
-use tree_model::{EditFault, Touched, Tree};
+use zarr_changes::ChangeSet;
+use zarr_meta::{Meta, MetaFault, View};
 use zarr_path::Path;
+use zarr_tree::{EditFault, Touched};
 
 /// A node of a listing: its path, and whether it is an array.
 #[derive(Debug, Drop)]
@@ -26,7 +35,7 @@ pub struct Listing {
 /// A list of nodes.
 pub type Listings = Items<Listing>;
 
-/// A session: a base tree and changes over it. Its reads see the base under the changes, whatever
+/// A session: a snapshot and changes over it. Its reads see the snapshot's tree under the changes, whatever
 /// other clients do.
 #[derive(Drop)]
 pub struct Session {
@@ -35,21 +44,28 @@ pub struct Session {
     writes: bool,
     base: Id12,
     version: Version,
-    tree: Tree,
+    loaded: Loaded,
     changes: ChangeSet,
     ids: AnyIds,
 }
 
 impl Model for Session {
-    ghost use Rattle.session.specs.Sessions.{SessionState, session_code};
+    ghost use Rattle.std.specs.Prelude.{◌≤◌};
+    ghost use Rattle.std.specs.FinMap.{len};
+    ghost use Rattle.zarr_tree.specs.Edits.{most_nodes};
+    ghost use Rattle.session.specs.Sessions.{SessionState, nodes_seen};
 
     ghost Value = { SessionState };
 
-    ghost coded = { session_code };
+    ghost use Rattle.session.specs.Codes.{coded_session};
+
+    ghost coded = { coded_session };
 
     ghost use Rattle.session.specs.Viewed.{viewed};
 
     ghost view = { viewed };
+
+    ghost invariant = { λ s. len (nodes_seen (viewed s)) ≤ most_nodes };
 }
 
 fn refusal_of_edit(fault: EditFault) -> Refusal
@@ -59,46 +75,65 @@ fn refusal_of_edit(fault: EditFault) -> Refusal
         EditFault::NodeExists => Refusal::NodeExists,
         EditFault::NoParent => Refusal::NoParent,
         EditFault::Full => Refusal::Full,
+        EditFault::NoNode => Refusal::NoNode,
+        EditFault::FrozenField(part) => Refusal::FrozenField(part),
+        EditFault::NotArray => Refusal::NotArray,
+        EditFault::OutOfGrid => Refusal::OutOfGrid,
+        EditFault::ChunkLength { want, got } => Refusal::ChunkLength { want, got },
         EditFault::NoMemory => Refusal::NoMemory,
     }
 }
 
-/// The paths as a listing of groups.
-fn as_listings(alloc: Global, paths: Vec<Path>) -> Result<Listings, AllocError>
-    ensures { IfOk result (λ l. l ≡ map listing paths.items) }
+/// The metadata of a group that a text says.
+fn group_meta(alloc: Global, text: &[u8]) -> Result<Meta, Refusal>
+    ensures { ReadsGroup text.now result }
 {
-    let mut list = Vec::new(alloc);
-    for path in paths {
-        list.push(Listing { path, array: false })?;
+    match Meta::read(alloc, text) {
+        Ok(meta) => match meta.view {
+            View::Group => Ok(meta),
+            View::Array(_) => Err(Refusal::BadMeta(MetaFault::NodeType)),
+        },
+        Err(MetaFault::NoMemory) => Err(Refusal::NoMemory),
+        Err(fault) => Err(Refusal::BadMeta(fault)),
     }
+}
+
+/// The nodes as a listing.
+fn as_listings(alloc: Global, rows: Vec<(Path, bool)>) -> Result<Listings, AllocError>
+    ensures { IfOk result (λ l. l ≡ map (λ row. record { path = row.0; array = row.1 }) rows.items) }
+{
+    let list = rows
+        .into_iter()
+        .map(|(path, array)| Listing { path, array })
+        .collect(alloc)?;
     Ok(Listings::from_vec(list))
 }
 
 impl Session {
     ghost use Rattle.std.specs.Prelude.{◌≡◌, IfOk};
     ghost use Rattle.ice_ids.specs.Drawing.{drawn12, after12};
-    ghost use Rattle.tree_model.specs.Changes.{none};
-    ghost use Rattle.tree_model.specs.Plain.{tree_of};
+    ghost use Rattle.zarr_changes.specs.Edits.{nothing};
 
-    /// A session over this base, without changes.
+    /// A session over this snapshot, without changes.
     pub(crate) fn begin(
         alloc: Global,
         branch: RefName,
         writes: bool,
         ids: AnyIds,
-        base: Id12,
-        version: Version,
-        tree: Tree,
+        named: Resolved,
+        loaded: Loaded,
     ) -> Session
-        ensures { result ≡ record { branch = branch; writes = writes; base = base; version = version.0; tree = tree_of tree; changes = none; ids = ids } }
+        ensures { result ≡ record { branch = branch; writes = writes; base = named.id; version = named.version.0; rows = loaded.nodes; files = loaded.manifest_files; held = nothing; ids = ids } }
     {
+        // What was loaded has no more nodes than a tree may have.
+        let _ = loaded.file();
         Session {
             alloc,
             branch,
             writes,
-            base,
-            version,
-            tree,
+            base: named.id,
+            version: named.version,
+            loaded,
             changes: ChangeSet::new(alloc),
             ids,
         }
@@ -132,25 +167,26 @@ impl Session {
         self.writes
     }
 
-    /// Adds a group at a path, and answers its id. It is refused by `ReadOnly`, `NodeExists`,
-    /// `NoParent`, `Full`, `IdsSpent` or `NoMemory`, the first in this order. A refused session is as
-    /// before, apart from one id that may have been drawn where memory ran out.
-    pub fn add_group(&mut self, path: &Path) -> Result<Id8, Refusal>
-        ensures { AddsGroup self.old path.now result self.new }
+    /// Adds a group with this metadata at a path, and answers its id. It is refused by `ReadOnly`, `BadMeta` (the text is no
+    /// metadata, or an array's), `NodeExists`, `NoParent`, `Full`, `IdsSpent` or `NoMemory`, the first in this order. A
+    /// refused session is as before, apart from one id that may have been drawn where memory ran out.
+    pub fn add_group(&mut self, path: &Path, text: &[u8]) -> Result<Id8, Refusal>
+        ensures { AddsGroup self.old path.now text.now result self.new }
     {
         if !self.writes {
             return Err(Refusal::ReadOnly);
         }
-        if let Err(fault) = self.changes.may_add(&self.tree, path) {
+        let meta = group_meta(self.alloc, text)?;
+        if let Err(fault) = self.changes.may_add(&self.loaded, path) {
             return Err(refusal_of_edit(fault));
         }
         let Some(id) = self.ids.next8() else {
             return Err(Refusal::IdsSpent);
         };
-        match self.changes.add(self.alloc, &self.tree, path, id) {
-            Ok(()) => Ok(id),
-            Err(fault) => Err(refusal_of_edit(fault)),
+        if let Err(fault) = self.changes.add(self.alloc, &self.loaded, path, id, meta) {
+            return Err(refusal_of_edit(fault));
         }
+        Ok(id)
     }
 
     /// The nodes beneath a path, in the order of the paths' bytes; `NoNode` where the tree has no
@@ -158,13 +194,13 @@ impl Session {
     pub fn list_beneath(&self, path: &Path) -> Result<Listings, Refusal>
         ensures { Answers (listed self.now path.now) result }
     {
-        if self.changes.lookup(&self.tree, path.as_str()).is_none() {
+        if self.changes.lookup(&self.loaded, path.as_str()).is_none() {
             return Err(Refusal::NoNode);
         }
-        let Ok(paths) = self.changes.beneath(self.alloc, &self.tree, path) else {
+        let Ok(rows) = self.changes.beneath(self.alloc, &self.loaded, path) else {
             return Err(Refusal::NoMemory);
         };
-        match as_listings(self.alloc, paths) {
+        match as_listings(self.alloc, rows) {
             Ok(list) => Ok(list),
             Err(_) => Err(Refusal::NoMemory),
         }
@@ -172,23 +208,29 @@ impl Session {
 
     /// Whether there are no changes to commit.
     pub fn is_unchanged(&self) -> bool
-        ensures { result ≡ is_untouched (touched self.now.changes self.now.tree) }
+        ensures { result ≡ is_untouched (touched self.now.held (base_nodes self.now)) }
     {
-        self.changes.is_empty()
+        self.changes.is_empty(&self.loaded)
     }
 
     /// What the changes touch of the base.
     pub fn net(&self) -> Result<Touched, AllocError>
-        ensures { IfOk result (λ lists. lists ≡ touched self.now.changes self.now.tree) }
+        ensures { IfOk result (λ lists. lists ≡ touched self.now.held (base_nodes self.now)) }
     {
-        self.changes.net(self.alloc, &self.tree)
+        self.changes.net(self.alloc, &self.loaded)
     }
 
-    /// The base under the changes, as a tree of its own.
-    pub fn tree(&self) -> Result<Tree, AllocError>
-        ensures { IfOk result (λ tree. tree_of tree ≡ overlay self.now) }
+    /// The file of the snapshot of this session under an id, flushed at this time, with this message; `TooLarge` where it
+    /// would be longer than a file may be.
+    pub fn write(&self, id: Id12, flushed_at: u64, message: &Text) -> Result<Bytes, WriteFault>
+        ensures { Writes result (snapshot_bytes (snapshot_over self.now.held self.now.rows self.now.files (record { id = id; parent = self.now.base; flushed_at = flushed_at }) message.now)) }
     {
-        self.changes.tree(self.alloc, &self.tree)
+        let stamp = Stamp {
+            id,
+            parent: self.base,
+            flushed_at,
+        };
+        write_over(self.alloc, &self.loaded, &self.changes, stamp, message)
     }
 
     /// Draws an object id; None where none is left.

@@ -1,5 +1,7 @@
 pub mod Slots
 pub mod Journals
+pub mod SameTree
+pub mod Once
 pub mod Standing
 pub mod Naming
 pub mod Programs

@@ -1,20 +1,23 @@
 -- In a legal polite journal all that is named was put.
-use Rattle.std.proofs.Common.{◌≡◌, ◌⊎◌, inl, inr, ℕ, true, List, [], ◌∷◌, ◌++◌, length, refl, sym, subst, append_assoc, append-nil}
-use Rattle.std.specs.Prelude.{Option, Some, None}
+use Rattle.std.proofs.Common.{◌≡◌, ◌⊎◌, inl, inr, ℕ, ◌+◌, ◌≤◌, true, List, [], ◌∷◌, ◌++◌, length, take, refl, sym, ap, subst, append_assoc, append-nil, arith}
+use Rattle.std.specs.Prelude.{Option, Some, None, option_and_then}
 use Rattle.std.specs.Option.{option_or}
+use Rattle.std.proofs.lemmas.Bool.{cases_order}
+use Rattle.std.proofs.lemmas.List.{take-append-le, take_all, length-append}
 use Rattle.ice_ids.specs.declared.Id12.{Id12}
 use Rattle.ice_ids.specs.Text.{initial_id}
-use Rattle.plain_object.specs.Objects.{snapshot_of}
+use Rattle.repo_objects.specs.Readings.{snapshot_by, manifest_by}
 use Rattle.store_api.specs.declared.keys.Key.{Key}
-use Rattle.store_api.specs.declared.keys.Key.TheVariants.{Snapshot, Txn, Branch, Tag}
+use Rattle.store_api.specs.declared.keys.Key.TheVariants.{Snapshot, Manifest, Txn, Branch, Tag}
 use Rattle.store_api.specs.declared.keys.Why.{Why}
 use Rattle.store_api.specs.declared.events.Op.{Op}
 use Rattle.store_api.specs.declared.events.Op.TheVariants.{Get, PutNew, PutOver, Remove, RemoveAt, List as ListPart}
 use Rattle.store_api.specs.declared.events.Event.{Event}
 use Rattle.store_api.specs.Machine.{Stored, Slot, fresh_slot, leaves, put_at, slot_of, found, first_put, is_on}
-use Rattle.store_api.specs.Journal.{Each, IsGood, IsPolite, MayPutNew, MayPutOver, WasPut, NamesPut, ParentPut, IsMoved, snap_in, snap_made}
+use Rattle.store_api.specs.Journal.{Each, IsGood, IsPolite, MayPutNew, MayPutOver, WasPut, NamesPut, ParentPut, ManifestsPut, ChunksPut, IsMoved, IsCut, StoodAt, snap_in, snap_made}
 use Rattle.store_api.specs.Laws.{AllNamed, NamesLaw}
-use Rattle.store_api.proofs.Slots.{same_key-true, effect-cases, free-cases, old-cases, slot-append_one, slot-none, sound, WasPut-append}
+use Rattle.store_api.proofs.Slots.{same_key-true, effect-cases, free-cases, old-cases, slot-append_one, slot-none, sound, found-stood, WasPut-append}
+use Rattle.store_api.proofs.Once.{ManifestsPut-append, ChunksPut-append, cut-named, known-put}
 use Rattle.store_api.proofs.Standing.{NamesPut-append, ParentPut-append}
 
 polite-new : (journal : List Event) (key other : Key) (bytes : List ℕ) (why : Why) → key ≡ other → MayPutNew journal bytes why key → MayPutNew journal bytes why other
@@ -70,35 +73,74 @@ leaves-log journal id time (RemoveAt key old why) k p h =
     old-cases (LogFine journal id) old.0 (found journal (Snapshot id)) _ (slot_of journal (Snapshot id)) h (λ s e v. h)
 leaves-log journal id time (ListPart part) k p h = h
 
--- ---- what was first put in a slot has a parent that was put
-abbrev FirstFine : List Event → Slot → Type 0
-FirstFine journal slot = ParentPut journal (snap_in slot.first)
+-- ---- what was first put names what was put
+abbrev SnapFine : List Event → Id12 → Slot → Type 0
+SnapFine journal id slot = ParentPut journal (snap_in id slot.first) × ManifestsPut journal (snap_in id slot.first)
 
-or-fine : (journal : List Event) (o : Option (List ℕ)) (bytes : List ℕ) → ParentPut journal (snap_in o) → ParentPut journal (snapshot_of bytes) → ParentPut journal (snap_in (option_or o (Some bytes)))
-or-fine journal None bytes a b = b
-or-fine journal (Some x) bytes a b = a
+abbrev ManifestFine : List Event → Id12 → Slot → Type 0
+ManifestFine journal id slot = ChunksPut journal (option_and_then (manifest_by id) slot.first)
+
+-- a fact on the first put, where it holds of this one too
+or-fine : (Q : Option (List ℕ) → Type 0) (o : Option (List ℕ)) (bytes : List ℕ) → Q o → Q (Some bytes) → Q (option_or o (Some bytes))
+or-fine Q None bytes a b = b
+or-fine Q (Some x) bytes a b = a
 
 -- nothing is first put where something was put
 or-stands : (o : Option (List ℕ)) (b bytes : List ℕ) → o ≡ Some b → option_or o (Some bytes) ≡ o
 or-stands None b bytes e = cc
 or-stands (Some x) b bytes e = refl
 
-leaves-fine : (journal : List Event) (id : Id12) (time : ℕ) (op : Op) → is_on (Snapshot id) op ≡ true → IsPolite journal op → FirstFine journal (slot_of journal (Snapshot id)) → FirstFine journal (leaves (length journal) time op (slot_of journal (Snapshot id)))
-leaves-fine journal id time (Get key) k p h = h
-leaves-fine journal id time (PutNew key bytes why) k p h =
+-- a fact on the first put stays where it holds of each one
+module _ (journal : List Event) (key : Key) (Q : Option (List ℕ) → Type 0) (new : (bytes : List ℕ) (why : Why) → MayPutNew journal bytes why key → Q (Some bytes)) where
+  abbrev Fine : Slot → Type 0
+  Fine slot = Q slot.first
+
+  leaves-fine : (time : ℕ) (op : Op) → is_on key op ≡ true → IsPolite journal op → Fine (slot_of journal key) → Fine (leaves (length journal) time op (slot_of journal key))
+  leaves-fine time (Get k) e p h = h
+  leaves-fine time (PutNew k bytes why) e p h =
+      free-cases Fine (found journal key) (put_at (length journal) time bytes (slot_of journal key)) (slot_of journal key) h
+      (λ free. or-fine Q (first_put journal key) bytes h (new bytes why (polite-new journal k key bytes why (same_key-true k key e) p)))
+  leaves-fine time (PutOver k bytes old why) e p h =
+      old-cases Fine old.0 (found journal key) (put_at (length journal) time bytes (slot_of journal key)) (slot_of journal key) h
+      (λ s d v. let f = (sound journal key).first s d in subst Q (sym (or-stands (first_put journal key) f.0 bytes f.1)) h)
+  leaves-fine time (Remove k why) e p h = h
+  leaves-fine time (RemoveAt k old why) e p h = old-cases Fine old.0 (found journal key) _ (slot_of journal key) h (λ s d v. h)
+  leaves-fine time (ListPart part) e p h = h
+
+-- ---- what stands or stood as a snapshot names manifests that were put
+abbrev Stands : List Event → Id12 → Slot → Type 0
+Stands journal id slot = (s : Stored) → slot.stands ≡ Some s → ManifestsPut journal (snapshot_by id s.bytes)
+
+abbrev Stood : List Event → Type 0
+Stood journal = (id : Id12) (version : ℕ) (bytes : List ℕ) → StoodAt journal (Snapshot id) version bytes → ManifestsPut journal (snapshot_by id bytes)
+
+stood-stands : (journal : List Event) (id : Id12) → Stood journal → Stands journal id (slot_of journal (Snapshot id))
+stood-stands journal id h s e = h id s.version s.bytes (found-stood journal (Snapshot id) s e)
+
+stands-bytes : (journal : List Event) (id : Id12) (n time : ℕ) (bytes : List ℕ) (slot : Slot) → ManifestsPut journal (snapshot_by id bytes) → Stands journal id (put_at n time bytes slot)
+stands-bytes journal id n time bytes slot p s e = let b : bytes ≡ s.bytes = cc in subst (λ (x : List ℕ). ManifestsPut journal (snapshot_by id x)) b p
+
+leaves-stands : (journal : List Event) (id : Id12) (time : ℕ) (op : Op) → Stood journal → is_on (Snapshot id) op ≡ true → IsPolite journal op → Stands journal id (leaves (length journal) time op (slot_of journal (Snapshot id)))
+leaves-stands journal id time (Get key) h k p = stood-stands journal id h
+leaves-stands journal id time (PutNew key bytes why) h k p =
     let p' = polite-new journal key (Snapshot id) bytes why (same_key-true key (Snapshot id) k) p in
-    free-cases (FirstFine journal) (found journal (Snapshot id)) (put_at (length journal) time bytes (slot_of journal (Snapshot id))) (slot_of journal (Snapshot id)) h (λ none. or-fine journal (first_put journal (Snapshot id)) bytes h p'.1)
-leaves-fine journal id time (PutOver key bytes old why) k p h =
-    old-cases (FirstFine journal) old.0 (found journal (Snapshot id)) (put_at (length journal) time bytes (slot_of journal (Snapshot id))) (slot_of journal (Snapshot id)) h
-    (λ s e v. let f = (sound journal (Snapshot id)).first s e in subst (λ (o : Option (List ℕ)). ParentPut journal (snap_in o)) (sym (or-stands (first_put journal (Snapshot id)) f.0 bytes f.1)) h)
-leaves-fine journal id time (Remove key why) k p h = h
-leaves-fine journal id time (RemoveAt key old why) k p h =
-    old-cases (FirstFine journal) old.0 (found journal (Snapshot id)) _ (slot_of journal (Snapshot id)) h (λ s e v. h)
-leaves-fine journal id time (ListPart part) k p h = h
+    free-cases (Stands journal id) (found journal (Snapshot id)) (put_at (length journal) time bytes (slot_of journal (Snapshot id))) (slot_of journal (Snapshot id)) (stood-stands journal id h)
+    (λ free. stands-bytes journal id (length journal) time bytes (slot_of journal (Snapshot id)) (known-put journal (snapshot_by id bytes) h p'.2))
+leaves-stands journal id time (PutOver key bytes old why) h k p =
+    let p' : IsCut journal id old.0 bytes = polite-over journal key (Snapshot id) bytes old.0 why (same_key-true key (Snapshot id) k) p in
+    old-cases (Stands journal id) old.0 (found journal (Snapshot id)) (put_at (length journal) time bytes (slot_of journal (Snapshot id))) (slot_of journal (Snapshot id)) (stood-stands journal id h)
+    (λ s e v. stands-bytes journal id (length journal) time bytes (slot_of journal (Snapshot id)) (cut-named journal id old.0 bytes (h id) p'))
+leaves-stands journal id time (Remove key why) h k p = λ s e. cc
+leaves-stands journal id time (RemoveAt key old why) h k p =
+    old-cases (Stands journal id) old.0 (found journal (Snapshot id)) _ (slot_of journal (Snapshot id)) (stood-stands journal id h) (λ s e v t g. cc)
+leaves-stands journal id time (ListPart part) h k p = stood-stands journal id h
 
 -- ---- along a journal
 after : (Q : Slot → Type 0) (journal : List Event) (event : Event) (key : Key) → Q (slot_of journal key) → (is_on key event.op ≡ true → Q (leaves (length journal) event.time event.op (slot_of journal key))) → Q (slot_of (journal ++ event ∷ []) key)
 after Q journal event key keep act = subst Q (sym (slot-append_one journal event key)) (effect-cases Q key (length journal) (slot_of journal key) event keep (λ k d. act k))
+
+abbrev FoundAs : Key → (version : ℕ) → (bytes : List ℕ) → (created : ℕ) → List Event → Type 0
+FoundAs key version bytes created journal = found journal key ≡ Some (record { bytes = bytes; version = version; created = created })
 
 named-one : (journal : List Event) (event : Event) → IsGood journal event → AllNamed journal → AllNamed (journal ++ event ∷ [])
 named-one journal event g a = record {
@@ -107,8 +149,36 @@ named-one journal event g a = record {
   logs = λ id w.
       let h : LogFine journal id (slot_of (journal ++ event ∷ []) (Snapshot id)) = after (LogFine journal id) journal event (Snapshot id) (λ b f. a.logs id (b, f)) (λ k. leaves-log journal id event.time event.op k g.polite (λ b f. a.logs id (b, f))) in
       elim (h w.0 w.1) [ inl e ↦ inl e | inr l ↦ inr (WasPut-append journal (event ∷ []) (Txn id) l) ];
-  parents = λ id. ParentPut-append journal (event ∷ []) (snap_made (journal ++ event ∷ []) id) (after (FirstFine journal) journal event (Snapshot id) (a.parents id) (λ k. leaves-fine journal id event.time event.op k g.polite (a.parents id)));
+  parents = λ id. ParentPut-append journal (event ∷ []) (snap_made (journal ++ event ∷ []) id) (snap-one id).0;
+  manifests = λ id. ManifestsPut-append journal (event ∷ []) (snap_made (journal ++ event ∷ []) id) (snap-one id).1;
+  standing = λ id version bytes h. ManifestsPut-append journal (event ∷ []) (snapshot_by id bytes) (stood-one id version bytes h);
+  chunks = λ id. ChunksPut-append journal (event ∷ []) (option_and_then (manifest_by id) (first_put (journal ++ event ∷ []) (Manifest id))) (manifest-one id);
 }
+  where
+    snap-one : (id : Id12) → SnapFine journal id (slot_of (journal ++ event ∷ []) (Snapshot id))
+    snap-one id =
+        after (SnapFine journal id) journal event (Snapshot id) (a.parents id, a.manifests id)
+        (λ k. leaves-fine journal (Snapshot id) (λ o. ParentPut journal (snap_in id o) × ManifestsPut journal (snap_in id o)) (λ bytes why p. (p.1, known-put journal (snapshot_by id bytes) a.standing p.2)) event.time event.op k g.polite (a.parents id, a.manifests id))
+
+    -- it stood before the event, or the event left it
+    stood-one : (id : Id12) (version : ℕ) (bytes : List ℕ) → StoodAt (journal ++ event ∷ []) (Snapshot id) version bytes → ManifestsPut journal (snapshot_by id bytes)
+    stood-one id version bytes h = elim (cases_order version (length journal)) [
+      | inl same ↦ left (omega (arith, length-append {A = Event}))
+      | inr o ↦ elim o [
+        | inl less ↦ a.standing id version bytes (record { created = h.created; stood = subst (FoundAs (Snapshot id) version bytes h.created) (take-append-le (version + 1) journal (event ∷ []) (omega arith)) h.stood })
+        | inr more ↦ left (omega (arith, length-append {A = Event}))
+      ]
+    ]
+      where
+        left : length (journal ++ event ∷ []) ≤ version + 1 → ManifestsPut journal (snapshot_by id bytes)
+        left past =
+            let now : FoundAs (Snapshot id) version bytes h.created (journal ++ event ∷ []) = subst (FoundAs (Snapshot id) version bytes h.created) (take_all (version + 1) (journal ++ event ∷ []) past) h.stood in
+            after (Stands journal id) journal event (Snapshot id) (stood-stands journal id a.standing) (λ k. leaves-stands journal id event.time event.op a.standing k g.polite) (record { bytes = bytes; version = version; created = h.created }) now
+
+    manifest-one : (id : Id12) → ManifestFine journal id (slot_of (journal ++ event ∷ []) (Manifest id))
+    manifest-one id =
+        after (ManifestFine journal id) journal event (Manifest id) (a.chunks id)
+        (λ k. leaves-fine journal (Manifest id) (λ o. ChunksPut journal (option_and_then (manifest_by id) o)) (λ bytes why p. p) event.time event.op k g.polite (a.chunks id))
 
 named-along : (journal more : List Event) → AllNamed journal → Each IsGood journal more → AllNamed (journal ++ more)
 unfolding Each
@@ -124,5 +194,8 @@ names-law journal g = named-along [] journal (record {
   branches = λ name. at-start (RefFine []) (Branch name) (λ s e. cc);
   tags = λ name. at-start (RefFine []) (Tag name) (λ s e. cc);
   logs = λ id w. at-start (LogFine [] id) (Snapshot id) (λ b f. cc) w.0 w.1;
-  parents = λ id. at-start (FirstFine []) (Snapshot id) tt;
+  parents = λ id. (at-start (SnapFine [] id) (Snapshot id) (tt, tt)).0;
+  manifests = λ id. (at-start (SnapFine [] id) (Snapshot id) (tt, tt)).1;
+  standing = λ id version bytes h. let below = (sound (take (version + 1) []) (Snapshot id)).below _ h.stood in let nothing : length (take {A = Event} (version + 1) []) ≡ 0 = ap length (take_all (version + 1) [] (omega arith)) in absurd (omega (arith, below, nothing));
+  chunks = λ id. at-start (ManifestFine [] id) (Manifest id) tt;
 }) g

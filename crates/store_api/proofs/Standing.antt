@@ -1,134 +1,148 @@
 -- The law of standing trees, and that what is polite stays polite.
-use Rattle.std.proofs.Common.{◌≡◌, ◌≢◌, inl, inr, ℕ, Bool, true, false, List, [], ◌∷◌, ◌++◌, length, refl, sym, ◌∙◌, ap, subst, append_assoc, append-nil}
-use Rattle.std.specs.Prelude.{Option, Some, None, option_map, bytes_eq}
-use Rattle.std.specs.Option.{option_and_then}
+use Rattle.std.proofs.Common.{◌≡◌, ◌≢◌, inl, inr, ℕ, Bool, true, false, List, [], ◌∷◌, ◌++◌, length, refl, sym, ◌∙◌, ap, subst, append_assoc, append-nil, arith}
+use Rattle.std.specs.Prelude.{Option, Some, None, option_map, option_and_then, bytes_eq}
 use Rattle.ice_ids.specs.declared.Id12.{Id12}
-use Rattle.tree_model.specs.Trees.{Tree}
-use Rattle.tree_model.specs.declared.lists.Touched.{Touched}
 use Rattle.ice_ids.specs.Text.{initial_id}
-use Rattle.plain_object.specs.Objects.{Snapshot as Snap, snapshot_of, log_of, initial_bytes}
+use Rattle.zarr_tree.specs.Trees.{Tree}
+use Rattle.zarr_tree.specs.declared.lists.Touched.{Touched}
+use Rattle.snapshot_file.specs.declared.nodes.NodeRow.{NodeRow}
+use Rattle.snapshot_file.specs.declared.snapshot.SnapshotFile.{SnapshotFile}
+use Rattle.manifest_file.specs.declared.manifest.ManifestFile.{ManifestFile}
+use Rattle.txn_file.specs.declared.log.TxnFile.{TxnFile}
+use Rattle.repo_objects.specs.Readings.{snapshot_by, manifest_by, log_by}
+use Rattle.repo_objects.specs.Trees.{Puts, NamesChunk, manifest_put, or_empty, tree_under}
+use Rattle.repo_objects.specs.Laws.{initial_bytes}
 use Rattle.store_api.specs.declared.keys.Key.{Key}
 use Rattle.store_api.specs.declared.keys.Key.TheVariants.{Snapshot, Manifest, Txn, Chunk, Branch, Tag, TagGone}
+use Rattle.store_api.specs.declared.keys.Why.{Why}
 use Rattle.store_api.specs.declared.events.Op.{Op}
 use Rattle.store_api.specs.declared.events.Op.TheVariants.{Get, PutNew, PutOver, Remove, RemoveAt, List as ListPart}
 use Rattle.store_api.specs.declared.events.Event.{Event}
 use Rattle.store_api.specs.Machine.{Stored, Slot, leaves, put_at, slot_of, found, first_put, last_put, is_on}
-use Rattle.store_api.specs.Journal.{Each, WasPut, StoodAt, tree_of, tree_in, snap_in, snap_made, log_made, IsFirst, IsFirstOp, PutsFirst, PutsSnap, PutsOver, IsOnce, IsCommitOver, ParentPut, NamesPut, IsCut, MayPutOver, IsPolite, IsGood}
+use Rattle.store_api.specs.Journal.{Each, WasPut, puts_of, snap_in, snap_made, log_made, ManifestsPut, ChunksPut, IsUnused, PutsFirst, IsFirst, IsFirstOp, IsOnce, IsCommitOver, ParentPut, HadRows, ManifestsKnown, NamesPut, IsCut, MayPutOver, IsPolite, IsGood}
 use Rattle.store_api.specs.Laws.{TreesLaw, PoliteLaw}
-use Rattle.store_api.proofs.Slots.{same_key-true, bytes-same, id-true, effect-cases, free-cases, old-cases, slot-append_one, slot-none, sound, stood-is, first-append, WasPut-append, StoodAt-append}
+use Rattle.store_api.proofs.Slots.{same_key-true, bytes-same, id-true, effect-cases, free-cases, old-cases, slot-append_one, sound, stood-is, first-append, WasPut-append, StoodAt-append}
 use Rattle.store_api.proofs.Journals.{Each-append, Each-back}
+use Rattle.store_api.proofs.SameTree.{tree-same}
+use Rattle.store_api.proofs.Once.{ChunksPut-append, initial-last, manifests-put, chunks-put}
 
--- ---- what an operation on a snapshot owes
-first-new : (journal : List Event) (id : Id12) (key : Key) (bytes : List ℕ) → key ≡ Snapshot id → PutsFirst journal bytes key → PutsSnap journal id bytes
-first-new journal id key bytes k f = subst (λ (x : Key). PutsFirst journal bytes x) k f
+-- ---- what is read of a key's last put stays, where nothing is put again and puts over leave it
+module _ {A : Type 0} (key : Key) (read : Option (List ℕ) → A) (unused : (journal : List Event) (bytes : List ℕ) → PutsFirst journal bytes key → IsUnused journal key) (over : (journal : List Event) (bytes : List ℕ) (s : Stored) (why : Why) → found journal key ≡ Some s → MayPutOver journal bytes s.version why key → read (Some bytes) ≡ read (last_put journal key)) where
+  abbrev Reads : List Event → Slot → Type 0
+  Reads journal slot = read slot.last ≡ read (last_put journal key)
 
-first-over : (id : Id12) (key : Key) (bytes : List ℕ) → key ≡ Snapshot id → PutsOver bytes key → PutsOver bytes (Snapshot id)
-first-over id key bytes k f = subst (λ (x : Key). PutsOver bytes x) k f
+  leaves-read : (journal : List Event) (time : ℕ) (op : Op) → is_on key op ≡ true → WasPut journal key → IsPolite journal op → IsFirstOp journal op → Reads journal (leaves (length journal) time op (slot_of journal key))
+  leaves-read journal time (Get k) e w p f = refl
+  leaves-read journal time (PutNew k bytes why) e w p f =
+      free-cases (Reads journal) (found journal key) (put_at (length journal) time bytes (slot_of journal key)) (slot_of journal key) refl
+      (λ free. let never = unused journal bytes (subst (λ (x : Key). PutsFirst journal bytes x) (same_key-true k key e) f) free in let once = w.1 in cc)
+  leaves-read journal time (PutOver k bytes old why) e w p f =
+      let p' : MayPutOver journal bytes old.0 why key = subst (λ (x : Key). MayPutOver journal bytes old.0 why x) (same_key-true k key e) p in
+      old-cases (Reads journal) old.0 (found journal key) (put_at (length journal) time bytes (slot_of journal key)) (slot_of journal key) refl
+      (λ s d v. over journal bytes s why d (subst (λ (n : ℕ). MayPutOver journal bytes n why key) (sym v) p'))
+  leaves-read journal time (Remove k why) e w p f = refl
+  leaves-read journal time (RemoveAt k old why) e w p f = old-cases (Reads journal) old.0 (found journal key) _ (slot_of journal key) refl (λ s d v. refl)
+  leaves-read journal time (ListPart part) e w p f = refl
 
--- ---- the initial snapshot
-abbrev IsInitial : Slot → Type 0
-IsInitial slot = (b : List ℕ) → slot.first ≡ Some b → slot.last ≡ Some initial_bytes
+  read-one : (journal : List Event) (event : Event) → WasPut journal key → IsGood journal event → IsFirst journal event → read (last_put (journal ++ event ∷ []) key) ≡ read (last_put journal key)
+  read-one journal event w g f =
+      subst (Reads journal) (sym (slot-append_one journal event key))
+      (effect-cases (Reads journal) key (length journal) (slot_of journal key) event refl (λ e d. leaves-read journal event.time event.op e w g.polite (f d)))
 
-leaves-initial : (journal : List Event) (time : ℕ) (op : Op) → is_on (Snapshot initial_id) op ≡ true → IsFirstOp journal op → IsInitial (slot_of journal (Snapshot initial_id)) → IsInitial (leaves (length journal) time op (slot_of journal (Snapshot initial_id)))
-leaves-initial journal time (Get key) k f h = h
-leaves-initial journal time (PutNew key bytes why) k f h =
-    let f' : PutsSnap journal initial_id bytes = first-new journal initial_id key bytes (same_key-true key (Snapshot initial_id) k) f in
-    free-cases IsInitial (found journal (Snapshot initial_id)) (put_at (length journal) time bytes (slot_of journal (Snapshot initial_id))) (slot_of journal (Snapshot initial_id)) h (λ e b o. ap (λ (x : List ℕ). Some x) (f'.initial refl))
-leaves-initial journal time (PutOver key bytes old why) k f h =
-    let f' : PutsOver bytes (Snapshot initial_id) = first-over initial_id key bytes (same_key-true key (Snapshot initial_id) k) f in
-    old-cases IsInitial old.0 (found journal (Snapshot initial_id)) (put_at (length journal) time bytes (slot_of journal (Snapshot initial_id))) (slot_of journal (Snapshot initial_id)) h (λ s e v b o. ap (λ (x : List ℕ). Some x) (f' refl))
-leaves-initial journal time (Remove key why) k f h = λ b o. h b o
-leaves-initial journal time (RemoveAt key old why) k f h =
-    old-cases IsInitial old.0 (found journal (Snapshot initial_id)) _ (slot_of journal (Snapshot initial_id)) h (λ s e v b o. h b o)
-leaves-initial journal time (ListPart part) k f h = h
+  pub read-stays : (journal more : List Event) → WasPut journal key → Each IsGood journal more → Each IsFirst journal more → read (last_put (journal ++ more) key) ≡ read (last_put journal key)
+  unfolding Each
+  read-stays journal [] w g f = ap (λ (h : List Event). read (last_put h key)) (append-nil journal)
+  read-stays journal (x ∷ xs) w g f =
+      ap (λ (h : List Event). read (last_put h key)) (sym (append_assoc journal (x ∷ []) xs))
+      ∙ read-stays (journal ++ x ∷ []) xs (WasPut-append journal (x ∷ []) key w) g.1 f.1
+      ∙ read-one journal x w g.0 f.0
 
-initial-along : (journal more : List Event) → IsInitial (slot_of journal (Snapshot initial_id)) → Each IsFirst journal more → IsInitial (slot_of (journal ++ more) (Snapshot initial_id))
-unfolding Each
-initial-along journal [] h f = subst (λ (j : List Event). IsInitial (slot_of j (Snapshot initial_id))) (sym (append-nil journal)) h
-initial-along journal (x ∷ xs) h f =
-    let next : IsInitial (slot_of (journal ++ x ∷ []) (Snapshot initial_id)) = subst (λ (s : Slot). IsInitial s) (sym (slot-append_one journal x (Snapshot initial_id)))
-    (effect-cases IsInitial (Snapshot initial_id) (length journal) (slot_of journal (Snapshot initial_id)) x h (λ k d. leaves-initial journal x.time x.op k (f.0 d) h))
-    in
-    subst (λ (j : List Event). IsInitial (slot_of j (Snapshot initial_id))) (append_assoc journal (x ∷ []) xs) (initial-along (journal ++ x ∷ []) xs next f.1)
+-- ---- manifests, objects with chunks, and the rows of snapshots
+pub manifest-stays : (journal more : List Event) (m : Id12) → WasPut journal (Manifest m) → Each IsGood journal more → Each IsFirst journal more → last_put (journal ++ more) (Manifest m) ≡ last_put journal (Manifest m)
+manifest-stays journal more m w g f = read-stays (Manifest m) (λ (o : Option (List ℕ)). o) (λ j bytes h. h.0) (λ j bytes s why e p. absurd p) journal more w g f
 
-initial-none : IsInitial (slot_of [] (Snapshot initial_id))
-initial-none = subst (λ (s : Slot). IsInitial s) (sym (slot-none (Snapshot initial_id))) (λ b e. cc)
+pub chunk-stays : (journal more : List Event) (object : Id12) → WasPut journal (Chunk object) → Each IsGood journal more → Each IsFirst journal more → last_put (journal ++ more) (Chunk object) ≡ last_put journal (Chunk object)
+chunk-stays journal more object w g f = read-stays (Chunk object) (λ (o : Option (List ℕ)). o) (λ j bytes h. h) (λ j bytes s why e p. absurd p) journal more w g f
 
--- the initial snapshot has its own bytes
-pub initial-last : (journal : List Event) → IsOnce journal → WasPut journal (Snapshot initial_id) → last_put journal (Snapshot initial_id) ≡ Some initial_bytes
-initial-last journal once w = initial-along [] journal initial-none once w.0 w.1
+abbrev rows_of : Option SnapshotFile → Option (List NodeRow)
+rows_of o = option_map (λ (s : SnapshotFile). s.nodes) o
 
--- ---- the tree of the last put, in a slot
-abbrev TreeIs : Option Tree → Slot → Type 0
-TreeIs t slot = tree_in slot.last ≡ t
+abbrev rows_in : Id12 → Option (List ℕ) → Option (List NodeRow)
+rows_in id o = rows_of (snap_in id o)
 
-tree-read : (bytes : List ℕ) (s : Snap) → snapshot_of bytes ≡ Some s → tree_in (Some bytes) ≡ Some s.tree
-tree-read bytes s e = ap (λ (o : Option Snap). option_map (λ (x : Snap). x.tree) o) e
-
-cut-tree : (journal : List Event) (id : Id12) (old : ℕ) (bytes : List ℕ) (s : Stored) → found journal (Snapshot id) ≡ Some s → s.version ≡ old → IsCut journal id old bytes → tree_in (Some bytes) ≡ tree_in (last_put journal (Snapshot id))
-cut-tree journal id old bytes s e v c =
-    let stood : StoodAt journal (Snapshot id) s.version c.before = subst (λ (n : ℕ). StoodAt journal (Snapshot id) n c.before) (sym v) c.stood in
-    let same : s.bytes ≡ c.before = stood-is journal (Snapshot id) s c.before e stood in
+-- a cut leaves the rows
+cut-rows : (journal : List Event) (id : Id12) (bytes : List ℕ) (s : Stored) → found journal (Snapshot id) ≡ Some s → IsCut journal id s.version bytes → rows_in id (Some bytes) ≡ rows_in id (last_put journal (Snapshot id))
+cut-rows journal id bytes s e c =
+    let same : s.bytes ≡ c.before = stood-is journal (Snapshot id) s c.before e c.stood in
     let last : last_put journal (Snapshot id) ≡ Some c.before = (sound journal (Snapshot id)).last s e ∙ ap (λ (b : List ℕ). Some b) same in
-    tree-read bytes _ c.is ∙ sym (tree-read c.before c.snap c.was) ∙ ap tree_in (sym last)
+    ap rows_of c.is ∙ sym (ap rows_of c.was) ∙ ap (rows_in id) (sym last)
 
-leaves-tree : (id : Id12) (journal : List Event) (time : ℕ) (op : Op) → id ≢ initial_id → is_on (Snapshot id) op ≡ true → WasPut journal (Snapshot id) → IsPolite journal op → IsFirstOp journal op → TreeIs (tree_of journal id) (leaves (length journal) time op (slot_of journal (Snapshot id)))
-leaves-tree id journal time (Get key) ne k w p f = refl
-leaves-tree id journal time (PutNew key bytes why) ne k w p f =
-    let f' : PutsSnap journal id bytes = first-new journal id key bytes (same_key-true key (Snapshot id) k) f in
-    free-cases (TreeIs (tree_of journal id)) (found journal (Snapshot id)) (put_at (length journal) time bytes (slot_of journal (Snapshot id))) (slot_of journal (Snapshot id)) refl (λ none. let n = f'.other ne none in let s = w.1 in cc)
-leaves-tree id journal time (PutOver key bytes old why) ne k w p f =
-    let p' : IsCut journal id old.0 bytes = subst (λ (x : Key). MayPutOver journal bytes old.0 why x) (same_key-true key (Snapshot id) k) p in
-    old-cases (TreeIs (tree_of journal id)) old.0 (found journal (Snapshot id)) (put_at (length journal) time bytes (slot_of journal (Snapshot id))) (slot_of journal (Snapshot id)) refl (λ s e v. cut-tree journal id old.0 bytes s e v p')
-leaves-tree id journal time (Remove key why) ne k w p f = refl
-leaves-tree id journal time (RemoveAt key old why) ne k w p f =
-    old-cases (TreeIs (tree_of journal id)) old.0 (found journal (Snapshot id)) _ (slot_of journal (Snapshot id)) refl (λ s e v. refl)
-leaves-tree id journal time (ListPart part) ne k w p f = refl
-
--- one event
-standing-one : (id : Id12) (journal : List Event) (event : Event) → id ≢ initial_id → WasPut journal (Snapshot id) → IsGood journal event → IsFirst journal event → tree_of (journal ++ event ∷ []) id ≡ tree_of journal id
-standing-one id journal event ne w g f =
-    subst (λ (s : Slot). TreeIs (tree_of journal id) s) (sym (slot-append_one journal event (Snapshot id)))
-    (effect-cases (TreeIs (tree_of journal id)) (Snapshot id) (length journal) (slot_of journal (Snapshot id)) event refl
-    (λ k d. leaves-tree id journal event.time event.op ne k w g.polite (f d)))
-
-standing-other : (id : Id12) (journal more : List Event) → id ≢ initial_id → WasPut journal (Snapshot id) → Each IsGood journal more → Each IsFirst journal more → tree_of (journal ++ more) id ≡ tree_of journal id
-unfolding Each
-standing-other id journal [] ne w g f = ap (λ (h : List Event). tree_of h id) (append-nil journal)
-standing-other id journal (x ∷ xs) ne w g f =
-    ap (λ (h : List Event). tree_of h id) (sym (append_assoc journal (x ∷ []) xs))
-    ∙ standing-other id (journal ++ x ∷ []) xs ne (WasPut-append journal (x ∷ []) (Snapshot id) w) g.1 f.1
-    ∙ standing-one id journal x ne w g.0 f.0
-
--- A snapshot that was put keeps its tree, or keeps having none.
-pub standing : TreesLaw
-standing id journal more once w g f = by_case (bytes_eq id.0 initial_id.0) refl
+pub rows-stay : (id : Id12) (journal more : List Event) → IsOnce journal → WasPut journal (Snapshot id) → Each IsGood journal more → Each IsFirst journal more → rows_in id (last_put (journal ++ more) (Snapshot id)) ≡ rows_in id (last_put journal (Snapshot id))
+rows-stay id journal more once w g f = by_case (bytes_eq id.0 initial_id.0) refl
   where
-    by_case : (b : Bool) → bytes_eq id.0 initial_id.0 ≡ b → tree_of (journal ++ more) id ≡ tree_of journal id
+    by_case : (b : Bool) → bytes_eq id.0 initial_id.0 ≡ b → rows_in id (last_put (journal ++ more) (Snapshot id)) ≡ rows_in id (last_put journal (Snapshot id))
     by_case true e =
         let same : id ≡ initial_id = id-true id initial_id e in
         let w' : WasPut journal (Snapshot initial_id) = subst (λ (i : Id12). WasPut journal (Snapshot i)) same w in
         let old : last_put journal (Snapshot initial_id) ≡ Some initial_bytes = initial-last journal once w' in
         let new : last_put (journal ++ more) (Snapshot initial_id) ≡ Some initial_bytes = initial-last (journal ++ more) (Each-append IsFirst [] journal more once f) (WasPut-append journal more (Snapshot initial_id) w') in
-        subst (λ (i : Id12). tree_of (journal ++ more) i ≡ tree_of journal i) (sym same) (ap tree_in (new ∙ sym old))
-    by_case false e = standing-other id journal more (λ s. let y : bytes_eq id.0 initial_id.0 ≡ true = subst (λ (i : Id12). bytes_eq id.0 i.0 ≡ true) s (bytes-same id.0) in cc) w g f
+        subst (λ (i : Id12). rows_in i (last_put (journal ++ more) (Snapshot i)) ≡ rows_in i (last_put journal (Snapshot i))) (sym same) (ap (rows_in initial_id) (new ∙ sym old))
+    by_case false e =
+        let other : id ≢ initial_id = λ s. let y : bytes_eq id.0 initial_id.0 ≡ true = subst (λ (i : Id12). bytes_eq id.0 i.0 ≡ true) s (bytes-same id.0) in cc in
+        read-stays (Snapshot id) (rows_in id) (λ j bytes h. h.other other) (λ j bytes s why d p. cut-rows j id bytes s d p) journal more w g f
 
+-- ---- trees
+abbrev tree_by : Puts → Option SnapshotFile → Option Tree
+tree_by puts o = option_map (λ (s : SnapshotFile). tree_under puts s.nodes) o
+
+pub by-rows : (puts : Puts) (o : Option SnapshotFile) → tree_by puts o ≡ option_map (tree_under puts) (rows_of o)
+by-rows puts None = refl
+by-rows puts (Some s) = refl
+
+-- an object that is named was put, since an unreadable manifest names none
+chunk-put : (journal : List Event) (m object : Id12) (manifest : Option ManifestFile) → ChunksPut journal manifest → NamesChunk (or_empty m manifest) object → WasPut journal (Chunk object)
+chunk-put journal m object None h n = absurd (omega (arith, n.among.1))
+chunk-put journal m object (Some manifest) h n = h object n
+
+-- the tree of rows whose manifests were put stays
+tree-stays : (journal more : List Event) (o : Option SnapshotFile) → IsOnce journal → ManifestsPut journal o → Each IsGood journal more → Each IsFirst journal more → tree_by (puts_of (journal ++ more)) o ≡ tree_by (puts_of journal) o
+tree-stays journal more None once h g f = refl
+tree-stays journal more (Some s) once h g f =
+    ap (λ (t : Tree). Some t) (tree-same (puts_of journal) (puts_of (journal ++ more)) s.nodes
+    (λ m n. manifest-stays journal more m (h m n) g f)
+    (λ m object n c. chunk-stays journal more object (chunk-put journal m object (manifest_put (puts_of journal) m) (chunks-put m journal once) c) g f))
+
+-- A snapshot that was put keeps its tree, or keeps having none.
+pub standing : TreesLaw
+standing id journal more once w g f =
+    by-rows (puts_of (journal ++ more)) (snap_in id (last_put (journal ++ more) (Snapshot id)))
+    ∙ ap (option_map (tree_under (puts_of (journal ++ more)))) (rows-stay id journal more once w g f)
+    ∙ sym (by-rows (puts_of (journal ++ more)) (snap_in id (last_put journal (Snapshot id))))
+    ∙ tree-stays journal more (snap_in id (last_put journal (Snapshot id))) once (manifests-put id journal once) g f
+
+-- ---- politeness
 bind-some : {A B : Type 0} (o p : Option A) (f : A → Option B) (b : B) → ((a : A) → o ≡ Some a → p ≡ Some a) → option_and_then f o ≡ Some b → option_and_then f p ≡ Some b
 bind-some None p f b k e = cc
 bind-some (Some a) p f b k e = ap (λ x. option_and_then f x) (k a refl) ∙ e
 
+mapped-some : {A B : Type 0} (o p : Option A) (f : A → B) (b : B) → ((a : A) → o ≡ Some a → p ≡ Some a) → option_map f o ≡ Some b → option_map f p ≡ Some b
+mapped-some None p f b k e = cc
+mapped-some (Some a) p f b k e = ap (option_map f) (k a refl) ∙ e
+
 -- what was first put stays so
-pub snap_made-append : (journal more : List Event) (id : Id12) (s : Snap) → snap_made journal id ≡ Some s → snap_made (journal ++ more) id ≡ Some s
-snap_made-append journal more id s e = bind-some (first_put journal (Snapshot id)) (first_put (journal ++ more) (Snapshot id)) snapshot_of s (first-append journal more (Snapshot id)) e
+pub snap_made-append : (journal more : List Event) (id : Id12) (s : SnapshotFile) → snap_made journal id ≡ Some s → snap_made (journal ++ more) id ≡ Some s
+snap_made-append journal more id s e = bind-some (first_put journal (Snapshot id)) (first_put (journal ++ more) (Snapshot id)) (snapshot_by id) s (first-append journal more (Snapshot id)) e
 
 pub log_made-append : (journal more : List Event) (id : Id12) (s : Touched) → log_made journal id ≡ Some s → log_made (journal ++ more) id ≡ Some s
-log_made-append journal more id s e = bind-some (first_put journal (Txn id)) (first_put (journal ++ more) (Txn id)) log_of s (first-append journal more (Txn id)) e
+log_made-append journal more id s e =
+    mapped-some (option_and_then (log_by id) (first_put journal (Txn id))) (option_and_then (log_by id) (first_put (journal ++ more) (Txn id))) _ s
+    (λ (log : TxnFile) d. bind-some (first_put journal (Txn id)) (first_put (journal ++ more) (Txn id)) (log_by id) log (first-append journal more (Txn id)) d) e
 
-pub snap_made-put : (journal : List Event) (id : Id12) (s : Snap) → snap_made journal id ≡ Some s → WasPut journal (Snapshot id)
+pub snap_made-put : (journal : List Event) (id : Id12) (s : SnapshotFile) → snap_made journal id ≡ Some s → WasPut journal (Snapshot id)
 snap_made-put journal id s e = by_case (first_put journal (Snapshot id)) refl
   where
     by_case : (o : Option (List ℕ)) → first_put journal (Snapshot id) ≡ o → WasPut journal (Snapshot id)
-    by_case None h = let n : snap_made journal id ≡ None = ap snap_in h in cc
+    by_case None h = let n : snap_made journal id ≡ None = ap (snap_in id) h in cc
     by_case (Some b) h = (b, h)
 
 IsCommitOver-append : (journal more : List Event) (branch : List ℕ) (old : ℕ) (id : Id12) → IsOnce journal → Each IsGood journal more → Each IsFirst journal more → IsCommitOver journal branch old id → IsCommitOver (journal ++ more) branch old id
@@ -143,12 +157,22 @@ IsCommitOver-append journal more branch old id once g f c = record {
   parent = c.parent;
   log = c.log;
   logged = log_made-append journal more id c.log c.logged;
-  differs = λ t u e h. c.differs t u (sym (standing c.base journal more once c.base_put g f) ∙ e) (sym (standing id journal more once (snap_made-put journal id c.snap c.made) g f) ∙ h);
+  differs = λ t u e w h. c.differs t u (sym (standing c.base journal more once c.base_put g f) ∙ e) w (sym (standing id journal more once (snap_made-put journal id c.snap c.made) g f) ∙ h);
 }
 
-pub ParentPut-append : (journal more : List Event) (s : Option Snap) → ParentPut journal s → ParentPut (journal ++ more) s
+pub ParentPut-append : (journal more : List Event) (s : Option SnapshotFile) → ParentPut journal s → ParentPut (journal ++ more) s
 ParentPut-append journal more None p = p
 ParentPut-append journal more (Some s) p = λ id e. WasPut-append journal more (Snapshot id) (p id e)
+
+abbrev pub HadRows-append : (journal more : List Event) (id : Id12) (rows : List NodeRow) → HadRows journal id rows → HadRows (journal ++ more) id rows
+HadRows-append journal more id rows h = record { version = h.version; bytes = h.bytes; stood = StoodAt-append journal more (Snapshot id) h.version h.bytes h.stood; snap = h.snap; read = h.read; rows_are = h.rows_are }
+
+ManifestsKnown-append : (journal more : List Event) (s : Option SnapshotFile) → ManifestsKnown journal s → ManifestsKnown (journal ++ more) s
+ManifestsKnown-append journal more None k = k
+ManifestsKnown-append journal more (Some s) k = λ m n. elim (k m n) [
+  | inl w ↦ inl (WasPut-append journal more (Manifest m) w)
+  | inr p ↦ inr (record { id = p.id; is = p.is; rows = p.rows; had = HadRows-append journal more p.id p.rows p.had; names = p.names })
+]
 
 abbrev pub NamesPut-append : (journal more : List Event) (bytes : List ℕ) → NamesPut journal bytes → NamesPut (journal ++ more) bytes
 NamesPut-append journal more bytes n = record { id = n.id; reference = n.reference; put = WasPut-append journal more (Snapshot n.id) n.put }
@@ -158,10 +182,11 @@ pub IsPolite-append : PoliteLaw
 IsPolite-append journal more (Get key) g p = p
 IsPolite-append journal more (PutNew (Snapshot id) bytes why) g p = (
   elim p.0 [ inl e ↦ inl e | inr w ↦ inr (WasPut-append journal more (Txn id) w) ],
-  ParentPut-append journal more (snapshot_of bytes) p.1,
+  ParentPut-append journal more (snapshot_by id bytes) p.1,
+  ManifestsKnown-append journal more (snapshot_by id bytes) p.2,
 )
 IsPolite-append journal more (PutNew (Txn id) bytes why) g p = p
-IsPolite-append journal more (PutNew (Manifest id) bytes why) g p = p
+IsPolite-append journal more (PutNew (Manifest id) bytes why) g p = ChunksPut-append journal more (manifest_by id bytes) p
 IsPolite-append journal more (PutNew (Chunk id) bytes why) g p = p
 IsPolite-append journal more (PutNew (Branch name) bytes why) g p = (NamesPut-append journal more bytes p.0, p.1)
 IsPolite-append journal more (PutNew (Tag name) bytes why) g p = (NamesPut-append journal more bytes p.0, p.1)

@@ -2,12 +2,18 @@
 use Rattle.std.specs.Prelude.{◌≡◌, ◌≢◌, ◌⊎◌, ℕ, ◌+◌, true, List, [], ◌∷◌, ◌++◌, take, Option, Some, None, option_map}
 use Rattle.std.specs.Option.{option_and_then}
 use Rattle.ice_ids.specs.declared.Id12.{Id12}
-use Rattle.tree_model.specs.Trees.{Tree}
-use Rattle.tree_model.specs.declared.lists.Touched.{Touched}
-use Rattle.tree_model.specs.Touched.{DiffersIn}
+use Rattle.zarr_tree.specs.Trees.{Tree, IsWellFormed}
+use Rattle.zarr_tree.specs.declared.lists.Touched.{Touched}
+use Rattle.zarr_tree.specs.Touched.{DiffersIn}
 use Rattle.ice_base.specs.Names.{main_name}
 use Rattle.ice_ids.specs.Text.{initial_id}
-use Rattle.plain_object.specs.Objects.{Snapshot as Snap, snapshot_of, log_of, ref_of, initial_bytes}
+use Rattle.snapshot_file.specs.declared.nodes.NodeRow.{NodeRow}
+use Rattle.snapshot_file.specs.declared.snapshot.SnapshotFile.{SnapshotFile}
+use Rattle.manifest_file.specs.declared.manifest.ManifestFile.{ManifestFile}
+use Rattle.txn_file.specs.declared.log.TxnFile.{TxnFile}
+use Rattle.repo_objects.specs.Readings.{snapshot_by, manifest_by, log_by, ref_of}
+use Rattle.repo_objects.specs.Trees.{Puts, tree_under, NamesManifest, NamesChunk}
+use Rattle.repo_objects.specs.Laws.{initial_bytes}
 use Rattle.store_api.specs.declared.keys.Key.{Key}
 use Rattle.store_api.specs.declared.keys.Key.TheVariants.{Snapshot, Manifest, Txn, Chunk, Branch, Tag, TagGone}
 use Rattle.store_api.specs.declared.keys.Why.{Why}
@@ -32,30 +38,50 @@ pub record StoodAt (journal : List Event) (key : Key) (version : ℕ) (bytes : L
   pub stood : found (take (version + 1) journal) key ≡ Some (record { bytes = bytes; version = version; created = created })
 
 -- ---- trees of snapshots
--- the snapshot that bytes stand for, if there are any
-abbrev pub snap_in : Option (List ℕ) → Option Snap
-snap_in bytes = option_and_then snapshot_of bytes
+-- manifests and objects with chunks as they were last put, removed since or not
+abbrev pub puts_of : List Event → Puts
+puts_of journal = record { manifest = λ id. last_put journal (Manifest id); chunk = λ id. last_put journal (Chunk id) }
 
-abbrev pub tree_in : Option (List ℕ) → Option Tree
-tree_in bytes = option_map (λ (s : Snap). s.tree) (snap_in bytes)
+-- the snapshot that bytes stand for under an id, if there are any
+abbrev pub snap_in : Id12 → Option (List ℕ) → Option SnapshotFile
+snap_in id bytes = option_and_then (snapshot_by id) bytes
 
--- The tree that a snapshot's last done put stands for, removed since or not. It has none where it
--- wasn't put or isn't readable.
+-- the rows of a snapshot's last done put
+abbrev pub rows_of : List Event → Id12 → Option (List NodeRow)
+rows_of journal id = option_map (λ (s : SnapshotFile). s.nodes) (snap_in id (last_put journal (Snapshot id)))
+
+-- The tree that a snapshot's last done put stands for, by what was put, removed since or not. It has none where the
+-- snapshot wasn't put or isn't readable.
 abbrev pub tree_of : List Event → Id12 → Option Tree
-tree_of journal id = tree_in (last_put journal (Snapshot id))
+tree_of journal id = option_map (λ (s : SnapshotFile). tree_under (puts_of journal) s.nodes) (snap_in id (last_put journal (Snapshot id)))
 
--- the snapshot and its log, as they were first put
-abbrev pub snap_made : List Event → Id12 → Option Snap
-snap_made journal id = snap_in (first_put journal (Snapshot id))
+-- what a log lists
+abbrev pub lists_of : TxnFile → Touched
+lists_of log = log.lists
+
+-- the snapshot, and what its log lists, as they were first put
+abbrev pub snap_made : List Event → Id12 → Option SnapshotFile
+snap_made journal id = snap_in id (first_put journal (Snapshot id))
 
 abbrev pub log_made : List Event → Id12 → Option Touched
-log_made journal id = option_and_then log_of (first_put journal (Txn id))
+log_made journal id = option_map lists_of (option_and_then (log_by id) (first_put journal (Txn id)))
+
+-- all manifests that a snapshot names were put, and all objects in which a manifest has chunks
+abbrev pub ManifestsPut : List Event → Option SnapshotFile → Type 0
+ManifestsPut journal None = Unit {0}
+ManifestsPut journal (Some s) = (id : Id12) → NamesManifest s.nodes id → WasPut journal (Manifest id)
+
+abbrev pub ChunksPut : List Event → Option ManifestFile → Type 0
+ChunksPut journal None = Unit {0}
+ChunksPut journal (Some manifest) = (id : Id12) → NamesChunk manifest id → WasPut journal (Chunk id)
 
 -- ---- no object is put again
--- The initial snapshot is put with its own bytes alone; another one isn't put where it was put before.
+-- The initial snapshot is put with its own bytes alone; another one isn't put where it was put before; and the manifests
+-- that it names were put.
 pub record PutsSnap (journal : List Event) (id : Id12) (bytes : List ℕ) : Type 0 where
   pub initial : id ≡ initial_id → bytes ≡ initial_bytes
   pub other : id ≢ initial_id → found journal (Snapshot id) ≡ None → first_put journal (Snapshot id) ≡ None
+  pub named : ManifestsPut journal (snapshot_by id bytes)
 
 -- where nothing stands, nothing was put
 abbrev pub IsUnused : List Event → Key → Type 0
@@ -63,54 +89,54 @@ IsUnused journal key = found journal key ≡ None → first_put journal key ≡ 
 
 abbrev pub PutsFirst : List Event → List ℕ → Key → Type 0
 PutsFirst journal bytes (Snapshot id) = PutsSnap journal id bytes
-PutsFirst journal bytes (Manifest id) = IsUnused journal (Manifest id)
+PutsFirst journal bytes (Manifest id) = IsUnused journal (Manifest id) × ChunksPut journal (manifest_by id bytes)
 PutsFirst journal bytes (Txn id) = IsUnused journal (Txn id)
 PutsFirst journal bytes (Chunk id) = IsUnused journal (Chunk id)
 PutsFirst journal bytes (Branch name) = Unit {0}
 PutsFirst journal bytes (Tag name) = Unit {0}
 PutsFirst journal bytes (TagGone name) = Unit {0}
 
-abbrev pub PutsOver : List ℕ → Key → Type 0
-PutsOver bytes (Snapshot id) = id ≡ initial_id → bytes ≡ initial_bytes
-PutsOver bytes (Manifest id) = Unit {0}
-PutsOver bytes (Txn id) = Unit {0}
-PutsOver bytes (Chunk id) = Unit {0}
-PutsOver bytes (Branch name) = Unit {0}
-PutsOver bytes (Tag name) = Unit {0}
-PutsOver bytes (TagGone name) = Unit {0}
+abbrev pub PutsOver : List Event → List ℕ → Key → Type 0
+PutsOver journal bytes (Snapshot id) = (id ≡ initial_id → bytes ≡ initial_bytes) × ManifestsPut journal (snapshot_by id bytes)
+PutsOver journal bytes (Manifest id) = ChunksPut journal (manifest_by id bytes)
+PutsOver journal bytes (Txn id) = Unit {0}
+PutsOver journal bytes (Chunk id) = Unit {0}
+PutsOver journal bytes (Branch name) = Unit {0}
+PutsOver journal bytes (Tag name) = Unit {0}
+PutsOver journal bytes (TagGone name) = Unit {0}
 
 abbrev pub IsFirstOp : List Event → Op → Type 0
 IsFirstOp journal (Get key) = Unit {0}
 IsFirstOp journal (PutNew key bytes why) = PutsFirst journal bytes key
-IsFirstOp journal (PutOver key bytes old why) = PutsOver bytes key
+IsFirstOp journal (PutOver key bytes old why) = PutsOver journal bytes key
 IsFirstOp journal (Remove key why) = Unit {0}
 IsFirstOp journal (RemoveAt key old why) = Unit {0}
 IsFirstOp journal (ListPart part) = Unit {0}
 
--- where the event puts a snapshot, log, manifest or chunk, none was put there before
+-- where the event puts a snapshot, log, manifest or chunk, none was put there before, and what its bytes name was put
 abbrev pub IsFirst : List Event → Event → Type 0
 IsFirst journal event = was_done event.reply ≡ true → IsFirstOp journal event.op
 
--- No snapshot, log, manifest or chunk is put again but the initial snapshot, and that with its own
--- bytes alone.
+-- No snapshot, log, manifest or chunk is put again but the initial snapshot, and that with its own bytes alone; and each is
+-- put after the manifests and chunks that its bytes name.
 abbrev pub IsOnce : List Event → Type 0
 IsOnce journal = Each IsFirst [] journal
 
 -- ---- politeness
 -- The snapshot is a commit over this version of the branch: it was first put with the snapshot that
--- was named there as its parent, from whose tree its own differs only in what its log lists.
+-- was named there as its parent, from whose tree, where that is well formed, its own differs only in what its log lists.
 pub record IsCommitOver (journal : List Event) (branch : List ℕ) (old : ℕ) (id : Id12) : Type 0 where
   pub base : Id12
   pub named_by : List ℕ
   pub named : StoodAt journal (Branch branch) old named_by
   pub names : ref_of named_by ≡ Some base
   pub base_put : WasPut journal (Snapshot base)
-  pub snap : Snap
+  pub snap : SnapshotFile
   pub made : snap_made journal id ≡ Some snap
   pub parent : snap.parent ≡ Some base
   pub log : Touched
   pub logged : log_made journal id ≡ Some log
-  pub differs : (t u : Tree) → tree_of journal base ≡ Some t → tree_of journal id ≡ Some u → DiffersIn log t u
+  pub differs : (t u : Tree) → tree_of journal base ≡ Some t → IsWellFormed t → tree_of journal id ≡ Some u → DiffersIn log t u
 
 -- the bytes are a reference to a snapshot that was put
 pub record NamesPut (journal : List Event) (bytes : List ℕ) : Type 0 where
@@ -119,18 +145,40 @@ pub record NamesPut (journal : List Event) (bytes : List ℕ) : Type 0 where
   pub put : WasPut journal (Snapshot id)
 
 -- the parent that a snapshot names was put
-abbrev pub ParentPut : List Event → Option Snap → Type 0
+abbrev pub ParentPut : List Event → Option SnapshotFile → Type 0
 ParentPut journal None = Unit {0}
 ParentPut journal (Some s) = (id : Id12) → s.parent ≡ Some id → WasPut journal (Snapshot id)
 
--- A snapshot is put after its log (the initial one needs none) and its parent; a branch with a
--- reference to a snapshot that was put, as a new one or as `main` with the initial snapshot; a tag
--- likewise; a tombstone after its tag. Manifests and chunks aren't put as yet.
+-- a put of the snapshot had these rows
+pub record HadRows (journal : List Event) (id : Id12) (rows : List NodeRow) : Type 0 where
+  pub version : ℕ
+  pub bytes : List ℕ
+  pub stood : StoodAt journal (Snapshot id) version bytes
+  pub snap : SnapshotFile
+  pub read : snapshot_by id bytes ≡ Some snap
+  pub rows_are : snap.nodes ≡ rows
+
+-- a put of the parent named the manifest
+pub record ParentNames (journal : List Event) (parent : Option Id12) (manifest : Id12) : Type 0 where
+  pub id : Id12
+  pub is : parent ≡ Some id
+  pub rows : List NodeRow
+  pub had : HadRows journal id rows
+  pub names : NamesManifest rows manifest
+
+-- each manifest that a snapshot names was put, or is one that its parent named
+abbrev pub ManifestsKnown : List Event → Option SnapshotFile → Type 0
+ManifestsKnown journal None = Unit {0}
+ManifestsKnown journal (Some s) = (id : Id12) → NamesManifest s.nodes id → WasPut journal (Manifest id) ⊎ ParentNames journal s.parent id
+
+-- A snapshot is put after its log (the initial one needs none), its parent, and the manifests that it names, but for those
+-- that a put of its parent named; a manifest after the objects in which it has chunks; a branch with a reference to a snapshot
+-- that was put, as a new one or as `main` with the initial snapshot; a tag likewise; a tombstone after its tag.
 abbrev pub MayPutNew : List Event → List ℕ → Why → Key → Type 0
-MayPutNew journal bytes why (Snapshot id) = ((id ≡ initial_id) ⊎ WasPut journal (Txn id)) × ParentPut journal (snapshot_of bytes)
+MayPutNew journal bytes why (Snapshot id) = ((id ≡ initial_id) ⊎ WasPut journal (Txn id)) × ParentPut journal (snapshot_by id bytes) × ManifestsKnown journal (snapshot_by id bytes)
 MayPutNew journal bytes why (Txn id) = Unit {0}
-MayPutNew journal bytes why (Manifest id) = ⊥
-MayPutNew journal bytes why (Chunk id) = ⊥
+MayPutNew journal bytes why (Manifest id) = ChunksPut journal (manifest_by id bytes)
+MayPutNew journal bytes why (Chunk id) = Unit {0}
 MayPutNew journal bytes why (Branch name) = NamesPut journal bytes × ((why ≡ Create) ⊎ ((why ≡ Init) × (name ≡ main_name) × (ref_of bytes ≡ Some initial_id)))
 MayPutNew journal bytes why (Tag name) = NamesPut journal bytes × (why ≡ For_tag)
 MayPutNew journal bytes why (TagGone name) = WasPut journal (Tag name)
@@ -139,9 +187,9 @@ MayPutNew journal bytes why (TagGone name) = WasPut journal (Tag name)
 pub record IsCut (journal : List Event) (id : Id12) (old : ℕ) (bytes : List ℕ) : Type 0 where
   pub before : List ℕ
   pub stood : StoodAt journal (Snapshot id) old before
-  pub snap : Snap
-  pub was : snapshot_of before ≡ Some snap
-  pub is : snapshot_of bytes ≡ Some (record snap { parent = Some initial_id })
+  pub snap : SnapshotFile
+  pub was : snapshot_by id before ≡ Some snap
+  pub is : snapshot_by id bytes ≡ Some (record snap { parent = Some initial_id })
   pub not_initial : id ≢ initial_id
 
 -- A branch is put over as a reset, or as a commit over the version that was read.

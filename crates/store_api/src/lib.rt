@@ -18,7 +18,7 @@ pub use events::{
     Entries, Entry, Event, Gone, GoneAt, Got, Listed, New, Op, Over, Reply, StoreFault, Version,
 };
 pub use keys::{Key, Part, Why};
-pub use laws::{names_law, polite_law, trees_law};
-pub use machines::{Bad, Next, Refusal};
+pub use laws::{first_law, names_law, polite_law, rows_law, trees_law};
+pub use machines::{Next, Refusal};
 pub use operations::{Base, Store};
 pub use running::run_machine;

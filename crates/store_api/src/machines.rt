@@ -1,6 +1,12 @@
 //! What step machines over a store answer, and the refusals that end them.
 
 use crate::{Key, Version};
+use flat_tables::Kind;
+use ice_ids::Id12;
+use ice_items::Items;
+use repo_objects::Bad;
+use zarr_meta::MetaFault;
+use zarr_tree::{Conflict, Frozen};
 
 /// Whether a machine has more to do.
 #[derive(Debug, Drop)]
@@ -11,17 +17,11 @@ pub enum Next<T> {
     Ready(T),
 }
 
-/// What is wrong with an object.
-#[derive(Clone, Copy, Debug, PartialEq, Eq)]
-pub enum Bad {
-    /// The bytes aren't of the plain form.
-    Plain,
-}
-
 /// Why a call or a machine ended without its answer.
 #[derive(Debug, Drop)]
 pub enum Refusal {
-    /// The branch was absent.
+    /// The branch or the tag was absent, or the tag had a tombstone, or the snapshot was absent by whose id a session is
+    /// opened or a log is read.
     NoRef,
     /// The session's tree has no node at the path.
     NoNode,
@@ -29,14 +29,31 @@ pub enum Refusal {
     NodeExists,
     /// The path isn't `/`, and the session's tree has no group at its parent.
     NoParent,
+    /// The text is no metadata, or that of the other kind of node (`NodeType`).
+    BadMeta(MetaFault),
+    /// The text changes a part of the metadata that stays as it is: the first one that differs.
+    FrozenField(Frozen),
+    /// The array has no chunk of this index.
+    OutOfGrid,
+    /// The bytes aren't as many as a chunk of the array has.
+    ChunkLength {
+        /// How many a chunk has.
+        want: u64,
+        /// How many there are.
+        got: u64,
+    },
+    /// The node at the path is a group.
+    NotArray,
     /// The session was opened to read.
     ReadOnly,
     /// The tree has as many nodes as a tree may have.
     Full,
     /// The store has no object at a key that another object names.
     Missing(Key),
-    /// The bytes at the key aren't what they should be.
+    /// The bytes at the key aren't what the key asks for.
     BadFile(Key, Bad),
+    /// A walk along parents has read 65,536 snapshots without its end.
+    TooDeep,
     /// The store failed.
     StoreFault,
     /// The key of a drawn id was taken.
@@ -45,11 +62,52 @@ pub enum Refusal {
     NoMemory,
     /// No id was left to draw.
     IdsSpent,
+    /// The text is no key of a Zarr store.
+    BadKey,
     /// The branch didn't stand at the version that was read.
     Conflict {
+        /// The version that was read.
         old: Version,
+        /// The version at which the branch stood, if it was there.
         found: Option<Version>,
     },
     /// There are no changes.
     NothingToCommit,
+    /// A file of this kind would be longer than a file may be, or a manifest would have too many chunks.
+    TooLarge(Kind),
+    /// The put over of the branch failed: it may have been done.
+    InDoubt {
+        /// The commit's snapshot.
+        snapshot: Id12,
+    },
+    /// Conflicts with a commit stay that the policy doesn't solve.
+    Left {
+        /// The snapshot of the first such commit.
+        at: Id12,
+        /// Its conflicts that stay, in order.
+        conflicts: Items<Conflict>,
+    },
+    /// The walk along parents ended without the base.
+    NotAncestor {
+        /// The snapshot at which it began.
+        head: Id12,
+    },
+    /// The ref was there.
+    RefExists(Version),
+    /// The snapshot that a ref is to name was absent.
+    NoSnapshot,
+    /// The tag was there, and has a tombstone.
+    TagGone,
+    /// The branch `main` isn't dropped.
+    MainKept,
+    /// The branch had moved on.
+    Moved {
+        /// The version at which it stood, if it was there.
+        found: Option<Version>,
+    },
+    /// The cutoff is later than the store's time.
+    CutoffAhead {
+        /// The store's time.
+        now: u64,
+    },
 }

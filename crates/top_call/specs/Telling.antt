@@ -11,7 +11,7 @@ use Rattle.play_outcome.specs.declared.outcome.Outcome.{Outcome}
 use Rattle.play_outcome.specs.declared.outcome.RefLine.{RefLine}
 use Rattle.play_outcome.specs.Ending.{why_ended}
 use Rattle.play_report.specs.Report.{report_of}
-use Rattle.tree_model.specs.Changes.{Changes}
+use Rattle.zarr_tree.specs.Changes.{Changes}
 use Rattle.run_histories.specs.Runs.{IsSound}
 use Rattle.run_histories.specs.Told.{HasHistories}
 use Rattle.play_course.specs.Course.{Course, OnlyBegan}

@@ -1,0 +1,5 @@
+use Rattle.commit_path.proofs.Spelling.{log-ordered}
+use Rattle.commit_path.proofs.commit.write_log.Goals as goal
+
+pub write-requires : goal.write-requires
+write-requires c = log-ordered c.args.session.now c.args.id c.in-Ok.lists c.in-Ok.ensures

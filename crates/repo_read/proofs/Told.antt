@@ -1,0 +1,111 @@
+-- Gets whose replies tell a value, and what follows with it.
+use Rattle.std.proofs.Common.{◌≡◌, ℕ, List, Bool, true, false, Result, Ok, Err, IfErr, refl, sym, ap, ◌∙◌, subst}
+use Rattle.ice_ids.specs.declared.Id12.{Id12}
+use Rattle.snapshot_file.specs.declared.snapshot.SnapshotFile.{SnapshotFile}
+use Rattle.repo_objects.specs.declared.bad.Bad.{Bad}
+use Rattle.repo_objects.specs.Readings.{read_snapshot, read_ref}
+use Rattle.store_api.specs.declared.keys.Key.{Key}
+use Rattle.store_api.specs.declared.keys.Key.TheVariants.{Snapshot, Branch}
+use Rattle.store_api.specs.declared.events.Op.TheVariants.{Get}
+use Rattle.store_api.specs.declared.events.Got.{Got as TheGot}
+use Rattle.store_api.specs.declared.events.Got.TheVariants.{Found, Absent}
+use Rattle.store_api.specs.declared.events.Reply.{Reply}
+use Rattle.store_api.specs.declared.events.Reply.TheVariants.{Got, New, Over, Gone, GoneAt, Listed, Failed}
+use Rattle.store_api.specs.declared.machines.Next.{Next}
+use Rattle.store_api.specs.declared.machines.Refusal.{Refusal}
+use Rattle.store_api.specs.declared.machines.Refusal.TheVariants.{StoreFault}
+use Rattle.store_api.specs.Callers.{Fits}
+use Rattle.store_api.specs.Program.{Ask, IsDone, Lands, IsSure, is_fault, is_no_memory}
+use Rattle.store_api.specs.Running.{Program, on_answer, ◌>>=◌}
+use Rattle.store_api.specs.Driving.{Heard, Excuses, Took, has_failed}
+use Rattle.repo_read.specs.declared.answers.Resolved.{Resolved}
+use Rattle.repo_read.specs.Answers.{at_key, resolved_at, ref_told, snapshot_told, Answers}
+use Rattle.repo_read.specs.Programs.{resolve_program, snapshot_program}
+
+fault-is : (why : Refusal) → is_fault why ≡ true → why ≡ StoreFault
+fault-is StoreFault e = refl
+fault-is _ e = absurd (cc)
+
+excused : {T : Type 0} (reply : Reply) (result : Result T Refusal) → IfErr result (λ refusal. is_fault refusal ≡ false) → Excuses reply result
+excused reply (Ok t) f = tt
+excused reply (Err why) f = λ n. f
+
+-- ---- a get of a key that tells so: a fault exactly where it failed
+module _ {A B : Type 0} (key : Key) (told : Reply → Result A Refusal) (f : A → Program B) (fails : (done : Bool) → told (Failed done) ≡ Err StoreFault) (tells : (got : TheGot) → told (Got got) ≡ Err StoreFault → ⊥) where
+  -- a fault is told only where the get failed
+  faultless : (b : Bool) (reply : Reply) (why : Refusal) → is_fault why ≡ b → Fits (Get key) reply → Answers (told reply) (Err why) → has_failed reply ≡ false → is_fault why ≡ false
+  faultless false reply why e w t n = e
+  faultless true reply why e w t n = let is = fault-is why e in absurd (by_reply reply w (rw is at t) n)
+    where
+      by_reply : (reply : Reply) → Fits (Get key) reply → (false ≡ false → told reply ≡ Err StoreFault) → has_failed reply ≡ false → ⊥
+      by_reply (Got got) w t n = tells got (t refl)
+      by_reply (Failed done) w t n = cc
+      by_reply (New new) w t n = w
+      by_reply (Over over) w t n = w
+      by_reply (Gone gone) w t n = w
+      by_reply (GoneAt gone) w t n = w
+      by_reply (Listed listed) w t n = w
+
+  -- where it tells no value, that ends the program
+  refused : (reply : Reply) (why : Refusal) → Fits (Get key) reply → Answers (told reply) (Err why) → (q : Program B) → IsDone q → Took (Ask (Get key) (λ r. on_answer f (told r))) reply q (Err why)
+  refused reply why w t q d = (by_reply reply w t, faultless (is_fault why) reply why refl w t)
+    where
+      lands : (r : Result A Refusal) → (is_no_memory why ≡ false → r ≡ Err why) → Lands (on_answer f r) q (Err why)
+      lands r t = (d, λ n. ap (on_answer f) (t n))
+
+      by_reply : (reply : Reply) → Fits (Get key) reply → (is_no_memory why ≡ false → told reply ≡ Err why) → Heard (λ r. Lands (on_answer f (told r)) q (Err why) × (false ≡ true → IsSure {T = B} (on_answer f (told r)) (Err why))) reply
+      by_reply (Got got) w t = (lands (told (Got got)) t, λ n. cc)
+      by_reply (Failed done) w t = λ d. (lands (told (Failed d)) (λ n. fails d ∙ sym (fails done) ∙ t n), λ n. cc)
+      by_reply (New new) w t = absurd w
+      by_reply (Over over) w t = absurd w
+      by_reply (Gone gone) w t = absurd w
+      by_reply (GoneAt gone) w t = absurd w
+      by_reply (Listed listed) w t = absurd w
+
+  -- where it tells a value, the program goes on with it
+  went : (reply : Reply) (a : A) → Fits (Get key) reply → told reply ≡ Ok a → (q : Program B) (result : Result (Next B) Refusal) → Lands (f a) q result → IfErr result (λ refusal. is_fault refusal ≡ false) → Took (Ask (Get key) (λ r. on_answer f (told r))) reply q result
+  went reply a w t q result l n = (by_reply reply w t, excused reply result n)
+    where
+      lands : (r : Result A Refusal) → r ≡ Ok a → Lands (on_answer f r) q result
+      lands r t = subst (λ (x : Result A Refusal). Lands (on_answer f x) q result) (sym t) l
+
+      by_reply : (reply : Reply) → Fits (Get key) reply → told reply ≡ Ok a → Heard (λ r. Lands (on_answer f (told r)) q result × (false ≡ true → IsSure (on_answer f (told r)) result)) reply
+      by_reply (Got got) w t = (lands (told (Got got)) t, λ n. cc)
+      by_reply (Failed done) w t = let no_value = sym (fails done) ∙ t in absurd (cc)
+      by_reply (New new) w t = absurd w
+      by_reply (Over over) w t = absurd w
+      by_reply (Gone gone) w t = absurd w
+      by_reply (GoneAt gone) w t = absurd w
+      by_reply (Listed listed) w t = absurd w
+
+-- ---- branches
+ref-tells : (branch : List ℕ) (got : TheGot) → ref_told branch (Got got) ≡ Err StoreFault → ⊥
+ref-tells branch (Found bytes version now) e = by_bytes (read_ref bytes) e
+  where
+    by_bytes : (r : Result Id12 Bad) → resolved_at version (at_key (Branch branch) r) ≡ Err StoreFault → ⊥
+    by_bytes (Ok id) e = cc
+    by_bytes (Err bad) e = cc
+ref-tells branch (Absent now) e = cc
+
+module _ {B : Type 0} (branch : List ℕ) (reply : Reply) (f : Resolved → Program B) (w : Fits (Get (Branch branch)) reply) where
+  pub ref-refused : (why : Refusal) → Answers {A = Resolved} (ref_told branch reply) (Err why) → (q : Program B) → IsDone q → Took (resolve_program branch >>= f) reply q (Err why)
+  ref-refused why t q d = refused (Branch branch) (ref_told branch) f (λ done. refl) (ref-tells branch) reply why w t q d
+
+  pub ref-went : (named : Resolved) → Answers (ref_told branch reply) (Ok named) → (q : Program B) (result : Result (Next B) Refusal) → Lands (f named) q result → IfErr result (λ refusal. is_fault refusal ≡ false) → Took (resolve_program branch >>= f) reply q result
+  ref-went named t q result l n = went (Branch branch) (ref_told branch) f (λ done. refl) (ref-tells branch) reply named w t q result l n
+
+-- ---- snapshots
+snapshot-tells : (id : Id12) (got : TheGot) → snapshot_told id (Got got) ≡ Err StoreFault → ⊥
+snapshot-tells id (Found bytes version now) e = by_bytes (read_snapshot id bytes) e
+  where
+    by_bytes : (r : Result SnapshotFile Bad) → at_key (Snapshot id) r ≡ Err StoreFault → ⊥
+    by_bytes (Ok s) e = cc
+    by_bytes (Err bad) e = cc
+snapshot-tells id (Absent now) e = cc
+
+module _ {B : Type 0} (id : Id12) (reply : Reply) (f : SnapshotFile → Program B) (w : Fits (Get (Snapshot id)) reply) where
+  pub snapshot-refused : (why : Refusal) → Answers {A = SnapshotFile} (snapshot_told id reply) (Err why) → (q : Program B) → IsDone q → Took (snapshot_program id >>= f) reply q (Err why)
+  snapshot-refused why t q d = refused (Snapshot id) (snapshot_told id) f (λ done. refl) (snapshot-tells id) reply why w t q d
+
+  pub snapshot-went : (s : SnapshotFile) → Answers (snapshot_told id reply) (Ok s) → (q : Program B) (result : Result (Next B) Refusal) → Lands (f s) q result → IfErr result (λ refusal. is_fault refusal ≡ false) → Took (snapshot_program id >>= f) reply q result
+  snapshot-went s t q result l n = went (Snapshot id) (snapshot_told id) f (λ done. refl) (snapshot-tells id) reply s w t q result l n

@@ -1,0 +1,4 @@
+pub mod Answers
+pub mod Programs
+pub mod Chains
+pub mod inside

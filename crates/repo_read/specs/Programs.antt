@@ -1,0 +1,35 @@
+-- The programs that read a ref and a snapshot. (Icechunk specification version 1, "Read from Repository".)
+use Rattle.std.specs.Prelude.{ℕ, List}
+use Rattle.ice_ids.specs.declared.Id12.{Id12}
+use Rattle.snapshot_file.specs.declared.snapshot.SnapshotFile.{SnapshotFile}
+use Rattle.store_api.specs.declared.keys.Key.TheVariants.{Snapshot, Branch}
+use Rattle.store_api.specs.declared.events.Op.TheVariants.{Get}
+use Rattle.store_api.specs.declared.machines.Refusal.{Refusal}
+use Rattle.store_api.specs.declared.machines.Refusal.TheVariants.{NoRef, Missing, BadFile, StoreFault, NoMemory}
+use Rattle.store_api.specs.Program.{Done, Ask}
+use Rattle.store_api.specs.Running.{Program}
+use Rattle.repo_read.specs.declared.answers.Resolved.{Resolved}
+use Rattle.repo_read.specs.Answers.{ref_told, snapshot_told}
+
+-- gets a branch
+abbrev pub resolve_program : (branch : List ℕ) → Program Resolved
+resolve_program branch = Ask (Get (Branch branch)) (λ reply. Done (ref_told branch reply))
+
+-- gets a snapshot
+abbrev pub snapshot_program : Id12 → Program SnapshotFile
+snapshot_program id = Ask (Get (Snapshot id)) (λ reply. Done (snapshot_told id reply))
+
+-- the refusals of a reading
+abbrev pub MayRefuseRef : Refusal → Type 0
+MayRefuseRef NoRef = Unit {0}
+MayRefuseRef (BadFile key bad) = Unit {0}
+MayRefuseRef StoreFault = Unit {0}
+MayRefuseRef NoMemory = Unit {0}
+MayRefuseRef _ = ⊥
+
+abbrev pub MayRefuseSnapshot : Refusal → Type 0
+MayRefuseSnapshot (Missing key) = Unit {0}
+MayRefuseSnapshot (BadFile key bad) = Unit {0}
+MayRefuseSnapshot StoreFault = Unit {0}
+MayRefuseSnapshot NoMemory = Unit {0}
+MayRefuseSnapshot _ = ⊥

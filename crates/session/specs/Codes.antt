@@ -1,0 +1,85 @@
+-- Codes of rows and of sessions, by which proofs tell them apart.
+use Rattle.std.specs.Prelude.{◌≡◌, ℕ, Bool, List, Option, Some, None, refl}
+use Rattle.std.specs.Coded.{Coded, coded_ℕ, coded_bool, coded×, coded_list, coded_option, code_by}
+use Rattle.ice_ids.specs.declared.drawing.AnyIds.{AnyIds}
+use Rattle.ice_ids.specs.declared.drawing.AnyIds.TheVariants.{Count}
+use Rattle.manifest_file.specs.declared.manifest.Place.{Place}
+use Rattle.snapshot_file.specs.declared.nodes.ManifestRef.{ManifestRef}
+use Rattle.snapshot_file.specs.declared.nodes.NodeKind.{NodeKind}
+use Rattle.snapshot_file.specs.declared.nodes.NodeKind.TheVariants.{Group, Array}
+use Rattle.snapshot_file.specs.declared.nodes.NodeRow.{NodeRow}
+use Rattle.snapshot_file.specs.declared.snapshot.ManifestInfo.{ManifestInfo}
+use Rattle.zarr_tree.specs.Codes.{coded_path}
+use Rattle.zarr_tree.specs.Held.{Held}
+use Rattle.zarr_changes.specs.Codes.{coded_held, coded_place}
+use Rattle.session.specs.Sessions.{SessionState}
+
+-- ---- rows
+abbrev pub Pairs : Type 0
+Pairs = List (ℕ × ℕ)
+
+abbrev pub coded_pairs : Coded Pairs
+coded_pairs = coded_list (coded× coded_ℕ coded_ℕ)
+
+abbrev pub coded_named : Coded ManifestRef
+coded_named = code_by (List ℕ × Pairs) (coded× coded_path coded_pairs) (λ m. (m.id.0, m.extents)) (λ p. record { id = record { 0 = p.0 }; extents = p.1 }) (λ _. refl)
+
+abbrev pub Dimensions : Type 0
+Dimensions = Pairs × (Option (List (Option (List ℕ))) × List ManifestRef)
+
+abbrev pub coded_dimensions : Coded Dimensions
+coded_dimensions = coded× coded_pairs (coded× (coded_option (coded_list (coded_option coded_path))) (coded_list coded_named))
+
+abbrev pub dimensions_of : NodeKind → Option Dimensions
+dimensions_of Group = None
+dimensions_of (Array shape names manifests) = Some (shape, (names, manifests))
+
+abbrev pub kind_of : Option Dimensions → NodeKind
+kind_of None = Group
+kind_of (Some d) = Array d.0 d.1.0 d.1.1
+
+pub same-kind : (kind : NodeKind) → kind_of (dimensions_of kind) ≡ kind
+same-kind Group = refl
+same-kind (Array shape names manifests) = refl
+
+abbrev pub coded_kind : Coded NodeKind
+coded_kind = code_by (Option Dimensions) (coded_option coded_dimensions) dimensions_of kind_of same-kind
+
+abbrev pub coded_row : Coded NodeRow
+coded_row =
+    code_by (List ℕ × (List ℕ × (List ℕ × NodeKind)))
+    (coded× coded_path (coded× coded_path (coded× coded_path coded_kind)))
+    (λ row. (row.id.0, (row.path, (row.user_data, row.kind))))
+    (λ p. record { id = record { 0 = p.0 }; path = p.1.0; user_data = p.1.1.0; kind = p.1.1.1 })
+    (λ _. refl)
+
+abbrev pub coded_file : Coded ManifestInfo
+coded_file = code_by (List ℕ × (ℕ × ℕ)) (coded× coded_path (coded× coded_ℕ coded_ℕ)) (λ file. (file.id.0, (file.size, file.refs))) (λ p. record { id = record { 0 = p.0 }; size = p.1.0; refs = p.1.1 }) (λ _. refl)
+
+-- ---- sources of ids
+abbrev pub counts : AnyIds → ℕ × ℕ
+counts (Count c) = (c.client, c.counter)
+
+abbrev pub ids_of : ℕ × ℕ → AnyIds
+ids_of p = Count (record { client = p.0; counter = p.1 })
+
+pub same-ids : (ids : AnyIds) → ids_of (counts ids) ≡ ids
+same-ids (Count c) = refl
+
+abbrev pub coded_ids : Coded AnyIds
+coded_ids = code_by (ℕ × ℕ) (coded× coded_ℕ coded_ℕ) counts ids_of same-ids
+
+-- ---- sessions
+abbrev pub Opened : Type 0
+Opened = List ℕ × (Bool × (List ℕ × ℕ))
+
+abbrev pub Changed : Type 0
+Changed = (List NodeRow × List ManifestInfo) × (Held Place × AnyIds)
+
+abbrev pub coded_session : Coded SessionState
+coded_session =
+    code_by (Opened × Changed)
+    (coded× (coded× coded_path (coded× coded_bool (coded× coded_path coded_ℕ))) (coded× (coded× (coded_list coded_row) (coded_list coded_file)) (coded× (coded_held coded_place) coded_ids)))
+    (λ s. ((s.branch, (s.writes, (s.base.0, s.version))), ((s.rows, s.files), (s.held, s.ids))))
+    (λ p. record { branch = p.0.0; writes = p.0.1.0; base = record { 0 = p.0.1.1.0 }; version = p.0.1.1.1; rows = p.1.0.0; files = p.1.0.1; held = p.1.1.0; ids = p.1.1.1 })
+    (λ _. refl)

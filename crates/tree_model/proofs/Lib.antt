@@ -1,9 +1,0 @@
-pub mod Maps
-pub mod RowLaws
-pub mod Searching
-pub mod Overlaying
-pub mod Refusing
-pub mod TouchedLaws
-pub mod Applied
-pub mod Normal
-pub mod Differing
