@@ -4,6 +4,7 @@ pub mod TreeHolds
 pub mod Keeping
 pub mod Orders
 pub mod Named
+pub mod ArrayRows
 pub mod Proper
 pub mod IdSets
 pub mod Halves

@@ -1,44 +1,41 @@
--- Where groups alone are added, the snapshot under changes can be written.
-use Rattle.std.proofs.Common.{◌≡◌, ◌∙◌, ◌⊎◌, inl, inr, ℕ, ◌+◌, ◌≤◌, Bool, true, false, cond, List, [], ◌∷◌, Option, Some, None, option_map, Result, Ok, Err, refl, sym, ap, subst}
+-- Under changes whose texts are metadata, a snapshot can be written.
+use Rattle.std.proofs.Common.{◌≡◌, ◌∙◌, ◌⊎◌, inl, inr, ℕ, ◌+◌, ◌≤◌, Bool, true, false, cond, List, [], ◌∷◌, Option, Some, None, is_some, option_map, Result, Ok, Err, refl, sym, ap, subst}
 use Rattle.std.specs.Result.{result_ok}
+use Rattle.std.specs.Option.{unwrap_or}
 use Rattle.std.specs.List.{filter, AllByRecursion}
-use Rattle.std.specs.Prelude.{is_ok, ok_or}
-use Rattle.std.specs.Str.{bytes_eq, is_utf8}
+use Rattle.std.specs.Str.{bytes_eq, IsUtf8}
 use Rattle.std.specs.FinMap.{get, len}
-use Rattle.std.proofs.lemmas.Slice.Eq.{bytes_eq-Decides}
-use Rattle.std.proofs.lemmas.Str.{IsUtf8-from_is_utf8}
-use Rattle.serde_json.specs.Read.{read}
-use Rattle.file_fields.proofs.Bytes.{utf8_bytes}
-use Rattle.ice_base.specs.Lists.{IsBytes}
 use Rattle.ice_ids.specs.Text.{same_id8}
-use Rattle.ice_ids.proofs.TextLaws.{same_id8-self}
+use Rattle.zarr_path.specs.Paths.{is_path}
 use Rattle.zarr_meta.specs.declared.faults.MetaFault.{MetaFault}
 use Rattle.zarr_meta.specs.declared.views.View.{View}
 use Rattle.zarr_meta.specs.declared.views.View.TheVariants as view
-use Rattle.zarr_meta.specs.declared.faults.MetaFault.TheVariants as fault
-use Rattle.zarr_meta.specs.Meta.{◌>>=◌, json_of, view_of, meta_of}
-use Rattle.zarr_tree.specs.Nodes.{Node, array_of_view, is_group, is_group_view}
+use Rattle.zarr_meta.specs.Meta.{meta_of}
+use Rattle.zarr_tree.specs.Nodes.{Node, array_of_view, is_metadata}
 use Rattle.zarr_tree.specs.Trees.{Tree}
 use Rattle.zarr_tree.specs.Changes.{Changes, patched}
 use Rattle.zarr_tree.specs.Edits.{most_nodes}
 use Rattle.zarr_tree.specs.Held.{Held, meta_in, changes_of, nodes_over}
 use Rattle.zarr_tree.proofs.Maps.{Path}
 use Rattle.zarr_tree.proofs.Apply.{Own, node_cases}
+use Rattle.manifest_file.specs.declared.manifest.Place.{Place}
 use Rattle.snapshot_file.specs.declared.nodes.ManifestRef.{ManifestRef}
-use Rattle.snapshot_file.specs.declared.nodes.NodeKind.TheVariants.{Group}
+use Rattle.snapshot_file.specs.declared.nodes.NodeKind.{NodeKind}
+use Rattle.snapshot_file.specs.declared.nodes.NodeKind.TheVariants.{Group, Array}
 use Rattle.snapshot_file.specs.declared.nodes.NodeRow.{NodeRow}
 use Rattle.snapshot_file.specs.declared.snapshot.ManifestInfo.{ManifestInfo}
 use Rattle.snapshot_file.specs.declared.snapshot.SnapshotFile.{SnapshotFile}
 use Rattle.snapshot_file.specs.Snapshots.{file_key}
-use Rattle.snapshot_file.specs.Layout.{IsNode, IsInfo, IsWritable}
+use Rattle.snapshot_file.specs.Layout.{IsManifest, IsKind, IsNode, IsInfo, IsWritable}
 use Rattle.repo_objects.specs.declared.bad.Bad.{Bad}
 use Rattle.repo_objects.specs.declared.bad.Bad.TheVariants as bad
 use Rattle.repo_objects.specs.Readings.{kind_fault, row_fault, first_bad}
 use Rattle.repo_objects.specs.Trees.{node_of, nodes_in, row_at, manifests_of}
 use Rattle.changed_snapshot.specs.declared.written.Stamp.{Stamp}
 use Rattle.changed_snapshot.specs.Rows.{kind_of, row_of, row_from, names_in, rows_over, snapshot_over}
-use Rattle.changed_snapshot.specs.Laws.{IsFineGroup, ProperLaw}
-use Rattle.changed_snapshot.proofs.Found.{all_over, row_has, node_at_row}
+use Rattle.changed_snapshot.specs.Laws.{IsFineNode, AddsFine, SetsFine, FineLaw, ProperLaw}
+use Rattle.changed_snapshot.proofs.ArrayRows.{metadata_bytes, kind_is}
+use Rattle.changed_snapshot.proofs.Found.{all_over, row_there, row_has, node_at_row}
 use Rattle.changed_snapshot.proofs.Orders.{rows_ascend, rows_many, filter_ascends}
 use Rattle.changed_snapshot.proofs.Named.{rows_named}
 
@@ -74,96 +71,105 @@ are_good at (row ∷ rows) h = elim (row_fault row) as (λ o. row_fault row ≡ 
   | None ↦ λ e k. (e, are_good (at + 1) rows k)
 ] refl h
 
--- ---- added groups, and rows that stay
+-- ---- rows
+metadata_good : (kind : NodeKind) (r : Result View MetaFault) → kind_fault kind r ≡ None → is_some (result_ok r) ≡ true
+metadata_good kind (Ok v) h = refl
+metadata_good kind (Err fault) h = cc
 
--- the row of a group
-abbrev group_row : Path → Node → NodeRow
-group_row p n = record { id = n.id; path = p; user_data = n.text; kind = Group }
+-- a row without fault has metadata, and the row of a node with metadata has no fault
+good_metadata : (row : NodeRow) → IsGood row → is_metadata row.user_data ≡ true
+good_metadata row good = metadata_good row.kind (meta_of row.user_data) good
 
--- a text is a group's metadata
-abbrev IsGroupText : List ℕ → Type 0
-IsGroupText text = meta_of text ≡ Ok view.Group
-
-group_text : (text : List ℕ) → is_group text ≡ true → IsGroupText text
-group_text text h = by_view (meta_of text) h
+made_good : (p : Path) (n : Node) (ms : List ManifestRef) → is_metadata n.text ≡ true → IsGood (row_of p n ms)
+made_good p n ms h = by_view (meta_of n.text) h
   where
-    by_view : (r : Result View MetaFault) → is_group_view (result_ok r) ≡ true → r ≡ Ok view.Group
+    by_view : (r : Result View MetaFault) → is_some (result_ok r) ≡ true → kind_fault (kind_of (array_of_view (result_ok r)) ms) r ≡ None
     by_view (Ok view.Group) h = refl
-    by_view (Ok (view.Array a)) h = cc
+    by_view (Ok (view.Array array)) h = refl
     by_view (Err fault) h = cc
 
-made_group : (p : Path) (n : Node) (ms : List ManifestRef) → IsGroupText n.text → group_row p n ≡ row_of p n ms
-made_group p n ms e = ap (λ (r : Result View MetaFault). let row : NodeRow = record { id = n.id; path = p; user_data = n.text; kind = kind_of (array_of_view (result_ok r)) ms } in row) (sym e)
+made_node : (p : Path) (n : Node) (ms : List ManifestRef) → IsFineNode p n → AllByRecursion IsManifest ms → IsNode (row_of p n ms)
+made_node p n ms fine named = record { id = fine.id; path = fine.path; text = fine.text; user_data = metadata_bytes n.text fine.metadata; kind = kind_is n.text ms named }
 
-same_row : (p : Path) (row : NodeRow) → row_from p (node_of row) (Some row) ≡ row
-same_row p row =
-    ap (λ b. cond b (cond (bytes_eq row.user_data row.user_data) row (row_of p (node_of row) (manifests_of row.kind))) (row_of p (node_of row) [])) (same_id8-self row.id)
-    ∙ ap (λ b. cond b row (row_of p (node_of row) (manifests_of row.kind))) ((bytes_eq-Decides row.user_data row.user_data).1 refl)
+kind_manifests : (kind : NodeKind) → IsKind kind → AllByRecursion IsManifest (manifests_of kind)
+kind_manifests Group h = tt
+kind_manifests (Array shape names manifests) h = h.manifests_are
 
 module _ (Q : NodeRow → Type 0) where
-  from_group : (p : Path) (n : Node) (old : Option NodeRow) → IsGroupText n.text → Q (group_row p n) → ((row : NodeRow) → old ≡ Some row → Q row) → Q (row_from p n old)
-  from_group p n None text holds were = subst Q (made_group p n [] text) holds
-  from_group p n (Some row) text holds were = elim (same_id8 row.id n.id) as (λ b. Q (cond b (cond (bytes_eq row.user_data n.text) row (row_of p n (manifests_of row.kind))) (row_of p n []))) [
-    | true ↦ elim (bytes_eq row.user_data n.text) as (λ b. Q (cond b row (row_of p n (manifests_of row.kind)))) [ true ↦ were row refl | false ↦ subst Q (made_group p n (manifests_of row.kind) text) holds ]
-    | false ↦ subst Q (made_group p n [] text) holds
+  -- what holds of a node's new rows and of the base's own holds of its row over the base
+  from_old : (p : Path) (n : Node) (old : Option NodeRow) → Q (row_of p n []) → ((row : NodeRow) → old ≡ Some row → Q row × Q (row_of p n (manifests_of row.kind))) → Q (row_from p n old)
+  from_old p n None bare were = bare
+  from_old p n (Some row) bare were = elim (same_id8 row.id n.id) as (λ b. Q (cond b (cond (bytes_eq row.user_data n.text) row (row_of p n (manifests_of row.kind))) (row_of p n []))) [
+    | true ↦ elim (bytes_eq row.user_data n.text) as (λ b. Q (cond b row (row_of p n (manifests_of row.kind)))) [ true ↦ (were row refl).0 | false ↦ (were row refl).1 ]
+    | false ↦ bare
   ]
 
-  from_own : (p : Path) (n : Node) (old : Option NodeRow) → option_map node_of old ≡ Some n → ((row : NodeRow) → old ≡ Some row → Q row) → Q (row_from p n old)
-  from_own p n None is were = cc
-  from_own p n (Some row) is were = let same : node_of row ≡ n = cc is in subst (λ x. Q (row_from p x (Some row))) same (subst Q (sym (same_row p row)) (were row refl))
+-- ---- nodes under changes
+set_text : (o : Option (List ℕ)) (own : List ℕ) → ((text : List ℕ) → o ≡ Some text → is_metadata text ≡ true) → is_metadata own ≡ true → is_metadata (unwrap_or o own) ≡ true
+set_text None own set is = is
+set_text (Some text) own set is = set text refl
 
-  -- what holds of the rows of added groups and of the base's rows holds of all
-  each_row : {P : Type 0} (h : Held P) (rows : List NodeRow) → h.metas ≡ []
-      → ((p : Path) (n : Node) → get h.added p ≡ Some n → IsGroupText n.text × Q (group_row p n)) → AllByRecursion Q rows → AllByRecursion Q (rows_over h rows)
-  each_row {P = P} h rows none_changed groups were = all_over Q h rows (λ p n is. by_case p n (node_cases c t p n is))
+module _ (h : Held Place) (rows : List NodeRow) (nodes : AllByRecursion IsNode rows) (good : AllByRecursion IsGood rows) where
+  -- the node of a base's row, with its other text
+  own_fine : SetsFine h → (p : Path) (before : Node) (old : Option NodeRow) → row_at rows p ≡ old → option_map node_of old ≡ Some before → IsFineNode p (patched (meta_in h.metas) before)
+  own_fine sets p before None there is = cc
+  own_fine sets p before (Some row) there is =
+      let node : IsNode row = row_has IsNode rows p row nodes there in
+      let path : row.path ≡ p = row_there rows p row there in
+      let same : node_of row ≡ before = cc is in
+      subst (λ m. IsFineNode p (patched (meta_in h.metas) m)) same (record {
+        id = node.id;
+        path = subst (λ q. is_path q ≡ true) path node.path;
+        text = subst IsUtf8 path node.text;
+        metadata = set_text (meta_in h.metas row.id) row.user_data (sets row.id) (good_metadata row (row_has IsGood rows p row good there));
+      })
+
+  fine_over : AddsFine h → SetsFine h → (p : Path) (n : Node) → get (nodes_over h (nodes_in rows)) p ≡ Some n → IsFineNode p n
+  fine_over adds sets p n is = by_case (node_cases c t p n is)
     where
       c : Changes
-      c = changes_of (λ (place : P). None) h
+      c = changes_of (λ place. None) h
 
       t : Tree
       t = record { nodes = nodes_in rows; chunk = λ p i. None }
 
-      at : (p : Path) (row : NodeRow) → row_at rows p ≡ Some row → Q row
-      at p row there = row_has Q rows p row were there
+      by_case : (get c.added p ≡ Some n) ⊎ Own c t p n → IsFineNode p n
+      by_case (inl added) = adds p n added
+      by_case (inr own) = subst (IsFineNode p) (sym own.same) (own_fine sets p own.before (row_at rows p) refl (sym (node_at_row rows p) ∙ own.found))
 
-      by_case : (p : Path) (n : Node) → (get c.added p ≡ Some n) ⊎ Own c t p n → Q (row_from p n (row_at rows p))
-      by_case p n (inl added) = let group = groups p n added in from_group p n (row_at rows p) group.0 group.1 (at p)
-      by_case p n (inr own) =
-          let same : n ≡ own.before = own.same ∙ ap (λ texts. patched (meta_in texts) own.before) none_changed in
-          from_own p n (row_at rows p) (sym (node_at_row rows p) ∙ own.found ∙ ap (λ (x : Node). Some x) (sym same)) (at p)
+  -- so each row can be written, and has no fault
+  nodes_over_are : AddsFine h → SetsFine h → AllByRecursion IsNode (rows_over h rows)
+  nodes_over_are adds sets = all_over IsNode h rows (λ p n is.
+      let fine = fine_over adds sets p n is in
+      from_old IsNode p n (row_at rows p) (made_node p n [] fine tt) (λ row there.
+      let node : IsNode row = row_has IsNode rows p row nodes there in
+      (node, made_node p n (manifests_of row.kind) fine (kind_manifests row.kind node.kind))))
+
+  good_over : AddsFine h → SetsFine h → AllByRecursion IsGood (rows_over h rows)
+  good_over adds sets = all_over IsGood h rows (λ p n is.
+      let text = (fine_over adds sets p n is).metadata in
+      from_old IsGood p n (row_at rows p) (made_good p n [] text) (λ row there. (row_has IsGood rows p row good there, made_good p n (manifests_of row.kind) text)))
 
 -- ---- the snapshot
-
 filter_all : {A : Type 0} (Q : A → Type 0) (test : A → Bool) (xs : List A) → AllByRecursion Q xs → AllByRecursion Q (filter test xs)
 filter_all Q test [] all = tt
 filter_all Q test (x ∷ xs) all = elim (test x) as (λ b. AllByRecursion Q (cond b (x ∷ filter test xs) (filter test xs))) [ true ↦ (all.0, filter_all Q test xs all.1) | false ↦ filter_all Q test xs all.1 ]
 
--- metadata is text, and so bytes
-text_bytes : (text : List ℕ) → IsGroupText text → IsBytes text
-unfolding meta_of json_of
-text_bytes text h = utf8_bytes text (IsUtf8-from_is_utf8 text (by_test (is_utf8 text) refl (ap is_ok h)))
-  where
-    by_test : (b : Bool) → is_utf8 text ≡ b → is_ok (ok_or (cond b (read text) None) fault.Json >>= view_of) ≡ true → is_utf8 text ≡ true
-    by_test true e h = e
-    by_test false e h = cc
-
--- the row of an added group is a node's, and has no fault
-group_node : (p : Path) (n : Node) → IsFineGroup p n → IsNode (group_row p n)
-group_node p n fine = record { id = fine.id; path = fine.path; text = fine.text; user_data = text_bytes n.text (group_text n.text fine.group); kind = tt }
-
-group_good : (p : Path) (n : Node) → IsGroupText n.text → IsGood (group_row p n)
-group_good p n text = ap (kind_fault Group) text
+pub fine-law : FineLaw
+fine-law s h proper adds sets = fine_over h s.nodes proper.sized.nodes (are_good 0 s.nodes proper.texts) adds sets
 
 pub proper-law : ProperLaw
-proper-law s h stamp message proper none_changed groups stamped utf8 few = record {
-  sized = record {
-    id = stamped.id;
-    parent = stamped.parent;
-    nodes = each_row IsNode h s.nodes none_changed (λ p n added. let fine = groups p n added in (group_text n.text fine.group, group_node p n fine)) proper.sized.nodes;
-    flushed_at = stamped.flushed_at;
-    message = utf8;
-    files = filter_all IsInfo (λ (file : ManifestInfo). names_in (rows_over h s.nodes) file.id) s.manifest_files proper.sized.files;
-  };
-  writable = writable_over s h stamp message proper.writable few;
-  texts = none_bad 0 (rows_over h s.nodes) (each_row IsGood h s.nodes none_changed (λ p n added. let text = group_text n.text (groups p n added).group in (text, group_good p n text)) (are_good 0 s.nodes proper.texts));
-}
+proper-law s h stamp message proper adds sets stamped utf8 few =
+    let good = are_good 0 s.nodes proper.texts in
+    record {
+      sized = record {
+        id = stamped.id;
+        parent = stamped.parent;
+        nodes = nodes_over_are h s.nodes proper.sized.nodes good adds sets;
+        flushed_at = stamped.flushed_at;
+        message = utf8;
+        files = filter_all IsInfo (λ (file : ManifestInfo). names_in (rows_over h s.nodes) file.id) s.manifest_files proper.sized.files;
+      };
+      writable = writable_over s h stamp message proper.writable few;
+      texts = none_bad 0 (rows_over h s.nodes) (good_over h s.nodes proper.sized.nodes good adds sets);
+    }

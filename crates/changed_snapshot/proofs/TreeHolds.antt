@@ -20,7 +20,7 @@ use Rattle.held_manifest.specs.LookUp.{look_up, chunk_place}
 use Rattle.snapshot_file.specs.declared.nodes.NodeRow.{NodeRow}
 use Rattle.repo_objects.specs.Trees.{Puts, bytes_at, node_of, nodes_in, row_at, manifests_of, listed, place_in, chunk_under, tree_under}
 use Rattle.changed_snapshot.specs.Rows.{kind_of, row_of, row_from, rows_over}
-use Rattle.changed_snapshot.specs.Laws.{KeepsFrozen, TreeLaw}
+use Rattle.changed_snapshot.specs.Laws.{TreeLaw}
 use Rattle.changed_snapshot.proofs.Found.{row_over, node_at_row}
 use Rattle.changed_snapshot.proofs.NodesHold.{nodes_hold}
 
@@ -90,13 +90,18 @@ module _ (puts : Puts) (i : Index) where
       by_id true e = by_text (same_id8-true row.id n.id e) (bytes_eq row.user_data n.text) refl
       by_id false e = bare p n ∙ sym (nothing_there (is_array n.text))
 
-tree-chunk : (puts : Puts) (h : Held Place) (rows : List NodeRow) → h.chunks ≡ [] → KeepsFrozen h rows
-    → (p : Path) (i : Index) → (tree_under puts (rows_over h rows)).chunk p i ≡ (apply (changes_of (bytes_at puts) h) (tree_under puts rows)).chunk p i
-tree-chunk puts h rows none_changed keeps p i =
+-- at a path a node that stays keeps the parts of its metadata that stay
+abbrev KeepsAt : Held Place → List NodeRow → Path → Type 0
+KeepsAt h rows p = (m n : Node) → get (nodes_in rows) p ≡ Some m → get (nodes_over h (nodes_in rows)) p ≡ Some n → m.id ≡ n.id → SameFrozen m.text n.text
+
+-- the chunks there are the tree's under the changes
+pub chunk-at : (puts : Puts) (h : Held Place) (rows : List NodeRow) → h.chunks ≡ [] → (p : Path) → KeepsAt h rows p
+    → (i : Index) → (tree_under puts (rows_over h rows)).chunk p i ≡ (apply (changes_of (bytes_at puts) h) (tree_under puts rows)).chunk p i
+chunk-at puts h rows none_changed p keeps i =
     ap (chunk_under puts i) (row_over h rows p) ∙ by_node (get (nodes_over h (nodes_in rows)) p) refl
   where
     frozen : (n : Node) → get (nodes_over h (nodes_in rows)) p ≡ Some n → (row : NodeRow) → row_at rows p ≡ Some row → row.id ≡ n.id → SameFrozen row.user_data n.text
-    frozen n is row there same = keeps p (node_of row) n (node_at_row rows p ∙ ap (option_map node_of) there) is same
+    frozen n is row there same = keeps (node_of row) n (node_at_row rows p ∙ ap (option_map node_of) there) is same
 
     by_node : (o : Option Node) → get (nodes_over h (nodes_in rows)) p ≡ o
         → chunk_under puts i (option_map (λ n. row_from p n (row_at rows p)) o) ≡ chunk_of (changes_of (bytes_at puts) h).chunks (tree_under puts rows) p i o
@@ -109,5 +114,5 @@ tree-chunk puts h rows none_changed keeps p i =
 pub tree-law : TreeLaw
 tree-law puts h rows none_changed keeps = λ j. record {
   nodes = nodes_hold h rows j;
-  chunk = λ p i. tree-chunk puts h rows none_changed keeps p i j;
+  chunk = λ p i. chunk-at puts h rows none_changed p (keeps p) i j;
 }

@@ -2,12 +2,13 @@
 use Rattle.std.specs.Prelude.{◌≡◌, ℕ, ◌<◌, ◌≤◌, ◌^◌, true, List, [], Some}
 use Rattle.std.specs.Str.{IsUtf8}
 use Rattle.std.specs.FinMap.{get, len}
+use Rattle.ice_ids.specs.declared.Id8.{Id8}
 use Rattle.ice_ids.specs.Text.{IsId12, IsId8}
 use Rattle.zarr_path.specs.Paths.{is_path}
-use Rattle.zarr_tree.specs.Nodes.{Node, SameFrozen, is_group}
+use Rattle.zarr_tree.specs.Nodes.{Node, SameFrozen, is_metadata}
 use Rattle.zarr_tree.specs.Changes.{apply, IsNormal, IsOver}
 use Rattle.zarr_tree.specs.Edits.{most_nodes}
-use Rattle.zarr_tree.specs.Held.{Held, changes_of, nodes_over}
+use Rattle.zarr_tree.specs.Held.{Held, meta_in, changes_of, nodes_over}
 use Rattle.manifest_file.specs.declared.manifest.Place.{Place}
 use Rattle.snapshot_file.specs.declared.nodes.NodeRow.{NodeRow}
 use Rattle.snapshot_file.specs.declared.snapshot.SnapshotFile.{SnapshotFile}
@@ -34,23 +35,31 @@ pub record FrozenLaw : Type 0 where
   pub normal : (puts : Puts) (h : Held Place) (rows : List NodeRow) → IsNormal (changes_of (bytes_at puts) h) (tree_under puts rows) → KeepsFrozen h rows
   pub added : (puts : Puts) (h : Held Place) (rows : List NodeRow) → h.dropped ≡ [] → h.metas ≡ [] → IsOver (changes_of (bytes_at puts) h) (tree_under puts rows) → KeepsFrozen h rows
 
--- an added group that can be written
-pub record IsFineGroup (p : List ℕ) (n : Node) : Type 0 where
+-- a node that can be written at a path
+pub record IsFineNode (p : List ℕ) (n : Node) : Type 0 where
   pub id : IsId8 n.id
   pub path : is_path p ≡ true
   pub text : IsUtf8 p
-  pub group : is_group n.text ≡ true
+  pub metadata : is_metadata n.text ≡ true
 
-abbrev pub AddsGroups : Held Place → Type 0
-AddsGroups h = (p : List ℕ) (n : Node) → get h.added p ≡ Some n → IsFineGroup p n
+-- the added nodes can be written, and other texts are metadata
+abbrev pub AddsFine : Held Place → Type 0
+AddsFine h = (p : List ℕ) (n : Node) → get h.added p ≡ Some n → IsFineNode p n
+
+abbrev pub SetsFine : Held Place → Type 0
+SetsFine h = (id : Id8) (text : List ℕ) → meta_in h.metas id ≡ Some text → is_metadata text ≡ true
+
+-- Under such changes each node of a snapshot that can be written can be.
+abbrev pub FineLaw : Type 0
+FineLaw = (s : SnapshotFile) (h : Held Place) → IsProper s → AddsFine h → SetsFine h
+    → (p : List ℕ) (n : Node) → get (nodes_over h (nodes_in s.nodes)) p ≡ Some n → IsFineNode p n
 
 pub record IsStamp (stamp : Stamp) : Type 0 where
   pub id : IsId12 stamp.id
   pub parent : IsId12 stamp.parent
   pub flushed_at : stamp.flushed_at < 2 ^ 64
 
--- Where groups alone were added to a snapshot that can be written, and no more than a tree may have, the snapshot can be
--- written.
+-- So can the snapshot under them, where it has no more nodes than a tree may have.
 abbrev pub ProperLaw : Type 0
-ProperLaw = (s : SnapshotFile) (h : Held Place) (stamp : Stamp) (message : List ℕ) → IsProper s → h.metas ≡ [] → AddsGroups h → IsStamp stamp → IsUtf8 message → len (nodes_over h (nodes_in s.nodes)) ≤ most_nodes
+ProperLaw = (s : SnapshotFile) (h : Held Place) (stamp : Stamp) (message : List ℕ) → IsProper s → AddsFine h → SetsFine h → IsStamp stamp → IsUtf8 message → len (nodes_over h (nodes_in s.nodes)) ≤ most_nodes
     → IsProper (snapshot_over h s.nodes s.manifest_files stamp message)

@@ -1,8 +1,8 @@
 -- The snapshot that a commit writes: its base's rows under changes on nodes. (Icechunk specification version 1, "Snapshots";
 -- that a row's slots beside its manifests are written from its text is own.)
-use Rattle.std.specs.Prelude.{ℕ, Bool, if◌then◌else◌, List, [], map, zip, Option, Some, None}
+use Rattle.std.specs.Prelude.{ℕ, Bool, if◌then◌else◌, List, [], map, zip, Option, Some, None, option_map, option_and_then}
 use Rattle.std.specs.List.{filter, list_any}
-use Rattle.std.specs.Str.{bytes_eq}
+use Rattle.std.specs.Str.{bytes_eq, is_utf8}
 use Rattle.std.specs.FinMap.{entries}
 use Rattle.ice_ids.specs.declared.Id12.{Id12}
 use Rattle.ice_ids.specs.Text.{same_id8, same_id12}
@@ -18,10 +18,17 @@ use Rattle.snapshot_file.specs.declared.snapshot.SnapshotFile.{SnapshotFile}
 use Rattle.repo_objects.specs.Trees.{nodes_in, row_at, manifests_of}
 use Rattle.changed_snapshot.specs.declared.written.Stamp.{Stamp}
 
+-- a name is text, as each is that was read
+abbrev pub name_of : List ℕ → Option (List ℕ)
+name_of name = if is_utf8 name then Some name else None
+
+abbrev pub names_of : List (Option (List ℕ)) → List (Option (List ℕ))
+names_of names = map (option_and_then name_of) names
+
 -- what a row says of a node whose text says this, and whose chunks these manifests have
 abbrev pub kind_of : Option ArrayView → List ManifestRef → NodeKind
 kind_of None manifests = Group
-kind_of (Some array) manifests = Array (zip array.shape array.chunks) array.names manifests
+kind_of (Some array) manifests = Array (zip array.shape array.chunks) (option_map names_of array.names) manifests
 
 -- a row of a node, which keeps these manifests
 abbrev pub row_of : (path : List ℕ) → Node → List ManifestRef → NodeRow

@@ -1,6 +1,6 @@
 //! Laws of snapshots under changes: each function's clause is the law, and its body is empty.
 
-ghost use Rattle.changed_snapshot.specs.Laws.{FrozenLaw, NodesLaw, ProperLaw, TreeLaw};
+ghost use Rattle.changed_snapshot.specs.Laws.{FineLaw, FrozenLaw, NodesLaw, ProperLaw, TreeLaw};
 
 /// The nodes of the rows are the base's under the changes.
 pub fn nodes_law()
@@ -17,7 +17,12 @@ pub fn frozen_law()
     ensures { FrozenLaw }
 {}
 
-/// Where groups alone are added, the snapshot can be written.
+/// Under changes whose texts are metadata, each node can be written.
+pub fn fine_law()
+    ensures { FineLaw }
+{}
+
+/// Under such changes the snapshot can be written.
 pub fn proper_law()
     ensures { ProperLaw }
 {}

@@ -3,8 +3,9 @@
 
 mod files;
 mod laws;
+mod names;
 mod rows;
 mod written;
 
-pub use laws::{frozen_law, nodes_law, proper_law, tree_law};
+pub use laws::{fine_law, frozen_law, nodes_law, proper_law, tree_law};
 pub use written::{Stamp, write_over};

@@ -10,9 +10,10 @@ ghost use Rattle.snapshot_file.specs.Snapshots.{node_key};
 ghost use Rattle.repo_objects.specs.Trees.{manifests_of, row_at};
 ghost use Rattle.changed_snapshot.specs.Rows.{kind_of, row_of, row_from, rows_over};
 
+use crate::names::copy_names;
 use ice_items::Items;
 use repo_objects::Loaded;
-use snapshot_file::{ManifestRef, NodeKind, NodeRow, Shape, copy_manifests, copy_names};
+use snapshot_file::{ManifestRef, NodeKind, NodeRow, Shape, copy_manifests};
 use std::alloc::{AllocError, Global};
 use std::cmp::Ordering;
 use zarr_changes::ChangeSet;

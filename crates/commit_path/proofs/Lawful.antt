@@ -16,7 +16,7 @@ use Rattle.commit_path.specs.Opened.{OpeningTells}
 use Rattle.commit_path.specs.Spelled.{IsSpelled}
 use Rattle.commit_path.specs.Laws.{OpeningLaw, SessionLaw, CommitLaw, AnswersLaw}
 use Rattle.commit_path.proofs.Spelling.{Spellings}
-use Rattle.commit_path.proofs.Adding.{group-added, added-spelled, added-opened}
+use Rattle.commit_path.proofs.Editing.{node-added, added-spelled, added-opened, text-set, set-spelled, set-opened, node-dropped, dropped-spelled, dropped-opened}
 use Rattle.commit_path.proofs.Owing.{IsOpened-append, commit-careful}
 use Rattle.commit_path.proofs.Opened.{Opens, open-careful, open-leads, start-started, started-opened, started-spelled, started-short}
 use Rattle.commit_path.proofs.Answering.{ChangedNothing-others, CommitTells-others, commit-told}
@@ -38,9 +38,15 @@ opening-law L by a start journal c = (open-careful by (λ t id. ⊥) a journal, 
 
 pub session-law : SessionLaw
 session-law = record {
-  edited = λ s t path text id journal is_a utf8 e w o.
-      let a = group-added s t path text id e in
-      (added-spelled s t path text id a is_a utf8 w, added-opened s t path text id a journal o);
+  adds = λ fault s t path text id journal tells is_a utf8 e w o.
+      let a = node-added fault s t path text id tells e in
+      (added-spelled s t path text id a is_a utf8 w, added-opened s t path text id journal a o);
+  sets = λ s t path text journal e w o.
+      let a = text-set s t path text e in
+      (set-spelled s t path text a w, set-opened s t path text journal a o);
+  drops = λ s t path journal e w o.
+      let a = node-dropped s t path e in
+      (dropped-spelled s t path a w, dropped-opened s t path journal a o);
   kept = IsOpened-append;
 }
 

@@ -1,10 +1,12 @@
 pub mod Named
 pub mod Spelling
 pub mod Telling
-pub mod Adding
+pub mod Editing
+pub mod Differing
 pub mod Owing
 pub mod Opened
 pub mod Answering
 pub mod Reading
 pub mod Staying
 pub mod Lawful
+pub mod Singling

@@ -154,11 +154,11 @@ module _ (L : Spellings) (by : Caller) (a : Asked) where
         spelled = record {
           base = i;
           of_snapshot = record { file = snap; proper = proper; rows = refl; files = refl };
-          dropped = refl;
-          metas = refl;
+          added = λ p m f. let none = get-empty {X = Node} path_cmp p in absurd cc;
+          texts = λ id text e. cc;
+          frozen = λ id text e. cc;
+          free = λ p m n f. let none = get-empty {X = Node} path_cmp p in absurd cc;
           chunks = refl;
-          groups = λ p m f. let none = get-empty {X = Node} path_cmp p in absurd cc;
-          free = λ p m f. let none = get-empty {X = Node} path_cmp p in absurd cc;
           few = begun-few snap.nodes proper.writable.few;
         };
       }
@@ -230,11 +230,11 @@ pub started-spelled : (s t : SessionState) (id : Id12) → Started s t id → Is
 started-spelled s t id a w = subst IsSpelled (sym a.is) (record {
   base = w.base;
   of_snapshot = record { file = w.of_snapshot.file; proper = w.of_snapshot.proper; rows = w.of_snapshot.rows; files = w.of_snapshot.files };
-  dropped = w.dropped;
-  metas = w.metas;
-  chunks = w.chunks;
-  groups = w.groups;
+  added = w.added;
+  texts = w.texts;
+  frozen = w.frozen;
   free = w.free;
+  chunks = w.chunks;
   few = w.few;
 })
 

@@ -18,6 +18,7 @@ use Rattle.ref_file.specs.Refs.{ref_bytes}
 use Rattle.repo_objects.specs.Readings.{snapshot_by, log_by}
 use Rattle.repo_objects.specs.Trees.{tree_under}
 use Rattle.repo_objects.specs.Laws.{initial_bytes}
+use Rattle.changed_snapshot.specs.Rows.{rows_over}
 use Rattle.store_api.specs.declared.keys.Key.TheVariants.{Snapshot, Txn, Branch}
 use Rattle.store_api.specs.declared.keys.Why.TheVariants.{Set, Commit}
 use Rattle.store_api.specs.declared.events.Version.{Version}
@@ -36,13 +37,14 @@ use Rattle.store_api.specs.Program.{Done, Ask, Keeps}
 use Rattle.store_api.proofs.Journals.{Each-back}
 use Rattle.store_api.proofs.Slots.{WasPut-append, StoodAt-append}
 use Rattle.store_api.proofs.Standing.{by-rows, rows-stay, HadRows-append, snap_made-append, log_made-append, snap_made-put, IsPolite-append}
-use Rattle.session.specs.Sessions.{SessionState, base_nodes, base_tree, overlay}
+use Rattle.session.specs.Sessions.{SessionState, base_nodes, base_tree}
 use Rattle.commit_path.specs.Committing.{commit_program, after_log, after_snapshot, after_branch, log_for, snap_for, is_long}
 use Rattle.commit_path.specs.Opened.{IsOpened}
 use Rattle.commit_path.specs.Owed.{Sessions, IsMade, OwesSnap, Owes, IsCareful}
 use Rattle.commit_path.specs.Spelled.{IsSpelled}
 use Rattle.commit_path.proofs.Named.{own-manifests}
-use Rattle.commit_path.proofs.Spelling.{Spellings, tree-over, differs-over, log-read, snap-read}
+use Rattle.commit_path.proofs.Spelling.{Spellings, tree-over, log-read, snap-read}
+use Rattle.commit_path.proofs.Differing.{snap_tree, differs-over}
 use Rattle.commit_path.proofs.Telling.{DidPut, put-did, put-time, makes-keeps}
 
 -- ---- what a session knows
@@ -85,12 +87,9 @@ pub Logged-append : (s : SessionState) (id : Id12) (journal more : List Event) �
 Logged-append s id journal more g l = record { put = WasPut-append journal more (Txn id) l.put; made = λ once. log_made-append journal more id (touched s.held (base_nodes s)) (l.made (once-front journal more once)) }
 
 -- ---- what is made
--- the base and the snapshot have their trees
+-- the base has its tree
 pub made-base : (s : SessionState) (id : Id12) (journal : List Event) → IsMade s id journal → tree_of journal s.base ≡ Some (base_tree (puts_of journal) s)
 made-base s id journal m = tree-by_rows journal s.base s.rows m.base_rows
-
-pub made-tree : (s : SessionState) (id : Id12) (journal : List Event) → IsMade s id journal → tree_of journal id ≡ Some (overlay (puts_of journal) s)
-made-tree s id journal m = tree-by_rows journal id m.snap.nodes m.rows ∙ ap (λ (t : Tree). Some t) (m.tree (puts_of journal))
 
 pub made-now : (s : SessionState) (message : List ℕ) (flushed : ℕ) (id : Id12) (journal : List Event) → IsSpelled s → IsOpened s journal → Logged s id journal → Snapped s message flushed id journal → IsOnce journal → IsMade s id journal
 made-now s message flushed id journal w o l p once = record {
@@ -101,7 +100,7 @@ made-now s message flushed id journal w o l p once = record {
   rows = p.rows once;
   parent = refl;
   logged = l.made once;
-  tree = λ puts. tree-over puts s w;
+  tree = λ puts keeps. tree-over puts s w keeps;
   own = own-manifests s.rows s.held;
 }
 
@@ -181,9 +180,9 @@ module _ (L : Spellings) where
             differs = λ t u et wf eu.
                 let made = made-now s message flushed id journal w o l p once in
                 let st : Some (base_tree (puts_of journal) s) ≡ Some t = sym (made-base s id journal made) ∙ et in
-                let su : Some (overlay (puts_of journal) s) ≡ Some u = sym (made-tree s id journal made) ∙ eu in
+                let su : Some (snap_tree (puts_of journal) s) ≡ Some u = sym (tree-by_rows journal id (rows_over s.held s.rows) (p.rows once)) ∙ eu in
                 let t_is : base_tree (puts_of journal) s ≡ t = cc in
-                let u_is : overlay (puts_of journal) s ≡ u = cc in
+                let u_is : snap_tree (puts_of journal) s ≡ u = cc in
                 subst (λ (y : Tree). DiffersIn (touched s.held (base_nodes s)) y u) t_is
                 (subst (λ (y : Tree). DiffersIn (touched s.held (base_nodes s)) (base_tree (puts_of journal) s) y) u_is
                 (differs-over (puts_of journal) s w (subst IsWellFormed (sym t_is) wf)));
@@ -224,7 +223,7 @@ module _ (L : Spellings) where
       snap = snap_for s message id flushed;
       read = read s message flushed id w is_id f m short;
       parent = refl;
-      tree = λ puts. tree-over puts s w;
+      tree = λ puts keeps. tree-over puts s w keeps;
       own = own-manifests s.rows s.held;
       base_put = o.put;
       base_rows = o.rows;

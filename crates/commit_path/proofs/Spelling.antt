@@ -1,7 +1,7 @@
 -- What is so of a session that can be written: its log and its snapshot are read again, and its tree is the base's under its
 -- changes.
 use Rattle.std.proofs.Common.{◌≡◌, ℕ, ◌<◌, ◌≤◌, ◌^◌, Bool, true, false, ◌||◌, List, [], ◌∷◌, map, length, refl, sym, ◌∙◌, ap, subst, arith}
-use Rattle.std.specs.Prelude.{nat_lt, Option, Some, None, is_some, option_map}
+use Rattle.std.specs.Prelude.{nat_lt, Option, Some, None, option_map}
 use Rattle.std.specs.List.{AllByRecursion, list_any, filter}
 use Rattle.std.specs.Str.{IsUtf8}
 use Rattle.std.specs.FinMap.{get, len, entries}
@@ -10,20 +10,15 @@ use Rattle.ice_ids.specs.declared.Id8.{Id8}
 use Rattle.ice_ids.specs.declared.Id12.{Id12}
 use Rattle.ice_ids.specs.Text.{IsId8, IsId12, same_id8}
 use Rattle.flat_tables.specs.File.{file_limit}
-use Rattle.zarr_meta.specs.declared.views.View.{View}
-use Rattle.zarr_meta.specs.declared.views.View.TheVariants as view
-use Rattle.zarr_meta.specs.Meta.{view_in}
 use Rattle.zarr_tree.specs.declared.lists.Touched.{Touched as Lists}
-use Rattle.zarr_tree.specs.Nodes.{Node, is_group_view, is_array}
-use Rattle.zarr_tree.specs.Trees.{IsWellFormed}
+use Rattle.zarr_tree.specs.Nodes.{Node, is_array}
 use Rattle.zarr_tree.specs.Edits.{most_nodes}
 use Rattle.zarr_tree.specs.Changes.{IsOver}
-use Rattle.zarr_tree.specs.Touched.{lists, Touches, DiffersIn}
+use Rattle.zarr_tree.specs.Touched.{lists, Touches}
 use Rattle.zarr_tree.specs.Held.{Entry, indices_in_order, ids_of, indices_of, written_rows, touched, nodes_over}
 use Rattle.zarr_tree.proofs.Apply.{id-refl}
 use Rattle.zarr_tree.proofs.Ordered.{lists-in_order}
 use Rattle.zarr_tree.proofs.Listing.{ordered-law, touched-law}
-use Rattle.zarr_tree.proofs.Differing.{differs-law}
 use Rattle.manifest_file.specs.declared.manifest.Place.{Place}
 use Rattle.snapshot_file.specs.declared.nodes.NodeRow.{NodeRow}
 use Rattle.snapshot_file.specs.declared.snapshot.ManifestInfo.{ManifestInfo}
@@ -34,9 +29,8 @@ use Rattle.repo_objects.specs.Readings.{snapshot_by, log_by}
 use Rattle.repo_objects.specs.Trees.{Puts, bytes_at, tree_under, nodes_in, node_of, row_at}
 use Rattle.repo_objects.specs.Laws.{SnapshotLaw, LogLaw, RefLaw, InitialLaw, IsProper}
 use Rattle.changed_snapshot.specs.Rows.{rows_over, snapshot_over}
-use Rattle.changed_snapshot.specs.Laws.{ProperLaw}
+use Rattle.changed_snapshot.specs.Laws.{KeepsFrozen, ProperLaw}
 use Rattle.changed_snapshot.proofs.Found.{node_at_row, row_has}
-use Rattle.changed_snapshot.proofs.Keeping.{frozen-law}
 use Rattle.changed_snapshot.proofs.TreeHolds.{tree-law}
 use Rattle.session.specs.Sessions.{SessionState, base_nodes, base_tree, changes_in, overlay}
 use Rattle.commit_path.specs.Committing.{log_for, snap_for, is_long}
@@ -51,22 +45,11 @@ pub record Spellings : Type 0 where
   pub proper : ProperLaw
 
 -- ---- the tree
-group-metadata : (v : Option View) → is_group_view v ≡ true → is_some v ≡ true
-group-metadata (Some view.Group) e = refl
-group-metadata (Some (view.Array array)) e = refl
-group-metadata None e = cc
-
 pub lies-over : (puts : Puts) (s : SessionState) → IsSpelled s → IsOver (changes_in puts s) (base_tree puts s)
-lies-over puts s w = record {
-  readable = λ p n e. group-metadata (view_in n.text) (w.groups p n e).group;
-  free = λ p m n e f. let bad : None ≡ Some n = sym (w.free p m e) ∙ f in cc;
-}
+lies-over puts s w = record { readable = λ p n e. (w.added p n e).metadata; free = w.free }
 
-pub tree-over : (puts : Puts) (s : SessionState) → IsSpelled s → tree_under puts (rows_over s.held s.rows) ≡ overlay puts s
-tree-over puts s w = tree-law puts s.held s.rows w.chunks (frozen-law.added puts s.held s.rows w.dropped w.metas (lies-over puts s w))
-
-pub differs-over : (puts : Puts) (s : SessionState) → IsSpelled s → IsWellFormed (base_tree puts s) → DiffersIn (touched s.held (base_nodes s)) (base_tree puts s) (overlay puts s)
-differs-over puts s w wf = differs-law (changes_in puts s) (base_tree puts s) (touched s.held (base_nodes s)) wf (lies-over puts s w) (touched-law {P = Place} (bytes_at puts) s.held (base_tree puts s))
+pub tree-over : (puts : Puts) (s : SessionState) → IsSpelled s → KeepsFrozen s.held s.rows → tree_under puts (rows_over s.held s.rows) ≡ overlay puts s
+tree-over puts s w keeps = tree-law puts s.held s.rows w.chunks keeps
 
 -- ---- the log
 or-right : (a b : Bool) → b ≡ true → (a || b) ≡ true
@@ -115,8 +98,8 @@ log-is s id w i =
     let t : Touches (changes_in puts s) (base_tree puts s) (touched s.held (base_nodes s)) = touched-law {P = Place} (bytes_at puts) s.held (base_tree puts s) in
     record {
       id = i;
-      new_groups = all-listed IsId8 _ (λ x e. let n = (t.new_groups x).0 e in subst IsId8 n.same (w.groups n.path n.node n.added).id);
-      new_arrays = all-listed IsId8 _ (λ x e. let n = (t.new_arrays x).0 e in subst IsId8 n.same (w.groups n.path n.node n.added).id);
+      new_groups = all-listed IsId8 _ (λ x e. let n = (t.new_groups x).0 e in subst IsId8 n.same (w.added n.path n.node n.added).id);
+      new_arrays = all-listed IsId8 _ (λ x e. let n = (t.new_arrays x).0 e in subst IsId8 n.same (w.added n.path n.node n.added).id);
       deleted_groups = all-listed IsId8 _ (λ x e. let n = (t.deleted_groups x).0 e in subst IsId8 n.same (base-ids s w n.path n.node n.found));
       deleted_arrays = all-listed IsId8 _ (λ x e. let n = (t.deleted_arrays x).0 e in subst IsId8 n.same (base-ids s w n.path n.node n.found));
       updated_arrays = all-listed IsId8 _ (λ x e. let n = (t.updated_arrays x).0 e in subst IsId8 n.same (base-ids s w n.path n.node n.found));
@@ -146,7 +129,7 @@ module _ (L : Spellings) where
   snap-proper s message id flushed w i f m =
       let o = w.of_snapshot in
       let few : len (nodes_over s.held (nodes_in o.file.nodes)) ≤ most_nodes = subst (λ (rows : List NodeRow). len (nodes_over s.held (nodes_in rows)) ≤ most_nodes) (sym o.rows) w.few in
-      let proper : Over s message id flushed o.file.nodes o.file.manifest_files = L.proper o.file s.held (record { id = id; parent = s.base; flushed_at = flushed }) message o.proper w.metas w.groups (record { id = i; parent = w.base; flushed_at = f }) m few in
+      let proper : Over s message id flushed o.file.nodes o.file.manifest_files = L.proper o.file s.held (record { id = id; parent = s.base; flushed_at = flushed }) message o.proper w.added w.texts (record { id = i; parent = w.base; flushed_at = f }) m few in
       subst (Over s message id flushed s.rows) o.files (subst (λ (rows : List NodeRow). Over s message id flushed rows o.file.manifest_files) o.rows proper)
 
   pub snap-read : (s : SessionState) (message : List ℕ) (id : Id12) (flushed : ℕ) → IsSpelled s → IsId12 id → flushed < 2 ^ 64 → IsUtf8 message → is_long (snapshot_bytes (snap_for s message id flushed)) ≡ false

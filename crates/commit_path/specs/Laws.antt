@@ -1,9 +1,11 @@
 -- Laws of openings, of the sessions that they open, and of commits.
-use Rattle.std.specs.Prelude.{◌≡◌, ℕ, ◌++◌, true, List, Result, Ok, IfOk}
+use Rattle.std.specs.Prelude.{◌≡◌, ℕ, ◌++◌, true, List, Option, Some, Result, Ok, Err, IfOk}
 use Rattle.std.specs.Str.{is_utf8, IsUtf8}
 use Rattle.ice_ids.specs.declared.Id8.{Id8}
 use Rattle.ice_ids.specs.declared.Id12.{Id12}
 use Rattle.zarr_path.specs.Paths.{is_path}
+use Rattle.zarr_meta.specs.declared.faults.MetaFault.{MetaFault}
+use Rattle.zarr_meta.specs.declared.views.View.{View}
 use Rattle.store_api.specs.declared.events.Event.{Event}
 use Rattle.store_api.specs.declared.machines.Refusal.{Refusal}
 use Rattle.store_api.specs.Journal.{Each, IsGood}
@@ -12,7 +14,7 @@ use Rattle.store_api.specs.Program.{Keeps, Leads}
 use Rattle.store_api.specs.Plays.{Stays}
 use Rattle.session.specs.Sessions.{SessionState}
 use Rattle.session.specs.Opening.{Asked, open_program}
-use Rattle.session.specs.Editing.{group_added}
+use Rattle.session.specs.Editing.{added, meta_set, node_dropped}
 use Rattle.commit_path.specs.declared.commit.Committed.{Committed}
 use Rattle.commit_path.specs.Committing.{commit_program, started}
 use Rattle.commit_path.specs.Owed.{IsCareful}
@@ -27,9 +29,17 @@ OpeningLaw = (by : Caller) (a : Asked) (start journal : List Event) → ChangedN
     → Keeps (IsCareful (λ t id. ⊥)) by (open_program a) journal × Stays (ChangedNothing by.number start) by (open_program a) journal
     × Leads (λ answer h. OpeningTells by.number a start answer h × IfOk answer IsSpelled) by (open_program a) journal
 
--- what a session knows stays so when a group is added, and whatever good events come
+-- each text that isn't read as metadata has a fault
+abbrev pub TellsFaults : (Result View MetaFault → Option MetaFault) → Type 0
+TellsFaults fault = (bad : MetaFault) → fault (Err bad) ≡ Some bad
+
+-- What a session knows, and that it can be written, stays so when a node is added, whatever its kind, when a node has another
+-- text, and when nodes are dropped; and what it knows, whatever good events come.
 pub record SessionLaw : Type 0 where
-  pub edited : (s t : SessionState) (path text : List ℕ) (id : Id8) (journal : List Event) → is_path path ≡ true → is_utf8 path ≡ true → group_added s path text ≡ Ok (id, t) → IsSpelled s → IsOpened s journal → IsSpelled t × IsOpened t journal
+  pub adds : (fault : Result View MetaFault → Option MetaFault) (s t : SessionState) (path text : List ℕ) (id : Id8) (journal : List Event) → TellsFaults fault → is_path path ≡ true → is_utf8 path ≡ true → added fault s path text ≡ Ok (id, t)
+      → IsSpelled s → IsOpened s journal → IsSpelled t × IsOpened t journal
+  pub sets : (s t : SessionState) (path text : List ℕ) (journal : List Event) → meta_set s path text ≡ Ok t → IsSpelled s → IsOpened s journal → IsSpelled t × IsOpened t journal
+  pub drops : (s t : SessionState) (path : List ℕ) (journal : List Event) → node_dropped s path ≡ Ok t → IsSpelled s → IsOpened s journal → IsSpelled t × IsOpened t journal
   pub kept : (s : SessionState) (journal more : List Event) → Each IsGood journal more → IsOpened s journal → IsOpened s (journal ++ more)
 
 -- Whatever others do, each operation of a commit of such a session is polite, and owed for this session

@@ -4,4 +4,5 @@ pub mod Answered
 pub mod Opened
 pub mod Spelled
 pub mod Laws
+pub mod Single
 pub mod inside

@@ -5,6 +5,7 @@ use Rattle.zarr_tree.specs.Held.{touched}
 use Rattle.snapshot_file.specs.declared.snapshot.SnapshotFile.{SnapshotFile}
 use Rattle.repo_objects.specs.Readings.{snapshot_by, ref_of}
 use Rattle.repo_objects.specs.Trees.{Puts, tree_under, NamesManifest}
+use Rattle.changed_snapshot.specs.Laws.{KeepsFrozen}
 use Rattle.store_api.specs.declared.keys.Key.{Key}
 use Rattle.store_api.specs.declared.keys.Key.TheVariants.{Snapshot, Txn, Branch}
 use Rattle.store_api.specs.declared.keys.Why.{Why}
@@ -20,8 +21,10 @@ abbrev pub Sessions : Type 1
 Sessions = SessionState → Id12 → Type 0
 
 -- The snapshot is a session's: the parent that it first named is the base, whose rows are the session's; its log lists exactly
--- what the session's changes touch; its tree is the base's under them, whatever was put; and it names no manifest that the base
--- doesn't name.
+-- what the session's changes touch; its tree is the base's under them, whatever was put, where each node that stays keeps the parts
+-- of its metadata that stay; and it names no manifest that the base doesn't name.
+-- (Normal changes keep them. Without it a node may have the id of the base's node at its path and another rank, where that id was
+-- drawn twice or the base has it twice; then the rows may have other chunks there than the changes tell, which know ids alone.)
 pub record IsMade (s : SessionState) (id : Id12) (journal : List Event) : Type 0 where
   pub base_put : WasPut journal (Snapshot s.base)
   pub base_rows : rows_of journal s.base ≡ Some s.rows
@@ -30,7 +33,7 @@ pub record IsMade (s : SessionState) (id : Id12) (journal : List Event) : Type 0
   pub rows : rows_of journal id ≡ Some snap.nodes
   pub parent : snap.parent ≡ Some s.base
   pub logged : log_made journal id ≡ Some (touched s.held (base_nodes s))
-  pub tree : (puts : Puts) → tree_under puts snap.nodes ≡ overlay puts s
+  pub tree : (puts : Puts) → KeepsFrozen s.held s.rows → tree_under puts snap.nodes ≡ overlay puts s
   pub own : (manifest : Id12) → NamesManifest snap.nodes manifest → NamesManifest s.rows manifest
 
 -- a branch is put over for a commit of one of the client's sessions, on its branch, at the version that
@@ -46,14 +49,15 @@ pub record OwesOver (mine : Sessions) (journal : List Event) (branch bytes : Lis
   pub made : IsOnce journal → IsMade session id journal
 
 -- a snapshot is put that is one of the client's sessions': its base is the parent, and has the session's rows; its tree is the
--- base's under the changes, whatever was put; and it names no manifest that the base doesn't name
+-- base's under the changes, whatever was put, where nodes keep the parts that stay; and it names no manifest that the base doesn't
+-- name
 pub record OwesSnap (mine : Sessions) (journal : List Event) (id : Id12) (bytes : List ℕ) : Type 0 where
   pub session : SessionState
   pub is_mine : mine session id
   pub snap : SnapshotFile
   pub read : snapshot_by id bytes ≡ Some snap
   pub parent : snap.parent ≡ Some session.base
-  pub tree : (puts : Puts) → tree_under puts snap.nodes ≡ overlay puts session
+  pub tree : (puts : Puts) → KeepsFrozen session.held session.rows → tree_under puts snap.nodes ≡ overlay puts session
   pub own : (manifest : Id12) → NamesManifest snap.nodes manifest → NamesManifest session.rows manifest
   pub base_put : WasPut journal (Snapshot session.base)
   pub base_rows : IsOnce journal → rows_of journal session.base ≡ Some session.rows

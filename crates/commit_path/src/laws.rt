@@ -18,8 +18,8 @@ pub fn opening_law()
     proper_law();
 }
 
-/// What an opened session knows of its base stays so when groups are added, and whatever good events
-/// come.
+/// What an opened session knows of its base, and that it can be written, stays so when nodes are added, changed
+/// or dropped; and what it knows, whatever good events come.
 pub fn session_law()
     ensures { SessionLaw }
 {}

@@ -4,6 +4,8 @@
 mod commit;
 mod committing;
 mod laws;
+mod single;
 
 pub use commit::{Commit, Committed};
 pub use laws::{answers_law, commit_law, opening_law, session_law};
+pub use single::single_law;

@@ -4,15 +4,32 @@ use crate::words::NoAnswer;
 use play_script::{Call, EditCall, Head, Line, ReadCall, Script, ScriptFault, Task};
 use std::alloc::{AllocError, Global};
 
+/// Appends a change of the tree.
+fn push_edit(told: &mut String, edit: &EditCall) -> Result<(), AllocError> {
+    match edit {
+        EditCall::Group { path } => write!(told, "group {path}"),
+        EditCall::Array { path, text } => write!(told, "array {path} {}", text.as_str()),
+        EditCall::Make { path, text } => write!(told, "make {path} '{}'", text.as_str()),
+        EditCall::Meta { path, text } => write!(told, "meta {path} '{}'", text.as_str()),
+        EditCall::Drop { path } => write!(told, "drop {path}"),
+    }
+}
+
+/// Appends what a line calls.
+fn push_call(told: &mut String, call: &Call) -> Result<(), AllocError> {
+    match call {
+        Call::Edit(edit) => push_edit(told, edit),
+        Call::Read(ReadCall::List { path }) => write!(told, "list {path}"),
+        Call::Read(ReadCall::Get { path }) => write!(told, "get {path}"),
+        Call::Commit { message } => write!(told, "commit '{}'", message.as_str()),
+    }
+}
+
 /// Appends the lines of a task.
 fn push_lines(told: &mut String, lines: &[Line]) -> Result<(), AllocError> {
     for line in lines {
         write!(told, "\n    {} ", line.number)?;
-        match &line.call {
-            Call::Edit(EditCall::Group { path }) => write!(told, "group {path}")?,
-            Call::Read(ReadCall::List { path }) => write!(told, "list {path}")?,
-            Call::Commit { message } => write!(told, "commit '{}'", message.as_str())?,
-        }
+        push_call(told, &line.call)?;
     }
     Ok(())
 }

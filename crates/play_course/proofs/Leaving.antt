@@ -1,6 +1,6 @@
 -- The histories of a course.
 use Rattle.std.proofs.Common.{◌≡◌, ℕ, ◌<◌, ◌-◌, ◌^◌, inl, inr, List, [], length, refl, sym, ◌∙◌, ap, subst, append-nil, arith}
-use Rattle.std.specs.Prelude.{Option, Some, None, Result, Ok, Err, IsTrue, IfOk, IfErr}
+use Rattle.std.specs.Prelude.{Option, Some, None, Result, Ok, Err, IsTrue, IfOk, IfErr, All}
 use Rattle.std.specs.declared.alloc.AllocError.{AllocError}
 use Rattle.ice_ids.specs.declared.Id12.{Id12}
 use Rattle.ice_ids.specs.declared.drawing.Draw.{Draw}
@@ -22,10 +22,11 @@ use Rattle.repository.specs.Beginning.{begin_program}
 use Rattle.repository.specs.Refs.{refs_program}
 use Rattle.repository.specs.Closing.{NamesAt, TellsRefs, RefsLaw}
 use Rattle.play_script.specs.declared.scripts.Script.{Script}
-use Rattle.play_script.specs.Well.{IsWell}
+use Rattle.play_script.specs.Well.{IsWell, IsWellTask}
 use Rattle.play_outcome.specs.declared.outcome.Outcome.{Outcome}
 use Rattle.play_outcome.specs.declared.outcome.RefLine.{RefLine}
 use Rattle.play_tasks.specs.Tasks.{IsOfClient}
+use Rattle.run_histories.specs.Sources.{IsNewRun}
 use Rattle.run_histories.specs.Runs.{RanAlone, PlayedAlone, IsSound}
 use Rattle.run_histories.specs.Told.{HasHistories, RunLaw}
 use Rattle.play_course.specs.declared.course.Played.{Played}
@@ -42,7 +43,7 @@ ran-alone p result old new told all r = elim r.ends [
 
 plays-alone : (draw : Draw) (script : Script) (old new : View) (opening : Result (Unit {0}) Refusal) (outcomes : List Outcome) → IsTrue old.caller.tells → Plays draw script old new opening outcomes → PlayedAlone draw script.tasks old.seen new.seen
 plays-alone draw script old new (Ok done) outcomes t p = let r = p.ran.ran in record { own = r.own; is = r.is t; owed = r.careful t }
-plays-alone draw script old new (Err why) outcomes t p = record { own = []; is = ap (λ (v : View). v.seen) p.0 ∙ sym (append-nil old.seen); owed = Each-none (IsOfClient draw script.tasks) old.seen }
+plays-alone draw script old new (Err why) outcomes t p = record { own = []; is = ap (λ (v : View). v.seen) p.0 ∙ sym (append-nil old.seen); owed = Each-none (IsOfClient draw script.tasks old.seen) old.seen }
 
 -- ---- the refs that are told
 -- what stands at a branch is its history's last entry
@@ -92,16 +93,17 @@ ran-told result old new law told all r lines e = elim r.ends [
 ]
 
 -- ---- the run
-pub course-leaves : RunLaw → RefsLaw → (draw : Draw) (script : Script) (old new : View) (opening : Result (Unit {0}) Refusal) (outcomes : List Outcome) (refs : Result (List RefLine) Refusal) → length script.tasks < 2 ^ 32 - 1
-    → Course draw script old new opening outcomes refs → IsTrue old.caller.tells → (before : ℕ → Changes) → IsSound old.seen before → LeavesBranches draw script.tasks before old.seen new.seen refs
-course-leaves run closing draw script old new opening outcomes refs few c t before sound =
+pub course-leaves : RunLaw → RefsLaw → (draw : Draw) (script : Script) (old new : View) (opening : Result (Unit {0}) Refusal) (outcomes : List Outcome) (refs : Result (List RefLine) Refusal) → length script.tasks < 2 ^ 32 - 1 → All IsWellTask script.tasks
+    → Course draw script old new opening outcomes refs → IsTrue old.caller.tells → (before : ℕ → Changes) → IsSound old.seen before → IsNewRun draw script.tasks old.seen → LeavesBranches draw script.tasks before old.seen new.seen refs
+course-leaves run closing draw script old new opening outcomes refs few wells c t before sound new_run =
     let all : HasAll (as_client 0 old).caller = record { low = c.alone.low; end = c.alone.end } in
     let begun_tells : IsTrue c.begun.caller.tells = subst (λ (b : Caller). IsTrue b.tells) (sym c.begins.same) t in
     let played_tells : IsTrue c.played.caller.tells = tells-on draw script c.begun c.played opening outcomes c.plays begun_tells in
     let last_all : HasAll (as_client 0 c.played).caller = record { low = c.still_alone.low; end = c.still_alone.end } in
     let first = ran-alone begin_program opening (as_client 0 old) c.begun t all c.begins in
-    let h = run draw script.tasks before old.seen new.seen sound (record {
+    let h = run draw script.tasks before old.seen new.seen sound new_run (record {
       few = few;
+      well = wells;
       begun = c.begun.seen;
       played = c.played.seen;
       opening = first;
@@ -117,25 +119,26 @@ course-leaves run closing draw script old new opening outcomes refs few c t befo
 pub few-tasks : (script : Script) → IsWell script → length script.tasks < 2 ^ 32 - 1
 few-tasks script well = let few = well.few in omega (arith, few)
 
-pub played-leaves : RunLaw → RefsLaw → (draw : Draw) (script : Script) (old new : View) (result : Result Played AllocError) → IsWell script → IfOk result (λ played. Course draw script old new played.opening played.outcomes.items played.refs) → IsTrue old.caller.tells → (before : ℕ → Changes) → IsSound old.seen before
+pub played-leaves : RunLaw → RefsLaw → (draw : Draw) (script : Script) (old new : View) (result : Result Played AllocError) → IsWell script → IfOk result (λ played. Course draw script old new played.opening played.outcomes.items played.refs) → IsTrue old.caller.tells → (before : ℕ → Changes) → IsSound old.seen before → IsNewRun draw script.tasks old.seen
     → IfOk result (λ played. LeavesBranches draw script.tasks before old.seen new.seen played.refs)
-played-leaves run closing draw script old new (Ok played) well c t before sound = course-leaves run closing draw script old new played.opening played.outcomes.items played.refs (few-tasks script well) c t before sound
-played-leaves run closing draw script old new (Err error) well c t before sound = tt
+played-leaves run closing draw script old new (Ok played) well c t before sound new_run = course-leaves run closing draw script old new played.opening played.outcomes.items played.refs (few-tasks script well) well.tasks c t before sound new_run
+played-leaves run closing draw script old new (Err error) well c t before sound new_run = tt
 
 -- where the repository was begun at most
-began-kept : RunLaw → (draw : Draw) (script : Script) (old new : View) → length script.tasks < 2 ^ 32 - 1 → OnlyBegan old new → IsTrue old.caller.tells → (before : ℕ → Changes) → IsSound old.seen before → HasHistories draw script.tasks before old.seen new.seen
-began-kept run draw script old new few b t before sound =
+began-kept : RunLaw → (draw : Draw) (script : Script) (old new : View) → length script.tasks < 2 ^ 32 - 1 → All IsWellTask script.tasks → OnlyBegan old new → IsTrue old.caller.tells → (before : ℕ → Changes) → IsSound old.seen before → IsNewRun draw script.tasks old.seen → HasHistories draw script.tasks before old.seen new.seen
+began-kept run draw script old new few wells b t before sound new_run =
     let all : HasAll (as_client 0 old).caller = record { low = b.alone.low; end = b.alone.end } in
-    run draw script.tasks before old.seen new.seen sound (record {
+    run draw script.tasks before old.seen new.seen sound new_run (record {
       few = few;
+      well = wells;
       begun = new.seen;
       played = new.seen;
       opening = ran-alone begin_program b.opening (as_client 0 old) new t all b.begins;
-      playing = record { own = []; is = sym (append-nil new.seen); owed = Each-none (IsOfClient draw script.tasks) new.seen };
+      playing = record { own = []; is = sym (append-nil new.seen); owed = Each-none (IsOfClient draw script.tasks new.seen) new.seen };
       closing = record { own = []; is = sym (append-nil new.seen); good = Each-none IsGood new.seen; left = refs_program; path = Path-none refs_program };
     })
 
-pub unplayed-kept : RunLaw → (draw : Draw) (script : Script) (old new : View) (result : Result Played AllocError) → IsWell script → IfErr result (λ error. OnlyBegan old new) → IsTrue old.caller.tells → (before : ℕ → Changes) → IsSound old.seen before
+pub unplayed-kept : RunLaw → (draw : Draw) (script : Script) (old new : View) (result : Result Played AllocError) → IsWell script → IfErr result (λ error. OnlyBegan old new) → IsTrue old.caller.tells → (before : ℕ → Changes) → IsSound old.seen before → IsNewRun draw script.tasks old.seen
     → IfErr result (λ error. HasHistories draw script.tasks before old.seen new.seen)
-unplayed-kept run draw script old new (Ok played) well b t before sound = tt
-unplayed-kept run draw script old new (Err error) well b t before sound = began-kept run draw script old new (few-tasks script well) b t before sound
+unplayed-kept run draw script old new (Ok played) well b t before sound new_run = tt
+unplayed-kept run draw script old new (Err error) well b t before sound new_run = began-kept run draw script old new (few-tasks script well) well.tasks b t before sound new_run

@@ -1,19 +1,22 @@
 -- What tasks answer in a run over an empty store.
 use Rattle.std.proofs.Common.{◌≡◌, ℕ, Bool, true, false, List, [], ◌∷◌, ◌++◌, refl, sym, ap, subst}
-use Rattle.std.specs.Prelude.{Option, Some, None, Result, Ok, Err, if◌then◌else◌}
+use Rattle.std.specs.Prelude.{Option, Some, None, option_map, ok_or, Result, Ok, Err, if◌then◌else◌}
+use Rattle.std.specs.FinMap.{get}
 use Rattle.ice_ids.specs.declared.Id8.{Id8}
 use Rattle.ice_ids.specs.declared.Id12.{Id12}
 use Rattle.ice_ids.specs.declared.drawing.AnyIds.{AnyIds}
 use Rattle.ice_ids.specs.Drawing.{drawn8, drawn12}
 use Rattle.flat_tables.specs.declared.header.Kind.TheVariants as kinds
 use Rattle.zarr_meta.specs.declared.faults.MetaFault.{MetaFault}
+use Rattle.zarr_meta.specs.declared.views.View.{View}
 use Rattle.zarr_meta.specs.Meta.{meta_of}
 use Rattle.zarr_meta.specs.Plain.{group_text}
+use Rattle.zarr_tree.specs.Nodes.{Node}
 use Rattle.zarr_tree.specs.declared.edit.EditFault.{EditFault}
 use Rattle.zarr_tree.specs.declared.edit.EditFault.TheVariants as F
 use Rattle.zarr_tree.specs.Held.{touched}
 use Rattle.zarr_tree.specs.Touched.{is_untouched}
-use Rattle.zarr_changes.specs.Sets.{add_refusal}
+use Rattle.zarr_changes.specs.Sets.{add_refusal, text_refusal, drop_refusal}
 use Rattle.snapshot_file.specs.declared.snapshot.SnapshotFile.{SnapshotFile}
 use Rattle.snapshot_file.specs.Layout.{snapshot_bytes}
 use Rattle.txn_file.specs.Layout.{log_file}
@@ -41,21 +44,24 @@ use Rattle.repo_read.specs.declared.answers.Resolved.{Resolved}
 use Rattle.repo_read.specs.Answers.{at_key, resolved_at, ref_told, snapshot_told}
 use Rattle.session.specs.Sessions.{SessionState, base_nodes, nodes_seen}
 use Rattle.session.specs.Opening.{Asked, open_program, base_program, begun}
-use Rattle.session.specs.Editing.{group_fault, group_added, unless_bad, unless_refused, refusal_of_edit, drawn_node, if_there, listed}
+use Rattle.session.specs.Editing.{group_fault, array_fault, node_fault, added, entered, meta_set, node_dropped, if_writes, unless_bad, unless_refused, refusal_of_edit, drawn_node, if_there, listed}
+use Rattle.session.specs.Editing as session
 use Rattle.commit_path.specs.declared.commit.Committed.{Committed as Made}
 use Rattle.commit_path.specs.Committing.{commit_program, put_branch, after_log, after_snapshot, after_branch, after_draw, is_long, log_for, snap_for, started, drawn_start}
 use Rattle.play_script.specs.declared.scripts.Call.{Call}
 use Rattle.play_script.specs.declared.scripts.Call.TheVariants.{Edit, Read, Commit}
-use Rattle.play_script.specs.declared.scripts.EditCall.TheVariants.{Group}
-use Rattle.play_script.specs.declared.scripts.ReadCall.TheVariants.{List as List_call}
+use Rattle.play_script.specs.declared.scripts.EditCall.{EditCall}
+use Rattle.play_script.specs.declared.scripts.EditCall.TheVariants.{Group, Array, Make, Meta, Drop}
+use Rattle.play_script.specs.declared.scripts.ReadCall.{ReadCall}
+use Rattle.play_script.specs.declared.scripts.ReadCall.TheVariants.{List as List_call, Get as Get_call}
 use Rattle.play_script.specs.declared.scripts.Line.{Line}
 use Rattle.play_script.specs.declared.scripts.Task.{Task}
 use Rattle.play_outcome.specs.declared.outcome.Shown.{Shown}
 use Rattle.play_outcome.specs.declared.outcome.End.TheVariants as E
 use Rattle.play_outcome.specs.declared.outcome.Outcome.{Outcome}
-use Rattle.play_tasks.specs.Lines.{deed, silent, still, session_of, nodes_shown}
+use Rattle.play_tasks.specs.Lines.{deed, edited, read_by, silent, still, session_of, nodes_shown, meta_shown}
 use Rattle.play_tasks.specs.Playing.{Rest, after_line, after_start, after_commit, after_open, play_deed, play_lines, refused, asked_by, task_play}
-use Rattle.run_histories.proofs.Drawing.{IsDrawnBy, AreOf, group-draws, start-draws, head-ids}
+use Rattle.run_histories.proofs.Drawing.{IsDrawnBy, AreOf, edited-draws, start-draws, head-ids}
 use Rattle.play_course.specs.Refusing.{is_strange, strange_answer, strange_end}
 use Rattle.play_course.proofs.Tidy.{tidy-more, IsAny, IsOthers, Puts, stands-readable, put-stands, all-named, spared-snapshot, spared-log, free-others, free-apart}
 use Rattle.play_course.proofs.Meeting.{was-read, Plain, Meets, PlayMeets, done-meets, ask-meets, ended-meets, or-meets, call-meets, got-meets, put-meets}
@@ -83,35 +89,66 @@ edit-plain F.OutOfGrid = refl
 edit-plain (F.ChunkLength want got) = refl
 edit-plain F.NoMemory = refl
 
-unless-plain : (o : Option EditFault) (r : Result (Id8 × SessionState) Refusal) → IsPlain r → IsPlain (unless_refused o r)
+unless-plain : {A : Type 0} (o : Option EditFault) (r : Result A Refusal) → IsPlain r → IsPlain (unless_refused o r)
 unless-plain None r p why e = p why e
 unless-plain (Some fault) r p why e = refused_as why (refusal_of_edit fault) (edit-plain fault) e
 
-text-plain : (o : Option MetaFault) (r : Result (Id8 × SessionState) Refusal) → IsPlain r → IsPlain (unless_bad o r)
+text-plain : {A : Type 0} (o : Option MetaFault) (r : Result A Refusal) → IsPlain r → IsPlain (unless_bad o r)
 text-plain None r p why e = p why e
 text-plain (Some fault) r p why e = refused_as why (R.BadMeta fault) refl e
 
-writes_or : Bool → Result (Id8 × SessionState) Refusal → Result (Id8 × SessionState) Refusal
-writes_or w r = elim w [
-  | true ↦ r
-  | false ↦ Err R.ReadOnly
-]
-
-writes-plain : (w : Bool) (r : Result (Id8 × SessionState) Refusal) → IsPlain r → IsPlain (writes_or w r)
-unfolding writes_or
+writes-plain : {A : Type 0} (w : Bool) (r : Result A Refusal) → IsPlain r → IsPlain (if_writes w r)
 writes-plain true r p why e = p why e
 writes-plain false r p why e = refused_as why R.ReadOnly refl e
 
-group-plain : (s : SessionState) (path text : List ℕ) → IsPlain (group_added s path text)
-unfolding group_added writes_or
-group-plain s path text =
-    let added : Result (Id8 × SessionState) Refusal = unless_refused (add_refusal (nodes_seen s) path) (drawn_node s path text (drawn8 s.ids)) in
-    let plain : IsPlain added = unless-plain (add_refusal (nodes_seen s) path) (drawn_node s path text (drawn8 s.ids)) (drawn-plain s path text (drawn8 s.ids)) in
-    writes-plain s.writes (unless_bad (group_fault (meta_of text)) added) (text-plain (group_fault (meta_of text)) added plain)
+without-id : (r : Result (Id8 × SessionState) Refusal) → IsPlain r → IsPlain (session_of r)
+without-id (Ok new) p why e = cc
+without-id (Err own) p why e = let same : own ≡ why = cc in subst (λ (w : Refusal). is_strange w ≡ false) same (p own refl)
+
+added-plain : (fault : Result View MetaFault → Option MetaFault) (s : SessionState) (path text : List ℕ) → IsPlain (session_of (added fault s path text))
+unfolding added
+added-plain fault s path text =
+    without-id (if_writes s.writes (unless_bad (fault (meta_of text)) (entered s path text)))
+    (writes-plain s.writes (unless_bad (fault (meta_of text)) (entered s path text)) (text-plain (fault (meta_of text)) (entered s path text)
+    (unless-plain (add_refusal (nodes_seen s) path) (drawn_node s path text (drawn8 s.ids)) (drawn-plain s path text (drawn8 s.ids)))))
+
+done-plain : (s : SessionState) → IsPlain {A = SessionState} (Ok s)
+done-plain s why e = cc
+
+set-plain : (s : SessionState) (path text : List ℕ) → IsPlain (meta_set s path text)
+unfolding meta_set
+set-plain s path text =
+    let r : Result SessionState Refusal = unless_refused (text_refusal (nodes_seen s) path text) (Ok (session.with_text s path text)) in
+    writes-plain s.writes (unless_bad (node_fault (meta_of text)) r) (text-plain (node_fault (meta_of text)) r (unless-plain (text_refusal (nodes_seen s) path text) (Ok (session.with_text s path text)) (done-plain (session.with_text s path text))))
+
+drop-plain : (s : SessionState) (path : List ℕ) → IsPlain (node_dropped s path)
+unfolding node_dropped
+drop-plain s path =
+    let r : Result SessionState Refusal = unless_refused (drop_refusal (nodes_seen s) path) (Ok (session.without s path)) in
+    writes-plain s.writes r (unless-plain (drop_refusal (nodes_seen s) path) (Ok (session.without s path)) (done-plain (session.without s path)))
+
+edited-plain : (edit : EditCall) (s : SessionState) → IsPlain (edited edit s)
+edited-plain (Group path) s = added-plain group_fault s path group_text
+edited-plain (Array path text) s = added-plain array_fault s path text
+edited-plain (Make path text) s = added-plain node_fault s path text
+edited-plain (Meta path text) s = set-plain s path text
+edited-plain (Drop path) s = drop-plain s path
 
 there-plain : {A B : Type 0} (o : Option A) (b : B) → IsPlain (if_there o b)
 there-plain None b why e = refused_as why R.NoNode refl e
 there-plain (Some a) b why e = cc
+
+nodes-plain : (line : ℕ) (r : Result (List Listing) Refusal) → IsPlain r → IsPlain (nodes_shown line r)
+nodes-plain line (Ok nodes) p why e = cc
+nodes-plain line (Err own) p why e = let same : own ≡ why = cc in subst (λ (w : Refusal). is_strange w ≡ false) same (p own refl)
+
+meta-plain : (line : ℕ) (o : Option (List ℕ)) → IsPlain (meta_shown line (ok_or o R.NoNode))
+meta-plain line (Some text) why e = cc
+meta-plain line None why e = refused_as why R.NoNode refl e
+
+read-plain : (line : ℕ) (look : ReadCall) (s : SessionState) → IsPlain (read_by line look s)
+read-plain line (List_call path) s = nodes-plain line (listed s path) (there-plain _ _)
+read-plain line (Get_call path) s = meta-plain line (option_map (λ (n : Node). n.text) (get (nodes_seen s) path))
 
 log-plain : (s : SessionState) (id : Id12) (long : Bool) → IsPlain {A = Id12 × SessionState} (if long then Err (R.TooLarge kinds.Log) else Ok (id, after_draw s))
 log-plain s id true why e = refused_as why (R.TooLarge kinds.Log) refl e
@@ -236,13 +273,13 @@ module _ (client : ℕ) where
   refused-meets : (line : ℕ) (shown : List Shown) (why : Refusal) (journal : List Event) → is_strange why ≡ false → PlayMeets Ends Who (refused line shown why) journal
   refused-meets line shown why journal p = ended-meets Ends Who (record { shown = shown; end = E.Refused line why }) journal p
 
-  group-meets : (line : ℕ) (shown : List Shown) (s : SessionState) (path text : List ℕ) (rest : Rest) (journal : List Event) → AreOf client s.ids → GoesOn rest journal → (r : Result (Id8 × SessionState) Refusal) → group_added s path text ≡ r → PlayMeets Ends Who (after_line line shown (silent (session_of r)) rest) journal
-  group-meets line shown s path text rest journal known go (Ok p) e = go p.1 (shown ++ []) (group-draws client s p.1 path text p.0 known e)
-  group-meets line shown s path text rest journal known go (Err why) e = refused-meets line shown why journal (group-plain s path text why e)
+  edit-meets : (line : ℕ) (shown : List Shown) (edit : EditCall) (s : SessionState) (rest : Rest) (journal : List Event) → AreOf client s.ids → GoesOn rest journal → (r : Result SessionState Refusal) → edited edit s ≡ r → PlayMeets Ends Who (after_line line shown (silent r) rest) journal
+  edit-meets line shown edit s rest journal known go (Ok t) e = go t (shown ++ []) (edited-draws client edit s t known e)
+  edit-meets line shown edit s rest journal known go (Err why) e = refused-meets line shown why journal (edited-plain edit s why e)
 
-  list-meets : (line : ℕ) (shown : List Shown) (s : SessionState) (rest : Rest) (journal : List Event) → AreOf client s.ids → GoesOn rest journal → (r : Result (List Listing) Refusal) → IsPlain r → PlayMeets Ends Who (after_line line shown (still s (nodes_shown line r)) rest) journal
-  list-meets line shown s rest journal known go (Ok nodes) p = go s _ known
-  list-meets line shown s rest journal known go (Err why) p = refused-meets line shown why journal (p why refl)
+  look-meets : (line : ℕ) (shown : List Shown) (s : SessionState) (rest : Rest) (journal : List Event) → AreOf client s.ids → GoesOn rest journal → (r : Result (List Shown) Refusal) → IsPlain r → PlayMeets Ends Who (after_line line shown (still s r) rest) journal
+  look-meets line shown s rest journal known go (Ok more) p = go s _ known
+  look-meets line shown s rest journal known go (Err why) p = refused-meets line shown why journal (p why refl)
 
   answered-meets : (line : ℕ) (shown : List Shown) (r : Result Made Refusal) (journal : List Event) → strange_answer r ≡ false → PlayMeets Ends Who (after_commit line shown r) journal
   answered-meets line shown (Ok made) journal p = ended-meets Ends Who (record { shown = shown; end = E.Committed made.id }) journal refl
@@ -255,8 +292,8 @@ module _ (client : ℕ) where
   start-meets line message shown s journal known b (Err why) e = refused-meets line shown why journal (started-plain s why e)
 
   deed-meets : (line : ℕ) (call : Call) (shown : List Shown) (s : SessionState) (rest : Rest) (journal : List Event) → AreOf client s.ids → Before journal → GoesOn rest journal → PlayMeets Ends Who (play_deed line shown s (deed line call s) rest) journal
-  deed-meets line (Edit (Group path)) shown s rest journal known b go = group-meets line shown s path group_text rest journal known go (group_added s path group_text) refl
-  deed-meets line (Read (List_call path)) shown s rest journal known b go = list-meets line shown s rest journal known go (listed s path) (there-plain _ _)
+  deed-meets line (Edit edit) shown s rest journal known b go = edit-meets line shown edit s rest journal known go (edited edit s) refl
+  deed-meets line (Read look) shown s rest journal known b go = look-meets line shown s rest journal known go (read_by line look s) (read-plain line look s)
   deed-meets line (Commit message) shown s rest journal known b go = start-meets line message shown s journal known b (started s) refl
 
   lines-meets : (lines : List Line) (s : SessionState) (shown : List Shown) (journal : List Event) → AreOf client s.ids → Before journal → PlayMeets Ends Who (play_lines lines s shown) journal

@@ -1,6 +1,6 @@
 -- A run over an empty store gives no strange refusal.
 use Rattle.std.proofs.Common.{◌≡◌, ◌≢◌, ℕ, ◌+◌, ◌-◌, ◌^◌, ◌<◌, ◌⊎◌, inl, inr, false, List, [], ◌∷◌, ◌++◌, length, refl, sym, ◌∙◌, ap, subst, append_assoc, append-nil, set, arith, zero-add}
-use Rattle.std.specs.Prelude.{Some, None, Result, Ok, Err, IfOk, IsTrue, slice_get}
+use Rattle.std.specs.Prelude.{Some, None, Result, Ok, Err, All, IfOk, IsTrue, slice_get}
 use Rattle.std.specs.declared.alloc.AllocError.{AllocError}
 use Rattle.ice_ids.specs.declared.Id12.{Id12}
 use Rattle.ice_ids.specs.declared.drawing.Draw.{Draw}
@@ -25,7 +25,7 @@ use Rattle.repository.specs.Beginning.{begin_program}
 use Rattle.repository.specs.Refs.{refs_program}
 use Rattle.play_script.specs.declared.scripts.Script.{Script}
 use Rattle.play_script.specs.declared.scripts.Task.{Task}
-use Rattle.play_script.specs.Well.{IsWell}
+use Rattle.play_script.specs.Well.{IsWell, IsWellTask}
 use Rattle.play_outcome.specs.declared.outcome.Outcome.{Outcome}
 use Rattle.play_outcome.specs.declared.outcome.RefLine.{RefLine}
 use Rattle.play_tasks.specs.Playing.{task_play}
@@ -35,7 +35,9 @@ use Rattle.play_run.specs.Order.{WentOn, FellShort, Turned, InTurns}
 use Rattle.play_run.proofs.Places.{at_set}
 use Rattle.play_run.proofs.Rounds.{play_at, ends_of, ends_at}
 use Rattle.run_histories.proofs.Programs.{AllPlain, path-plain, begin-plain, refs-plain}
-use Rattle.run_histories.proofs.Drawing.{IsDrawnBy, task-draws, drawn-apart, ids_at-of}
+use Rattle.run_histories.proofs.Drawing.{IsDrawnBy, drawn-apart, ids_at-of}
+use Rattle.run_histories.proofs.Editing.{task-draws}
+use Rattle.run_histories.proofs.Along.{well-at}
 use Rattle.play_course.specs.declared.course.Played.{Played}
 use Rattle.play_course.specs.Course.{Course, Plays}
 use Rattle.play_course.specs.Refusing.{strange_answer, strange_end, NothingStrange}
@@ -70,19 +72,19 @@ owes-puts mine who f journal (PutOver (TagGone name) bytes old why) o = absurd o
 owes-puts mine who f journal (Remove key why) o = absurd o
 owes-puts mine who f journal (RemoveAt key old why) o = absurd o
 
-module _ (draw : Draw) (tasks : List Task) (few : length tasks < 2 ^ 32 - 1) where
+module _ (draw : Draw) (tasks : List Task) (few : length tasks < 2 ^ 32 - 1) (wells : All IsWellTask tasks) where
   -- a client's puts are under ids that it drew
-  owned : (journal : List Event) (event : Event) → (c : IsOfClient draw tasks journal event) → IsTidy (IsDrawnBy (c.place + 1)) journal event
-  owned journal event c = record {
+  owned : (start journal : List Event) (event : Event) → (c : IsOfClient draw tasks start journal event) → IsTidy (IsDrawnBy (c.place + 1)) journal event
+  owned start journal event c = record {
     good = c.careful.good;
-    puts = owes-puts (IsOfTask (ids_at draw c.place) c.task) (IsDrawnBy (c.place + 1)) (λ s id m. task-draws (c.place + 1) (ids_at draw c.place) c.task s id (ids_at-of draw tasks c.place c.task few c.at) m) journal event.op c.careful.owes;
+    puts = owes-puts (IsOfTask (ids_at draw c.place) c.task) (IsDrawnBy (c.place + 1)) (λ s id m. task-draws (c.place + 1) (ids_at draw c.place) c.task s id (ids_at-of draw tasks c.place c.task few c.at) (well-at draw tasks wells c.place c.task c.at) m) journal event.op c.careful.owes;
   }
 
-  anybody : (journal : List Event) (event : Event) → IsOfClient draw tasks journal event → IsAny journal event
-  anybody journal event c = any-of (IsDrawnBy (c.place + 1)) journal event (owned journal event c)
+  anybody : (start journal : List Event) (event : Event) → IsOfClient draw tasks start journal event → IsAny journal event
+  anybody start journal event c = any-of (IsDrawnBy (c.place + 1)) journal event (owned start journal event c)
 
-  another : (k : ℕ) (journal : List Event) (event : Event) → event.client ≢ k + 1 → IsOfClient draw tasks journal event → IsOthers (k + 1) journal event
-  another k journal event n c = let o = owned journal event c in record {
+  another : (k : ℕ) (start journal : List Event) (event : Event) → event.client ≢ k + 1 → IsOfClient draw tasks start journal event → IsOthers (k + 1) journal event
+  another k start journal event n c = let o = owned start journal event c in record {
     good = o.good;
     puts = puts-weaker (IsDrawnBy (c.place + 1)) (λ id. ¬ IsDrawnBy (k + 1) id) (λ id d e. n (c.client ∙ drawn-apart (c.place + 1) (k + 1) id d e)) event.op o.puts;
   }
@@ -101,13 +103,13 @@ module _ (draw : Draw) (tasks : List Task) (few : length tasks < 2 ^ 32 - 1) whe
   well-nothing : (ps : List (Play Outcome)) (old events : List Event) → events ≡ [] → AllWell ps old → AllWell ps (old ++ events)
   well-nothing ps old events e all = subst (λ (xs : List Event). AllWell ps (old ++ xs)) (sym e) (subst (λ (h : List Event). AllWell ps h) (sym (append-nil old)) all)
 
-  well-acted : (t : ℕ) (ps qs : List (Play Outcome)) (old events : List Event) → Each (IsOfClient draw tasks) old events → WentOn t ps events qs → AllWell ps old → AllWell qs (old ++ events)
-  well-acted t ps qs old events each a all =
+  well-acted : (t : ℕ) (ps qs : List (Play Outcome)) (start old events : List Event) → Each (IsOfClient draw tasks start) old events → WentOn t ps events qs → AllWell ps old → AllWell qs (old ++ events)
+  well-acted t ps qs start old events each a all =
       let p : Play Outcome = Ask a.event.op a.starved a.next in
-      let c : IsOfClient draw tasks old a.event = (Each-two (IsOfClient draw tasks) old a.event [] (subst (λ (xs : List Event). Each (IsOfClient draw tasks) old xs) a.one each)).0 in
-      let mine : GoesWell t a.q (old ++ a.event ∷ []) = meets-acted (λ o. strange_end o.end ≡ false) (λ id. ¬ IsDrawnBy (t + 1) id) a.event.op a.starved a.next a.q old a.event (anybody old a.event c) refl a.comes (all t p a.at) in
+      let c : IsOfClient draw tasks start old a.event = (Each-two (IsOfClient draw tasks start) old a.event [] (subst (λ (xs : List Event). Each (IsOfClient draw tasks start) old xs) a.one each)).0 in
+      let mine : GoesWell t a.q (old ++ a.event ∷ []) = meets-acted (λ o. strange_end o.end ≡ false) (λ id. ¬ IsDrawnBy (t + 1) id) a.event.op a.starved a.next a.q old a.event (anybody start old a.event c) refl a.comes (all t p a.at) in
       let set_all : AllWell (set ps t a.q) (old ++ a.event ∷ []) = at_set (λ k p. GoesWell k p (old ++ a.event ∷ [])) ps t p a.q a.at mine
-      (λ k p differs at. well-others k p old a.event (another k old a.event (λ e. differs (next_same k t (sym a.client ∙ e))) c) (all k p at)) in
+      (λ k p differs at. well-others k p old a.event (another k start old a.event (λ e. differs (next_same k t (sym a.client ∙ e))) c) (all k p at)) in
       subst (λ (xs : List Event). AllWell qs (old ++ xs)) (sym a.one) (subst (λ (xs : List (Play Outcome)). AllWell xs (old ++ a.event ∷ [])) (sym a.rest) set_all)
     where
       next_same : (k t : ℕ) → t + 1 ≡ k + 1 → k ≡ t
@@ -120,22 +122,22 @@ module _ (draw : Draw) (tasks : List Task) (few : length tasks < 2 ^ 32 - 1) whe
       let set_all : AllWell (set ps t s.q) old = at_set (λ k p. GoesWell k p old) ps t p s.q s.at mine (λ k p differs at. all k p at) in
       well-nothing qs old events s.nothing (subst (λ (xs : List (Play Outcome)). AllWell xs old) (sym s.rest) set_all)
 
-  well-turned : (t : ℕ) (ps qs : List (Play Outcome)) (old events : List Event) → Each (IsOfClient draw tasks) old events → Turned t ps events qs → AllWell ps old → AllWell qs (old ++ events)
-  well-turned t ps qs old events each turned all = elim turned [
+  well-turned : (t : ℕ) (ps qs : List (Play Outcome)) (start old events : List Event) → Each (IsOfClient draw tasks start) old events → Turned t ps events qs → AllWell ps old → AllWell qs (old ++ events)
+  well-turned t ps qs start old events each turned all = elim turned [
     | inl p ↦ well-nothing qs old events p.nothing (subst (λ (xs : List (Play Outcome)). AllWell xs old) (sym p.same) all)
     | inr r ↦ elim r [
-      | inl a ↦ well-acted t ps qs old events each a all
+      | inl a ↦ well-acted t ps qs start old events each a all
       | inr s ↦ well-starved t ps qs old events s all
     ]
   ]
 
-  well-turns : (ts : List ℕ) (ps qs : List (Play Outcome)) (old events : List Event) → Each (IsOfClient draw tasks) old events → InTurns ts ps events qs → AllWell ps old → AllWell qs (old ++ events)
+  well-turns : (ts : List ℕ) (ps qs : List (Play Outcome)) (start old events : List Event) → Each (IsOfClient draw tasks start) old events → InTurns ts ps events qs → AllWell ps old → AllWell qs (old ++ events)
   unfolding InTurns
-  well-turns [] ps qs old events each i all = well-nothing qs old events i.0 (subst (λ (xs : List (Play Outcome)). AllWell xs old) (sym i.1) all)
-  well-turns (t ∷ ts) ps qs old events each i all =
-      let parts = Each-back (IsOfClient draw tasks) old i.0 i.1 (subst (λ (xs : List Event). Each (IsOfClient draw tasks) old xs) i.3 each) in
-      let first : AllWell i.2 (old ++ i.0) = well-turned t ps i.2 old i.0 parts.0 i.4 all in
-      let rest : AllWell qs ((old ++ i.0) ++ i.1) = well-turns ts i.2 qs (old ++ i.0) i.1 parts.1 i.5 first in
+  well-turns [] ps qs start old events each i all = well-nothing qs old events i.0 (subst (λ (xs : List (Play Outcome)). AllWell xs old) (sym i.1) all)
+  well-turns (t ∷ ts) ps qs start old events each i all =
+      let parts = Each-back (IsOfClient draw tasks start) old i.0 i.1 (subst (λ (xs : List Event). Each (IsOfClient draw tasks start) old xs) i.3 each) in
+      let first : AllWell i.2 (old ++ i.0) = well-turned t ps i.2 start old i.0 parts.0 i.4 all in
+      let rest : AllWell qs ((old ++ i.0) ++ i.1) = well-turns ts i.2 qs start (old ++ i.0) i.1 parts.1 i.5 first in
       subst (λ (xs : List Event). AllWell qs (old ++ xs)) (sym i.3) (subst (λ (h : List Event). AllWell qs h) (append_assoc old i.0 i.1) rest)
 
   well-begun : (journal : List Event) → ((client : ℕ) → Before client journal) → AllWell (plays_from draw 0 tasks) journal
@@ -184,17 +186,17 @@ module _ (opening : Result (Unit {0}) Refusal) (begun : List Event) (a : Alone b
   }
 
 -- ---- the run
-module _ (draw : Draw) (script : Script) (few : length script.tasks < 2 ^ 32 - 1) where
+module _ (draw : Draw) (script : Script) (few : length script.tasks < 2 ^ 32 - 1) (wells : All IsWellTask script.tasks) where
   plays-tidy : (old new : View) (opening : Result (Unit {0}) Refusal) (outcomes : List Outcome) → IsTrue old.caller.tells → Plays draw script old new opening outcomes → Each IsAny [] old.seen → Each IsAny [] new.seen
   plays-tidy old new (Ok done) outcomes told p tidy =
       let r = p.ran.ran in
-      subst (λ (h : List Event). Each IsAny [] h) (sym (r.is told)) (Each-append IsAny [] old.seen r.own tidy (Each-weaker (IsOfClient draw script.tasks) IsAny (anybody draw script.tasks few) old.seen r.own (r.careful told)))
+      subst (λ (h : List Event). Each IsAny [] h) (sym (r.is told)) (Each-append IsAny [] old.seen r.own tidy (Each-weaker (IsOfClient draw script.tasks old.seen) IsAny (anybody draw script.tasks few wells old.seen) old.seen r.own (r.careful told)))
   plays-tidy old new (Err why) outcomes told p tidy = subst (λ (v : View). Each IsAny [] v.seen) (sym p.0) tidy
 
   plays-plain : (old new : View) (opening : Result (Unit {0}) Refusal) (outcomes : List Outcome) → IsTrue old.caller.tells → Plays draw script old new opening outcomes → ((client : ℕ) → Before client old.seen) → (place : ℕ) (outcome : Outcome) → slice_get outcomes place ≡ Some outcome → strange_end outcome.end ≡ false
   plays-plain old new (Ok done) outcomes told p before place outcome at =
       let r = p.ran.ran in
-      well-ended draw script.tasks few outcomes (old.seen ++ r.own) (well-turns draw script.tasks few _ (plays_from draw 0 script.tasks) (ends_of outcomes) old.seen r.own (r.careful told) r.order (well-begun draw script.tasks few old.seen before)) place outcome at
+      well-ended draw script.tasks few wells outcomes (old.seen ++ r.own) (well-turns draw script.tasks few wells _ (plays_from draw 0 script.tasks) (ends_of outcomes) old.seen old.seen r.own (r.careful told) r.order (well-begun draw script.tasks few wells old.seen before)) place outcome at
   plays-plain old new (Err why) outcomes told p before place outcome at = let no = sym (ap (λ (os : List Outcome). slice_get os place) p.1) ∙ at in absurd cc
 
   pub course-plain : InitialLaw → (old new : View) (opening : Result (Unit {0}) Refusal) (outcomes : List Outcome) (refs : Result (List RefLine) Refusal) → Course draw script old new opening outcomes refs → IsTrue old.caller.tells → old.seen ≡ [] → NothingStrange opening outcomes refs
@@ -214,5 +216,5 @@ module _ (draw : Draw) (script : Script) (few : length script.tasks < 2 ^ 32 - 1
 
 pub played-plain : InitialLaw → (draw : Draw) (script : Script) (old new : View) (result : Result Played AllocError) → IsWell script → IfOk result (λ played. Course draw script old new played.opening played.outcomes.items played.refs) → IsTrue old.caller.tells → old.seen ≡ []
     → IfOk result (λ played. NothingStrange played.opening played.outcomes.items played.refs)
-played-plain initial draw script old new (Ok played) well c told empty = course-plain draw script (few-tasks script well) initial old new played.opening played.outcomes.items played.refs c told empty
+played-plain initial draw script old new (Ok played) well c told empty = course-plain draw script (few-tasks script well) well.tasks initial old new played.opening played.outcomes.items played.refs c told empty
 played-plain initial draw script old new (Err error) well c told empty = tt

@@ -5,6 +5,7 @@ ghost use Rattle.zarr_tree.specs.Changes.{Changes};
 ghost use Rattle.play_script.specs.Well.{IsWell, IsWellTurn};
 ghost use Rattle.play_tasks.specs.Tasks.{AllTold};
 ghost use Rattle.run_histories.specs.Runs.{IsSound};
+ghost use Rattle.run_histories.specs.Sources.{IsNewRun};
 ghost use Rattle.run_histories.specs.Told.{HasHistories};
 ghost use Rattle.play_course.specs.Course.{turns_in, Course, OnlyBegan, PlaysTasks, Plays};
 ghost use Rattle.play_course.specs.Leaving.{LeavesBranches};
@@ -118,10 +119,10 @@ pub fn play<S: Base>(
     // Without memory for the workers the repository may have been begun, and nothing else has been done; the histories are
     // kept then, too.
     ensures began { IfErr result (λ error. OnlyBegan (S.view store.old) (S.view store.new)) }
-    ensures kept { IsTrue (S.view store.old).caller.tells → (before : ℕ → Changes) → IsSound (S.view store.old).seen before → IfErr result (λ error. HasHistories draw script.now.tasks before (S.view store.old).seen (S.view store.new).seen) }
-    // Over a store that tells its journal, where that is sound, the branches' histories are kept, and the refs that were
-    // read are their ends.
-    ensures leaves { IsTrue (S.view store.old).caller.tells → (before : ℕ → Changes) → IsSound (S.view store.old).seen before → IfOk result (λ played. LeavesBranches draw script.now.tasks before (S.view store.old).seen (S.view store.new).seen played.refs) }
+    ensures kept { IsTrue (S.view store.old).caller.tells → (before : ℕ → Changes) → IsSound (S.view store.old).seen before → IsNewRun draw script.now.tasks (S.view store.old).seen → IfErr result (λ error. HasHistories draw script.now.tasks before (S.view store.old).seen (S.view store.new).seen) }
+    // Over a store that tells its journal, where that is sound and the clients' ids are new to it, the branches' histories
+    // are kept, and the refs that were read are their ends.
+    ensures leaves { IsTrue (S.view store.old).caller.tells → (before : ℕ → Changes) → IsSound (S.view store.old).seen before → IsNewRun draw script.now.tasks (S.view store.old).seen → IfOk result (λ played. LeavesBranches draw script.now.tasks before (S.view store.old).seen (S.view store.new).seen played.refs) }
     // Over one on which nothing was done before, no drawn id is taken, no object is missing, and every file can be read.
     ensures regular { IsTrue (S.view store.old).caller.tells → (S.view store.old).seen ≡ [] → IfOk result (λ played. NothingStrange played.opening played.outcomes.items played.refs) }
 {

@@ -1,6 +1,6 @@
 //! Outcomes of tasks.
 
-use ice_base::RefName;
+use ice_base::{Bytes, RefName};
 use ice_ids::Id12;
 use ice_items::Items;
 use store_api::Refusal;
@@ -11,6 +11,8 @@ use zarr_path::Path;
 pub enum Shown {
     /// A node of a listing that was asked for in this line of the script.
     Node { line: u32, array: bool, path: Path },
+    /// The metadata of a node that was asked for in this line of the script.
+    Meta { line: u32, text: Bytes },
 }
 
 /// Lines that a task showed, in order.

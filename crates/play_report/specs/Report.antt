@@ -1,10 +1,10 @@
 -- The report of a run (own): lines of words.
-use Rattle.std.specs.Prelude.{ℕ, List, [], ◌∷◌, ◌++◌, Bool, if◌then◌else◌, Result, Ok, Err, codes, decimal}
+use Rattle.std.specs.Prelude.{ℕ, ◌==◌, nat_lt, List, [], ◌∷◌, ◌++◌, map, Bool, ◌||◌, if◌then◌else◌, Result, Ok, Err, codes, decimal}
 use Rattle.std.specs.List.{flat_map}
 use Rattle.ice_ids.specs.Text.{id12_text}
 use Rattle.store_api.specs.declared.machines.Refusal.{Refusal}
 use Rattle.play_outcome.specs.declared.outcome.Shown.{Shown}
-use Rattle.play_outcome.specs.declared.outcome.Shown.TheVariants.{Node}
+use Rattle.play_outcome.specs.declared.outcome.Shown.TheVariants.{Node, Meta}
 use Rattle.play_outcome.specs.declared.outcome.End.{End}
 use Rattle.play_outcome.specs.declared.outcome.End.TheVariants.{Committed, Done, Refused}
 use Rattle.play_outcome.specs.declared.outcome.Outcome.{Outcome}
@@ -22,9 +22,14 @@ node_kind array = if array then codes "array" else codes "group"
 abbrev pub ref_kind : Bool → List ℕ
 ref_kind tag = if tag then codes "tag" else codes "branch"
 
+-- a byte of metadata: a control byte is printed as a space
+abbrev pub printed : ℕ → ℕ
+printed b = if nat_lt b 32 || (b == 127) then 32 else b
+
 -- what a task showed, behind its name
 abbrev pub shown_text : Shown → List ℕ
 shown_text (Node line array path) = decimal line space codes "list" space node_kind array space path
+shown_text (Meta line text) = decimal line space codes "meta" space map printed text
 
 abbrev pub shown_line : List ℕ → Shown → List ℕ
 shown_line name shown = line_of name (shown_text shown)

@@ -16,12 +16,12 @@ fn ref_kind(tag: bool) -> &'static [u8]
 }
 
 /// Appends a line of a first word and what stands behind it.
-fn add_line(out: &mut Vec<u8>, first: &[u8], rest: &str) -> Result<(), AllocError>
+fn add_line(out: &mut Vec<u8>, first: &[u8], rest: &[u8]) -> Result<(), AllocError>
     ensures { OnOk result (out.new.items ≡ out.old.items ++ line_of first.now rest.now) }
 {
     out.extend_from_slice(first)?;
     out.push(b' ')?;
-    out.extend_from_slice(rest.as_bytes())?;
+    out.extend_from_slice(rest)?;
     out.push(b'\n')?;
     Ok(())
 }
@@ -47,7 +47,7 @@ fn outcome_text(alloc: Global, name: &[u8], outcome: &Outcome) -> Result<Vec<u8>
     let mut text = Vec::new(alloc);
     add_all_shown(alloc, &mut text, name, outcome.shown.as_slice())?;
     let end = end_text(alloc, &outcome.end)?;
-    add_line(&mut text, name, &end)?;
+    add_line(&mut text, name, end.as_bytes())?;
     Ok(text)
 }
 
@@ -67,7 +67,7 @@ fn refused_line(alloc: Global, what: &[u8], why: &Refusal) -> Result<Vec<u8>, Al
     let why = refusal_text(alloc, why)?;
     let rest = format!(in alloc; "refused {why}")?;
     let mut text = Vec::new(alloc);
-    add_line(&mut text, what, &rest)?;
+    add_line(&mut text, what, rest.as_bytes())?;
     Ok(text)
 }
 
@@ -87,7 +87,7 @@ fn ref_lines(alloc: Global, refs: &[RefLine]) -> Result<Vec<u8>, AllocError>
     let mut text = Vec::new(alloc);
     for line in refs {
         let rest = ref_text(alloc, line)?;
-        add_line(&mut text, ref_kind(line.tag), &rest)?;
+        add_line(&mut text, ref_kind(line.tag), rest.as_bytes())?;
     }
     Ok(text)
 }

@@ -1,10 +1,10 @@
 //! What stands in a report, line by line, behind the first word of the line.
 
-ghost use Rattle.std.specs.Prelude.{◌≡◌, ◌++◌, IfOk, OnOk, codes, decimal, string_bytes};
+ghost use Rattle.std.specs.Prelude.{◌≡◌, ◌++◌, IfOk, OnOk, codes, decimal, map, string_bytes};
 ghost use Rattle.ice_ids.specs.Text.{id12_text};
 ghost use Rattle.play_report.specs.Words.{◌space◌};
 ghost use Rattle.play_report.specs.Refusals.{case_number, conflict_text, conflicts_text, frozen_text, index_text, kind_text, refusal_text, version_text};
-ghost use Rattle.play_report.specs.Report.{node_kind, shown_text, end_text, ref_text};
+ghost use Rattle.play_report.specs.Report.{node_kind, printed, shown_text, end_text, ref_text};
 
 use flat_tables::Kind;
 use ice_ids::Id12;
@@ -166,14 +166,33 @@ fn node_kind(array: bool) -> &'static str
     if array { "array" } else { "group" }
 }
 
+fn printed(byte: u8) -> u8
+    ensures { result ≡ printed byte }
+{
+    if byte < 32 || byte == 127 { b' ' } else { byte }
+}
+
+/// The metadata of a node that a line of the script asked for.
+fn meta_text(alloc: Global, line: u32, text: &[u8]) -> Result<Vec<u8>, AllocError>
+    ensures { IfOk result (λ shown. shown.items ≡ decimal line space codes "meta" space map printed text.now) }
+{
+    let mut shown = format!(in alloc; "{line} meta ")?.into_bytes();
+    for byte in text {
+        shown.push(printed(*byte))?;
+    }
+    Ok(shown)
+}
+
 /// What a task showed.
-pub fn shown_text(alloc: Global, shown: &Shown) -> Result<String, AllocError>
-    ensures { IfOk result (λ text. string_bytes text ≡ shown_text shown.now) }
+pub fn shown_text(alloc: Global, shown: &Shown) -> Result<Vec<u8>, AllocError>
+    ensures { IfOk result (λ text. text.items ≡ shown_text shown.now) }
 {
     match shown {
         Shown::Node { line, array, path } => {
-            format!(in alloc; "{line} list {} {}", node_kind(*array), path.as_str())
+            let text = format!(in alloc; "{line} list {} {}", node_kind(*array), path.as_str())?;
+            Ok(text.into_bytes())
         }
+        Shown::Meta { line, text } => meta_text(alloc, *line, text.as_slice()),
     }
 }
 

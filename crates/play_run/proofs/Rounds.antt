@@ -10,6 +10,7 @@ use Rattle.store_api.specs.Callers.{View, only}
 use Rattle.store_api.specs.Plays.{Play, Ended, HasEnded, PlayKeeps, PlayLeads}
 use Rattle.commit_path.specs.Owed.{IsCareful}
 use Rattle.commit_path.specs.Answered.{ChangedNothing}
+use Rattle.commit_path.specs.Single.{IsSingle}
 use Rattle.ice_ids.specs.declared.drawing.Draw.{Draw}
 use Rattle.play_script.specs.declared.scripts.Task.{Task}
 use Rattle.play_script.specs.declared.scripts.Turn.{Turn}
@@ -25,6 +26,7 @@ use Rattle.play_run.specs.Order.{places_of, turns_of, InTurns, RanTasks}
 use Rattle.play_run.specs.inside.Taking.{TookTurn}
 use Rattle.play_run.specs.inside.Going.{CanGo, Blame, Went}
 use Rattle.play_run.proofs.Turning.{Went-trans, Went-took}
+use Rattle.play_run.proofs.Paths.{played_turns}
 
 -- one more turn of the worker at this place
 pub Went-again : (n t : ℕ) (a b c : View) (ps mid qs : List (Play Outcome)) (result : Bool) → Went (replicate n t) a b ps mid → TookTurn t b c mid qs result → Went (replicate (n + 1) t) a c ps qs
@@ -123,7 +125,8 @@ AllStand-begin law draw tasks tells journal wells k p e =
       at = r.at;
       careful = subst (λ (x : Play Outcome). PlayKeeps (IsCareful (IsOfTask (ids_at draw k) r.task)) (only tells (k + 1)) x journal) (sym is) well.0;
       before = subst (λ (x : Play Outcome). PlayKeeps (λ h client op. ChangedNothing client journal h) (only tells (k + 1)) x journal) (sym is) well.1;
-      leads = subst (λ (x : Play Outcome). PlayLeads (TellsAt draw k r.task journal) (only tells (k + 1)) x journal) (sym is) well.2;
+      single = subst (λ (x : Play Outcome). PlayKeeps (IsSingle journal) (only tells (k + 1)) x journal) (sym is) well.2;
+      leads = subst (λ (x : Play Outcome). PlayLeads (TellsAt draw k r.task journal) (only tells (k + 1)) x journal) (sym is) well.3;
     }
 
 pub plays_size : (draw : Draw) (place : ℕ) (tasks : List Task) → length (plays_from draw place tasks) ≡ length tasks
@@ -193,15 +196,18 @@ module _ (law : TaskLaw) (draw : Draw) (tasks : List Task) (turns : List ℕ) (a
   stand = subst (λ (xs : List (Play Outcome)). AllStand draw tasks a.seen a.caller.tells xs a.seen) (sym first) (AllStand-begin law draw tasks a.caller.tells a.seen wells)
 
   pub ran_all : Whole → RanTasks draw tasks a.caller.tells turns outcomes a.seen c.seen
-  ran_all w = record {
-    counts = w.0;
-    ran = record {
-      own = w.1.own;
-      order = subst (λ (xs : List (Play Outcome)). InTurns (turns ++ turns_of 0 w.0) xs w.1.own (ends_of outcomes)) first w.1.order;
-      is = λ told. (w.1.kept draw tasks a.seen told stand).is;
-      careful = λ told. (w.1.kept draw tasks a.seen told stand).careful;
-    };
-  }
+  ran_all w =
+      let order = subst (λ (xs : List (Play Outcome)). InTurns (turns ++ turns_of 0 w.0) xs w.1.own (ends_of outcomes)) first w.1.order in
+      record {
+        counts = w.0;
+        ran = record {
+          own = w.1.own;
+          order = order;
+          is = λ told. (w.1.kept draw tasks a.seen told stand).is;
+          careful = λ told. (w.1.kept draw tasks a.seen told stand).careful;
+        };
+        played = played_turns draw tasks (turns ++ turns_of 0 w.0) w.1.own outcomes (ends_of outcomes) (plays_size draw 0 tasks) (ends_at outcomes) order;
+      }
 
   pub told_all : Whole → IsTrue a.caller.tells → AllTold draw tasks outcomes a.seen c.seen
   told_all w told place task outcome at_task at =

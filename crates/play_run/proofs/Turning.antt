@@ -17,8 +17,10 @@ use Rattle.store_api.proofs.Programs.{alone, has-all, good-waits, Waits-same, Wa
 use Rattle.store_api.proofs.PlayLaws.{PlayKeeps-waits, PlayKeeps-acts, PlayLeads-waits, PlayLeads-acts}
 use Rattle.commit_path.specs.Owed.{Sessions, IsCareful}
 use Rattle.commit_path.specs.Answered.{ChangedNothing}
+use Rattle.commit_path.specs.Single.{IsSingle}
 use Rattle.commit_path.proofs.Owing.{IsCareful-append}
 use Rattle.commit_path.proofs.Answering.{ChangedNothing-others}
+use Rattle.commit_path.proofs.Singling.{HasPutNone-others}
 use Rattle.play_script.specs.declared.scripts.Task.{Task}
 use Rattle.play_outcome.specs.declared.outcome.Outcome.{Outcome}
 use Rattle.play_outcome.specs.Ending.{is_failed}
@@ -122,6 +124,10 @@ Before start journal client op = ChangedNothing client start journal
 stable-before : (start : List Event) (by : Caller) (journal more : List Event) (op : Op) → Each (IsOther by) journal more → Before start journal by.number op → Before start (journal ++ more) by.number op
 stable-before start by journal more op others c = ChangedNothing-others by start journal more others c
 
+-- nor has it put a snapshot before another one
+stable-single : (start : List Event) (by : Caller) (journal more : List Event) (op : Op) → Each (IsOther by) journal more → IsSingle start journal by.number op → IsSingle start (journal ++ more) by.number op
+stable-single start by journal more op others c p = HasPutNone-others by start journal more others (c p)
+
 -- what holds of each worker, where one of them went on
 AllStand-set : (draw : Draw) (tasks : List Task) (start : List Event) (tells : Bool) (ps : List (Play Outcome)) (t : ℕ) (p q : Play Outcome) (old new : List Event) → slice_get ps t ≡ Some p → AllStand draw tasks start tells ps old → Stands draw tasks start tells t q new → ((k : ℕ) → k ≢ t → Waits (only tells (k + 1)) old new) → AllStand draw tasks start tells (set ps t q) new
 AllStand-set draw tasks start tells ps t p q old new at all mine others =
@@ -132,6 +138,7 @@ AllStand-set draw tasks start tells ps t p q old new at all mine others =
       at = s.at;
       careful = PlayKeeps-waits (IsCareful (IsOfTask (ids_at draw k) s.task)) (stable (IsOfTask (ids_at draw k) s.task)) (only tells (k + 1)) r old new (others k differs) s.careful;
       before = PlayKeeps-waits (Before start) (stable-before start) (only tells (k + 1)) r old new (others k differs) s.before;
+      single = PlayKeeps-waits (IsSingle start) (stable-single start) (only tells (k + 1)) r old new (others k differs) s.single;
       leads = PlayLeads-waits (TellsAt draw k s.task start) (only tells (k + 1)) (TellsOutcome-waits (only tells (k + 1)) (ids_at draw k) s.task start) r old new (others k differs) s.leads;
     })
 
@@ -151,7 +158,7 @@ module _ (draw : Draw) (tasks : List Task) (start : List Event) (t : ℕ) (old n
   kept-rested r = record {
     stand = subst (λ (v : View). AllStand draw tasks start v.caller.tells qs v.seen) (sym r.store) (subst (λ (xs : List (Play Outcome)). AllStand draw tasks start old.caller.tells xs old.seen) (sym r.same) all);
     is = ap (λ (v : View). v.seen) r.store ∙ sym (append-nil old.seen);
-    careful = Each-none (IsOfClient draw tasks) old.seen;
+    careful = Each-none (IsOfClient draw tasks start) old.seen;
   }
 
   -- the worker that stepped stands as before
@@ -167,6 +174,7 @@ module _ (draw : Draw) (tasks : List Task) (start : List Event) (t : ℕ) (old n
         at = mine.at;
         careful = PlayKeeps-acts (IsCareful (IsOfTask (ids_at draw t) mine.task)) (stable (IsOfTask (ids_at draw t) mine.task)) is_failed (seen_by to (as_client (t + 1) old)) (seen_by to new) s.p s.q told acts mine.careful;
         before = PlayKeeps-acts (Before start) (stable-before start) is_failed (seen_by to (as_client (t + 1) old)) (seen_by to new) s.p s.q told acts mine.before;
+        single = PlayKeeps-acts (IsSingle start) (stable-single start) is_failed (seen_by to (as_client (t + 1) old)) (seen_by to new) s.p s.q told acts mine.single;
         leads = PlayLeads-acts (TellsAt draw t mine.task start) is_failed (seen_by to (as_client (t + 1) old)) (seen_by to new) s.p s.q (TellsOutcome-waits to (ids_at draw t) mine.task start) told acts mine.leads;
       }
 
@@ -194,7 +202,7 @@ module _ (draw : Draw) (tasks : List Task) (start : List Event) (t : ℕ) (old n
           is = added.is;
         });
         is = added.is;
-        careful = Each-one (IsOfClient draw tasks) old.seen event (record { place = t; task = mine.task; client = refl; at = mine.at; careful = record { good = good; owes = owed.owes } });
+        careful = Each-one (IsOfClient draw tasks start) old.seen event (record { place = t; task = mine.task; client = refl; at = mine.at; careful = record { good = good; owes = owed.owes }; single = PlayKeeps-now (IsSingle start) (only tells (t + 1)) a.op a.starved a.next s.p old.seen a.asks mine.single });
       }
 
   kept-starved : (s : Stepped t old new ps qs) → Starved (as_client (t + 1) old) new s.p s.q → Kept draw tasks start old new [] qs
@@ -205,7 +213,7 @@ module _ (draw : Draw) (tasks : List Task) (start : List Event) (t : ℕ) (old n
       record {
         stand = all_stand s (λ k differs. Waits-same (only tells (k + 1)) old.seen new.seen same);
         is = same ∙ sym (append-nil old.seen);
-        careful = Each-none (IsOfClient draw tasks) old.seen;
+        careful = Each-none (IsOfClient draw tasks start) old.seen;
       }
 
 -- ---- turns one after another
@@ -232,7 +240,7 @@ Went-none view ps = record {
   others = λ k done. done;
   own = [];
   order = InTurns-none ps;
-  kept = λ draw tasks start told all. record { stand = all; is = sym (append-nil view.seen); careful = Each-none (IsOfClient draw tasks) view.seen };
+  kept = λ draw tasks start told all. record { stand = all; is = sym (append-nil view.seen); careful = Each-none (IsOfClient draw tasks start) view.seen };
 }
 
 pub Went-trans : (ts us : List ℕ) (a b c : View) (ps mid qs : List (Play Outcome)) → Went ts a b ps mid → Went us b c mid qs → Went (ts ++ us) a c ps qs
@@ -250,7 +258,7 @@ Went-trans ts us a b c ps mid qs v w = record {
       record {
         stand = second.stand;
         is = second.is ∙ (ap (λ (h : List Event). h ++ w.own) first.is ∙ append_assoc a.seen v.own w.own);
-        careful = Each-append (IsOfClient draw tasks) a.seen v.own w.own first.careful (subst (λ (h : List Event). Each (IsOfClient draw tasks) h w.own) first.is second.careful);
+        careful = Each-append (IsOfClient draw tasks start) a.seen v.own w.own first.careful (subst (λ (h : List Event). Each (IsOfClient draw tasks start) h w.own) first.is second.careful);
       };
 }
   where

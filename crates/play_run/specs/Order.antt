@@ -11,6 +11,7 @@ use Rattle.play_script.specs.declared.scripts.Task.{Task}
 use Rattle.play_script.specs.declared.scripts.Turn.{Turn}
 use Rattle.play_outcome.specs.declared.outcome.Outcome.{Outcome}
 use Rattle.play_tasks.specs.Tasks.{IsOfClient, plays_from}
+use Rattle.play_tasks.specs.Played.{AllPlayed}
 
 -- the worker at this place had ended
 pub record Passed (t : ℕ) (ps : List (Play Outcome)) (events : List Event) (qs : List (Play Outcome)) : Type 0 where
@@ -54,12 +55,12 @@ InTurns [] ps events qs = (events ≡ []) × (qs ≡ ps)
 InTurns (t ∷ ts) ps events qs = (first more : List Event) × (mid : List (Play Outcome)) × (events ≡ first ++ more) × Turned t ps first mid × InTurns ts mid more qs
 
 -- By these turns, the workers of these tasks went from the plays ps to the plays qs. Where the store tells its journal, it goes on by exactly their
--- operations, each of them good and owed by its client's task.
+-- operations, each of them good and owed by its client's task, and no client puts two snapshots.
 pub record Ran (draw : Draw) (tasks : List Task) (tells : Bool) (turns : List ℕ) (ps qs : List (Play Outcome)) (old new : List Event) : Type 0 where
   pub own : List Event
   pub order : InTurns turns ps own qs
   pub is : IsTrue tells → new ≡ old ++ own
-  pub careful : IsTrue tells → Each (IsOfClient draw tasks) old own
+  pub careful : IsTrue tells → Each (IsOfClient draw tasks old) old own
 
 -- the places of the workers that take these turns of a script
 abbrev pub places_of : List Turn → List ℕ
@@ -71,7 +72,9 @@ abbrev pub turns_of : ℕ → List ℕ → List ℕ
 turns_of k [] = []
 turns_of k (n ∷ ns) = replicate n k ++ turns_of (k + 1) ns
 
--- The tasks were run by the list of turns, and then each to its end, in order. They ended with these outcomes.
+-- The tasks were run by the list of turns, and then each to its end, in order. They ended with these outcomes, and whatever the order, each
+-- played to its outcome.
 pub record RanTasks (draw : Draw) (tasks : List Task) (tells : Bool) (turns : List ℕ) (outcomes : List Outcome) (old new : List Event) : Type 0 where
   pub counts : List ℕ
   pub ran : Ran draw tasks tells (turns ++ turns_of 0 counts) (plays_from draw 0 tasks) (map (λ (o : Outcome). Ended o) outcomes) old new
+  pub played : AllPlayed draw tasks outcomes ran.own

@@ -8,13 +8,13 @@ use Rattle.std.specs.Str.Parse.{ParsesUnsigned, digits_value}
 use Rattle.std.proofs.lemmas.Str.Parse.{IsNumeralModel, IsDigitsTest, numerals_by_value, parse_digits}
 use Rattle.play_script.specs.Values.{is_digits}
 
-abbrev all_digits : List ℕ → Bool
+abbrev pub all_digits : List ℕ → Bool
 all_digits ds = list_all is_ascii_digit ds
 
 tells : IsDigitsTest (λ ds. all_digits ds ≡ true)
 tells = search rules
 
-own : IsNumeralModel (λ ds. all_digits ds ≡ true) (digits_value 10)
+pub own : IsNumeralModel (λ ds. all_digits ds ≡ true) (digits_value 10)
 own = numerals_by_value _ tells
 
 split : (b d : Bool) → (b && d) ≡ true → (b ≡ true) × (d ≡ true)
@@ -22,5 +22,11 @@ split true true h = (refl, refl)
 split true false h = absurd (search (rules, h))
 split false d h = absurd (search (rules, h))
 
+parsed_at : {E : Type 0} (k : ℕ) (bs : List ℕ) (r : Result ℕ E) → ParsesUnsigned k 10 bs r → is_digits bs ≡ true → OkIff r ((0 < length bs) × (digits_value 10 bs < 2 ^ k)) (digits_value 10 bs)
+parsed_at k bs r h d = parse_digits own k bs r h (split (not (nat_eq (length bs) 0)) (all_digits bs) d).1
+
 pub parsed : {E : Type 0} (bs : List ℕ) (r : Result ℕ E) → ParsesUnsigned 32 10 bs r → is_digits bs ≡ true → OkIff r ((0 < length bs) × (digits_value 10 bs < 2 ^ 32)) (digits_value 10 bs)
-parsed bs r h d = parse_digits own 32 bs r h (split (not (nat_eq (length bs) 0)) (all_digits bs) d).1
+parsed bs r h d = parsed_at 32 bs r h d
+
+pub parsed_wide : {E : Type 0} (bs : List ℕ) (r : Result ℕ E) → ParsesUnsigned 128 10 bs r → is_digits bs ≡ true → OkIff r ((0 < length bs) × (digits_value 10 bs < 2 ^ 128)) (digits_value 10 bs)
+parsed_wide bs r h d = parsed_at 128 bs r h d

@@ -1,18 +1,18 @@
 -- What parts are where a line is read.
-use Rattle.std.specs.Prelude.{◌&&◌}
+use Rattle.std.specs.Prelude.{◌&&◌, ◌-◌, ◌^◌, ℤ, codes}
 use Rattle.std.proofs.Common.{◌≡◌, ℕ, ◌≤◌, Bool, true, false, cond, List, [], ◌∷◌, Option, None, Some, Result, Ok, Err, refl, sym, ap, subst, arith}
 use Rattle.std.specs.List.{All}
-use Rattle.std.specs.Str.Parse.{digits_value}
-use Rattle.std.proofs.lemmas.Bool.{and_parts, leb-true}
+use Rattle.std.specs.Str.Parse.{digits_value, signed_digits_value}
+use Rattle.std.proofs.lemmas.Bool.{and_parts, leb-true, cond_both}
 use Rattle.std.proofs.lemmas.List.Elements.{All-nil, All-cons}
 use Rattle.ice_base.specs.Names.{main_name}
 use Rattle.std.specs.Str.{is_utf8}
 use Rattle.zarr_path.specs.Paths.{is_path}
 use Rattle.play_script.specs.declared.faults.ScriptKind.{ScriptKind}
 use Rattle.play_script.specs.declared.faults.ScriptKind.TheVariants as k
-use Rattle.play_script.specs.Words.{Text}
+use Rattle.play_script.specs.Words.{Text, parts}
 use Rattle.play_script.specs.Parts.{◌&◌, made, each, only_if}
-use Rattle.play_script.specs.Values.{◌reads◌, is_task_name, task_name_of, path_of, branch_of, is_number, number_of, count_of}
+use Rattle.play_script.specs.Values.{◌reads◌, is_task_name, task_name_of, path_of, text_of, branch_of, is_number, number_of, wide_of, numbers_of, is_digits, magnitude, is_signed, fill_of, count_of}
 use Rattle.play_script.specs.Forms.{taken}
 
 pub made_ok : {A B : Type 0} (f : A → B) (r : Result A ScriptKind) (t : B) → made f r ≡ Ok t → (x : A) × (r ≡ Ok x) × (f x ≡ t)
@@ -56,6 +56,9 @@ path_ok w path h =
     both_true true b e = (refl, e)
     both_true false b e = absurd (cc)
 
+pub text_ok : (w text : Text) → text_of w ≡ Ok text → is_utf8 text ≡ true
+text_ok w text h = let t = tested_ok (is_utf8 w) w text h in subst (λ (x : Text). is_utf8 x ≡ true) t.1 t.0
+
 pub task_name_ok : (w name : Text) → task_name_of w ≡ Ok name → (is_task_name name ≡ true) × (w ≡ name)
 unfolding task_name_of
 task_name_ok w name h =
@@ -78,3 +81,21 @@ pub count_ok : (text : Option Text) (n : ℕ) → count_of text ≡ Ok n → (1 
 unfolding count_of
 count_ok None n h = let e : 1 ≡ n = cc in subst (λ (m : ℕ). (1 ≤ m) × (m ≤ 9999)) e (omega arith, omega arith)
 count_ok (Some w) n h = number_ok 1 9999 w n h
+
+-- a number of a list has 128 bits
+abbrev pub IsWide : ℕ → Type 0
+IsWide n = n ≤ 2 ^ 128 - 1
+
+pub numbers_ok : (w : Text) (ns : List ℕ) → numbers_of w ≡ Ok ns → All IsWide ns
+unfolding numbers_of
+numbers_ok w ns h =
+    cond_both (w reads codes "-") (Ok []) (each wide_of (parts 44 w)) (λ (r : Result (List ℕ) ScriptKind). r ≡ Ok ns → All IsWide ns)
+    (λ _ e. let none : [] ≡ ns = cc in subst (All IsWide) none (All-nil IsWide))
+    (λ _ e. each_ok IsWide wide_of (parts 44 w) ns (λ part n is. (number_ok 0 (2 ^ 128 - 1) part n is).1) e)
+    h
+
+pub fill_ok : (w : Text) (fill : ℤ) → fill_of w ≡ Ok fill → is_signed fill ≡ true
+unfolding fill_of
+fill_ok w fill h =
+    let t = tested_ok (is_digits (magnitude w) && is_signed (signed_digits_value 10 w)) (signed_digits_value 10 w) fill h in
+    subst (λ (z : ℤ). is_signed z ≡ true) t.1 (and_parts _ _ t.0).1

@@ -1,10 +1,13 @@
 pub mod Digits
+pub mod Fills
+pub mod PlainText
 pub mod LastTask
 pub mod Earliest
 pub mod Cuts
 pub mod Utf8
 pub mod NextLine
 pub mod Inversions
+pub mod ArrayUtf8
 pub mod WellLines
 pub mod WellTasks
 pub mod WellRead

@@ -1,7 +1,6 @@
 -- What heads, body lines and turns are where they are read.
-use Rattle.std.proofs.Common.{◌≡◌, ℕ, ◌+◌, ◌<◌, ◌≤◌, List, [], ◌∷◌, length, Option, None, Some, Result, Ok, refl, sym, ap, subst, ◌∙◌, arith, IsTrue}
-use Rattle.std.specs.Str.{is_utf8}
-use Rattle.std.specs.Prelude.{IfSome, unwrap_or, codes}
+use Rattle.std.proofs.Common.{◌≡◌, ℕ, ◌+◌, ◌<◌, ◌≤◌, Bool, cond, List, [], ◌∷◌, length, Option, None, Some, Result, Ok, refl, sym, ap, subst, ◌∙◌, arith}
+use Rattle.std.specs.Prelude.{ℤ, IfSome, unwrap_or, codes}
 use Rattle.std.proofs.lemmas.Bool.{cond_both}
 use Rattle.ice_base.specs.Names.{main_name}
 use Rattle.play_script.specs.declared.faults.ScriptKind.{ScriptKind}
@@ -16,39 +15,80 @@ use Rattle.play_script.specs.declared.scripts.Turn.{Turn}
 use Rattle.play_script.specs.declared.scripts.Class.{Class}
 use Rattle.play_script.specs.declared.scripts.Class.TheVariants as c
 use Rattle.play_script.specs.declared.forms.Form.{Form}
-use Rattle.play_script.specs.Words.{Text, cut_of, one, two, three}
+use Rattle.play_script.specs.Words.{Text, cut_of, next, one, two, three, five}
 use Rattle.play_script.specs.Parts.{◌&◌, made}
-use Rattle.play_script.specs.Values.{◌reads◌, fixed, path_of, branch_of, count_of}
-use Rattle.play_script.specs.Forms.{message_of, lone_path, edit_of, read_of, commit_of, form, no_form, form_of, write_head_of, read_head_of, head_of}
+use Rattle.play_script.specs.Values.{◌reads◌, fixed, path_of, text_of, branch_of, numbers_of, fill_of, count_of}
+use Rattle.play_script.specs.Arrays.{array_line_text}
+use Rattle.play_script.specs.Forms.{taken, lone_path, path_and_text, array_of, path_and_array, edit_of, read_of, commit_of, form, no_form, form_of, write_head_of, read_head_of, head_of}
 use Rattle.play_script.specs.Places.{class_of, client_from, turn, turn_of}
-use Rattle.play_script.specs.Well.{IsWellPath, IsWellEdit, IsWellRead, IsWellCall, head_branch, IsWellTurn}
-use Rattle.play_script.proofs.Inversions.{made_ok, both_ok, taken_ok, tested_ok, path_ok, branch_ok, count_ok}
+use Rattle.play_script.specs.Well.{IsWellPath, IsWellText, IsWellEdit, IsWellRead, IsWellCall, head_branch, IsWellTurn}
+use Rattle.play_script.proofs.Inversions.{made_ok, both_ok, taken_ok, path_ok, text_ok, branch_ok, numbers_ok, fill_ok, count_ok}
+use Rattle.play_script.proofs.ArrayUtf8.{array_utf8}
 
 lone_path_ok : (rest : Option Text) (path : Text) → lone_path rest ≡ Ok path → IsWellPath path
 unfolding lone_path
 lone_path_ok rest path h = let t = taken_ok (one rest) path_of path h in path_ok t.0 path t.2
 
+-- all that is left of a line
+rest_ok : (rest : Option Text) (text : Text) → taken rest text_of ≡ Ok text → IsWellText text
+rest_ok rest text h = let t = taken_ok rest text_of text h in text_ok t.0 text t.2
+
+abbrev IsWellBoth : Text × Text → Type 0
+IsWellBoth v = IsWellPath v.0 × IsWellText v.1
+
+path_and_text_ok : (rest : Option Text) (v : Text × Text) → path_and_text rest ≡ Ok v → IsWellBoth v
+unfolding path_and_text
+path_and_text_ok rest v h =
+    let t = taken_ok (next rest) (λ p. path_of p.0 & taken p.1 text_of) v h in
+    let b = both_ok (path_of t.0.0) (taken t.0.1 text_of) v t.2 in
+    (path_ok t.0.0 v.0 b.0, rest_ok t.0.1 v.1 b.1)
+
+array_ok : (data_type shape chunks fill text : Text) → array_of data_type shape chunks fill ≡ Ok text → IsWellText text
+unfolding array_of
+array_ok data_type shape chunks fill text h =
+    let m = made_ok (λ (v : ((Text × List ℕ) × List ℕ) × ℤ). array_line_text v.0.0.0 v.0.0.1 v.0.1 v.1) (text_of data_type & numbers_of shape & numbers_of chunks & fill_of fill) text h in
+    let all = both_ok (text_of data_type & numbers_of shape & numbers_of chunks) (fill_of fill) m.0 m.1 in
+    let lists = both_ok (text_of data_type & numbers_of shape) (numbers_of chunks) m.0.0 all.0 in
+    let one = both_ok (text_of data_type) (numbers_of shape) m.0.0.0 lists.0 in
+    subst IsWellText m.2 (array_utf8 _ _ _ _ (text_ok data_type _ one.0) (numbers_ok shape _ one.1) (numbers_ok chunks _ lists.1) (fill_ok fill _ all.1))
+
+path_and_array_ok : (rest : Option Text) (v : Text × Text) → path_and_array rest ≡ Ok v → IsWellBoth v
+unfolding path_and_array
+path_and_array_ok rest v h =
+    let t = taken_ok (five rest) (λ w. path_of w.0 & array_of w.1 w.2 w.3 w.4) v h in
+    let b = both_ok (path_of t.0.0) (array_of t.0.1 t.0.2 t.0.3 t.0.4) v t.2 in
+    (path_ok t.0.0 v.0 b.0, array_ok t.0.1 t.0.2 t.0.3 t.0.4 v.1 b.1)
+
 -- what was read is of its grammar
 abbrev IsRight : {A : Type 0} → (A → Type 0) → Option (Result A ScriptKind) → Type 0
 IsRight {A} P words = IfSome words (λ r. (x : A) → r ≡ Ok x → P x)
 
+-- what is made of parts that are right
+made_right : {A B : Type 0} (P : A → Type 0) (Q : B → Type 0) (f : A → B) (r : Result A ScriptKind) → ((x : A) → P x → Q (f x)) → ((x : A) → r ≡ Ok x → P x) → (y : B) → made f r ≡ Ok y → Q y
+made_right P Q f r one right y h = let m = made_ok f r y h in subst Q m.2 (one m.0 (right m.0 m.1))
+
+-- a line of one form, or else another
+form_right : {A : Type 0} (P : A → Type 0) (word : Bool) (r : Result A ScriptKind) (other : Option (Result A ScriptKind)) → ((x : A) → r ≡ Ok x → P x) → IsRight P other → IsRight P (cond word (Some r) other)
+form_right P word r other right rest = cond_both word (Some r) other (IsRight P) (λ _. right) (λ _. rest)
+
 edit_ok : (first : Text) (rest : Option Text) → IsRight IsWellEdit (edit_of first rest)
 unfolding edit_of
 edit_ok first rest =
-    cond_both (first reads codes "group") _ _ (IsRight IsWellEdit) (λ _ x h. let m = made_ok edit.Group (lone_path rest) x h in subst IsWellEdit m.2 (lone_path_ok rest m.0 m.1)) (λ _. tt)
+    form_right IsWellEdit (first reads codes "group") _ _ (made_right IsWellPath IsWellEdit edit.Group (lone_path rest) (λ x w. w) (lone_path_ok rest))
+    (form_right IsWellEdit (first reads codes "array") _ _ (made_right IsWellBoth IsWellEdit (λ v. edit.Array v.0 v.1) (path_and_array rest) (λ x w. w) (path_and_array_ok rest))
+    (form_right IsWellEdit (first reads codes "make") _ _ (made_right IsWellBoth IsWellEdit (λ v. edit.Make v.0 v.1) (path_and_text rest) (λ x w. w) (path_and_text_ok rest))
+    (form_right IsWellEdit (first reads codes "meta") _ _ (made_right IsWellBoth IsWellEdit (λ v. edit.Meta v.0 v.1) (path_and_text rest) (λ x w. w) (path_and_text_ok rest))
+    (form_right IsWellEdit (first reads codes "drop") _ _ (made_right IsWellPath IsWellEdit edit.Drop (lone_path rest) (λ x w. w) (lone_path_ok rest)) tt))))
 
 read_ok : (first : Text) (rest : Option Text) → IsRight IsWellRead (read_of first rest)
 unfolding read_of
 read_ok first rest =
-    cond_both (first reads codes "list") _ _ (IsRight IsWellRead) (λ _ x h. let m = made_ok read.List (lone_path rest) x h in subst IsWellRead m.2 (lone_path_ok rest m.0 m.1)) (λ _. tt)
+    form_right IsWellRead (first reads codes "list") _ _ (made_right IsWellPath IsWellRead read.List (lone_path rest) (λ x w. w) (lone_path_ok rest))
+    (form_right IsWellRead (first reads codes "get") _ _ (made_right IsWellPath IsWellRead read.Get (lone_path rest) (λ x w. w) (lone_path_ok rest)) tt)
 
-text_ok : (text message : Text) → message_of text ≡ Ok message → IsTrue (is_utf8 message)
-text_ok text message h = let t = tested_ok (is_utf8 text) text message h in subst (λ (x : Text). IsTrue (is_utf8 x)) t.1 t.0
-
-commit_ok : (first : Text) (rest : Option Text) → IsRight (λ message. IsTrue (is_utf8 message)) (commit_of first rest)
+commit_ok : (first : Text) (rest : Option Text) → IsRight IsWellText (commit_of first rest)
 unfolding commit_of
-commit_ok first rest =
-    cond_both (first reads codes "commit") _ _ (IsRight (λ message. IsTrue (is_utf8 message))) (λ _ x h. let t = taken_ok rest message_of x h in text_ok t.0 x t.2) (λ _. tt)
+commit_ok first rest = form_right IsWellText (first reads codes "commit") _ _ (rest_ok rest) tt
 
 -- a call is well, and of this class
 abbrev pub IsOf : Class → Call → Type 0
@@ -67,7 +107,7 @@ unfolding form_of
 form_ok first rest =
     class_ok IsWellEdit c.Edit call.Edit (edit_of first rest) _ (λ x w. (w, refl)) (edit_ok first rest)
     (class_ok IsWellRead c.Read call.Read (read_of first rest) _ (λ x w. (w, refl)) (read_ok first rest)
-    (class_ok (λ message. IsTrue (is_utf8 message)) c.Commit call.Commit (commit_of first rest) no_form (λ x w. (w, refl)) (commit_ok first rest) (λ v h. absurd (cc))))
+    (class_ok IsWellText c.Commit call.Commit (commit_of first rest) no_form (λ x w. (w, refl)) (commit_ok first rest) (λ v h. absurd (cc))))
 
 -- a head names the branch that is built
 abbrev pub IsOnMain : Result Head ScriptKind → Type 0

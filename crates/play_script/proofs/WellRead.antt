@@ -1,8 +1,9 @@
 -- A script that was read is well.
 use Rattle.std.proofs.Common.{◌≡◌, ℕ, ◌+◌, ◌≤◌, true, false, List, [], ◌∷◌, length, Option, Some, Result, Ok, Err, refl, subst, arith, length-append}
-use Rattle.std.specs.Prelude.{IfOk, ◌&&◌, ◌||◌, not, nat_lt, nat_le, codes, take}
+use Rattle.std.specs.Prelude.{IfOk, ◌&&◌, ◌==◌, not, nat_lt, codes}
+use Rattle.std.specs.List.{onto_first}
 use Rattle.std.specs.Str.{is_utf8}
-use Rattle.std.proofs.lemmas.Bool.{and_parts, or_parts, not-true, ltb-true, ltb-false, cond_both}
+use Rattle.std.proofs.lemmas.Bool.{and_parts, not-true, ltb-true, cond_both}
 use Rattle.std.proofs.lemmas.List.Elements.{All-nil, All-push}
 use Rattle.play_script.specs.declared.faults.ScriptKind.{ScriptKind}
 use Rattle.play_script.specs.declared.faults.ScriptKind.TheVariants as k
@@ -16,9 +17,9 @@ use Rattle.play_script.specs.Words.{Text, cut_of, pieces, next, lines_of}
 use Rattle.play_script.specs.Parts.{◌&◌, each, only_if}
 use Rattle.play_script.specs.Values.{◌reads◌, task_name_of}
 use Rattle.play_script.specs.Forms.{taken, form_of, head_of}
-use Rattle.play_script.specs.Places.{most_tasks, most_lines, last, is_open, class_of, head_takes, takes, onto_last, with_line, body_line, is_used, with_task, may_begin, task_line, head_line, turn_of, turns_line, words_line, line_at}
+use Rattle.play_script.specs.Places.{most_tasks, last, is_open, class_of, head_takes, takes, onto_last, with_line, body_line, is_used, with_task, may_begin, task_line, head_line, turn_of, turns_line, words_line, line_at}
 use Rattle.play_script.specs.declared.faults.ScriptFault.{ScriptFault}
-use Rattle.play_script.specs.Reading.{most_bytes, at_line, lines_from, empty, feeds, script_of, IsReading}
+use Rattle.play_script.specs.Reading.{most_bytes, at_line, lines_from, empty, IsReading}
 use Rattle.play_script.specs.Well.{IsLineNumber, IsWellTask, IsWellTurn, IsWell}
 use Rattle.play_script.proofs.Inversions.{made_ok, both_ok, only_if_ok, taken_ok, each_ok, task_name_ok}
 use Rattle.play_script.proofs.WellLines.{form_ok, head_ok, turn_ok}
@@ -87,33 +88,38 @@ words_well s n first rest w number =
     cond_both (first reads codes "turns") _ _ IsWellIfRead (λ _. turns_well s rest w) (λ _.
     body_well s n first rest w number))
 
-line_well : (s : Script) (n : ℕ) (line : Text) → IsWell s → 1 ≤ n → IsWellIfRead (line_at s n line)
+line_well : (s : Script) (n : ℕ) (line : Text) → IsWell s → IsLineNumber n → IsWellIfRead (line_at s n line)
 unfolding line_at
-line_well s n line w some =
-    cond_both (nat_lt most_lines n || not (is_utf8 line)) _ _ IsWellIfRead (λ _ t h. absurd (cc)) (λ placed.
-    let parts = or_parts (nat_lt most_lines n) (not (is_utf8 line)) placed in
-    words_well s n (cut_of 32 line).0 (cut_of 32 line).1 w (some, ltb-false most_lines n parts.0))
+line_well s n line w number =
+    cond_both (is_utf8 line) _ _ IsWellIfRead (λ _. words_well s n (cut_of 32 line).0 (cut_of 32 line).1 w number) (λ _ t h. absurd (cc))
 
 -- what more lines make of it
 more_lines : (n : ℕ) (r : Result Script ScriptKind) (more : Script → Result Script (ℕ × ScriptKind)) (t : Script) → IsWellIfRead r → ((s : Script) → IsWell s → more s ≡ Ok t → IsWell t) → at_line n r more ≡ Ok t → IsWell t
 more_lines n (Ok s) more t w rest h = rest s (w s refl) h
 more_lines n (Err kind) more t w rest h = absurd (cc)
 
-lines_well : (s : Script) (n : ℕ) (lines : List Text) (t : Script) → IsWell s → 1 ≤ n → lines_from s n lines ≡ Ok t → IsWell t
+lines_well : (s : Script) (n : ℕ) (lines : List Text) (t : Script) → IsWell s → 1 ≤ n → n + length lines ≤ most_bytes + 1 → lines_from s n lines ≡ Ok t → IsWell t
 unfolding lines_from
-lines_well s n [] t w some h = let e : s ≡ t = cc in subst IsWell e w
-lines_well s n (l ∷ ls) t w some h =
-    more_lines n (line_at s n l) (λ s. lines_from s (n + 1) ls) t (line_well s n l w some) (λ s w h. lines_well s (n + 1) ls t w (omega arith) h) h
+lines_well s n [] t w some few h = let e : s ≡ t = cc in subst IsWell e w
+lines_well s n (l ∷ ls) t w some few h =
+    more_lines n (line_at s n l) (λ s. lines_from s (n + 1) ls) t (line_well s n l w (some, omega arith)) (λ s w h. lines_well s (n + 1) ls t w (omega arith) (omega arith) h) h
+
+length-onto_first : (b : ℕ) (lines : List Text) → length (onto_first b lines) ≤ length lines + 1
+length-onto_first b [] = omega arith
+length-onto_first b (l ∷ ls) = omega arith
+
+-- each line has a byte at least
+length-lines : (text : Text) → length (lines_of text) ≤ length text
+unfolding lines_of
+length-lines [] = omega arith
+length-lines (b ∷ bs) =
+    cond_both (b == 10) ([] ∷ lines_of bs) (onto_first b (lines_of bs)) (λ (ls : List Text). length ls ≤ length (b ∷ bs))
+    (λ _. omega (arith, length-lines bs)) (λ _. omega (arith, length-lines bs, length-onto_first b (lines_of bs)))
 
 empty_well : IsWell empty
 empty_well = record { few = omega arith; tasks = All-nil _; names = λ i j d lt within. absurd (omega (arith, within)); turns = tt }
 
-pub well : (text : List ℕ) (s : Script) → script_of text ≡ Ok s → IsWell s
-unfolding script_of
-well text s h =
-    cond_both (nat_le (length text) most_bytes) (lines_from empty 1 (lines_of text)) (Err (feeds (take most_bytes text) + 1, k.Long)) (λ r. r ≡ Ok s → IsWell s) (λ _ h. lines_well empty 1 (lines_of text) s empty_well (omega arith) h) (λ _ h. absurd (cc)) h
-
 -- the script of a call that read these lines
-pub read_well : (text : List ℕ) (r : Result Script ScriptFault) → IsReading (lines_from empty 1 (lines_of text)) r → IfOk r IsWell
-read_well text (Ok s) h = lines_well empty 1 (lines_of text) s empty_well (omega arith) h
-read_well text (Err fault) h = tt
+pub read_well : (text : List ℕ) (r : Result Script ScriptFault) → length text ≤ most_bytes → IsReading (lines_from empty 1 (lines_of text)) r → IfOk r IsWell
+read_well text (Ok s) few h = lines_well empty 1 (lines_of text) s empty_well (omega arith) (omega (arith, few, length-lines text)) h
+read_well text (Err fault) few h = tt

@@ -1,6 +1,5 @@
 -- Own: the forms of heads and body lines, each by its words.
-use Rattle.std.specs.Str.{is_utf8}
-use Rattle.std.specs.Prelude.{if◌then◌else◌, Option, Some, None, option_map, unwrap_or, Result, Ok, Err, codes}
+use Rattle.std.specs.Prelude.{if◌then◌else◌, Option, Some, None, option_map, unwrap_or, Result, Err, codes}
 use Rattle.play_script.specs.declared.faults.ScriptKind.{ScriptKind}
 use Rattle.play_script.specs.declared.faults.ScriptKind.TheVariants as k
 use Rattle.play_script.specs.declared.scripts.Call.{Call}
@@ -14,9 +13,10 @@ use Rattle.play_script.specs.declared.scripts.Head.TheVariants as head
 use Rattle.play_script.specs.declared.scripts.Class.{Class}
 use Rattle.play_script.specs.declared.scripts.Class.TheVariants as c
 use Rattle.play_script.specs.declared.forms.Form.{Form}
-use Rattle.play_script.specs.Words.{Text, one, two, three}
+use Rattle.play_script.specs.Words.{Text, next, one, two, three, five}
 use Rattle.play_script.specs.Parts.{◌&◌, made}
-use Rattle.play_script.specs.Values.{◌reads◌, fixed, path_of, branch_of}
+use Rattle.play_script.specs.Values.{◌reads◌, fixed, path_of, text_of, branch_of, numbers_of, fill_of}
+use Rattle.play_script.specs.Arrays.{array_line_text}
 
 -- the words that a form takes, and what it makes of them
 abbrev pub taken : {A B : Type 0} → Option A → (A → Result B ScriptKind) → Result B ScriptKind
@@ -27,26 +27,40 @@ taken (Some words) f = f words
 unfoldable pub lone_path : Option Text → Result Text ScriptKind
 lone_path rest = taken (one rest) path_of
 
+-- a path and one space, and then a text to the line's end, perhaps empty
+unfoldable pub path_and_text : Option Text → Result (Text × Text) ScriptKind
+path_and_text rest = taken (next rest) (λ p. path_of p.0 & taken p.1 text_of)
+
+-- the text of an array that is told by its type, shape, chunks and fill value
+unfoldable pub array_of : Text → Text → Text → Text → Result Text ScriptKind
+array_of data_type shape chunks fill =
+    made (λ v. array_line_text v.0.0.0 v.0.0.1 v.0.1 v.1) (text_of data_type & numbers_of shape & numbers_of chunks & fill_of fill)
+
+-- a path, and the array that four more words tell
+unfoldable pub path_and_array : Option Text → Result (Text × Text) ScriptKind
+path_and_array rest = taken (five rest) (λ w. path_of w.0 & array_of w.1 w.2 w.3 w.4)
+
 -- Lines by class: what a line of this first word calls, if the class has such a line.
 
--- `group PATH`
+-- `group PATH`, `array PATH TYPE SHAPE CHUNKS FILL`, `make PATH JSON`, `meta PATH JSON`, `drop PATH`
 unfoldable pub edit_of : Text → Option Text → Option (Result EditCall ScriptKind)
 edit_of first rest =
-    if first reads codes "group" then Some (made edit.Group (lone_path rest)) else None
+    if first reads codes "group" then Some (made edit.Group (lone_path rest)) else
+    (if first reads codes "array" then Some (made (λ v. edit.Array v.0 v.1) (path_and_array rest)) else
+    (if first reads codes "make" then Some (made (λ v. edit.Make v.0 v.1) (path_and_text rest)) else
+    (if first reads codes "meta" then Some (made (λ v. edit.Meta v.0 v.1) (path_and_text rest)) else
+    (if first reads codes "drop" then Some (made edit.Drop (lone_path rest)) else None))))
 
--- `list PATH`
+-- `list PATH`, `get PATH`
 unfoldable pub read_of : Text → Option Text → Option (Result ReadCall ScriptKind)
 read_of first rest =
-    if first reads codes "list" then Some (made read.List (lone_path rest)) else None
-
--- a text of the language is UTF-8
-abbrev pub message_of : Text → Result Text ScriptKind
-message_of text = if is_utf8 text then Ok text else Err k.Unbuilt
+    if first reads codes "list" then Some (made read.List (lone_path rest)) else
+    (if first reads codes "get" then Some (made read.Get (lone_path rest)) else None)
 
 -- `commit MESSAGE`: the rest of the line, perhaps empty
 unfoldable pub commit_of : Text → Option Text → Option (Result Text ScriptKind)
 commit_of first rest =
-    if first reads codes "commit" then Some (taken rest message_of) else None
+    if first reads codes "commit" then Some (taken rest text_of) else None
 
 -- lines of a class
 abbrev pub form : {A : Type 0} → Class → (A → Call) → Option (Result A ScriptKind) → Option Form

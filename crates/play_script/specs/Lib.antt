@@ -1,6 +1,7 @@
 pub mod Words
 pub mod Parts
 pub mod Values
+pub mod Arrays
 pub mod Forms
 pub mod Places
 pub mod Reading

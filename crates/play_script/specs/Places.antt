@@ -1,5 +1,5 @@
 -- Own: where a line may stand, in view of the script before it and nothing else.
-use Rattle.std.specs.Prelude.{ℕ, ◌+◌, ◌-◌, List, [], ◌∷◌, ◌++◌, nat_lt, if◌then◌else◌, Option, Some, None, is_some, Result, Ok, Err, Bool, true, false, not, ◌&&◌, ◌||◌, length, slice_get, codes}
+use Rattle.std.specs.Prelude.{ℕ, ◌+◌, ◌-◌, List, [], ◌∷◌, ◌++◌, nat_lt, if◌then◌else◌, Option, Some, None, is_some, Result, Ok, Err, Bool, true, false, not, ◌&&◌, length, slice_get, codes}
 use Rattle.std.specs.List.{list_any}
 use Rattle.std.specs.Str.{is_utf8}
 use Rattle.play_script.specs.declared.faults.ScriptKind.{ScriptKind}
@@ -19,12 +19,9 @@ use Rattle.play_script.specs.Parts.{◌&◌, made, each, only_if}
 use Rattle.play_script.specs.Values.{◌reads◌, task_name_of, count_of}
 use Rattle.play_script.specs.Forms.{taken, form_of, head_of}
 
--- how many tasks and lines a script may have
+-- how many tasks a script may have
 abbrev pub most_tasks : ℕ
 most_tasks = 64
-
-abbrev pub most_lines : ℕ
-most_lines = 1000
 
 abbrev pub last : {A : Type 0} → List A → Option A
 last xs = slice_get xs (length xs - 1)
@@ -124,5 +121,4 @@ words_line s n first rest =
 -- line n behind the lines of s
 unfoldable pub line_at : Script → ℕ → Text → Result Script ScriptKind
 line_at s n line =
-    if nat_lt most_lines n || not (is_utf8 line) then Err k.Unbuilt else
-    words_line s n (cut_of 32 line).0 (cut_of 32 line).1
+    if is_utf8 line then words_line s n (cut_of 32 line).0 (cut_of 32 line).1 else Err k.Unbuilt

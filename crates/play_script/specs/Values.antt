@@ -1,15 +1,15 @@
 -- Own: what a word stands for, or the kind of its fault.
-use Rattle.std.specs.Prelude.{ℕ, ◌==◌, if◌then◌else◌, Option, Some, None, Result, Ok, Err, Bool, not, ◌&&◌, ◌||◌, nat_le, length, bytes_eq}
+use Rattle.std.specs.Prelude.{ℕ, ◌-◌, ◌^◌, ◌==◌, ℤ, pos, negsuc, int_le, List, [], if◌then◌else◌, Option, Some, None, Result, Ok, Err, Bool, not, ◌&&◌, ◌||◌, nat_le, length, drop, bytes_eq, codes}
 use Rattle.std.specs.List.{list_all}
 use Rattle.std.specs.Char.{is_ascii_digit, is_ascii_lowercase}
-use Rattle.std.specs.Str.Parse.{digits_value}
+use Rattle.std.specs.Str.Parse.{digits_value, starts_with_minus, signed_digits_value}
 use Rattle.ice_base.specs.Names.{main_name}
 use Rattle.std.specs.Str.{is_utf8}
 use Rattle.zarr_path.specs.Paths.{is_path}
 use Rattle.play_script.specs.declared.faults.ScriptKind.{ScriptKind}
 use Rattle.play_script.specs.declared.faults.ScriptKind.TheVariants as k
-use Rattle.play_script.specs.Words.{Text}
-use Rattle.play_script.specs.Parts.{only_if}
+use Rattle.play_script.specs.Words.{Text, parts}
+use Rattle.play_script.specs.Parts.{only_if, each}
 
 -- the word is this text
 infix 30 ◌reads◌
@@ -34,6 +34,10 @@ task_name_of w = if is_task_name w then Ok w else Err k.Unbuilt
 unfoldable pub path_of : Text → Result Text ScriptKind
 path_of w = if is_path w && is_utf8 w then Ok w else Err k.Unbuilt
 
+-- a text of the language is UTF-8
+abbrev pub text_of : Text → Result Text ScriptKind
+text_of w = if is_utf8 w then Ok w else Err k.Unbuilt
+
 -- the one branch that is built so far
 unfoldable pub branch_of : Text → Result Text ScriptKind
 branch_of w = if w reads main_name then Ok main_name else Err k.Unbuilt
@@ -47,6 +51,23 @@ is_number least most w = is_digits w && nat_le least (digits_value 10 w) && nat_
 
 unfoldable pub number_of : ℕ → ℕ → Text → Result ℕ ScriptKind
 number_of least most w = if is_number least most w then Ok (digits_value 10 w) else Err k.Unbuilt
+
+-- numbers of up to 128 bits with commas between them, or `-` where there are none
+abbrev pub wide_of : Text → Result ℕ ScriptKind
+wide_of w = number_of 0 (2 ^ 128 - 1) w
+
+unfoldable pub numbers_of : Text → Result (List ℕ) ScriptKind
+numbers_of w = if w reads codes "-" then Ok [] else each wide_of (parts 44 w)
+
+-- a fill value is digits, perhaps behind a `-`, for a number of 128 bits with a sign
+abbrev pub magnitude : Text → Text
+magnitude w = if starts_with_minus w then drop 1 w else w
+
+abbrev pub is_signed : ℤ → Bool
+is_signed z = int_le (negsuc (2 ^ 127 - 1)) z && int_le z (pos (2 ^ 127 - 1))
+
+unfoldable pub fill_of : Text → Result ℤ ScriptKind
+fill_of w = if is_digits (magnitude w) && is_signed (signed_digits_value 10 w) then Ok (signed_digits_value 10 w) else Err k.Unbuilt
 
 -- the count of a turn, which is 1 where none stands
 unfoldable pub count_of : Option Text → Result ℕ ScriptKind

@@ -1,5 +1,5 @@
 -- Own: what holds of every script that was read.
-use Rattle.std.specs.Prelude.{◌≡◌, ◌≢◌, ℕ, ◌≤◌, List, [], ◌∷◌, length, map, IfSome, IsTrue, All, AllPairs}
+use Rattle.std.specs.Prelude.{◌≡◌, ◌≢◌, ℕ, ◌+◌, ◌≤◌, List, [], ◌∷◌, length, map, IfSome, IsTrue, All, AllPairs}
 use Rattle.ice_base.specs.Names.{main_name}
 use Rattle.std.specs.Str.{is_utf8}
 use Rattle.zarr_path.specs.Paths.{is_path}
@@ -17,26 +17,36 @@ use Rattle.play_script.specs.declared.scripts.Turn.{Turn}
 use Rattle.play_script.specs.declared.scripts.Script.{Script}
 use Rattle.play_script.specs.Words.{Text}
 use Rattle.play_script.specs.Values.{is_task_name}
-use Rattle.play_script.specs.Places.{most_tasks, most_lines, class_of, head_takes, is_commit_call}
+use Rattle.play_script.specs.Places.{most_tasks, class_of, head_takes, is_commit_call}
+use Rattle.play_script.specs.Reading.{most_bytes}
 
 -- the values of a call are of their grammars
 abbrev pub IsWellPath : Text → Type 0
 IsWellPath path = IsTrue (is_path path) × IsTrue (is_utf8 path)
 
+-- any text of the language
+abbrev pub IsWellText : Text → Type 0
+IsWellText text = IsTrue (is_utf8 text)
+
 abbrev pub IsWellEdit : EditCall → Type 0
 IsWellEdit (edit.Group path) = IsWellPath path
+IsWellEdit (edit.Array path text) = IsWellPath path × IsWellText text
+IsWellEdit (edit.Make path text) = IsWellPath path × IsWellText text
+IsWellEdit (edit.Meta path text) = IsWellPath path × IsWellText text
+IsWellEdit (edit.Drop path) = IsWellPath path
 
 abbrev pub IsWellRead : ReadCall → Type 0
 IsWellRead (read.List path) = IsWellPath path
+IsWellRead (read.Get path) = IsWellPath path
 
 abbrev pub IsWellCall : Call → Type 0
 IsWellCall (call.Edit change) = IsWellEdit change
 IsWellCall (call.Read look) = IsWellRead look
-IsWellCall (call.Commit message) = IsTrue (is_utf8 message)
+IsWellCall (call.Commit message) = IsWellText message
 
--- a number of a line
+-- a number of a line, which is at most that of the first byte too many
 abbrev pub IsLineNumber : ℕ → Type 0
-IsLineNumber n = (1 ≤ n) × (n ≤ most_lines)
+IsLineNumber n = (1 ≤ n) × (n ≤ most_bytes + 1)
 
 pub record IsWellLine (l : Line) : Type 0 where
   pub number : IsLineNumber l.number

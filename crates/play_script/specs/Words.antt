@@ -52,3 +52,9 @@ two rest = option_and_then (λ p. option_map (λ second. (p.0, second)) (one p.1
 
 abbrev pub three : Option Text → Option (Text × Text × Text)
 three rest = option_and_then (λ p. option_map (λ q. (p.0, q.0, q.1)) (two p.1)) (next rest)
+
+abbrev pub four : Option Text → Option (Text × Text × Text × Text)
+four rest = option_and_then (λ p. option_map (λ q. (p.0, q.0, q.1, q.2)) (three p.1)) (next rest)
+
+abbrev pub five : Option Text → Option (Text × Text × Text × Text × Text)
+five rest = option_and_then (λ p. option_map (λ q. (p.0, q.0, q.1, q.2, q.3)) (four p.1)) (next rest)

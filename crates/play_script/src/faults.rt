@@ -1,7 +1,8 @@
 //! Why a text is no script.
 
-ghost use Rattle.std.specs.Prelude.{◌≡◌};
-ghost use Rattle.play_script.specs.Parts.{rank, earlier, ◌&◌, only_if};
+ghost use Rattle.std.specs.Prelude.{◌≡◌, IfOk};
+ghost use Rattle.play_script.specs.Parts.{rank, earlier, ◌&◌, made, only_if};
+ghost use Rattle.play_script.specs.SoFar.{parts_seen, one_more};
 
 use std::alloc::AllocError;
 use std::fmt;
@@ -85,6 +86,22 @@ pub fn both<A: Drop, B: Drop>(
         (Ok(_), Err(kind)) => Err(kind),
         (Err(kind), Ok(_)) => Err(kind),
         (Err(kind), Err(other)) => Err(kind.earlier(other)),
+    }
+}
+
+/// The parts so far and one more, or the earlier of their faults.
+pub fn with_part<T: Drop>(
+    parts: Result<Vec<T>, ScriptKind>,
+    part: Result<T, ScriptKind>,
+) -> Result<Result<Vec<T>, ScriptKind>, AllocError>
+    ensures { IfOk result (λ r. parts_seen r ≡ made one_more (parts_seen parts & part)) }
+{
+    match both(parts, part) {
+        Ok((mut parts, part)) => {
+            parts.push(part)?;
+            Ok(Ok(parts))
+        }
+        Err(kind) => Ok(Err(kind)),
     }
 }
 

@@ -4,12 +4,14 @@ ghost use Rattle.std.specs.Prelude.{◌≡◌, IfOk, Ok};
 ghost use Rattle.play_script.specs.Words.{seen};
 ghost use Rattle.play_script.specs.declared.scripts.Call.TheVariants as Call;
 ghost use Rattle.play_script.specs.declared.scripts.Class.TheVariants as Class;
-ghost use Rattle.play_script.specs.Forms.{taken, lone_path, edit_of, read_of, commit_of, form, form_of, write_head_of, read_head_of, head_of, message_of};
+ghost use Rattle.play_script.specs.Values.{text_of};
+ghost use Rattle.play_script.specs.Forms.{taken, lone_path, path_and_text, array_of, path_and_array, edit_of, read_of, commit_of, form, form_of, write_head_of, read_head_of, head_of};
 
+use crate::arrays::array_text;
 use crate::faults::{ScriptKind, both};
 use crate::scripts::{Call, Class, EditCall, Head, ReadCall};
-use crate::values::{branch_in, fixed, message_in, path_in};
-use crate::words::{one, three, two};
+use crate::values::{branch_in, fill_in, fixed, numbers_in, path_in, text_in};
+use crate::words::{five, next, one, three, two};
 use ice_base::Text;
 use std::alloc::{AllocError, Global};
 use zarr_path::Path;
@@ -35,43 +37,126 @@ fn lone_path(alloc: Global, rest: Option<&str>) -> Result<Result<Path, ScriptKin
 }
 
 /// All that is left of a line.
-fn message(alloc: Global, rest: Option<&str>) -> Result<Result<Text, ScriptKind>, AllocError>
-    ensures { IfOk result (λ r. r ≡ taken (seen rest.entry) message_of) }
+fn rest_text(alloc: Global, rest: Option<&str>) -> Result<Result<Text, ScriptKind>, AllocError>
+    ensures { IfOk result (λ r. r ≡ taken (seen rest.entry) text_of) }
 {
     match rest {
-        Some(text) => Ok(Ok(message_in(alloc, text)?)),
+        Some(text) => Ok(Ok(text_in(alloc, text)?)),
         None => Ok(Err(ScriptKind::Unbuilt)),
     }
 }
 
-/// A line that changes the tree.
+/// A path and one space, and all that is left behind them.
+#[tactic(auto, unfolding(crate::specs::Forms::path_and_text))]
+fn path_and_text(
+    alloc: Global,
+    rest: Option<&str>,
+) -> Result<Result<(Path, Text), ScriptKind>, AllocError>
+    ensures { IfOk result (λ r. r ≡ path_and_text (seen rest.entry)) }
+{
+    let Some((path, rest)) = next(rest) else {
+        return Ok(Err(ScriptKind::Unbuilt));
+    };
+    let path = path_in(alloc, path)?;
+    let text = rest_text(alloc, rest)?;
+    Ok(both(path, text))
+}
+
+/// The text of the array that four words tell.
+#[tactic(auto, unfolding(crate::specs::Forms::array_of))]
+fn array_in(
+    alloc: Global,
+    data_type: &str,
+    shape: &str,
+    chunks: &str,
+    fill: &str,
+) -> Result<Result<Text, ScriptKind>, AllocError>
+    ensures { IfOk result (λ r. r ≡ array_of data_type.now shape.now chunks.now fill.now) }
+{
+    let data_type = text_in(alloc, data_type)?;
+    let shape = numbers_in(alloc, shape)?;
+    let chunks = numbers_in(alloc, chunks)?;
+    match both(both(shape, chunks), fill_in(fill)) {
+        Ok(((shape, chunks), fill)) => Ok(Ok(array_text(alloc, data_type, &shape, &chunks, fill)?)),
+        Err(kind) => Ok(Err(kind)),
+    }
+}
+
+/// A path, and the text of the array that four more words tell.
+#[tactic(auto, unfolding(crate::specs::Forms::path_and_array))]
+fn path_and_array(
+    alloc: Global,
+    rest: Option<&str>,
+) -> Result<Result<(Path, Text), ScriptKind>, AllocError>
+    ensures { IfOk result (λ r. r ≡ path_and_array (seen rest.entry)) }
+{
+    let Some((path, data_type, shape, chunks, fill)) = five(rest) else {
+        return Ok(Err(ScriptKind::Unbuilt));
+    };
+    let path = path_in(alloc, path)?;
+    let text = array_in(alloc, data_type, shape, chunks, fill)?;
+    Ok(both(path, text))
+}
+
+/// What a line calls that changes the tree.
 #[tactic(auto, unfolding(crate::specs::Forms::edit_of))]
+fn edit_call(
+    alloc: Global,
+    first: &str,
+    rest: Option<&str>,
+) -> Result<Option<Result<EditCall, ScriptKind>>, AllocError>
+    ensures { IfOk result (λ call. call ≡ edit_of first.now (seen rest.entry)) }
+{
+    Ok(Some(match first {
+        "group" => lone_path(alloc, rest)?.map(|path| EditCall::Group { path }),
+        "array" => path_and_array(alloc, rest)?.map(|(path, text)| EditCall::Array { path, text }),
+        "make" => path_and_text(alloc, rest)?.map(|(path, text)| EditCall::Make { path, text }),
+        "meta" => path_and_text(alloc, rest)?.map(|(path, text)| EditCall::Meta { path, text }),
+        "drop" => lone_path(alloc, rest)?.map(|path| EditCall::Drop { path }),
+        _ => return Ok(None),
+    }))
+}
+
+/// A line that changes the tree.
 fn edit_in(alloc: Global, first: &str, rest: Option<&str>) -> Result<Option<Form>, AllocError>
     ensures { IfOk result (λ f. f ≡ form Class.Edit Call.Edit (edit_of first.now (seen rest.entry))) }
 {
-    let call = match first {
-        "group" => lone_path(alloc, rest)?.map(|path| EditCall::Group { path }),
+    match edit_call(alloc, first, rest)? {
+        Some(call) => Ok(Some(Form {
+            class: Class::Edit,
+            call: call.map(Call::Edit),
+        })),
+        None => Ok(None),
+    }
+}
+
+/// What a line calls that looks at the tree.
+#[tactic(auto, unfolding(crate::specs::Forms::read_of))]
+fn read_call(
+    alloc: Global,
+    first: &str,
+    rest: Option<&str>,
+) -> Result<Option<Result<ReadCall, ScriptKind>>, AllocError>
+    ensures { IfOk result (λ call. call ≡ read_of first.now (seen rest.entry)) }
+{
+    Ok(Some(match first {
+        "list" => lone_path(alloc, rest)?.map(|path| ReadCall::List { path }),
+        "get" => lone_path(alloc, rest)?.map(|path| ReadCall::Get { path }),
         _ => return Ok(None),
-    };
-    Ok(Some(Form {
-        class: Class::Edit,
-        call: call.map(Call::Edit),
     }))
 }
 
 /// A line that looks at the tree.
-#[tactic(auto, unfolding(crate::specs::Forms::read_of))]
 fn read_in(alloc: Global, first: &str, rest: Option<&str>) -> Result<Option<Form>, AllocError>
     ensures { IfOk result (λ f. f ≡ form Class.Read Call.Read (read_of first.now (seen rest.entry))) }
 {
-    let call = match first {
-        "list" => lone_path(alloc, rest)?.map(|path| ReadCall::List { path }),
-        _ => return Ok(None),
-    };
-    Ok(Some(Form {
-        class: Class::Read,
-        call: call.map(Call::Read),
-    }))
+    match read_call(alloc, first, rest)? {
+        Some(call) => Ok(Some(Form {
+            class: Class::Read,
+            call: call.map(Call::Read),
+        })),
+        None => Ok(None),
+    }
 }
 
 /// A line that commits.
@@ -80,7 +165,7 @@ fn commit_in(alloc: Global, first: &str, rest: Option<&str>) -> Result<Option<Fo
     ensures { IfOk result (λ f. f ≡ form Class.Commit Call.Commit (commit_of first.now (seen rest.entry))) }
 {
     let call = match first {
-        "commit" => message(alloc, rest)?.map(|message| Call::Commit { message }),
+        "commit" => rest_text(alloc, rest)?.map(|message| Call::Commit { message }),
         _ => return Ok(None),
     };
     Ok(Some(Form {

@@ -1,20 +1,24 @@
 //! Scripts: the tasks that clients play against a repository, and the turns that they take.
 //!
-//! A script is UTF-8 text of at most 1,048,576 bytes and 1,000 lines. A line ends with a line feed, which the last one may
-//! lack; words stand between single spaces. It is any number of tasks, at most 64, then at most one line of turns:
+//! A script is UTF-8 text of at most 1,048,576 bytes. A line ends with a line feed, which the last one may lack; words stand
+//! between single spaces. It is any number of tasks, at most 64, then at most one line of turns:
 //!
-//! - `task NAME write main 0 fail`, a task that edits: lines `group PATH` and `list PATH`, then at most one
-//!   `commit MESSAGE`, whose message is the rest of the line and may be empty;
-//! - `task NAME read branch main`, a task that reads: lines `list PATH`;
+//! - `task NAME write main 0 fail`, a task that edits: lines `group PATH`, `array PATH TYPE SHAPE CHUNKS FILL`,
+//!   `make PATH JSON`, `meta PATH JSON`, `drop PATH`, `list PATH` and `get PATH`, then at most one `commit MESSAGE`; JSON and
+//!   MESSAGE are the rest of the line and may be empty;
+//! - `task NAME read branch main`, a task that reads: lines `list PATH` and `get PATH`;
 //! - `turns WORDS`, each word a task's `NAME`, or `NAME*COUNT` with a count of 1 to 9,999; perhaps no word.
 //!
-//! Names are 1 to 16 bytes of `a` to `z`, `0` to `9` and `_`, and distinct.
+//! Names are 1 to 16 bytes of `a` to `z`, `0` to `9` and `_`, and distinct. SHAPE and CHUNKS are numbers of up to
+//! 128 bits joined by commas, or `-` for none; FILL is a number of 128 bits with a sign.
 #![tactic(auto)]
 
+mod arrays;
 mod bodies;
 mod faults;
 mod forms;
 mod heads;
+mod laws;
 mod reading;
 mod scripts;
 mod turning;
@@ -23,6 +27,7 @@ mod words;
 
 pub use faults::{ScriptFault, ScriptKind};
 pub use heads::MOST_TASKS;
-pub use reading::{MOST_BYTES, MOST_LINES};
+pub use laws::plain_law;
+pub use reading::MOST_BYTES;
 pub use scripts::{Call, EditCall, Head, Line, Lines, ReadCall, Script, Task, Tasks, Turn, Turns};
 pub use values::TaskName;

@@ -18,9 +18,6 @@ use std::alloc::{AllocError, Global};
 /// How many bytes a script may have; who reads one needs the next byte too, to see that it is too long.
 pub const MOST_BYTES: usize = 1_048_576;
 
-/// How many lines a script may have.
-pub const MOST_LINES: u32 = 1000;
-
 /// The script with a line whose first word and rest are these.
 #[tactic(auto, unfolding(crate::specs::Places::words_line))]
 fn words_line(
@@ -66,9 +63,6 @@ fn line_at(
     ensures value { IfOk result (λ r. r ≡ line_at script number line.now) }
     ensures few { IfOk result (λ r. IfOk r (λ s. length s.tasks ≤ most_tasks)) }
 {
-    if number > MOST_LINES {
-        return Ok(Err(ScriptKind::Unbuilt));
-    }
     let Some(text) = text_of(line) else {
         return Ok(Err(ScriptKind::Unbuilt));
     };

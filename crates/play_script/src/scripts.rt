@@ -13,6 +13,32 @@ pub enum EditCall {
         /// Where it is added.
         path: Path,
     },
+    /// Adds an array.
+    Array {
+        /// Where it is added.
+        path: Path,
+        /// Its metadata: the plain text of the type, shape, chunks and fill value that the line tells.
+        text: Text,
+    },
+    /// Adds a node of given metadata.
+    Make {
+        /// Where it is added.
+        path: Path,
+        /// Its metadata, any UTF-8.
+        text: Text,
+    },
+    /// Gives a node other metadata.
+    Meta {
+        /// The node's path.
+        path: Path,
+        /// Its metadata, any UTF-8.
+        text: Text,
+    },
+    /// Deletes a node and all beneath it.
+    Drop {
+        /// The node's path.
+        path: Path,
+    },
 }
 
 /// What a line calls that shows something and changes nothing.
@@ -21,6 +47,11 @@ pub enum ReadCall {
     /// Lists the nodes strictly beneath a path.
     List {
         /// The path.
+        path: Path,
+    },
+    /// Shows the metadata of a node.
+    Get {
+        /// The node's path.
         path: Path,
     },
 }

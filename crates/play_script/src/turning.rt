@@ -2,12 +2,12 @@
 
 ghost use Rattle.std.specs.Prelude.{◌≡◌, ◌≤◌, IfOk, length};
 ghost use Rattle.play_script.specs.Words.{seen, pieces};
-ghost use Rattle.play_script.specs.Parts.{◌&◌, made, each};
+ghost use Rattle.play_script.specs.Parts.{each};
 ghost use Rattle.play_script.specs.Places.{most_tasks, client_from, turn_of, turns_line};
-ghost use Rattle.play_script.specs.SoFar.{turns_seen, one_more};
+ghost use Rattle.play_script.specs.SoFar.{parts_seen};
 
 use crate::bodies::is_open;
-use crate::faults::{ScriptKind, both, only_if};
+use crate::faults::{ScriptKind, both, only_if, with_part};
 use crate::scripts::{Script, Task, Turn, Turns};
 use crate::values::count_in;
 use crate::words::cut;
@@ -41,22 +41,6 @@ fn turn_in(tasks: &[Task], word: &str) -> Result<Turn, ScriptKind>
     }
 }
 
-/// The turns so far and one more, or the earlier of their faults.
-fn with_turn(
-    turns: Result<Vec<Turn>, ScriptKind>,
-    turn: Result<Turn, ScriptKind>,
-) -> Result<Result<Vec<Turn>, ScriptKind>, AllocError>
-    ensures { IfOk result (λ r. turns_seen r ≡ made one_more (turns_seen turns & turn)) }
-{
-    match both(turns, turn) {
-        Ok((mut turns, turn)) => {
-            turns.push(turn)?;
-            Ok(Ok(turns))
-        }
-        Err(kind) => Ok(Err(kind)),
-    }
-}
-
 /// All turns, or the earliest fault of their words.
 fn turns_in(
     alloc: Global,
@@ -64,13 +48,13 @@ fn turns_in(
     rest: Option<&str>,
 ) -> Result<Result<Vec<Turn>, ScriptKind>, AllocError>
     requires { length tasks.now ≤ most_tasks }
-    ensures { IfOk result (λ r. turns_seen r ≡ each (turn_of tasks.now) (pieces 32 (seen rest.entry))) }
+    ensures { IfOk result (λ r. parts_seen r ≡ each (turn_of tasks.now) (pieces 32 (seen rest.entry))) }
 {
     let mut turns = Ok(Vec::new(alloc));
     let mut left = rest;
     while let Some(rest) = left {
         let (word, after) = cut(rest, ' ');
-        turns = with_turn(turns, turn_in(tasks, word))?;
+        turns = with_part(turns, turn_in(tasks, word))?;
         left = after;
     }
     Ok(turns)

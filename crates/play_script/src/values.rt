@@ -3,11 +3,13 @@
 ghost use Rattle.std.specs.Prelude.{◌≡◌, IfOk, Ok};
 ghost use Rattle.std.specs.List.{list_all};
 ghost use Rattle.std.specs.Char.{is_ascii_digit};
-ghost use Rattle.play_script.specs.Values.{is_digits, number_of, is_task_name, is_task_byte, task_name_of, path_of, branch_of, fixed, count_of};
-ghost use Rattle.play_script.specs.Words.{seen};
-ghost use Rattle.play_script.specs.Forms.{message_of};
+ghost use Rattle.play_script.specs.Values.{is_digits, number_of, wide_of, numbers_of, magnitude, fill_of, is_task_name, is_task_byte, task_name_of, path_of, text_of, branch_of, fixed, count_of};
+ghost use Rattle.play_script.specs.Words.{parts, seen};
+ghost use Rattle.play_script.specs.Parts.{each};
+ghost use Rattle.play_script.specs.SoFar.{parts_seen};
 
-use crate::faults::ScriptKind;
+use crate::faults::{ScriptKind, with_part};
+use crate::words::cut;
 use ice_base::{RefName, Text};
 use std::alloc::{AllocError, Global};
 use std::marker::Model;
@@ -87,11 +89,11 @@ pub fn path_in(alloc: Global, word: &str) -> Result<Result<Path, ScriptKind>, Al
     }
 }
 
-/// The message that is all of a text.
-pub fn message_in(alloc: Global, text: &str) -> Result<Text, AllocError>
-    ensures { IfOk result (λ message. message_of text.now ≡ Ok message) }
+/// The text that a word is, or all that is left of a line.
+pub fn text_in(alloc: Global, word: &str) -> Result<Text, AllocError>
+    ensures { IfOk result (λ text. text_of word.now ≡ Ok text) }
 {
-    Text::of(alloc, text)
+    Text::of(alloc, word)
 }
 
 /// The branch that a word names.
@@ -148,6 +150,69 @@ fn number_in(word: &str, least: u32, most: u32) -> Result<u32, ScriptKind>
                 Err(ScriptKind::Unbuilt)
             }
         }
+        Err(_) => Err(ScriptKind::Unbuilt),
+    }
+}
+
+/// The number of up to 128 bits that a word's decimal digits stand for.
+#[tactic(auto, unfolding(crate::specs::Values::number_of), using(crate::proofs::Digits::parsed_wide))]
+fn wide_in(word: &str) -> Result<u128, ScriptKind>
+    ensures { result ≡ wide_of word.now }
+{
+    if !is_digits(word) {
+        return Err(ScriptKind::Unbuilt);
+    }
+    match word.parse::<u128>() {
+        Ok(value) => Ok(value),
+        Err(_) => Err(ScriptKind::Unbuilt),
+    }
+}
+
+/// The numbers that stand between a word's commas, or the earliest of their faults.
+fn listed_in(alloc: Global, word: &str) -> Result<Result<Vec<u128>, ScriptKind>, AllocError>
+    ensures { IfOk result (λ r. parts_seen r ≡ each wide_of (parts 44 word.now)) }
+{
+    let mut numbers = Ok(Vec::new(alloc));
+    let mut left = Some(word);
+    while let Some(rest) = left {
+        let (number, after) = cut(rest, ',');
+        numbers = with_part(numbers, wide_in(number))?;
+        left = after;
+    }
+    Ok(numbers)
+}
+
+/// The numbers that a word lists, of which `-` lists none.
+#[tactic(auto, unfolding(crate::specs::Values::numbers_of))]
+pub fn numbers_in(alloc: Global, word: &str) -> Result<Result<Vec<u128>, ScriptKind>, AllocError>
+    ensures { IfOk result (λ r. parts_seen r ≡ numbers_of word.now) }
+{
+    if word == "-" {
+        return Ok(Ok(Vec::new(alloc)));
+    }
+    listed_in(alloc, word)
+}
+
+/// A word without the `-` before it.
+fn magnitude(word: &str) -> &str
+    ensures { result.now ≡ magnitude word.now }
+{
+    match word.strip_prefix('-') {
+        Some(digits) => digits,
+        None => word,
+    }
+}
+
+/// The fill value that a word stands for.
+#[tactic(auto, unfolding(crate::specs::Values::fill_of))]
+pub fn fill_in(word: &str) -> Result<i128, ScriptKind>
+    ensures { result ≡ fill_of word.now }
+{
+    if !is_digits(magnitude(word)) {
+        return Err(ScriptKind::Unbuilt);
+    }
+    match word.parse::<i128>() {
+        Ok(value) => Ok(value),
         Err(_) => Err(ScriptKind::Unbuilt),
     }
 }

@@ -1,7 +1,7 @@
 //! Lines, and the words of a line.
 
 ghost use Rattle.std.specs.Prelude.{◌≡◌, ◌<◌, ◌∷◌, length, option_map, IfSome};
-ghost use Rattle.play_script.specs.Words.{cut_of, lines_of, pieces, parts, seen, next, one, two, three};
+ghost use Rattle.play_script.specs.Words.{cut_of, lines_of, pieces, parts, seen, next, one, two, three, four, five};
 
 /// The first line without its line feed, and the text behind it.
 pub fn cut_line(text: &[u8]) -> (&[u8], &[u8])
@@ -68,4 +68,22 @@ pub fn three<'a>(rest: Option<&'a str>) -> Option<(&'a str, &'a str, &'a str)>
     let (first, rest) = next(rest)?;
     let (second, third) = two(rest)?;
     Some((first, second, third))
+}
+
+/// The four words that are left.
+fn four<'a>(rest: Option<&'a str>) -> Option<(&'a str, &'a str, &'a str, &'a str)>
+    ensures { option_map (λ words. (words.0.now, words.1.now, words.2.now, words.3.now)) result ≡ four (seen rest.entry) }
+{
+    let (first, rest) = next(rest)?;
+    let (second, third, fourth) = three(rest)?;
+    Some((first, second, third, fourth))
+}
+
+/// The five words that are left.
+pub fn five<'a>(rest: Option<&'a str>) -> Option<(&'a str, &'a str, &'a str, &'a str, &'a str)>
+    ensures { option_map (λ words. (words.0.now, words.1.now, words.2.now, words.3.now, words.4.now)) result ≡ five (seen rest.entry) }
+{
+    let (first, rest) = next(rest)?;
+    let (second, third, fourth, fifth) = four(rest)?;
+    Some((first, second, third, fourth, fifth))
 }

@@ -8,16 +8,17 @@ use Rattle.store_api.specs.Program.{Prog, Done, Ask as Ask_next, Keeps}
 use Rattle.store_api.specs.Plays.{Play, Ended, Ask, Or, PlayKeeps, PlayLeads, Stays}
 use Rattle.commit_path.specs.Owed.{Sessions, IsCareful}
 use Rattle.commit_path.specs.Answered.{ChangedNothing}
+use Rattle.commit_path.specs.Single.{IsSingle}
 use Rattle.commit_path.proofs.Telling.{makes-keeps}
 
--- an operation is polite and owed, and comes before its client changed a branch
+-- an operation is polite and owed, and comes before its client changed a branch, and one that puts a snapshot before it put any
 abbrev pub Minds : Sessions → List Event → List Event → ℕ → Op → Type 0
-Minds mine start journal client op = IsCareful mine journal client op × ChangedNothing client start journal
+Minds mine start journal client op = IsCareful mine journal client op × ChangedNothing client start journal × IsSingle start journal client op
 
-pub Keeps-minds : {A : Type 0} (mine : Sessions) (start : List Event) (by : Caller) (p : Prog A) (journal : List Event) → Keeps (IsCareful mine) by p journal → Stays (ChangedNothing by.number start) by p journal → Keeps (Minds mine start) by p journal
+pub Keeps-minds : {A : Type 0} (mine : Sessions) (start : List Event) (by : Caller) (p : Prog A) (journal : List Event) → Keeps (IsCareful mine) by p journal → Keeps (IsSingle start) by p journal → Stays (ChangedNothing by.number start) by p journal → Keeps (Minds mine start) by p journal
 unfolding Keeps Stays
-Keeps-minds mine start by (Done a) journal k s = tt
-Keeps-minds mine start by (Ask_next op next) journal k s = ((k.0, s.0), λ reply new m. Keeps-minds mine start by (next reply) new (k.1 reply new m) (s.1 reply new m).1)
+Keeps-minds mine start by (Done a) journal k o s = tt
+Keeps-minds mine start by (Ask_next op next) journal k o s = ((k.0, s.0, o.0), λ reply new m. Keeps-minds mine start by (next reply) new (k.1 reply new m) (o.1 reply new m) (s.1 reply new m).1)
 
 -- where R follows from Q
 pub PlayLeads-weaker : {A : Type 0} (Q R : A → List Event → Type 0) → ((a : A) (h : List Event) → Q a h → R a h) → (by : Caller) (p : Play A) (journal : List Event) → PlayLeads Q by p journal → PlayLeads R by p journal

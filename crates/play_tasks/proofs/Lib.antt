@@ -3,3 +3,4 @@ pub mod Stepping
 pub mod Carrying
 pub mod Playing
 pub mod Others
+pub mod Paths

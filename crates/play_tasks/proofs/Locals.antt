@@ -9,24 +9,22 @@ use Rattle.ice_ids.specs.declared.Id12.{Id12}
 use Rattle.ice_ids.specs.Drawing.{drawn8, drawn12}
 use Rattle.flat_tables.specs.declared.header.Kind.TheVariants as kinds
 use Rattle.zarr_meta.specs.declared.faults.MetaFault.{MetaFault}
+use Rattle.zarr_meta.specs.declared.views.View.{View}
 use Rattle.zarr_meta.specs.Meta.{meta_of}
-use Rattle.zarr_meta.specs.Plain.{group_text}
 use Rattle.zarr_tree.specs.declared.edit.EditFault.{EditFault}
 use Rattle.zarr_tree.specs.declared.edit.EditFault.TheVariants as E
 use Rattle.zarr_tree.specs.Held.{touched}
 use Rattle.zarr_tree.specs.Touched.{is_untouched}
-use Rattle.zarr_changes.specs.Sets.{add_refusal}
+use Rattle.zarr_changes.specs.Sets.{add_refusal, text_refusal, drop_refusal}
 use Rattle.txn_file.specs.Layout.{log_file}
 use Rattle.store_api.specs.declared.machines.Refusal.{Refusal}
 use Rattle.store_api.specs.declared.machines.Refusal.TheVariants as R
 use Rattle.store_api.specs.Program.{Prog, is_fault}
 use Rattle.store_api.specs.Plays.{Play, Or, call, Comes}
 use Rattle.session.specs.Sessions.{SessionState, base_nodes, nodes_seen}
-use Rattle.session.specs.Editing.{AddsGroup, refusal_of_edit, group_fault, group_added, unless_bad, unless_refused, drawn_node}
+use Rattle.session.specs.Editing.{Adds, Leaves, refusal_of_edit, node_fault, added, meta_set, node_dropped, if_writes, unless_bad, unless_refused, drawn_node}
 use Rattle.commit_path.specs.declared.commit.Committed.{Committed as Made}
 use Rattle.commit_path.specs.Committing.{started, drawn_start, after_draw, log_for, is_long, commit_program, ComesBack}
-use Rattle.play_script.specs.declared.scripts.EditCall.{EditCall}
-use Rattle.play_script.specs.declared.scripts.EditCall.TheVariants.{Group}
 use Rattle.play_script.specs.declared.scripts.Line.{Line}
 use Rattle.play_script.specs.declared.scripts.Task.{Task}
 use Rattle.play_outcome.specs.declared.outcome.Shown.{Shown}
@@ -35,9 +33,9 @@ use Rattle.play_outcome.specs.declared.outcome.Outcome.{Outcome}
 use Rattle.play_tasks.specs.declared.working.Working.{Working}
 use Rattle.play_tasks.specs.declared.working.Working.TheVariants as w
 use Rattle.play_tasks.specs.declared.working.Step.TheVariants as step
-use Rattle.play_tasks.specs.Lines.{Deed, Goes, deed, session_of, edited, silent}
+use Rattle.play_tasks.specs.Lines.{Deed, Goes, deed, session_of, silent}
 use Rattle.play_tasks.specs.Playing.{Rest, after_line, after_start, after_commit, play_deed, play_lines, ended, refused}
-use Rattle.play_tasks.specs.inside.Working.{is_well, LineComes, working_rest}
+use Rattle.play_tasks.specs.inside.Working.{is_well, is_local, without_id, Edits, LineComes, working_rest}
 
 -- a commit began
 pub start_on : (line : ℕ) (message copied : List ℕ) (shown kept : List Shown) (r : Result (Id12 × SessionState) Refusal) (id : Id12) (t : SessionState) (rest : Prog (Result Made Refusal))
@@ -55,23 +53,18 @@ start_refused line message shown s back (R.TooLarge kind) c = inl (subst (λ (x 
 start_refused line message shown s back why c = inl (subst (λ (x : Result (Id12 × SessionState) Refusal). Comes (after_start line message shown x) (refused line shown why)) (sym c.0) refl)
 
 -- ---- an edit
--- a group was added
-pub edit_on : (edit : EditCall) (s t : SessionState) (path text : List ℕ) (id : Id8) → edit ≡ Group path → text ≡ group_text → group_added s path text ≡ Ok (id, t) → Goes (silent (edited edit s)) ≡ Goes (Ok ([], t))
-edit_on edit s t path text id e same added =
-    ap (λ (x : EditCall). Goes (silent (edited x s))) e
-    ∙ ap (λ (x : List ℕ). Goes (silent (session_of (group_added s path x)))) (sym same)
-    ∙ ap (λ (r : Result (Id8 × SessionState) Refusal). Goes (silent (session_of r))) added
+-- it was made
+pub edit_on : (r : Result SessionState Refusal) (t : SessionState) (done : Unit {0}) → Edits r (Ok done) t → Goes (silent r) ≡ Goes (Ok ([], t))
+edit_on r t done e = ap (λ (x : Result SessionState Refusal). Goes (silent x)) e
 
-was_refused : (line : ℕ) (shown : List Shown) (edit : EditCall) (s : SessionState) (path text : List ℕ) (why : Refusal) (rest : Rest) → edit ≡ Group path → text ≡ group_text → group_added s path text ≡ Err why → Comes (after_line line shown (silent (edited edit s)) rest) (refused line shown why)
-was_refused line shown edit s path text why rest e same r =
-    let all : edited edit s ≡ Err why = ap (λ (x : EditCall). edited x s) e ∙ ap (λ (x : List ℕ). session_of (group_added s path x)) (sym same) ∙ ap session_of r in
-    subst (λ (x : Result SessionState Refusal). Comes (after_line line shown (silent x) rest) (refused line shown why)) (sym all) refl
+was_refused : (line : ℕ) (shown : List Shown) (r : Result SessionState Refusal) (why : Refusal) (rest : Rest) → r ≡ Err why → Comes (after_line line shown (silent r) rest) (refused line shown why)
+was_refused line shown r why rest e = subst (λ (x : Result SessionState Refusal). Comes (after_line line shown (silent x) rest) (refused line shown why)) (sym e) refl
 
 -- it was refused
-pub edit_refused : (line : ℕ) (shown : List Shown) (edit : EditCall) (s t : SessionState) (path text : List ℕ) (why : Refusal) (rest : Rest) → edit ≡ Group path → text ≡ group_text → AddsGroup s path text (Err why) t
-    → Comes (Or (after_line line shown (silent (edited edit s)) rest) (refused line shown R.NoMemory)) (refused line shown why)
-edit_refused line shown edit s t path text R.NoMemory rest e same a = inr refl
-edit_refused line shown edit s t path text why rest e same a = inl (was_refused line shown edit s path text why rest e same a.0)
+pub edit_refused : (line : ℕ) (shown : List Shown) (r : Result SessionState Refusal) (t : SessionState) (why : Refusal) (rest : Rest) → Edits r (Err why) t
+    → Comes (Or (after_line line shown (silent r) rest) (refused line shown R.NoMemory)) (refused line shown why)
+edit_refused line shown r t R.NoMemory rest e = inr refl
+edit_refused line shown r t why rest e = inl (was_refused line shown r why rest e)
 
 -- ---- refusals that tell no fault
 pub well_refused : (x : Working) (line : ℕ) (shown : List Shown) (why : Refusal) → x ≡ w.Ended (record { shown = shown; end = Refused line why }) → is_fault why ≡ false → is_well x ≡ true
@@ -98,10 +91,6 @@ pub back_fault : (s back : SessionState) (why : Refusal) → ComesBack s back wh
 back_fault s back R.StoreFault c = started_fault s R.StoreFault c.0
 back_fault s back _ c = refl
 
-by_id8 : (s : SessionState) (p text : List ℕ) (o : Option Id8) (why : Refusal) → drawn_node s p text o ≡ Err why → is_fault why ≡ false
-by_id8 s p text None why e = let x : R.IdsSpent ≡ why = cc in sym (ap is_fault x)
-by_id8 s p text (Some id) why e = absurd (cc)
-
 edit_fault : (fault : EditFault) → is_fault (refusal_of_edit fault) ≡ false
 edit_fault E.NodeExists = refl
 edit_fault E.NoParent = refl
@@ -113,32 +102,74 @@ edit_fault E.OutOfGrid = refl
 edit_fault (E.ChunkLength want got) = refl
 edit_fault E.NoMemory = refl
 
-by_refusal : (s : SessionState) (p text : List ℕ) (r : Option EditFault) (why : Refusal) → unless_refused r (drawn_node s p text (drawn8 s.ids)) ≡ Err why → is_fault why ≡ false
-by_refusal s p text None why e = by_id8 s p text (drawn8 s.ids) why e
-by_refusal s p text (Some fault) why e = let x : refusal_of_edit fault ≡ why = cc in sym (ap is_fault x) ∙ edit_fault fault
+-- no refusal of a call tells a fault
+abbrev IsLocal : {A : Type 0} → Result A Refusal → Type 0
+IsLocal r = (why : Refusal) → r ≡ Err why → is_fault why ≡ false
 
-by_text : (s : SessionState) (p text : List ℕ) (m : Option MetaFault) (why : Refusal) → unless_bad m (unless_refused (add_refusal (nodes_seen s) p) (drawn_node s p text (drawn8 s.ids))) ≡ Err why → is_fault why ≡ false
-by_text s p text None why e = by_refusal s p text (add_refusal (nodes_seen s) p) why e
-by_text s p text (Some fault) why e = let x : R.BadMeta fault ≡ why = cc in sym (ap is_fault x)
+by_edit : {A : Type 0} (o : Option EditFault) (r : Result A Refusal) → IsLocal r → IsLocal (unless_refused o r)
+by_edit None r l why e = l why e
+by_edit (Some fault) r l why e = let x : refusal_of_edit fault ≡ why = cc in sym (ap is_fault x) ∙ edit_fault fault
 
-writes_or : Bool → Result (Id8 × SessionState) Refusal → Result (Id8 × SessionState) Refusal
-writes_or b r = elim b [
-  | true ↦ r
-  | false ↦ Err R.ReadOnly
-]
+by_text : {A : Type 0} (m : Option MetaFault) (r : Result A Refusal) → IsLocal r → IsLocal (unless_bad m r)
+by_text None r l why e = l why e
+by_text (Some fault) r l why e = let x : R.BadMeta fault ≡ why = cc in sym (ap is_fault x)
 
-by_writes : (s : SessionState) (p text : List ℕ) (b : Bool) (why : Refusal) → writes_or b (unless_bad (group_fault (meta_of text)) (unless_refused (add_refusal (nodes_seen s) p) (drawn_node s p text (drawn8 s.ids)))) ≡ Err why → is_fault why ≡ false
-unfolding writes_or
-by_writes s p text true why e = by_text s p text (group_fault (meta_of text)) why e
-by_writes s p text false why e = let x : R.ReadOnly ≡ why = cc in sym (ap is_fault x)
+by_writes : {A : Type 0} (w : Bool) (r : Result A Refusal) → IsLocal r → IsLocal (if_writes w r)
+by_writes true r l why e = l why e
+by_writes false r l why e = let x : R.ReadOnly ≡ why = cc in sym (ap is_fault x)
 
-added_fault : (s : SessionState) (p text : List ℕ) (why : Refusal) → group_added s p text ≡ Err why → is_fault why ≡ false
-unfolding group_added writes_or
-added_fault s p text why e = by_writes s p text s.writes why e
+by_id8 : (s : SessionState) (p text : List ℕ) (o : Option Id8) → IsLocal (drawn_node s p text o)
+by_id8 s p text None why e = let x : R.IdsSpent ≡ why = cc in sym (ap is_fault x)
+by_id8 s p text (Some id) why e = absurd (cc)
 
-pub adds_fault : (s t : SessionState) (p text : List ℕ) (why : Refusal) → AddsGroup s p text (Err why) t → is_fault why ≡ false
-adds_fault s t p text R.StoreFault a = added_fault s p text R.StoreFault a.0
-adds_fault s t p text _ a = refl
+added_local : (fault : Result View MetaFault → Option MetaFault) (s : SessionState) (p text : List ℕ) → IsLocal (added fault s p text)
+unfolding added
+added_local fault s p text = by_writes s.writes _ (by_text (fault (meta_of text)) _ (by_edit (add_refusal (nodes_seen s) p) _ (by_id8 s p text (drawn8 s.ids))))
+
+set_local : (s : SessionState) (p text : List ℕ) → IsLocal (meta_set s p text)
+unfolding meta_set
+set_local s p text = by_writes s.writes _ (by_text (node_fault (meta_of text)) _ (by_edit (text_refusal (nodes_seen s) p text) _ (λ why e. absurd (cc))))
+
+drop_local : (s : SessionState) (p : List ℕ) → IsLocal (node_dropped s p)
+unfolding node_dropped
+drop_local s p = by_writes s.writes _ (by_edit (drop_refusal (nodes_seen s) p) _ (λ why e. absurd (cc)))
+
+adds-local : (expected : Result (Id8 × SessionState) Refusal) (s t : SessionState) (r : Result Id8 Refusal) → IsLocal expected → Adds expected s r t → is_local (without_id r) ≡ true
+adds-local expected s t (Ok id) l a = refl
+adds-local expected s t (Err R.NoMemory) l a = refl
+adds-local expected s t (Err why) l a = ap not (l why a.0)
+
+leaves-local : (expected : Result SessionState Refusal) (s t : SessionState) (r : Result (Unit {0}) Refusal) → IsLocal expected → Leaves expected s r t → is_local r ≡ true
+leaves-local expected s t (Ok done) l a = refl
+leaves-local expected s t (Err R.NoMemory) l a = refl
+leaves-local expected s t (Err why) l a = ap not (l why a.0)
+
+pub added-local : (fault : Result View MetaFault → Option MetaFault) (s t : SessionState) (p text : List ℕ) (r : Result Id8 Refusal) → Adds (added fault s p text) s r t → is_local (without_id r) ≡ true
+added-local fault s t p text r a = adds-local (added fault s p text) s t r (added_local fault s p text) a
+
+pub set-local : (s t : SessionState) (p text : List ℕ) (r : Result (Unit {0}) Refusal) → Leaves (meta_set s p text) s r t → is_local r ≡ true
+set-local s t p text r a = leaves-local (meta_set s p text) s t r (set_local s p text) a
+
+pub drop-local : (s t : SessionState) (p : List ℕ) (r : Result (Unit {0}) Refusal) → Leaves (node_dropped s p) s r t → is_local r ≡ true
+drop-local s t p r a = leaves-local (node_dropped s p) s t r (drop_local s p) a
+
+pub local_why : (why : Refusal) → is_local (Err why) ≡ true → is_fault why ≡ false
+local_why why e = by_fault (is_fault why) e
+  where
+    by_fault : (b : Bool) → not b ≡ true → b ≡ false
+    by_fault true e = absurd (cc)
+    by_fault false e = refl
+
+-- what the calls leave is what an edit comes to
+pub adds-edits : (expected : Result (Id8 × SessionState) Refusal) (s t : SessionState) (r : Result Id8 Refusal) → Adds expected s r t → Edits (session_of expected) (without_id r) t
+adds-edits expected s t (Ok id) a = ap session_of a
+adds-edits expected s t (Err R.NoMemory) a = tt
+adds-edits expected s t (Err why) a = ap session_of a.0
+
+pub leaves-edits : (expected : Result SessionState Refusal) (s t : SessionState) (r : Result (Unit {0}) Refusal) → Leaves expected s r t → Edits expected r t
+leaves-edits expected s t (Ok done) a = a
+leaves-edits expected s t (Err R.NoMemory) a = tt
+leaves-edits expected s t (Err why) a = a.0
 
 -- ---- lines
 drop_at : (lines : List Line) (i : ℕ) (l : Line) → i < length lines → drop i lines ≡ slice_index_or lines i l ∷ drop (i + 1) lines

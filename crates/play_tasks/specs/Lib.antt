@@ -4,5 +4,6 @@ pub mod Solving
 pub mod Workers
 pub mod Telling
 pub mod Tasks
+pub mod Played
 pub mod Laws
 pub mod inside

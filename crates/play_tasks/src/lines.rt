@@ -1,18 +1,21 @@
 //! The lines of a task's body, played on its session.
 
 ghost use Rattle.std.specs.Prelude.{◌≡◌, ◌++◌, [], true, map, IfOk, OnErr};
-ghost use Rattle.play_tasks.specs.Lines.{node_shown, deed, Goes, Commits, edited, silent, still, read_by};
+ghost use Rattle.session.specs.Editing.{listed, text_at};
+ghost use Rattle.play_tasks.specs.Lines.{node_shown, nodes_shown, meta_shown, deed, Goes, Commits, edited, silent, still, read_by};
 ghost use Rattle.play_tasks.specs.Playing.{play_lines};
-ghost use Rattle.play_tasks.specs.inside.Working.{is_clean, LineComes, LinesCome};
+ghost use Rattle.play_tasks.specs.inside.Working.{is_clean, is_local, without_id, Edits, Looks, LineComes, LinesCome};
 
 use crate::working::{Step, Working};
 use commit_path::Commit;
 use ice_base::Text;
+use ice_ids::Id8;
 use play_outcome::{End, Outcome, Shown, Shows};
 use play_script::{Call, EditCall, Line, ReadCall};
 use session::{Listing, Session};
 use std::alloc::{AllocError, Global};
 use store_api::Refusal;
+use zarr_path::Path;
 
 /// The shortest metadata of a group.
 const GROUP_TEXT: &[u8] = br#"{"zarr_format":3,"node_type":"group"}"#;
@@ -30,7 +33,7 @@ pub(crate) fn refuse(line: u32, shown: Vec<Shown>, why: Refusal) -> Working
 }
 
 /// Shows the nodes of a listing that this line of the script asked for.
-fn show(line: u32, nodes: Vec<Listing>, shown: &mut Vec<Shown>) -> Result<(), AllocError>
+fn show_nodes(line: u32, nodes: Vec<Listing>, shown: &mut Vec<Shown>) -> Result<(), AllocError>
     ensures ok { IfOk result (λ done. shown.new.items ≡ shown.old.items ++ map (node_shown line) nodes.items) }
     ensures err { OnErr result (shown.new.items ≡ shown.old.items) }
 {
@@ -45,31 +48,98 @@ fn show(line: u32, nodes: Vec<Listing>, shown: &mut Vec<Shown>) -> Result<(), Al
     Ok(())
 }
 
+/// Shows the nodes beneath a path.
+fn show_list(
+    line: u32,
+    session: &Session,
+    path: &Path,
+    shown: &mut Vec<Shown>,
+) -> Result<(), Refusal>
+    ensures looks { Looks (nodes_shown line (listed session.now path.now)) shown.old.items result shown.new.items }
+    ensures local { is_local result ≡ true }
+{
+    let nodes = session.list_beneath(path)?;
+    match show_nodes(line, nodes.into_vec(), shown) {
+        Ok(()) => Ok(()),
+        Err(_) => Err(Refusal::NoMemory),
+    }
+}
+
+/// Shows the metadata of the node at a path.
+fn show_meta(
+    alloc: Global,
+    line: u32,
+    session: &Session,
+    path: &Path,
+    shown: &mut Vec<Shown>,
+) -> Result<(), Refusal>
+    ensures looks { Looks (meta_shown line (text_at session.now path.now)) shown.old.items result shown.new.items }
+    ensures local { is_local result ≡ true }
+{
+    let meta = session.get_meta(path)?;
+    let Ok(text) = meta.text.copy(alloc) else {
+        return Err(Refusal::NoMemory);
+    };
+    match shown.push(Shown::Meta { line, text }) {
+        Ok(()) => Ok(()),
+        Err(_) => Err(Refusal::NoMemory),
+    }
+}
+
+/// What an edit that adds a node came to, without the node's id.
+fn without_id(added: Result<Id8, Refusal>) -> Result<(), Refusal>
+    ensures { result ≡ without_id added }
+{
+    match added {
+        Ok(_) => Ok(()),
+        Err(why) => Err(why),
+    }
+}
+
+/// Makes an edit.
+fn edit_session(edit: &EditCall, session: &mut Session) -> Result<(), Refusal>
+    ensures edits { Edits (edited edit.now session.old) result session.new }
+    ensures local { is_local result ≡ true }
+{
+    match edit {
+        EditCall::Group { path } => without_id(session.add_group(path, GROUP_TEXT)),
+        EditCall::Array { path, text } => {
+            without_id(session.add_array(path, text.as_str().as_bytes()))
+        }
+        EditCall::Make { path, text } => {
+            without_id(session.add_node(path, text.as_str().as_bytes()))
+        }
+        EditCall::Meta { path, text } => session.set_meta(path, text.as_str().as_bytes()),
+        EditCall::Drop { path } => session.drop_node(path),
+    }
+}
+
 fn play_edit(line: u32, edit: &EditCall, mut session: Session, shown: Vec<Shown>) -> Step
     ensures comes { LineComes line shown.items session (Goes (silent (edited edit.now session))) result }
     ensures clean { is_clean result ≡ true }
 {
-    let went = match edit {
-        EditCall::Group { path } => session.add_group(path, GROUP_TEXT),
-    };
-    match went {
-        Ok(_) => Step::On { session, shown },
+    match edit_session(edit, &mut session) {
+        Ok(()) => Step::On { session, shown },
         Err(why) => Step::Stop(refuse(line, shown, why)),
     }
 }
 
-fn play_read(line: u32, read: &ReadCall, session: Session, mut shown: Vec<Shown>) -> Step
+fn play_read(
+    alloc: Global,
+    line: u32,
+    read: &ReadCall,
+    session: Session,
+    mut shown: Vec<Shown>,
+) -> Step
     ensures comes { LineComes line shown.items session (Goes (still session (read_by line read.now session))) result }
     ensures clean { is_clean result ≡ true }
 {
     let looked = match read {
-        ReadCall::List { path } => session.list_beneath(path),
+        ReadCall::List { path } => show_list(line, &session, path, &mut shown),
+        ReadCall::Get { path } => show_meta(alloc, line, &session, path, &mut shown),
     };
     match looked {
-        Ok(nodes) => match show(line, nodes.into_vec(), &mut shown) {
-            Ok(()) => Step::On { session, shown },
-            Err(_) => Step::Stop(refuse(line, shown, Refusal::NoMemory)),
-        },
+        Ok(()) => Step::On { session, shown },
         Err(why) => Step::Stop(refuse(line, shown, why)),
     }
 }
@@ -103,7 +173,7 @@ fn play_line(alloc: Global, line: &Line, session: Session, shown: Vec<Shown>) ->
 {
     match &line.call {
         Call::Edit(edit) => play_edit(line.number, edit, session, shown),
-        Call::Read(read) => play_read(line.number, read, session, shown),
+        Call::Read(read) => play_read(alloc, line.number, read, session, shown),
         Call::Commit { message } => play_commit(alloc, line.number, message, session, shown),
     }
 }

@@ -1,10 +1,13 @@
 -- Nothing is put again in a run, and for each of its commits there are its session's changes.
-use Rattle.std.proofs.Common.{◌≡◌, ℕ, ◌+◌, ◌-◌, ◌^◌, ◌<◌, List, [], ◌∷◌, ◌++◌, length, refl, sym, ◌∙◌, ap, subst, append_assoc, append-nil}
-use Rattle.std.specs.Prelude.{Some, None, slice_get}
+use Rattle.std.proofs.Common.{◌≡◌, ℕ, ◌+◌, ◌-◌, ◌^◌, ◌<◌, List, [], ◌∷◌, ◌++◌, length, refl, sym, ◌∙◌, ap, subst, arith}
+use Rattle.std.specs.Prelude.{Some, None, slice_get, All}
+use Rattle.std.proofs.lemmas.Option.{slice_get_within, get_or_from_slice_get}
+use Rattle.std.proofs.lemmas.List.Elements.{All-get_or}
 use Rattle.ice_ids.specs.declared.Id12.{Id12}
 use Rattle.ice_ids.specs.declared.drawing.AnyIds.{AnyIds}
 use Rattle.ice_ids.specs.declared.drawing.Draw.{Draw}
-use Rattle.ice_ids.specs.Drawing.{IsAnyIds}
+use Rattle.ice_ids.specs.Drawing.{client_of}
+use Rattle.ice_ids.proofs.Drawn.{ids_of-IsAnyIds}
 use Rattle.zarr_tree.specs.Changes.{Changes, none}
 use Rattle.repo_objects.specs.Readings.{ref_of}
 use Rattle.store_api.specs.declared.keys.Key.{Key}
@@ -24,11 +27,14 @@ use Rattle.histories.proofs.Choosing.{Knows}
 use Rattle.session.specs.Sessions.{changes_in}
 use Rattle.commit_path.specs.Owed.{Sessions, IsMade, OwesOver, Owes}
 use Rattle.play_script.specs.declared.scripts.Task.{Task}
+use Rattle.play_script.specs.Well.{IsWellTask}
 use Rattle.play_tasks.specs.Solving.{IsOfTask}
 use Rattle.play_tasks.specs.Tasks.{ids_at, IsOfClient}
-use Rattle.run_histories.specs.Runs.{CanBeDrawn, MayDraw}
+use Rattle.run_histories.specs.Sources.{MayDrawObject, ObjectsAreNew}
 use Rattle.run_histories.specs.Told.{IsOfSession, CommitsSession}
-use Rattle.run_histories.proofs.Drawing.{task-drawn, not-initial, ids_at-known}
+use Rattle.run_histories.proofs.Sources.{object-not_initial}
+use Rattle.run_histories.proofs.Editing.{task-object}
+use Rattle.run_histories.proofs.Drawing.{AreOf}
 use Rattle.run_histories.proofs.Programs.{IsPlain}
 
 -- ---- a key from which nothing is removed
@@ -54,17 +60,21 @@ unused-one journal event key k u =
     subst (λ (s : Slot). Unused s) (sym (slot-append_one journal event key))
     (effect-cases Unused key (length journal) (slot_of journal key) event u (λ on d. leaves-unused event.op (length journal) event.time (slot_of journal key) k u))
 
-may-one : (journal : List Event) (event : Event) → ¬ Removes event.op → MayDraw journal → MayDraw (journal ++ event ∷ [])
-may-one journal event k may id d =
-    let m = may id d in
+pub objects-one : (ids : AnyIds) (journal : List Event) (event : Event) → ¬ Removes event.op → ObjectsAreNew ids journal → ObjectsAreNew ids (journal ++ event ∷ [])
+objects-one ids journal event k new id d =
+    let m = new id d in
     (unused-one journal event (Snapshot id) k m.0, unused-one journal event (Txn id) k m.1)
 
+-- the objects of a run's clients are new
+abbrev pub AllObjectsAreNew : Draw → List Task → List Event → Type 0
+AllObjectsAreNew draw tasks journal = (place : ℕ) → place < length tasks → ObjectsAreNew (ids_at draw place) journal
+
 -- ---- an event of a run
--- it is good, it removes nothing, it puts what wasn't put before, and its changes are known
+-- it is good, it removes nothing, it puts what wasn't put before, where its clients' objects are new, and its changes are known
 pub record Fits (draw : Draw) (tasks : List Task) (journal : List Event) (event : Event) : Type 0 where
   pub good : IsGood journal event
   pub keeps : ¬ Removes event.op
-  pub first : MayDraw journal → IsOnce journal → IsFirst journal event
+  pub first : AllObjectsAreNew draw tasks journal → IsOnce journal → IsFirst journal event
   pub knows : IsOnce journal → Knows (λ h e c. CommitsSession draw tasks c h e.client e.op) journal event
 
 -- of the opening or the closing reading
@@ -98,7 +108,7 @@ module _ (draw : Draw) (tasks : List Task) where
   plain-fits journal event good p = record {
     good = good;
     keeps = plain-keeps event.op p;
-    first = λ may once d. first-law journal event.op once good.polite (plain-once journal event.op p);
+    first = λ new once d. first-law journal event.op once good.polite (plain-once journal event.op p);
     knows = λ once. (none, plain-none journal event.client event.op p);
   }
 
@@ -111,27 +121,27 @@ owes-keeps mine journal (Remove key why) o r = o
 owes-keeps mine journal (RemoveAt key old why) o r = o
 owes-keeps mine journal (ListPart part) o r = r
 
-owes-once : (ids : AnyIds) (task : Task) (journal : List Event) (op : Op) → IsAnyIds ids → MayDraw journal → Owes (IsOfTask ids task) journal op → PutsOnce journal op
-owes-once ids task journal (Get key) known may o = tt
-owes-once ids task journal (ListPart part) known may o = tt
-owes-once ids task journal (PutNew (Snapshot id) bytes why) known may o =
-    let drawn : CanBeDrawn id = task-drawn ids task o.session id known o.is_mine in
-    (λ e. absurd (not-initial id drawn e), λ differs. (may id drawn).0)
-owes-once ids task journal (PutNew (Txn id) bytes why) known may o = (may id (task-drawn ids task o.session id known o.is_mine)).1
-owes-once ids task journal (PutNew (Manifest id) bytes why) known may o = absurd o
-owes-once ids task journal (PutNew (Chunk id) bytes why) known may o = absurd o
-owes-once ids task journal (PutNew (Branch name) bytes why) known may o = tt
-owes-once ids task journal (PutNew (Tag name) bytes why) known may o = tt
-owes-once ids task journal (PutNew (TagGone name) bytes why) known may o = tt
-owes-once ids task journal (PutOver (Snapshot id) bytes old why) known may o = absurd o
-owes-once ids task journal (PutOver (Txn id) bytes old why) known may o = tt
-owes-once ids task journal (PutOver (Manifest id) bytes old why) known may o = tt
-owes-once ids task journal (PutOver (Chunk id) bytes old why) known may o = tt
-owes-once ids task journal (PutOver (Branch name) bytes old why) known may o = tt
-owes-once ids task journal (PutOver (Tag name) bytes old why) known may o = tt
-owes-once ids task journal (PutOver (TagGone name) bytes old why) known may o = tt
-owes-once ids task journal (Remove key why) known may o = tt
-owes-once ids task journal (RemoveAt key old why) known may o = tt
+owes-once : (ids : AnyIds) (task : Task) (journal : List Event) (op : Op) → client_of ids < 2 ^ 32 → IsWellTask task → ObjectsAreNew ids journal → Owes (IsOfTask ids task) journal op → PutsOnce journal op
+owes-once ids task journal (Get key) small well new o = tt
+owes-once ids task journal (ListPart part) small well new o = tt
+owes-once ids task journal (PutNew (Snapshot id) bytes why) small well new o =
+    let drawn : MayDrawObject ids id = task-object ids task o.session id well o.is_mine in
+    (λ e. absurd (object-not_initial ids id small drawn e), λ differs. (new id drawn).0)
+owes-once ids task journal (PutNew (Txn id) bytes why) small well new o = (new id (task-object ids task o.session id well o.is_mine)).1
+owes-once ids task journal (PutNew (Manifest id) bytes why) small well new o = absurd o
+owes-once ids task journal (PutNew (Chunk id) bytes why) small well new o = absurd o
+owes-once ids task journal (PutNew (Branch name) bytes why) small well new o = tt
+owes-once ids task journal (PutNew (Tag name) bytes why) small well new o = tt
+owes-once ids task journal (PutNew (TagGone name) bytes why) small well new o = tt
+owes-once ids task journal (PutOver (Snapshot id) bytes old why) small well new o = absurd o
+owes-once ids task journal (PutOver (Txn id) bytes old why) small well new o = tt
+owes-once ids task journal (PutOver (Manifest id) bytes old why) small well new o = tt
+owes-once ids task journal (PutOver (Chunk id) bytes old why) small well new o = tt
+owes-once ids task journal (PutOver (Branch name) bytes old why) small well new o = tt
+owes-once ids task journal (PutOver (Tag name) bytes old why) small well new o = tt
+owes-once ids task journal (PutOver (TagGone name) bytes old why) small well new o = tt
+owes-once ids task journal (Remove key why) small well new o = tt
+owes-once ids task journal (RemoveAt key old why) small well new o = tt
 
 module _ (draw : Draw) (tasks : List Task) (client place : ℕ) (task : Task) (client_is : client ≡ place + 1) (at : slice_get tasks place ≡ Some task) (journal : List Event) (once : IsOnce journal) where
   -- a branch that is put over
@@ -176,32 +186,39 @@ module _ (draw : Draw) (tasks : List Task) (client place : ℕ) (task : Task) (c
   op-knows (RemoveAt key old why) o = absurd o
 
 module _ (draw : Draw) (tasks : List Task) where
-  pub client-fits : length tasks < 2 ^ 32 - 1 → (journal : List Event) (event : Event) → IsOfClient draw tasks journal event → Fits draw tasks journal event
-  client-fits few journal event c =
+  -- the task at a place is well
+  pub well-at : All IsWellTask tasks → (place : ℕ) (task : Task) → slice_get tasks place ≡ Some task → IsWellTask task
+  well-at wells place task at = subst IsWellTask (get_or_from_slice_get tasks place task task at) (All-get_or IsWellTask tasks place task (slice_get_within tasks place task at) wells)
+
+  -- the source of the client of a place
+  pub source-at : length tasks < 2 ^ 32 - 1 → (place : ℕ) → place < length tasks → AreOf (place + 1) (ids_at draw place)
+  source-at few place within = ids_of-IsAnyIds draw (place + 1) (omega (arith, within, few))
+
+  pub small-at : length tasks < 2 ^ 32 - 1 → (place : ℕ) → place < length tasks → client_of (ids_at draw place) < 2 ^ 32
+  small-at few place within = let client = (source-at few place within).1 in omega (arith, client, within, few)
+
+  pub client-fits : length tasks < 2 ^ 32 - 1 → All IsWellTask tasks → (start journal : List Event) (event : Event) → IsOfClient draw tasks start journal event → Fits draw tasks journal event
+  client-fits few wells start journal event c =
       let mine : Sessions = IsOfTask (ids_at draw c.place) c.task in
       let owes : Owes mine journal event.op = c.careful.owes in
       record {
         good = c.careful.good;
         keeps = owes-keeps mine journal event.op owes;
-        first = λ may once d. first-law journal event.op once c.careful.good.polite (owes-once (ids_at draw c.place) c.task journal event.op (ids_at-known draw tasks c.place c.task few c.at) may owes);
+        first = λ new once d. first-law journal event.op once c.careful.good.polite
+            (owes-once (ids_at draw c.place) c.task journal event.op (small-at few c.place (slice_get_within tasks c.place c.task c.at)) (well-at wells c.place c.task c.at) (new c.place (slice_get_within tasks c.place c.task c.at)) owes);
         knows = λ once. op-knows draw tasks event.client c.place c.task c.client c.at journal once event.op owes;
       }
 
   -- ---- along a run
-  -- nothing is put again, what is drawn stays new, and the changes are known
+  -- nothing is put again, and the changes are known
   pub record Goes (old more : List Event) : Type 0 where
     pub first : Each IsFirst old more
-    pub draws : MayDraw (old ++ more)
     pub knows : Each (Knows (λ h e c. CommitsSession draw tasks c h e.client e.op)) old more
 
-  pub goes : (old more : List Event) → IsOnce old → MayDraw old → Each (Fits draw tasks) old more → Goes old more
+  pub goes : (old more : List Event) → IsOnce old → AllObjectsAreNew draw tasks old → Each (Fits draw tasks) old more → Goes old more
   unfolding Each
-  goes old [] once may fits = record { first = tt; draws = subst (λ (h : List Event). MayDraw h) (sym (append-nil old)) may; knows = tt }
-  goes old (x ∷ xs) once may fits =
-      let first : IsFirst old x = fits.0.first may once in
-      let next = goes (old ++ x ∷ []) xs (Each-append IsFirst [] old (x ∷ []) once (first, tt)) (may-one old x fits.0.keeps may) fits.1 in
-      record {
-        first = (first, next.first);
-        draws = subst (λ (h : List Event). MayDraw h) (append_assoc old (x ∷ []) xs) next.draws;
-        knows = (fits.0.knows once, next.knows);
-      }
+  goes old [] once new fits = record { first = tt; knows = tt }
+  goes old (x ∷ xs) once new fits =
+      let first : IsFirst old x = fits.0.first new once in
+      let next = goes (old ++ x ∷ []) xs (Each-append IsFirst [] old (x ∷ []) once (first, tt)) (λ place within. objects-one (ids_at draw place) old x fits.0.keeps (new place within)) fits.1 in
+      record { first = (first, next.first); knows = (fits.0.knows once, next.knows) }

@@ -1,26 +1,28 @@
 -- The changes given for each commit, in the whole journal.
 use Rattle.std.proofs.Common.{◌≡◌, ℕ, ◌<◌, ◌≤◌, cond, ltb, List, [], ◌∷◌, ◌++◌, length, refl, sym, ◌∙◌, ap, subst, arith, append_assoc, length-append}
-use Rattle.std.specs.Prelude.{Option, Some, option_map}
+use Rattle.std.specs.Prelude.{Some, option_map}
 use Rattle.std.proofs.lemmas.Bool.{lt-ltb, le-ltb}
 use Rattle.ice_ids.specs.declared.Id12.{Id12}
 use Rattle.ice_ids.specs.declared.drawing.Draw.{Draw}
 use Rattle.zarr_tree.specs.Trees.{Tree}
-use Rattle.zarr_tree.specs.Changes.{Changes, apply}
+use Rattle.zarr_tree.specs.Changes.{Changes, apply, IsNormal}
 use Rattle.snapshot_file.specs.declared.snapshot.SnapshotFile.{SnapshotFile as Snap}
+use Rattle.changed_snapshot.specs.Laws.{KeepsFrozen}
+use Rattle.changed_snapshot.proofs.Keeping.{frozen-law}
 use Rattle.store_api.specs.declared.keys.Key.TheVariants.{Snapshot}
 use Rattle.store_api.specs.declared.events.Event.{Event}
-use Rattle.store_api.specs.Journal.{Each, IsGood, IsGoodJournal, IsOnce, IsFirst, WasPut, ParentPut, puts_of, tree_of, snap_made}
+use Rattle.store_api.specs.Journal.{Each, IsGood, IsGoodJournal, IsOnce, IsFirst, WasPut, puts_of, tree_of, snap_made}
 use Rattle.store_api.proofs.Journals.{Each-back, Each-both}
 use Rattle.store_api.proofs.Slots.{WasPut-append}
 use Rattle.store_api.proofs.Standing.{standing, rows-stay, snap_made-put}
-use Rattle.store_api.proofs.Naming.{names-law}
 use Rattle.histories.specs.Calls.{LeadsFromParent, IsGiven, CommitsApply}
 use Rattle.histories.proofs.Choosing.{Knows, chosen, choice}
 use Rattle.session.specs.Sessions.{SessionState, base_tree, changes_in, overlay}
 use Rattle.commit_path.specs.Owed.{IsMade}
 use Rattle.commit_path.proofs.Owing.{once-front, once-back, tree-by_rows}
 use Rattle.play_script.specs.declared.scripts.Task.{Task}
-use Rattle.run_histories.specs.Told.{IsSolved, CommitsEnter}
+use Rattle.run_histories.specs.Told.{IsOfSession, IsSolved, CommitsEnter}
+use Rattle.run_histories.proofs.Putting.{parent-put}
 
 -- what holds of each event, where the whole journal is known
 along-whole : (P Q : List Event → Event → Type 0) (whole old more : List Event) → whole ≡ old ++ more → ((journal : List Event) (event : Event) (rest : List Event) → whole ≡ journal ++ event ∷ rest → P journal event → Q journal event) → Each P old more → Each Q old more
@@ -74,28 +76,28 @@ module _ (journal rest : List Event) (f : Follows journal rest) (session : Sessi
       base_same : Some session.base ≡ Some base → session.base ≡ base
       base_same e = cc
 
-  -- by what was put until then
-  made-stands : tree_of (journal ++ rest) id ≡ Some (overlay (puts_of journal) session)
-  made-stands =
+  -- by what was put until then, where nodes keep the parts of their metadata that stay
+  made-stands : KeepsFrozen session.held session.rows → tree_of (journal ++ rest) id ≡ Some (overlay (puts_of journal) session)
+  made-stands keeps =
       standing id journal rest f.once (snap_made-put journal id m.snap m.made) f.good f.first
       ∙ tree-by_rows journal id m.snap.nodes m.rows
-      ∙ ap (λ (t : Tree). Some t) (m.tree (puts_of journal))
+      ∙ ap (λ (t : Tree). Some t) (m.tree (puts_of journal) keeps)
 
   base-stands : tree_of (journal ++ rest) session.base ≡ Some (base_tree (puts_of journal) session)
   base-stands = standing session.base journal rest f.once m.base_put f.good f.first ∙ tree-by_rows journal session.base session.rows m.base_rows
 
   -- by what was put at last
-  made-tree : tree_of (journal ++ rest) id ≡ Some (overlay (puts_of (journal ++ rest)) session)
-  made-tree =
+  made-tree : KeepsFrozen session.held session.rows → tree_of (journal ++ rest) id ≡ Some (overlay (puts_of (journal ++ rest)) session)
+  made-tree keeps =
       tree-by_rows (journal ++ rest) id m.snap.nodes (rows-stay id journal rest f.once (snap_made-put journal id m.snap m.made) f.good f.first ∙ m.rows)
-      ∙ ap (λ (t : Tree). Some t) (m.tree (puts_of (journal ++ rest)))
+      ∙ ap (λ (t : Tree). Some t) (m.tree (puts_of (journal ++ rest)) keeps)
 
   base-tree : tree_of (journal ++ rest) session.base ≡ Some (base_tree (puts_of (journal ++ rest)) session)
   base-tree = tree-by_rows (journal ++ rest) session.base session.rows (rows-stay session.base journal rest f.once m.base_put f.good f.first ∙ m.base_rows)
 
-  made-leads : (c : Changes) → c ≡ changes_in (puts_of journal) session → LeadsFromParent (tree_of (journal ++ rest)) c journal id
-  made-leads c changes base snap made parent =
-      made-stands
+  made-leads : KeepsFrozen session.held session.rows → (c : Changes) → c ≡ changes_in (puts_of journal) session → LeadsFromParent (tree_of (journal ++ rest)) c journal id
+  made-leads keeps c changes base snap made parent =
+      made-stands keeps
       ∙ ap (λ (x : Changes). Some (apply x (base_tree (puts_of journal) session))) (sym changes)
       ∙ ap (option_map (apply c)) (sym base-stands)
       ∙ ap (λ (i : Id12). option_map (apply c) (tree_of (journal ++ rest) i)) (made-base base snap made parent)
@@ -107,27 +109,42 @@ module _ (draw : Draw) (tasks : List Task) (changes : ℕ → Changes) (whole : 
       let once' : IsOnce (journal ++ rest) = subst (λ (h : List Event). IsOnce h) w once in
       record { once = once-front journal rest once'; good = (Each-back IsGood [] journal rest good').1; first = once-back journal rest once' }
 
-  solved-one : (journal : List Event) (event : Event) (rest : List Event) → whole ≡ journal ++ event ∷ rest → IsSolved draw tasks changes journal event → IsGiven (tree_of whole) changes journal event
-  solved-one journal event rest w solved branch bytes old id op_is names =
+  -- the changes of each commit's session are normal for its base
+  abbrev pub AllNormal : Type 0
+  AllNormal = (journal rest : List Event) → whole ≡ journal ++ rest → (c : Changes) (client : ℕ) (branch : List ℕ) (version : ℕ) (id : Id12) (s : IsOfSession draw tasks c journal client branch version id)
+      → tree_of whole s.session.base ≡ Some (base_tree (puts_of whole) s.session) → IsNormal (changes_in (puts_of whole) s.session) (base_tree (puts_of whole) s.session)
+
+  base-has : (journal rest : List Event) (w : whole ≡ journal ++ rest) (session : SessionState) (id : Id12) → IsMade session id journal → tree_of whole session.base ≡ Some (base_tree (puts_of whole) session)
+  base-has journal rest w session id made = subst (λ (h : List Event). tree_of h session.base ≡ Some (base_tree (puts_of h) session)) (sym w) (base-tree journal rest (follows journal rest w) session id made)
+
+  -- so nodes keep the parts of their metadata that stay
+  session-keeps : AllNormal → (journal rest : List Event) → whole ≡ journal ++ rest → (c : Changes) (client : ℕ) (branch : List ℕ) (version : ℕ) (id : Id12) (s : IsOfSession draw tasks c journal client branch version id) → KeepsFrozen s.session.held s.session.rows
+  session-keeps normal journal rest w c client branch version id s =
+      frozen-law.normal (puts_of whole) s.session.held s.session.rows (normal journal rest w c client branch version id s (base-has journal rest w s.session id s.made))
+
+  solved-one : AllNormal → (journal : List Event) (event : Event) (rest : List Event) → whole ≡ journal ++ event ∷ rest → IsSolved draw tasks changes journal event → IsGiven (tree_of whole) changes journal event
+  solved-one normal journal event rest w solved branch bytes old id op_is names =
       let s = solved branch bytes old id op_is names in
       let f = follows journal (event ∷ rest) w in
+      let keeps = session-keeps normal journal (event ∷ rest) w (changes (length journal)) event.client branch old.0 id s in
       subst (λ (h : List Event). LeadsFromParent (tree_of h) (changes (length journal)) journal id) (sym w)
-      (made-leads journal (event ∷ rest) f s.session id s.made (changes (length journal)) s.changes_are)
+      (made-leads journal (event ∷ rest) f s.session id s.made keeps (changes (length journal)) s.changes_are)
 
-  pub solved-given : (old more : List Event) → whole ≡ old ++ more → Each (IsSolved draw tasks changes) old more → Each (IsGiven (tree_of whole) changes) old more
-  solved-given old more w a = along-whole (IsSolved draw tasks changes) (IsGiven (tree_of whole) changes) whole old more w solved-one a
+  pub solved-given : AllNormal → (old more : List Event) → whole ≡ old ++ more → Each (IsSolved draw tasks changes) old more → Each (IsGiven (tree_of whole) changes) old more
+  solved-given normal old more w a = along-whole (IsSolved draw tasks changes) (IsGiven (tree_of whole) changes) whole old more w (solved-one normal) a
 
   -- ---- the commits that took effect
   abbrev Both : List Event → Event → Type 0
   Both journal event = IsSolved draw tasks changes journal event × CommitsApply (tree_of whole) changes journal event
 
-  enters-one : (journal : List Event) (event : Event) (rest : List Event) → whole ≡ journal ++ event ∷ rest → Both journal event → CommitsEnter draw tasks (puts_of whole) (tree_of whole) changes journal event
-  enters-one journal event rest w both branch bytes old id stored op_is names done stands version =
+  enters-one : AllNormal → (journal : List Event) (event : Event) (rest : List Event) → whole ≡ journal ++ event ∷ rest → Both journal event → CommitsEnter draw tasks (puts_of whole) (tree_of whole) changes journal event
+  enters-one normal journal event rest w both branch bytes old id stored op_is names done stands version =
       let s = both.0 branch bytes old id op_is names in
       let c = both.1 branch bytes old id stored op_is names done stands version in
       let f = follows journal (event ∷ rest) w in
       let base : s.session.base ≡ c.before.id = made-base journal (event ∷ rest) f s.session id s.made c.before.id c.child.snap c.child.made c.child.parent_is in
-      let base_has : tree_of whole s.session.base ≡ Some (base_tree (puts_of whole) s.session) = subst (λ (h : List Event). tree_of h s.session.base ≡ Some (base_tree (puts_of h) s.session)) (sym w) (base-tree journal (event ∷ rest) f s.session id s.made) in
+      let base_has : tree_of whole s.session.base ≡ Some (base_tree (puts_of whole) s.session) = base-has journal (event ∷ rest) w s.session id s.made in
+      let keeps = session-keeps normal journal (event ∷ rest) w (changes (length journal)) event.client branch old.0 id s in
       record {
         of_session = s;
         before = c.before;
@@ -135,21 +152,17 @@ module _ (draw : Draw) (tasks : List Task) (changes : ℕ → Changes) (whole : 
         version = c.version;
         base = sym base;
         base_is = subst (λ (i : Id12). tree_of whole i ≡ Some (base_tree (puts_of whole) s.session)) base base_has;
-        tree = subst (λ (h : List Event). tree_of h id ≡ Some (overlay (puts_of h) s.session)) (sym w) (made-tree journal (event ∷ rest) f s.session id s.made);
+        tree = subst (λ (h : List Event). tree_of h id ≡ Some (overlay (puts_of h) s.session)) (sym w) (made-tree journal (event ∷ rest) f s.session id s.made keeps);
+        normal = normal journal (event ∷ rest) w (changes (length journal)) event.client branch old.0 id s base_has;
       }
 
-  pub solved-enter : (old more : List Event) → whole ≡ old ++ more → Each (IsSolved draw tasks changes) old more → Each (CommitsApply (tree_of whole) changes) old more → Each (CommitsEnter draw tasks (puts_of whole) (tree_of whole) changes) old more
-  solved-enter old more w a b =
-      along-whole Both (CommitsEnter draw tasks (puts_of whole) (tree_of whole) changes) whole old more w enters-one
+  pub solved-enter : AllNormal → (old more : List Event) → whole ≡ old ++ more → Each (IsSolved draw tasks changes) old more → Each (CommitsApply (tree_of whole) changes) old more → Each (CommitsEnter draw tasks (puts_of whole) (tree_of whole) changes) old more
+  solved-enter normal old more w a b =
+      along-whole Both (CommitsEnter draw tasks (puts_of whole) (tree_of whole) changes) whole old more w (enters-one normal)
       (Each-both (IsSolved draw tasks changes) (CommitsApply (tree_of whole) changes) Both (λ h e p q. (p, q)) old more a b)
 
 -- ---- the commits before
 module _ (before after : ℕ → Changes) (old more : List Event) (good : IsGoodJournal old) (once : IsOnce old) (goes_on : Each IsGood old more) (first : Each IsFirst old more) (same : (n : ℕ) → n < length old → after n ≡ before n) where
-  parent-put : (journal : List Event) (id base : Id12) (snap : Snap) → IsGoodJournal journal → snap_made journal id ≡ Some snap → snap.parent ≡ Some base → WasPut journal (Snapshot base)
-  parent-put journal id base snap g made parent =
-      let p : ParentPut journal (Some snap) = subst (λ (o : Option Snap). ParentPut journal o) made ((names-law journal g).parents id) in
-      p base parent
-
   before-one : (journal : List Event) (event : Event) (rest : List Event) → old ≡ journal ++ event ∷ rest → IsGiven (tree_of old) before journal event → IsGiven (tree_of (old ++ more)) after journal event
   before-one journal event rest w given branch bytes version id op_is names base snap made parent =
       let within : length journal < length old = omega (arith, ap length w, length-append journal (event ∷ rest)) in

@@ -1,6 +1,10 @@
+pub mod Sources
 pub mod Drawing
+pub mod Editing
+pub mod Putting
 pub mod Programs
 pub mod Along
+pub mod Growing
 pub mod Given
 pub mod Beginnings
 pub mod Joined

@@ -1,37 +1,37 @@
 -- Runs of tasks over one store on which nobody else acts (own).
-use Rattle.std.specs.Prelude.{◌≡◌, ℕ, ◌<◌, ◌-◌, ◌^◌, List, [], ◌++◌, length, Some}
+use Rattle.std.specs.Prelude.{◌≡◌, ℕ, ◌<◌, ◌-◌, ◌^◌, List, [], ◌++◌, length, Some, All}
 use Rattle.ice_ids.specs.declared.Id12.{Id12}
-use Rattle.ice_ids.specs.declared.drawing.AnyIds.{AnyIds}
 use Rattle.ice_ids.specs.declared.drawing.Draw.{Draw}
-use Rattle.ice_ids.specs.Drawing.{IsAnyIds, drawn12}
+use Rattle.zarr_tree.specs.Trees.{Tree, IsWellFormed}
 use Rattle.zarr_tree.specs.Changes.{Changes}
-use Rattle.store_api.specs.declared.keys.Key.TheVariants.{Snapshot, Txn}
+use Rattle.store_api.specs.declared.keys.Key.TheVariants.{Snapshot}
 use Rattle.store_api.specs.declared.events.Event.{Event}
-use Rattle.store_api.specs.Journal.{Each, IsGood, IsGoodJournal, IsOnce, IsUnused, tree_of}
+use Rattle.store_api.specs.Journal.{Each, WasPut, IsGood, IsGoodJournal, IsOnce, tree_of}
 use Rattle.store_api.specs.Program.{Prog, Path}
 use Rattle.histories.specs.Calls.{IsGiven}
 use Rattle.repository.specs.Beginning.{begin_program}
 use Rattle.repository.specs.Refs.{refs_program}
 use Rattle.play_script.specs.declared.scripts.Task.{Task}
+use Rattle.play_script.specs.Well.{IsWellTask}
 use Rattle.play_tasks.specs.Tasks.{IsOfClient}
 
--- an id that some client may draw
-pub record CanBeDrawn (id : Id12) : Type 0 where
-  pub ids : AnyIds
-  pub known : IsAnyIds ids
-  pub is : drawn12 ids ≡ Some id
+-- the snapshot can be read, and its tree is well formed
+pub record HasWellFormedTree (journal : List Event) (id : Id12) : Type 0 where
+  pub tree : Tree
+  pub is : tree_of journal id ≡ Some tree
+  pub well_formed : IsWellFormed tree
 
--- what was put under an id that can be drawn, a snapshot or a log, still stands
-abbrev pub MayDraw : List Event → Type 0
-MayDraw journal = (id : Id12) → CanBeDrawn id → IsUnused journal (Snapshot id) × IsUnused journal (Txn id)
+-- each snapshot that was put has one
+abbrev pub AllTrees : List Event → Type 0
+AllTrees journal = (id : Id12) → WasPut journal (Snapshot id) → HasWellFormedTree journal id
 
 -- A journal that a run may go on: each event is legal and polite, nothing is put again, the changes for each commit lead
--- from its parent's tree to its own, and no id that can be drawn is that of a removed object.
+-- from its parent's tree to its own, and each snapshot has a well-formed tree.
 pub record IsSound (journal : List Event) (changes : ℕ → Changes) : Type 0 where
   pub good : IsGoodJournal journal
   pub once : IsOnce journal
   pub given : Each (IsGiven (tree_of journal) changes) [] journal
-  pub draws : MayDraw journal
+  pub trees : AllTrees journal
 
 -- From old to new there were events of this program, to its end or not, each of them good, and no others.
 pub record RanAlone {A : Type 0} (p : Prog A) (old new : List Event) : Type 0 where
@@ -42,16 +42,17 @@ pub record RanAlone {A : Type 0} (p : Prog A) (old new : List Event) : Type 0 wh
   pub path : Path p own left
 
 -- From old to new there were events of the tasks' clients, in any order, each of them good and owed by its client's
--- task, and no others.
+-- task, and no others; and no client put two snapshots.
 pub record PlayedAlone (draw : Draw) (tasks : List Task) (old new : List Event) : Type 0 where
   pub own : List Event
   pub is : new ≡ old ++ own
-  pub owed : Each (IsOfClient draw tasks) old own
+  pub owed : Each (IsOfClient draw tasks old) old own
 
--- From old to new a repository was begun, where there was none, then the tasks were played, and then the refs were
--- read; nobody else acted.
+-- From old to new a repository was begun, where there was none, then the tasks of a script were played, and then the refs
+-- were read; nobody else acted.
 pub record IsRun (draw : Draw) (tasks : List Task) (old new : List Event) : Type 0 where
   pub few : length tasks < 2 ^ 32 - 1
+  pub well : All IsWellTask tasks
   pub begun : List Event
   pub played : List Event
   pub opening : RanAlone begin_program old begun

@@ -1,9 +1,10 @@
 -- What a run leaves of the branches' histories, in words of its tasks (own).
 use Rattle.std.specs.Prelude.{◌≡◌, ℕ, ◌+◌, ◌<◌, true, List, [], ◌++◌, length, Option, Some, slice_get}
 use Rattle.ice_ids.specs.declared.Id12.{Id12}
+use Rattle.ice_ids.specs.declared.drawing.AnyIds.{AnyIds}
 use Rattle.ice_ids.specs.declared.drawing.Draw.{Draw}
 use Rattle.zarr_tree.specs.Trees.{Tree}
-use Rattle.zarr_tree.specs.Changes.{Changes, none}
+use Rattle.zarr_tree.specs.Changes.{Changes, none, IsNormal}
 use Rattle.repo_objects.specs.Readings.{ref_of}
 use Rattle.store_api.specs.declared.keys.Key.TheVariants.{Branch}
 use Rattle.store_api.specs.declared.keys.Why.TheVariants.{Commit}
@@ -23,6 +24,7 @@ use Rattle.commit_path.specs.Opened.{IsOpened, WasNamed, WasBegun}
 use Rattle.play_script.specs.declared.scripts.Task.{Task}
 use Rattle.play_tasks.specs.Solving.{IsOfTask}
 use Rattle.play_tasks.specs.Tasks.{ids_at}
+use Rattle.run_histories.specs.Sources.{IsNewSource, IsNewRun, IsOfAnother}
 use Rattle.run_histories.specs.Runs.{IsSound, IsRun}
 
 -- A commit of a session of its client's task: the task's lines lead to the session and to the id that it draws, the
@@ -52,7 +54,8 @@ IsSolved draw tasks changes journal event = CommitsSession draw tasks (changes (
 
 -- A commit that took effect, of a session of its client's task. It follows directly on the last entry of its branch:
 -- the entry has the version that the session had read, its snapshot is the session's base, and its tree is the one of the
--- session's rows, by what was put; the commit's tree is that one under exactly the session's changes.
+-- session's rows, by what was put; the commit's tree is that one under exactly the session's changes, which are normal for
+-- it, so that no two nodes have one id.
 pub record IsEntered (draw : Draw) (tasks : List Task) (puts : Puts) (trees : Id12 → Option Tree) (changes : ℕ → Changes) (journal : List Event) (client : ℕ) (branch : List ℕ) (old : ℕ) (id : Id12) : Type 0 where
   pub of_session : IsOfSession draw tasks (changes (length journal)) journal client branch old id
   pub before : Entry
@@ -61,6 +64,7 @@ pub record IsEntered (draw : Draw) (tasks : List Task) (puts : Puts) (trees : Id
   pub base : before.id ≡ of_session.session.base
   pub base_is : trees before.id ≡ Some (base_tree puts of_session.session)
   pub tree : trees id ≡ Some (overlay puts of_session.session)
+  pub normal : IsNormal (changes_in puts of_session.session) (base_tree puts of_session.session)
 
 -- where the event is a commit that took effect, also by a lost answer
 abbrev pub CommitsEnter : Draw → List Task → Puts → (Id12 → Option Tree) → (ℕ → Changes) → List Event → Event → Type 0
@@ -79,8 +83,9 @@ pub record BeganAtLast (puts : Puts) (trees : Id12 → Option Tree) (changes : �
 
 -- After a run: the changes for each position are those before it, and for each commit that it added those of a session
 -- of its client's task; each commit that took effect follows on the entry before it; each session that was opened began
--- at the last entry of its branch. With these changes the journal is sound, so that another run may go on; the histories
--- run over its calls; and the branches stand as their histories say. Trees are by what was put in the whole journal.
+-- at the last entry of its branch. With these changes the journal is sound, and what the source of another client may draw
+-- is new to it where it was before, so that a run of other clients may go on; the histories run over its calls; and the
+-- branches stand as their histories say. Trees are by what was put in the whole journal.
 pub record HasHistories (draw : Draw) (tasks : List Task) (before : ℕ → Changes) (old new : List Event) : Type 0 where
   pub added : List Event
   pub is : new ≡ old ++ added
@@ -90,13 +95,18 @@ pub record HasHistories (draw : Draw) (tasks : List Task) (before : ℕ → Chan
   pub commits : Each (CommitsEnter draw tasks (puts_of new) (tree_of new) changes) old added
   pub opened : (client : ℕ) (a : Asked) (s : SessionState) (start : List Event) → WasBegun client a s start new → IsOpened s new → BeganAtLast (puts_of new) (tree_of new) changes client a s start new
   pub sound : IsSound new changes
+  pub others : (ids : AnyIds) → IsOfAnother tasks ids → IsNewSource ids old → IsNewSource ids new
   pub history : IsHistory (tree_of new) changes new
   pub stand : BranchesStand (tree_of new) changes new
 
--- of a run that goes on a sound journal
+-- of a run that goes on a sound journal, to which its clients' ids are new
 abbrev pub RunLaw : Type 0
-RunLaw = (draw : Draw) (tasks : List Task) (before : ℕ → Changes) (old new : List Event) → IsSound old before → IsRun draw tasks old new → HasHistories draw tasks before old new
+RunLaw = (draw : Draw) (tasks : List Task) (before : ℕ → Changes) (old new : List Event) → IsSound old before → IsNewRun draw tasks old → IsRun draw tasks old new → HasHistories draw tasks before old new
 
 -- of a run over an empty store
 abbrev pub BegunLaw : Type 0
 BegunLaw = (draw : Draw) (tasks : List Task) (new : List Event) → IsRun draw tasks [] new → HasHistories draw tasks (λ n. none) [] new
+
+-- the journal of an empty store is sound, and each source is new to it
+abbrev pub NothingLaw : Type 0
+NothingLaw = ((changes : ℕ → Changes) → IsSound [] changes) × ((ids : AnyIds) → IsNewSource ids [])

@@ -1,16 +1,28 @@
 //! The theorem of a run: the tasks of a script, played over one store, keep the histories of its branches.
 #![tactic(auto)]
 
-ghost use Rattle.run_histories.specs.Told.{BegunLaw, RunLaw};
+ghost use Rattle.run_histories.specs.Told.{BegunLaw, NothingLaw, RunLaw};
 
-/// Where a run of tasks goes on a sound journal and nobody else acts, nothing is put again, each call
-/// on a branch got the answer of the branch's history, and each commit that took effect has the tree
-/// of the entry before it under exactly the changes of a session of its client's task.
+use repo_objects::initial_law;
+
+/// Where a run of tasks goes on a sound journal, to which its clients' ids are new, and nobody else acts,
+/// nothing is put again, each call on a branch got the answer of the branch's history, each snapshot has a
+/// well-formed tree, and each commit that took effect has the tree of the entry before it under exactly
+/// the changes of a session of its client's task.
 pub fn run_law()
     ensures { RunLaw }
-{}
+{
+    initial_law();
+}
 
 /// The same of a run over an empty store, with no premise on what stood there.
 pub fn begun_law()
     ensures { BegunLaw }
+{
+    initial_law();
+}
+
+/// The journal of an empty store is sound, and each source of ids is new to it.
+pub fn nothing_law()
+    ensures { NothingLaw }
 {}

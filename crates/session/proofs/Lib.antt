@@ -1,2 +1,4 @@
+pub mod Refusing
 pub mod Adding
+pub mod Changing
 pub mod SeenRows

@@ -6,9 +6,9 @@ ghost use Rattle.changed_snapshot.specs.Rows.{snapshot_over};
 ghost use Rattle.changed_snapshot.specs.Written.{Writes};
 ghost use Rattle.zarr_tree.specs.Held.{touched};
 ghost use Rattle.zarr_tree.specs.Touched.{is_untouched};
-ghost use Rattle.session.specs.Editing.{AddsGroup, Answers, listed, refusal_of_edit};
+ghost use Rattle.session.specs.Editing.{Adds, Answers, Leaves, array_added, array_fault, entered, group_added, group_fault, listed, meta_set, node_added, node_dropped, node_fault, refusal_of_edit, text_at, text_found};
 ghost use Rattle.session.specs.Sessions.{base_nodes};
-ghost use Rattle.session.specs.inside.Reads.{ReadsGroup};
+ghost use Rattle.session.specs.inside.Reads.{Reads};
 
 use changed_snapshot::{Stamp, write_over};
 use flat_tables::WriteFault;
@@ -84,17 +84,36 @@ fn refusal_of_edit(fault: EditFault) -> Refusal
     }
 }
 
-/// The metadata of a group that a text says.
-fn group_meta(alloc: Global, text: &[u8]) -> Result<Meta, Refusal>
-    ensures { ReadsGroup text.now result }
+/// The metadata that a text says, of a group or an array.
+fn node_meta(alloc: Global, text: &[u8]) -> Result<Meta, Refusal>
+    ensures { Reads node_fault text.now result }
 {
     match Meta::read(alloc, text) {
-        Ok(meta) => match meta.view {
-            View::Group => Ok(meta),
-            View::Array(_) => Err(Refusal::BadMeta(MetaFault::NodeType)),
-        },
+        Ok(meta) => Ok(meta),
         Err(MetaFault::NoMemory) => Err(Refusal::NoMemory),
         Err(fault) => Err(Refusal::BadMeta(fault)),
+    }
+}
+
+/// The metadata of a group that a text says.
+fn group_meta(alloc: Global, text: &[u8]) -> Result<Meta, Refusal>
+    ensures { Reads group_fault text.now result }
+{
+    let meta = node_meta(alloc, text)?;
+    match meta.view {
+        View::Group => Ok(meta),
+        View::Array(_) => Err(Refusal::BadMeta(MetaFault::NodeType)),
+    }
+}
+
+/// The metadata of an array that a text says.
+fn array_meta(alloc: Global, text: &[u8]) -> Result<Meta, Refusal>
+    ensures { Reads array_fault text.now result }
+{
+    let meta = node_meta(alloc, text)?;
+    match meta.view {
+        View::Group => Err(Refusal::BadMeta(MetaFault::NodeType)),
+        View::Array(_) => Ok(meta),
     }
 }
 
@@ -167,16 +186,10 @@ impl Session {
         self.writes
     }
 
-    /// Adds a group with this metadata at a path, and answers its id. It is refused by `ReadOnly`, `BadMeta` (the text is no
-    /// metadata, or an array's), `NodeExists`, `NoParent`, `Full`, `IdsSpent` or `NoMemory`, the first in this order. A
-    /// refused session is as before, apart from one id that may have been drawn where memory ran out.
-    pub fn add_group(&mut self, path: &Path, text: &[u8]) -> Result<Id8, Refusal>
-        ensures { AddsGroup self.old path.now text.now result self.new }
+    /// Adds a node with this metadata at a path, and answers its id.
+    fn add(&mut self, path: &Path, meta: Meta) -> Result<Id8, Refusal>
+        ensures { Adds (entered self.old path.now meta.text) self.old result self.new }
     {
-        if !self.writes {
-            return Err(Refusal::ReadOnly);
-        }
-        let meta = group_meta(self.alloc, text)?;
         if let Err(fault) = self.changes.may_add(&self.loaded, path) {
             return Err(refusal_of_edit(fault));
         }
@@ -187,6 +200,83 @@ impl Session {
             return Err(refusal_of_edit(fault));
         }
         Ok(id)
+    }
+
+    /// Adds a group with this metadata at a path, and answers its id. It is refused by `ReadOnly`, `BadMeta` (the text is no
+    /// metadata, or an array's), `NodeExists`, `NoParent`, `Full`, `IdsSpent` or `NoMemory`, the first in this order. A
+    /// refused session is as before, apart from one id that may have been drawn where memory ran out.
+    pub fn add_group(&mut self, path: &Path, text: &[u8]) -> Result<Id8, Refusal>
+        ensures { Adds (group_added self.old path.now text.now) self.old result self.new }
+    {
+        if !self.writes {
+            return Err(Refusal::ReadOnly);
+        }
+        let meta = group_meta(self.alloc, text)?;
+        self.add(path, meta)
+    }
+
+    /// Adds an array with this metadata at a path, and answers its id. It is refused as [`Session::add_group`] is, by
+    /// `BadMeta` where the text is no metadata, or a group's.
+    pub fn add_array(&mut self, path: &Path, text: &[u8]) -> Result<Id8, Refusal>
+        ensures { Adds (array_added self.old path.now text.now) self.old result self.new }
+    {
+        if !self.writes {
+            return Err(Refusal::ReadOnly);
+        }
+        let meta = array_meta(self.alloc, text)?;
+        self.add(path, meta)
+    }
+
+    /// Adds a group or an array, as the text says, and answers its id. It is refused as [`Session::add_group`] is, by
+    /// `BadMeta` where the text is no metadata.
+    pub fn add_node(&mut self, path: &Path, text: &[u8]) -> Result<Id8, Refusal>
+        ensures { Adds (node_added self.old path.now text.now) self.old result self.new }
+    {
+        if !self.writes {
+            return Err(Refusal::ReadOnly);
+        }
+        let meta = node_meta(self.alloc, text)?;
+        self.add(path, meta)
+    }
+
+    /// Gives the node at a path this metadata. It is refused by `ReadOnly`, `BadMeta`, `NoNode`, `FrozenField` (with the first
+    /// part that differs and has to stay: the type of node, the rank, the data type, the chunk grid, the codecs) or `NoMemory`,
+    /// the first in this order, and the session is as before.
+    pub fn set_meta(&mut self, path: &Path, text: &[u8]) -> Result<(), Refusal>
+        ensures { Leaves (meta_set self.old path.now text.now) self.old result self.new }
+    {
+        if !self.writes {
+            return Err(Refusal::ReadOnly);
+        }
+        let meta = node_meta(self.alloc, text)?;
+        match self.changes.set_meta(self.alloc, &self.loaded, path, meta) {
+            Ok(()) => Ok(()),
+            Err(fault) => Err(refusal_of_edit(fault)),
+        }
+    }
+
+    /// Takes away the node at a path and all beneath it. It is refused by `ReadOnly`, `NoNode` or `NoMemory`, the first in
+    /// this order, and the session is as before.
+    pub fn drop_node(&mut self, path: &Path) -> Result<(), Refusal>
+        ensures { Leaves (node_dropped self.old path.now) self.old result self.new }
+    {
+        if !self.writes {
+            return Err(Refusal::ReadOnly);
+        }
+        match self.changes.drop_node(self.alloc, &self.loaded, path) {
+            Ok(()) => Ok(()),
+            Err(fault) => Err(refusal_of_edit(fault)),
+        }
+    }
+
+    /// The metadata of the node at a path, or `NoNode`. It takes no memory.
+    pub fn get_meta(&self, path: &Path) -> Result<&Meta, Refusal>
+        ensures { text_found result ≡ text_at self.now path.now }
+    {
+        match self.changes.lookup(&self.loaded, path.as_str()) {
+            Some(found) => Ok(found.meta),
+            None => Err(Refusal::NoNode),
+        }
     }
 
     /// The nodes beneath a path, in the order of the paths' bytes; `NoNode` where the tree has no

@@ -159,7 +159,7 @@ finished draw script s t x y opening outcomes refs (Err error) c kept regular to
 pub untold : (draw : Draw) (script : Script) (s t : View) (x y : OutputAt) (opening : Result (Unit {0}) Refusal) (outcomes : List Outcome) (refs : Result (List RefLine) Refusal) (result : Result Status AllocError)
     → Course draw script s t opening outcomes refs → KeepsHistories draw script s t refs → IfErr result (λ error. y ≡ x) → IfErr result (λ error. WasUntold draw script s t x y)
 untold draw script s t x y opening outcomes refs (Ok status) c kept out = tt
-untold draw script s t x y opening outcomes refs (Err error) c kept out = record { out = out; came = inl (record { opening = opening; outcomes = outcomes; refs = refs; course = c }); histories = λ told before sound. (kept told before sound).histories }
+untold draw script s t x y opening outcomes refs (Err error) c kept out = record { out = out; came = inl (record { opening = opening; outcomes = outcomes; refs = refs; course = c }); histories = λ told before sound new. (kept told before sound new).histories }
 
 pub unplayed : (draw : Draw) (script : Script) (s t : View) (x : OutputAt) → OnlyBegan s t → KeepsBranches draw script s t → WasUntold draw script s t x x
 unplayed draw script s t x b kept = record { out = refl; came = inr b; histories = kept }

@@ -12,6 +12,7 @@ use Rattle.play_outcome.specs.declared.outcome.RefLine.{RefLine}
 use Rattle.play_outcome.specs.Ending.{why_ended}
 use Rattle.play_report.specs.Report.{report_of}
 use Rattle.zarr_tree.specs.Changes.{Changes}
+use Rattle.run_histories.specs.Sources.{IsNewRun}
 use Rattle.run_histories.specs.Runs.{IsSound}
 use Rattle.run_histories.specs.Told.{HasHistories}
 use Rattle.play_course.specs.Course.{Course, OnlyBegan}
@@ -51,13 +52,14 @@ pub record Told (script : Script) (opening : Result (Unit {0}) Refusal) (outcome
   pub wrote : Wrote old new (report_of (map (λ t. t.name) script.tasks) opening outcomes refs) unwritten
   pub status_is : status ≡ status_of (causes unwritten (refusals opening outcomes refs))
 
--- where the store tells its journal and that is sound, a run keeps the histories, and the refs that it tells are their ends
+-- where the store tells its journal, and that is sound and the clients' ids are new to it, a run keeps the histories, and the
+-- refs that it tells are their ends
 abbrev pub KeepsHistories : Draw → Script → View → View → Result (List RefLine) Refusal → Type 0
-KeepsHistories draw script old new refs = IsTrue old.caller.tells → (before : ℕ → Changes) → IsSound old.seen before → LeavesBranches draw script.tasks before old.seen new.seen refs
+KeepsHistories draw script old new refs = IsTrue old.caller.tells → (before : ℕ → Changes) → IsSound old.seen before → IsNewRun draw script.tasks old.seen → LeavesBranches draw script.tasks before old.seen new.seen refs
 
 -- the same of the histories alone, where no refs are told
 abbrev pub KeepsBranches : Draw → Script → View → View → Type 0
-KeepsBranches draw script old new = IsTrue old.caller.tells → (before : ℕ → Changes) → IsSound old.seen before → HasHistories draw script.tasks before old.seen new.seen
+KeepsBranches draw script old new = IsTrue old.caller.tells → (before : ℕ → Changes) → IsSound old.seen before → IsNewRun draw script.tasks old.seen → HasHistories draw script.tasks before old.seen new.seen
 
 -- over a store that tells its journal and on which nothing was done before, nothing is refused because an id was taken, an
 -- object is missing or a file can't be read

@@ -30,7 +30,7 @@ Blame ps m n = (place : ℕ) (outcome : Outcome) → slice_get ps place ≡ Some
 pub record Kept (draw : Draw) (tasks : List Task) (start : List Event) (old new : View) (own : List Event) (qs : List (Play Outcome)) : Type 0 where
   pub stand : AllStand draw tasks start new.caller.tells qs new.seen
   pub is : new.seen ≡ old.seen ++ own
-  pub careful : Each (IsOfClient draw tasks) old.seen own
+  pub careful : Each (IsOfClient draw tasks start) old.seen own
 
 -- by these turns, whatever tasks' the plays are
 pub record Went (turns : List ℕ) (old new : View) (ps qs : List (Play Outcome)) : Type 0 where

@@ -1,5 +1,6 @@
 -- What a worker has still to do.
 use Rattle.std.specs.Prelude.{◌≡◌, ℕ, ◌+◌, ◌++◌, List, Bool, true, false, not, ◌&&◌, nat_le, Result, Ok, Err}
+use Rattle.ice_ids.specs.declared.Id8.{Id8}
 use Rattle.store_api.specs.declared.machines.Next.{Next}
 use Rattle.store_api.specs.declared.machines.Next.TheVariants.{Again, Ready}
 use Rattle.store_api.specs.declared.machines.Refusal.{Refusal}
@@ -36,6 +37,29 @@ abbrev pub is_working : Working → Bool
 is_working (w.Opening opener) = is_ask (open_rest opener)
 is_working (w.Committing line shown commit) = is_ask (commit_rest commit)
 is_working (w.Ended outcome) = true
+
+-- ---- what a call of a session came to
+-- what an edit that adds a node came to, without the node's id
+abbrev pub without_id : Result Id8 Refusal → Result (Unit {0}) Refusal
+without_id (Ok id) = Ok tt
+without_id (Err why) = Err why
+
+-- the edit was made, or refused; want of memory may come instead
+abbrev pub Edits : (expected : Result SessionState Refusal) → Result (Unit {0}) Refusal → SessionState → Type 0
+Edits expected (Ok done) new = expected ≡ Ok new
+Edits expected (Err NoMemory) new = Unit {0}
+Edits expected (Err why) new = expected ≡ Err why
+
+-- what is to be shown was shown behind what had been, or nothing was; want of memory may come instead
+abbrev pub Looks : (expected : Result (List Shown) Refusal) → (before : List Shown) → Result (Unit {0}) Refusal → (after : List Shown) → Type 0
+Looks expected before (Ok done) after = (more : List Shown) × (expected ≡ Ok more) × (after ≡ before ++ more)
+Looks expected before (Err NoMemory) after = after ≡ before
+Looks expected before (Err why) after = (expected ≡ Err why) × (after ≡ before)
+
+-- a refusal of a session tells no fault of the store
+abbrev pub is_local : Result (Unit {0}) Refusal → Bool
+is_local (Ok done) = true
+is_local (Err why) = not (is_fault why)
 
 -- what a line came to that does this on a session, where these lines were shown before it: with memory or without
 abbrev pub LineComes : ℕ → List Shown → SessionState → Deed → Step → Type 0

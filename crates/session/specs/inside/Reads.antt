@@ -1,14 +1,16 @@
--- What a text that is to be a group's is read as.
-use Rattle.std.specs.Prelude.{◌≡◌, ℕ, List, Some, None, Result, Ok, Err}
+-- What a text is read as.
+use Rattle.std.specs.Prelude.{◌≡◌, ℕ, List, Option, Some, None, Result, Ok, Err}
+use Rattle.zarr_meta.specs.declared.faults.MetaFault.{MetaFault}
 use Rattle.zarr_meta.specs.declared.metas.Meta.{Meta}
+use Rattle.zarr_meta.specs.declared.views.View.{View}
 use Rattle.zarr_meta.specs.Meta.{meta_of}
+use Rattle.zarr_meta.specs.Kept.{IsReadingOf}
 use Rattle.store_api.specs.declared.machines.Refusal.{Refusal}
 use Rattle.store_api.specs.declared.machines.Refusal.TheVariants.{BadMeta, NoMemory}
-use Rattle.session.specs.Editing.{group_fault}
 
--- the metadata of a group that a text says, or why it says none
-abbrev pub ReadsGroup : (text : List ℕ) → Result Meta Refusal → Type 0
-ReadsGroup text (Ok meta) = (group_fault (meta_of text) ≡ None) × (meta.text ≡ text)
-ReadsGroup text (Err (BadMeta fault)) = group_fault (meta_of text) ≡ Some fault
-ReadsGroup text (Err NoMemory) = Unit {0}
-ReadsGroup text (Err _) = ⊥
+-- the metadata that a text says, or why this text doesn't serve: the fault that this tells of what it says
+abbrev pub Reads : (Result View MetaFault → Option MetaFault) → (text : List ℕ) → Result Meta Refusal → Type 0
+Reads fault text (Ok meta) = (fault (meta_of text) ≡ None) × IsReadingOf text meta
+Reads fault text (Err (BadMeta bad)) = fault (meta_of text) ≡ Some bad
+Reads fault text (Err NoMemory) = Unit {0}
+Reads fault text (Err _) = ⊥

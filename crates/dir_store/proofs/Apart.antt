@@ -1,0 +1,125 @@
+-- Names of keys are told apart: by a byte near their start, or by their last byte.
+use Rattle.std.proofs.Common.{◌≡◌, ◌≢◌, ◌++◌, ℕ, ◌<◌, List, [], ◌∷◌, get_or, Result, Ok, Err, refl, sym, ap, subst, ◌∙◌, arith}
+use Rattle.std.specs.Prelude.{codes}
+use Rattle.std.specs.Fmt.{decimal}
+use Rattle.std.specs.List.{AllByRecursion}
+use Rattle.std.proofs.lemmas.List.{append_cancel_left, append_cancel_right}
+use Rattle.std.proofs.lemmas.List.Elements.{recursion_from_All}
+use Rattle.ice_ids.specs.declared.Id12.{Id12}
+use Rattle.ice_ids.specs.declared.IdFault.{IdFault}
+use Rattle.ice_ids.specs.Text.{IsId12, id12_text, id12_of_text}
+use Rattle.ice_ids.proofs.TextLaws.{id12_of_text-id12_text, id12_text-plain}
+use Rattle.store_api.specs.declared.keys.Key.{Key}
+use Rattle.store_api.specs.declared.keys.Key.TheVariants.{Snapshot, Manifest, Txn, Chunk, Branch, Tag, TagGone}
+use Rattle.store_api.specs.Names.{key_name}
+use Rattle.dir_store.specs.Paths.{IsKey, aside_name}
+
+below-apart : (m n : ℕ) → m < n → m ≡ n → ⊥
+below-apart m n below same = omega arith
+
+-- ---- one id, one name
+abbrev id_in : Id12 → Result Id12 IdFault → Id12
+id_in default (Ok id) = id
+id_in default (Err fault) = default
+
+same_id : (start : List ℕ) (a b : Id12) → IsId12 a → IsId12 b → start ++ id12_text a ≡ start ++ id12_text b → a ≡ b
+same_id start a b known too same =
+    let texts : id12_text a ≡ id12_text b = append_cancel_left start (id12_text a) (id12_text b) same in
+    ap (id_in a) (sym (id12_of_text-id12_text a known) ∙ ap id12_of_text texts ∙ id12_of_text-id12_text b too)
+
+same_middle : (start a b end : List ℕ) → start ++ a ++ end ≡ start ++ b ++ end → a ≡ b
+same_middle start a b end same = append_cancel_left start a b (append_cancel_right (start ++ a) (start ++ b) end same)
+
+-- ---- bytes that differ
+apart : (at m n : ℕ) (xs ys : List ℕ) → get_or xs at 0 ≡ m → get_or ys at 0 ≡ n → (m ≡ n → ⊥) → xs ≡ ys → ⊥
+apart at m n xs ys first second differ same = differ (sym first ∙ ap (λ (zs : List ℕ). get_or zs at 0) same ∙ second)
+
+abbrev last_of : List ℕ → ℕ → ℕ
+last_of [] default = default
+last_of (x ∷ xs) default = last_of xs x
+
+last_of-append : (xs ys : List ℕ) (default : ℕ) → last_of (xs ++ ys) default ≡ last_of ys (last_of xs default)
+last_of-append [] ys default = refl
+last_of-append (x ∷ xs) ys default = last_of-append xs ys x
+
+ends_apart : (m n : ℕ) (xs ys : List ℕ) → last_of xs 0 ≡ m → last_of ys 0 ≡ n → (m ≡ n → ⊥) → xs ≡ ys → ⊥
+ends_apart m n xs ys first second differ same = differ (sym first ∙ ap (λ (zs : List ℕ). last_of zs 0) same ∙ second)
+
+abbrev IsLetter : ℕ → Type 0
+IsLetter c = (47 < c) × (c < 91)
+
+last_letter : (xs : List ℕ) (default : ℕ) → AllByRecursion IsLetter xs → default < 91 → last_of xs default < 91
+last_letter [] default all low = low
+last_letter (x ∷ xs) default all low = last_letter xs x all.1 all.0.1
+
+id_ends : (start : List ℕ) (id : Id12) → last_of start 0 < 91 → last_of (start ++ id12_text id) 0 < 91
+id_ends start id low =
+    let all : AllByRecursion IsLetter (id12_text id) = recursion_from_All IsLetter (id12_text id) (id12_text-plain id) in
+    subst (λ (c : ℕ). c < 91) (sym (last_of-append start (id12_text id) 0)) (last_letter (id12_text id) (last_of start 0) all low)
+
+-- ---- the laws
+pub names_differ : (a b : Key) → IsKey a → IsKey b → key_name a ≡ key_name b → a ≡ b
+names_differ (Snapshot a) (Snapshot b) known too same = ap (λ (id : Id12). Snapshot id) (same_id (codes "snapshots/") a b known too same)
+names_differ (Snapshot a) (Manifest b) known too same = absurd (apart 0 115 109 (codes "snapshots/" ++ id12_text a) (codes "manifests/" ++ id12_text b) refl refl (λ same. below-apart 109 115 (omega arith) (sym same)) same)
+names_differ (Snapshot a) (Txn b) known too same = absurd (apart 0 115 116 (codes "snapshots/" ++ id12_text a) (codes "transactions/" ++ id12_text b) refl refl (below-apart 115 116 (omega arith)) same)
+names_differ (Snapshot a) (Chunk b) known too same = absurd (apart 0 115 99 (codes "snapshots/" ++ id12_text a) (codes "chunks/" ++ id12_text b) refl refl (λ same. below-apart 99 115 (omega arith) (sym same)) same)
+names_differ (Snapshot a) (Branch b) known too same = absurd (apart 0 115 114 (codes "snapshots/" ++ id12_text a) (codes "refs/branch." ++ b ++ codes "/ref.json") refl refl (λ same. below-apart 114 115 (omega arith) (sym same)) same)
+names_differ (Snapshot a) (Tag b) known too same = absurd (apart 0 115 114 (codes "snapshots/" ++ id12_text a) (codes "refs/tag." ++ b ++ codes "/ref.json") refl refl (λ same. below-apart 114 115 (omega arith) (sym same)) same)
+names_differ (Snapshot a) (TagGone b) known too same = absurd (apart 0 115 114 (codes "snapshots/" ++ id12_text a) (codes "refs/tag." ++ b ++ codes "/ref.json.deleted") refl refl (λ same. below-apart 114 115 (omega arith) (sym same)) same)
+names_differ (Manifest a) (Snapshot b) known too same = absurd (apart 0 109 115 (codes "manifests/" ++ id12_text a) (codes "snapshots/" ++ id12_text b) refl refl (below-apart 109 115 (omega arith)) same)
+names_differ (Manifest a) (Manifest b) known too same = ap (λ (id : Id12). Manifest id) (same_id (codes "manifests/") a b known too same)
+names_differ (Manifest a) (Txn b) known too same = absurd (apart 0 109 116 (codes "manifests/" ++ id12_text a) (codes "transactions/" ++ id12_text b) refl refl (below-apart 109 116 (omega arith)) same)
+names_differ (Manifest a) (Chunk b) known too same = absurd (apart 0 109 99 (codes "manifests/" ++ id12_text a) (codes "chunks/" ++ id12_text b) refl refl (λ same. below-apart 99 109 (omega arith) (sym same)) same)
+names_differ (Manifest a) (Branch b) known too same = absurd (apart 0 109 114 (codes "manifests/" ++ id12_text a) (codes "refs/branch." ++ b ++ codes "/ref.json") refl refl (below-apart 109 114 (omega arith)) same)
+names_differ (Manifest a) (Tag b) known too same = absurd (apart 0 109 114 (codes "manifests/" ++ id12_text a) (codes "refs/tag." ++ b ++ codes "/ref.json") refl refl (below-apart 109 114 (omega arith)) same)
+names_differ (Manifest a) (TagGone b) known too same = absurd (apart 0 109 114 (codes "manifests/" ++ id12_text a) (codes "refs/tag." ++ b ++ codes "/ref.json.deleted") refl refl (below-apart 109 114 (omega arith)) same)
+names_differ (Txn a) (Snapshot b) known too same = absurd (apart 0 116 115 (codes "transactions/" ++ id12_text a) (codes "snapshots/" ++ id12_text b) refl refl (λ same. below-apart 115 116 (omega arith) (sym same)) same)
+names_differ (Txn a) (Manifest b) known too same = absurd (apart 0 116 109 (codes "transactions/" ++ id12_text a) (codes "manifests/" ++ id12_text b) refl refl (λ same. below-apart 109 116 (omega arith) (sym same)) same)
+names_differ (Txn a) (Txn b) known too same = ap (λ (id : Id12). Txn id) (same_id (codes "transactions/") a b known too same)
+names_differ (Txn a) (Chunk b) known too same = absurd (apart 0 116 99 (codes "transactions/" ++ id12_text a) (codes "chunks/" ++ id12_text b) refl refl (λ same. below-apart 99 116 (omega arith) (sym same)) same)
+names_differ (Txn a) (Branch b) known too same = absurd (apart 0 116 114 (codes "transactions/" ++ id12_text a) (codes "refs/branch." ++ b ++ codes "/ref.json") refl refl (λ same. below-apart 114 116 (omega arith) (sym same)) same)
+names_differ (Txn a) (Tag b) known too same = absurd (apart 0 116 114 (codes "transactions/" ++ id12_text a) (codes "refs/tag." ++ b ++ codes "/ref.json") refl refl (λ same. below-apart 114 116 (omega arith) (sym same)) same)
+names_differ (Txn a) (TagGone b) known too same = absurd (apart 0 116 114 (codes "transactions/" ++ id12_text a) (codes "refs/tag." ++ b ++ codes "/ref.json.deleted") refl refl (λ same. below-apart 114 116 (omega arith) (sym same)) same)
+names_differ (Chunk a) (Snapshot b) known too same = absurd (apart 0 99 115 (codes "chunks/" ++ id12_text a) (codes "snapshots/" ++ id12_text b) refl refl (below-apart 99 115 (omega arith)) same)
+names_differ (Chunk a) (Manifest b) known too same = absurd (apart 0 99 109 (codes "chunks/" ++ id12_text a) (codes "manifests/" ++ id12_text b) refl refl (below-apart 99 109 (omega arith)) same)
+names_differ (Chunk a) (Txn b) known too same = absurd (apart 0 99 116 (codes "chunks/" ++ id12_text a) (codes "transactions/" ++ id12_text b) refl refl (below-apart 99 116 (omega arith)) same)
+names_differ (Chunk a) (Chunk b) known too same = ap (λ (id : Id12). Chunk id) (same_id (codes "chunks/") a b known too same)
+names_differ (Chunk a) (Branch b) known too same = absurd (apart 0 99 114 (codes "chunks/" ++ id12_text a) (codes "refs/branch." ++ b ++ codes "/ref.json") refl refl (below-apart 99 114 (omega arith)) same)
+names_differ (Chunk a) (Tag b) known too same = absurd (apart 0 99 114 (codes "chunks/" ++ id12_text a) (codes "refs/tag." ++ b ++ codes "/ref.json") refl refl (below-apart 99 114 (omega arith)) same)
+names_differ (Chunk a) (TagGone b) known too same = absurd (apart 0 99 114 (codes "chunks/" ++ id12_text a) (codes "refs/tag." ++ b ++ codes "/ref.json.deleted") refl refl (below-apart 99 114 (omega arith)) same)
+names_differ (Branch a) (Snapshot b) known too same = absurd (apart 0 114 115 (codes "refs/branch." ++ a ++ codes "/ref.json") (codes "snapshots/" ++ id12_text b) refl refl (below-apart 114 115 (omega arith)) same)
+names_differ (Branch a) (Manifest b) known too same = absurd (apart 0 114 109 (codes "refs/branch." ++ a ++ codes "/ref.json") (codes "manifests/" ++ id12_text b) refl refl (λ same. below-apart 109 114 (omega arith) (sym same)) same)
+names_differ (Branch a) (Txn b) known too same = absurd (apart 0 114 116 (codes "refs/branch." ++ a ++ codes "/ref.json") (codes "transactions/" ++ id12_text b) refl refl (below-apart 114 116 (omega arith)) same)
+names_differ (Branch a) (Chunk b) known too same = absurd (apart 0 114 99 (codes "refs/branch." ++ a ++ codes "/ref.json") (codes "chunks/" ++ id12_text b) refl refl (λ same. below-apart 99 114 (omega arith) (sym same)) same)
+names_differ (Branch a) (Branch b) known too same = ap (λ (name : List ℕ). Branch name) (same_middle (codes "refs/branch.") a b (codes "/ref.json") same)
+names_differ (Branch a) (Tag b) known too same = absurd (apart 5 98 116 (codes "refs/branch." ++ a ++ codes "/ref.json") (codes "refs/tag." ++ b ++ codes "/ref.json") refl refl (below-apart 98 116 (omega arith)) same)
+names_differ (Branch a) (TagGone b) known too same = absurd (apart 5 98 116 (codes "refs/branch." ++ a ++ codes "/ref.json") (codes "refs/tag." ++ b ++ codes "/ref.json.deleted") refl refl (below-apart 98 116 (omega arith)) same)
+names_differ (Tag a) (Snapshot b) known too same = absurd (apart 0 114 115 (codes "refs/tag." ++ a ++ codes "/ref.json") (codes "snapshots/" ++ id12_text b) refl refl (below-apart 114 115 (omega arith)) same)
+names_differ (Tag a) (Manifest b) known too same = absurd (apart 0 114 109 (codes "refs/tag." ++ a ++ codes "/ref.json") (codes "manifests/" ++ id12_text b) refl refl (λ same. below-apart 109 114 (omega arith) (sym same)) same)
+names_differ (Tag a) (Txn b) known too same = absurd (apart 0 114 116 (codes "refs/tag." ++ a ++ codes "/ref.json") (codes "transactions/" ++ id12_text b) refl refl (below-apart 114 116 (omega arith)) same)
+names_differ (Tag a) (Chunk b) known too same = absurd (apart 0 114 99 (codes "refs/tag." ++ a ++ codes "/ref.json") (codes "chunks/" ++ id12_text b) refl refl (λ same. below-apart 99 114 (omega arith) (sym same)) same)
+names_differ (Tag a) (Branch b) known too same = absurd (apart 5 116 98 (codes "refs/tag." ++ a ++ codes "/ref.json") (codes "refs/branch." ++ b ++ codes "/ref.json") refl refl (λ same. below-apart 98 116 (omega arith) (sym same)) same)
+names_differ (Tag a) (Tag b) known too same = ap (λ (name : List ℕ). Tag name) (same_middle (codes "refs/tag.") a b (codes "/ref.json") same)
+names_differ (Tag a) (TagGone b) known too same = absurd (ends_apart 110 100 (codes "refs/tag." ++ a ++ codes "/ref.json") (codes "refs/tag." ++ b ++ codes "/ref.json.deleted") (last_of-append (codes "refs/tag." ++ a) (codes "/ref.json") 0) (last_of-append (codes "refs/tag." ++ b) (codes "/ref.json.deleted") 0) (λ same. below-apart 100 110 (omega arith) (sym same)) same)
+names_differ (TagGone a) (Snapshot b) known too same = absurd (apart 0 114 115 (codes "refs/tag." ++ a ++ codes "/ref.json.deleted") (codes "snapshots/" ++ id12_text b) refl refl (below-apart 114 115 (omega arith)) same)
+names_differ (TagGone a) (Manifest b) known too same = absurd (apart 0 114 109 (codes "refs/tag." ++ a ++ codes "/ref.json.deleted") (codes "manifests/" ++ id12_text b) refl refl (λ same. below-apart 109 114 (omega arith) (sym same)) same)
+names_differ (TagGone a) (Txn b) known too same = absurd (apart 0 114 116 (codes "refs/tag." ++ a ++ codes "/ref.json.deleted") (codes "transactions/" ++ id12_text b) refl refl (below-apart 114 116 (omega arith)) same)
+names_differ (TagGone a) (Chunk b) known too same = absurd (apart 0 114 99 (codes "refs/tag." ++ a ++ codes "/ref.json.deleted") (codes "chunks/" ++ id12_text b) refl refl (λ same. below-apart 99 114 (omega arith) (sym same)) same)
+names_differ (TagGone a) (Branch b) known too same = absurd (apart 5 116 98 (codes "refs/tag." ++ a ++ codes "/ref.json.deleted") (codes "refs/branch." ++ b ++ codes "/ref.json") refl refl (λ same. below-apart 98 116 (omega arith) (sym same)) same)
+names_differ (TagGone a) (Tag b) known too same = absurd (ends_apart 100 110 (codes "refs/tag." ++ a ++ codes "/ref.json.deleted") (codes "refs/tag." ++ b ++ codes "/ref.json") (last_of-append (codes "refs/tag." ++ a) (codes "/ref.json.deleted") 0) (last_of-append (codes "refs/tag." ++ b) (codes "/ref.json") 0) (below-apart 100 110 (omega arith)) same)
+names_differ (TagGone a) (TagGone b) known too same = ap (λ (name : List ℕ). TagGone name) (same_middle (codes "refs/tag.") a b (codes "/ref.json.deleted") same)
+
+-- a name's last byte is a letter of an id, or that of a ref's file
+name_ends : (key : Key) → (last_of (key_name key) 0 ≡ 119) → ⊥
+name_ends (Snapshot id) ends = let low : last_of (codes "snapshots/" ++ id12_text id) 0 < 91 = id_ends (codes "snapshots/") id (omega arith) in omega (arith, low, ends)
+name_ends (Manifest id) ends = let low : last_of (codes "manifests/" ++ id12_text id) 0 < 91 = id_ends (codes "manifests/") id (omega arith) in omega (arith, low, ends)
+name_ends (Txn id) ends = let low : last_of (codes "transactions/" ++ id12_text id) 0 < 91 = id_ends (codes "transactions/") id (omega arith) in omega (arith, low, ends)
+name_ends (Chunk id) ends = let low : last_of (codes "chunks/" ++ id12_text id) 0 < 91 = id_ends (codes "chunks/") id (omega arith) in omega (arith, low, ends)
+name_ends (Branch name) ends = below-apart 110 119 (omega arith) (sym (last_of-append (codes "refs/branch." ++ name) (codes "/ref.json") 0) ∙ ends)
+name_ends (Tag name) ends = below-apart 110 119 (omega arith) (sym (last_of-append (codes "refs/tag." ++ name) (codes "/ref.json") 0) ∙ ends)
+name_ends (TagGone name) ends = below-apart 100 119 (omega arith) (sym (last_of-append (codes "refs/tag." ++ name) (codes "/ref.json.deleted") 0) ∙ ends)
+
+pub asides_differ : (a b : Key) (number : ℕ) → IsKey a → IsKey b → aside_name (key_name a) number ≢ key_name b
+asides_differ a b number known too same =
+    let ends : last_of (aside_name (key_name a) number) 0 ≡ 119 = last_of-append (key_name a ++ codes "." ++ decimal number) (codes ".new") 0 in
+    name_ends b (sym (ap (λ (zs : List ℕ). last_of zs 0) same) ∙ ends)

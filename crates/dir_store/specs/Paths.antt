@@ -1,0 +1,39 @@
+-- Names of files in the directory: each object has the name that the standard gives it (Icechunk specification
+-- version 1, "File layout").
+use Rattle.std.specs.Prelude.{◌≡◌, ◌≢◌, ℕ, List, ◌++◌, codes, Option, MatchOption}
+use Rattle.std.specs.Fmt.{decimal}
+use Rattle.ice_ids.specs.Text.{IsId12}
+use Rattle.ice_base.specs.Names.{IsRefName}
+use Rattle.store_api.specs.declared.keys.Key.{Key}
+use Rattle.store_api.specs.declared.keys.Key.TheVariants.{Snapshot, Manifest, Txn, Chunk, Branch, Tag, TagGone}
+use Rattle.store_api.specs.Names.{key_name}
+
+-- its id has 12 bytes, or its name is one of a ref
+abbrev pub IsKey : Key → Type 0
+IsKey (Snapshot id) = IsId12 id
+IsKey (Manifest id) = IsId12 id
+IsKey (Txn id) = IsId12 id
+IsKey (Chunk id) = IsId12 id
+IsKey (Branch name) = IsRefName name
+IsKey (Tag name) = IsRefName name
+IsKey (TagGone name) = IsRefName name
+
+-- the key with this name, or none where no key has it
+abbrev pub NamesKey : List ℕ → Option Key → Type 0
+NamesKey name found = MatchOption found ((key : Key) → IsKey key → name ≢ key_name key) (λ key. IsKey key × (name ≡ key_name key))
+
+-- the path of an object in the directory
+abbrev pub path_in : List ℕ → Key → List ℕ
+path_in root key = root ++ codes "/" ++ key_name key
+
+-- the name under which a file is written before it is moved to its path
+abbrev pub aside_name : List ℕ → ℕ → List ℕ
+aside_name path number = path ++ codes "." ++ decimal number ++ codes ".new"
+
+-- two keys have two names
+abbrev pub NamesDiffer : Type 0
+NamesDiffer = (a b : Key) → IsKey a → IsKey b → key_name a ≡ key_name b → a ≡ b
+
+-- a name beside an object's is no object's
+abbrev pub AsidesAreNoKeys : Type 0
+AsidesAreNoKeys = (a b : Key) (number : ℕ) → IsKey a → IsKey b → aside_name (key_name a) number ≢ key_name b

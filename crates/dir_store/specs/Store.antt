@@ -1,0 +1,89 @@
+-- The directory as a store: what is seen of it, and what its answers say of the bytes that they give or were given.
+use Rattle.std.specs.Prelude.{◌≡◌, ◌≢◌, ℕ, List, [], false, Some, None}
+use Rattle.store_api.specs.declared.events.Version.{Version}
+use Rattle.store_api.specs.declared.events.Got.{Got}
+use Rattle.store_api.specs.declared.events.Got.TheVariants as G
+use Rattle.store_api.specs.declared.events.New.{New}
+use Rattle.store_api.specs.declared.events.New.TheVariants as N
+use Rattle.store_api.specs.declared.events.Over.{Over}
+use Rattle.store_api.specs.declared.events.Over.TheVariants as O
+use Rattle.store_api.specs.declared.events.Gone.{Gone}
+use Rattle.store_api.specs.declared.events.Gone.TheVariants as R
+use Rattle.store_api.specs.declared.events.GoneAt.{GoneAt}
+use Rattle.store_api.specs.declared.events.GoneAt.TheVariants as A
+use Rattle.store_api.specs.Callers.{Caller, View}
+use Rattle.dir_store.specs.declared.files.Change.{Change}
+use Rattle.dir_store.specs.declared.files.Change.TheVariants as C
+use Rattle.dir_store.specs.declared.store.DirStore.{DirStore}
+use Rattle.dir_store.specs.Versions.{version_of}
+
+-- ---- what is seen
+abbrev pub client_of : {R C : Type 0} → DirStore R C → ℕ
+client_of s = s.client
+
+abbrev pub faults_of : {R C : Type 0} → DirStore R C → ℕ
+faults_of s = s.faults
+
+abbrev pub clock_of : {R C : Type 0} → DirStore R C → C
+clock_of s = s.clock
+
+-- a client that isn't told the journal and has every number
+abbrev pub untold : ℕ → Caller
+untold client = record { tells = false; number = client; low = 0; end = None; home = [] }
+
+-- a store that tells no journal
+abbrev pub untold_view : ℕ → ℕ → View
+untold_view client faults = record { caller = untold client; seen = []; faults = faults }
+
+abbrev pub view_of : {R C : Type 0} → DirStore R C → View
+view_of s = untold_view (client_of s) (faults_of s)
+
+-- for the client 0, with no fault so far
+pub record IsOpened {R C : Type 0} (clock : C) (s : DirStore R C) : Type 0 where
+  pub client : client_of s ≡ 0
+  pub faults : faults_of s ≡ 0
+  pub keeps : clock_of s ≡ clock
+
+-- ---- what answers say
+-- the version that is told is that of the bytes
+abbrev pub IsRightGot : Got → Type 0
+IsRightGot (G.Found bytes version now) = version.0 ≡ version_of bytes
+IsRightGot (G.Absent now) = Unit {0}
+
+abbrev pub IsRightNew : List ℕ → New → Type 0
+IsRightNew bytes (N.Done version now) = version.0 ≡ version_of bytes
+IsRightNew bytes (N.Present version now) = Unit {0}
+
+-- ... and what moved isn't the old version
+abbrev pub IsRightOver : List ℕ → Version → Over → Type 0
+IsRightOver bytes old (O.Done version now) = version.0 ≡ version_of bytes
+IsRightOver bytes old (O.Moved found now) = found ≢ Some old
+
+abbrev pub IsRightGoneAt : Version → GoneAt → Type 0
+IsRightGoneAt old (A.Done now) = Unit {0}
+IsRightGoneAt old (A.Moved found now) = found ≢ Some old
+
+abbrev pub IsMoved : Version → Change → Type 0
+IsMoved old C.Made = Unit {0}
+IsMoved old (C.Moved found) = found ≢ Some old
+
+-- ---- the moment that an answer tells
+abbrev pub time_of_got : Got → ℕ
+time_of_got (G.Found bytes version now) = now
+time_of_got (G.Absent now) = now
+
+abbrev pub time_of_new : New → ℕ
+time_of_new (N.Done version now) = now
+time_of_new (N.Present version now) = now
+
+abbrev pub time_of_over : Over → ℕ
+time_of_over (O.Done version now) = now
+time_of_over (O.Moved found now) = now
+
+abbrev pub time_of_gone : Gone → ℕ
+time_of_gone (R.Done now) = now
+time_of_gone (R.Absent now) = now
+
+abbrev pub time_of_gone_at : GoneAt → ℕ
+time_of_gone_at (A.Done now) = now
+time_of_gone_at (A.Moved found now) = now

@@ -1,0 +1,13 @@
+//! Laws of names: functions that do nothing, whose contracts are the laws.
+
+ghost use Rattle.dir_store.specs.Paths.{NamesDiffer, AsidesAreNoKeys};
+
+/// Two keys have two names, so the key that `key_of` reads of a key's name is that key.
+pub fn names_are_told_apart()
+    ensures { NamesDiffer }
+{}
+
+/// The name under which a file is written, before it is moved to its place, is no key's.
+pub fn asides_are_no_keys()
+    ensures { AsidesAreNoKeys }
+{}

@@ -1,0 +1,4 @@
+pub mod Steps
+pub mod Collected
+pub mod Spans
+pub mod Ranks

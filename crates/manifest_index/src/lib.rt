@@ -1,0 +1,15 @@
+//! The list of an array's manifests: which of them may have a chunk, and the one new list of chunks after a change.
+//!
+//! [`candidates`] answers the manifests whose extents contain an index; [`merge`] answers where the chunks of an array are
+//! after a change, and [`extents_of`] their extents.
+#![tactic(auto)]
+
+mod chunks;
+mod copies;
+mod extents;
+mod listed;
+mod merging;
+
+pub use extents::extents_of;
+pub use listed::candidates;
+pub use merging::merge;

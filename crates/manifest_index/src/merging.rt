@@ -1,0 +1,146 @@
+//! The chunks of an array after a change.
+
+ghost use Rattle.std.specs.Prelude.{◌≡◌, ◌==◌, ◌&&◌, ◌<◌, ℕ, List, Some, None, if◌then◌else◌, length, bytes_eq, IfOk, IfSome, OnOk, All};
+ghost use Rattle.std.specs.Option.{option_or, unwrap_or};
+ghost use Rattle.held_manifest.specs.LookUp.{within, place_of, entry_seen, look_up};
+ghost use Rattle.manifest_index.specs.Merging.{changed_at, IsMerged};
+ghost use Rattle.manifest_index.specs.inside.Chunks.{chunk_at, ranked};
+
+use crate::chunks::{Chunks, into_refs, set};
+use crate::copies::{copy_change, own_index, own_place};
+use held_manifest::{Held, RefView, Refs, is_within};
+use ice_ids::Id8;
+use ice_items::Items;
+use manifest_file::{ArrayRefs, Place};
+use std::alloc::{AllocError, Global};
+use std::collections::BTreeMap;
+use zarr_path::Index;
+
+/// Enters a chunk, if it has the rank and its index lies within the extents.
+fn enter_ref(
+    alloc: Global,
+    chunks: &mut Chunks,
+    rank: usize,
+    extents: &[(u32, u32)],
+    chunk: &RefView<'_>,
+) -> Result<(), AllocError>
+    ensures { OnOk result ((q : List ℕ) → chunk_at q chunks.new ≡ option_or (ranked rank q (if within extents.now q && bytes_eq chunk.now.index q then Some chunk.now.place else None)) (chunk_at q chunks.old)) }
+{
+    let index = own_index(alloc, chunk)?;
+    if index.parts().len() != rank {
+        return Ok(());
+    }
+    if !is_within(extents, index.parts()) {
+        return Ok(());
+    }
+    let place = own_place(alloc, chunk.place())?;
+    set(chunks, index, Some(place))
+}
+
+/// Enters the chunks that have the rank and whose indices lie within the extents, over those that are there.
+fn enter_refs(
+    alloc: Global,
+    chunks: &mut Chunks,
+    rank: usize,
+    extents: &[(u32, u32)],
+    refs: &Refs<'_>,
+) -> Result<(), AllocError>
+    ensures { OnOk result ((q : List ℕ) → chunk_at q chunks.new ≡ option_or (ranked rank q (if within extents.now q then place_of q refs.now else None)) (chunk_at q chunks.old)) }
+{
+    for k in (0..refs.len()).rev() {
+        enter_ref(alloc, chunks, rank, extents, &refs.at(k))?;
+    }
+    Ok(())
+}
+
+/// Enters the chunks of a node that a manifest has within its extents, over those that are there.
+fn enter_manifest(
+    alloc: Global,
+    chunks: &mut Chunks,
+    rank: usize,
+    node: Id8,
+    manifest: &(Items<(u32, u32)>, Held),
+) -> Result<(), AllocError>
+    ensures { OnOk result ((q : List ℕ) → chunk_at q chunks.new ≡ option_or (ranked rank q (entry_seen node q manifest.now)) (chunk_at q chunks.old)) }
+{
+    let (extents, held) = manifest;
+    match held.node(node) {
+        Some(refs) => enter_refs(alloc, chunks, rank, extents.as_slice(), &refs),
+        None => Ok(()),
+    }
+}
+
+/// The chunks that a node's list of manifests has. The last one is entered first, since the first one counts.
+fn old_chunks(
+    alloc: Global,
+    rank: usize,
+    node: Id8,
+    manifests: &[(Items<(u32, u32)>, Held)],
+) -> Result<Chunks, AllocError>
+    ensures { IfOk result (λ chunks. (q : List ℕ) → chunk_at q chunks ≡ ranked rank q (look_up node q manifests.now)) }
+{
+    let mut chunks = BTreeMap::new(alloc);
+    for k in (0..manifests.len()).rev() {
+        enter_manifest(alloc, &mut chunks, rank, node, &manifests[k])?;
+    }
+    Ok(chunks)
+}
+
+/// Enters what a change says of one index, if that has the rank.
+fn enter_change(
+    alloc: Global,
+    chunks: &mut Chunks,
+    rank: usize,
+    change: &(Index, Option<Place>),
+) -> Result<(), AllocError>
+    ensures { OnOk result ((q : List ℕ) → chunk_at q chunks.new ≡ (if (length q == rank) && bytes_eq change.now.0 q then change.now.1 else chunk_at q chunks.old)) }
+{
+    let (index, place) = change;
+    if index.parts().len() != rank {
+        return Ok(());
+    }
+    set(chunks, index.copy(alloc)?, copy_change(alloc, place)?)
+}
+
+/// Enters a change. The first entry of an index counts.
+fn enter_changes(
+    alloc: Global,
+    chunks: &mut Chunks,
+    rank: usize,
+    change: &[(Index, Option<Place>)],
+) -> Result<(), AllocError>
+    ensures { OnOk result ((q : List ℕ) → chunk_at q chunks.new ≡ (if length q == rank then unwrap_or (changed_at q change.now) (chunk_at q chunks.old) else chunk_at q chunks.old)) }
+{
+    for k in (0..change.len()).rev() {
+        enter_change(alloc, chunks, rank, &change[k])?;
+    }
+    Ok(())
+}
+
+/// The chunks of an array after a change, in the strict order of their indices; `None` exactly where no chunk is left.
+///
+/// The array's old chunks are those that its list of manifests has, each with its extents there. The change has for an
+/// index where its chunk is from now on, or `None` where it has none any more; the first entry of an index counts. Indices
+/// of another rank than the array's are left out.
+///
+/// # Errors
+///
+/// Memory may run out.
+pub fn merge(
+    alloc: Global,
+    rank: usize,
+    node: Id8,
+    old: &[(Items<(u32, u32)>, Held)],
+    change: &[(Index, Option<Place>)],
+) -> Result<Option<ArrayRefs>, AllocError>
+    ensures merged { IfOk result (IsMerged rank node old.now change.now) }
+    ensures ranks { IfOk result (λ merged. IfSome merged (λ array. All (λ r. length r.index ≡ rank) array.refs)) }
+{
+    let mut chunks = old_chunks(alloc, rank, node, old)?;
+    enter_changes(alloc, &mut chunks, rank, change)?;
+    let refs = into_refs(alloc, chunks)?;
+    if refs.is_empty() {
+        return Ok(None);
+    }
+    Ok(Some(ArrayRefs { node, refs }))
+}

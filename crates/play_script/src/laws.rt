@@ -1,0 +1,9 @@
+//! Laws of the definitions of scripts.
+
+ghost use Rattle.play_script.specs.Arrays.{PlainLaw};
+
+/// The plain text of an array of one of the eight types is that of `zarr_meta`.
+#[tactic(auto, using(crate::proofs::PlainText::plain_law))]
+pub fn plain_law()
+    ensures { PlainLaw }
+{}
