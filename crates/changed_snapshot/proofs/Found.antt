@@ -1,5 +1,6 @@
 -- Rows of a tree by their paths, and the rows under changes.
 use Rattle.std.proofs.Common.{◌≡◌, ◌∙◌, Bool, true, false, cond, ◌&&◌, T, List, [], ◌∷◌, map, Option, Some, None, option_map, refl, sym, ap, subst}
+use Rattle.std.specs.Prelude.{find as first_that}
 use Rattle.std.specs.declared.cmp.Ordering.{Ordering}
 use Rattle.std.specs.declared.cmp.Ordering.TheVariants.{Less, Equal, Greater}
 use Rattle.std.specs.Ordering.{is_eq, is_lt}
@@ -17,7 +18,9 @@ use Rattle.zarr_tree.specs.Held.{Held, nodes_over}
 use Rattle.zarr_tree.proofs.Maps.{Path, get-made}
 use Rattle.snapshot_file.specs.declared.nodes.NodeRow.{NodeRow}
 use Rattle.repo_objects.specs.Trees.{node_of, nodes_in, row_at, manifests_of}
-use Rattle.changed_snapshot.specs.Rows.{row_of, row_from, rows_over}
+use Rattle.snapshot_file.specs.declared.nodes.ManifestRef.{ManifestRef}
+use Rattle.changed_snapshot.specs.declared.written.NewList.{NewList}
+use Rattle.changed_snapshot.specs.Rows.{refs_of, new_list, row_of, row_from, row_over, rows_over}
 
 -- nodes by their paths, in order
 abbrev pub Entries : Type 0
@@ -78,43 +81,64 @@ from-node p n (Some row) = elim (same_id8 row.id n.id) as (λ b. same_id8 row.id
   | false ↦ λ e. refl
 ] refl
 
--- the row of an entry, over these rows
-abbrev pub made : List NodeRow → Path × Node → NodeRow
-made rows e = row_from e.0 e.1 (row_at rows e.0)
+pub over-path : (p : Path) (n : Node) (old : Option NodeRow) (new : Option (List ManifestRef)) → StandsAt p old → (row_over p n old new).path ≡ p
+over-path p n old None there = from-path p n old there
+over-path p n old (Some manifests) there = refl
 
-pub made-path : (rows : List NodeRow) (e : Path × Node) → (made rows e).path ≡ e.0
-made-path rows e = from-path e.0 e.1 (row_at rows e.0) (row_there rows e.0)
+pub over-node : (p : Path) (n : Node) (old : Option NodeRow) (new : Option (List ManifestRef)) → node_of (row_over p n old new) ≡ n
+over-node p n old None = from-node p n old
+over-node p n old (Some manifests) = refl
 
-pub made-node : (rows : List NodeRow) (e : Path × Node) → node_of (made rows e) ≡ e.1
-made-node rows e = from-node e.0 e.1 (row_at rows e.0)
+module _ (news : List NewList) (rows : List NodeRow) where
+  -- the row of a node at a path, over these rows
+  abbrev pub row_made : Path → Node → NodeRow
+  row_made p n = row_over p n (row_at rows p) (new_list news p)
 
--- ---- the rows under what is held
+  abbrev pub made : Path × Node → NodeRow
+  made e = row_made e.0 e.1
 
-found_made : (rows : List NodeRow) (p : Path) (es : Entries) → row_at (map (made rows) es) p ≡ option_map (λ n. row_from p n (row_at rows p)) (find path_cmp p es)
-found_made rows p [] = refl
-found_made rows p (e ∷ es) =
-    ap (λ q. cond (same_path q p) (Some (made rows e)) (row_at (map (made rows) es) p)) (made-path rows e)
-    ∙ ap (λ b. cond b (Some (made rows e)) (row_at (map (made rows) es) p)) (turned e.0 p)
-    ∙ elim (same_path p e.0) as (λ b. same_path p e.0 ≡ b → cond b (Some (made rows e)) (row_at (map (made rows) es) p) ≡ option_map (λ n. row_from p n (row_at rows p)) (cond b (Some e.1) (find path_cmp p es))) [
-      | true ↦ λ t. ap (λ q. Some (row_from q e.1 (row_at rows q))) (sym (same_path-true p e.0 t))
-      | false ↦ λ t. found_made rows p es
-    ] refl
+  -- what holds of the row of a node, and of its row with the list that is found, holds of the one that is made
+  pub by_list : (Q : NodeRow → Type 0) (p : Path) (n : Node) → Q (row_from p n (row_at rows p))
+      → ((list : NewList) → first_that (λ (new : NewList). same_path new.path p) news ≡ Some list → Q (row_of p n (refs_of list.manifest))) → Q (row_made p n)
+  by_list Q p n kept written = cases (first_that (λ (new : NewList). same_path new.path p) news) written
+    where
+      cases : (o : Option NewList) → ((list : NewList) → o ≡ Some list → Q (row_of p n (refs_of list.manifest))) → Q (row_over p n (row_at rows p) (option_map (λ (new : NewList). refs_of new.manifest) o))
+      cases None each = kept
+      cases (Some list) each = each list refl
+
+  pub made-path : (e : Path × Node) → (made e).path ≡ e.0
+  made-path e = over-path e.0 e.1 (row_at rows e.0) (new_list news e.0) (row_there rows e.0)
+
+  pub made-node : (e : Path × Node) → node_of (made e) ≡ e.1
+  made-node e = over-node e.0 e.1 (row_at rows e.0) (new_list news e.0)
+
+  -- ---- the rows under what is held
+
+  found_made : (p : Path) (es : Entries) → row_at (map made es) p ≡ option_map (row_made p) (find path_cmp p es)
+  found_made p [] = refl
+  found_made p (e ∷ es) =
+      ap (λ q. cond (same_path q p) (Some (made e)) (row_at (map made es) p)) (made-path e)
+      ∙ ap (λ b. cond b (Some (made e)) (row_at (map made es) p)) (turned e.0 p)
+      ∙ elim (same_path p e.0) as (λ b. same_path p e.0 ≡ b → cond b (Some (made e)) (row_at (map made es) p) ≡ option_map (row_made p) (cond b (Some e.1) (find path_cmp p es))) [
+        | true ↦ λ t. ap (λ q. Some (row_made q e.1)) (sym (same_path-true p e.0 t))
+        | false ↦ λ t. found_made p es
+      ] refl
 
 module _ {P : Type 0} where
   -- the new row at a path
-  pub row_over : (h : Held P) (rows : List NodeRow) (p : Path) → row_at (rows_over h rows) p ≡ option_map (λ n. row_from p n (row_at rows p)) (get (nodes_over h (nodes_in rows)) p)
+  pub new_row : (h : Held P) (news : List NewList) (rows : List NodeRow) (p : Path) → row_at (rows_over h news rows) p ≡ option_map (row_made news rows p) (get (nodes_over h (nodes_in rows)) p)
   unfolding rows_over
-  row_over h rows p =
-      found_made rows p (entries (nodes_over h (nodes_in rows)))
-      ∙ ap (option_map (λ n. row_from p n (row_at rows p))) (sym (get-entries (nodes_over h (nodes_in rows)) p))
+  new_row h news rows p =
+      found_made news rows p (entries (nodes_over h (nodes_in rows)))
+      ∙ ap (option_map (row_made news rows p)) (sym (get-entries (nodes_over h (nodes_in rows)) p))
 
 -- ---- what holds of all entries
 
-first_of : (a b : Bool) → T (a && b) → T a
+pub first_of : (a b : Bool) → T (a && b) → T a
 first_of true b p = tt
 first_of false b p = p
 
-second_of : (a b : Bool) → T (a && b) → T b
+pub second_of : (a b : Bool) → T (a && b) → T b
 second_of true b p = p
 second_of false b p = absurd p
 
@@ -146,14 +170,14 @@ found_later e es p n below f = elim (same_path p e.0) as (λ b. same_path p e.0 
 ] refl
 
 -- what holds of the row of each node that is found holds of all rows
-all_made : (Q : NodeRow → Type 0) (rows : List NodeRow) (es : Entries) → T (is_sorted path_cmp es) → ((p : Path) (n : Node) → find path_cmp p es ≡ Some n → Q (row_from p n (row_at rows p))) → AllByRecursion Q (map (made rows) es)
-all_made Q rows [] sorted each = tt
-all_made Q rows (e ∷ es) sorted each =
-    (each e.0 e.1 (ap (λ b. cond b (Some e.1) (find path_cmp e.0 es)) (same_path-refl e.0)), all_made Q rows es (tail_sorted e es sorted) (λ p n f. each p n (found_later e es p n (head_below e es sorted) f)))
+all_made : (Q : NodeRow → Type 0) (news : List NewList) (rows : List NodeRow) (es : Entries) → T (is_sorted path_cmp es) → ((p : Path) (n : Node) → find path_cmp p es ≡ Some n → Q (row_made news rows p n)) → AllByRecursion Q (map (made news rows) es)
+all_made Q news rows [] sorted each = tt
+all_made Q news rows (e ∷ es) sorted each =
+    (each e.0 e.1 (ap (λ b. cond b (Some e.1) (find path_cmp e.0 es)) (same_path-refl e.0)), all_made Q news rows es (tail_sorted e es sorted) (λ p n f. each p n (found_later e es p n (head_below e es sorted) f)))
 
 module _ {P : Type 0} where
-  pub all_over : (Q : NodeRow → Type 0) (h : Held P) (rows : List NodeRow) → ((p : Path) (n : Node) → get (nodes_over h (nodes_in rows)) p ≡ Some n → Q (row_from p n (row_at rows p))) → AllByRecursion Q (rows_over h rows)
+  pub all_over : (Q : NodeRow → Type 0) (h : Held P) (news : List NewList) (rows : List NodeRow) → ((p : Path) (n : Node) → get (nodes_over h (nodes_in rows)) p ≡ Some n → Q (row_made news rows p n)) → AllByRecursion Q (rows_over h news rows)
   unfolding rows_over
-  all_over Q h rows each =
+  all_over Q h news rows each =
       let nodes = nodes_over h (nodes_in rows) in
-      all_made Q rows (entries nodes) (entries_sorted nodes) (λ p n f. each p n (get-entries nodes p ∙ f))
+      all_made Q news rows (entries nodes) (entries_sorted nodes) (λ p n f. each p n (get-entries nodes p ∙ f))

@@ -18,7 +18,7 @@ use Rattle.repo_objects.specs.Trees.{manifests_of}
 use Rattle.changed_snapshot.specs.Rows.{names_in, files_over}
 use Rattle.changed_snapshot.specs.inside.Named.{has_id, have_id}
 
-exact : (x q : Id12) → id12_cmp q x ≡ Equal → q ≡ x
+pub exact : (x q : Id12) → id12_cmp q x ≡ Equal → q ≡ x
 exact x q e = let bytes : q.0 ≡ x.0 = slice_cmp-IsAntisymmetric nat_cmp-IsAntisymmetric q.0 x.0 e in λ i. record { 0 = bytes i }
 
 itself : (q : Id12) → id12_cmp q q ≡ Equal
@@ -36,7 +36,7 @@ contains_id (x ∷ xs) q = λ i. sym (same_ids x q) i || contains_id xs q i
 
 -- ---- one more id
 
-or_assoc : (a b c : Bool) → ((a || b) || c) ≡ (a || (b || c))
+pub or_assoc : (a b c : Bool) → ((a || b) || c) ≡ (a || (b || c))
 or_assoc true b c = refl
 or_assoc false b c = refl
 

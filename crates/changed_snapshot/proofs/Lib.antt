@@ -1,10 +1,13 @@
 pub mod Found
 pub mod NodesHold
+pub mod Entered
 pub mod TreeHolds
 pub mod Keeping
 pub mod Orders
 pub mod Named
+pub mod OwnManifests
 pub mod ArrayRows
 pub mod Proper
 pub mod IdSets
+pub mod FilesById
 pub mod Halves

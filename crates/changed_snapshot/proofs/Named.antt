@@ -1,5 +1,5 @@
 -- All that the rows under changes name is still listed.
-use Rattle.std.proofs.Common.{◌≡◌, ◌∙◌, ℕ, ◌+◌, Bool, true, false, cond, not, ◌||◌, List, [], ◌∷◌, Option, Some, None, refl, sym, ap}
+use Rattle.std.proofs.Common.{◌≡◌, ◌∙◌, ℕ, ◌+◌, Bool, true, false, cond, not, ◌&&◌, ◌||◌, List, [], ◌∷◌, Option, Some, None, refl, sym, ap}
 use Rattle.std.specs.Prelude.{position}
 use Rattle.std.specs.List.{list_any, list_all, filter, position_from, AllByRecursion}
 use Rattle.std.specs.Str.{bytes_eq}
@@ -7,6 +7,7 @@ use Rattle.std.proofs.lemmas.Iterator.Adapters.{position_from-zero}
 use Rattle.ice_ids.specs.declared.Id12.{Id12}
 use Rattle.ice_ids.specs.Text.{same_id8, same_id12}
 use Rattle.ice_ids.proofs.TextLaws.{same_id12-true, same_id12-self}
+use Rattle.zarr_path.specs.Paths.{same_path}
 use Rattle.zarr_meta.specs.declared.views.ArrayView.{ArrayView}
 use Rattle.zarr_tree.specs.Nodes.{Node, array_in}
 use Rattle.zarr_tree.specs.Held.{Held}
@@ -19,8 +20,11 @@ use Rattle.snapshot_file.specs.declared.nodes.NodeRow.{NodeRow}
 use Rattle.snapshot_file.specs.declared.snapshot.ManifestInfo.{ManifestInfo}
 use Rattle.snapshot_file.specs.Snapshots.{manifests_named, is_listed, all_listed, first_unlisted}
 use Rattle.repo_objects.specs.Trees.{row_at, manifests_of}
-use Rattle.changed_snapshot.specs.Rows.{kind_of, row_of, row_from, names_in, files_over, rows_over}
-use Rattle.changed_snapshot.proofs.Found.{row_has, all_over}
+use Rattle.changed_snapshot.specs.declared.written.NewList.{NewList}
+use Rattle.changed_snapshot.specs.declared.written.NewManifest.{NewManifest}
+use Rattle.changed_snapshot.specs.Rows.{refs_of, infos_of, files_with, kind_of, row_of, row_from, names_in, files_over, rows_over}
+use Rattle.changed_snapshot.proofs.Found.{row_has, by_list, all_over}
+use Rattle.changed_snapshot.proofs.FilesById.{lists_id, or_left, or_right, with_listed, found_info}
 
 -- ---- the first place at which a test passes
 
@@ -80,9 +84,6 @@ or-true false = refl
 abbrev staying : (Id12 → Bool) → List ManifestInfo → List ManifestInfo
 staying test files = filter (λ (file : ManifestInfo). test file.id) files
 
-abbrev lists_id : List ManifestInfo → Id12 → Bool
-lists_id files id = list_any (λ (file : ManifestInfo). same_id12 file.id id) files
-
 module _ (test : Id12 → Bool) where
   -- an id that passes stays listed
   stays : (files : List ManifestInfo) (id : Id12) → lists_id files id ≡ true → test id ≡ true → lists_id (staying test files) id ≡ true
@@ -128,31 +129,53 @@ module _ (test : Id12 → Bool) where
 
 -- ---- the rows under what is held
 
--- a row made of one that is listed is listed
-from_listed : (files : List ManifestInfo) (p : Path) (n : Node) (old : Option NodeRow) → ((row : NodeRow) → old ≡ Some row → IsListed files row) → IsListed files (row_from p n old)
-from_listed files p n old listed = cases old listed
-  where
-    of_manifests : (a : Option ArrayView) (ms : List ManifestRef) → list_all (is_listed files) ms ≡ true → list_all (is_listed files) (manifests_named (kind_of a ms)) ≡ true
-    of_manifests None ms h = refl
-    of_manifests (Some array) ms h = h
+module _ (files : List ManifestInfo) (p : Path) (n : Node) where
+  of_manifests : (a : Option ArrayView) (ms : List ManifestRef) → list_all (is_listed files) ms ≡ true → list_all (is_listed files) (manifests_named (kind_of a ms)) ≡ true
+  of_manifests None ms h = refl
+  of_manifests (Some array) ms h = h
 
-    made_of : (ms : List ManifestRef) → list_all (is_listed files) ms ≡ true → IsListed files (row_of p n ms)
-    made_of ms h = of_manifests (array_in n.text) ms h
+  made_of : (ms : List ManifestRef) → list_all (is_listed files) ms ≡ true → IsListed files (row_of p n ms)
+  made_of ms h = of_manifests (array_in n.text) ms h
 
-    same_list : (kind : NodeKind) → list_all (is_listed files) (manifests_named kind) ≡ true → list_all (is_listed files) (manifests_of kind) ≡ true
-    same_list Group h = h
-    same_list (Array shape names manifests) h = h
+  same_list : (kind : NodeKind) → list_all (is_listed files) (manifests_named kind) ≡ true → list_all (is_listed files) (manifests_of kind) ≡ true
+  same_list Group h = h
+  same_list (Array shape names manifests) h = h
 
-    cases : (o : Option NodeRow) → ((row : NodeRow) → o ≡ Some row → IsListed files row) → IsListed files (row_from p n o)
-    cases None are = made_of [] refl
-    cases (Some row) are = elim (same_id8 row.id n.id) as (λ b. IsListed files (cond b (cond (bytes_eq row.user_data n.text) row (row_of p n (manifests_of row.kind))) (row_of p n []))) [
-      | true ↦ elim (bytes_eq row.user_data n.text) as (λ b. IsListed files (cond b row (row_of p n (manifests_of row.kind)))) [ true ↦ are row refl | false ↦ made_of (manifests_of row.kind) (same_list row.kind (are row refl)) ]
-      | false ↦ made_of [] refl
-    ]
+  -- a row made of one that is listed is listed
+  from_listed : (old : Option NodeRow) → ((row : NodeRow) → old ≡ Some row → IsListed files row) → IsListed files (row_from p n old)
+  from_listed None are = made_of [] refl
+  from_listed (Some row) are = elim (same_id8 row.id n.id) as (λ b. IsListed files (cond b (cond (bytes_eq row.user_data n.text) row (row_of p n (manifests_of row.kind))) (row_of p n []))) [
+    | true ↦ elim (bytes_eq row.user_data n.text) as (λ b. IsListed files (cond b row (row_of p n (manifests_of row.kind)))) [ true ↦ are row refl | false ↦ made_of (manifests_of row.kind) (same_list row.kind (are row refl)) ]
+    | false ↦ made_of [] refl
+  ]
+
+  -- and so is one with a new manifest that is listed
+  new_listed : (o : Option NewManifest) → ((m : NewManifest) → o ≡ Some m → lists_id files m.id ≡ true) → IsListed files (row_of p n (refs_of o))
+  new_listed None is = made_of [] refl
+  new_listed (Some m) is = made_of (refs_of (Some m)) (ap (λ b. b && true) (is m refl))
+
+-- ---- more files
+
+module _ (files more : List ManifestInfo) (wide : (id : Id12) → lists_id files id ≡ true → lists_id more id ≡ true) where
+  manifests_more : (ms : List ManifestRef) → list_all (is_listed files) ms ≡ true → list_all (is_listed more) ms ≡ true
+  manifests_more [] h = refl
+  manifests_more (m ∷ ms) h =
+      both (is_listed more m) (list_all (is_listed more) ms) (wide m.id (first (is_listed files m) (list_all (is_listed files) ms) h)) (manifests_more ms (second (is_listed files m) (list_all (is_listed files) ms) h))
+
+  rows_more : (rows : List NodeRow) → AllByRecursion (IsListed files) rows → AllByRecursion (IsListed more) rows
+  rows_more [] all = tt
+  rows_more (row ∷ rows) all = (manifests_more (manifests_named row.kind) all.0, rows_more rows all.1)
 
 module _ {P : Type 0} where
-  pub rows_named : (h : Held P) (rows : List NodeRow) (files : List ManifestInfo) → first_unlisted files rows ≡ None → first_unlisted (files_over files (rows_over h rows)) (rows_over h rows) ≡ None
-  rows_named h rows files listed =
-      let old : AllByRecursion (IsListed files) rows = are_listed files rows listed in
-      let new : AllByRecursion (IsListed files) (rows_over h rows) = all_over (IsListed files) h rows (λ p n _. from_listed files p n (row_at rows p) (λ row there. row_has (IsListed files) rows p row old there)) in
-      none_unlisted (files_over files (rows_over h rows)) (rows_over h rows) (rows_stay (names_in (rows_over h rows)) files (rows_over h rows) new (λ id named. named))
+  pub rows_named : (h : Held P) (news : List NewList) (rows : List NodeRow) (files : List ManifestInfo) → first_unlisted files rows ≡ None
+      → first_unlisted (files_over (files_with files news) (rows_over h news rows)) (rows_over h news rows) ≡ None
+  rows_named h news rows files listed =
+      let more : List ManifestInfo = files_with files news in
+      let wide : (id : Id12) → lists_id files id ≡ true → lists_id more id ≡ true = λ id l. with_listed files news id ∙ or_right (lists_id (infos_of news) id) (lists_id files id) l in
+      let old : AllByRecursion (IsListed more) rows = rows_more files more wide rows (are_listed files rows listed) in
+      let new : AllByRecursion (IsListed more) (rows_over h news rows) = all_over (IsListed more) h news rows (λ p n _.
+      by_list news rows (IsListed more) p n
+      (from_listed more p n (row_at rows p) (λ row there. row_has (IsListed more) rows p row old there))
+      (λ list there. new_listed more p n list.manifest (λ m is. with_listed files news m.id ∙ or_left (lists_id (infos_of news) m.id) (lists_id files m.id) (found_info (λ (new : NewList). same_path new.path p) news list m there is))))
+      in
+      none_unlisted (files_over more (rows_over h news rows)) (rows_over h news rows) (rows_stay (names_in (rows_over h news rows)) more (rows_over h news rows) new (λ id named. named))

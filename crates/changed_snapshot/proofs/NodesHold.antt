@@ -7,6 +7,7 @@ use Rattle.zarr_tree.specs.Held.{Held, nodes_over}
 use Rattle.zarr_tree.proofs.Maps.{same, get-made}
 use Rattle.snapshot_file.specs.declared.nodes.NodeRow.{NodeRow}
 use Rattle.repo_objects.specs.Trees.{node_of, nodes_in}
+use Rattle.changed_snapshot.specs.declared.written.NewList.{NewList}
 use Rattle.changed_snapshot.specs.Rows.{rows_over}
 use Rattle.changed_snapshot.specs.Laws.{NodesLaw}
 use Rattle.changed_snapshot.proofs.Found.{Entries, made, made-path, made-node}
@@ -15,14 +16,14 @@ use Rattle.changed_snapshot.proofs.Found.{Entries, made, made-path, made-node}
 made_again : (m : FinMap path_cmp Node) → from_entries {R = path_cmp} (entries m) ≡ m
 made_again m = same (from_entries (entries m)) m (λ q. get-made (entries m) q ∙ sym (get-entries m q))
 
-entries_again : (rows : List NodeRow) (es : Entries) → map (λ (row : NodeRow). (row.path, node_of row)) (map (made rows) es) ≡ es
-entries_again rows [] = refl
-entries_again rows (e ∷ es) = λ i. (made-path rows e i, made-node rows e i) ∷ entries_again rows es i
+entries_again : (news : List NewList) (rows : List NodeRow) (es : Entries) → map (λ (row : NodeRow). (row.path, node_of row)) (map (made news rows) es) ≡ es
+entries_again news rows [] = refl
+entries_again news rows (e ∷ es) = λ i. (made-path news rows e i, made-node news rows e i) ∷ entries_again news rows es i
 
 module _ {P : Type 0} where
-  pub nodes_hold : (h : Held P) (rows : List NodeRow) → nodes_in (rows_over h rows) ≡ nodes_over h (nodes_in rows)
+  pub nodes_hold : (h : Held P) (news : List NewList) (rows : List NodeRow) → nodes_in (rows_over h news rows) ≡ nodes_over h (nodes_in rows)
   unfolding rows_over
-  nodes_hold h rows = ap (from_entries {R = path_cmp}) (entries_again rows (entries (nodes_over h (nodes_in rows)))) ∙ made_again (nodes_over h (nodes_in rows))
+  nodes_hold h news rows = ap (from_entries {R = path_cmp}) (entries_again news rows (entries (nodes_over h (nodes_in rows)))) ∙ made_again (nodes_over h (nodes_in rows))
 
 pub nodes-law : NodesLaw
-nodes-law h rows = nodes_hold h rows
+nodes-law h news rows = nodes_hold h news rows

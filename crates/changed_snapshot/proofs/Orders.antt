@@ -15,6 +15,7 @@ use Rattle.zarr_tree.proofs.Maps.{Path}
 use Rattle.snapshot_file.specs.declared.nodes.NodeRow.{NodeRow}
 use Rattle.snapshot_file.specs.Snapshots.{node_key}
 use Rattle.repo_objects.specs.Trees.{nodes_in}
+use Rattle.changed_snapshot.specs.declared.written.NewList.{NewList}
 use Rattle.changed_snapshot.specs.Rows.{rows_over}
 use Rattle.changed_snapshot.proofs.Found.{Entries, made, made-path, head_below, tail_sorted}
 
@@ -55,22 +56,22 @@ first_follows : (b : Bool) (rest : Bool) → T (b && rest) → b ≡ true
 first_follows true rest h = refl
 first_follows false rest h = absurd h
 
-made_ascend : (rows : List NodeRow) (before : Option Path) (es : Entries) → T (all_follow before es) → T (is_sorted path_cmp es) → Ascends node_key before (map (made rows) es)
-made_ascend rows before [] follow sorted = tt
-made_ascend rows before (e ∷ es) follow sorted =
-    let rest : Ascends node_key (Some e.0) (map (made rows) es) = made_ascend rows (Some e.0) es (head_below e es sorted) (tail_sorted e es sorted) in
-    (ap (follows before) (made-path rows e) ∙ first_follows (follows before e.0) (all_follow before es) follow, subst (λ q. Ascends node_key (Some q) (map (made rows) es)) (sym (made-path rows e)) rest)
+made_ascend : (news : List NewList) (rows : List NodeRow) (before : Option Path) (es : Entries) → T (all_follow before es) → T (is_sorted path_cmp es) → Ascends node_key before (map (made news rows) es)
+made_ascend news rows before [] follow sorted = tt
+made_ascend news rows before (e ∷ es) follow sorted =
+    let rest : Ascends node_key (Some e.0) (map (made news rows) es) = made_ascend news rows (Some e.0) es (head_below e es sorted) (tail_sorted e es sorted) in
+    (ap (follows before) (made-path news rows e) ∙ first_follows (follows before e.0) (all_follow before es) follow, subst (λ q. Ascends node_key (Some q) (map (made news rows) es)) (sym (made-path news rows e)) rest)
 
 all_first : (es : Entries) → T (all_follow None es)
 all_first [] = tt
 all_first (e ∷ es) = all_first es
 
 module _ {P : Type 0} where
-  pub rows_ascend : (h : Held P) (rows : List NodeRow) → Ascends node_key None (rows_over h rows)
+  pub rows_ascend : (h : Held P) (news : List NewList) (rows : List NodeRow) → Ascends node_key None (rows_over h news rows)
   unfolding rows_over
-  rows_ascend h rows = let es = entries (nodes_over h (nodes_in rows)) in made_ascend rows None es (all_first es) (entries_sorted (nodes_over h (nodes_in rows)))
+  rows_ascend h news rows = let es = entries (nodes_over h (nodes_in rows)) in made_ascend news rows None es (all_first es) (entries_sorted (nodes_over h (nodes_in rows)))
 
   -- there are as many as nodes
-  pub rows_many : (h : Held P) (rows : List NodeRow) → length (rows_over h rows) ≡ len (nodes_over h (nodes_in rows))
+  pub rows_many : (h : Held P) (news : List NewList) (rows : List NodeRow) → length (rows_over h news rows) ≡ len (nodes_over h (nodes_in rows))
   unfolding rows_over
-  rows_many h rows = length-map (entries (nodes_over h (nodes_in rows))) (made rows) ∙ sym (len-entries (nodes_over h (nodes_in rows)))
+  rows_many h news rows = length-map (entries (nodes_over h (nodes_in rows))) (made news rows) ∙ sym (len-entries (nodes_over h (nodes_in rows)))

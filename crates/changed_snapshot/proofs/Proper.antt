@@ -1,12 +1,13 @@
 -- Under changes whose texts are metadata, a snapshot can be written.
-use Rattle.std.proofs.Common.{◌≡◌, ◌∙◌, ◌⊎◌, inl, inr, ℕ, ◌+◌, ◌≤◌, Bool, true, false, cond, List, [], ◌∷◌, Option, Some, None, is_some, option_map, Result, Ok, Err, refl, sym, ap, subst}
+use Rattle.std.proofs.Common.{◌≡◌, ◌∙◌, ◌⊎◌, inl, inr, ℕ, ◌+◌, ◌≤◌, Bool, true, false, cond, List, [], ◌∷◌, ◌++◌, Option, Some, None, is_some, option_map, Result, Ok, Err, refl, sym, ap, subst}
+use Rattle.std.specs.Prelude.{find, IfSome}
 use Rattle.std.specs.Result.{result_ok}
 use Rattle.std.specs.Option.{unwrap_or}
 use Rattle.std.specs.List.{filter, AllByRecursion}
 use Rattle.std.specs.Str.{bytes_eq, IsUtf8}
 use Rattle.std.specs.FinMap.{get, len}
 use Rattle.ice_ids.specs.Text.{same_id8}
-use Rattle.zarr_path.specs.Paths.{is_path}
+use Rattle.zarr_path.specs.Paths.{same_path, is_path}
 use Rattle.zarr_meta.specs.declared.faults.MetaFault.{MetaFault}
 use Rattle.zarr_meta.specs.declared.views.View.{View}
 use Rattle.zarr_meta.specs.declared.views.View.TheVariants as view
@@ -31,22 +32,25 @@ use Rattle.repo_objects.specs.declared.bad.Bad.{Bad}
 use Rattle.repo_objects.specs.declared.bad.Bad.TheVariants as bad
 use Rattle.repo_objects.specs.Readings.{kind_fault, row_fault, first_bad}
 use Rattle.repo_objects.specs.Trees.{node_of, nodes_in, row_at, manifests_of}
+use Rattle.changed_snapshot.specs.declared.written.NewList.{NewList}
+use Rattle.changed_snapshot.specs.declared.written.NewManifest.{NewManifest}
 use Rattle.changed_snapshot.specs.declared.written.Stamp.{Stamp}
-use Rattle.changed_snapshot.specs.Rows.{kind_of, row_of, row_from, names_in, rows_over, snapshot_over}
-use Rattle.changed_snapshot.specs.Laws.{IsFineNode, AddsFine, SetsFine, FineLaw, ProperLaw}
+use Rattle.changed_snapshot.specs.Rows.{refs_of, infos_of, files_with, kind_of, row_of, row_from, names_in, rows_over, snapshot_over}
+use Rattle.changed_snapshot.specs.Laws.{IsFineNode, AddsFine, SetsFine, IsSized, AreSized, FineLaw, ProperLaw}
 use Rattle.changed_snapshot.proofs.ArrayRows.{metadata_bytes, kind_is}
-use Rattle.changed_snapshot.proofs.Found.{all_over, row_there, row_has, node_at_row}
+use Rattle.changed_snapshot.proofs.FilesById.{files_ascend, infos_with}
+use Rattle.changed_snapshot.proofs.Found.{all_over, by_list, row_there, row_has, node_at_row}
 use Rattle.changed_snapshot.proofs.Orders.{rows_ascend, rows_many, filter_ascends}
 use Rattle.changed_snapshot.proofs.Named.{rows_named}
 
 module _ {P : Type 0} where
   -- under any changes on nodes lists stay in order, and all that is named is listed
-  pub writable_over : (s : SnapshotFile) (h : Held P) (stamp : Stamp) (message : List ℕ) → IsWritable s → len (nodes_over h (nodes_in s.nodes)) ≤ most_nodes → IsWritable (snapshot_over h s.nodes s.manifest_files stamp message)
-  writable_over s h stamp message can few = record {
-    few = subst (λ n. n ≤ most_nodes) (sym (rows_many h s.nodes)) few;
-    nodes = rows_ascend h s.nodes;
-    files = filter_ascends file_key _ None s.manifest_files can.files;
-    listed = rows_named h s.nodes s.manifest_files can.listed;
+  pub writable_over : (s : SnapshotFile) (h : Held P) (news : List NewList) (stamp : Stamp) (message : List ℕ) → IsWritable s → len (nodes_over h (nodes_in s.nodes)) ≤ most_nodes → IsWritable (snapshot_over h news s.nodes s.manifest_files stamp message)
+  writable_over s h news stamp message can few = record {
+    few = subst (λ n. n ≤ most_nodes) (sym (rows_many h news s.nodes)) few;
+    nodes = rows_ascend h news s.nodes;
+    files = filter_ascends file_key _ None (files_with s.manifest_files news) (files_ascend (infos_of news ++ s.manifest_files));
+    listed = rows_named h news s.nodes s.manifest_files can.listed;
   }
 
 -- ---- faults of rows
@@ -104,6 +108,19 @@ module _ (Q : NodeRow → Type 0) where
     | false ↦ bare
   ]
 
+-- a new manifest that is sized can be named
+refs_sized : (o : Option NewManifest) → IfSome o IsSized → AllByRecursion IsManifest (refs_of o)
+refs_sized None is = tt
+refs_sized (Some m) is = (record { id = is.id; extents = is.extents }, tt)
+
+found_sized : (test : NewList → Bool) (news : List NewList) (list : NewList) → AreSized news → find test news ≡ Some list → IfSome list.manifest IsSized
+found_sized test [] list sized f = cc
+found_sized test (new ∷ news) list sized f = by_test (test new) (found_sized test news list sized.1) f
+  where
+    by_test : (b : Bool) → (find test news ≡ Some list → IfSome list.manifest IsSized) → cond b (Some new) (find test news) ≡ Some list → IfSome list.manifest IsSized
+    by_test true rest k = let same : new ≡ list = cc in subst (λ (l : NewList). IfSome l.manifest IsSized) same sized.0
+    by_test false rest k = rest k
+
 -- ---- nodes under changes
 set_text : (o : Option (List ℕ)) (own : List ℕ) → ((text : List ℕ) → o ≡ Some text → is_metadata text ≡ true) → is_metadata own ≡ true → is_metadata (unwrap_or o own) ≡ true
 set_text None own set is = is
@@ -138,17 +155,21 @@ module _ (h : Held Place) (rows : List NodeRow) (nodes : AllByRecursion IsNode r
       by_case (inr own) = subst (IsFineNode p) (sym own.same) (own_fine sets p own.before (row_at rows p) refl (sym (node_at_row rows p) ∙ own.found))
 
   -- so each row can be written, and has no fault
-  nodes_over_are : AddsFine h → SetsFine h → AllByRecursion IsNode (rows_over h rows)
-  nodes_over_are adds sets = all_over IsNode h rows (λ p n is.
+  nodes_over_are : AddsFine h → SetsFine h → (news : List NewList) → AreSized news → AllByRecursion IsNode (rows_over h news rows)
+  nodes_over_are adds sets news sized = all_over IsNode h news rows (λ p n is.
       let fine = fine_over adds sets p n is in
-      from_old IsNode p n (row_at rows p) (made_node p n [] fine tt) (λ row there.
+      by_list news rows IsNode p n
+      (from_old IsNode p n (row_at rows p) (made_node p n [] fine tt) (λ row there.
       let node : IsNode row = row_has IsNode rows p row nodes there in
       (node, made_node p n (manifests_of row.kind) fine (kind_manifests row.kind node.kind))))
+      (λ list there. made_node p n (refs_of list.manifest) fine (refs_sized list.manifest (found_sized (λ (new : NewList). same_path new.path p) news list sized there))))
 
-  good_over : AddsFine h → SetsFine h → AllByRecursion IsGood (rows_over h rows)
-  good_over adds sets = all_over IsGood h rows (λ p n is.
+  good_over : AddsFine h → SetsFine h → (news : List NewList) → AllByRecursion IsGood (rows_over h news rows)
+  good_over adds sets news = all_over IsGood h news rows (λ p n is.
       let text = (fine_over adds sets p n is).metadata in
-      from_old IsGood p n (row_at rows p) (made_good p n [] text) (λ row there. (row_has IsGood rows p row good there, made_good p n (manifests_of row.kind) text)))
+      by_list news rows IsGood p n
+      (from_old IsGood p n (row_at rows p) (made_good p n [] text) (λ row there. (row_has IsGood rows p row good there, made_good p n (manifests_of row.kind) text)))
+      (λ list there. made_good p n (refs_of list.manifest) text))
 
 -- ---- the snapshot
 filter_all : {A : Type 0} (Q : A → Type 0) (test : A → Bool) (xs : List A) → AllByRecursion Q xs → AllByRecursion Q (filter test xs)
@@ -159,17 +180,17 @@ pub fine-law : FineLaw
 fine-law s h proper adds sets = fine_over h s.nodes proper.sized.nodes (are_good 0 s.nodes proper.texts) adds sets
 
 pub proper-law : ProperLaw
-proper-law s h stamp message proper adds sets stamped utf8 few =
+proper-law s h news stamp message proper adds sets sized stamped utf8 few =
     let good = are_good 0 s.nodes proper.texts in
     record {
       sized = record {
         id = stamped.id;
         parent = stamped.parent;
-        nodes = nodes_over_are h s.nodes proper.sized.nodes good adds sets;
+        nodes = nodes_over_are h s.nodes proper.sized.nodes good adds sets news sized;
         flushed_at = stamped.flushed_at;
         message = utf8;
-        files = filter_all IsInfo (λ (file : ManifestInfo). names_in (rows_over h s.nodes) file.id) s.manifest_files proper.sized.files;
+        files = filter_all IsInfo (λ (file : ManifestInfo). names_in (rows_over h news s.nodes) file.id) (files_with s.manifest_files news) (infos_with s.manifest_files news proper.sized.files sized);
       };
-      writable = writable_over s h stamp message proper.writable few;
-      texts = none_bad 0 (rows_over h s.nodes) (good_over h s.nodes proper.sized.nodes good adds sets);
+      writable = writable_over s h news stamp message proper.writable few;
+      texts = none_bad 0 (rows_over h news s.nodes) (good_over h s.nodes proper.sized.nodes good adds sets news);
     }

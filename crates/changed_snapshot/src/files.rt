@@ -1,16 +1,61 @@
 //! The manifests that rows name.
 
-ghost use Rattle.std.specs.Prelude.{◌≡◌, ◌||◌, IfOk, OnOk};
+ghost use Rattle.std.specs.Prelude.{◌≡◌, ◌||◌, ◌++◌, IfOk, OnOk};
+ghost use Rattle.std.specs.FinMap as map;
 ghost use Rattle.ice_ids.specs.declared.Id12.{Id12 as TheId};
-ghost use Rattle.changed_snapshot.specs.Rows.{names_in, files_over};
-ghost use Rattle.changed_snapshot.specs.inside.Named.{has_id, have_id};
+ghost use Rattle.changed_snapshot.specs.Rows.{infos_of, files_with, names_in, files_over};
+ghost use Rattle.changed_snapshot.specs.inside.Named.{has_id, have_id, files_by_id};
 
 use crate::rows::manifests_of;
+use crate::written::NewList;
 use ice_ids::Id12;
 use ice_items::Items;
 use snapshot_file::{ManifestInfo, ManifestRef, NodeRow};
 use std::alloc::{AllocError, Global};
-use std::collections::BTreeSet;
+use std::collections::{BTreeMap, BTreeSet};
+
+/// What a snapshot says of new manifests.
+fn infos_of(alloc: Global, news: &[NewList]) -> Result<Vec<ManifestInfo>, AllocError>
+    ensures { IfOk result (λ infos. infos.items ≡ infos_of news.now) }
+{
+    let mut infos = Vec::new(alloc);
+    for list in news {
+        if let Some(new) = &list.manifest {
+            infos.push(ManifestInfo {
+                id: new.id,
+                size: new.size,
+                refs: new.refs,
+            })?;
+        }
+    }
+    Ok(infos)
+}
+
+/// Manifests by their ids, of two of one id the first.
+fn by_id(alloc: Global, files: &[ManifestInfo]) -> Result<BTreeMap<Id12, ManifestInfo>, AllocError>
+    ensures { IfOk result (λ by_id. by_id.entries ≡ map.entries (files_by_id files.now)) }
+{
+    let mut by_id = BTreeMap::new(alloc);
+    for k in (0..files.len()).rev() {
+        let file = files[k];
+        by_id.insert(file.id, file)?;
+    }
+    Ok(by_id)
+}
+
+/// New manifests and these, in the order of their ids, of two of one id the first.
+pub(crate) fn files_with(
+    alloc: Global,
+    files: &[ManifestInfo],
+    news: &[NewList],
+) -> Result<Items<ManifestInfo>, AllocError>
+    ensures { IfOk result (λ with. with ≡ files_with files.now news.now) }
+{
+    let mut all = infos_of(alloc, news)?;
+    all.extend_from_slice(files)?;
+    let by_id = by_id(alloc, all.as_slice())?;
+    Ok(Items::from_vec(by_id.into_values().collect(alloc)?))
+}
 
 /// Enters the ids of manifests.
 fn enter(ids: &mut BTreeSet<Id12>, manifests: &[ManifestRef]) -> Result<(), AllocError>

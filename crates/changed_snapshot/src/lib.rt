@@ -1,4 +1,4 @@
-//! The snapshot that a commit writes: its base's rows under changes.
+//! The snapshot that a commit writes: its base's rows under changes, and the new lists of manifests of its arrays.
 #![tactic(auto)]
 
 mod files;
@@ -7,5 +7,5 @@ mod names;
 mod rows;
 mod written;
 
-pub use laws::{fine_law, frozen_law, nodes_law, proper_law, tree_law};
-pub use written::{Stamp, write_over};
+pub use laws::{fine_law, frozen_law, nodes_law, own_law, proper_law, ranked_law, tree_law};
+pub use written::{NewList, NewLists, NewManifest, Stamp, write_over};

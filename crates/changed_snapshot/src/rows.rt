@@ -1,16 +1,17 @@
 //! The rows of a snapshot under changes.
 
-ghost use Rattle.std.specs.Prelude.{◌≡◌, Some, None, IfOk, IsTrue, option_copied};
+ghost use Rattle.std.specs.Prelude.{◌≡◌, [], Some, None, IfOk, IsTrue, find, option_copied};
 ghost use Rattle.std.specs.List.{zip};
-ghost use Rattle.zarr_path.specs.Paths.{path_cmp, is_path};
+ghost use Rattle.zarr_path.specs.Paths.{path_cmp, same_path, is_path};
 ghost use Rattle.zarr_tree.specs.Nodes.{array_of_view};
 ghost use Rattle.zarr_tree.specs.Rows.{node_found};
 ghost use Rattle.flat_tables.specs.Rows.{Ascends};
 ghost use Rattle.snapshot_file.specs.Snapshots.{node_key};
 ghost use Rattle.repo_objects.specs.Trees.{manifests_of, row_at};
-ghost use Rattle.changed_snapshot.specs.Rows.{kind_of, row_of, row_from, rows_over};
+ghost use Rattle.changed_snapshot.specs.Rows.{refs_of, new_list, list_key, kind_of, row_of, row_from, row_over, rows_over};
 
 use crate::names::copy_names;
+use crate::written::{NewList, NewManifest};
 use ice_items::Items;
 use repo_objects::Loaded;
 use snapshot_file::{ManifestRef, NodeKind, NodeRow, Shape, copy_manifests};
@@ -43,31 +44,44 @@ fn shape_of(alloc: Global, lengths: &[u64], chunks: &[u64]) -> Result<Shape, All
 }
 
 /// What a row says of a node with this metadata, and with these manifests.
-fn kind_of(alloc: Global, view: &View, manifests: &[ManifestRef]) -> Result<NodeKind, AllocError>
-    ensures { IfOk result (λ kind. kind ≡ kind_of (array_of_view (Some view.now)) manifests.now) }
+fn kind_of(
+    alloc: Global,
+    view: &View,
+    manifests: Items<ManifestRef>,
+) -> Result<NodeKind, AllocError>
+    ensures { IfOk result (λ kind. kind ≡ kind_of (array_of_view (Some view.now)) manifests) }
 {
     match view {
         View::Group => Ok(NodeKind::Group),
         View::Array(array) => Ok(NodeKind::Array {
             shape: shape_of(alloc, array.shape.as_slice(), array.chunks.as_slice())?,
             names: copy_names(alloc, &array.names)?,
-            manifests: copy_manifests(alloc, manifests)?,
+            manifests,
         }),
     }
 }
 
-/// A row of a node at a path, which keeps these manifests.
+/// The path of this text.
+fn path_of(alloc: Global, text: &str) -> Result<Path, AllocError>
+    requires { IsTrue (is_path text.now) }
+    ensures { IfOk result (λ path. path ≡ text.now) }
+{
+    Path::read(alloc, text).map_err(|_| AllocError)
+}
+
+/// A row of a node at a path, which has these manifests.
 fn row_of(
     alloc: Global,
-    path: Path,
+    path: &str,
     found: &Found,
-    manifests: &[ManifestRef],
+    manifests: Items<ManifestRef>,
 ) -> Result<NodeRow, AllocError>
-    ensures { IfOk result (λ row. row ≡ row_of path (node_found found.now) manifests.now) }
+    requires { IsTrue (is_path path.now) }
+    ensures { IfOk result (λ row. row ≡ row_of path.now (node_found found.now) manifests) }
 {
     Ok(NodeRow {
         id: found.id,
-        path,
+        path: path_of(alloc, path)?,
         user_data: found.meta.text.copy(alloc)?,
         kind: kind_of(alloc, &found.meta.view, manifests)?,
     })
@@ -76,22 +90,24 @@ fn row_of(
 /// The row of a node at a path, where the base has this one there.
 fn row_from(
     alloc: Global,
-    path: Path,
+    path: &str,
     found: &Found,
     old: Option<&NodeRow>,
 ) -> Result<NodeRow, AllocError>
-    ensures { IfOk result (λ row. row ≡ row_from path (node_found found.now) (option_copied old.entry)) }
+    requires { IsTrue (is_path path.now) }
+    ensures { IfOk result (λ row. row ≡ row_from path.now (node_found found.now) (option_copied old.entry)) }
 {
     let Some(old) = old else {
-        return row_of(alloc, path, found, &[]);
+        return row_of(alloc, path, found, Items::new(alloc));
     };
     if old.id != found.id {
-        return row_of(alloc, path, found, &[]);
+        return row_of(alloc, path, found, Items::new(alloc));
     }
     if old.user_data.as_slice() == found.meta.text.as_slice() {
         return old.copy(alloc);
     }
-    row_of(alloc, path, found, manifests_of(&old.kind))
+    let manifests = copy_manifests(alloc, manifests_of(&old.kind))?;
+    row_of(alloc, path, found, manifests)
 }
 
 /// How a row's path compares with another.
@@ -112,42 +128,73 @@ fn row_at<'a>(rows: &'a [NodeRow], path: &str) -> Option<&'a NodeRow>
     }
 }
 
-/// The path of this text.
-fn path_of(alloc: Global, text: &str) -> Result<Path, AllocError>
-    requires { IsTrue (is_path text.now) }
-    ensures { IfOk result (λ path. path ≡ text.now) }
+/// How a list's path compares with another.
+fn compare_list(list: &NewList, path: &str) -> Ordering
+    ensures { result ≡ path_cmp list.now.path path.now }
 {
-    Path::read(alloc, text).map_err(|_| AllocError)
+    list.path.as_str().cmp(path)
 }
 
-/// The row of a node at a path, over the rows of a base.
+/// The new list of the array at a path, found by halves.
+fn list_at<'a>(news: &'a [NewList], path: &str) -> Option<&'a NewList>
+    requires { Ascends list_key None news.now }
+    ensures { option_copied result ≡ find (λ list. same_path list.path path.now) news.now }
+{
+    match news.binary_search_by(|list| compare_list(list, path)) {
+        Ok(at) => Some(&news[at]),
+        Err(_) => None,
+    }
+}
+
+/// The list of a new manifest, if there is one.
+fn refs_of(alloc: Global, manifest: &Option<NewManifest>) -> Result<Items<ManifestRef>, AllocError>
+    ensures { IfOk result (λ refs. refs ≡ refs_of manifest.now) }
+{
+    let mut refs = Items::new(alloc);
+    if let Some(manifest) = manifest {
+        refs.push(ManifestRef {
+            id: manifest.id,
+            extents: manifest.extents.copy(alloc)?,
+        })?;
+    }
+    Ok(refs)
+}
+
+/// The row of a node at a path, over the rows of a base, with its new list, if it has one.
 fn row_over(
     alloc: Global,
     old: &[NodeRow],
+    news: &[NewList],
     path: &str,
     found: &Found,
 ) -> Result<NodeRow, AllocError>
     requires ascend { Ascends node_key None old.now }
+    requires lists { Ascends list_key None news.now }
     requires path { IsTrue (is_path path.now) }
-    ensures { IfOk result (λ row. row ≡ row_from path.now (node_found found.now) (row_at old.now path.now)) }
+    ensures { IfOk result (λ row. row ≡ row_over path.now (node_found found.now) (row_at old.now path.now) (new_list news.now path.now)) }
 {
-    row_from(alloc, path_of(alloc, path)?, found, row_at(old, path))
+    match list_at(news, path) {
+        Some(list) => row_of(alloc, path, found, refs_of(alloc, &list.manifest)?),
+        None => row_from(alloc, path, found, row_at(old, path)),
+    }
 }
 
-/// The rows of a base's nodes under changes.
+/// The rows of a base's nodes under changes, with these new lists.
 #[tactic(auto, unfolding(crate::specs::Rows::rows_over))]
 pub(crate) fn rows_over(
     alloc: Global,
     base: &Loaded,
     changes: &ChangeSet,
+    news: &[NewList],
 ) -> Result<Items<NodeRow>, AllocError>
-    ensures { IfOk result (λ rows. rows ≡ rows_over changes.now base.now.nodes) }
+    requires { Ascends list_key None news.now }
+    ensures { IfOk result (λ rows. rows ≡ rows_over changes.now news.now base.now.nodes) }
 {
     let old = base.file().nodes.as_slice();
     let mut left = changes.over(base);
     let mut rows = Vec::with_capacity(alloc, old.len())?;
     while let Some((path, found)) = left.next() {
-        rows.push(row_over(alloc, old, path, &found)?)?;
+        rows.push(row_over(alloc, old, news, path, &found)?)?;
     }
     Ok(Items::from_vec(rows))
 }

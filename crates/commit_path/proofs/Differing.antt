@@ -1,5 +1,5 @@
 -- The log of a commit tells all in which the tree of its snapshot differs from its base's, where that is well formed.
-use Rattle.std.proofs.Common.{◌≡◌, ◌⊎◌, inl, inr, ℕ, Bool, true, false, ◌||◌, List, Option, Some, None, refl, sym, ap, subst, ◌∙◌}
+use Rattle.std.proofs.Common.{◌≡◌, ◌⊎◌, inl, inr, ℕ, Bool, true, false, ◌||◌, List, [], Option, Some, None, refl, sym, ap, subst, ◌∙◌}
 use Rattle.std.specs.Option.{unwrap_or}
 use Rattle.std.specs.FinMap.{FinMap, get}
 use Rattle.zarr_path.specs.Paths.{path_cmp}
@@ -20,11 +20,11 @@ use Rattle.changed_snapshot.proofs.NodesHold.{nodes_hold}
 use Rattle.changed_snapshot.proofs.TreeHolds.{chunk-at}
 use Rattle.session.specs.Sessions.{SessionState, base_nodes, base_tree, changes_in, overlay}
 use Rattle.commit_path.specs.Spelled.{IsOtherText, IsSpelled}
-use Rattle.commit_path.proofs.Spelling.{lies-over}
+use Rattle.commit_path.proofs.Spelling.{lies-over, ranked-none, merged-none}
 
 -- the tree of a session's snapshot
 abbrev pub snap_tree : Puts → SessionState → Tree
-snap_tree puts s = tree_under puts (rows_over s.held s.rows)
+snap_tree puts s = tree_under puts (rows_over s.held [] s.rows)
 
 or-right : (a b : Bool) → b ≡ true → (a || b) ≡ true
 or-right true b h = refl
@@ -80,7 +80,7 @@ module _ (puts : Puts) (s : SessionState) (w : IsSpelled s) (wf : IsWellFormed (
           inr (or-right (lists_chunk log.updated_chunks n.id i) (lists_new log n.id)
           (or-right (lists log.new_groups n.id) (lists log.new_arrays n.id) ((touches.new_arrays n.id).1 (record { path = p; node = n; added = added; same = λ j. n.id; kind_of = array }))))
       by_case (inr own) =
-          let chunk : (snap_tree puts s).chunk p i ≡ (overlay puts s).chunk p i = chunk-at puts s.held s.rows w.chunks p (keeps own) i in
+          let chunk : (snap_tree puts s).chunk p i ≡ (overlay puts s).chunk p i = chunk-at puts s.held [] s.rows p i (keeps own) (λ x array f a h. ranked-none s w p x array i f a h) (record { written = (merged-none puts s w).written p; others = (merged-none puts s w).others p }) in
           by_changed chunk (by_changes.chunks p i m n was is same array)
         where
           by_changed : (snap_tree puts s).chunk p i ≡ (overlay puts s).chunk p i → ((overlay puts s).chunk p i ≡ t.chunk p i) ⊎ ((lists_chunk log.updated_chunks n.id i || lists_new log n.id) ≡ true) → SameChunk p i n
@@ -88,7 +88,7 @@ module _ (puts : Puts) (s : SessionState) (w : IsSpelled s) (wf : IsWellFormed (
           by_changed chunk (inr e) = inr e
 
   same_node : (p : List ℕ) → node_at (snap_tree puts s) p ≡ node_at (overlay puts s) p
-  same_node p = ap (λ (nodes : FinMap path_cmp Node). get nodes p) (nodes_hold s.held s.rows)
+  same_node p = ap (λ (nodes : FinMap path_cmp Node). get nodes p) (nodes_hold s.held [] s.rows)
 
   pub differs-over : DiffersIn (touched s.held (base_nodes s)) (base_tree puts s) (snap_tree puts s)
   differs-over =

@@ -1,3 +1,4 @@
+pub mod Starting
 pub mod Named
 pub mod Spelling
 pub mod Telling

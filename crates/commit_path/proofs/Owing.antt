@@ -180,7 +180,7 @@ module _ (L : Spellings) where
             differs = λ t u et wf eu.
                 let made = made-now s message flushed id journal w o l p once in
                 let st : Some (base_tree (puts_of journal) s) ≡ Some t = sym (made-base s id journal made) ∙ et in
-                let su : Some (snap_tree (puts_of journal) s) ≡ Some u = sym (tree-by_rows journal id (rows_over s.held s.rows) (p.rows once)) ∙ eu in
+                let su : Some (snap_tree (puts_of journal) s) ≡ Some u = sym (tree-by_rows journal id (rows_over s.held [] s.rows) (p.rows once)) ∙ eu in
                 let t_is : base_tree (puts_of journal) s ≡ t = cc in
                 let u_is : snap_tree (puts_of journal) s ≡ u = cc in
                 subst (λ (y : Tree). DiffersIn (touched s.held (base_nodes s)) y u) t_is

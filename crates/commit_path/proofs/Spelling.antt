@@ -1,7 +1,7 @@
 -- What is so of a session that can be written: its log and its snapshot are read again, and its tree is the base's under its
 -- changes.
 use Rattle.std.proofs.Common.{◌≡◌, ℕ, ◌<◌, ◌≤◌, ◌^◌, Bool, true, false, ◌||◌, List, [], ◌∷◌, map, length, refl, sym, ◌∙◌, ap, subst, arith}
-use Rattle.std.specs.Prelude.{nat_lt, Option, Some, None, option_map}
+use Rattle.std.specs.Prelude.{nat_lt, Option, Some, None, is_some, option_map}
 use Rattle.std.specs.List.{AllByRecursion, list_any, filter}
 use Rattle.std.specs.Str.{IsUtf8}
 use Rattle.std.specs.FinMap.{get, len, entries}
@@ -15,7 +15,8 @@ use Rattle.zarr_tree.specs.Nodes.{Node, is_array}
 use Rattle.zarr_tree.specs.Edits.{most_nodes}
 use Rattle.zarr_tree.specs.Changes.{IsOver}
 use Rattle.zarr_tree.specs.Touched.{lists, Touches}
-use Rattle.zarr_tree.specs.Held.{Entry, indices_in_order, ids_of, indices_of, written_rows, touched, nodes_over}
+use Rattle.zarr_changes.specs.Sets.{has_chunks}
+use Rattle.zarr_tree.specs.Held.{Entry, entry_in, indices_in_order, ids_of, indices_of, written_rows, touched, nodes_over}
 use Rattle.zarr_tree.proofs.Apply.{id-refl}
 use Rattle.zarr_tree.proofs.Ordered.{lists-in_order}
 use Rattle.zarr_tree.proofs.Listing.{ordered-law, touched-law}
@@ -29,7 +30,7 @@ use Rattle.repo_objects.specs.Readings.{snapshot_by, log_by}
 use Rattle.repo_objects.specs.Trees.{Puts, bytes_at, tree_under, nodes_in, node_of, row_at}
 use Rattle.repo_objects.specs.Laws.{SnapshotLaw, LogLaw, RefLaw, InitialLaw, IsProper}
 use Rattle.changed_snapshot.specs.Rows.{rows_over, snapshot_over}
-use Rattle.changed_snapshot.specs.Laws.{KeepsFrozen, ProperLaw}
+use Rattle.changed_snapshot.specs.Laws.{KeepsFrozen, AreRanked, AreMerged, ProperLaw}
 use Rattle.changed_snapshot.proofs.Found.{node_at_row, row_has}
 use Rattle.changed_snapshot.proofs.TreeHolds.{tree-law}
 use Rattle.session.specs.Sessions.{SessionState, base_nodes, base_tree, changes_in, overlay}
@@ -48,8 +49,21 @@ pub record Spellings : Type 0 where
 pub lies-over : (puts : Puts) (s : SessionState) → IsSpelled s → IsOver (changes_in puts s) (base_tree puts s)
 lies-over puts s w = record { readable = λ p n e. (w.added p n e).metadata; free = w.free }
 
-pub tree-over : (puts : Puts) (s : SessionState) → IsSpelled s → KeepsFrozen s.held s.rows → tree_under puts (rows_over s.held s.rows) ≡ overlay puts s
-tree-over puts s w keeps = tree-law puts s.held s.rows w.chunks keeps
+-- without entries there is nothing of a rank, and nothing to merge
+no-entry : (es : List (Entry Place)) (id : Id8) (i : List ℕ) → es ≡ [] → is_some (entry_in es id i) ≡ true → ⊥
+no-entry es id i e h = let never : is_some (entry_in es id i) ≡ false = ap (λ (xs : List (Entry Place)). is_some (entry_in xs id i)) e in cc
+
+no-chunks : (es : List (Entry Place)) (id : Id8) → es ≡ [] → has_chunks es id ≡ true → ⊥
+no-chunks es id e h = let never : has_chunks es id ≡ false = ap (λ (xs : List (Entry Place)). has_chunks xs id) e in cc
+
+pub ranked-none : (s : SessionState) → IsSpelled s → AreRanked s.held s.rows
+ranked-none s w p n array i is a h = absurd (no-entry s.held.chunks n.id i w.chunks h)
+
+pub merged-none : (puts : Puts) (s : SessionState) → IsSpelled s → AreMerged puts s.held s.rows []
+merged-none puts s w = record { written = λ p n array is a h. absurd (no-chunks s.held.chunks n.id w.chunks h); others = λ p n is h. refl }
+
+pub tree-over : (puts : Puts) (s : SessionState) → IsSpelled s → KeepsFrozen s.held s.rows → tree_under puts (rows_over s.held [] s.rows) ≡ overlay puts s
+tree-over puts s w keeps = tree-law puts s.held [] s.rows keeps (ranked-none s w) (merged-none puts s w)
 
 -- ---- the log
 or-right : (a b : Bool) → b ≡ true → (a || b) ≡ true
@@ -123,13 +137,13 @@ module _ (L : Spellings) where
 
   -- ---- the snapshot
   abbrev Over : SessionState → List ℕ → Id12 → ℕ → List NodeRow → List ManifestInfo → Type 0
-  Over s message id flushed rows files = IsProper (snapshot_over s.held rows files (record { id = id; parent = s.base; flushed_at = flushed }) message)
+  Over s message id flushed rows files = IsProper (snapshot_over s.held [] rows files (record { id = id; parent = s.base; flushed_at = flushed }) message)
 
   snap-proper : (s : SessionState) (message : List ℕ) (id : Id12) (flushed : ℕ) → IsSpelled s → IsId12 id → flushed < 2 ^ 64 → IsUtf8 message → IsProper (snap_for s message id flushed)
   snap-proper s message id flushed w i f m =
       let o = w.of_snapshot in
       let few : len (nodes_over s.held (nodes_in o.file.nodes)) ≤ most_nodes = subst (λ (rows : List NodeRow). len (nodes_over s.held (nodes_in rows)) ≤ most_nodes) (sym o.rows) w.few in
-      let proper : Over s message id flushed o.file.nodes o.file.manifest_files = L.proper o.file s.held (record { id = id; parent = s.base; flushed_at = flushed }) message o.proper w.added w.texts (record { id = i; parent = w.base; flushed_at = f }) m few in
+      let proper : Over s message id flushed o.file.nodes o.file.manifest_files = L.proper o.file s.held [] (record { id = id; parent = s.base; flushed_at = flushed }) message o.proper w.added w.texts tt (record { id = i; parent = w.base; flushed_at = f }) m few in
       subst (Over s message id flushed s.rows) o.files (subst (λ (rows : List NodeRow). Over s message id flushed rows o.file.manifest_files) o.rows proper)
 
   pub snap-read : (s : SessionState) (message : List ℕ) (id : Id12) (flushed : ℕ) → IsSpelled s → IsId12 id → flushed < 2 ^ 64 → IsUtf8 message → is_long (snapshot_bytes (snap_for s message id flushed)) ≡ false

@@ -1,6 +1,6 @@
 -- The program of a commit: it puts the log, then the snapshot, then the branch over the version that
 -- the session had read.
-use Rattle.std.specs.Prelude.{◌≡◌, ◌⊎◌, ℕ, nat_lt, if◌then◌else◌, Bool, List, length, Option, Some, None, Result, Ok, Err}
+use Rattle.std.specs.Prelude.{◌≡◌, ◌⊎◌, ℕ, nat_lt, if◌then◌else◌, Bool, List, [], length, Option, Some, None, Result, Ok, Err}
 use Rattle.ice_ids.specs.declared.Id12.{Id12}
 use Rattle.ice_ids.specs.Drawing.{drawn12, after12}
 use Rattle.zarr_tree.specs.Held.{touched}
@@ -39,7 +39,7 @@ log_for s id = record { id = id; lists = touched s.held (base_nodes s) }
 
 -- the snapshot of a commit: the base is its parent, its rows are the base's under the session's changes
 abbrev pub snap_for : SessionState → (message : List ℕ) → Id12 → (flushed : ℕ) → SnapshotFile
-snap_for s message id flushed = snapshot_over s.held s.rows s.files (record { id = id; parent = s.base; flushed_at = flushed }) message
+snap_for s message id flushed = snapshot_over s.held [] s.rows s.files (record { id = id; parent = s.base; flushed_at = flushed }) message
 
 -- whether a file is longer than a file may be
 abbrev pub is_long : List ℕ → Bool

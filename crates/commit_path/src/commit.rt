@@ -129,7 +129,7 @@ impl Commit {
                 return Err(Refusal::IdTaken(Key::Txn(self.id)));
             }
         };
-        match self.session.write(self.id, now, &self.message) {
+        match self.session.write(self.id, now, &[], &self.message) {
             Ok(file) => {
                 self.state = Committing::Snapshot(file);
                 Ok(Next::Again)

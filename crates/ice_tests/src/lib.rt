@@ -13,6 +13,8 @@ mod reports;
 #[cfg(test)]
 mod run;
 #[cfg(test)]
+mod sessions;
+#[cfg(test)]
 mod shelf;
 #[cfg(test)]
 mod tables;

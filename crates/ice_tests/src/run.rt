@@ -60,7 +60,7 @@ const SMALLEST_COMMIT: &str = "task a write main 0 fail\ngroup /\ncommit first\n
 
 /// An id is the number of the task's client and the number of ids that it drew before: one for each group, and then the
 /// snapshot's. A version is the number of operations before the one that put it.
-const ROWS: [Row; 7] = [
+const ROWS: [Row; 10] = [
     Row {
         script: "",
         report: "branch main 1CECHNKREP0F1RSTCMT0\n",
@@ -112,6 +112,41 @@ const ROWS: [Row; 7] = [
             r done\n\
             branch main 000000G000000000000G\n",
         status: Status::Ok,
+    },
+    // Arrays are listed and their metadata is shown; what is dropped is gone with all beneath it.
+    Row {
+        script: "task a write main 0 fail\n\
+            group /\narray /x uint8 4 2 0\ngroup /g\narray /g/y int16 - - -5\n\
+            list /\nget /g/y\ndrop /g\nlist /\ncommit one\n\
+            task b write main 0 fail\ndrop /\nlist /\n",
+        report: "a 6 list group /g\na 6 list array /g/y\na 6 list array /x\n\
+            a 7 meta {\"zarr_format\":3,\"node_type\":\"array\",\"shape\":[],\"data_type\":\"int16\",\
+            \"chunk_grid\":{\"name\":\"regular\",\"configuration\":{\"chunk_shape\":[]}},\
+            \"chunk_key_encoding\":{\"name\":\"default\",\"configuration\":{\"separator\":\"/\"}},\
+            \"fill_value\":-5,\"codecs\":[{\"name\":\"bytes\",\"configuration\":{\"endian\":\"little\"}}]}\n\
+            a 9 list array /x\na committed 00000080000000000020\n\
+            b refused 13 nonode\nbranch main 00000080000000000020\n",
+        status: Status::Refused,
+    },
+    // An empty tree may be committed.
+    Row {
+        script: "task a write main 0 fail\ngroup /\ngroup /a\ncommit one\n\
+            task b write main 0 fail\ndrop /\ncommit two\n\
+            task c write main 0 fail\ngroup /\nlist /\ncommit three\n",
+        report: "a committed 00000080000000000010\n\
+            b committed 000000G0000000000000\n\
+            c committed 000000R000000000000G\n\
+            branch main 000000R000000000000G\n",
+        status: Status::Ok,
+    },
+    // The type of elements stays.
+    Row {
+        script: "task a write main 0 fail\ngroup /\narray /x int8 4 2 0\n\
+            meta /x {\"zarr_format\":3,\"node_type\":\"array\",\"shape\":[4],\"data_type\":\"uint8\",\
+            \"chunk_grid\":{\"name\":\"regular\",\"configuration\":{\"chunk_shape\":[2]}},\
+            \"chunk_key_encoding\":\"default\",\"fill_value\":0,\"codecs\":[\"bytes\"]}\n",
+        report: "a refused 4 frozen data_type\nbranch main 1CECHNKREP0F1RSTCMT0\n",
+        status: Status::Refused,
     },
     Row {
         script: "task a write main 0 fail\ngroup /\ngroop /b\ncommit x\n",

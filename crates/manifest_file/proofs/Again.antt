@@ -5,7 +5,7 @@ use Rattle.flat_tables.specs.declared.header.Kind.TheVariants as kinds
 use Rattle.flat_tables.specs.Places.{TableIn, VectorIn, vector_of}
 use Rattle.flat_tables.specs.Rows.{each, in_order, Ascends}
 use Rattle.flat_tables.specs.Layout.{absent, payload}
-use Rattle.flat_tables.proofs.Files.{file_again}
+use Rattle.flat_tables.proofs.Files.{file_again, length_file}
 use Rattle.flat_tables.proofs.Loop.{ReadsAll, ordered_reads, rows_again, at_most_ok}
 use Rattle.flat_tables.proofs.Again.{IsField, IsTable, HasParts, SlotRead, SlotsRead, EachBehind, eight, absent_field, inline_field, offset_field, scalar_field, root_again, vector_again, vector_absent, scalar_again, scalar_absent, struct_again, struct_absent, text_absent, tables_again, tables_behind}
 use Rattle.file_fields.proofs.Again.{id8_again, id12_again, index_again}
@@ -25,7 +25,7 @@ three_absent = (absent_field, (absent_field, (absent_field, tt)))
 
 place_fields : (place : Place) → IsPlace place → AllByRecursion IsField (place_parts place)
 place_fields (Inline bytes) is = (offset_field _, (absent_field, (absent_field, (absent_field, three_absent))))
-place_fields (Object id offset size) is = (absent_field, (scalar_field 8 offset (lit≤ tt), (scalar_field 8 size (lit≤ tt), (inline_field 1 id.0 (lit≤ tt) (omega (arith, is.0)), three_absent))))
+place_fields (Object id offset size) is = (absent_field, (scalar_field 8 offset (lit≤ tt), (scalar_field 8 size (lit≤ tt), (inline_field 1 id.0 (lit≤ tt) (omega (arith, is.0.0)), three_absent))))
 
 place_again : (place : Place) (t : TableIn) (at : ℕ) → IsPlace place → length t.bytes < 2 ^ 32 → SlotsRead t 1 (place_parts place) → place_in t at ≡ Ok place
 unfolding place_in
@@ -34,7 +34,7 @@ place_again (Inline bytes) t at is small slots =
     let v = vector_again t 1 1 1 (length bytes) bytes (lit< tt) one small slots.0 in
     rw (v.is, scalar_absent t 2 8 slots.1.0, scalar_absent t 3 8 slots.1.1.0, struct_absent t 4 12 slots.1.1.1.0, text_absent t 5 slots.1.1.1.1.0, v.all_is) refl
 place_again (Object id offset size) t at is small slots =
-    rw (vector_absent t 1 1 slots.0, scalar_again t 2 8 offset (eight offset is.1) slots.1.0, scalar_again t 3 8 size (eight size is.2) slots.1.1.0, struct_again t 4 1 12 id.0 is.0 slots.1.1.1.0, text_absent t 5 slots.1.1.1.1.0) refl
+    rw (vector_absent t 1 1 slots.0, scalar_again t 2 8 offset (eight offset is.1) slots.1.0, scalar_again t 3 8 size (eight size is.2) slots.1.1.0, struct_again t 4 1 12 id.0 is.0.0 slots.1.1.1.0, text_absent t 5 slots.1.1.1.1.0) refl
 
 place_few : (place : Place) → length (place_parts place) ≤ 63
 place_few (Inline bytes) = lit≤ tt
@@ -69,12 +69,12 @@ pub record CanArray (front : List ArrayRefs) (array : ArrayRefs) : Type 0 where
   pub few : refs_of front + length array.refs ≤ refs_limit
 
 array_fields : (front : List ArrayRefs) (array : ArrayRefs) → CanArray front array → IsTable (array_parts array)
-array_fields front array can = record { fields = (inline_field 1 array.node.0 (lit≤ tt) (omega (arith, can.is.node)), (offset_field _, tt)); few = lit≤ tt }
+array_fields front array can = record { fields = (inline_field 1 array.node.0 (lit≤ tt) (omega (arith, can.is.node.0)), (offset_field _, tt)); few = lit≤ tt }
 
 array_again : (front : List ArrayRefs) (array : ArrayRefs) (t : TableIn) → CanArray front array → HasParts t (array_parts array) → array_of (refs_of front) t ≡ Ok array
 unfolding array_of
 array_again front array t can parts =
-    let node = id8_again t 0 array.node can.is.node parts.slots.0 in
+    let node = id8_again t 0 array.node can.is.node.0 parts.slots.0 in
     let refs = refs_again t array.refs parts.small can.is.refs can.ascend parts.slots.1.0 in
     let few = at_most_ok refs_limit (refs_of front + refs.0.count) (refs_of front + length array.refs) (ap (λ (n : ℕ). refs_of front + n) refs.2) can.few in
     rw (node, refs.1, few, refs.3) refl
@@ -89,7 +89,7 @@ each_array front (array ∷ arrays) is ascend few =
 -- ---- the manifest
 
 manifest_fields : (manifest : ManifestFile) → IsManifest manifest → IsTable (manifest_parts manifest)
-manifest_fields manifest is = record { fields = (inline_field 1 manifest.id.0 (lit≤ tt) (omega (arith, is.id)), (offset_field _, tt)); few = lit≤ tt }
+manifest_fields manifest is = record { fields = (inline_field 1 manifest.id.0 (lit≤ tt) (omega (arith, is.id.0)), (offset_field _, tt)); few = lit≤ tt }
 
 arrays_again : (t : TableIn) (arrays : List ArrayRefs) → length t.bytes < 2 ^ 32 → EachBehind CanArray [] arrays → Ascends array_key None arrays → SlotRead t 1 (arrays_part arrays) → (v : VectorIn) × (vector_of t 1 4 ≡ Ok (Some v)) × (arrays_in v ≡ Ok arrays)
 unfolding array_at
@@ -104,7 +104,7 @@ payload_again manifest is can small =
     let root = root_again (manifest_parts manifest) (manifest_fields manifest is) small in
     let t = root.table in
     let p = root.parts in
-    let id = id12_again t 0 manifest.id is.id p.slots.0 in
+    let id = id12_again t 0 manifest.id is.id.0 p.slots.0 in
     let each = each_array [] manifest.arrays is.arrays can.refs (omega (arith, can.few)) in
     let arrays = arrays_again t manifest.arrays p.small each can.arrays p.slots.1.0 in
     rw (root.is, id, arrays.1, arrays.2) refl
@@ -112,3 +112,8 @@ payload_again manifest is can small =
 pub manifest_again : (manifest : ManifestFile) → IsManifest manifest → CanWrite manifest → length (payload (manifest_block manifest)) ≤ 268435417 → manifest_of (file_bytes manifest) ≡ Ok manifest
 unfolding manifest_of file_bytes
 manifest_again manifest is can fits = file_again kinds.Manifest payload_of (payload (manifest_block manifest)) manifest fits (payload_again manifest is can (omega arith))
+
+-- a file that keeps to the limit
+pub written_again : (manifest : ManifestFile) → IsManifest manifest → CanWrite manifest → length (file_bytes manifest) ≤ 268435456 → manifest_of (file_bytes manifest) ≡ Ok manifest
+unfolding file_bytes
+written_again manifest is can fits = manifest_again manifest is can (omega (arith, length_file kinds.Manifest (payload (manifest_block manifest))))

@@ -5,7 +5,9 @@ use Rattle.flat_tables.specs.declared.header.Kind.TheVariants as kinds
 use Rattle.flat_tables.specs.Header.{header}
 use Rattle.flat_tables.specs.Rows.{Ascends}
 use Rattle.flat_tables.specs.Layout.{Part, Block, absent, scalar, offset_to, tables_block, table_block, payload}
-use Rattle.file_fields.specs.Fields.{id8_part, id12_part, index_part, bytes_part, IsId8, IsId12, IsIndex}
+use Rattle.ice_base.specs.Lists.{IsBytes}
+use Rattle.ice_ids.specs.Text.{IsId8, IsId12}
+use Rattle.file_fields.specs.Fields.{id8_part, id12_part, index_part, bytes_part, IsIndex}
 use Rattle.manifest_file.specs.declared.manifest.Place.{Place}
 use Rattle.manifest_file.specs.declared.manifest.Place.TheVariants.{Inline, Object}
 use Rattle.manifest_file.specs.declared.manifest.ChunkRef.{ChunkRef}
@@ -57,9 +59,9 @@ pub record CanWrite (manifest : ManifestFile) : Type 0 where
   pub refs : AllByRecursion RefsAscend manifest.arrays
   pub few : refs_of manifest.arrays ≤ refs_limit
 
--- what the types say of the numbers in a manifest
+-- what the types say of a manifest: ids are 12 or 8 bytes, numbers have their width, and a chunk's bytes are bytes
 abbrev pub IsPlace : Place → Type 0
-IsPlace (Inline bytes) = Unit {0}
+IsPlace (Inline bytes) = IsBytes bytes
 IsPlace (Object id offset size) = IsId12 id × (offset < 2 ^ 64) × (size < 2 ^ 64)
 
 pub record IsRef (chunk : ChunkRef) : Type 0 where

@@ -3,7 +3,8 @@ ghost use Rattle.std.specs.List.{AllByRecursion};
 ghost use Rattle.flat_tables.specs.File.{Writes};
 ghost use Rattle.flat_tables.specs.Layout.{payload, table_block};
 ghost use Rattle.flat_tables.specs.Trees.{layout, part_of, is_writable, is_writable_slot};
-ghost use Rattle.file_fields.specs.Fields.{IsId12};
+ghost use Rattle.ice_base.specs.Lists.{IsBytes};
+ghost use Rattle.ice_ids.specs.Text.{IsId12};
 ghost use Rattle.manifest_file.specs.Manifests.{manifest_of};
 ghost use Rattle.manifest_file.specs.Layout.{place_parts, ref_block, refs_part, array_block, arrays_part, manifest_block, file_bytes, CanWrite, IsRef, IsArray, IsManifest};
 
@@ -20,6 +21,7 @@ fn inline_table(alloc: Global, index: Slot, bytes: &Bytes) -> Result<Flat, Alloc
     requires { IsTrue (is_writable_slot index) }
     ensures block { IfOk result (λ f. layout f ≡ table_block (part_of index ∷ place_parts (Place.Inline bytes.now))) }
     ensures writable { IfOk result (λ f. IsTrue (is_writable f)) }
+    ensures sized { OnOk result (IsBytes bytes.now) }
 {
     let slots = [
         index,

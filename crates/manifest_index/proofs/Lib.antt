@@ -2,3 +2,9 @@ pub mod Steps
 pub mod Collected
 pub mod Spans
 pub mod Ranks
+pub mod Named
+pub mod Sorted
+pub mod From
+pub mod Least
+pub mod MergedLaws
+pub mod Calls

@@ -1,7 +1,10 @@
 -- What is found at an index after one more entry.
-use Rattle.std.proofs.Common.{◌≡◌, ℕ, zero, suc, Bool, true, false, cond, List, [], ◌∷◌, length, drop, nat_eq, Option, Some, None, option_map, refl, sym, ap, ◌∙◌}
+use Rattle.std.proofs.Common.{◌≡◌, inl, inr, ℕ, zero, suc, ◌<◌, slice_index_or, subst, arith, Bool, true, false, cond, List, [], ◌∷◌, length, drop, nat_eq, Option, Some, None, option_map, refl, sym, ap, ◌∙◌}
 use Rattle.std.specs.Prelude.{◌&&◌, find, bytes_eq, slice_get}
 use Rattle.std.specs.Option.{option_or, unwrap_or}
+use Rattle.std.specs.List.{AllWithin}
+use Rattle.std.proofs.lemmas.Bool.{cases_lt}
+use Rattle.std.proofs.lemmas.List.Elements.{at_read}
 use Rattle.ice_ids.specs.declared.Id8.{Id8}
 use Rattle.manifest_file.specs.declared.manifest.Place.{Place}
 use Rattle.manifest_file.specs.declared.manifest.ChunkRef.{ChunkRef}
@@ -53,3 +56,11 @@ pub merged_is : (rank : ℕ) (node : Id8) (old : List Listed) (change : List Cha
 merged_is rank node old change q now mid h g =
     h ∙ ap (λ (o : Option Place). cond (nat_eq (length q) rank) (unwrap_or (changed_at q change) o) o) g
     ∙ merged_by (nat_eq (length q) rank) (changed_at q change) (look_up node q old)
+
+-- ---- one element more from the end
+
+pub all_next : {A : Type 0} (P : A → Type 0) (xs : List A) (k next : ℕ) (x : A) → next ≡ suc k → k < length xs → x ≡ slice_index_or xs k x → P x → AllWithin P xs next (length xs) → AllWithin P xs k (length xs)
+all_next P xs k next x is inside at holds all = λ j d from below. elim (cases_lt j next) [
+  | inl under ↦ let here : k ≡ j = omega arith in subst (λ (m : ℕ). P (slice_index_or xs m d)) here (at_read xs P k x inside at holds d)
+  | inr over ↦ all j d over below
+]

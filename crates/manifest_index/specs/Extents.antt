@@ -1,8 +1,29 @@
 -- The least extents of some chunks.
-use Rattle.std.specs.Prelude.{◌≡◌, ◌<◌, ◌≤◌, ◌+◌, ◌^◌, ℕ, true, List, length, slice_index, All, HoldsAt}
-use Rattle.std.specs.List.{slice_index_or}
+use Rattle.std.specs.Prelude.{◌≡◌, ◌<◌, ◌≤◌, ◌+◌, ℕ, Bool, true, List, [], ◌∷◌, length, map, min, max, nat_lt, slice_index, All, HoldsAt}
+use Rattle.std.specs.List.{slice_index_or, list_all, fold, range_with_len}
 use Rattle.manifest_file.specs.declared.manifest.ChunkRef.{ChunkRef}
 use Rattle.held_manifest.specs.LookUp.{within}
+
+-- each number of an index is one behind which an extent of 32 bits can end
+abbrev pub are_low : List ℕ → Bool
+are_low index = list_all (λ n. nat_lt n 4294967295) index
+
+-- the numbers of the chunks in dimension k
+abbrev pub numbers : ℕ → List ChunkRef → List ℕ
+numbers k refs = map (λ r. slice_index r.index k) refs
+
+-- the least of some numbers
+abbrev pub least : List ℕ → ℕ
+least [] = 0
+least (n ∷ ns) = fold min n ns
+
+-- in dimension k: from the least number of the chunks up to the greatest, and one past that
+abbrev pub extent_for : ℕ → List ChunkRef → ℕ × ℕ
+extent_for k refs = (least (numbers k refs), fold max 0 (numbers k refs) + 1)
+
+-- the extents of some chunks of this rank
+unfoldable pub extents_for : (rank : ℕ) → List ChunkRef → List (ℕ × ℕ)
+extents_for rank refs = map (λ k. extent_for k refs) (range_with_len 0 rank)
 
 -- it holds of one of the elements
 abbrev pub Has : {X : Type 0} → (X → Type 0) → List X → Type 0
@@ -17,7 +38,3 @@ IsExtent k refs e = All (λ r. (e.0 ≤ slice_index r.index k) × (slice_index r
 abbrev pub AreExtents : ℕ → List ChunkRef → List (ℕ × ℕ) → Type 0
 AreExtents rank refs extents = (length extents ≡ rank) × ((k : ℕ) (e : ℕ × ℕ) → k < rank → IsExtent k refs (slice_index_or extents k e))
     × All (λ r. within extents r.index ≡ true) refs
-
--- a chunk's index has the greatest number of 32 bits
-abbrev pub HasGreatest : ℕ → List ChunkRef → Type 0
-HasGreatest rank refs = (k : ℕ) × (k < rank) × Has (λ r. slice_index r.index k + 1 ≡ 2 ^ 32) refs

@@ -1,3 +1,4 @@
 pub mod Merging
 pub mod Extents
+pub mod Laws
 pub mod inside

@@ -1,10 +1,7 @@
 //! The chunks of an array by their indices.
 
 ghost use Rattle.std.specs.Prelude.{◌≡◌, ◌&&◌, ℕ, List, None, if◌then◌else◌, bytes_eq, IfOk, OnOk};
-ghost use Rattle.flat_tables.specs.Rows.{Ascends};
-ghost use Rattle.manifest_file.specs.Manifests.{ref_key};
-ghost use Rattle.held_manifest.specs.LookUp.{place_of};
-ghost use Rattle.manifest_index.specs.inside.Chunks.{chunk_at};
+ghost use Rattle.manifest_index.specs.inside.Chunks.{chunk_at, AreRows};
 
 use ice_items::Items;
 use manifest_file::{ChunkRef, Place};
@@ -32,7 +29,7 @@ pub(crate) fn set(chunks: &mut Chunks, index: Index, place: Option<Place>) -> Re
 
 /// The chunks in the strict order of their indices.
 pub(crate) fn into_refs(alloc: Global, chunks: Chunks) -> Result<Items<ChunkRef>, AllocError>
-    ensures { IfOk result (λ refs. Ascends ref_key None refs × ((q : List ℕ) → place_of q refs ≡ chunk_at q chunks)) }
+    ensures { IfOk result (AreRows chunks) }
 {
     let mut refs = Items::new(alloc);
     for (index, place) in chunks {

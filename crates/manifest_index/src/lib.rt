@@ -7,9 +7,11 @@
 mod chunks;
 mod copies;
 mod extents;
+mod laws;
 mod listed;
 mod merging;
 
 pub use extents::extents_of;
+pub use laws::{extents_law, merged_law, new_list_law, sized_extents_law};
 pub use listed::candidates;
 pub use merging::merge;

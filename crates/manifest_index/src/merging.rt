@@ -1,10 +1,11 @@
 //! The chunks of an array after a change.
 
-ghost use Rattle.std.specs.Prelude.{◌≡◌, ◌==◌, ◌&&◌, ◌<◌, ℕ, List, Some, None, if◌then◌else◌, length, bytes_eq, IfOk, IfSome, OnOk, All};
+ghost use Rattle.std.specs.Prelude.{◌≡◌, ◌==◌, ◌&&◌, ◌<◌, ℕ, List, Some, None, if◌then◌else◌, length, bytes_eq, IsTrue, IfOk, IfSome, OnOk, All};
 ghost use Rattle.std.specs.Option.{option_or, unwrap_or};
 ghost use Rattle.held_manifest.specs.LookUp.{within, place_of, entry_seen, look_up};
-ghost use Rattle.manifest_index.specs.Merging.{changed_at, IsMerged};
-ghost use Rattle.manifest_index.specs.inside.Chunks.{chunk_at, ranked};
+ghost use Rattle.manifest_index.specs.Extents.{are_low};
+ghost use Rattle.manifest_index.specs.Merging.{changed_at, merged_array, IsMerged};
+ghost use Rattle.manifest_index.specs.inside.Chunks.{chunk_at, ranked, IsSized};
 
 use crate::chunks::{Chunks, into_refs, set};
 use crate::copies::{copy_change, own_index, own_place};
@@ -53,6 +54,22 @@ fn enter_refs(
     Ok(())
 }
 
+/// What the type says of an extent: its numbers have 32 bits. It does nothing.
+fn extent_sized(extent: &(u32, u32))
+    ensures { IsSized extent.now }
+{
+    let _end = extent.1;
+}
+
+/// What the type says of extents. It does nothing.
+fn extents_sized(extents: &[(u32, u32)])
+    ensures { All IsSized extents.now }
+{
+    for extent in extents {
+        extent_sized(extent);
+    }
+}
+
 /// Enters the chunks of a node that a manifest has within its extents, over those that are there.
 fn enter_manifest(
     alloc: Global,
@@ -61,11 +78,14 @@ fn enter_manifest(
     node: Id8,
     manifest: &(Items<(u32, u32)>, Held),
 ) -> Result<(), AllocError>
-    ensures { OnOk result ((q : List ℕ) → chunk_at q chunks.new ≡ option_or (ranked rank q (entry_seen node q manifest.now)) (chunk_at q chunks.old)) }
+    ensures entered { OnOk result ((q : List ℕ) → chunk_at q chunks.new ≡ option_or (ranked rank q (entry_seen node q manifest.now)) (chunk_at q chunks.old)) }
+    ensures sized { All IsSized manifest.now.0 }
 {
     let (extents, held) = manifest;
+    let extents = extents.as_slice();
+    extents_sized(extents);
     match held.node(node) {
-        Some(refs) => enter_refs(alloc, chunks, rank, extents.as_slice(), &refs),
+        Some(refs) => enter_refs(alloc, chunks, rank, extents, &refs),
         None => Ok(()),
     }
 }
@@ -77,7 +97,8 @@ fn old_chunks(
     node: Id8,
     manifests: &[(Items<(u32, u32)>, Held)],
 ) -> Result<Chunks, AllocError>
-    ensures { IfOk result (λ chunks. (q : List ℕ) → chunk_at q chunks ≡ ranked rank q (look_up node q manifests.now)) }
+    ensures found { IfOk result (λ chunks. (q : List ℕ) → chunk_at q chunks ≡ ranked rank q (look_up node q manifests.now)) }
+    ensures sized { OnOk result (All (λ m. All IsSized m.0) manifests.now) }
 {
     let mut chunks = BTreeMap::new(alloc);
     for k in (0..manifests.len()).rev() {
@@ -121,7 +142,8 @@ fn enter_changes(
 ///
 /// The array's old chunks are those that its list of manifests has, each with its extents there. The change has for an
 /// index where its chunk is from now on, or `None` where it has none any more; the first entry of an index counts. Indices
-/// of another rank than the array's are left out.
+/// of another rank than the array's are left out. It asks that no index of the change has the number 4,294,967,295, and
+/// none of the chunks has it then.
 ///
 /// # Errors
 ///
@@ -133,8 +155,11 @@ pub fn merge(
     old: &[(Items<(u32, u32)>, Held)],
     change: &[(Index, Option<Place>)],
 ) -> Result<Option<ArrayRefs>, AllocError>
+    requires { All (λ c. IsTrue (are_low c.0)) change.now }
+    ensures is { IfOk result (λ found. found ≡ merged_array rank node old.now change.now) }
     ensures merged { IfOk result (IsMerged rank node old.now change.now) }
     ensures ranks { IfOk result (λ merged. IfSome merged (λ array. All (λ r. length r.index ≡ rank) array.refs)) }
+    ensures low { IfOk result (λ merged. IfSome merged (λ array. All (λ r. IsTrue (are_low r.index)) array.refs)) }
 {
     let mut chunks = old_chunks(alloc, rank, node, old)?;
     enter_changes(alloc, &mut chunks, rank, change)?;

@@ -20,10 +20,14 @@ use Rattle.snapshot_file.specs.Snapshots.{snapshot_of}
 use Rattle.snapshot_file.specs.Initial.{initial_snapshot}
 use Rattle.snapshot_file.specs.Layout.{snapshot_bytes}
 use Rattle.snapshot_file.specs.Laws.{ReadLaw}
+use Rattle.manifest_file.specs.declared.manifest.ManifestFile.{ManifestFile}
+use Rattle.manifest_file.specs.Manifests.{manifest_of}
+use Rattle.manifest_file.specs.Layout.{file_bytes}
+use Rattle.manifest_file.specs.Laws as manifest
 use Rattle.repo_objects.specs.declared.bad.Bad.{Bad}
-use Rattle.repo_objects.specs.Readings.{◌>>=◌, in_file, under, of_bytes, unless, id_in, id_of_value, first_bad, read_snapshot, read_ref, snapshot_by, log_by, ref_of}
-use Rattle.repo_objects.specs.Laws.{IsProper, SnapshotLaw, InitialLaw}
-use Rattle.repo_objects.proofs.Steps.{log_same, snapshot_same}
+use Rattle.repo_objects.specs.Readings.{◌>>=◌, in_file, under, of_bytes, unless, id_in, id_of_value, first_bad, read_snapshot, read_manifest, read_ref, snapshot_by, manifest_by, log_by, ref_of}
+use Rattle.repo_objects.specs.Laws.{IsProper, SnapshotLaw, IsProperManifest, ManifestLaw, InitialLaw}
+use Rattle.repo_objects.proofs.Steps.{log_same, manifest_same, snapshot_same}
 
 pub log_again : (bytes : List ℕ) (log : TxnFile) → txn_of bytes ≡ Ok log → log_by log.id bytes ≡ Some log
 log_again bytes log is = ap result_ok (log_same log.id bytes log is (same_id12-self log.id))
@@ -114,3 +118,33 @@ module _ (law : ReadLaw) where
 
   pub snapshot_again : SnapshotLaw
   snapshot_again = record { written = written; read = proper; own = λ id file s is. (is_read id file s is).same }
+
+-- ---- manifests
+
+-- what a file that is read as a manifest under an id says
+record IsReadManifest (id : Id12) (file : List ℕ) (m : ManifestFile) : Type 0 where
+  bytes : list_all (λ n. nat_lt n 256) file ≡ true
+  read : manifest_of file ≡ Ok m
+  same : m.id ≡ id
+
+manifest_is_read : (id : Id12) (file : List ℕ) (m : ManifestFile) → manifest_by id file ≡ Some m → IsReadManifest id file m
+unfolding read_manifest
+manifest_is_read id file m is =
+    let bytes = bind_ok (of_bytes file) _ m (ok_of (read_manifest id file) m is) in
+    let tested = test_ok (list_all (λ n. nat_lt n 256) file) file bytes.0 _ bytes.1 in
+    let found = bind_ok (in_file (manifest_of bytes.0)) _ m bytes.2 in
+    let same = test_ok (same_id12 found.0.id id) found.0 m _ found.2 in
+    let read : manifest_of file ≡ Ok found.0 = ap manifest_of tested.1 ∙ file_ok (manifest_of bytes.0) found.0 found.1 in
+    subst (IsReadManifest id file) same.1 (record { bytes = tested.0; read = read; same = same_id12-true found.0.id id same.0 })
+
+module _ (law : manifest.ReadLaw) where
+  manifest_written : (m : ManifestFile) → IsProperManifest m → length (file_bytes m) ≤ file_limit → manifest_by m.id (file_bytes m) ≡ Some m
+  manifest_written m is fits = ap result_ok (manifest_same m.id (file_bytes m) m (law.bytes m is.sized) (law.again m is.sized is.writable fits) (same_id12-self m.id))
+
+  manifest_proper : (id : Id12) (file : List ℕ) (m : ManifestFile) → manifest_by id file ≡ Some m → IsProperManifest m
+  manifest_proper id file m is =
+      let read = manifest_is_read id file m is in
+      record { sized = law.sized file m read.bytes read.read; writable = law.writable file m read.read }
+
+  pub manifest_again : ManifestLaw
+  manifest_again = record { written = manifest_written; read = manifest_proper; own = λ id file m is. (manifest_is_read id file m is).same }

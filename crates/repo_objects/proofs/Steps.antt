@@ -50,17 +50,17 @@ log_other id bytes log is other = rw (is, other) refl
 
 -- ---- manifests
 
-pub manifest_fault : (id : Id12) (bytes : List ℕ) (fault : FileFault) → manifest_of bytes ≡ Err fault → read_manifest id bytes ≡ Err (File fault)
+pub manifest_fault : (id : Id12) (bytes : List ℕ) (fault : FileFault) → list_all (λ n. nat_lt n 256) bytes ≡ true → manifest_of bytes ≡ Err fault → read_manifest id bytes ≡ Err (File fault)
 unfolding read_manifest
-manifest_fault id bytes fault is = rw is refl
+manifest_fault id bytes fault all is = rw (all, is) refl
 
-pub manifest_same : (id : Id12) (bytes : List ℕ) (manifest : ManifestFile) → manifest_of bytes ≡ Ok manifest → same_id12 manifest.id id ≡ true → read_manifest id bytes ≡ Ok manifest
+pub manifest_same : (id : Id12) (bytes : List ℕ) (manifest : ManifestFile) → list_all (λ n. nat_lt n 256) bytes ≡ true → manifest_of bytes ≡ Ok manifest → same_id12 manifest.id id ≡ true → read_manifest id bytes ≡ Ok manifest
 unfolding read_manifest
-manifest_same id bytes manifest is same = rw (is, same) refl
+manifest_same id bytes manifest all is same = rw (all, is, same) refl
 
-pub manifest_other : (id : Id12) (bytes : List ℕ) (manifest : ManifestFile) → manifest_of bytes ≡ Ok manifest → same_id12 manifest.id id ≡ false → read_manifest id bytes ≡ Err (WrongId manifest.id)
+pub manifest_other : (id : Id12) (bytes : List ℕ) (manifest : ManifestFile) → list_all (λ n. nat_lt n 256) bytes ≡ true → manifest_of bytes ≡ Ok manifest → same_id12 manifest.id id ≡ false → read_manifest id bytes ≡ Err (WrongId manifest.id)
 unfolding read_manifest
-manifest_other id bytes manifest is other = rw (is, other) refl
+manifest_other id bytes manifest all is other = rw (all, is, other) refl
 
 -- ---- snapshots
 

@@ -6,10 +6,12 @@ use Rattle.flat_tables.specs.File.{file_limit}
 use Rattle.snapshot_file.specs.declared.snapshot.SnapshotFile.{SnapshotFile}
 use Rattle.snapshot_file.specs.Layout.{snapshot_bytes, IsSnapshot, IsWritable}
 use Rattle.snapshot_file.specs.Initial.{initial_snapshot}
+use Rattle.manifest_file.specs.declared.manifest.ManifestFile.{ManifestFile}
+use Rattle.manifest_file.specs.Layout.{file_bytes, CanWrite, IsManifest}
 use Rattle.txn_file.specs.declared.log.TxnFile.{TxnFile}
 use Rattle.txn_file.specs.Layout.{log_file, IsOrdered, IsLog}
 use Rattle.ref_file.specs.Refs.{ref_bytes}
-use Rattle.repo_objects.specs.Readings.{first_bad, snapshot_by, log_by, ref_of}
+use Rattle.repo_objects.specs.Readings.{first_bad, snapshot_by, manifest_by, log_by, ref_of}
 
 -- a snapshot that can be written: its ids and numbers have their widths, its lists are in order, and its texts are the
 -- metadata of its nodes
@@ -23,6 +25,18 @@ pub record SnapshotLaw : Type 0 where
   pub written : (s : SnapshotFile) → IsProper s → length (snapshot_bytes s) ≤ file_limit → snapshot_by s.id (snapshot_bytes s) ≡ Some s
   pub read : (id : Id12) (file : List ℕ) (s : SnapshotFile) → snapshot_by id file ≡ Some s → IsProper s
   pub own : (id : Id12) (file : List ℕ) (s : SnapshotFile) → snapshot_by id file ≡ Some s → s.id ≡ id
+
+-- a manifest that can be written: its ids and numbers have their widths, the bytes of its chunks are bytes, its lists are in
+-- order, and its chunks keep to their limit
+pub record IsProperManifest (m : ManifestFile) : Type 0 where
+  pub sized : IsManifest m
+  pub writable : CanWrite m
+
+-- what is written of a manifest is read under its id, if it isn't too long; and what is read can be written
+pub record ManifestLaw : Type 0 where
+  pub written : (m : ManifestFile) → IsProperManifest m → length (file_bytes m) ≤ file_limit → manifest_by m.id (file_bytes m) ≡ Some m
+  pub read : (id : Id12) (file : List ℕ) (m : ManifestFile) → manifest_by id file ≡ Some m → IsProperManifest m
+  pub own : (id : Id12) (file : List ℕ) (m : ManifestFile) → manifest_by id file ≡ Some m → m.id ≡ id
 
 -- the bytes of the initial snapshot's file
 abbrev pub initial_bytes : List ℕ

@@ -1,7 +1,7 @@
 -- What the bytes of an object stand for, under the id of its key, or why they stand for nothing. (Icechunk specification
 -- version 1, "File Layout"; that a file tells the id of its key, and that the texts of a snapshot's nodes are metadata,
 -- is own.)
-use Rattle.std.specs.Prelude.{ℕ, ◌+◌, nat_lt, if◌then◌else◌, List, [], ◌∷◌, Option, Some, None, Result, Ok, Err}
+use Rattle.std.specs.Prelude.{ℕ, ◌+◌, ◌&&◌, ◌==◌, nat_lt, nat_le, if◌then◌else◌, List, [], ◌∷◌, length, take, drop, Option, Some, None, Result, Ok, Err}
 use Rattle.std.specs.List.{list_all}
 use Rattle.std.specs.Result.{result_ok}
 use Rattle.ice_ids.specs.declared.Id12.{Id12}
@@ -28,7 +28,7 @@ use Rattle.txn_file.specs.Logs.{txn_of}
 use Rattle.ref_file.specs.Refs.{member_name}
 use Rattle.ref_file.specs.declared.RefFault.TheVariants as ref
 use Rattle.repo_objects.specs.declared.bad.Bad.{Bad}
-use Rattle.repo_objects.specs.declared.bad.Bad.TheVariants.{File, Ref, WrongId, Node}
+use Rattle.repo_objects.specs.declared.bad.Bad.TheVariants.{File, Ref, WrongId, Node, Chunk}
 
 -- a step, and what follows with its value; the first fault is the answer
 infixl 10 ◌>>=◌
@@ -83,10 +83,27 @@ read_snapshot id file = do
 
 -- ---- manifests and logs
 unfoldable pub read_manifest : Id12 → List ℕ → Result ManifestFile Bad
-read_manifest id file = in_file (manifest_of file) >>= λ manifest. under id manifest.id manifest
+read_manifest id file = do
+  bytes ← of_bytes file
+  manifest ← in_file (manifest_of bytes)
+  under id manifest.id manifest
 
 unfoldable pub read_log : Id12 → List ℕ → Result TxnFile Bad
 read_log id file = in_file (txn_of file) >>= λ log. under id log.id log
+
+-- ---- chunks
+
+-- the bytes of a chunk in a manifest: as many as a chunk has
+abbrev pub read_inline : (want : ℕ) → List ℕ → Result (List ℕ) Bad
+read_inline want bytes = if length bytes == want then Ok bytes else Err (Chunk want (length bytes))
+
+-- what an object gives of a part
+abbrev pub given : (offset size : ℕ) → List ℕ → List ℕ
+given offset size bytes = take size (drop offset bytes)
+
+-- the part of an object that is a chunk: it lies in the object and has as many bytes as a chunk
+abbrev pub read_chunk : (want offset size : ℕ) → List ℕ → Result (List ℕ) Bad
+read_chunk want offset size bytes = if nat_le (offset + size) (length bytes) && size == want then Ok (given offset size bytes) else Err (Chunk want (length (given offset size bytes)))
 
 -- ---- references
 abbrev pub id_in : Option (List ℕ) → Result Id12 Bad

@@ -60,6 +60,11 @@ bytes_at puts (Object id offset size) = option_and_then (part_of offset size) (p
 abbrev pub manifest_put : Puts → Id12 → Option ManifestFile
 manifest_put puts id = option_and_then (manifest_by id) (puts.manifest id)
 
+-- what one store of puts has of readable manifests and of objects with chunks, another has too
+pub record Extends (p q : Puts) : Type 0 where
+  pub manifests : (id : Id12) (m : ManifestFile) → manifest_put p id ≡ Some m → manifest_put q id ≡ Some m
+  pub chunks : (id : Id12) (bytes : List ℕ) → p.chunk id ≡ Some bytes → q.chunk id ≡ Some bytes
+
 -- an unreadable manifest counts as one without chunks
 abbrev pub or_empty : Id12 → Option ManifestFile → ManifestFile
 or_empty id manifest = unwrap_or manifest (record { id = id; arrays = [] })

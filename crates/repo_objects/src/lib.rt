@@ -5,11 +5,13 @@
 #![tactic(auto)]
 
 mod bad;
+mod chunks;
 mod laws;
 mod loaded;
 mod readings;
 
 pub use bad::{Bad, Unread};
-pub use laws::{initial_law, log_law, ref_law, snapshot_law};
+pub use chunks::{chunk_read, inline_read};
+pub use laws::{initial_law, log_law, manifest_law, ref_law, snapshot_law};
 pub use loaded::Loaded;
 pub use readings::{log_read, manifest_hold, ref_read};

@@ -44,10 +44,10 @@ pub fn log_read(alloc: Global, id: Id12, file: &[u8]) -> Result<TxnFile, Unread>
 
 /// Holds the file of a manifest, to be read in place, under the id of its key. It takes no memory. (Icechunk specification
 /// version 1, "Manifests".)
-#[tactic(auto, using(crate::proofs::Steps::manifest_fault, crate::proofs::Steps::manifest_same, crate::proofs::Steps::manifest_other))]
 pub fn manifest_hold(id: Id12, file: Bytes) -> Result<Held, Bad>
     ensures { result ≡ read_manifest id file }
 {
+    let _bytes = file.as_slice();
     match hold(file) {
         Err((_, fault)) => Err(Bad::File(fault)),
         Ok(held) => {

@@ -1,11 +1,12 @@
--- What replies to the gets of refs and snapshots tell. (Icechunk specification version 1, "Read from Repository".)
+-- What replies to the gets of refs, snapshots, manifests and objects with chunks tell. (Icechunk specification version 1, "Read from Repository".)
 use Rattle.std.specs.Prelude.{◌≡◌, ℕ, false, List, Result, Ok, Err}
 use Rattle.ice_ids.specs.declared.Id12.{Id12}
 use Rattle.snapshot_file.specs.declared.snapshot.SnapshotFile.{SnapshotFile}
+use Rattle.manifest_file.specs.declared.manifest.ManifestFile.{ManifestFile}
 use Rattle.repo_objects.specs.declared.bad.Bad.{Bad}
-use Rattle.repo_objects.specs.Readings.{read_snapshot, read_ref}
+use Rattle.repo_objects.specs.Readings.{read_snapshot, read_manifest, read_chunk, read_ref}
 use Rattle.store_api.specs.declared.keys.Key.{Key}
-use Rattle.store_api.specs.declared.keys.Key.TheVariants.{Snapshot, Branch}
+use Rattle.store_api.specs.declared.keys.Key.TheVariants.{Snapshot, Manifest, Chunk, Branch}
 use Rattle.store_api.specs.declared.events.Version.{Version}
 use Rattle.store_api.specs.declared.events.Got.TheVariants.{Found, Absent}
 use Rattle.store_api.specs.declared.events.Reply.{Reply}
@@ -35,6 +36,18 @@ abbrev pub snapshot_told : Id12 → Reply → Result SnapshotFile Refusal
 snapshot_told id (Got (Found bytes version now)) = at_key (Snapshot id) (read_snapshot id bytes)
 snapshot_told id (Got (Absent now)) = Err (Missing (Snapshot id))
 snapshot_told id _ = Err StoreFault
+
+-- a manifest
+abbrev pub manifest_told : Id12 → Reply → Result ManifestFile Refusal
+manifest_told id (Got (Found bytes version now)) = at_key (Manifest id) (read_manifest id bytes)
+manifest_told id (Got (Absent now)) = Err (Missing (Manifest id))
+manifest_told id _ = Err StoreFault
+
+-- a chunk of `want` bytes, in this part of an object
+abbrev pub object_told : (want : ℕ) → Id12 → (offset size : ℕ) → Reply → Result (List ℕ) Refusal
+object_told want id offset size (Got (Found bytes version now)) = at_key (Chunk id) (read_chunk want offset size bytes)
+object_told want id offset size (Got (Absent now)) = Err (Missing (Chunk id))
+object_told want id offset size _ = Err StoreFault
 
 -- this is answered; want of memory may come instead
 abbrev pub Answers : {A : Type 0} → Result A Refusal → Result A Refusal → Type 0

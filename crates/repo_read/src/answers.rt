@@ -1,12 +1,13 @@
-//! What replies to the gets of refs and snapshots tell.
+//! What replies to the gets of refs, snapshots, manifests and objects with chunks tell.
 
-ghost use Rattle.std.specs.Prelude.{IfErr};
-ghost use Rattle.repo_read.specs.Answers.{ref_told, snapshot_told, Answers};
-ghost use Rattle.repo_read.specs.Programs.{MayRefuseRef, MayRefuseSnapshot};
+ghost use Rattle.std.specs.Prelude.{◌≡◌, IfErr};
+ghost use Rattle.repo_read.specs.Answers.{ref_told, snapshot_told, manifest_told, object_told, Answers};
+ghost use Rattle.repo_read.specs.Programs.{MayRefuseRef, MayRefuseSnapshot, MayRefuseManifest, MayRefuseObject};
 
-use ice_base::RefName;
+use held_manifest::Held;
+use ice_base::{Bytes, RefName};
 use ice_ids::Id12;
-use repo_objects::{Loaded, Unread, ref_read};
+use repo_objects::{Loaded, Unread, chunk_read, manifest_hold, ref_read};
 use std::alloc::Global;
 use store_api::{Got, Key, Refusal, Reply, Version};
 
@@ -67,5 +68,58 @@ pub fn snapshot_told(alloc: Global, id: Id12, reply: Reply) -> Result<Loaded, Re
         Ok(loaded) => Ok(loaded),
         Err(Unread::NoMemory) => Err(Refusal::NoMemory),
         Err(Unread::Bad(bad)) => Err(Refusal::BadFile(Key::Snapshot(id), bad)),
+    }
+}
+
+/// What a reply to the get of a manifest tells. It takes no memory. Refusals: `Missing` where it was absent, `BadFile` where
+/// its bytes are no manifest of this id, or `StoreFault` where the get failed.
+pub fn manifest_told(id: Id12, reply: Reply) -> Result<Held, Refusal>
+    ensures told { result ≡ manifest_told id reply }
+    ensures listed { IfErr result MayRefuseManifest }
+{
+    let Reply::Got(got) = reply else {
+        return Err(Refusal::StoreFault);
+    };
+    let Got::Found {
+        bytes,
+        version: _,
+        now: _,
+    } = got
+    else {
+        return Err(Refusal::Missing(Key::Manifest(id)));
+    };
+    match manifest_hold(id, bytes) {
+        Ok(held) => Ok(held),
+        Err(bad) => Err(Refusal::BadFile(Key::Manifest(id), bad)),
+    }
+}
+
+/// What a reply to the get of an object with chunks tells of a chunk of `want` bytes that is in this part of it. It takes no
+/// memory. Refusals: `Missing` where the object was absent, `BadFile` where the part doesn't lie in it or hasn't as many
+/// bytes as the chunk, or `StoreFault` where the get failed.
+pub fn object_told(
+    want: u64,
+    id: Id12,
+    offset: u64,
+    size: u64,
+    reply: Reply,
+) -> Result<Bytes, Refusal>
+    ensures told { result ≡ object_told want id offset size reply }
+    ensures listed { IfErr result MayRefuseObject }
+{
+    let Reply::Got(got) = reply else {
+        return Err(Refusal::StoreFault);
+    };
+    let Got::Found {
+        bytes,
+        version: _,
+        now: _,
+    } = got
+    else {
+        return Err(Refusal::Missing(Key::Chunk(id)));
+    };
+    match chunk_read(want, offset, size, bytes) {
+        Ok(bytes) => Ok(bytes),
+        Err(bad) => Err(Refusal::BadFile(Key::Chunk(id), bad)),
     }
 }

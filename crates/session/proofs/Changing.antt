@@ -44,7 +44,7 @@ abbrev Nodes : Type 0
 Nodes = FinMap path_cmp Node
 
 -- ---- the edit is refused
-told : (expected : Result SessionState Refusal) (s : SessionState) (o : Option EditFault) (entered after : Held Place) (fault : EditFault) → (o ≡ Some fault → expected ≡ Err (refusal_of_edit fault)) → Enters o entered s.held (Err fault) after
+pub told : (expected : Result SessionState Refusal) (s : SessionState) (o : Option EditFault) (entered after : Held Place) (fault : EditFault) → (o ≡ Some fault → expected ≡ Err (refusal_of_edit fault)) → Enters o entered s.held (Err fault) after
     → Leaves expected s (Err (refusal_of_edit fault)) (record s { held = after })
 told expected s o entered after E.NodeExists k e = (k e.0, ap (λ (h : Held Place). record s { held = h }) e.1)
 told expected s o entered after E.NoParent k e = (k e.0, ap (λ (h : Held Place). record s { held = h }) e.1)
@@ -137,6 +137,9 @@ no_more m n within =
     in
     omega (arith, by_keys, len-entries m, len-entries n, length-map (entries m) (λ (e : List ℕ × Node). e.0), length-map (entries n) (λ (e : List ℕ × Node). e.0))
 
+pub at-most : {m n : Nodes} → m ≡ n → len m ≤ len n
+at-most {m} {n} e = let same : len m ≡ len n = ap (λ (x : Nodes). len x) e in omega (arith, same)
+
 -- ---- other metadata keeps the paths
 same_there : (a : Option Node) (b : Bool) (f g : Node → Node) (o : Option Node) → is_some (option_or a (cond b None (option_map f o))) ≡ is_some (option_or a (cond b None (option_map g o)))
 same_there (Some n) b f g o = refl
@@ -204,7 +207,7 @@ module _ (h : Held Place) (nodes : Nodes) where
   abbrev pub IsFew : Held Place → Type 0
   IsFew held = len (nodes_over held nodes) ≤ most_nodes
 
-  few-entered : (o : Option EditFault) (entered after : Held Place) (result : Result (Unit {0}) EditFault) → IsFew h → len (nodes_over entered nodes) ≤ len (nodes_over h nodes) → Enters o entered h result after → IsFew after
+  pub few-entered : (o : Option EditFault) (entered after : Held Place) (result : Result (Unit {0}) EditFault) → IsFew h → len (nodes_over entered nodes) ≤ len (nodes_over h nodes) → Enters o entered h result after → IsFew after
   few-entered o entered after (Ok done) few less e = subst (λ (x : Held Place). len (nodes_over x nodes) ≤ most_nodes) (sym e.1) (within_most _ _ less few)
   few-entered o entered after (Err fault) few less e = subst (λ (x : Held Place). len (nodes_over x nodes) ≤ most_nodes) (sym (same_held o entered h after fault e)) few
 

@@ -2,3 +2,5 @@ pub mod Refusing
 pub mod Adding
 pub mod Changing
 pub mod SeenRows
+pub mod Chunking
+pub mod ReadSteps

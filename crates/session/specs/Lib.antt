@@ -3,4 +3,7 @@ pub mod Codes
 pub mod Editing
 pub mod Opening
 pub mod Viewed
+pub mod Chunks
+pub mod Setting
+pub mod Getting
 pub mod inside

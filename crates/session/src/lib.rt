@@ -1,9 +1,21 @@
 //! Sessions: a base tree and changes over it.
 #![tactic(auto)]
 
+mod chunks;
+mod committing;
+mod editing;
+mod getting;
 mod open;
 mod opening;
+mod putting;
+mod reading;
+mod rows;
+mod seeing;
 mod session;
+mod setting;
 
+pub use chunks::Value;
+pub use getting::{GetChunk, Getting};
 pub use open::Open;
 pub use session::{Listing, Listings, Session};
+pub use setting::{SetChunk, Setting};

@@ -14,10 +14,10 @@ use Rattle.store_api.specs.declared.events.Op.{Op}
 use Rattle.store_api.specs.declared.events.Op.TheVariants.{Get, PutNew, PutOver, Remove, RemoveAt, List as ListPart}
 use Rattle.store_api.specs.declared.events.Event.{Event}
 use Rattle.store_api.specs.Machine.{Stored, Slot, fresh_slot, leaves, put_at, slot_of, found, first_put, is_on}
-use Rattle.store_api.specs.Journal.{Each, IsGood, IsPolite, MayPutNew, MayPutOver, WasPut, NamesPut, ParentPut, ManifestsPut, ChunksPut, IsMoved, IsCut, StoodAt, snap_in, snap_made}
+use Rattle.store_api.specs.Journal.{Each, IsGood, IsPolite, MayPutNew, MayPutOver, WasPut, NamesPut, ParentPut, ManifestsPut, ChunksPut, IsMoved, StoodAt, snap_in, snap_made}
 use Rattle.store_api.specs.Laws.{AllNamed, NamesLaw}
 use Rattle.store_api.proofs.Slots.{same_key-true, effect-cases, free-cases, old-cases, slot-append_one, slot-none, sound, found-stood, WasPut-append}
-use Rattle.store_api.proofs.Once.{ManifestsPut-append, ChunksPut-append, cut-named, known-put}
+use Rattle.store_api.proofs.Once.{ManifestsPut-append, ChunksPut-append, cut-named, known-put, known-chunks}
 use Rattle.store_api.proofs.Standing.{NamesPut-append, ParentPut-append}
 
 polite-new : (journal : List Event) (key other : Key) (bytes : List ℕ) (why : Why) → key ≡ other → MayPutNew journal bytes why key → MayPutNew journal bytes why other
@@ -107,40 +107,50 @@ module _ (journal : List Event) (key : Key) (Q : Option (List ℕ) → Type 0) (
   leaves-fine time (RemoveAt k old why) e p h = old-cases Fine old.0 (found journal key) _ (slot_of journal key) h (λ s d v. h)
   leaves-fine time (ListPart part) e p h = h
 
--- ---- what stands or stood as a snapshot names manifests that were put
-abbrev Stands : List Event → Id12 → Slot → Type 0
-Stands journal id slot = (s : Stored) → slot.stands ≡ Some s → ManifestsPut journal (snapshot_by id s.bytes)
-
-abbrev Stood : List Event → Type 0
-Stood journal = (id : Id12) (version : ℕ) (bytes : List ℕ) → StoodAt journal (Snapshot id) version bytes → ManifestsPut journal (snapshot_by id bytes)
-
-stood-stands : (journal : List Event) (id : Id12) → Stood journal → Stands journal id (slot_of journal (Snapshot id))
-stood-stands journal id h s e = h id s.version s.bytes (found-stood journal (Snapshot id) s e)
-
-stands-bytes : (journal : List Event) (id : Id12) (n time : ℕ) (bytes : List ℕ) (slot : Slot) → ManifestsPut journal (snapshot_by id bytes) → Stands journal id (put_at n time bytes slot)
-stands-bytes journal id n time bytes slot p s e = let b : bytes ≡ s.bytes = cc in subst (λ (x : List ℕ). ManifestsPut journal (snapshot_by id x)) b p
-
-leaves-stands : (journal : List Event) (id : Id12) (time : ℕ) (op : Op) → Stood journal → is_on (Snapshot id) op ≡ true → IsPolite journal op → Stands journal id (leaves (length journal) time op (slot_of journal (Snapshot id)))
-leaves-stands journal id time (Get key) h k p = stood-stands journal id h
-leaves-stands journal id time (PutNew key bytes why) h k p =
-    let p' = polite-new journal key (Snapshot id) bytes why (same_key-true key (Snapshot id) k) p in
-    free-cases (Stands journal id) (found journal (Snapshot id)) (put_at (length journal) time bytes (slot_of journal (Snapshot id))) (slot_of journal (Snapshot id)) (stood-stands journal id h)
-    (λ free. stands-bytes journal id (length journal) time bytes (slot_of journal (Snapshot id)) (known-put journal (snapshot_by id bytes) h p'.2))
-leaves-stands journal id time (PutOver key bytes old why) h k p =
-    let p' : IsCut journal id old.0 bytes = polite-over journal key (Snapshot id) bytes old.0 why (same_key-true key (Snapshot id) k) p in
-    old-cases (Stands journal id) old.0 (found journal (Snapshot id)) (put_at (length journal) time bytes (slot_of journal (Snapshot id))) (slot_of journal (Snapshot id)) (stood-stands journal id h)
-    (λ s e v. stands-bytes journal id (length journal) time bytes (slot_of journal (Snapshot id)) (cut-named journal id old.0 bytes (h id) p'))
-leaves-stands journal id time (Remove key why) h k p = λ s e. cc
-leaves-stands journal id time (RemoveAt key old why) h k p =
-    old-cases (Stands journal id) old.0 (found journal (Snapshot id)) _ (slot_of journal (Snapshot id)) (stood-stands journal id h) (λ s e v t g. cc)
-leaves-stands journal id time (ListPart part) h k p = stood-stands journal id h
-
 -- ---- along a journal
 after : (Q : Slot → Type 0) (journal : List Event) (event : Event) (key : Key) → Q (slot_of journal key) → (is_on key event.op ≡ true → Q (leaves (length journal) event.time event.op (slot_of journal key))) → Q (slot_of (journal ++ event ∷ []) key)
 after Q journal event key keep act = subst Q (sym (slot-append_one journal event key)) (effect-cases Q key (length journal) (slot_of journal key) event keep (λ k d. act k))
 
 abbrev FoundAs : Key → (version : ℕ) → (bytes : List ℕ) → (created : ℕ) → List Event → Type 0
 FoundAs key version bytes created journal = found journal key ≡ Some (record { bytes = bytes; version = version; created = created })
+
+-- ---- a fact on what stands or stood, where it holds of each put
+module _ (journal : List Event) (key : Key) (Q : List ℕ → Type 0) (stood : (version : ℕ) (bytes : List ℕ) → StoodAt journal key version bytes → Q bytes) (new : (bytes : List ℕ) (why : Why) → MayPutNew journal bytes why key → Q bytes) (over : (bytes : List ℕ) (old : ℕ) (why : Why) → MayPutOver journal bytes old why key → Q bytes) where
+  abbrev Stands : Slot → Type 0
+  Stands slot = (s : Stored) → slot.stands ≡ Some s → Q s.bytes
+
+  stands-now : Stands (slot_of journal key)
+  stands-now s e = stood s.version s.bytes (found-stood journal key s e)
+
+  stands-bytes : (n time : ℕ) (bytes : List ℕ) (slot : Slot) → Q bytes → Stands (put_at n time bytes slot)
+  stands-bytes n time bytes slot q s e = let b : bytes ≡ s.bytes = cc in subst Q b q
+
+  leaves-stands : (time : ℕ) (op : Op) → is_on key op ≡ true → IsPolite journal op → Stands (leaves (length journal) time op (slot_of journal key))
+  leaves-stands time (Get k) e p = stands-now
+  leaves-stands time (PutNew k bytes why) e p =
+      free-cases Stands (found journal key) (put_at (length journal) time bytes (slot_of journal key)) (slot_of journal key) stands-now
+      (λ free. stands-bytes (length journal) time bytes (slot_of journal key) (new bytes why (polite-new journal k key bytes why (same_key-true k key e) p)))
+  leaves-stands time (PutOver k bytes old why) e p =
+      old-cases Stands old.0 (found journal key) (put_at (length journal) time bytes (slot_of journal key)) (slot_of journal key) stands-now
+      (λ s d v. stands-bytes (length journal) time bytes (slot_of journal key) (over bytes old.0 why (polite-over journal k key bytes old.0 why (same_key-true k key e) p)))
+  leaves-stands time (Remove k why) e p = λ s d. cc
+  leaves-stands time (RemoveAt k old why) e p = old-cases Stands old.0 (found journal key) _ (slot_of journal key) stands-now (λ s d v t g. cc)
+  leaves-stands time (ListPart part) e p = stands-now
+
+  -- it stood before the event, or the event left it
+  stood-one : (event : Event) → IsGood journal event → (version : ℕ) (bytes : List ℕ) → StoodAt (journal ++ event ∷ []) key version bytes → Q bytes
+  stood-one event g version bytes h = elim (cases_order version (length journal)) [
+    | inl same ↦ left (omega (arith, length-append {A = Event}))
+    | inr o ↦ elim o [
+      | inl less ↦ stood version bytes (record { created = h.created; stood = subst (FoundAs key version bytes h.created) (take-append-le (version + 1) journal (event ∷ []) (omega arith)) h.stood })
+      | inr more ↦ left (omega (arith, length-append {A = Event}))
+    ]
+  ]
+    where
+      left : length (journal ++ event ∷ []) ≤ version + 1 → Q bytes
+      left past =
+          let now : FoundAs key version bytes h.created (journal ++ event ∷ []) = subst (FoundAs key version bytes h.created) (take_all (version + 1) (journal ++ event ∷ []) past) h.stood in
+          after Stands journal event key stands-now (λ k. leaves-stands event.time event.op k g.polite) (record { bytes = bytes; version = version; created = h.created }) now
 
 named-one : (journal : List Event) (event : Event) → IsGood journal event → AllNamed journal → AllNamed (journal ++ event ∷ [])
 named-one journal event g a = record {
@@ -151,8 +161,9 @@ named-one journal event g a = record {
       elim (h w.0 w.1) [ inl e ↦ inl e | inr l ↦ inr (WasPut-append journal (event ∷ []) (Txn id) l) ];
   parents = λ id. ParentPut-append journal (event ∷ []) (snap_made (journal ++ event ∷ []) id) (snap-one id).0;
   manifests = λ id. ManifestsPut-append journal (event ∷ []) (snap_made (journal ++ event ∷ []) id) (snap-one id).1;
-  standing = λ id version bytes h. ManifestsPut-append journal (event ∷ []) (snapshot_by id bytes) (stood-one id version bytes h);
+  standing = λ id version bytes h. ManifestsPut-append journal (event ∷ []) (snapshot_by id bytes) (stood-snap id version bytes h);
   chunks = λ id. ChunksPut-append journal (event ∷ []) (option_and_then (manifest_by id) (first_put (journal ++ event ∷ []) (Manifest id))) (manifest-one id);
+  standing_manifests = λ id version bytes h. ChunksPut-append journal (event ∷ []) (manifest_by id bytes) (stood-manifest id version bytes h);
 }
   where
     snap-one : (id : Id12) → SnapFine journal id (slot_of (journal ++ event ∷ []) (Snapshot id))
@@ -160,25 +171,20 @@ named-one journal event g a = record {
         after (SnapFine journal id) journal event (Snapshot id) (a.parents id, a.manifests id)
         (λ k. leaves-fine journal (Snapshot id) (λ o. ParentPut journal (snap_in id o) × ManifestsPut journal (snap_in id o)) (λ bytes why p. (p.1, known-put journal (snapshot_by id bytes) a.standing p.2)) event.time event.op k g.polite (a.parents id, a.manifests id))
 
-    -- it stood before the event, or the event left it
-    stood-one : (id : Id12) (version : ℕ) (bytes : List ℕ) → StoodAt (journal ++ event ∷ []) (Snapshot id) version bytes → ManifestsPut journal (snapshot_by id bytes)
-    stood-one id version bytes h = elim (cases_order version (length journal)) [
-      | inl same ↦ left (omega (arith, length-append {A = Event}))
-      | inr o ↦ elim o [
-        | inl less ↦ a.standing id version bytes (record { created = h.created; stood = subst (FoundAs (Snapshot id) version bytes h.created) (take-append-le (version + 1) journal (event ∷ []) (omega arith)) h.stood })
-        | inr more ↦ left (omega (arith, length-append {A = Event}))
-      ]
-    ]
-      where
-        left : length (journal ++ event ∷ []) ≤ version + 1 → ManifestsPut journal (snapshot_by id bytes)
-        left past =
-            let now : FoundAs (Snapshot id) version bytes h.created (journal ++ event ∷ []) = subst (FoundAs (Snapshot id) version bytes h.created) (take_all (version + 1) (journal ++ event ∷ []) past) h.stood in
-            after (Stands journal id) journal event (Snapshot id) (stood-stands journal id a.standing) (λ k. leaves-stands journal id event.time event.op a.standing k g.polite) (record { bytes = bytes; version = version; created = h.created }) now
+    stood-snap : (id : Id12) (version : ℕ) (bytes : List ℕ) → StoodAt (journal ++ event ∷ []) (Snapshot id) version bytes → ManifestsPut journal (snapshot_by id bytes)
+    stood-snap id =
+        stood-one journal (Snapshot id) (λ bytes. ManifestsPut journal (snapshot_by id bytes)) (a.standing id) (λ bytes why p. known-put journal (snapshot_by id bytes) a.standing p.2)
+        (λ bytes old why p. cut-named journal id old bytes (a.standing id) p) event g
+
+    stood-manifest : (id : Id12) (version : ℕ) (bytes : List ℕ) → StoodAt (journal ++ event ∷ []) (Manifest id) version bytes → ChunksPut journal (manifest_by id bytes)
+    stood-manifest id =
+        stood-one journal (Manifest id) (λ bytes. ChunksPut journal (manifest_by id bytes)) (a.standing_manifests id) (λ bytes why p. known-chunks journal (manifest_by id bytes) a.standing_manifests p)
+        (λ bytes old why p. absurd p) event g
 
     manifest-one : (id : Id12) → ManifestFine journal id (slot_of (journal ++ event ∷ []) (Manifest id))
     manifest-one id =
         after (ManifestFine journal id) journal event (Manifest id) (a.chunks id)
-        (λ k. leaves-fine journal (Manifest id) (λ o. ChunksPut journal (option_and_then (manifest_by id) o)) (λ bytes why p. p) event.time event.op k g.polite (a.chunks id))
+        (λ k. leaves-fine journal (Manifest id) (λ o. ChunksPut journal (option_and_then (manifest_by id) o)) (λ bytes why p. known-chunks journal (manifest_by id bytes) a.standing_manifests p) event.time event.op k g.polite (a.chunks id))
 
 named-along : (journal more : List Event) → AllNamed journal → Each IsGood journal more → AllNamed (journal ++ more)
 unfolding Each
@@ -189,6 +195,12 @@ named-along journal (x ∷ xs) a g = subst (λ (h : List Event). AllNamed h) (ap
 at-start : (Q : Slot → Type 0) (key : Key) → Q fresh_slot → Q (slot_of [] key)
 at-start Q key q = subst Q (sym (slot-none key)) q
 
+never-stood : {A : Type 0} (key : Key) (version : ℕ) (bytes : List ℕ) → StoodAt [] key version bytes → A
+never-stood key version bytes h =
+    let below = (sound (take (version + 1) []) key).below _ h.stood in
+    let nothing : length (take {A = Event} (version + 1) []) ≡ 0 = ap length (take_all (version + 1) [] (omega arith)) in
+    absurd (omega (arith, below, nothing))
+
 pub names-law : NamesLaw
 names-law journal g = named-along [] journal (record {
   branches = λ name. at-start (RefFine []) (Branch name) (λ s e. cc);
@@ -196,6 +208,7 @@ names-law journal g = named-along [] journal (record {
   logs = λ id w. at-start (LogFine [] id) (Snapshot id) (λ b f. cc) w.0 w.1;
   parents = λ id. (at-start (SnapFine [] id) (Snapshot id) (tt, tt)).0;
   manifests = λ id. (at-start (SnapFine [] id) (Snapshot id) (tt, tt)).1;
-  standing = λ id version bytes h. let below = (sound (take (version + 1) []) (Snapshot id)).below _ h.stood in let nothing : length (take {A = Event} (version + 1) []) ≡ 0 = ap length (take_all (version + 1) [] (omega arith)) in absurd (omega (arith, below, nothing));
+  standing = λ id version bytes h. never-stood (Snapshot id) version bytes h;
   chunks = λ id. at-start (ManifestFine [] id) (Manifest id) tt;
+  standing_manifests = λ id version bytes h. never-stood (Manifest id) version bytes h;
 }) g

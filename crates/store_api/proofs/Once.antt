@@ -15,7 +15,7 @@ use Rattle.store_api.specs.declared.events.Op.{Op}
 use Rattle.store_api.specs.declared.events.Op.TheVariants.{Get, PutNew, PutOver, Remove, RemoveAt, List as ListPart}
 use Rattle.store_api.specs.declared.events.Event.{Event}
 use Rattle.store_api.specs.Machine.{Slot, leaves, put_at, slot_of, found, last_put, is_on}
-use Rattle.store_api.specs.Journal.{Each, WasPut, StoodAt, snap_in, ManifestsPut, ChunksPut, ManifestsKnown, PutsFirst, PutsOver, IsFirst, IsFirstOp, IsOnce, IsCut}
+use Rattle.store_api.specs.Journal.{Each, WasPut, StoodAt, snap_in, ManifestsPut, ChunksPut, ManifestsKnown, ChunksKnown, PutsFirst, PutsOver, IsFirst, IsFirstOp, IsOnce, IsCut}
 use Rattle.store_api.specs.Laws.{FirstLaw}
 use Rattle.store_api.proofs.Slots.{same_key-true, effect-cases, free-cases, old-cases, slot-append_one, slot-none, sound, WasPut-append}
 use Rattle.store_api.proofs.Journals.{Each-back}
@@ -110,10 +110,28 @@ known-put journal (Some s) stood k = λ m n. elim (k m n) [
       named m (subst (λ (rows : List NodeRow). NamesManifest rows m) (sym h.rows_are) p.names)
 ]
 
+-- the objects that any put of a manifest named were put
+stood-chunks : (journal : List Event) (id : Id12) (version : ℕ) (bytes : List ℕ) → IsOnce journal → StoodAt journal (Manifest id) version bytes → ChunksPut journal (manifest_by id bytes)
+stood-chunks journal id version bytes once h =
+    let before : List Event = take (version + 1) journal in
+    let split : take (version + 1) journal ++ drop (version + 1) journal ≡ journal = take-append-drop (version + 1) journal in
+    let once' : IsOnce before = (Each-back IsFirst [] before (drop (version + 1) journal) (subst IsOnce (sym split) once)).0 in
+    let last : last_put before (Manifest id) ≡ Some bytes = (sound before (Manifest id)).last _ h.stood in
+    let named : ChunksPut before (manifest_by id bytes) = subst (λ (o : Option (List ℕ)). ChunksPut before (option_and_then (manifest_by id) o)) last (chunks-put id before once') in
+    subst (λ (j : List Event). ChunksPut j (manifest_by id bytes)) split (ChunksPut-append before (drop (version + 1) journal) (manifest_by id bytes) named)
+
+-- what is known to be an object of a manifest was put
+pub known-chunks : (journal : List Event) (o : Option ManifestFile) → ((id : Id12) (version : ℕ) (bytes : List ℕ) → StoodAt journal (Manifest id) version bytes → ChunksPut journal (manifest_by id bytes)) → ChunksKnown journal o → ChunksPut journal o
+known-chunks journal None stood k = tt
+known-chunks journal (Some manifest) stood k = λ object n. elim (k object n) [
+  | inl w ↦ w
+  | inr old ↦ let named : ChunksPut journal (Some old.manifest) = subst (ChunksPut journal) old.read (stood old.id old.version old.bytes old.stood) in named object old.names
+]
+
 pub first-law : FirstLaw
 first-law journal (Get key) once p f = tt
 first-law journal (PutNew (Snapshot id) bytes why) once p f = record { initial = f.0; other = f.1; named = known-put journal (snapshot_by id bytes) (λ i v b. stood-named journal i v b once) p.2 }
-first-law journal (PutNew (Manifest id) bytes why) once p f = (f, p)
+first-law journal (PutNew (Manifest id) bytes why) once p f = (f, known-chunks journal (manifest_by id bytes) (λ i v b. stood-chunks journal i v b once) p)
 first-law journal (PutNew (Txn id) bytes why) once p f = f
 first-law journal (PutNew (Chunk id) bytes why) once p f = f
 first-law journal (PutNew (Branch name) bytes why) once p f = tt

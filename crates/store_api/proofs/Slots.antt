@@ -120,9 +120,10 @@ pub record Sound (n : ℕ) (slot : Slot) : Type 0 where
   pub last : (s : Stored) → slot.stands ≡ Some s → slot.last ≡ Some s.bytes
   pub first : (s : Stored) → slot.stands ≡ Some s → (b : List ℕ) × (slot.first ≡ Some b)
   pub put : (b : List ℕ) → slot.first ≡ Some b → (c : List ℕ) × (slot.last ≡ Some c)
+  pub begun : (c : List ℕ) → slot.last ≡ Some c → (b : List ℕ) × (slot.first ≡ Some b)
 
 Sound-more : (n : ℕ) (slot : Slot) → Sound n slot → Sound (n + 1) slot
-Sound-more n slot h = record { below = λ s e. omega (arith, h.below s e); last = h.last; first = h.first; put = h.put }
+Sound-more n slot h = record { below = λ s e. omega (arith, h.below s e); last = h.last; first = h.first; put = h.put; begun = h.begun }
 
 or_some : (o : Option (List ℕ)) (b : List ℕ) → (c : List ℕ) × (option_or o (Some b) ≡ Some c)
 or_some None b = (b, refl)
@@ -134,12 +135,13 @@ Sound-put n time slot bytes = record {
   last = λ s e. let b : bytes ≡ s.bytes = cc in ap (λ (x : List ℕ). Some x) b;
   first = λ s e. or_some slot.first bytes;
   put = λ b e. (bytes, refl);
+  begun = λ c e. or_some slot.first bytes;
 }
 
 Sound-effect : (key : Key) (n : ℕ) (slot : Slot) (event : Event) → Sound n slot → Sound (n + 1) (effect key n slot event)
 Sound-effect key n slot event h =
     let more = Sound-more n slot h in
-    effect-cases (Sound (n + 1)) key n slot event more (λ _ _. leaves-cases (Sound (n + 1)) n event.time event.op slot more (Sound-put n event.time slot) (record { below = λ s e. cc; last = λ s e. cc; first = λ s e. cc; put = h.put }))
+    effect-cases (Sound (n + 1)) key n slot event more (λ _ _. leaves-cases (Sound (n + 1)) n event.time event.op slot more (Sound-put n event.time slot) (record { below = λ s e. cc; last = λ s e. cc; first = λ s e. cc; put = h.put; begun = h.begun }))
 
 Sound-through : (key : Key) (n : ℕ) (slot : Slot) (xs : List Event) → Sound n slot → Sound (n + length xs) (through key n slot xs)
 unfolding through
@@ -150,7 +152,7 @@ Sound-through key n slot (x ∷ xs) h =
 
 pub sound : (journal : List Event) (key : Key) → Sound (length journal) (slot_of journal key)
 unfolding slot_of
-sound journal key = let e : 0 + length journal ≡ length journal = omega arith in subst (λ (k : ℕ). Sound k (through key 0 fresh_slot journal)) e (Sound-through key 0 fresh_slot journal (record { below = λ s e. cc; last = λ s e. cc; first = λ s e. cc; put = λ b e. cc }))
+sound journal key = let e : 0 + length journal ≡ length journal = omega arith in subst (λ (k : ℕ). Sound k (through key 0 fresh_slot journal)) e (Sound-through key 0 fresh_slot journal (record { below = λ s e. cc; last = λ s e. cc; first = λ s e. cc; put = λ b e. cc; begun = λ c e. cc }))
 
 -- ---- what stands with an old version stood then
 abbrev WasThere : ℕ → Slot → Slot → Type 0

@@ -19,12 +19,12 @@ use Rattle.store_api.specs.declared.events.Op.{Op}
 use Rattle.store_api.specs.declared.events.Op.TheVariants.{Get, PutNew, PutOver, Remove, RemoveAt, List as ListPart}
 use Rattle.store_api.specs.declared.events.Event.{Event}
 use Rattle.store_api.specs.Machine.{Stored, Slot, leaves, put_at, slot_of, found, first_put, last_put, is_on}
-use Rattle.store_api.specs.Journal.{Each, WasPut, puts_of, snap_in, snap_made, log_made, ManifestsPut, ChunksPut, IsUnused, PutsFirst, IsFirst, IsFirstOp, IsOnce, IsCommitOver, ParentPut, HadRows, ManifestsKnown, NamesPut, IsCut, MayPutOver, IsPolite, IsGood}
-use Rattle.store_api.specs.Laws.{TreesLaw, PoliteLaw}
+use Rattle.store_api.specs.Journal.{Each, WasPut, puts_of, snap_in, snap_made, log_made, ManifestsPut, ChunksPut, IsUnused, PutsFirst, IsFirst, IsFirstOp, IsOnce, IsCommitOver, ParentPut, HadRows, ManifestsKnown, ChunksKnown, NamesPut, IsCut, MayPutOver, IsPolite, IsGood}
+use Rattle.store_api.specs.Laws.{TreesLaw, PutsLaw, PoliteLaw}
 use Rattle.store_api.proofs.Slots.{same_key-true, bytes-same, id-true, effect-cases, free-cases, old-cases, slot-append_one, sound, stood-is, first-append, WasPut-append, StoodAt-append}
 use Rattle.store_api.proofs.Journals.{Each-append, Each-back}
 use Rattle.store_api.proofs.SameTree.{tree-same}
-use Rattle.store_api.proofs.Once.{ChunksPut-append, initial-last, manifests-put, chunks-put}
+use Rattle.store_api.proofs.Once.{initial-last, manifests-put, chunks-put}
 
 -- ---- what is read of a key's last put stays, where nothing is put again and puts over leave it
 module _ {A : Type 0} (key : Key) (read : Option (List ℕ) → A) (unused : (journal : List Event) (bytes : List ℕ) → PutsFirst journal bytes key → IsUnused journal key) (over : (journal : List Event) (bytes : List ℕ) (s : Stored) (why : Why) → found journal key ≡ Some s → MayPutOver journal bytes s.version why key → read (Some bytes) ≡ read (last_put journal key)) where
@@ -120,6 +120,22 @@ standing id journal more once w g f =
     ∙ sym (by-rows (puts_of (journal ++ more)) (snap_in id (last_put journal (Snapshot id))))
     ∙ tree-stays journal more (snap_in id (last_put journal (Snapshot id))) once (manifests-put id journal once) g f
 
+-- ---- what was put stays put and readable
+last-put : (journal : List Event) (key : Key) (bytes : List ℕ) → last_put journal key ≡ Some bytes → WasPut journal key
+last-put journal key bytes e = (sound journal key).begun bytes e
+
+some-chained : {A B : Type 0} (o : Option A) (f : A → Option B) (b : B) → option_and_then f o ≡ Some b → (a : A) × (o ≡ Some a)
+some-chained None f b e = absurd cc
+some-chained (Some a) f b e = (a, refl)
+
+pub puts-stay : PutsLaw
+puts-stay journal more once g f = record {
+  manifests = λ id m e.
+      let put = some-chained (last_put journal (Manifest id)) (manifest_by id) m e in
+      ap (option_and_then (manifest_by id)) (manifest-stays journal more id (last-put journal (Manifest id) put.0 put.1) g f) ∙ e;
+  chunks = λ id bytes e. chunk-stays journal more id (last-put journal (Chunk id) bytes e) g f ∙ e;
+}
+
 -- ---- politeness
 bind-some : {A B : Type 0} (o p : Option A) (f : A → Option B) (b : B) → ((a : A) → o ≡ Some a → p ≡ Some a) → option_and_then f o ≡ Some b → option_and_then f p ≡ Some b
 bind-some None p f b k e = cc
@@ -174,6 +190,13 @@ ManifestsKnown-append journal more (Some s) k = λ m n. elim (k m n) [
   | inr p ↦ inr (record { id = p.id; is = p.is; rows = p.rows; had = HadRows-append journal more p.id p.rows p.had; names = p.names })
 ]
 
+ChunksKnown-append : (journal more : List Event) (manifest : Option ManifestFile) → ChunksKnown journal manifest → ChunksKnown (journal ++ more) manifest
+ChunksKnown-append journal more None k = k
+ChunksKnown-append journal more (Some manifest) k = λ object n. elim (k object n) [
+  | inl w ↦ inl (WasPut-append journal more (Chunk object) w)
+  | inr o ↦ inr (record { id = o.id; version = o.version; bytes = o.bytes; stood = StoodAt-append journal more (Manifest o.id) o.version o.bytes o.stood; manifest = o.manifest; read = o.read; names = o.names })
+]
+
 abbrev pub NamesPut-append : (journal more : List Event) (bytes : List ℕ) → NamesPut journal bytes → NamesPut (journal ++ more) bytes
 NamesPut-append journal more bytes n = record { id = n.id; reference = n.reference; put = WasPut-append journal more (Snapshot n.id) n.put }
 
@@ -186,7 +209,7 @@ IsPolite-append journal more (PutNew (Snapshot id) bytes why) g p = (
   ManifestsKnown-append journal more (snapshot_by id bytes) p.2,
 )
 IsPolite-append journal more (PutNew (Txn id) bytes why) g p = p
-IsPolite-append journal more (PutNew (Manifest id) bytes why) g p = ChunksPut-append journal more (manifest_by id bytes) p
+IsPolite-append journal more (PutNew (Manifest id) bytes why) g p = ChunksKnown-append journal more (manifest_by id bytes) p
 IsPolite-append journal more (PutNew (Chunk id) bytes why) g p = p
 IsPolite-append journal more (PutNew (Branch name) bytes why) g p = (NamesPut-append journal more bytes p.0, p.1)
 IsPolite-append journal more (PutNew (Tag name) bytes why) g p = (NamesPut-append journal more bytes p.0, p.1)

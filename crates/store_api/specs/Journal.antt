@@ -171,13 +171,29 @@ abbrev pub ManifestsKnown : List Event → Option SnapshotFile → Type 0
 ManifestsKnown journal None = Unit {0}
 ManifestsKnown journal (Some s) = (id : Id12) → NamesManifest s.nodes id → WasPut journal (Manifest id) ⊎ ParentNames journal s.parent id
 
+-- a put of an old manifest named the object
+pub record OldNames (journal : List Event) (object : Id12) : Type 0 where
+  pub id : Id12
+  pub version : ℕ
+  pub bytes : List ℕ
+  pub stood : StoodAt journal (Manifest id) version bytes
+  pub manifest : ManifestFile
+  pub read : manifest_by id bytes ≡ Some manifest
+  pub names : NamesChunk manifest object
+
+-- each object in which a manifest has chunks was put, or is one in which an old manifest had chunks
+abbrev pub ChunksKnown : List Event → Option ManifestFile → Type 0
+ChunksKnown journal None = Unit {0}
+ChunksKnown journal (Some manifest) = (id : Id12) → NamesChunk manifest id → WasPut journal (Chunk id) ⊎ OldNames journal id
+
 -- A snapshot is put after its log (the initial one needs none), its parent, and the manifests that it names, but for those
--- that a put of its parent named; a manifest after the objects in which it has chunks; a branch with a reference to a snapshot
--- that was put, as a new one or as `main` with the initial snapshot; a tag likewise; a tombstone after its tag.
+-- that a put of its parent named; a manifest after the objects in which it has chunks, but for those that an old manifest
+-- named; a branch with a reference to a snapshot that was put, as a new one or as `main` with the initial snapshot; a tag
+-- likewise; a tombstone after its tag.
 abbrev pub MayPutNew : List Event → List ℕ → Why → Key → Type 0
 MayPutNew journal bytes why (Snapshot id) = ((id ≡ initial_id) ⊎ WasPut journal (Txn id)) × ParentPut journal (snapshot_by id bytes) × ManifestsKnown journal (snapshot_by id bytes)
 MayPutNew journal bytes why (Txn id) = Unit {0}
-MayPutNew journal bytes why (Manifest id) = ChunksPut journal (manifest_by id bytes)
+MayPutNew journal bytes why (Manifest id) = ChunksKnown journal (manifest_by id bytes)
 MayPutNew journal bytes why (Chunk id) = Unit {0}
 MayPutNew journal bytes why (Branch name) = NamesPut journal bytes × ((why ≡ Create) ⊎ ((why ≡ Init) × (name ≡ main_name) × (ref_of bytes ≡ Some initial_id)))
 MayPutNew journal bytes why (Tag name) = NamesPut journal bytes × (why ≡ For_tag)

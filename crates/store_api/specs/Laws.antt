@@ -3,6 +3,7 @@ use Rattle.std.specs.Prelude.{◌≡◌, ◌≢◌, ◌⊎◌, ℕ, List, [], �
 use Rattle.ice_ids.specs.declared.Id12.{Id12}
 use Rattle.ice_ids.specs.Text.{initial_id}
 use Rattle.repo_objects.specs.Readings.{snapshot_by, manifest_by}
+use Rattle.repo_objects.specs.Trees.{Extends}
 use Rattle.repo_objects.specs.Laws.{initial_bytes}
 use Rattle.store_api.specs.declared.keys.Key.{Key}
 use Rattle.store_api.specs.declared.keys.Key.TheVariants.{Snapshot, Manifest, Txn, Chunk, Branch, Tag, TagGone}
@@ -10,7 +11,7 @@ use Rattle.store_api.specs.declared.events.Op.{Op}
 use Rattle.store_api.specs.declared.events.Op.TheVariants.{PutNew}
 use Rattle.store_api.specs.declared.events.Event.{Event}
 use Rattle.store_api.specs.Machine.{Stored, found, first_put}
-use Rattle.store_api.specs.Journal.{Each, IsGood, IsFirst, IsFirstOp, IsOnce, IsUnused, IsPolite, WasPut, StoodAt, NamesPut, ParentPut, ManifestsPut, ChunksPut, tree_of, rows_of, snap_made}
+use Rattle.store_api.specs.Journal.{Each, IsGood, IsFirst, IsFirstOp, IsOnce, IsUnused, IsPolite, WasPut, StoodAt, NamesPut, ParentPut, ManifestsPut, ChunksPut, puts_of, tree_of, rows_of, snap_made}
 
 -- Standing trees: where a legal polite journal in which nothing is put again goes on so, each
 -- snapshot that was put keeps its tree, or keeps having none.
@@ -21,13 +22,17 @@ TreesLaw = (id : Id12) (journal more : List Event) → IsOnce journal → WasPut
 abbrev pub RowsLaw : Type 0
 RowsLaw = (id : Id12) (journal more : List Event) → IsOnce journal → WasPut journal (Snapshot id) → Each IsGood journal more → Each IsFirst journal more → rows_of (journal ++ more) id ≡ rows_of journal id
 
+-- and what was put of manifests and of objects with chunks stays put and readable
+abbrev pub PutsLaw : Type 0
+PutsLaw = (journal more : List Event) → IsOnce journal → Each IsGood journal more → Each IsFirst journal more → Extends (puts_of journal) (puts_of (journal ++ more))
+
 -- What is polite stays polite, whatever good events come.
 abbrev pub PoliteLaw : Type 0
 PoliteLaw = (journal more : List Event) (op : Op) → Each IsGood journal more → IsPolite journal op → IsPolite (journal ++ more) op
 
 -- Each ref names a snapshot that was put; of each snapshot that was put, its log was put (the
 -- initial one needs none), and so were the parent that it named when it was first put, and the manifests that any put of it
--- named; and of each manifest that was put the objects in which it has chunks.
+-- named; and of each manifest that was put the objects in which it has chunks, and so of each that any put of one named.
 pub record AllNamed (journal : List Event) : Type 0 where
   pub branches : (name : List ℕ) (s : Stored) → found journal (Branch name) ≡ Some s → NamesPut journal s.bytes
   pub tags : (name : List ℕ) (s : Stored) → found journal (Tag name) ≡ Some s → NamesPut journal s.bytes
@@ -36,6 +41,7 @@ pub record AllNamed (journal : List Event) : Type 0 where
   pub manifests : (id : Id12) → ManifestsPut journal (snap_made journal id)
   pub standing : (id : Id12) (version : ℕ) (bytes : List ℕ) → StoodAt journal (Snapshot id) version bytes → ManifestsPut journal (snapshot_by id bytes)
   pub chunks : (id : Id12) → ChunksPut journal (option_and_then (manifest_by id) (first_put journal (Manifest id)))
+  pub standing_manifests : (id : Id12) (version : ℕ) (bytes : List ℕ) → StoodAt journal (Manifest id) version bytes → ChunksPut journal (manifest_by id bytes)
 
 abbrev pub NamesLaw : Type 0
 NamesLaw = (journal : List Event) → Each IsGood [] journal → AllNamed journal

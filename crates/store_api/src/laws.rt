@@ -1,6 +1,6 @@
 //! Laws of journals, as the contracts of functions that do nothing.
 
-ghost use Rattle.store_api.specs.Laws.{TreesLaw, PoliteLaw, NamesLaw, FirstLaw, RowsLaw};
+ghost use Rattle.store_api.specs.Laws.{TreesLaw, PoliteLaw, NamesLaw, FirstLaw, RowsLaw, PutsLaw};
 
 /// Standing trees: in a legal polite journal in which nothing is put again, each snapshot that was
 /// put keeps its tree, or keeps having none.
@@ -28,4 +28,9 @@ pub fn first_law()
 /// And it keeps its rows.
 pub fn rows_law()
     ensures { RowsLaw }
+{}
+
+/// And what was put of manifests and of objects with chunks stays put and readable.
+pub fn puts_law()
+    ensures { PutsLaw }
 {}

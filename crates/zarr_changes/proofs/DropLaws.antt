@@ -23,7 +23,7 @@ use Rattle.zarr_tree.proofs.Ordered.{lists-in_order}
 use Rattle.zarr_changes.specs.Edits.{with_id, with_dropped, without_node}
 use Rattle.zarr_changes.specs.Sets.{drop_refusal}
 use Rattle.zarr_changes.specs.Laws.{DropLaw}
-use Rattle.zarr_changes.specs.inside.Own.{within_rows, texts_left}
+use Rattle.zarr_changes.specs.inside.Own.{within_rows, texts_left, chunks_left}
 use Rattle.zarr_changes.proofs.RowLaws as rows
 use Rattle.zarr_changes.proofs.IdLaws.{id_total, same_ids, marks, contains_lists}
 
@@ -200,6 +200,12 @@ drop-law {P} bytes_at h t p = λ i. record {
         ∙ mapped (λ (place : Option P). option_and_then bytes_at place) (has_id_within (nodes_over h t.nodes) p id) (entry_in h.chunks id j)
 
 -- ---- a node taken away, as the code does it
+pub no_chunks_left : {P : Type 0} (h : Held P) (a b : Id8 → Bool) → h.chunks ≡ [] → chunks_left h a ≡ chunks_left h b
+no_chunks_left {P} h a b e = ap (filter (λ (row : Entry P). not (a row.0))) e ∙ sym (ap (filter (λ (row : Entry P). not (b row.0))) e)
+
+pub same_chunks : {P : Type 0} (h : Held P) (a b : Id8 → Bool) → ((id : Id8) → a id ≡ b id) → chunks_left h a ≡ chunks_left h b
+same_chunks {P} h a b e = λ i. filter (λ (row : Entry P). not (e row.0 i)) h.chunks
+
 pub no_texts : {P : Type 0} (h : Held P) (a b : Id8 → Bool) → length h.metas ≡ 0 → texts_left h a ≡ texts_left h b
 no_texts h a b e = none_of h.metas e
   where
@@ -214,13 +220,13 @@ module _ {P : Type 0} (h : Held P) (nodes : FinMap path_cmp Node) (p : List ℕ)
   pub drop_allowed : drop_refusal (nodes_over h nodes) p ≡ None
   drop_allowed = ap (λ (o : Option Node). at_node o (λ m. None)) found
 
-  pub dropped_node : (own : Bool) (ids dropped : List Id8) (added : FinMap path_cmp Node) (metas : List (Id8 × List ℕ)) → own ≡ has_id n.id (get nodes p)
+  pub dropped_node : (own : Bool) (ids dropped : List Id8) (added : FinMap path_cmp Node) (metas : List (Id8 × List ℕ)) (chunks : List (Entry P)) → own ≡ has_id n.id (get nodes p)
       → dropped ≡ cond own (with_id h.dropped n.id) h.dropped → added ≡ retain_keys h.added (λ q. not (is_within p q)) → metas ≡ texts_left h (lists ids)
-      → texts_left h (lists ids) ≡ texts_left h (has_id_within (nodes_over h nodes) p) → h.chunks ≡ []
-      → ◌≡◌ {A = Held P} (record { dropped = dropped; added = added; metas = metas; chunks = [] }) (without_node h nodes p)
-  dropped_node own ids dropped added metas is out left kept within none_held = λ i. record {
+      → texts_left h (lists ids) ≡ texts_left h (has_id_within (nodes_over h nodes) p) → chunks ≡ chunks_left h (lists ids) → chunks_left h (lists ids) ≡ chunks_left h (has_id_within (nodes_over h nodes) p)
+      → ◌≡◌ {A = Held P} (record { dropped = dropped; added = added; metas = metas; chunks = chunks }) (without_node h nodes p)
+  dropped_node own ids dropped added metas chunks is out left kept within held inside = λ i. record {
     dropped = (out ∙ ap (λ b. cond b (with_id h.dropped n.id) h.dropped) is ∙ ap (λ (o : Option Node). with_dropped h.dropped o (get nodes p)) (sym found)) i;
     added = left i;
     metas = (kept ∙ within) i;
-    chunks = ap (filter (λ (e : Entry P). not (has_id_within (nodes_over h nodes) p e.0))) (sym none_held) i;
+    chunks = (held ∙ inside) i;
   }

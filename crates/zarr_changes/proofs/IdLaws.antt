@@ -84,7 +84,7 @@ insert_with xs k h =
     ∙ ap keys_of (sym (entries-put id8_cmp id_total id_exact (marks xs) k (tt {0}) (sorted-marks xs h)))
 
 -- ---- texts
-keys-texts : (es : List (Id8 × Meta)) → keys_of (text_rows es) ≡ keys_of es
+pub keys-texts : (es : List (Id8 × Meta)) → keys_of (text_rows es) ≡ keys_of es
 keys-texts [] = refl
 keys-texts (e ∷ es) = ap (λ (y : List Id8). e.0 ∷ y) (keys-texts es)
 

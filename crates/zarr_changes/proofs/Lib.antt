@@ -9,3 +9,7 @@ pub mod AddLaws
 pub mod TouchLaws
 pub mod EditLaws
 pub mod DropLaws
+pub mod EntryLaws
+pub mod EntryKept
+pub mod GridParts
+pub mod ChunkLaws

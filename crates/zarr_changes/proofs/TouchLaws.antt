@@ -4,7 +4,7 @@ use Rattle.std.specs.Prelude.{slice_get, nat_eq}
 use Rattle.std.specs.Option.{option_or}
 use Rattle.std.specs.Ordering.{eq_by_cmp, is_eq}
 use Rattle.std.specs.Cmp.{tied_itself}
-use Rattle.std.specs.List.{filter, list_any}
+use Rattle.std.specs.List.{filter, list_any, list_all}
 use Rattle.std.specs.FinMap as map
 use Rattle.std.specs.FinMap.{FinMap, get, insert, keys, contains_key-keys, entries, from_entries, len, len-entries, get-insert, get-from_entries, same_map}
 use Rattle.ice_ids.specs.declared.Id8.{Id8}
@@ -15,15 +15,14 @@ use Rattle.zarr_path.proofs.PathLaws.{by_numbers}
 use Rattle.zarr_meta.specs.declared.views.View.{View}
 use Rattle.zarr_meta.specs.declared.views.View.TheVariants as view
 use Rattle.zarr_meta.specs.Meta.{view_in}
-use Rattle.zarr_tree.specs.declared.lists.ArrayChunks.{ArrayChunks}
 use Rattle.zarr_tree.specs.declared.nodes.Found.{Found}
 use Rattle.zarr_tree.specs.Nodes.{Node, is_metadata, is_group, is_array, is_group_view, array_of_view}
 use Rattle.zarr_tree.specs.Changes.{is_gone}
 use Rattle.zarr_tree.specs.Touched.{lists, is_untouched}
-use Rattle.zarr_tree.specs.Held.{Held, Rows, meta_in, nodes_over, ids_in_order, ids_of, indices_in_order, indices_of, Entry, gone_rows, updated_rows, touched}
+use Rattle.zarr_tree.specs.Held.{Held, Rows, meta_in, nodes_over, ids_in_order, ids_of, Entry, gone_rows, updated_rows, written_rows, touched}
 use Rattle.zarr_changes.specs.declared.net.Kinds.{Kinds}
 use Rattle.zarr_changes.specs.Edits.{with_id}
-use Rattle.zarr_changes.specs.inside.Touching.{no_kinds, with_kind, with_kinds, IsOf, has_metadata, is_updated, touches_own}
+use Rattle.zarr_changes.specs.inside.Touching.{no_kinds, with_kind, with_kinds, IsOf, has_metadata, is_updated, touches_own, chunk_lists}
 use Rattle.zarr_changes.proofs.RowLaws.{entries-made, made_entries}
 use Rattle.zarr_changes.proofs.IdLaws.{id_total, id_exact, marks}
 use Rattle.zarr_changes.proofs.Walking.{nothing_gone}
@@ -208,7 +207,7 @@ touches_not true gone updated e f = ap (λ b. b || updated) e ∙ f
 touches_not false gone updated e f = refl
 
 -- ---- whether lists of ids are empty
-not_zero : (n : ℕ) → nat_eq (suc n) 0 ≡ false
+pub not_zero : (n : ℕ) → nat_eq (suc n) 0 ≡ false
 not_zero n = false_from_ne_true (nat_eq (suc n) 0) (λ e. let is : suc n ≡ 0 = (by_numbers (suc n) 0).0 e in omega arith)
 
 some_key : (m : Marks) (x : Id8) → get m x ≡ Some (tt {0}) → nat_eq (length (keys m)) 0 ≡ false
@@ -292,10 +291,6 @@ joined false false false false true false = refl
 joined false false false false false true = refl
 joined false false false false false false = refl
 
-and-all : (b c : Bool) → c ≡ true → (b && c) ≡ b
-and-all true c e = e
-and-all false c e = refl
-
 module _ {P : Type 0} (h : Held P) (nodes : FinMap path_cmp Node) where
   touches-rows : touches_own h nodes ≡ (has_metadata (gone_rows h nodes) || has_metadata (updated_rows h nodes))
   touches-rows =
@@ -303,23 +298,52 @@ module _ {P : Type 0} (h : Held P) (nodes : FinMap path_cmp Node) where
       ∙ (λ i. sym (any-filter (λ row. is_metadata row.1.text) (λ row. is_gone (lists h.dropped) nodes row.0) (entries nodes)) i
       || sym (any-filter (λ row. is_metadata row.1.text) (is_updated h nodes) (entries nodes)) i)
 
-  abbrev written : List Id8 → List ArrayChunks
-  written ids = map (λ id. record { node = id; chunks = indices_in_order (indices_of h.chunks id) }) ids
+  no_lists : nat_eq (length (touched h nodes).updated_chunks) 0 ≡ not (has_kind is_array (written_rows h nodes))
+  no_lists = as_many (ids_of is_array (written_rows h nodes)) ∙ empty-kind is_array (written_rows h nodes)
+    where
+      as_many : (ids : List Id8) → nat_eq (length (chunk_lists h.chunks ids)) 0 ≡ nat_eq (length ids) 0
+      as_many [] = refl
+      as_many (id ∷ ids) = not_zero (length (chunk_lists h.chunks ids)) ∙ sym (not_zero (length ids))
 
-  pub no_chunks : h.chunks ≡ [] → [] ≡ (touched h nodes).updated_chunks
-  no_chunks e =
-      ap written (sym no_ids)
-      ∙ ap (λ (rows : Rows). written (ids_of is_array rows))
-      (sym (ap (λ (chunks : List (Entry P)). filter (λ (row : List ℕ × Node). list_any (λ (entry : Entry P). same_id8 entry.0 row.1.id) chunks) (entries (nodes_over h nodes))) e
-      ∙ none_pass (λ row. list_any (λ (entry : Entry P). same_id8 entry.0 row.1.id) []) (λ row. refl) (entries (nodes_over h nodes))))
-
-  -- the changes are none where no node is added, none is gone and none has another text
-  pub untouched : h.chunks ≡ [] → is_untouched (touched h nodes) ≡ (not (has_metadata (entries h.added)) && not (touches_own h nodes))
-  untouched e =
-      and-all _ _ (sym (ap (λ (chunks : List ArrayChunks). nat_eq (length chunks) 0) (no_chunks e)))
-      ∙ (λ i. empty-kind is_group (entries h.added) i && (empty-kind is_array (entries h.added) i && (empty-kind is_group (gone_rows h nodes) i && (empty-kind is_array (gone_rows h nodes) i
+  no_nodes : list_all (λ (ids : List Id8). nat_eq (length ids) 0) ((touched h nodes).new_groups ∷ (touched h nodes).new_arrays ∷ (touched h nodes).deleted_groups ∷ (touched h nodes).deleted_arrays ∷ (touched h nodes).updated_arrays ∷ (touched h nodes).updated_groups ∷ [])
+      ≡ (not (has_metadata (entries h.added)) && not (touches_own h nodes))
+  no_nodes =
+      (λ i. empty-kind is_group (entries h.added) i && (empty-kind is_array (entries h.added) i && (empty-kind is_group (gone_rows h nodes) i && (empty-kind is_array (gone_rows h nodes) i
       && (empty-kind is_array (updated_rows h nodes) i && (empty-kind is_group (updated_rows h nodes) i && true))))))
       ∙ joined (has_kind is_group (entries h.added)) (has_kind is_array (entries h.added)) (has_kind is_group (gone_rows h nodes)) (has_kind is_array (gone_rows h nodes))
       (has_kind is_array (updated_rows h nodes)) (has_kind is_group (updated_rows h nodes))
       ∙ (λ i. not (sym (metadata-kinds (entries h.added)) i) && not ((sym (metadata-kinds (gone_rows h nodes)) i) || (sym (metadata-kinds (updated_rows h nodes)) i)))
       ∙ ap (λ b. not (has_metadata (entries h.added)) && not b) (sym touches-rows)
+
+  -- the changes are none where no node is added, none is gone, none has another text, and no array has entries
+  untouched : is_untouched (touched h nodes) ≡ ((not (has_metadata (entries h.added)) && not (touches_own h nodes)) && not (has_kind is_array (written_rows h nodes)))
+  untouched = λ i. no_nodes i && no_lists i
+
+  -- what each of the three tests tells
+  with_node : (a t w : Bool) → a ≡ false → false ≡ ((a && t) && w)
+  with_node true t w e = cc
+  with_node false t w e = refl
+
+  with_touch : (a t w : Bool) → t ≡ true → false ≡ ((a && not t) && w)
+  with_touch true true w e = refl
+  with_touch false true w e = refl
+  with_touch a false w e = cc
+
+  with_neither : (a t w : Bool) → a ≡ true → t ≡ false → w ≡ ((a && not t) && w)
+  with_neither true false w e f = refl
+  with_neither true true w e f = cc
+  with_neither false t w e f = cc
+
+  pub where_added : not (has_metadata (entries h.added)) ≡ false → false ≡ is_untouched (touched h nodes)
+  where_added e = with_node _ _ _ e ∙ sym untouched
+
+  pub where_touched : touches_own h nodes ≡ true → false ≡ is_untouched (touched h nodes)
+  where_touched e = with_touch _ _ _ e ∙ sym untouched
+
+  pub where_neither : not (has_metadata (entries h.added)) ≡ true → touches_own h nodes ≡ false → not (list_any (λ (row : List ℕ × Node). is_array row.1.text) (written_rows h nodes)) ≡ is_untouched (touched h nodes)
+  where_neither e f = with_neither _ _ _ e f ∙ sym untouched
+
+  pub nothing_written : h.chunks ≡ [] → written_rows h nodes ≡ []
+  nothing_written e =
+      ap (λ (chunks : List (Entry P)). filter (λ (row : List ℕ × Node). list_any (λ (entry : Entry P). same_id8 entry.0 row.1.id) chunks) (entries (nodes_over h nodes))) e
+      ∙ none_pass (λ row. list_any (λ (entry : Entry P). same_id8 entry.0 row.1.id) []) (λ row. refl) (entries (nodes_over h nodes))

@@ -9,7 +9,7 @@ ghost use Rattle.zarr_tree.specs.Touched.{lists};
 ghost use Rattle.zarr_tree.specs.Held.{nodes_over};
 ghost use Rattle.zarr_changes.specs.Edits.{without_node};
 ghost use Rattle.zarr_changes.specs.Sets.{drop_refusal, Enters};
-ghost use Rattle.zarr_changes.specs.inside.Own.{within_rows, texts_left};
+ghost use Rattle.zarr_changes.specs.inside.Own.{within_rows, texts_left, chunks_left};
 
 use crate::ids::IdSet;
 use crate::overlay::Overlay;
@@ -47,17 +47,18 @@ fn ids_within<B: TreeLike>(
 }
 
 impl ChangeSet {
-    /// The ids of the overlay's nodes at a path and beneath it, as far as other metadata may be theirs: where there is none,
-    /// the overlay isn't walked.
-    fn ids_with_texts<B: TreeLike>(
+    /// The ids of the overlay's nodes at a path and beneath it, as far as other metadata or entries may be theirs: where there
+    /// are neither, the overlay isn't walked.
+    fn ids_with_changes<B: TreeLike>(
         &self,
         alloc: Global,
         base: &B,
         path: &str,
     ) -> Result<IdSet, AllocError>
-        ensures { IfOk result (λ ids. texts_left self.now (lists ids) ≡ texts_left self.now (has_id_within (nodes_over self.now (B.nodes base.now)) path.now)) }
+        ensures texts { IfOk result (λ ids. texts_left self.now (lists ids) ≡ texts_left self.now (has_id_within (nodes_over self.now (B.nodes base.now)) path.now)) }
+        ensures chunks { IfOk result (λ ids. chunks_left self.now (lists ids) ≡ chunks_left self.now (has_id_within (nodes_over self.now (B.nodes base.now)) path.now)) }
     {
-        if self.metas.is_empty() {
+        if self.metas.is_empty() && self.entries.is_empty() {
             return Ok(IdSet::new(alloc));
         }
         ids_within(alloc, self.over(base), path)
@@ -78,12 +79,13 @@ impl ChangeSet {
             return Err(EditFault::NoNode);
         };
         let id = found.id;
-        let ids = self.ids_with_texts(alloc, base, text)?;
+        let ids = self.ids_with_changes(alloc, base, text)?;
         if has_own(base, text, id) {
             self.dropped.insert(id)?;
         }
         self.added.remove_within(text);
         self.metas.remove_all(&ids);
+        self.entries.remove_all(&ids);
         Ok(())
     }
 }

@@ -7,18 +7,28 @@
 mod added;
 mod adding;
 mod changing;
+mod chunks;
 mod dropping;
+mod entries;
 mod frozen;
 mod ids;
+mod keys;
 mod kinds;
 mod laws;
 mod listing;
 mod looking;
 mod net;
 mod overlay;
+mod places;
 mod set;
 mod texts;
+mod written;
 
-pub use laws::{added_law, drop_law, refusal_law, text_law};
+pub use chunks::{ChangedArray, ChunkAt};
+pub use keys::{ChangeKeys, ChunkKey};
+pub use laws::{
+    added_law, drop_law, refusal_law, set_law, set_refusal_law, taken_law, text_law, unset_law,
+    unset_refusal_law,
+};
 pub use overlay::{Overlay, Row};
 pub use set::ChangeSet;

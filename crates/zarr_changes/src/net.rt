@@ -10,20 +10,20 @@ use crate::added::AddedRows;
 use crate::ids::IdSet;
 use crate::kinds::is_group;
 use crate::set::ChangeSet;
-use ice_items::Items;
+use crate::written::chunk_lists;
 use std::alloc::{AllocError, Global};
 use zarr_tree::{Found, Touched, TreeLike};
 
 /// The ids of groups, and those of arrays.
 #[derive(Drop)]
-struct Kinds {
+pub(crate) struct Kinds {
     groups: IdSet,
     arrays: IdSet,
 }
 
 impl Kinds {
     /// No ids. It takes no memory.
-    fn new(alloc: Global) -> Kinds
+    pub(crate) fn new(alloc: Global) -> Kinds
         ensures { result ≡ no_kinds }
     {
         Kinds {
@@ -33,7 +33,7 @@ impl Kinds {
     }
 
     /// The id of one more node, by its kind.
-    fn enter(&mut self, found: Found<'_>) -> Result<(), AllocError>
+    pub(crate) fn enter(&mut self, found: Found<'_>) -> Result<(), AllocError>
         ensures { OnOk result (self.new ≡ with_kind self.old (node_found found.entry)) }
     {
         if is_group(found.meta) {
@@ -110,6 +110,8 @@ impl ChangeSet {
         let new = kinds_of(alloc, self.added.rows())?;
         let deleted = self.deleted(alloc, base)?;
         let updated = self.updated(alloc, base)?;
+        let written = self.written(alloc, base)?;
+        let arrays = written.arrays.items(alloc)?;
         Ok(Touched {
             new_groups: new.groups.items(alloc)?,
             new_arrays: new.arrays.items(alloc)?,
@@ -117,7 +119,7 @@ impl ChangeSet {
             deleted_arrays: deleted.arrays.items(alloc)?,
             updated_arrays: updated.arrays.items(alloc)?,
             updated_groups: updated.groups.items(alloc)?,
-            updated_chunks: Items::new(alloc),
+            updated_chunks: chunk_lists(alloc, &self.entries, arrays.as_slice())?,
         })
     }
 
@@ -141,6 +143,12 @@ impl ChangeSet {
     pub fn is_empty<B: TreeLike>(&self, base: &B) -> bool
         ensures { result ≡ is_untouched (touched self.now (B.nodes base.now)) }
     {
-        self.added.is_empty() && !self.touches_base(base)
+        if !self.added.is_empty() {
+            return false;
+        }
+        if self.touches_base(base) {
+            return false;
+        }
+        !self.has_written(base)
     }
 }

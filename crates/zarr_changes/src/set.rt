@@ -4,6 +4,7 @@ ghost use Rattle.std.specs.Prelude.{◌≡◌, IfOk};
 ghost use Rattle.zarr_changes.specs.Edits.{nothing};
 
 use crate::added::Added;
+use crate::entries::Entries;
 use crate::ids::IdSet;
 use crate::texts::Texts;
 use std::alloc::{AllocError, Global};
@@ -16,10 +17,10 @@ pub struct ChangeSet {
     pub(crate) added: Added,
     pub(crate) dropped: IdSet,
     pub(crate) metas: Texts,
+    pub(crate) entries: Entries,
 }
 
 impl Model for ChangeSet {
-    ghost use Rattle.std.specs.Prelude.{[]};
     ghost use Rattle.manifest_file.specs.declared.manifest.Place.{Place};
     ghost use Rattle.zarr_tree.specs.Held.{Held};
     ghost use Rattle.zarr_changes.specs.Codes.{coded_held, coded_place};
@@ -28,7 +29,7 @@ impl Model for ChangeSet {
 
     ghost coded = { coded_held coded_place };
 
-    ghost view = { λ s. record { dropped = s.dropped; added = s.added; metas = s.metas; chunks = [] } };
+    ghost view = { λ s. record { dropped = s.dropped; added = s.added; metas = s.metas; chunks = s.entries } };
 }
 
 impl ChangeSet {
@@ -40,6 +41,7 @@ impl ChangeSet {
             added: Added::new(alloc),
             dropped: IdSet::new(alloc),
             metas: Texts::new(alloc),
+            entries: Entries::new(alloc),
         }
     }
 
@@ -51,6 +53,7 @@ impl ChangeSet {
             added: self.added.copy(alloc)?,
             dropped: self.dropped.copy()?,
             metas: self.metas.copy(alloc)?,
+            entries: self.entries.copy(alloc)?,
         })
     }
 }

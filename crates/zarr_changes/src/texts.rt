@@ -1,6 +1,6 @@
 //! Metadata of nodes by their ids.
 
-ghost use Rattle.std.specs.Prelude.{◌≡◌, ◌==◌, [], length, not, IfOk, OnOk, OnErr, option_map};
+ghost use Rattle.std.specs.Prelude.{◌≡◌, ◌==◌, [], map, length, not, IfOk, OnOk, OnErr, option_map};
 ghost use Rattle.std.specs.List.{filter};
 ghost use Rattle.zarr_tree.specs.Touched.{lists};
 ghost use Rattle.zarr_tree.specs.Held.{meta_in};
@@ -8,6 +8,7 @@ ghost use Rattle.zarr_changes.specs.Edits.{with_row};
 
 use crate::ids::IdSet;
 use ice_ids::Id8;
+use ice_items::Items;
 use std::alloc::{AllocError, Global};
 use std::collections::BTreeMap;
 use std::marker::Model;
@@ -71,6 +72,17 @@ impl Texts {
         ensures { self.new ≡ filter (λ row. not (lists ids.now row.0)) self.old }
     {
         self.metas.retain(|id, _| !ids.contains(id));
+    }
+
+    /// The ids of the nodes that have metadata here, in their order.
+    pub(crate) fn ids(&self, alloc: Global) -> Result<Items<Id8>, AllocError>
+        ensures { IfOk result (λ ids. ids ≡ map (λ row. row.0) self.now) }
+    {
+        let mut ids = Items::new(alloc);
+        for (id, _) in self.metas.iter() {
+            ids.push(*id)?;
+        }
+        Ok(ids)
     }
 
     /// The same metadata once more.

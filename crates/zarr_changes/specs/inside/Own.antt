@@ -8,7 +8,7 @@ use Rattle.zarr_path.specs.Paths.{path_cmp, is_within}
 use Rattle.zarr_tree.specs.Nodes.{Node}
 use Rattle.zarr_tree.specs.Changes.{is_gone, patched}
 use Rattle.zarr_tree.specs.Touched.{lists}
-use Rattle.zarr_tree.specs.Held.{Held, Rows, meta_in}
+use Rattle.zarr_tree.specs.Held.{Held, Rows, Entry, meta_in}
 
 -- the tree's node at a path with its other text, if it isn't gone
 abbrev pub own_node : {P : Type 0} → Held P → FinMap path_cmp Node → (path : List ℕ) → Option Node
@@ -21,3 +21,7 @@ within_rows rows p id = list_any (λ row. is_within p row.0 && same_id8 row.1.id
 -- the other texts but those of these nodes
 abbrev pub texts_left : {P : Type 0} → Held P → (gone : Id8 → Bool) → List (Id8 × List ℕ)
 texts_left h gone = filter (λ row. not (gone row.0)) h.metas
+
+-- and the entries but those of these nodes
+abbrev pub chunks_left : {P : Type 0} → Held P → (gone : Id8 → Bool) → List (Entry P)
+chunks_left h gone = filter (λ entry. not (gone entry.0)) h.chunks

@@ -1,9 +1,7 @@
-use Rattle.std.proofs.Common.{◌≡◌, ◌+◌, ◌∙◌, inl, inr, arith, ℕ, Option, min, max, sym, ap, subst}
-use Rattle.std.specs.Prelude.{slice_index, MatchOption}
-use Rattle.std.proofs.lemmas.Bool.{cases_lt}
-use Rattle.manifest_file.specs.declared.manifest.ChunkRef.{ChunkRef}
-use Rattle.manifest_index.specs.Extents.{Has, IsExtent}
-use Rattle.manifest_index.proofs.Spans.{Spans, number, same_element, spans_next, greatest_is}
+use Rattle.std.proofs.Common.{◌∙◌, ◌+◌, arith, ℕ, min, max, sym, ap, subst}
+use Rattle.std.specs.Prelude.{slice_index}
+use Rattle.manifest_index.proofs.Spans.{Spans, number, same_element, spans_next}
+use Rattle.manifest_index.proofs.Least.{last_low}
 use Rattle.manifest_index.proofs.extents.extent_at.Goals as goal
 
 pub loop-chunk-preserved : goal.loop-chunk-preserved
@@ -20,11 +18,6 @@ loop-chunk-preserved c =
       c.max-last.type_inv,
     )
 
-pub returns-in_err-checked_add : goal.returns-in_err-checked_add
-returns-in_err-checked_add c =
-    let past : c.loop-chunk.last + 1 ≡ 4294967296 = elim (cases_lt (c.loop-chunk.last + 1) 4294967296) [
-      | inl fits ↦ absurd (c.in_err-checked_add.ensures fits)
-      | inr over ↦ omega (arith, c.loop-chunk.invariant.1)
-    ] in
-    let at : Has (λ r. slice_index r.index c.args.k + 1 ≡ 4294967296) c.args.refs.now = greatest_is c.args.k c.args.refs.now c.loop-chunk.chunk-index c.loop-chunk.first c.loop-chunk.last 4294967296 past c.loop-chunk.invariant.0 in
-    subst (λ (r : Option (ℕ × ℕ)). MatchOption r (Has (λ (r : ChunkRef). slice_index r.index c.args.k + 1 ≡ 4294967296) c.args.refs.now) (IsExtent c.args.k c.args.refs.now)) (sym c.from_residual.ensures) at
+pub overflow_add-result : goal.overflow_add-result
+overflow_add-result c =
+    omega (arith, last_low c.args.k c.args.refs.now c.loop-chunk.chunk-index c.loop-chunk.first c.loop-chunk.last c.requires.ranks c.requires.low c.loop-chunk.invariant.0)

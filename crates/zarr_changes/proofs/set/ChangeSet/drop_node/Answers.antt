@@ -8,10 +8,10 @@ use Rattle.zarr_tree.specs.Nodes.{Node}
 use Rattle.zarr_tree.specs.Rows.{node_found}
 use Rattle.zarr_tree.specs.Changes.{has_id, has_id_within}
 use Rattle.zarr_tree.specs.Touched.{lists}
-use Rattle.zarr_tree.specs.Held.{Held, nodes_over}
+use Rattle.zarr_tree.specs.Held.{Held, Entry, nodes_over}
 use Rattle.zarr_changes.specs.declared.set.ChangeSet.TheInside.{Inside}
 use Rattle.zarr_changes.specs.Edits.{with_id}
-use Rattle.zarr_changes.specs.inside.Own.{texts_left}
+use Rattle.zarr_changes.specs.inside.Own.{texts_left, chunks_left}
 use Rattle.zarr_changes.proofs.DropLaws.{drop_allowed, dropped_node}
 use Rattle.zarr_changes.proofs.set.ChangeSet.drop_node.Goals as goal
 use Rattle.zarr_changes.proofs.set.ChangeSet.drop_node.Goals.{then-has_own+in_ok-insert, else-has_own}
@@ -37,9 +37,15 @@ returns g c =
     c.remove_within.ensures ∙ (λ i. retain_keys (same_added i) (λ q. not (is_within (c.as_str-text.ensures.value i) q))) ∙ ap (λ (h : Held Place). retain_keys h.added (λ q. not (is_within p q))) c.self.view_is in
     let kept : c.remove_all.new.self ≡ filter (λ (row : Id8 × List ℕ). not (lists c.in_ok-ids.ids row.0)) held.metas =
     c.remove_all.ensures ∙ ap (filter (λ (row : Id8 × List ℕ). not (lists c.in_ok-ids.ids row.0))) (same_metas ∙ ap (λ (h : Held Place). h.metas) c.self.view_is) in
+    let same_entries : c.if-has_own.self-inside.entries ≡ c.self.inside.entries =
+    elim c.if-has_own.branch [ then-has_own+in_ok-insert w ↦ ap (λ (s : Inside). s.entries) w.self-inside-is | else-has_own w ↦ ap (λ (s : Inside). s.entries) w.self-inside-is ] in
+    let stay : c.remove_all-2.new.self ≡ chunks_left held (lists c.in_ok-ids.ids) =
+    c.remove_all-2.ensures ∙ ap (filter (λ (row : Entry Place). not (lists c.in_ok-ids.ids row.0))) (same_entries ∙ ap (λ (h : Held Place). h.chunks) c.self.view_is) in
+    let held_within : chunks_left held (lists c.in_ok-ids.ids) ≡ chunks_left held (has_id_within (nodes_over held nodes) p) =
+    c.in_ok-ids.ensures.chunks ∙ (λ i. chunks_left held (has_id_within (nodes_over held nodes) (c.as_str-text.ensures.value i))) in
     let within : texts_left held (lists c.in_ok-ids.ids) ≡ texts_left held (has_id_within (nodes_over held nodes) p) =
-    c.in_ok-ids.ensures ∙ (λ i. texts_left held (has_id_within (nodes_over held nodes) (c.as_str-text.ensures.value i))) in (
+    c.in_ok-ids.ensures.texts ∙ (λ i. texts_left held (has_id_within (nodes_over held nodes) (c.as_str-text.ensures.value i))) in (
       drop_allowed held nodes p n found,
-      dropped_node held nodes p n found c.has_own.result c.in_ok-ids.ids c.if-has_own.self-inside.dropped c.remove_within.new.self c.remove_all.new.self own
-          (out ∙ ap (λ (h : Held Place). cond c.has_own.result (with_id h.dropped n.id) h.dropped) c.self.view_is) left kept within (ap (λ (h : Held Place). h.chunks) (sym c.self.view_is)),
+      dropped_node held nodes p n found c.has_own.result c.in_ok-ids.ids c.if-has_own.self-inside.dropped c.remove_within.new.self c.remove_all.new.self c.remove_all-2.new.self own
+          (out ∙ ap (λ (h : Held Place). cond c.has_own.result (with_id h.dropped n.id) h.dropped) c.self.view_is) left kept within stay held_within,
     )

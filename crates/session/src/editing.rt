@@ -1,0 +1,148 @@
+//! Edits of nodes.
+
+ghost use Rattle.std.specs.Prelude.{◌≡◌};
+ghost use Rattle.session.specs.Editing.{Adds, Leaves, array_added, array_fault, entered, group_added, group_fault, meta_set, node_added, node_dropped, node_fault, refusal_of_edit};
+ghost use Rattle.session.specs.inside.Reads.{Reads};
+
+use crate::Session;
+use ice_ids::{Id8, Ids};
+use std::alloc::Global;
+use store_api::Refusal;
+use zarr_meta::{Meta, MetaFault, View};
+use zarr_path::Path;
+use zarr_tree::EditFault;
+
+/// A session refuses an edit as its tree does.
+pub(crate) fn refusal_of_edit(fault: EditFault) -> Refusal
+    ensures { result ≡ refusal_of_edit fault }
+{
+    match fault {
+        EditFault::NodeExists => Refusal::NodeExists,
+        EditFault::NoParent => Refusal::NoParent,
+        EditFault::Full => Refusal::Full,
+        EditFault::NoNode => Refusal::NoNode,
+        EditFault::FrozenField(part) => Refusal::FrozenField(part),
+        EditFault::NotArray => Refusal::NotArray,
+        EditFault::OutOfGrid => Refusal::OutOfGrid,
+        EditFault::ChunkLength { want, got } => Refusal::ChunkLength { want, got },
+        EditFault::NoMemory => Refusal::NoMemory,
+    }
+}
+
+/// The metadata that a text says, of a group or an array.
+fn node_meta(alloc: Global, text: &[u8]) -> Result<Meta, Refusal>
+    ensures { Reads node_fault text.now result }
+{
+    match Meta::read(alloc, text) {
+        Ok(meta) => Ok(meta),
+        Err(MetaFault::NoMemory) => Err(Refusal::NoMemory),
+        Err(fault) => Err(Refusal::BadMeta(fault)),
+    }
+}
+
+/// The metadata of a group that a text says.
+fn group_meta(alloc: Global, text: &[u8]) -> Result<Meta, Refusal>
+    ensures { Reads group_fault text.now result }
+{
+    let meta = node_meta(alloc, text)?;
+    match meta.view {
+        View::Group => Ok(meta),
+        View::Array(_) => Err(Refusal::BadMeta(MetaFault::NodeType)),
+    }
+}
+
+/// The metadata of an array that a text says.
+fn array_meta(alloc: Global, text: &[u8]) -> Result<Meta, Refusal>
+    ensures { Reads array_fault text.now result }
+{
+    let meta = node_meta(alloc, text)?;
+    match meta.view {
+        View::Group => Err(Refusal::BadMeta(MetaFault::NodeType)),
+        View::Array(_) => Ok(meta),
+    }
+}
+
+impl Session {
+    /// Adds a node with this metadata at a path, and answers its id.
+    fn add(&mut self, path: &Path, meta: Meta) -> Result<Id8, Refusal>
+        ensures { Adds (entered self.old path.now meta.text) self.old result self.new }
+    {
+        if let Err(fault) = self.changes.may_add(&self.loaded, path) {
+            return Err(refusal_of_edit(fault));
+        }
+        let Some(id) = self.ids.next8() else {
+            return Err(Refusal::IdsSpent);
+        };
+        if let Err(fault) = self.changes.add(self.alloc, &self.loaded, path, id, meta) {
+            return Err(refusal_of_edit(fault));
+        }
+        Ok(id)
+    }
+
+    /// Adds a group with this metadata at a path, and answers its id. It is refused by `ReadOnly`, `BadMeta` (the text is no
+    /// metadata, or an array's), `NodeExists`, `NoParent`, `Full`, `IdsSpent` or `NoMemory`, the first in this order. A
+    /// refused session is as before, apart from one id that may have been drawn where memory ran out.
+    pub fn add_group(&mut self, path: &Path, text: &[u8]) -> Result<Id8, Refusal>
+        ensures { Adds (group_added self.old path.now text.now) self.old result self.new }
+    {
+        if !self.writes {
+            return Err(Refusal::ReadOnly);
+        }
+        let meta = group_meta(self.alloc, text)?;
+        self.add(path, meta)
+    }
+
+    /// Adds an array with this metadata at a path, and answers its id. It is refused as [`Session::add_group`] is, by
+    /// `BadMeta` where the text is no metadata, or a group's.
+    pub fn add_array(&mut self, path: &Path, text: &[u8]) -> Result<Id8, Refusal>
+        ensures { Adds (array_added self.old path.now text.now) self.old result self.new }
+    {
+        if !self.writes {
+            return Err(Refusal::ReadOnly);
+        }
+        let meta = array_meta(self.alloc, text)?;
+        self.add(path, meta)
+    }
+
+    /// Adds a group or an array, as the text says, and answers its id. It is refused as [`Session::add_group`] is, by
+    /// `BadMeta` where the text is no metadata.
+    pub fn add_node(&mut self, path: &Path, text: &[u8]) -> Result<Id8, Refusal>
+        ensures { Adds (node_added self.old path.now text.now) self.old result self.new }
+    {
+        if !self.writes {
+            return Err(Refusal::ReadOnly);
+        }
+        let meta = node_meta(self.alloc, text)?;
+        self.add(path, meta)
+    }
+
+    /// Gives the node at a path this metadata. It is refused by `ReadOnly`, `BadMeta`, `NoNode`, `FrozenField` (with the first
+    /// part that differs and has to stay: the type of node, the rank, the data type, the chunk grid, the codecs) or `NoMemory`,
+    /// the first in this order, and the session is as before.
+    pub fn set_meta(&mut self, path: &Path, text: &[u8]) -> Result<(), Refusal>
+        ensures { Leaves (meta_set self.old path.now text.now) self.old result self.new }
+    {
+        if !self.writes {
+            return Err(Refusal::ReadOnly);
+        }
+        let meta = node_meta(self.alloc, text)?;
+        match self.changes.set_meta(self.alloc, &self.loaded, path, meta) {
+            Ok(()) => Ok(()),
+            Err(fault) => Err(refusal_of_edit(fault)),
+        }
+    }
+
+    /// Takes away the node at a path and all beneath it. It is refused by `ReadOnly`, `NoNode` or `NoMemory`, the first in
+    /// this order, and the session is as before.
+    pub fn drop_node(&mut self, path: &Path) -> Result<(), Refusal>
+        ensures { Leaves (node_dropped self.old path.now) self.old result self.new }
+    {
+        if !self.writes {
+            return Err(Refusal::ReadOnly);
+        }
+        match self.changes.drop_node(self.alloc, &self.loaded, path) {
+            Ok(()) => Ok(()),
+            Err(fault) => Err(refusal_of_edit(fault)),
+        }
+    }
+}

@@ -1,0 +1,4 @@
+pub mod Keys
+pub mod Calls
+pub mod Laws
+pub mod inside
