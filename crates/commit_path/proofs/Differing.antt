@@ -1,5 +1,6 @@
 -- The log of a commit tells all in which the tree of its snapshot differs from its base's, where that is well formed.
-use Rattle.std.proofs.Common.{◌≡◌, ◌⊎◌, inl, inr, ℕ, Bool, true, false, ◌||◌, List, [], Option, Some, None, refl, sym, ap, subst, ◌∙◌}
+use Rattle.std.proofs.Common.{◌≡◌, ◌⊎◌, inl, inr, ℕ, Bool, true, false, ◌||◌, List, Option, Some, None, refl, sym, ap, subst, ◌∙◌}
+use Rattle.std.specs.Prelude.{is_some, option_map, option_and_then}
 use Rattle.std.specs.Option.{unwrap_or}
 use Rattle.std.specs.FinMap.{FinMap, get}
 use Rattle.zarr_path.specs.Paths.{path_cmp}
@@ -8,29 +9,31 @@ use Rattle.zarr_tree.specs.Nodes.{Node, is_array, SameFrozen}
 use Rattle.zarr_tree.specs.Trees.{Tree, node_at, IsWellFormed}
 use Rattle.zarr_tree.specs.Changes.{Changes, patched, has_id}
 use Rattle.zarr_tree.specs.Touched.{Touches, DiffersIn, lists, lists_chunk, lists_new}
-use Rattle.zarr_tree.specs.Held.{meta_in, touched}
+use Rattle.zarr_tree.specs.Held.{meta_in, entry_in, touched}
 use Rattle.zarr_tree.proofs.NodeLaws.{frozen-refl}
 use Rattle.zarr_tree.proofs.Apply.{Own, node_cases}
 use Rattle.zarr_tree.proofs.Listing.{touched-law}
 use Rattle.zarr_tree.proofs.Differing.{differs-law}
 use Rattle.manifest_file.specs.declared.manifest.Place.{Place}
 use Rattle.repo_objects.specs.Trees.{Puts, bytes_at, tree_under}
+use Rattle.changed_snapshot.specs.declared.written.NewList.{NewList}
 use Rattle.changed_snapshot.specs.Rows.{rows_over}
+use Rattle.changed_snapshot.specs.Laws.{AreMerged}
 use Rattle.changed_snapshot.proofs.NodesHold.{nodes_hold}
 use Rattle.changed_snapshot.proofs.TreeHolds.{chunk-at}
 use Rattle.session.specs.Sessions.{SessionState, base_nodes, base_tree, changes_in, overlay}
 use Rattle.commit_path.specs.Spelled.{IsOtherText, IsSpelled}
-use Rattle.commit_path.proofs.Spelling.{lies-over, ranked-none, merged-none}
+use Rattle.commit_path.proofs.Spelling.{lies-over}
 
 -- the tree of a session's snapshot
-abbrev pub snap_tree : Puts → SessionState → Tree
-snap_tree puts s = tree_under puts (rows_over s.held [] s.rows)
+abbrev pub snap_tree : Puts → SessionState → List NewList → Tree
+snap_tree puts s news = tree_under puts (rows_over s.held news s.rows)
 
 or-right : (a b : Bool) → b ≡ true → (a || b) ≡ true
 or-right true b h = refl
 or-right false b h = h
 
-module _ (puts : Puts) (s : SessionState) (w : IsSpelled s) (wf : IsWellFormed (base_tree puts s)) where
+module _ (puts : Puts) (s : SessionState) (news : List NewList) (w : IsSpelled s) (merged : AreMerged puts s.held s.rows news) (wf : IsWellFormed (base_tree puts s)) where
   abbrev c : Changes
   c = changes_in puts s
 
@@ -65,7 +68,7 @@ module _ (puts : Puts) (s : SessionState) (w : IsSpelled s) (wf : IsWellFormed (
           subst (λ (x : Node). SameFrozen x.text other) node is.frozen
 
   abbrev SameChunk : List ℕ → List ℕ → Node → Type 0
-  SameChunk p i n = ((snap_tree puts s).chunk p i ≡ t.chunk p i) ⊎ ((lists_chunk log.updated_chunks n.id i || lists_new log n.id) ≡ true)
+  SameChunk p i n = ((snap_tree puts s news).chunk p i ≡ t.chunk p i) ⊎ ((lists_chunk log.updated_chunks n.id i || lists_new log n.id) ≡ true)
 
   chunks : (p i : List ℕ) (m n : Node) → node_at t p ≡ Some m → node_at (overlay puts s) p ≡ Some n → m.id ≡ n.id → is_array n.text ≡ true → SameChunk p i n
   chunks p i m n was is same array = by_case (node_cases c t p n is)
@@ -79,18 +82,29 @@ module _ (puts : Puts) (s : SessionState) (w : IsSpelled s) (wf : IsWellFormed (
       by_case (inl added) =
           inr (or-right (lists_chunk log.updated_chunks n.id i) (lists_new log n.id)
           (or-right (lists log.new_groups n.id) (lists log.new_arrays n.id) ((touches.new_arrays n.id).1 (record { path = p; node = n; added = added; same = λ j. n.id; kind_of = array }))))
-      by_case (inr own) =
-          let chunk : (snap_tree puts s).chunk p i ≡ (overlay puts s).chunk p i = chunk-at puts s.held [] s.rows p i (keeps own) (λ x array f a h. ranked-none s w p x array i f a h) (record { written = (merged-none puts s w).written p; others = (merged-none puts s w).others p }) in
-          by_changed chunk (by_changes.chunks p i m n was is same array)
+      by_case (inr own) = by_entry (entry_in s.held.chunks n.id i) refl
         where
-          by_changed : (snap_tree puts s).chunk p i ≡ (overlay puts s).chunk p i → ((overlay puts s).chunk p i ≡ t.chunk p i) ⊎ ((lists_chunk log.updated_chunks n.id i || lists_new log n.id) ≡ true) → SameChunk p i n
+          by_changed : (snap_tree puts s news).chunk p i ≡ (overlay puts s).chunk p i → ((overlay puts s).chunk p i ≡ t.chunk p i) ⊎ ((lists_chunk log.updated_chunks n.id i || lists_new log n.id) ≡ true) → SameChunk p i n
           by_changed chunk (inl e) = inl (chunk ∙ e)
           by_changed chunk (inr e) = inr e
 
-  same_node : (p : List ℕ) → node_at (snap_tree puts s) p ≡ node_at (overlay puts s) p
-  same_node p = ap (λ (nodes : FinMap path_cmp Node). get nodes p) (nodes_hold s.held [] s.rows)
+          -- an index with an entry is listed; at another one the new list has what the old one had
+          by_entry : (o : Option (Option Place)) → entry_in s.held.chunks n.id i ≡ o → SameChunk p i n
+          by_entry (Some entry) e =
+              let listed = (touches.updated_chunks n.id i).1 (record { path = p; node = n; found = is; same = refl; kind_of = array; entry = ap (λ (o : Option (Option Place)). is_some (option_map (λ place. option_and_then (bytes_at puts) place) o)) e }) in
+              inr (ap (λ b. b || lists_new log n.id) listed)
+          by_entry None e =
+              by_changed
+              (chunk-at puts s.held news s.rows p i (keeps own) (λ m view f a some. let none_there : is_some (entry_in s.held.chunks m.id i) ≡ false = not-some m f in cc) (record { written = merged.written p; others = merged.others p }))
+              (by_changes.chunks p i m n was is same array)
+            where
+              not-some : (m : Node) → node_at (overlay puts s) p ≡ Some m → is_some (entry_in s.held.chunks m.id i) ≡ false
+              not-some m f = let node : n ≡ m = cc (sym is ∙ f) in subst (λ (x : Node). is_some (entry_in s.held.chunks x.id i) ≡ false) node (ap is_some e)
 
-  pub differs-over : DiffersIn (touched s.held (base_nodes s)) (base_tree puts s) (snap_tree puts s)
+  same_node : (p : List ℕ) → node_at (snap_tree puts s news) p ≡ node_at (overlay puts s) p
+  same_node p = ap (λ (nodes : FinMap path_cmp Node). get nodes p) (nodes_hold s.held news s.rows)
+
+  pub differs-over : DiffersIn (touched s.held (base_nodes s)) (base_tree puts s) (snap_tree puts s news)
   differs-over =
       let d = by_changes in
       record {

@@ -1,9 +1,8 @@
 -- What a session knows, and that it can be written, stays so through edits of nodes.
-use Rattle.std.proofs.Common.{◌≡◌, ◌⊎◌, inl, inr, ℕ, ◌≤◌, Bool, true, false, cond, not, List, [], refl, sym, ◌∙◌, ap, subst}
+use Rattle.std.proofs.Common.{◌≡◌, ◌⊎◌, inl, inr, ℕ, ◌≤◌, Bool, true, false, cond, not, List, refl, sym, ◌∙◌, ap, subst}
 use Rattle.std.specs.Prelude.{Option, Some, None, is_some, unwrap_or, Result, Ok, Err}
 use Rattle.std.specs.Result.{result_ok}
 use Rattle.std.specs.Str.{is_utf8}
-use Rattle.std.specs.List.{filter}
 use Rattle.std.specs.FinMap.{FinMap, get, insert, len}
 use Rattle.std.proofs.lemmas.Str.{IsUtf8-from_is_utf8}
 use Rattle.ice_ids.specs.declared.Id8.{Id8}
@@ -21,35 +20,39 @@ use Rattle.zarr_tree.specs.Nodes.{Node, is_metadata, SameFrozen}
 use Rattle.zarr_tree.specs.Trees.{Tree, node_at}
 use Rattle.zarr_tree.specs.Edits.{most_nodes, Add, SetMeta, Drop, refusal, with_text}
 use Rattle.zarr_tree.specs.Changes.{Changes, has_id_within, nodes_under, apply, with_meta, extended, IsOver}
-use Rattle.zarr_tree.specs.Held.{Held, Entry, changes_of, nodes_over}
+use Rattle.zarr_tree.specs.Held.{Held, Entry, entry_in, changes_of, nodes_over}
 use Rattle.zarr_tree.proofs.Maps.{get-put, get-where}
 use Rattle.zarr_tree.proofs.NodeLaws.{frozen-trans}
 use Rattle.zarr_tree.proofs.Apply.{id-true, Own, node_cases}
 use Rattle.zarr_tree.proofs.Extend.{own-id, Kept, kept_of}
 use Rattle.zarr_tree.proofs.Over.{over-law}
-use Rattle.zarr_changes.specs.Edits.{with_added, with_text_at, without_node}
+use Rattle.zarr_changes.specs.Edits.{with_added, with_text_at, without_node, with_entry, without_entry}
 use Rattle.zarr_changes.specs.Edits as held
 use Rattle.zarr_changes.specs.Sets.{add_refusal, text_refusal, drop_refusal}
 use Rattle.zarr_changes.proofs.EditLaws.{text-law}
 use Rattle.zarr_changes.proofs.DropLaws.{drop-law}
 use Rattle.manifest_file.specs.declared.manifest.Place.{Place}
+use Rattle.manifest_file.specs.declared.manifest.Place.TheVariants.{Object}
 use Rattle.changed_snapshot.specs.Laws.{IsFineNode}
 use Rattle.store_api.specs.declared.events.Event.{Event}
 use Rattle.store_api.specs.declared.machines.Refusal.{Refusal}
+use Rattle.store_api.specs.Journal.{puts_of, IsOnce}
 use Rattle.session.specs.Sessions.{SessionState, base_nodes, nodes_seen}
 use Rattle.session.specs.Editing.{if_writes, unless_bad, unless_refused, drawn_node, with_node, added, node_fault, meta_set, node_dropped}
 use Rattle.session.specs.Editing as session
 use Rattle.session.proofs.Adding.{few-after}
 use Rattle.session.proofs.Changing.{few-set, few-dropped}
-use Rattle.commit_path.specs.Opened.{IsOpened}
-use Rattle.commit_path.specs.Spelled.{IsOtherText, IsSpelled}
+use Rattle.commit_path.specs.Owed.{HasChunks}
+use Rattle.commit_path.specs.Opened.{ObjectsPut, IsOpened}
+use Rattle.commit_path.specs.Spelled.{IsOtherText, AreSized, IsSpelled}
+use Rattle.commit_path.proofs.Entries.{AreFewer, filter-fewer}
 use Rattle.commit_path.specs.Laws.{TellsFaults}
 
 abbrev Nodes : Type 0
 Nodes = FinMap path_cmp Node
 
 -- ---- what an edit that was done says
-written : {A : Type 0} (w : Bool) (r : Result A Refusal) (x : A) → if_writes w r ≡ Ok x → r ≡ Ok x
+pub written : {A : Type 0} (w : Bool) (r : Result A Refusal) (x : A) → if_writes w r ≡ Ok x → r ≡ Ok x
 written true r x e = e
 written false r x e = cc
 
@@ -57,11 +60,11 @@ good : {A : Type 0} (o : Option MetaFault) (r : Result A Refusal) (x : A) → un
 good None r x e = (refl, e)
 good (Some fault) r x e = cc
 
-taken : {A : Type 0} (o : Option EditFault) (r : Result A Refusal) (x : A) → unless_refused o r ≡ Ok x → (o ≡ None) × (r ≡ Ok x)
+pub taken : {A : Type 0} (o : Option EditFault) (r : Result A Refusal) (x : A) → unless_refused o r ≡ Ok x → (o ≡ None) × (r ≡ Ok x)
 taken None r x e = (refl, e)
 taken (Some fault) r x e = cc
 
-result_same : {A : Type 0} (x y : A) → ◌≡◌ {A = Result A Refusal} (Ok x) (Ok y) → x ≡ y
+pub result_same : {A : Type 0} (x y : A) → ◌≡◌ {A = Result A Refusal} (Ok x) (Ok y) → x ≡ y
 result_same x y e = cc
 
 -- a text without fault is metadata
@@ -230,20 +233,30 @@ changes h = changes_of (λ place. None) h
 fine-of : (s : SessionState) → IsSpelled s → Fine (base_nodes s) (changes s.held)
 fine-of s w = record { adds = w.added; texts = w.texts; frozen = w.frozen; over = record { readable = λ p n e. (w.added p n e).metadata; free = w.free } }
 
-spelled-by : (s : SessionState) (h : Held Place) (ids : AnyIds) → IsSpelled s → Fine (base_nodes s) (changes h) → h.chunks ≡ [] → len (nodes_over h (base_nodes s)) ≤ most_nodes → IsSpelled (record s { held = h; ids = ids })
-spelled-by s h ids w f none few = record {
+spelled-by : (s : SessionState) (h : Held Place) (ids : AnyIds) → IsSpelled s → Fine (base_nodes s) (changes h) → AreSized h.chunks → len (nodes_over h (base_nodes s)) ≤ most_nodes → IsSpelled (record s { held = h; ids = ids })
+spelled-by s h ids w f sized few = record {
   base = w.base;
   of_snapshot = record { file = w.of_snapshot.file; proper = w.of_snapshot.proper; rows = w.of_snapshot.rows; files = w.of_snapshot.files };
   added = f.adds;
   texts = f.texts;
   frozen = f.frozen;
   free = f.over.free;
-  chunks = none;
+  chunks = sized;
   few = few;
 }
 
-opened-by : (s : SessionState) (h : Held Place) (ids : AnyIds) (journal : List Event) → IsOpened s journal → IsOpened (record s { held = h; ids = ids }) journal
-opened-by s h ids journal o = record { named_by = o.named_by; named = o.named; names = o.names; put = o.put; had = o.had; rows = o.rows }
+pub opened-by : (s : SessionState) (h : Held Place) (ids : AnyIds) (journal : List Event) → IsOpened s journal → ObjectsPut journal h.chunks → (IsOnce journal → HasChunks (puts_of journal) h.chunks) → IsOpened (record s { held = h; ids = ids }) journal
+opened-by s h ids journal o objects chunks = record { named_by = o.named_by; named = o.named; names = o.names; put = o.put; had = o.had; rows = o.rows; objects = objects; chunks = chunks }
+
+-- ---- fewer entries
+pub sized-fewer : (old new : List (Entry Place)) → AreFewer old new → AreSized old → AreSized new
+sized-fewer old new f z node i entry e = z node i entry (f node i entry e)
+
+pub fewer-opened : (s : SessionState) (h : Held Place) (ids : AnyIds) (journal : List Event) → AreFewer s.held.chunks h.chunks → IsOpened s journal → IsOpened (record s { held = h; ids = ids }) journal
+fewer-opened s h ids journal f o = opened-by s h ids journal o (λ node i id offset size e. o.objects node i id offset size (f node i (Some (Object id offset size)) e)) (λ once node i place e. o.chunks once node i place (f node i (Some place) e))
+
+same-fewer : (old new : List (Entry Place)) → new ≡ old → AreFewer old new
+same-fewer old new same node i x e = ap (λ (rows : List (Entry Place)). entry_in rows node i) (sym same) ∙ e
 
 pub added-spelled : (s t : SessionState) (path text : List ℕ) (id : Id8) → Added s t path text id → is_path path ≡ true → is_utf8 path ≡ true → IsSpelled s → IsSpelled t
 added-spelled s t path text id a is_a utf8 w =
@@ -254,12 +267,15 @@ added-spelled s t path text id a is_a utf8 w =
     (few-after s.held (with_added s.held path new) (base_nodes s) path new a.allowed refl))
 
 pub added-opened : (s t : SessionState) (path text : List ℕ) (id : Id8) (journal : List Event) → Added s t path text id → IsOpened s journal → IsOpened t journal
-added-opened s t path text id journal a o = subst (λ (x : SessionState). IsOpened x journal) (sym a.is) (opened-by s (with_added s.held path (record { id = id; text = text })) (after8 s.ids) journal o)
+added-opened s t path text id journal a o = subst (λ (x : SessionState). IsOpened x journal) (sym a.is) (opened-by s (with_added s.held path (record { id = id; text = text })) (after8 s.ids) journal o o.objects o.chunks)
 
 same_chunks : (h : Held Place) (p text : List ℕ) (a u : Option Node) → (held.with_meta h p text a u).chunks ≡ h.chunks
 same_chunks h p text (Some m) u = refl
 same_chunks h p text None (Some m) = refl
 same_chunks h p text None None = refl
+
+text-fewer : (s : SessionState) (path text : List ℕ) → AreFewer s.held.chunks (with_text_at s.held (base_nodes s) path text).chunks
+text-fewer s path text = same-fewer s.held.chunks (with_text_at s.held (base_nodes s) path text).chunks (same_chunks s.held path text (get s.held.added path) (get (nodes_over s.held (base_nodes s)) path))
 
 pub set-spelled : (s t : SessionState) (path text : List ℕ) → TextSet s t path text → IsSpelled s → IsSpelled t
 set-spelled s t path text a w =
@@ -267,20 +283,22 @@ set-spelled s t path text a w =
     let h = with_text_at s.held nodes path text in
     let fine = fine-set nodes (changes s.held) (fine-of s w) path text a.metadata a.allowed in
     subst IsSpelled (sym a.is)
-    (spelled-by s h s.ids w (subst (Fine nodes) (sym (text-law {P = Place} (λ place. None) s.held (bare nodes) path text)) fine)
-    (same_chunks s.held path text (get s.held.added path) (get (nodes_over s.held nodes) path) ∙ w.chunks) (few-set s.held nodes path text h (Ok tt) w.few (a.allowed, refl)))
+    (spelled-by s h s.ids w (subst (Fine nodes) (sym (text-law {P = Place} (λ place. None) s.held (bare nodes) path text)) fine) (sized-fewer s.held.chunks h.chunks (text-fewer s path text) w.chunks)
+    (few-set s.held nodes path text h (Ok tt) w.few (a.allowed, refl)))
 
 pub set-opened : (s t : SessionState) (path text : List ℕ) (journal : List Event) → TextSet s t path text → IsOpened s journal → IsOpened t journal
-set-opened s t path text journal a o = subst (λ (x : SessionState). IsOpened x journal) (sym a.is) (opened-by s (with_text_at s.held (base_nodes s) path text) s.ids journal o)
+set-opened s t path text journal a o = subst (λ (x : SessionState). IsOpened x journal) (sym a.is) (fewer-opened s (with_text_at s.held (base_nodes s) path text) s.ids journal (text-fewer s path text) o)
+
+drop-fewer : (s : SessionState) (path : List ℕ) → AreFewer s.held.chunks (without_node s.held (base_nodes s) path).chunks
+drop-fewer s path = filter-fewer (λ node j. not (has_id_within (nodes_over s.held (base_nodes s)) path node)) s.held.chunks
 
 pub dropped-spelled : (s t : SessionState) (path : List ℕ) → Dropped s t path → IsSpelled s → IsSpelled t
 dropped-spelled s t path a w =
     let nodes = base_nodes s in
     let h = without_node s.held nodes path in
     let fine = fine-drop nodes (changes s.held) (fine-of s w) path a.allowed in
-    let none : h.chunks ≡ [] = ap (λ (es : List (Entry Place)). filter (λ (e : Entry Place). not (has_id_within (nodes_over s.held nodes) path e.0)) es) w.chunks in
     subst IsSpelled (sym a.is)
-    (spelled-by s h s.ids w (subst (Fine nodes) (sym (drop-law {P = Place} (λ place. None) s.held (bare nodes) path)) fine) none (few-dropped s.held nodes path h (Ok tt) w.few (a.allowed, refl)))
+    (spelled-by s h s.ids w (subst (Fine nodes) (sym (drop-law {P = Place} (λ place. None) s.held (bare nodes) path)) fine) (sized-fewer s.held.chunks h.chunks (drop-fewer s path) w.chunks) (few-dropped s.held nodes path h (Ok tt) w.few (a.allowed, refl)))
 
 pub dropped-opened : (s t : SessionState) (path : List ℕ) (journal : List Event) → Dropped s t path → IsOpened s journal → IsOpened t journal
-dropped-opened s t path journal a o = subst (λ (x : SessionState). IsOpened x journal) (sym a.is) (opened-by s (without_node s.held (base_nodes s) path) s.ids journal o)
+dropped-opened s t path journal a o = subst (λ (x : SessionState). IsOpened x journal) (sym a.is) (fewer-opened s (without_node s.held (base_nodes s) path) s.ids journal (drop-fewer s path) o)

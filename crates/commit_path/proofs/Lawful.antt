@@ -1,7 +1,6 @@
 -- The laws of openings and commits.
 use Rattle.std.proofs.Common.{◌≡◌, refl, List, ◌++◌, Result, Ok, Err}
 use Rattle.std.specs.Prelude.{IfOk}
-use Rattle.ice_ids.proofs.Drawn.{drawn12-IsId12}
 use Rattle.store_api.specs.declared.events.Event.{Event}
 use Rattle.store_api.specs.declared.machines.Refusal.{Refusal}
 use Rattle.store_api.specs.Journal.{Each}
@@ -17,10 +16,14 @@ use Rattle.commit_path.specs.Spelled.{IsSpelled}
 use Rattle.commit_path.specs.Laws.{OpeningLaw, SessionLaw, CommitLaw, AnswersLaw}
 use Rattle.commit_path.proofs.Spelling.{Spellings}
 use Rattle.commit_path.proofs.Editing.{node-added, added-spelled, added-opened, text-set, set-spelled, set-opened, node-dropped, dropped-spelled, dropped-opened}
-use Rattle.commit_path.proofs.Owing.{IsOpened-append, commit-careful}
-use Rattle.commit_path.proofs.Opened.{Opens, open-careful, open-leads, start-started, started-opened, started-spelled, started-short}
-use Rattle.commit_path.proofs.Answering.{ChangedNothing-others, CommitTells-others, commit-told}
-use Rattle.commit_path.proofs.Staying.{open-stays, commit-stays}
+use Rattle.commit_path.proofs.Setting.{chunk-set, chunk-spelled, chunk-opened, chunk-unset, without-spelled, without-opened}
+use Rattle.session.specs.Sources.{MayDrawObject}
+use Rattle.commit_path.proofs.Knowing.{IsOpened-append}
+use Rattle.commit_path.proofs.Happening.{ChangedNothing-others}
+use Rattle.commit_path.proofs.Opened.{Opens, open-careful, open-leads}
+use Rattle.commit_path.proofs.Answering.{commit-walks}
+use Rattle.commit_path.proofs.Lasting.{CommitTells-others}
+use Rattle.commit_path.proofs.Staying.{open-stays}
 use Rattle.commit_path.proofs.Reading.{GetsTell, Leads-both, WasBegun-append, RefusalTells-others, open-told}
 
 opened-both : (by : Caller) (a : Asked) (start : List Event) (answer : Result SessionState Refusal) (h : List Event) → GetsTell by.number a start answer h × Opens a answer h → OpeningTells by.number a start answer h × IfOk answer IsSpelled
@@ -34,31 +37,33 @@ opening-told L by a start journal c =
     (Leads-both (GetsTell by.number a start) (Opens a) by (open_program a) journal (open-told by a start journal c) (open-leads L by a journal))
 
 pub opening-law : Spellings → OpeningLaw
-opening-law L by a start journal c = (open-careful by (λ t id. ⊥) a journal, open-stays by start a journal c, opening-told L by a start journal c)
+opening-law L by ids a start journal c = (open-careful by ids (λ t id. ⊥) a journal, open-stays by start a journal c, opening-told L by a start journal c)
 
 pub session-law : SessionLaw
 session-law = record {
   adds = λ fault s t path text id journal tells is_a utf8 e w o.
       let a = node-added fault s t path text id tells e in
       (added-spelled s t path text id a is_a utf8 w, added-opened s t path text id journal a o);
-  sets = λ s t path text journal e w o.
+  texts = λ s t path text journal e w o.
       let a = text-set s t path text e in
       (set-spelled s t path text a w, set-opened s t path text journal a o);
   drops = λ s t path journal e w o.
       let a = node-dropped s t path e in
       (dropped-spelled s t path a w, dropped-opened s t path journal a o);
+  sets = λ s t path index bytes journal b e w o.
+      let a = chunk-set s t path index bytes e in
+      (chunk-spelled s t path index bytes a b w, chunk-opened s t path index bytes journal a o);
+  unsets = λ s t path index journal e w o.
+      let a = chunk-unset s t path index e in
+      (without-spelled s t path index a w, without-opened s t path index journal a o);
   kept = IsOpened-append;
 }
 
 pub commit-law : Spellings → CommitLaw
-commit-law L by s t message id start journal e m w o c =
-    let a = start-started s t id e in
-    let mine : Sessions = λ u i. (u ≡ t) × (i ≡ id) in
-    let is_id = drawn12-IsId12 s.ids id a.drawn in
-    let w' = started-spelled s t id a w in
-    let o' = started-opened s t id journal a o in
-    let logs = started-short s t id a in
-    (commit-careful L by mine t message id (refl, refl) is_id w' m logs journal o', commit-stays by start t message id journal c, commit-told L by t message id is_id w' m logs start journal o' c)
+commit-law L by ids s message start journal later m w o c =
+    let mine : Sessions = λ t id. (t ≡ s) × MayDrawObject s.ids id in
+    let all = commit-walks L by ids mine s message later w m start (λ id drawn. (refl, drawn)) journal o c in
+    (all.keeps, all.stays, all.leads)
 
 OpeningTells-others : (by : Caller) (a : Asked) (answer : Result SessionState Refusal) (start journal more : List Event) → Each (IsOther by) journal more → OpeningTells by.number a start answer journal → OpeningTells by.number a start answer (journal ++ more)
 OpeningTells-others by a (Ok s) start journal more others t = (WasBegun-append by.number a s start journal more t.0, IsOpened-append s journal more (good-waits by journal more others) t.1, ChangedNothing-others by start journal more others t.2)
@@ -67,5 +72,5 @@ OpeningTells-others by a (Err why) start journal more others t = RefusalTells-ot
 pub answers-law : AnswersLaw
 answers-law = record {
   opening = OpeningTells-others;
-  commit = λ by s message id answer start journal more others. CommitTells-others by start journal more others s message id answer;
+  commit = λ by s message answer start journal more others. CommitTells-others by start journal more others s message answer;
 }

@@ -1,21 +1,19 @@
--- What an opening keeps, what a session knows that was opened, and what it knows when a commit begins.
+-- What an opening keeps, and what a session knows that was opened.
 use Rattle.std.proofs.Common.{◌≡◌, ℕ, ◌+◌, ◌≤◌, Bool, true, false, cond, List, [], ◌∷◌, ◌++◌, map, length, refl, sym, ◌∙◌, ap, subst, arith}
-use Rattle.std.specs.Prelude.{Option, Some, None, option_map, Result, Ok, Err, if◌then◌else◌}
+use Rattle.std.specs.Prelude.{Option, Some, None, option_map, Result, Ok, Err}
 use Rattle.std.specs.Option.{option_or}
 use Rattle.std.specs.Result.{result_ok}
 use Rattle.std.specs.FinMap.{FinMap, get, len, contains_key, from_entries, get-empty, len-empty, len-insert}
 use Rattle.ice_ids.specs.declared.Id12.{Id12}
 use Rattle.ice_ids.specs.Text.{IsId12}
-use Rattle.ice_ids.specs.Drawing.{drawn12}
-use Rattle.flat_tables.specs.declared.header.Kind.TheVariants as kinds
+use Rattle.ice_ids.specs.declared.drawing.AnyIds.{AnyIds}
 use Rattle.zarr_path.specs.Paths.{path_cmp}
 use Rattle.zarr_path.proofs.OrderLaws.{total}
 use Rattle.zarr_tree.specs.Nodes.{Node}
 use Rattle.zarr_tree.specs.Trees.{Tree}
 use Rattle.zarr_tree.specs.Edits.{most_nodes}
 use Rattle.zarr_tree.specs.Changes.{Changes, is_gone, patched}
-use Rattle.zarr_tree.specs.Touched.{is_untouched}
-use Rattle.zarr_tree.specs.Held.{changes_of, nodes_over, touched}
+use Rattle.zarr_tree.specs.Held.{changes_of, nodes_over}
 use Rattle.zarr_tree.proofs.Maps.{same}
 use Rattle.zarr_tree.proofs.Apply.{node-apply, gone-false}
 use Rattle.zarr_changes.specs.Edits.{nothing}
@@ -23,7 +21,6 @@ use Rattle.manifest_file.specs.declared.manifest.Place.{Place}
 use Rattle.snapshot_file.specs.declared.nodes.NodeRow.{NodeRow}
 use Rattle.snapshot_file.specs.declared.snapshot.SnapshotFile.{SnapshotFile}
 use Rattle.snapshot_file.specs.Snapshots.{node_limit}
-use Rattle.txn_file.specs.Layout.{log_file}
 use Rattle.repo_objects.specs.declared.bad.Bad.{Bad}
 use Rattle.repo_objects.specs.Readings.{read_snapshot, read_ref, ref_of}
 use Rattle.repo_objects.specs.Trees.{node_of, nodes_in}
@@ -35,7 +32,6 @@ use Rattle.store_api.specs.declared.events.Reply.{Reply}
 use Rattle.store_api.specs.declared.events.Reply.TheVariants.{Got as Is_got}
 use Rattle.store_api.specs.declared.events.Event.{Event}
 use Rattle.store_api.specs.declared.machines.Refusal.{Refusal}
-use Rattle.store_api.specs.declared.machines.Refusal.TheVariants as R
 use Rattle.store_api.specs.Journal.{Each, StoodAt, snap_in, IsGood}
 use Rattle.store_api.specs.Callers.{Caller, Makes}
 use Rattle.store_api.specs.Program.{Done, Keeps, Leads}
@@ -43,9 +39,8 @@ use Rattle.store_api.specs.Running.{Program, on_answer}
 use Rattle.store_api.proofs.Slots.{StoodAt-append}
 use Rattle.repo_read.specs.declared.answers.Resolved.{Resolved}
 use Rattle.repo_read.specs.Answers.{at_key, resolved_at, ref_told, snapshot_told}
-use Rattle.session.specs.Sessions.{SessionState, base_nodes}
+use Rattle.session.specs.Sessions.{SessionState}
 use Rattle.session.specs.Opening.{Asked, open_program, base_program, begun}
-use Rattle.commit_path.specs.Committing.{started, drawn_start, after_draw, log_for, is_long}
 use Rattle.commit_path.specs.Owed.{Sessions, IsCareful}
 use Rattle.commit_path.specs.Spelled.{IsSpelled}
 use Rattle.commit_path.specs.Opened.{IsOpened}
@@ -61,19 +56,19 @@ abbrev pub after_base : Asked → Resolved → Result SnapshotFile Refusal → P
 after_base a named snap = on_answer (λ (s : SnapshotFile). Done (Ok (begun a named.id named.version.0 s))) snap
 
 -- ---- an opening asks for nothing that is owed
-module _ (by : Caller) (mine : Sessions) where
-  base-careful : (a : Asked) (named : Resolved) (snap : Result SnapshotFile Refusal) (journal : List Event) → Keeps (IsCareful mine) by (after_base a named snap) journal
+module _ (by : Caller) (ids : AnyIds) (mine : Sessions) where
+  base-careful : (a : Asked) (named : Resolved) (snap : Result SnapshotFile Refusal) (journal : List Event) → Keeps (IsCareful ids mine) by (after_base a named snap) journal
   unfolding Keeps
   base-careful a named (Ok s) journal = tt
   base-careful a named (Err why) journal = tt
 
-  ref-careful : (a : Asked) (named : Result Resolved Refusal) (journal : List Event) → Keeps (IsCareful mine) by (after_ref a named) journal
+  ref-careful : (a : Asked) (named : Result Resolved Refusal) (journal : List Event) → Keeps (IsCareful ids mine) by (after_ref a named) journal
   unfolding Keeps
   ref-careful a (Ok named) journal = (record { polite = tt; owes = tt }, λ reply new m. base-careful a named (snapshot_told named.id reply) new)
   ref-careful a (Err why) journal = tt
 
   -- whatever others do, each operation of an opening is polite, and owes nothing
-  pub open-careful : (a : Asked) (journal : List Event) → Keeps (IsCareful mine) by (open_program a) journal
+  pub open-careful : (a : Asked) (journal : List Event) → Keeps (IsCareful ids mine) by (open_program a) journal
   unfolding Keeps
   open-careful a journal = (record { polite = tt; owes = tt }, λ reply new m. ref-careful a (ref_told a.branch reply) new)
 
@@ -150,6 +145,8 @@ module _ (L : Spellings) (by : Caller) (a : Asked) where
           put = h.put;
           had = record { version = version; bytes = bytes; stood = h.stood; snap = snap; read = ap result_ok e; rows_are = refl };
           rows = λ once. ap (λ (o : Option (List ℕ)). option_map (λ (s : SnapshotFile). s.nodes) (snap_in named.id o)) h.last ∙ ap (λ (r : Result SnapshotFile Bad). option_map (λ (s : SnapshotFile). s.nodes) (result_ok r)) e;
+          objects = λ node i id offset size k. cc;
+          chunks = λ once node i place k. cc;
         };
         spelled = record {
           base = i;
@@ -158,7 +155,7 @@ module _ (L : Spellings) (by : Caller) (a : Asked) where
           texts = λ id text e. cc;
           frozen = λ id text e. cc;
           free = λ p m n f. let none = get-empty {X = Node} path_cmp p in absurd cc;
-          chunks = refl;
+          chunks = λ node i entry k. cc;
           few = begun-few snap.nodes proper.writable.few;
         };
       }
@@ -189,55 +186,3 @@ module _ (L : Spellings) (by : Caller) (a : Asked) where
   pub open-leads : (journal : List Event) → Leads (Opens a) by (open_program a) journal
   unfolding Leads
   open-leads journal = λ reply new m. ref-leads reply journal new m
-
--- ---- starting a commit
-pub record Started (s t : SessionState) (id : Id12) : Type 0 where
-  pub drawn : drawn12 s.ids ≡ Some id
-  pub short : is_long (log_file (log_for s id)) ≡ false
-  pub is : t ≡ after_draw s
-
-start_same : (p q : Id12 × SessionState) → ◌≡◌ {A = Result (Id12 × SessionState) Refusal} (Ok p) (Ok q) → p ≡ q
-start_same p q e = cc
-
-by_length : (s t : SessionState) (id i : Id12) (long : Bool) → drawn12 s.ids ≡ Some i → is_long (log_file (log_for s i)) ≡ long → cond {A = Result (Id12 × SessionState) Refusal} long (Err (R.TooLarge kinds.Log)) (Ok (i, after_draw s)) ≡ Ok (id, t) → Started s t id
-by_length s t id i true d l e = absurd (cc)
-by_length s t id i false d l e =
-    let p = start_same (i, after_draw s) (id, t) e in
-    let same : i ≡ id = ap (λ (q : Id12 × SessionState). q.0) p in
-    record {
-      drawn = d ∙ ap (λ (x : Id12). Some x) same;
-      short = subst (λ (x : Id12). is_long (log_file (log_for s x)) ≡ false) same l;
-      is = sym (ap (λ (q : Id12 × SessionState). q.1) p);
-    }
-
-by_start : (s t : SessionState) (id : Id12) (o : Option Id12) → drawn12 s.ids ≡ o → drawn_start s o ≡ Ok (id, t) → Started s t id
-by_start s t id None d e = absurd (cc)
-by_start s t id (Some i) d e = by_length s t id i (is_long (log_file (log_for s i))) d refl e
-
-by_tests : (s t : SessionState) (id : Id12) (w u : Bool) → (if w then (if u then Err R.NothingToCommit else drawn_start s (drawn12 s.ids)) else Err R.ReadOnly) ≡ Ok (id, t) → Started s t id
-by_tests s t id true true e = absurd (cc)
-by_tests s t id true false e = by_start s t id (drawn12 s.ids) refl e
-by_tests s t id false u e = absurd (cc)
-
-pub start-started : (s t : SessionState) (id : Id12) → started s ≡ Ok (id, t) → Started s t id
-unfolding started
-start-started s t id e = by_tests s t id s.writes (is_untouched (touched s.held (base_nodes s))) e
-
-pub started-opened : (s t : SessionState) (id : Id12) (journal : List Event) → Started s t id → IsOpened s journal → IsOpened t journal
-started-opened s t id journal a o = subst (λ (x : SessionState). IsOpened x journal) (sym a.is) (record { named_by = o.named_by; named = o.named; names = o.names; put = o.put; had = o.had; rows = o.rows })
-
-pub started-spelled : (s t : SessionState) (id : Id12) → Started s t id → IsSpelled s → IsSpelled t
-started-spelled s t id a w = subst IsSpelled (sym a.is) (record {
-  base = w.base;
-  of_snapshot = record { file = w.of_snapshot.file; proper = w.of_snapshot.proper; rows = w.of_snapshot.rows; files = w.of_snapshot.files };
-  added = w.added;
-  texts = w.texts;
-  frozen = w.frozen;
-  free = w.free;
-  chunks = w.chunks;
-  few = w.few;
-})
-
--- the log stays as long as it was
-pub started-short : (s t : SessionState) (id : Id12) → Started s t id → is_long (log_file (log_for t id)) ≡ false
-started-short s t id a = subst (λ (x : SessionState). is_long (log_file (log_for x id)) ≡ false) (sym a.is) a.short

@@ -1,6 +1,6 @@
 -- What the answer of an opening says of the journal, whatever others do.
 use Rattle.std.proofs.Common.{◌≡◌, ◌⊎◌, inl, inr, ℕ, List, [], ◌∷◌, ◌++◌, refl, sym, ◌∙◌, ap, subst, append_assoc}
-use Rattle.std.specs.Prelude.{Option, Some, None, Result, Ok, Err}
+use Rattle.std.specs.Prelude.{Result, Ok, Err}
 use Rattle.ice_ids.specs.declared.Id12.{Id12}
 use Rattle.std.specs.Result.{result_ok}
 use Rattle.snapshot_file.specs.declared.snapshot.SnapshotFile.{SnapshotFile}
@@ -16,7 +16,6 @@ use Rattle.store_api.specs.declared.events.Reply.TheVariants.{Got as Is_got, Fai
 use Rattle.store_api.specs.declared.events.Event.{Event}
 use Rattle.store_api.specs.declared.machines.Refusal.{Refusal}
 use Rattle.store_api.specs.declared.machines.Refusal.TheVariants as R
-use Rattle.store_api.specs.Machine.{Stored, found, got_of, version_at}
 use Rattle.store_api.specs.Journal.{Each}
 use Rattle.store_api.specs.Callers.{Caller, IsOther, Makes, own_event}
 use Rattle.store_api.specs.Program.{Prog, Done, Ask, Leads}
@@ -24,9 +23,10 @@ use Rattle.repo_read.specs.declared.answers.Resolved.{Resolved}
 use Rattle.repo_read.specs.Answers.{at_key, resolved_at, ref_told, snapshot_told}
 use Rattle.session.specs.Sessions.{SessionState}
 use Rattle.session.specs.Opening.{Asked, open_program}
-use Rattle.commit_path.specs.Answered.{ChangedNothing}
-use Rattle.commit_path.specs.Opened.{WasGot, WasAbsent, WasNamed, WasBegun, WasMissing, WasNoReference, WasNoSnapshot, IsOfOpening, RefusalTells}
-use Rattle.commit_path.proofs.Answering.{own-made, get-leaves, ChangedNothing-makes, ChangedNothing-others, HasOwn-append, failed-made, failed-others}
+use Rattle.commit_path.specs.Answered.{ChangedNothing, WasGot}
+use Rattle.commit_path.specs.Opened.{WasNamed, WasBegun, WasMissing, WasNoReference, WasNoSnapshot, IsOfOpening, RefusalTells}
+use Rattle.commit_path.proofs.Happening.{ChangedNothing-others, failed-made, got-nothing, got-made, absent-made, WasGot-append, WasAbsent-append}
+use Rattle.commit_path.proofs.Lasting.{failed-others}
 use Rattle.commit_path.proofs.Opened.{after_ref, after_base}
 
 -- two facts of each answer
@@ -36,12 +36,6 @@ Leads-both Q R by (Done a) journal q r = (q, r)
 Leads-both Q R by (Ask op next) journal q r = λ reply new m. Leads-both Q R by (next reply) new (q reply new m) (r reply new m)
 
 -- ---- what stays so
-WasGot-append : (client : ℕ) (key : Key) (bytes : List ℕ) (version : ℕ) (start journal more : List Event) → WasGot client key bytes version start journal → WasGot client key bytes version start (journal ++ more)
-WasGot-append client key bytes version start journal more g = record { now = g.now; own = HasOwn-append client (Get key) (Is_got (Found bytes (version_at version) g.now)) start journal more g.own }
-
-WasAbsent-append : (client : ℕ) (key : Key) (start journal more : List Event) → WasAbsent client key start journal → WasAbsent client key start (journal ++ more)
-WasAbsent-append client key start journal more g = record { now = g.now; own = HasOwn-append client (Get key) (Is_got (Absent g.now)) start journal more g.own; nothing = g.nothing }
-
 WasNamed-append : (client : ℕ) (a : Asked) (version : ℕ) (base : Id12) (start journal more : List Event) → WasNamed client a version base start journal → WasNamed client a version base start (journal ++ more)
 WasNamed-append client a version base start journal more n = record { bytes = n.bytes; got = WasGot-append client (Branch a.branch) n.bytes version start journal more n.got; names = n.names }
 
@@ -82,10 +76,6 @@ module _ (by : Caller) (a : Asked) (start journal more : List Event) (others : E
   RefusalTells-others _ t = absurd t
 
 -- ---- an opening
-got-absent : (at : Option Stored) (now time : ℕ) → Is_got (Absent now) ≡ Is_got (got_of time at) → at ≡ None
-got-absent None now time e = refl
-got-absent (Some s) now time e = absurd (cc)
-
 -- what the client's own gets tell
 abbrev pub GetsTell : ℕ → Asked → List Event → Result SessionState Refusal → List Event → Type 0
 GetsTell client a start (Ok s) journal = WasBegun client a s start journal × ChangedNothing client start journal
@@ -94,15 +84,6 @@ GetsTell client a start (Err why) journal = RefusalTells client a start why jour
 module _ (by : Caller) (a : Asked) (start : List Event) where
   abbrev Told : Result SessionState Refusal → List Event → Type 0
   Told = GetsTell by.number a start
-
-  got-nothing : (key : Key) (reply : Reply) (old new : List Event) → Makes by (Get key) reply old new → ChangedNothing by.number start old → ChangedNothing by.number start new
-  got-nothing key reply old new m c = ChangedNothing-makes by start (Get key) reply old new m (get-leaves by key reply m.time m.middle) c
-
-  got-made : (key : Key) (bytes : List ℕ) (version : Version) (now : ℕ) (old new : List Event) → Makes by (Get key) (Is_got (Found bytes version now)) old new → ChangedNothing by.number start old → WasGot by.number key bytes version.0 start new
-  got-made key bytes version now old new m c = record { now = now; own = own-made by start (Get key) (Is_got (Found bytes version now)) old new m c }
-
-  absent-made : (key : Key) (now : ℕ) (old new : List Event) → Makes by (Get key) (Is_got (Absent now)) old new → ChangedNothing by.number start old → WasAbsent by.number key start new
-  absent-made key now old new m c = record { now = now; own = own-made by start (Get key) (Is_got (Absent now)) old new m c; nothing = got-absent (found m.middle key) now m.time m.answered.answered }
 
   WasNamed-makes : (version : ℕ) (base : Id12) (key : Key) (reply : Reply) (old new : List Event) → Makes by (Get key) reply old new → WasNamed by.number a version base start old → WasNamed by.number a version base start new
   WasNamed-makes version base key reply old new m n =
@@ -121,22 +102,22 @@ module _ (by : Caller) (a : Asked) (start : List Event) where
       key_is = refl;
       bytes = bytes;
       put = put.0;
-      got = got-made (Snapshot named.id) bytes put now old new m c;
+      got = got-made by start (Snapshot named.id) bytes put now old new m c;
       unread = e;
     }),
-    got-nothing (Snapshot named.id) (Is_got (Found bytes put now)) old new m c,
+    got-nothing by start (Snapshot named.id) (Is_got (Found bytes put now)) old new m c,
   )
   read-told named bytes put now old new n c m (Ok snap) e = (
     record {
       named = WasNamed-makes named.version.0 named.id (Snapshot named.id) (Is_got (Found bytes put now)) old new m n;
       bytes = bytes;
       version = put.0;
-      got = got-made (Snapshot named.id) bytes put now old new m c;
+      got = got-made by start (Snapshot named.id) bytes put now old new m c;
       snap = snap;
       read = ap result_ok e;
       begins = refl;
     },
-    got-nothing (Snapshot named.id) (Is_got (Found bytes put now)) old new m c,
+    got-nothing by start (Snapshot named.id) (Is_got (Found bytes put now)) old new m c,
   )
 
   base-told : (named : Resolved) (reply : Reply) (old new : List Event) → WasNamed by.number a named.version.0 named.id start old → ChangedNothing by.number start old → Makes by (Get (Snapshot named.id)) reply old new → Leads Told by (after_base a named (snapshot_told named.id reply)) new
@@ -148,9 +129,9 @@ module _ (by : Caller) (a : Asked) (start : List Event) where
       base = named.id;
       named = WasNamed-makes named.version.0 named.id (Snapshot named.id) (Is_got (Absent now)) old new m n;
       key_is = refl;
-      absent = absent-made (Snapshot named.id) now old new m c;
+      absent = absent-made by start (Snapshot named.id) now old new m c;
     },
-    got-nothing (Snapshot named.id) (Is_got (Absent now)) old new m c,
+    got-nothing by start (Snapshot named.id) (Is_got (Absent now)) old new m c,
   )
   base-told named (Failed d) old new n c m = failed-made by (IsOfOpening a) start (Get (Snapshot named.id)) d old new (inr (named.id, refl)) m c
   base-told named _ old new n c m = let e = m.answered.answered in absurd (cc)
@@ -163,8 +144,8 @@ module _ (by : Caller) (a : Asked) (start : List Event) where
 
   ref-told : (reply : Reply) (old new : List Event) → ChangedNothing by.number start old → Makes by (Get (Branch a.branch)) reply old new → Leads Told by (after_ref a (ref_told a.branch reply)) new
   unfolding Leads
-  ref-told (Is_got (Found bytes version now)) old new c m = name-told bytes version new (got-made (Branch a.branch) bytes version now old new m c) (got-nothing (Branch a.branch) (Is_got (Found bytes version now)) old new m c) (read_ref bytes) refl
-  ref-told (Is_got (Absent now)) old new c m = (absent-made (Branch a.branch) now old new m c, got-nothing (Branch a.branch) (Is_got (Absent now)) old new m c)
+  ref-told (Is_got (Found bytes version now)) old new c m = name-told bytes version new (got-made by start (Branch a.branch) bytes version now old new m c) (got-nothing by start (Branch a.branch) (Is_got (Found bytes version now)) old new m c) (read_ref bytes) refl
+  ref-told (Is_got (Absent now)) old new c m = (absent-made by start (Branch a.branch) now old new m c, got-nothing by start (Branch a.branch) (Is_got (Absent now)) old new m c)
   ref-told (Failed d) old new c m = failed-made by (IsOfOpening a) start (Get (Branch a.branch)) d old new (inl refl) m c
   ref-told _ old new c m = let e = m.answered.answered in absurd (cc)
 

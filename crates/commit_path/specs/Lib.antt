@@ -1,3 +1,4 @@
+pub mod Arrays
 pub mod Committing
 pub mod Owed
 pub mod Answered

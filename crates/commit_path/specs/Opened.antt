@@ -1,28 +1,34 @@
 -- What the answer of an opening says of the journal, in words that name no machine and no program. (Icechunk
 -- specification version 1, "Read from Repository".)
-use Rattle.std.specs.Prelude.{◌≡◌, ◌⊎◌, ℕ, List, Some, None, Result, Ok, Err}
+use Rattle.std.specs.Prelude.{◌≡◌, ◌⊎◌, ℕ, List, Some, Result, Ok, Err}
+use Rattle.ice_ids.specs.declared.Id8.{Id8}
 use Rattle.ice_ids.specs.declared.Id12.{Id12}
 use Rattle.snapshot_file.specs.declared.snapshot.SnapshotFile.{SnapshotFile}
 use Rattle.repo_objects.specs.declared.bad.Bad.{Bad}
 use Rattle.repo_objects.specs.Readings.{read_snapshot, read_ref, snapshot_by, ref_of}
 use Rattle.store_api.specs.declared.keys.Key.{Key}
-use Rattle.store_api.specs.declared.keys.Key.TheVariants.{Snapshot, Branch}
+use Rattle.store_api.specs.declared.keys.Key.TheVariants.{Snapshot, Chunk, Branch}
 use Rattle.store_api.specs.declared.events.Op.{Op}
 use Rattle.store_api.specs.declared.events.Op.TheVariants.{Get}
-use Rattle.store_api.specs.declared.events.Got.TheVariants.{Found, Absent}
-use Rattle.store_api.specs.declared.events.Reply.TheVariants.{Got as Is_got}
 use Rattle.store_api.specs.declared.events.Event.{Event}
 use Rattle.store_api.specs.declared.machines.Refusal.{Refusal}
 use Rattle.store_api.specs.declared.machines.Refusal.TheVariants.{NoRef, Missing, BadFile, StoreFault, NoMemory}
-use Rattle.store_api.specs.Machine.{found, version_at}
-use Rattle.store_api.specs.Journal.{WasPut, StoodAt, HadRows, rows_of, IsOnce}
+use Rattle.store_api.specs.Journal.{WasPut, StoodAt, HadRows, puts_of, rows_of, IsOnce}
 use Rattle.session.specs.Sessions.{SessionState}
 use Rattle.session.specs.Opening.{Asked, begun}
-use Rattle.commit_path.specs.Answered.{HasOwn, ChangedNothing, WasFailed}
+use Rattle.zarr_tree.specs.Held.{Entry, entry_in}
+use Rattle.manifest_file.specs.declared.manifest.Place.{Place}
+use Rattle.manifest_file.specs.declared.manifest.Place.TheVariants.{Object}
+use Rattle.commit_path.specs.Owed.{HasChunks}
+use Rattle.commit_path.specs.Answered.{ChangedNothing, WasFailed, WasGot, WasAbsent}
 
 -- ---- what a session knows
--- The branch stood at the session's version, with a reference to its base; a put of the base had the session's rows, and
--- where nothing is put again, they are its rows.
+-- the objects of the chunks that were set were put
+abbrev pub ObjectsPut : List Event → List (Entry Place) → Type 0
+ObjectsPut journal entries = (node : Id8) (i : List ℕ) (id : Id12) (offset size : ℕ) → entry_in entries node i ≡ Some (Some (Object id offset size)) → WasPut journal (Chunk id)
+
+-- The branch stood at the session's version, with a reference to its base; a put of the base had the session's rows; and the objects of
+-- its long chunks were put. Where nothing is put again, the rows are the base's, and the bytes of its chunks are there.
 pub record IsOpened (s : SessionState) (journal : List Event) : Type 0 where
   pub named_by : List ℕ
   pub named : StoodAt journal (Branch s.branch) s.version named_by
@@ -30,19 +36,10 @@ pub record IsOpened (s : SessionState) (journal : List Event) : Type 0 where
   pub put : WasPut journal (Snapshot s.base)
   pub had : HadRows journal s.base s.rows
   pub rows : IsOnce journal → rows_of journal s.base ≡ Some s.rows
+  pub objects : ObjectsPut journal s.held.chunks
+  pub chunks : IsOnce journal → HasChunks (puts_of journal) s.held.chunks
 
--- ---- a client's own gets
--- the client's own get of the key was answered with these bytes and this version
-pub record WasGot (client : ℕ) (key : Key) (bytes : List ℕ) (version : ℕ) (start journal : List Event) : Type 0 where
-  pub now : ℕ
-  pub own : HasOwn client (Get key) (Is_got (Found bytes (version_at version) now)) start journal
-
--- the client's own get of the key was answered that nothing is there, and nothing was
-pub record WasAbsent (client : ℕ) (key : Key) (start journal : List Event) : Type 0 where
-  pub now : ℕ
-  pub own : HasOwn client (Get key) (Is_got (Absent now)) start journal
-  pub nothing : found own.before key ≡ None
-
+-- ---- a client's own get of its branch
 -- the client's own get of the branch that was asked for was answered with a reference to this snapshot
 pub record WasNamed (client : ℕ) (a : Asked) (version : ℕ) (base : Id12) (start journal : List Event) : Type 0 where
   pub bytes : List ℕ

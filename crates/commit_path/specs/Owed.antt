@@ -1,30 +1,51 @@
 -- What a client that commits sessions owes of each of its operations.
-use Rattle.std.specs.Prelude.{◌≡◌, ℕ, List, Some}
+use Rattle.zarr_changes.specs.Sets.{length_of}
+use Rattle.repo_objects.specs.Trees.{Extends, Puts, bytes_at, tree_under, NamesManifest, IsReadable}
+use Rattle.session.specs.Sources.{MayDrawObject}
+use Rattle.std.specs.Prelude.{◌≡◌, ◌⊎◌, ℕ, List, length, Some}
+use Rattle.ice_ids.specs.declared.Id8.{Id8}
+use Rattle.snapshot_file.specs.declared.nodes.NodeRow.{NodeRow}
 use Rattle.ice_ids.specs.declared.Id12.{Id12}
-use Rattle.zarr_tree.specs.Held.{touched}
+use Rattle.ice_ids.specs.declared.drawing.AnyIds.{AnyIds}
+use Rattle.zarr_tree.specs.Changes.{IsNormal}
+use Rattle.zarr_tree.specs.Held.{Entry, touched, entry_in}
+use Rattle.manifest_file.specs.declared.manifest.Place.{Place}
 use Rattle.snapshot_file.specs.declared.snapshot.SnapshotFile.{SnapshotFile}
 use Rattle.repo_objects.specs.Readings.{snapshot_by, ref_of}
-use Rattle.repo_objects.specs.Trees.{Puts, tree_under, NamesManifest}
-use Rattle.changed_snapshot.specs.Laws.{KeepsFrozen}
 use Rattle.store_api.specs.declared.keys.Key.{Key}
-use Rattle.store_api.specs.declared.keys.Key.TheVariants.{Snapshot, Txn, Branch}
+use Rattle.store_api.specs.declared.keys.Key.TheVariants.{Snapshot, Manifest, Txn, Chunk, Branch}
 use Rattle.store_api.specs.declared.keys.Why.{Why}
 use Rattle.store_api.specs.declared.keys.Why.TheVariants.{Commit}
 use Rattle.store_api.specs.declared.events.Op.{Op}
 use Rattle.store_api.specs.declared.events.Op.TheVariants.{Get, PutNew, PutOver, List as ListPart}
 use Rattle.store_api.specs.declared.events.Event.{Event}
-use Rattle.store_api.specs.Journal.{WasPut, rows_of, snap_made, log_made, IsOnce, IsPolite, IsGood}
-use Rattle.session.specs.Sessions.{SessionState, base_nodes, overlay}
+use Rattle.store_api.specs.Journal.{WasPut, puts_of, rows_of, snap_made, log_made, IsOnce, IsPolite, IsGood}
+use Rattle.session.specs.Sessions.{SessionState, base_nodes, base_tree, changes_in, overlay}
 
--- The client's sessions at their commits, with the id that each commit draws.
+-- The client's sessions at their commits, each with an object id that its commit may draw.
 abbrev pub Sessions : Type 1
 Sessions = SessionState → Id12 → Type 0
 
--- The snapshot is a session's: the parent that it first named is the base, whose rows are the session's; its log lists exactly
--- what the session's changes touch; its tree is the base's under them, whatever was put, where each node that stays keeps the parts
--- of its metadata that stay; and it names no manifest that the base doesn't name.
--- (Normal changes keep them. Without it a node may have the id of the base's node at its path and another rank, where that id was
--- drawn twice or the base has it twice; then the rows may have other chunks there than the changes tell, which know ids alone.)
+-- the bytes of each chunk that was set are there, as many as its place tells
+abbrev pub HasChunks : Puts → List (Entry Place) → Type 0
+HasChunks puts entries = (node : Id8) (i : List ℕ) (place : Place) → entry_in entries node i ≡ Some (Some place) → (bytes : List ℕ) × (bytes_at puts place ≡ Some bytes) × (length bytes ≡ length_of place)
+
+-- Whatever more is put: where a session's changes are normal for its base's tree, the tree of these rows is that tree under them.
+abbrev pub HasOverlay : List Event → SessionState → List NodeRow → Type 0
+HasOverlay journal s rows = (puts : Puts) → Extends (puts_of journal) puts → IsNormal (changes_in puts s) (base_tree puts s) → tree_under puts rows ≡ overlay puts s
+
+-- whatever more is put: where a session's changes are normal and all that its base's rows name is readable, all that these rows name is
+abbrev pub KeepsReadable : List Event → SessionState → List NodeRow → Type 0
+KeepsReadable journal s rows = (puts : Puts) → Extends (puts_of journal) puts → IsNormal (changes_in puts s) (base_tree puts s) → IsReadable puts s.rows → IsReadable puts rows
+
+-- rows name no manifest that the session's base doesn't name, but those under ids that the session drew
+abbrev pub NamesOwn : SessionState → List NodeRow → Type 0
+NamesOwn s rows = (manifest : Id12) → NamesManifest rows manifest → NamesManifest s.rows manifest ⊎ MayDrawObject s.ids manifest
+
+-- The snapshot is a session's: the parent that it first named is the base, whose rows are the session's; its log lists exactly what the
+-- session's changes touch; its tree is the base's under them, where they are normal for it; and it names no manifest but the base's and
+-- the session's own. The chunks that the session set are there.
+-- (Changes are normal where no node id was drawn twice. Without it two nodes may have one id, and changes know ids alone.)
 pub record IsMade (s : SessionState) (id : Id12) (journal : List Event) : Type 0 where
   pub base_put : WasPut journal (Snapshot s.base)
   pub base_rows : rows_of journal s.base ≡ Some s.rows
@@ -33,8 +54,9 @@ pub record IsMade (s : SessionState) (id : Id12) (journal : List Event) : Type 0
   pub rows : rows_of journal id ≡ Some snap.nodes
   pub parent : snap.parent ≡ Some s.base
   pub logged : log_made journal id ≡ Some (touched s.held (base_nodes s))
-  pub tree : (puts : Puts) → KeepsFrozen s.held s.rows → tree_under puts snap.nodes ≡ overlay puts s
-  pub own : (manifest : Id12) → NamesManifest snap.nodes manifest → NamesManifest s.rows manifest
+  pub tree : HasOverlay journal s snap.nodes
+  pub own : NamesOwn s snap.nodes
+  pub chunks : HasChunks (puts_of journal) s.held.chunks
 
 -- a branch is put over for a commit of one of the client's sessions, on its branch, at the version that
 -- it had read, with its snapshot
@@ -48,51 +70,51 @@ pub record OwesOver (mine : Sessions) (journal : List Event) (branch bytes : Lis
   pub why_is : why ≡ Commit
   pub made : IsOnce journal → IsMade session id journal
 
--- a snapshot is put that is one of the client's sessions': its base is the parent, and has the session's rows; its tree is the
--- base's under the changes, whatever was put, where nodes keep the parts that stay; and it names no manifest that the base doesn't
--- name
+-- a snapshot is put that is one of the client's sessions': its base is the parent, and has the session's rows; its tree is the base's
+-- under the changes, where they are normal, and then all that it names is readable if all that the base names is; it names no manifest
+-- but the base's and the session's own; and the session's chunks are there
 pub record OwesSnap (mine : Sessions) (journal : List Event) (id : Id12) (bytes : List ℕ) : Type 0 where
   pub session : SessionState
   pub is_mine : mine session id
   pub snap : SnapshotFile
   pub read : snapshot_by id bytes ≡ Some snap
   pub parent : snap.parent ≡ Some session.base
-  pub tree : (puts : Puts) → KeepsFrozen session.held session.rows → tree_under puts snap.nodes ≡ overlay puts session
-  pub own : (manifest : Id12) → NamesManifest snap.nodes manifest → NamesManifest session.rows manifest
+  pub tree : IsOnce journal → HasOverlay journal session snap.nodes
+  pub readable : IsOnce journal → KeepsReadable journal session snap.nodes
+  pub own : NamesOwn session snap.nodes
   pub base_put : WasPut journal (Snapshot session.base)
   pub base_rows : IsOnce journal → rows_of journal session.base ≡ Some session.rows
   pub logged : IsOnce journal → log_made journal id ≡ Some (touched session.held (base_nodes session))
+  pub chunks : IsOnce journal → HasChunks (puts_of journal) session.held.chunks
 
--- a log is put under an id that one of the client's sessions drew
-pub record OwesLog (mine : Sessions) (id : Id12) : Type 0 where
-  pub session : SessionState
-  pub is_mine : mine session id
-
--- what is put new is a snapshot or a log
-abbrev pub OwesNew : Sessions → List Event → List ℕ → Key → Type 0
-OwesNew mine journal bytes (Snapshot id) = OwesSnap mine journal id bytes
-OwesNew mine journal bytes (Txn id) = OwesLog mine id
-OwesNew mine journal bytes _ = ⊥
+-- what is put new is a snapshot, or a log, a manifest or an object with a chunk under an id that the client may draw, whose source of
+-- ids this is
+abbrev pub OwesNew : AnyIds → Sessions → List Event → List ℕ → Key → Type 0
+OwesNew ids mine journal bytes (Snapshot id) = OwesSnap mine journal id bytes
+OwesNew ids mine journal bytes (Txn id) = MayDrawObject ids id
+OwesNew ids mine journal bytes (Manifest id) = MayDrawObject ids id
+OwesNew ids mine journal bytes (Chunk id) = MayDrawObject ids id
+OwesNew ids mine journal bytes _ = ⊥
 
 -- what is put over is a branch
 abbrev pub OwesPutOver : Sessions → List Event → List ℕ → ℕ → Why → Key → Type 0
 OwesPutOver mine journal bytes old why (Branch name) = OwesOver mine journal name bytes old why
 OwesPutOver mine journal bytes old why _ = ⊥
 
--- a client that opens sessions and commits them reads, puts objects and puts branches over
-abbrev pub Owes : Sessions → List Event → Op → Type 0
-Owes mine journal (Get key) = Unit {0}
-Owes mine journal (ListPart part) = Unit {0}
-Owes mine journal (PutNew key bytes why) = OwesNew mine journal bytes key
-Owes mine journal (PutOver key bytes old why) = OwesPutOver mine journal bytes old.0 why key
-Owes mine journal _ = ⊥
+-- a client that opens sessions, edits and commits them reads, puts objects and puts branches over
+abbrev pub Owes : AnyIds → Sessions → List Event → Op → Type 0
+Owes ids mine journal (Get key) = Unit {0}
+Owes ids mine journal (ListPart part) = Unit {0}
+Owes ids mine journal (PutNew key bytes why) = OwesNew ids mine journal bytes key
+Owes ids mine journal (PutOver key bytes old why) = OwesPutOver mine journal bytes old.0 why key
+Owes ids mine journal _ = ⊥
 
 -- each operation is polite, and owed
-pub record IsCareful (mine : Sessions) (journal : List Event) (client : ℕ) (op : Op) : Type 0 where
+pub record IsCareful (ids : AnyIds) (mine : Sessions) (journal : List Event) (client : ℕ) (op : Op) : Type 0 where
   pub polite : IsPolite journal op
-  pub owes : Owes mine journal op
+  pub owes : Owes ids mine journal op
 
 -- the event is good, and owed
-pub record IsCarefulEvent (mine : Sessions) (journal : List Event) (event : Event) : Type 0 where
+pub record IsCarefulEvent (ids : AnyIds) (mine : Sessions) (journal : List Event) (event : Event) : Type 0 where
   pub good : IsGood journal event
-  pub owes : Owes mine journal event.op
+  pub owes : Owes ids mine journal event.op

@@ -1,6 +1,5 @@
 -- A client puts one snapshot at most.
 use Rattle.std.specs.Prelude.{◌≡◌, ℕ, ◌++◌, List}
-use Rattle.ice_ids.specs.declared.Id12.{Id12}
 use Rattle.store_api.specs.declared.keys.Key.TheVariants.{Snapshot}
 use Rattle.store_api.specs.declared.events.Op.{Op}
 use Rattle.store_api.specs.declared.events.Op.TheVariants.{PutNew}
@@ -35,4 +34,4 @@ IsSingle start journal client op = PutsSnapshot op → HasPutNone client start j
 pub record SingleLaw : Type 0 where
   pub opening : (by : Caller) (a : Asked) (start journal : List Event) → HasPutNone by.number start journal
       → Keeps (λ h client op. ¬ PutsSnapshot op) by (open_program a) journal × Leads (λ answer h. HasPutNone by.number start h) by (open_program a) journal
-  pub commit : (by : Caller) (s : SessionState) (message : List ℕ) (id : Id12) (start journal : List Event) → HasPutNone by.number start journal → Keeps (IsSingle start) by (commit_program s message id) journal
+  pub commit : (by : Caller) (s : SessionState) (message : List ℕ) (start journal : List Event) → HasPutNone by.number start journal → Keeps (IsSingle start) by (commit_program s message) journal

@@ -1,17 +1,29 @@
 //! The machine that commits a session.
 
-ghost use Rattle.std.specs.Prelude.{◌≡◌, ◌<◌, IfErr, IsTrue};
+ghost use Rattle.std.specs.Prelude.{◌≡◌, ◌<◌, ◌≤◌, ◌+◌, ◌*◌, ◌^◌, [], length, Some, None, All, IfOk, IfErr, IsTrue};
+ghost use Rattle.flat_tables.specs.Rows.{Ascends};
+ghost use Rattle.manifest_file.specs.Manifests.{ref_key};
+ghost use Rattle.manifest_index.specs.Extents.{are_low};
 ghost use Rattle.store_api.specs.Program.{IsAsk, Steps, NextIsPolite};
+ghost use Rattle.store_api.specs.Driving.{Awaits, Took, op_of};
+ghost use Rattle.store_api.specs.declared.events.Op.TheVariants as Op;
 ghost use Rattle.txn_file.specs.Layout.{log_file};
-ghost use Rattle.commit_path.specs.Committing.{log_for, started, commit_program, after_log, after_snapshot, after_branch, commit_rest, commit_left, session_in, CommitStarts, MayRefuseCommit};
-ghost use Rattle.commit_path.specs.inside.Working.{IsUnwritten, WritesFile, LandsCalmly, LandsSurely};
+ghost use Rattle.commit_path.specs.Committing.{log_for, old_rest, new_behind, arrays_behind, written_in, after_arrays, after_log, after_snapshot, after_branch, commit_rest, commit_left, manifests_left, session_in, IsDrawn, CommitStarts, MayRefuseStart, MayRefuseCommit};
+ghost use Rattle.commit_path.specs.inside.Lists.{IsRank};
+ghost use Rattle.commit_path.specs.inside.Working.{IsUnwritten, WritesFile, PassesUnless, got_behind, merged_behind, MayRefuseOwn, LandsCalmly, LandsSurely, Reaches, Turns};
 
-use crate::committing::Committing;
+use crate::arrays::Arrays;
+use crate::committing::{Committing, Got};
+use crate::manifests::{made, merged};
+use changed_snapshot::NewManifest;
 use flat_tables::{Kind, WriteFault};
 use ice_base::{Bytes, Text};
 use ice_ids::Id12;
+use manifest_file::{ArrayRefs, REFS_LIMIT};
 use ref_file::ref_write;
+use repo_read::manifest_told;
 use session::Session;
+use snapshot_file::ManifestRef;
 use std::alloc::{AllocError, Global};
 use std::mem;
 use store_api::{
@@ -28,21 +40,21 @@ pub struct Committed {
     pub version: Version,
 }
 
-/// A machine that commits a session: it puts the transaction log, then the snapshot, whose parent is
-/// the session's base, and then the branch over the version that the session had read. The session
-/// stays in it, and comes back after a refusal. The bytes of each put are made before it, with the reply
-/// to the one before.
+/// A machine that commits a session: it writes a manifest for each array whose chunks changed (its old manifests are got,
+/// one after another, and the new one is put), then it puts the transaction log, then the snapshot, whose parent is the
+/// session's base, and then the branch over the version that the session had read. The session stays in it, and comes back
+/// after a refusal. The bytes of each put are made before it, with the reply to the one before.
 #[derive(Drop)]
 pub struct Commit {
     alloc: Global,
     session: Session,
     message: Text,
-    id: Id12,
+    arrays: Arrays,
     state: Committing,
 }
 
 /// Why a file isn't written.
-fn unwritten(kind: Kind, fault: WriteFault) -> Refusal
+pub(crate) fn unwritten(kind: Kind, fault: WriteFault) -> Refusal
     ensures { IsUnwritten kind fault result }
 {
     match fault {
@@ -64,6 +76,17 @@ fn write_log(alloc: Global, session: &Session, id: Id12) -> Result<Bytes, Refusa
     }
 }
 
+/// A put of these bytes where the key is free.
+fn put_new(key: Key, file: &Bytes) -> Request<'_>
+    ensures { op_of result ≡ Op.PutNew key file.now Why.Set }
+{
+    Request::PutNew {
+        key,
+        bytes: Payload::Held(file.as_slice()),
+        why: Why::Set,
+    }
+}
+
 impl Machine for Commit {
     type Answer = Committed;
 
@@ -71,23 +94,19 @@ impl Machine for Commit {
 
     ghost left = { commit_left };
 
-    ghost keeps = { λ old new. session_in new ≡ session_in old };
+    ghost keeps = { λ old new. IsDrawn (session_in old) (session_in new) };
 
     ghost may_refuse = { MayRefuseCommit };
 
     fn request(&self) -> Result<Request<'_>, AllocError> {
         match &self.state {
-            Committing::Log(file) => Ok(Request::PutNew {
-                key: Key::Txn(self.id),
-                bytes: Payload::Held(file.as_slice()),
-                why: Why::Set,
+            Committing::Old { manifest, got: _ } => Ok(Request::Get {
+                key: Key::Manifest(manifest.id),
             }),
-            Committing::Snapshot(file) => Ok(Request::PutNew {
-                key: Key::Snapshot(self.id),
-                bytes: Payload::Held(file.as_slice()),
-                why: Why::Set,
-            }),
-            Committing::Branch(file) => Ok(Request::PutOver {
+            Committing::New { manifest, file } => Ok(put_new(Key::Manifest(manifest.id), file)),
+            Committing::Log { id, file } => Ok(put_new(Key::Txn(*id), file)),
+            Committing::Snapshot { id, file } => Ok(put_new(Key::Snapshot(*id), file)),
+            Committing::Branch { id: _, file } => Ok(Request::PutOver {
                 key: Key::Branch(self.session.branch().copy(self.alloc)?),
                 bytes: Payload::Held(file.as_slice()),
                 old: self.session.version(),
@@ -100,9 +119,13 @@ impl Machine for Commit {
     fn answer(&mut self, reply: Reply) -> Result<Next<Committed>, Refusal> {
         let state = mem::replace(&mut self.state, Committing::Ended);
         match (state, reply) {
-            (Committing::Log(_), Reply::New(new)) => self.on_log(new),
-            (Committing::Snapshot(_), Reply::New(new)) => self.on_snapshot(new),
-            (Committing::Branch(_), Reply::Over(over)) => self.on_branch(over),
+            (Committing::Old { manifest, got }, reply) => self.on_old(manifest, got, reply),
+            (Committing::New { manifest, file: _ }, Reply::New(new)) => self.on_manifest(
+                manifest, new,
+            ),
+            (Committing::Log { id, file: _ }, Reply::New(new)) => self.on_log(id, new),
+            (Committing::Snapshot { id, file: _ }, Reply::New(new)) => self.on_snapshot(id, new),
+            (Committing::Branch { id, file: _ }, Reply::Over(over)) => self.on_branch(id, over),
             _ => Err(Refusal::StoreFault),
         }
     }
@@ -115,23 +138,190 @@ impl Machine for Commit {
 }
 
 impl Commit {
-    /// The log was put: the snapshot is flushed at the time that the reply tells.
-    fn on_log(&mut self, new: New) -> Result<Next<Committed>, Refusal>
+    /// The log comes next, under an id that is drawn.
+    fn begin_log(&mut self) -> Result<(), Refusal>
         requires { self.old.state ≡ Committing.Ended }
-        ensures took { LandsCalmly (after_log self.old.session self.old.message self.old.id (Reply.New new)) (commit_rest self.new) result }
-        ensures falls { commit_left self.new < 3 }
-        ensures kept { session_in self.new ≡ session_in self.old }
+        ensures reaches { Reaches (after_arrays self.old.session self.old.message (written_in self.old)) (commit_rest self.new) result }
+        ensures falls { commit_left self.new ≤ length self.old.arrays.left * 2 ^ 65 + 3 }
+        ensures kept { IsDrawn (session_in self.old) (session_in self.new) }
+        ensures listed { IfErr result MayRefuseOwn }
+    {
+        let Some(id) = self.session.draw() else {
+            return Err(Refusal::IdsSpent);
+        };
+        let file = write_log(self.alloc, &self.session, id)?;
+        self.state = Committing::Log { id, file };
+        Ok(())
+    }
+
+    /// A new manifest of the first array that is left comes next, under an id that is drawn: it has these chunks.
+    fn begin_manifest(&mut self, rank: usize, array: ArrayRefs) -> Result<(), Refusal>
+        requires ended { self.old.state ≡ Committing.Ended }
+        requires rank { IsRank self.old.arrays.left rank }
+        requires filled { 0 < length array.refs }
+        requires order { Ascends ref_key None array.refs }
+        requires ranks { All (λ r. length r.index ≡ rank) array.refs }
+        requires low { All (λ r. IsTrue (are_low r.index)) array.refs }
+        ensures reaches { Reaches (merged_behind self.old.session self.old.message (written_in self.old) self.old.arrays.left (Some array)) (commit_rest self.new) result }
+        ensures falls { commit_left self.new ≤ length self.old.arrays.left * 2 ^ 65 + 4 }
+        ensures kept { IsDrawn (session_in self.old) (session_in self.new) }
+        ensures listed { IfErr result MayRefuseOwn }
+    {
+        if array.refs.len() > REFS_LIMIT {
+            return Err(Refusal::TooLarge(Kind::Manifest));
+        }
+        let Some(id) = self.session.draw() else {
+            return Err(Refusal::IdsSpent);
+        };
+        let (manifest, file) = made(self.alloc, id, rank, array)?;
+        self.state = Committing::New { manifest, file };
+        Ok(())
+    }
+
+    /// The first array that is left is written, whose manifests are these: its new manifest comes next (true), or it has
+    /// none, and the array is done with.
+    fn write_array(&mut self, got: &Got) -> Result<bool, Refusal>
+        requires ended { self.old.state ≡ Committing.Ended }
+        ensures turns { Turns (got_behind self.old.session self.old.message (written_in self.old) self.old.arrays.left got.now.items) (arrays_behind self.new.session self.new.message (written_in self.new) self.new.arrays.left []) (commit_rest self.new) result }
+        ensures passes { PassesUnless result self.old self.new }
+        ensures falls { commit_left self.new ≤ length self.old.arrays.left * 2 ^ 65 + 4 }
+        ensures kept { IsDrawn (session_in self.old) (session_in self.new) }
+        ensures listed { IfErr result MayRefuseOwn }
+    {
+        let Some(array) = self.arrays.first() else {
+            return Ok(false);
+        };
+        let rank = array.rank;
+        let Ok(merged) = merged(self.alloc, &self.session, array, got) else {
+            return Err(Refusal::NoMemory);
+        };
+        if let Some(refs) = merged {
+            self.begin_manifest(rank, refs)?;
+            return Ok(true);
+        }
+        match self.arrays.close(self.alloc, None) {
+            Ok(()) => Ok(false),
+            Err(_) => Err(Refusal::NoMemory),
+        }
+    }
+
+    /// Goes on with the first array that is left, of which these manifests were got: its next manifest is got, or it is
+    /// written. Answers whether an operation comes next.
+    fn turn(&mut self, got: Got) -> Result<bool, Refusal>
+        requires ended { self.old.state ≡ Committing.Ended }
+        ensures turns { Turns (arrays_behind self.old.session self.old.message (written_in self.old) self.old.arrays.left got.items) (arrays_behind self.new.session self.new.message (written_in self.new) self.new.arrays.left []) (commit_rest self.new) result }
+        ensures passes { PassesUnless result self.old self.new }
+        ensures falls { commit_left self.new ≤ length self.old.arrays.left * 2 ^ 65 + manifests_left self.old.session.rows self.old.arrays.left (length got.items) + 4 }
+        ensures few { manifests_left self.old.session.rows self.old.arrays.left (length got.items) < 2 ^ 64 }
+        ensures kept { IsDrawn (session_in self.old) (session_in self.new) }
+        ensures listed { IfErr result MayRefuseOwn }
+    {
+        let Some(array) = self.arrays.first() else {
+            return Ok(false);
+        };
+        let manifests = self.session.manifests(&array.path, array.node);
+        if got.len() < manifests.len() {
+            let Ok(manifest) = manifests[got.len()].copy(self.alloc) else {
+                return Err(Refusal::NoMemory);
+            };
+            self.state = Committing::Old { manifest, got };
+            return Ok(true);
+        }
+        self.write_array(&got)
+    }
+
+    /// Goes on with the arrays that are left, up to the next operation.
+    fn go_on(&mut self) -> Result<(), Refusal>
+        requires { self.old.state ≡ Committing.Ended }
+        ensures reaches { Reaches (arrays_behind self.old.session self.old.message (written_in self.old) self.old.arrays.left []) (commit_rest self.new) result }
+        ensures falls { commit_left self.new ≤ length self.old.arrays.left * 2 ^ 65 + 2 ^ 64 + 4 }
+        ensures kept { IsDrawn (session_in self.old) (session_in self.new) }
+        ensures listed { IfErr result MayRefuseOwn }
+    {
+        while self.arrays.is_left() {
+            if self.turn(Vec::new(self.alloc))? {
+                return Ok(());
+            }
+        }
+        self.begin_log()
+    }
+
+    /// A manifest was got: it is kept, and the commit goes on.
+    #[tactic(auto, using(crate::proofs::Walking::own_commit))]
+    fn on_old(
+        &mut self,
+        manifest: ManifestRef,
+        mut got: Got,
+        reply: Reply,
+    ) -> Result<Next<Committed>, Refusal>
+        requires ended { self.old.state ≡ Committing.Ended }
+        requires awaited { Awaits (old_rest self.old.session self.old.message (written_in self.old) self.old.arrays.left manifest got.items) reply }
+        ensures took { Took (old_rest self.old.session self.old.message (written_in self.old) self.old.arrays.left manifest got.items) reply (commit_rest self.new) result }
+        ensures falls { commit_left self.new < length self.old.arrays.left * 2 ^ 65 + manifests_left self.old.session.rows self.old.arrays.left (length got.items + 1) + 5 }
+        ensures kept { IsDrawn (session_in self.old) (session_in self.new) }
+        ensures listed { IfErr result MayRefuseCommit }
+    {
+        let held = match manifest_told(manifest.id, reply) {
+            Ok(held) => held,
+            Err(why) => return Err(why),
+        };
+        let Ok(()) = got.push((manifest.extents, held)) else {
+            return Err(Refusal::NoMemory);
+        };
+        let asks = match self.turn(got) {
+            Ok(asks) => asks,
+            Err(why) => return Err(why),
+        };
+        if asks {
+            return Ok(Next::Again);
+        }
+        match self.go_on() {
+            Ok(()) => Ok(Next::Again),
+            Err(why) => Err(why),
+        }
+    }
+
+    /// A new manifest was put: the first array that is left is done with, and the commit goes on.
+    #[tactic(auto, using(crate::proofs::Walking::own_commit))]
+    fn on_manifest(&mut self, manifest: NewManifest, new: New) -> Result<Next<Committed>, Refusal>
+        requires ended { self.old.state ≡ Committing.Ended }
+        ensures took { LandsCalmly (new_behind self.old.session self.old.message (written_in self.old) self.old.arrays.left manifest (Reply.New new)) (commit_rest self.new) result }
+        ensures falls { commit_left self.new < length self.old.arrays.left * 2 ^ 65 + 4 }
+        ensures kept { IsDrawn (session_in self.old) (session_in self.new) }
+        ensures listed { IfErr result MayRefuseCommit }
+    {
+        let New::Done { version: _, now: _ } = new else {
+            return Err(Refusal::IdTaken(Key::Manifest(manifest.id)));
+        };
+        let Ok(()) = self.arrays.close(self.alloc, Some(manifest)) else {
+            return Err(Refusal::NoMemory);
+        };
+        match self.go_on() {
+            Ok(()) => Ok(Next::Again),
+            Err(why) => Err(why),
+        }
+    }
+
+    /// The log was put: the snapshot is flushed at the time that the reply tells.
+    fn on_log(&mut self, id: Id12, new: New) -> Result<Next<Committed>, Refusal>
+        requires { self.old.state ≡ Committing.Ended }
+        ensures took { LandsCalmly (after_log self.old.session self.old.message self.old.arrays.news id (Reply.New new)) (commit_rest self.new) result }
+        ensures falls { commit_left self.new < length self.old.arrays.left * 2 ^ 65 + 3 }
+        ensures kept { IsDrawn (session_in self.old) (session_in self.new) }
         ensures listed { IfErr result MayRefuseCommit }
     {
         let now = match new {
             New::Done { version: _, now } => now,
             New::Present { version: _, now: _ } => {
-                return Err(Refusal::IdTaken(Key::Txn(self.id)));
+                return Err(Refusal::IdTaken(Key::Txn(id)));
             }
         };
-        match self.session.write(self.id, now, &[], &self.message) {
+        match self
+            .session
+            .write(id, now, self.arrays.news(), &self.message)
+        {
             Ok(file) => {
-                self.state = Committing::Snapshot(file);
+                self.state = Committing::Snapshot { id, file };
                 Ok(Next::Again)
             }
             Err(fault) => Err(unwritten(Kind::Snapshot, fault)),
@@ -139,19 +329,19 @@ impl Commit {
     }
 
     /// The snapshot was put: the reference's bytes are made, so that nothing behind its put takes memory.
-    fn on_snapshot(&mut self, new: New) -> Result<Next<Committed>, Refusal>
+    fn on_snapshot(&mut self, id: Id12, new: New) -> Result<Next<Committed>, Refusal>
         requires { self.old.state ≡ Committing.Ended }
-        ensures took { LandsCalmly (after_snapshot self.old.session self.old.id (Reply.New new)) (commit_rest self.new) result }
-        ensures falls { commit_left self.new < 2 }
-        ensures kept { session_in self.new ≡ session_in self.old }
+        ensures took { LandsCalmly (after_snapshot self.old.session id (Reply.New new)) (commit_rest self.new) result }
+        ensures falls { commit_left self.new < length self.old.arrays.left * 2 ^ 65 + 2 }
+        ensures kept { IsDrawn (session_in self.old) (session_in self.new) }
         ensures listed { IfErr result MayRefuseCommit }
     {
         if let New::Present { version: _, now: _ } = new {
-            return Err(Refusal::IdTaken(Key::Snapshot(self.id)));
+            return Err(Refusal::IdTaken(Key::Snapshot(id)));
         }
-        match Bytes::of(self.alloc, &ref_write(self.id)) {
+        match Bytes::of(self.alloc, &ref_write(id)) {
             Ok(file) => {
-                self.state = Committing::Branch(file);
+                self.state = Committing::Branch { id, file };
                 Ok(Next::Again)
             }
             Err(_) => Err(Refusal::NoMemory),
@@ -159,18 +349,15 @@ impl Commit {
     }
 
     /// The branch was put over, or not.
-    fn on_branch(&mut self, over: Over) -> Result<Next<Committed>, Refusal>
+    fn on_branch(&mut self, id: Id12, over: Over) -> Result<Next<Committed>, Refusal>
         requires { self.old.state ≡ Committing.Ended }
-        ensures took { LandsSurely (after_branch self.old.session self.old.id (Reply.Over over)) (commit_rest self.new) result }
-        ensures falls { commit_left self.new < 1 }
-        ensures kept { session_in self.new ≡ session_in self.old }
+        ensures took { LandsSurely (after_branch self.old.session id (Reply.Over over)) (commit_rest self.new) result }
+        ensures falls { commit_left self.new < length self.old.arrays.left * 2 ^ 65 + 1 }
+        ensures kept { IsDrawn (session_in self.old) (session_in self.new) }
         ensures listed { IfErr result MayRefuseCommit }
     {
         match over {
-            Over::Done { version, now: _ } => Ok(Next::Ready(Committed {
-                id: self.id,
-                version,
-            })),
+            Over::Done { version, now: _ } => Ok(Next::Ready(Committed { id, version })),
             Over::Moved { found, now: _ } => Err(Refusal::Conflict {
                 old: self.session.version(),
                 found,
@@ -178,16 +365,18 @@ impl Commit {
         }
     }
 
-    /// Begins a commit: the session draws the id of the new snapshot, and the file of its log is made. It is refused by
-    /// `ReadOnly`, `NothingToCommit`, `IdsSpent` or `TooLarge`, the first in this order, or by `NoMemory`, and then the
-    /// session comes back as it was, apart from the id that was drawn.
-    #[tactic(auto, unfolding(crate::specs::Committing::started))]
+    /// Begins a commit: arrays without old manifests are merged, and the bytes of its first operation are made, under an id
+    /// that the session draws. It is refused by `ReadOnly`, `NothingToCommit`, `IdsSpent` or `TooLarge`, as the program of
+    /// the commit is, or by `NoMemory`, and then the session comes back as it was, apart from ids that were drawn.
+    #[tactic(auto, using(crate::proofs::Walking::own_start))]
     pub fn start(
         alloc: Global,
-        mut session: Session,
+        session: Session,
         message: Text,
     ) -> Result<Commit, (Session, Refusal)>
-        ensures { CommitStarts session message result }
+        ensures starts { CommitStarts session message result }
+        ensures bounded { IfOk result (λ c. commit_left c ≤ 2 ^ 200) }
+        ensures listed { IfErr result (λ refused. MayRefuseStart refused.1) }
     {
         if !session.writes() {
             return Err((session, Refusal::ReadOnly));
@@ -195,18 +384,19 @@ impl Commit {
         if session.is_unchanged() {
             return Err((session, Refusal::NothingToCommit));
         }
-        let Some(id) = session.draw() else {
-            return Err((session, Refusal::IdsSpent));
+        let Ok(arrays) = session.changed_arrays() else {
+            return Err((session, Refusal::NoMemory));
         };
-        match write_log(alloc, &session, id) {
-            Ok(file) => Ok(Commit {
-                alloc,
-                session,
-                message,
-                id,
-                state: Committing::Log(file),
-            }),
-            Err(why) => Err((session, why)),
+        let mut commit = Commit {
+            alloc,
+            session,
+            message,
+            arrays: Arrays::new(alloc, arrays),
+            state: Committing::Ended,
+        };
+        match commit.go_on() {
+            Ok(()) => Ok(commit),
+            Err(why) => Err((commit.session, why)),
         }
     }
 
@@ -223,7 +413,7 @@ impl Commit {
         requires polite { IsTrue (S.view store.old).caller.tells → NextIsPolite (commit_rest self.old) (S.view store.old).seen }
         ensures step { Steps (S.view store.old) (S.view store.new) (commit_rest self.old) (commit_rest self.new) result }
         ensures falls { commit_left self.new < commit_left self.old }
-        ensures session { session_in self.new ≡ session_in self.old }
+        ensures session { IsDrawn (session_in self.old) (session_in self.new) }
         ensures listed { IfErr result MayRefuseCommit }
     {
         drive(self, store)

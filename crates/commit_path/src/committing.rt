@@ -1,16 +1,27 @@
 //! Where a commit stands.
 
+use changed_snapshot::NewManifest;
+use held_manifest::Held;
 use ice_base::Bytes;
+use ice_ids::Id12;
+use snapshot_file::{Extents, ManifestRef};
+
+/// Manifests that were got, each with its extents in the list.
+pub type Got = Vec<(Extents, Held)>;
 
 /// The operation that comes next, with the bytes that it puts.
 #[derive(Debug, Drop)]
 pub enum Committing {
+    /// A manifest of the first array that is left is got; these were got before.
+    Old { manifest: ManifestRef, got: Got },
+    /// The new manifest of the first array that is left is put.
+    New { manifest: NewManifest, file: Bytes },
     /// The transaction log is put.
-    Log(Bytes),
+    Log { id: Id12, file: Bytes },
     /// The snapshot is put.
-    Snapshot(Bytes),
+    Snapshot { id: Id12, file: Bytes },
     /// The branch is put over.
-    Branch(Bytes),
+    Branch { id: Id12, file: Bytes },
     /// The machine has ended.
     Ended,
 }

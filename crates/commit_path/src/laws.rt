@@ -2,8 +2,9 @@
 
 ghost use Rattle.commit_path.specs.Laws.{OpeningLaw, SessionLaw, CommitLaw, AnswersLaw};
 
-use changed_snapshot::proper_law;
-use repo_objects::{initial_law, log_law, ref_law, snapshot_law};
+use changed_snapshot::{frozen_law, nodes_law, own_law, proper_law, ranked_law, tree_law};
+use manifest_index::{extents_law, merged_law, new_list_law};
+use repo_objects::{initial_law, log_law, manifest_law, ref_law, snapshot_law};
 
 /// Whatever others do, each operation of an opening is polite, its client has changed no branch
 /// wherever it may find no memory, and its answer tells the journal: a session begins at the snapshot
@@ -16,10 +17,19 @@ pub fn opening_law()
     ref_law();
     initial_law();
     proper_law();
+    nodes_law();
+    tree_law();
+    frozen_law();
+    ranked_law();
+    own_law();
+    manifest_law();
+    merged_law();
+    new_list_law();
+    extents_law();
 }
 
 /// What an opened session knows of its base, and that it can be written, stays so when nodes are added, changed
-/// or dropped; and what it knows, whatever good events come.
+/// or dropped, and when chunks are set in it or unset; and what it knows, whatever good events come.
 pub fn session_law()
     ensures { SessionLaw }
 {}
@@ -35,6 +45,15 @@ pub fn commit_law()
     ref_law();
     initial_law();
     proper_law();
+    nodes_law();
+    tree_law();
+    frozen_law();
+    ranked_law();
+    own_law();
+    manifest_law();
+    merged_law();
+    new_list_law();
+    extents_law();
 }
 
 /// What answers of openings and commits tell stays so, whatever good events others make.

@@ -1,9 +1,11 @@
 //! The machine that commits a session, what a commit owes, and what its answer says.
 #![tactic(auto)]
 
+mod arrays;
 mod commit;
 mod committing;
 mod laws;
+mod manifests;
 mod single;
 
 pub use commit::{Commit, Committed};

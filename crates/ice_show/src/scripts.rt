@@ -1,8 +1,16 @@
 //! Scripts of tasks.
 
+use crate::told::{push_bytes, push_index};
 use crate::words::NoAnswer;
 use play_script::{Call, EditCall, Head, Line, ReadCall, Script, ScriptFault, Task};
 use std::alloc::{AllocError, Global};
+use zarr_path::{Index, Path};
+
+/// Appends a call at a chunk.
+fn push_at(told: &mut String, call: &str, path: &Path, index: &Index) -> Result<(), AllocError> {
+    write!(told, "{call} {path}")?;
+    push_index(told, index)
+}
 
 /// Appends a change of the tree.
 fn push_edit(told: &mut String, edit: &EditCall) -> Result<(), AllocError> {
@@ -12,6 +20,30 @@ fn push_edit(told: &mut String, edit: &EditCall) -> Result<(), AllocError> {
         EditCall::Make { path, text } => write!(told, "make {path} '{}'", text.as_str()),
         EditCall::Meta { path, text } => write!(told, "meta {path} '{}'", text.as_str()),
         EditCall::Drop { path } => write!(told, "drop {path}"),
+        EditCall::Set { path, index, bytes } => {
+            push_at(told, "set", path, index)?;
+            push_bytes(told, bytes.as_slice())
+        }
+        EditCall::Fill { path, index, byte } => {
+            push_at(told, "fill", path, index)?;
+            write!(told, " with {byte}")
+        }
+        EditCall::Unset { path, index } => push_at(told, "unset", path, index),
+        EditCall::KeySet { key, bytes } => {
+            write!(told, "key {}", key.as_str())?;
+            push_bytes(told, bytes.as_slice())
+        }
+        EditCall::KeyErase { key } => write!(told, "no key {}", key.as_str()),
+    }
+}
+
+/// Appends a look at the tree.
+fn push_read(told: &mut String, read: &ReadCall) -> Result<(), AllocError> {
+    match read {
+        ReadCall::List { path } => write!(told, "list {path}"),
+        ReadCall::Get { path } => write!(told, "get {path}"),
+        ReadCall::Chunk { path, index } => push_at(told, "chunk", path, index),
+        ReadCall::KeyGet { key } => write!(told, "key {}", key.as_str()),
     }
 }
 
@@ -19,8 +51,7 @@ fn push_edit(told: &mut String, edit: &EditCall) -> Result<(), AllocError> {
 fn push_call(told: &mut String, call: &Call) -> Result<(), AllocError> {
     match call {
         Call::Edit(edit) => push_edit(told, edit),
-        Call::Read(ReadCall::List { path }) => write!(told, "list {path}"),
-        Call::Read(ReadCall::Get { path }) => write!(told, "get {path}"),
+        Call::Read(read) => push_read(told, read),
         Call::Commit { message } => write!(told, "commit '{}'", message.as_str()),
     }
 }

@@ -8,6 +8,7 @@ use ice_base::Text;
 use ice_ids::Id8;
 use std::alloc::{AllocError, Global};
 use std::fmt::Debug;
+use zarr_path::Index;
 
 /// What is told of a fault.
 pub fn fault_told<F: Debug + Drop>(alloc: Global, fault: F) -> Result<String, NoAnswer> {
@@ -27,6 +28,24 @@ pub fn again(alloc: Global, bytes: &[u8], written: &[u8]) -> Result<String, Allo
         return String::from_str(alloc, "the same bytes");
     }
     digits(alloc, written)
+}
+
+/// Appends bytes, a number each.
+pub fn push_bytes(told: &mut String, bytes: &[u8]) -> Result<(), AllocError> {
+    told.push_str(" bytes")?;
+    for byte in bytes {
+        write!(told, " {byte}")?;
+    }
+    Ok(())
+}
+
+/// Appends an index.
+pub fn push_index(told: &mut String, index: &Index) -> Result<(), AllocError> {
+    told.push_str(" at")?;
+    for number in index.parts() {
+        write!(told, " {number}")?;
+    }
+    Ok(())
 }
 
 /// Appends a list of ids.

@@ -7,6 +7,8 @@ mod ends;
 #[cfg(test)]
 mod grids;
 #[cfg(test)]
+mod manifests;
+#[cfg(test)]
 mod memory;
 #[cfg(test)]
 mod reports;

@@ -60,7 +60,7 @@ const SMALLEST_COMMIT: &str = "task a write main 0 fail\ngroup /\ncommit first\n
 
 /// An id is the number of the task's client and the number of ids that it drew before: one for each group, and then the
 /// snapshot's. A version is the number of operations before the one that put it.
-const ROWS: [Row; 10] = [
+const ROWS: [Row; 13] = [
     Row {
         script: "",
         report: "branch main 1CECHNKREP0F1RSTCMT0\n",
@@ -146,6 +146,39 @@ const ROWS: [Row; 10] = [
             \"chunk_grid\":{\"name\":\"regular\",\"configuration\":{\"chunk_shape\":[2]}},\
             \"chunk_key_encoding\":\"default\",\"fill_value\":0,\"codecs\":[\"bytes\"]}\n",
         report: "a refused 4 frozen data_type\nbranch main 1CECHNKREP0F1RSTCMT0\n",
+        status: Status::Refused,
+    },
+    // Chunks are set, filled, unset and read, in the session itself and behind its commit.
+    Row {
+        script: "task a write main 0 fail\n\
+            group /\narray /x uint8 5 2 7\nset /x 0 0102\nfill /x 1 ff\nset /x 2 0a0b\n\
+            chunk /x 1\nunset /x 1\nchunk /x 1\ncommit one\n\
+            task r read branch main\nchunk /x 0\nchunk /x 1\nchunk /x 2\nchunk /x 3\n",
+        report: "a 7 chunk ffff\na 9 fill\na committed 0000008000000000001G\n\
+            r 12 chunk 0102\nr 13 fill\nr 14 chunk 0a0b\nr refused 15 outofgrid\n\
+            branch main 0000008000000000001G\n",
+        status: Status::Refused,
+    },
+    // A chunk of 513 bytes is an object of its own, which takes an id; where no chunk is left, no manifest is written.
+    Row {
+        script: "task a write main 0 fail\n\
+            group /\narray /x uint8 1026 513 0\nfill /x 0 61\ncommit one\n\
+            task b write main 0 fail\nfill /x 1 62\nunset /x 0\ncommit two\n\
+            task c write main 0 fail\nchunk /x 0\nunset /x 1\nchunk /x 1\ncommit three\n\
+            task r read branch main\nchunk /x 1\n",
+        report: "a committed 00000080000000000020\nb committed 000000G0000000000010\n\
+            c 11 fill\nc 13 fill\nc committed 000000R0000000000000\n\
+            r 16 fill\nr done\nbranch main 000000R0000000000000\n",
+        status: Status::Ok,
+    },
+    // A Zarr store's keys: what a key names is set, read and erased; another word is no key.
+    Row {
+        script: "task a write main 0 fail\n\
+            group /\narray /x uint8 4 2 7\nzset x/c/0 0102\nzget x/c/0\nzget x/c/1\n\
+            chunk /x 0\nzdel x/c/0\nzget x/c/0\nzdel x/zarr.json\nzget x/zarr.json\nlist /\nzset x 00\n",
+        report: "a 5 zget 0102\na 6 zget absent\na 7 chunk 0102\na 9 zget absent\n\
+            a 11 zget absent\na refused 13 badkey\n\
+            branch main 1CECHNKREP0F1RSTCMT0\n",
         status: Status::Refused,
     },
     Row {

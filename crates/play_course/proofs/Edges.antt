@@ -29,7 +29,7 @@ use Rattle.repository.specs.Refs.{list_part, on_listed, read_ref, on_got, on_id,
 use Rattle.run_histories.proofs.Programs.{IsPlain}
 use Rattle.play_course.specs.Refusing.{is_strange, strange_answer}
 use Rattle.play_course.proofs.Tidy.{tidy-more, IsTidy, IsAny, Puts, all-named}
-use Rattle.play_course.proofs.Meeting.{was-read, Plain, Meets, done-meets, ask-meets, then-meets, meets-weaker, got-meets, replied}
+use Rattle.play_course.proofs.Meeting.{Watch, drawing, was-read, Plain, Meets, done-meets, ask-meets, then-meets, meets-weaker, got-meets, replied}
 
 -- ---- the events of the opening and the closing reading
 plain-puts : InitialLaw → (op : Op) → IsPlain op → Puts (λ id. ⊥) op
@@ -52,22 +52,25 @@ plain-tidy initial old own good plain = Each-both IsGood (λ journal event. IsPl
 
 -- ---- answers
 module _ (who : Id12 → Type 0) where
+  abbrev watch : Watch
+  watch = drawing who
+
   -- the opening
-  after_put-meets : (reply : Reply) (journal : List Event) → Meets Plain who (after_put reply) journal
-  after_put-meets (Is_new x) journal = done-meets Plain who (Ok tt) journal refl
-  after_put-meets (Is_got x) journal = done-meets Plain who (Err StoreFault) journal refl
-  after_put-meets (Is_over x) journal = done-meets Plain who (Err StoreFault) journal refl
-  after_put-meets (Is_gone x) journal = done-meets Plain who (Err StoreFault) journal refl
-  after_put-meets (Is_gone_at x) journal = done-meets Plain who (Err StoreFault) journal refl
-  after_put-meets (Is_listed x) journal = done-meets Plain who (Err StoreFault) journal refl
-  after_put-meets (Failed done) journal = done-meets Plain who (Err StoreFault) journal refl
+  after_put-meets : (reply : Reply) (journal : List Event) → Meets Plain watch (after_put reply) journal
+  after_put-meets (Is_new x) journal = done-meets Plain watch (Ok tt) journal refl
+  after_put-meets (Is_got x) journal = done-meets Plain watch (Err StoreFault) journal refl
+  after_put-meets (Is_over x) journal = done-meets Plain watch (Err StoreFault) journal refl
+  after_put-meets (Is_gone x) journal = done-meets Plain watch (Err StoreFault) journal refl
+  after_put-meets (Is_gone_at x) journal = done-meets Plain watch (Err StoreFault) journal refl
+  after_put-meets (Is_listed x) journal = done-meets Plain watch (Err StoreFault) journal refl
+  after_put-meets (Failed done) journal = done-meets Plain watch (Err StoreFault) journal refl
 
-  main-meets : (journal : List Event) → Meets Plain who put_main journal
-  main-meets journal = ask-meets Plain who _ after_put journal (λ more event others any is. after_put-meets event.reply ((journal ++ more) ++ event ∷ []))
+  main-meets : (journal : List Event) → Meets Plain watch put_main journal
+  main-meets journal = ask-meets Plain watch _ after_put journal (λ more event others any is. after_put-meets event.reply ((journal ++ more) ++ event ∷ []))
 
-  pub begin-meets : (journal : List Event) → Meets (λ (r : Result (Unit {0}) Refusal) (h : List Event). strange_answer r ≡ false) who begin_program journal
-  begin-meets journal = ask-meets Plain who _ _ journal (λ more event others any is.
-      then-meets Plain Plain who (after_put event.reply) (λ done. put_main) ((journal ++ more) ++ event ∷ []) (after_put-meets event.reply ((journal ++ more) ++ event ∷ []))
+  pub begin-meets : (journal : List Event) → Meets (λ (r : Result (Unit {0}) Refusal) (h : List Event). strange_answer r ≡ false) (drawing who) begin_program journal
+  begin-meets journal = ask-meets Plain watch _ _ journal (λ more event others any is.
+      then-meets Plain Plain watch (after_put event.reply) (λ done. put_main) ((journal ++ more) ++ event ∷ []) (after_put-meets event.reply ((journal ++ more) ++ event ∷ []))
       (λ done h p. main-meets h) (λ why h p. p))
 
 -- ---- the closing reading
@@ -137,13 +140,13 @@ module _ (who : Id12 → Type 0) where
   Lists (Ok entries) h = Each IsAny [] h × AllNamedKeys entries
   Lists (Err why) h = is_strange why ≡ false
 
-  list-meets : (part : Part) (journal : List Event) → IsRefs part → Each IsAny [] journal → Meets Lists who (list_part part) journal
+  list-meets : (part : Part) (journal : List Event) → IsRefs part → Each IsAny [] journal → Meets Lists (drawing who) (list_part part) journal
   unfolding Lists
-  list-meets part journal r tidy = ask-meets Lists who (ListPart part) on_listed journal (λ more event others any is.
+  list-meets part journal r tidy = ask-meets Lists (drawing who) (ListPart part) on_listed journal (λ more event others any is.
       elim (replied (journal ++ more) event (ListPart part) any.good is) [
-        | inl h ↦ subst (λ (x : Reply). Meets Lists who (on_listed x) ((journal ++ more) ++ event ∷ [])) (sym h.1)
-            (done-meets Lists who (Ok h.0) ((journal ++ more) ++ event ∷ []) (tidy-next journal more event tidy others any, all-entries h.0 (λ k e at. named-in part e.key r (h.2.right k e at).part_is)))
-        | inr f ↦ subst (λ (x : Reply). Meets Lists who (on_listed x) ((journal ++ more) ++ event ∷ [])) (sym f.is) (done-meets Lists who (Err StoreFault) ((journal ++ more) ++ event ∷ []) refl)
+        | inl h ↦ subst (λ (x : Reply). Meets Lists (drawing who) (on_listed x) ((journal ++ more) ++ event ∷ [])) (sym h.1)
+            (done-meets Lists (drawing who) (Ok h.0) ((journal ++ more) ++ event ∷ []) (tidy-next journal more event tidy others any, all-entries h.0 (λ k e at. named-in part e.key r (h.2.right k e at).part_is)))
+        | inr f ↦ subst (λ (x : Reply). Meets Lists (drawing who) (on_listed x) ((journal ++ more) ++ event ∷ [])) (sym f.is) (done-meets Lists (drawing who) (Err StoreFault) ((journal ++ more) ++ event ∷ []) refl)
       ])
 
   -- a ref that stands is a reference
@@ -160,36 +163,36 @@ module _ (who : Id12 → Type 0) where
   named-at (Txn id) journal s r tidy e = absurd r
   named-at (Chunk id) journal s r tidy e = absurd r
 
-  ref-meets : (key : Key) (journal : List Event) → IsRef key → Each IsAny [] journal → Meets Reads who (read_ref key) journal
+  ref-meets : (key : Key) (journal : List Event) → IsRef key → Each IsAny [] journal → Meets Reads (drawing who) (read_ref key) journal
   unfolding Reads
-  ref-meets key journal r tidy = ask-meets Reads who (Get key) (on_got key) journal (λ more event others any is.
+  ref-meets key journal r tidy = ask-meets Reads (drawing who) (Get key) (on_got key) journal (λ more event others any is.
       let after = tidy-next journal more event tidy others any in
-      got-meets Reads who (on_got key) (journal ++ more) event any.good ((journal ++ more) ++ event ∷ []) key is
+      got-meets Reads (drawing who) (on_got key) (journal ++ more) event any.good ((journal ++ more) ++ event ∷ []) key is
       (λ s at. let n = named-at key (journal ++ more) s r (tidy-more who journal more tidy others) at in
-      subst (λ (o : Result Id12 Bad). Meets Reads who (Done (on_id key o)) ((journal ++ more) ++ event ∷ [])) (sym (was-read (read_bytes s.bytes) n.id n.reference)) (done-meets Reads who (on_id key (Ok n.id)) ((journal ++ more) ++ event ∷ []) after))
-      (λ gone. done-meets Reads who (Ok None) ((journal ++ more) ++ event ∷ []) after)
-      (λ done. done-meets Reads who (Err StoreFault) ((journal ++ more) ++ event ∷ []) refl))
+      subst (λ (o : Result Id12 Bad). Meets Reads (drawing who) (Done (on_id key o)) ((journal ++ more) ++ event ∷ [])) (sym (was-read (read_bytes s.bytes) n.id n.reference)) (done-meets Reads (drawing who) (on_id key (Ok n.id)) ((journal ++ more) ++ event ∷ []) after))
+      (λ gone. done-meets Reads (drawing who) (Ok None) ((journal ++ more) ++ event ∷ []) after)
+      (λ done. done-meets Reads (drawing who) (Err StoreFault) ((journal ++ more) ++ event ∷ []) refl))
 
-  each-meets : (lines : List RefLine) (keys : List Key) (journal : List Event) → AllRefs keys → Each IsAny [] journal → Meets Reads who (read_each lines keys) journal
+  each-meets : (lines : List RefLine) (keys : List Key) (journal : List Event) → AllRefs keys → Each IsAny [] journal → Meets Reads (drawing who) (read_each lines keys) journal
   unfolding Reads
-  each-meets lines [] journal r tidy = done-meets Reads who (Ok lines) journal tidy
+  each-meets lines [] journal r tidy = done-meets Reads (drawing who) (Ok lines) journal tidy
   each-meets lines (key ∷ keys) journal r tidy =
-      then-meets Reads Reads who (read_ref key) (λ line. read_each (with_line lines line) keys) journal (ref-meets key journal r.0 tidy)
+      then-meets Reads Reads (drawing who) (read_ref key) (λ line. read_each (with_line lines line) keys) journal (ref-meets key journal r.0 tidy)
       (λ line h t. each-meets (with_line lines line) keys h r.1 t) (λ why h p. p)
 
-  tags-meets : (lines : List RefLine) (journal : List Event) → Each IsAny [] journal → Meets Reads who (read_tags lines) journal
+  tags-meets : (lines : List RefLine) (journal : List Event) → Each IsAny [] journal → Meets Reads (drawing who) (read_tags lines) journal
   unfolding Reads Lists
-  tags-meets lines journal tidy = then-meets Lists Reads who (list_part Tags) (λ tags. read_each lines (live tags)) journal (list-meets Tags journal tt tidy)
+  tags-meets lines journal tidy = then-meets Lists Reads (drawing who) (list_part Tags) (λ tags. read_each lines (live tags)) journal (list-meets Tags journal tt tidy)
       (λ tags h t. each-meets lines (live tags) h (live-refs tags t.1) t.0) (λ why h p. p)
 
-  branches-meets : (lines : List RefLine) (branches : List Entry) (journal : List Event) → AllNamedKeys branches → Each IsAny [] journal → Meets Reads who (read_branches lines branches) journal
+  branches-meets : (lines : List RefLine) (branches : List Entry) (journal : List Event) → AllNamedKeys branches → Each IsAny [] journal → Meets Reads (drawing who) (read_branches lines branches) journal
   unfolding Reads
-  branches-meets lines branches journal n tidy = then-meets Reads Reads who (read_each lines (live branches)) read_tags journal (each-meets lines (live branches) journal (live-refs branches n) tidy)
+  branches-meets lines branches journal n tidy = then-meets Reads Reads (drawing who) (read_each lines (live branches)) read_tags journal (each-meets lines (live branches) journal (live-refs branches n) tidy)
       (λ more h t. tags-meets more h t) (λ why h p. p)
 
-  refs-read : (journal : List Event) → Each IsAny [] journal → Meets Reads who refs_program journal
+  refs-read : (journal : List Event) → Each IsAny [] journal → Meets Reads (drawing who) refs_program journal
   unfolding Reads Lists
-  refs-read journal tidy = then-meets Lists Reads who (list_part Branches) (λ branches. read_branches [] branches) journal (list-meets Branches journal tt tidy)
+  refs-read journal tidy = then-meets Lists Reads (drawing who) (list_part Branches) (λ branches. read_branches [] branches) journal (list-meets Branches journal tt tidy)
       (λ branches h t. branches-meets [] branches h t.1 t.0) (λ why h p. p)
 
   reads-plain : {A : Type 0} (r : Result A Refusal) (h : List Event) → Reads r h → strange_answer r ≡ false
@@ -197,5 +200,5 @@ module _ (who : Id12 → Type 0) where
   reads-plain (Ok a) h p = refl
   reads-plain (Err why) h p = p
 
-  pub refs-meets : (journal : List Event) → Each IsAny [] journal → Meets (λ (r : Result (List RefLine) Refusal) (h : List Event). strange_answer r ≡ false) who refs_program journal
-  refs-meets journal tidy = meets-weaker Reads (λ r h. strange_answer r ≡ false) reads-plain who refs_program journal (refs-read journal tidy)
+  pub refs-meets : (journal : List Event) → Each IsAny [] journal → Meets (λ (r : Result (List RefLine) Refusal) (h : List Event). strange_answer r ≡ false) (drawing who) refs_program journal
+  refs-meets journal tidy = meets-weaker Reads (λ r h. strange_answer r ≡ false) reads-plain (drawing who) refs_program journal (refs-read journal tidy)

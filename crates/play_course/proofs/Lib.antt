@@ -2,6 +2,11 @@ mod Leaving
 mod Playing
 mod Tidy
 mod Meeting
+mod Knowing
+mod Holding
+mod Reading
+mod Placing
+mod Committing
 mod Tasks
 mod Edges
 mod Whole

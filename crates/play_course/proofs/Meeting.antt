@@ -23,119 +23,128 @@ use Rattle.store_api.specs.Running.{Program, ◌>>=◌, on_answer}
 use Rattle.play_course.specs.Refusing.{strange_answer}
 use Rattle.play_course.proofs.Tidy.{IsTidy, IsAny}
 
--- Q holds of whatever the program answers, whatever others do that draw these ids.
-unfoldable pub Meets : {A : Type 0} → (A → List Event → Type 0) → (Id12 → Type 0) → Prog A → List Event → Type 0
-Meets Q who (Done a) journal = Q a journal
-Meets Q who (Ask op next) journal = (more : List Event) (event : Event) → Each (IsTidy who) journal more → IsAny (journal ++ more) event → event.op ≡ op → Meets Q who (next event.reply) ((journal ++ more) ++ event ∷ [])
+-- what is known of each event of others, and of each own one
+pub record Watch : Type 1 where
+  pub others : List Event → Event → Type 0
+  pub own : List Event → Event → Type 0
 
-pub meets-done : {A : Type 0} (Q : A → List Event → Type 0) (who : Id12 → Type 0) (a : A) (journal : List Event) → Meets Q who (Done a) journal → Q a journal
-unfolding Meets
-meets-done Q who a journal m = m
+-- others draw these ids
+abbrev pub drawing : (Id12 → Type 0) → Watch
+drawing who = record { others = IsTidy who; own = IsAny }
 
-pub done-meets : {A : Type 0} (Q : A → List Event → Type 0) (who : Id12 → Type 0) (a : A) (journal : List Event) → Q a journal → Meets Q who (Done a) journal
-unfolding Meets
-done-meets Q who a journal q = q
+-- Q holds of whatever the program answers, whatever others do of which this is known.
+unfoldable pub Meets : {A : Type 0} → (A → List Event → Type 0) → Watch → Prog A → List Event → Type 0
+Meets Q watch (Done a) journal = Q a journal
+Meets Q watch (Ask op next) journal = (more : List Event) (event : Event) → Each watch.others journal more → watch.own (journal ++ more) event → event.op ≡ op → Meets Q watch (next event.reply) ((journal ++ more) ++ event ∷ [])
 
-pub ask-meets : {A : Type 0} (Q : A → List Event → Type 0) (who : Id12 → Type 0) (op : Op) (next : Reply → Prog A) (journal : List Event) → ((more : List Event) (event : Event) → Each (IsTidy who) journal more → IsAny (journal ++ more) event → event.op ≡ op → Meets Q who (next event.reply) ((journal ++ more) ++ event ∷ [])) → Meets Q who (Ask op next) journal
+pub meets-done : {A : Type 0} (Q : A → List Event → Type 0) (watch : Watch) (a : A) (journal : List Event) → Meets Q watch (Done a) journal → Q a journal
 unfolding Meets
-ask-meets Q who op next journal f = f
+meets-done Q watch a journal m = m
+
+pub done-meets : {A : Type 0} (Q : A → List Event → Type 0) (watch : Watch) (a : A) (journal : List Event) → Q a journal → Meets Q watch (Done a) journal
+unfolding Meets
+done-meets Q watch a journal q = q
+
+pub ask-meets : {A : Type 0} (Q : A → List Event → Type 0) (watch : Watch) (op : Op) (next : Reply → Prog A) (journal : List Event) → ((more : List Event) (event : Event) → Each watch.others journal more → watch.own (journal ++ more) event → event.op ≡ op → Meets Q watch (next event.reply) ((journal ++ more) ++ event ∷ [])) → Meets Q watch (Ask op next) journal
+unfolding Meets
+ask-meets Q watch op next journal f = f
 
 -- first p, and then what follows
-pub bind-meets : {A B : Type 0} (Q : A → List Event → Type 0) (R : B → List Event → Type 0) (who : Id12 → Type 0) (p : Prog A) (f : A → Prog B) (journal : List Event) → Meets Q who p journal → ((a : A) (h : List Event) → Q a h → Meets R who (f a) h) → Meets R who (bind p f) journal
+pub bind-meets : {A B : Type 0} (Q : A → List Event → Type 0) (R : B → List Event → Type 0) (watch : Watch) (p : Prog A) (f : A → Prog B) (journal : List Event) → Meets Q watch p journal → ((a : A) (h : List Event) → Q a h → Meets R watch (f a) h) → Meets R watch (bind p f) journal
 unfolding Meets
-bind-meets Q R who (Done a) f journal m g = g a journal m
-bind-meets Q R who (Ask op next) f journal m g = λ more event others any is. bind-meets Q R who (next event.reply) f ((journal ++ more) ++ event ∷ []) (m more event others any is) g
+bind-meets Q R watch (Done a) f journal m g = g a journal m
+bind-meets Q R watch (Ask op next) f journal m g = λ more event others any is. bind-meets Q R watch (next event.reply) f ((journal ++ more) ++ event ∷ []) (m more event others any is) g
 
-answer-meets : {A B : Type 0} (Q : Result A Refusal → List Event → Type 0) (R : Result B Refusal → List Event → Type 0) (who : Id12 → Type 0) (f : A → Program B) → ((a : A) (h : List Event) → Q (Ok a) h → Meets R who (f a) h) → ((why : Refusal) (h : List Event) → Q (Err why) h → R (Err why) h) → (r : Result A Refusal) (h : List Event) → Q r h → Meets R who (on_answer f r) h
-answer-meets Q R who f go stop (Ok a) h q = go a h q
-answer-meets Q R who f go stop (Err why) h q = done-meets R who (Err why) h (stop why h q)
+answer-meets : {A B : Type 0} (Q : Result A Refusal → List Event → Type 0) (R : Result B Refusal → List Event → Type 0) (watch : Watch) (f : A → Program B) → ((a : A) (h : List Event) → Q (Ok a) h → Meets R watch (f a) h) → ((why : Refusal) (h : List Event) → Q (Err why) h → R (Err why) h) → (r : Result A Refusal) (h : List Event) → Q r h → Meets R watch (on_answer f r) h
+answer-meets Q R watch f go stop (Ok a) h q = go a h q
+answer-meets Q R watch f go stop (Err why) h q = done-meets R watch (Err why) h (stop why h q)
 
-pub then-meets : {A B : Type 0} (Q : Result A Refusal → List Event → Type 0) (R : Result B Refusal → List Event → Type 0) (who : Id12 → Type 0) (p : Program A) (f : A → Program B) (journal : List Event) → Meets Q who p journal → ((a : A) (h : List Event) → Q (Ok a) h → Meets R who (f a) h) → ((why : Refusal) (h : List Event) → Q (Err why) h → R (Err why) h) → Meets R who (p >>= f) journal
-then-meets Q R who p f journal m go stop = bind-meets Q R who p (on_answer f) journal m (answer-meets Q R who f go stop)
+pub then-meets : {A B : Type 0} (Q : Result A Refusal → List Event → Type 0) (R : Result B Refusal → List Event → Type 0) (watch : Watch) (p : Program A) (f : A → Program B) (journal : List Event) → Meets Q watch p journal → ((a : A) (h : List Event) → Q (Ok a) h → Meets R watch (f a) h) → ((why : Refusal) (h : List Event) → Q (Err why) h → R (Err why) h) → Meets R watch (p >>= f) journal
+then-meets Q R watch p f journal m go stop = bind-meets Q R watch p (on_answer f) journal m (answer-meets Q R watch f go stop)
 
-pub meets-weaker : {A : Type 0} (Q R : A → List Event → Type 0) → ((a : A) (h : List Event) → Q a h → R a h) → (who : Id12 → Type 0) (p : Prog A) (journal : List Event) → Meets Q who p journal → Meets R who p journal
+pub meets-weaker : {A : Type 0} (Q R : A → List Event → Type 0) → ((a : A) (h : List Event) → Q a h → R a h) → (watch : Watch) (p : Prog A) (journal : List Event) → Meets Q watch p journal → Meets R watch p journal
 unfolding Meets
-meets-weaker Q R f who (Done a) journal m = f a journal m
-meets-weaker Q R f who (Ask op next) journal m = λ more event others any is. meets-weaker Q R f who (next event.reply) ((journal ++ more) ++ event ∷ []) (m more event others any is)
+meets-weaker Q R f watch (Done a) journal m = f a journal m
+meets-weaker Q R f watch (Ask op next) journal m = λ more event others any is. meets-weaker Q R f watch (next event.reply) ((journal ++ more) ++ event ∷ []) (m more event others any is)
 
 -- ---- steps
-module _ {A : Type 0} (Q : A → Type 0) (who : Id12 → Type 0) where
-  pub meets-step : (op : Op) (next : Reply → Prog A) (old : List Event) (event : Event) → IsAny old event → event.op ≡ op → Meets (λ a h. Q a) who (Ask op next) old → Meets (λ a h. Q a) who (next event.reply) (old ++ event ∷ [])
+module _ {A : Type 0} (Q : A → Type 0) (watch : Watch) where
+  pub meets-step : (op : Op) (next : Reply → Prog A) (old : List Event) (event : Event) → watch.own old event → event.op ≡ op → Meets (λ a h. Q a) watch (Ask op next) old → Meets (λ a h. Q a) watch (next event.reply) (old ++ event ∷ [])
   unfolding Meets
   meets-step op next old event any is m =
       let same : old ++ [] ≡ old = append-nil old in
-      subst (λ (h : List Event). Meets (λ a g. Q a) who (next event.reply) (h ++ event ∷ [])) same
-      (m [] event (Each-none (IsTidy who) old) (subst (λ (h : List Event). IsAny h event) (sym same) any) is)
+      subst (λ (h : List Event). Meets (λ a g. Q a) watch (next event.reply) (h ++ event ∷ [])) same
+      (m [] event (Each-none watch.others old) (subst (λ (h : List Event). watch.own h event) (sym same) any) is)
 
   -- a program that was run to its end alone
-  pub meets-path : (p : Prog A) (old own : List Event) (a : A) → Each IsAny old own → Path p own (Done a) → Meets (λ b h. Q b) who p old → Q a
+  pub meets-path : (p : Prog A) (old own : List Event) (a : A) → Each watch.own old own → Path p own (Done a) → Meets (λ b h. Q b) watch p old → Q a
   unfolding Each Path
-  meets-path p old [] a tidy path m = meets-done (λ b h. Q b) who a old (subst (λ (x : Prog A). Meets (λ b h. Q b) who x old) path m)
+  meets-path p old [] a tidy path m = meets-done (λ b h. Q b) watch a old (subst (λ (x : Prog A). Meets (λ b h. Q b) watch x old) path m)
   meets-path (Done b) old (x ∷ xs) a tidy path m = absurd path
   meets-path (Ask op next) old (x ∷ xs) a tidy path m = meets-path (next x.reply) (old ++ x ∷ []) xs a tidy.1 path.1 (meets-step op next old x tidy.0 path.0 m)
 
 -- ---- plays
--- Q holds of whatever the play ends with, with memory or without, whatever others do that draw these ids.
-unfoldable pub PlayMeets : {A : Type 0} → (A → Type 0) → (Id12 → Type 0) → Play A → List Event → Type 0
-PlayMeets Q who (Ended a) journal = Q a
-PlayMeets Q who (Ask_play op starved next) journal =
-    PlayMeets Q who starved journal × ((more : List Event) (event : Event) → Each (IsTidy who) journal more → IsAny (journal ++ more) event → event.op ≡ op → PlayMeets Q who (next event.reply) ((journal ++ more) ++ event ∷ []))
-PlayMeets Q who (Or p q) journal = PlayMeets Q who p journal × PlayMeets Q who q journal
+-- Q holds of whatever the play ends with, with memory or without, whatever others do of which this is known.
+unfoldable pub PlayMeets : {A : Type 0} → (A → Type 0) → Watch → Play A → List Event → Type 0
+PlayMeets Q watch (Ended a) journal = Q a
+PlayMeets Q watch (Ask_play op starved next) journal =
+    PlayMeets Q watch starved journal × ((more : List Event) (event : Event) → Each watch.others journal more → watch.own (journal ++ more) event → event.op ≡ op → PlayMeets Q watch (next event.reply) ((journal ++ more) ++ event ∷ []))
+PlayMeets Q watch (Or p q) journal = PlayMeets Q watch p journal × PlayMeets Q watch q journal
 
-module _ {A : Type 0} (Q : A → Type 0) (who : Id12 → Type 0) where
-  pub ended-meets : (a : A) (journal : List Event) → Q a → PlayMeets Q who (Ended a) journal
+module _ {A : Type 0} (Q : A → Type 0) (watch : Watch) where
+  pub ended-meets : (a : A) (journal : List Event) → Q a → PlayMeets Q watch (Ended a) journal
   unfolding PlayMeets
   ended-meets a journal q = q
 
-  pub meets-ended : (a : A) (journal : List Event) → PlayMeets Q who (Ended a) journal → Q a
+  pub meets-ended : (a : A) (journal : List Event) → PlayMeets Q watch (Ended a) journal → Q a
   unfolding PlayMeets
   meets-ended a journal m = m
 
-  pub or-meets : (p q : Play A) (journal : List Event) → PlayMeets Q who p journal → PlayMeets Q who q journal → PlayMeets Q who (Or p q) journal
+  pub or-meets : (p q : Play A) (journal : List Event) → PlayMeets Q watch p journal → PlayMeets Q watch q journal → PlayMeets Q watch (Or p q) journal
   unfolding PlayMeets
   or-meets p q journal m n = (m, n)
 
-  pub meets-comes : (p q : Play A) (journal : List Event) → Comes p q → PlayMeets Q who p journal → PlayMeets Q who q journal
+  pub meets-comes : (p q : Play A) (journal : List Event) → Comes p q → PlayMeets Q watch p journal → PlayMeets Q watch q journal
   unfolding PlayMeets
-  meets-comes (Ended a) q journal c m = subst (λ (x : Play A). PlayMeets Q who x journal) (sym c) m
-  meets-comes (Ask_play op s f) q journal c m = subst (λ (x : Play A). PlayMeets Q who x journal) (sym c) m
+  meets-comes (Ended a) q journal c m = subst (λ (x : Play A). PlayMeets Q watch x journal) (sym c) m
+  meets-comes (Ask_play op s f) q journal c m = subst (λ (x : Play A). PlayMeets Q watch x journal) (sym c) m
   meets-comes (Or p r) q journal (inl c) m = meets-comes p q journal c m.0
   meets-comes (Or p r) q journal (inr c) m = meets-comes r q journal c m.1
 
-  pub meets-others : (p : Play A) (old more : List Event) → Each (IsTidy who) old more → PlayMeets Q who p old → PlayMeets Q who p (old ++ more)
+  pub meets-others : (p : Play A) (old more : List Event) → Each watch.others old more → PlayMeets Q watch p old → PlayMeets Q watch p (old ++ more)
   unfolding PlayMeets
   meets-others (Ended a) old more others m = m
   meets-others (Ask_play op s next) old more others m = (
     meets-others s old more others m.0,
     λ later event o any is.
         let same : (old ++ more) ++ later ≡ old ++ (more ++ later) = append_assoc old more later in
-        subst (λ (h : List Event). PlayMeets Q who (next event.reply) (h ++ event ∷ [])) (sym same)
-        (m.1 (more ++ later) event (Each-append (IsTidy who) old more later others o) (subst (λ (h : List Event). IsAny h event) same any) is),
+        subst (λ (h : List Event). PlayMeets Q watch (next event.reply) (h ++ event ∷ [])) (sym same)
+        (m.1 (more ++ later) event (Each-append watch.others old more later others o) (subst (λ (h : List Event). watch.own h event) same any) is),
   )
   meets-others (Or p q) old more others m = (meets-others p old more others m.0, meets-others q old more others m.1)
 
   -- a turn with its operation
-  pub meets-acted : (op : Op) (s : Play A) (next : Reply → Play A) (q : Play A) (old : List Event) (event : Event) → IsAny old event → event.op ≡ op → Comes (next event.reply) q → PlayMeets Q who (Ask_play op s next) old → PlayMeets Q who q (old ++ event ∷ [])
+  pub meets-acted : (op : Op) (s : Play A) (next : Reply → Play A) (q : Play A) (old : List Event) (event : Event) → watch.own old event → event.op ≡ op → Comes (next event.reply) q → PlayMeets Q watch (Ask_play op s next) old → PlayMeets Q watch q (old ++ event ∷ [])
   unfolding PlayMeets
   meets-acted op s next q old event any is comes m =
       let same : old ++ [] ≡ old = append-nil old in
       meets-comes (next event.reply) q (old ++ event ∷ []) comes
-      (subst (λ (h : List Event). PlayMeets Q who (next event.reply) (h ++ event ∷ [])) same
-      (m.1 [] event (Each-none (IsTidy who) old) (subst (λ (h : List Event). IsAny h event) (sym same) any) is))
+      (subst (λ (h : List Event). PlayMeets Q watch (next event.reply) (h ++ event ∷ [])) same
+      (m.1 [] event (Each-none watch.others old) (subst (λ (h : List Event). watch.own h event) (sym same) any) is))
 
   -- a turn for which there was no memory
-  pub meets-starved : (op : Op) (s : Play A) (next : Reply → Play A) (q : Play A) (old : List Event) → Comes s q → PlayMeets Q who (Ask_play op s next) old → PlayMeets Q who q old
+  pub meets-starved : (op : Op) (s : Play A) (next : Reply → Play A) (q : Play A) (old : List Event) → Comes s q → PlayMeets Q watch (Ask_play op s next) old → PlayMeets Q watch q old
   unfolding PlayMeets
   meets-starved op s next q old comes m = meets-comes s q old comes m.0
 
-  behind-meets : (op : Op) (p s : Play A) (journal : List Event) (over : Bool) → is_over op ≡ over → PlayMeets Q who p journal → PlayMeets Q who s journal → PlayMeets Q who (behind op p s) journal
+  behind-meets : (op : Op) (p s : Play A) (journal : List Event) (over : Bool) → is_over op ≡ over → PlayMeets Q watch p journal → PlayMeets Q watch s journal → PlayMeets Q watch (behind op p s) journal
   unfolding PlayMeets
   behind-meets op p s journal true e m n = rw e m
   behind-meets op p s journal false e m n = rw e (m, n)
 
   -- a call, and then what follows its answer
-  pub call-meets : {B : Type 0} (R : Result B Refusal → List Event → Type 0) (p : Program B) (f : Result B Refusal → Play A) (journal : List Event) → Meets R who p journal
-      → ((answer : Result B Refusal) (h : List Event) → R answer h → PlayMeets Q who (f answer) h) → ((h : List Event) → PlayMeets Q who (f (Err NoMemory)) h) → PlayMeets Q who (call p f) journal
+  pub call-meets : {B : Type 0} (R : Result B Refusal → List Event → Type 0) (p : Program B) (f : Result B Refusal → Play A) (journal : List Event) → Meets R watch p journal
+      → ((answer : Result B Refusal) (h : List Event) → R answer h → PlayMeets Q watch (f answer) h) → ((h : List Event) → PlayMeets Q watch (f (Err NoMemory)) h) → PlayMeets Q watch (call p f) journal
   unfolding Meets PlayMeets
   call-meets R (Done answer) f journal m g n = g answer journal m
   call-meets R (Ask op next) f journal m g n = (
@@ -165,30 +174,30 @@ replied journal event op good is =
     unless-failed (IsHonest (found journal) (length journal) event.time op) event.reply
     (subst (λ (o : Op). UnlessFailed (IsHonest (found journal) (length journal) event.time o) event.reply) is good.legal.answered)
 
-module _ {A : Type 0} (Q : A → List Event → Type 0) (who : Id12 → Type 0) (next : Reply → Prog A) (journal : List Event) (event : Event) (good : IsGood journal event) (after : List Event) where
+module _ {A : Type 0} (Q : A → List Event → Type 0) (watch : Watch) (next : Reply → Prog A) (journal : List Event) (event : Event) (good : IsGood journal event) (after : List Event) where
   -- to a get: what stands at the key, or nothing
   pub got-meets : (key : Key) → event.op ≡ Get key
-      → ((s : Stored) → found journal key ≡ Some s → Meets Q who (next (Is_got (Found s.bytes (version_at s.version) event.time))) after)
-      → (found journal key ≡ None → Meets Q who (next (Is_got (Absent event.time))) after)
-      → ((done : Bool) → Meets Q who (next (Failed done)) after)
-      → Meets Q who (next event.reply) after
+      → ((s : Stored) → found journal key ≡ Some s → Meets Q watch (next (Is_got (Found s.bytes (version_at s.version) event.time))) after)
+      → (found journal key ≡ None → Meets Q watch (next (Is_got (Absent event.time))) after)
+      → ((done : Bool) → Meets Q watch (next (Failed done)) after)
+      → Meets Q watch (next event.reply) after
   got-meets key is there gone failed = elim (replied journal event (Get key) good is) [
-    | inl h ↦ subst (λ (r : Reply). Meets Q who (next r) after) (sym h) (by_found (found journal key) refl)
-    | inr f ↦ subst (λ (r : Reply). Meets Q who (next r) after) (sym f.is) (failed f.done)
+    | inl h ↦ subst (λ (r : Reply). Meets Q watch (next r) after) (sym h) (by_found (found journal key) refl)
+    | inr f ↦ subst (λ (r : Reply). Meets Q watch (next r) after) (sym f.is) (failed f.done)
   ]
     where
-      by_found : (o : Option Stored) → found journal key ≡ o → Meets Q who (next (Is_got (got_of event.time o))) after
+      by_found : (o : Option Stored) → found journal key ≡ o → Meets Q watch (next (Is_got (got_of event.time o))) after
       by_found None e = gone e
       by_found (Some s) e = there s e
 
   -- to a put where nothing stands
   pub put-meets : (key : Key) (bytes : List ℕ) (why : Why) → event.op ≡ PutNew key bytes why → found journal key ≡ None
-      → Meets Q who (next (Is_new (New_done (version_at (length journal)) event.time))) after
-      → ((done : Bool) → Meets Q who (next (Failed done)) after)
-      → Meets Q who (next event.reply) after
+      → (event.reply ≡ Is_new (New_done (version_at (length journal)) event.time) → Meets Q watch (next (Is_new (New_done (version_at (length journal)) event.time))) after)
+      → ((done : Bool) → Meets Q watch (next (Failed done)) after)
+      → Meets Q watch (next event.reply) after
   put-meets key bytes why is free put failed = elim (replied journal event (PutNew key bytes why) good is) [
-    | inl h ↦ subst (λ (r : Reply). Meets Q who (next r) after) (sym (h ∙ ap (λ (o : Option Stored). Is_new (new_of (length journal) event.time o)) free)) put
-    | inr f ↦ subst (λ (r : Reply). Meets Q who (next r) after) (sym f.is) (failed f.done)
+    | inl h ↦ let told = h ∙ ap (λ (o : Option Stored). Is_new (new_of (length journal) event.time o)) free in subst (λ (r : Reply). Meets Q watch (next r) after) (sym told) (put told)
+    | inr f ↦ subst (λ (r : Reply). Meets Q watch (next r) after) (sym f.is) (failed f.done)
   ]
 
 -- what was read

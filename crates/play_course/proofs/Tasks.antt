@@ -1,72 +1,91 @@
 -- What tasks answer in a run over an empty store.
-use Rattle.std.proofs.Common.{◌≡◌, ℕ, Bool, true, false, List, [], ◌∷◌, ◌++◌, refl, sym, ap, subst}
-use Rattle.std.specs.Prelude.{Option, Some, None, option_map, ok_or, Result, Ok, Err, if◌then◌else◌}
+use Rattle.std.proofs.Common.{◌≡◌, ◌⊎◌, inl, inr, ℕ, Bool, true, false, List, [], ◌∷◌, ◌++◌, refl, sym, ◌∙◌, ap, subst}
+use Rattle.std.specs.Prelude.{Option, Some, None, option_map, ok_or, Result, Ok, Err}
 use Rattle.std.specs.FinMap.{get}
 use Rattle.ice_ids.specs.declared.Id8.{Id8}
 use Rattle.ice_ids.specs.declared.Id12.{Id12}
 use Rattle.ice_ids.specs.declared.drawing.AnyIds.{AnyIds}
-use Rattle.ice_ids.specs.Drawing.{drawn8, drawn12}
-use Rattle.flat_tables.specs.declared.header.Kind.TheVariants as kinds
+use Rattle.ice_ids.specs.Drawing.{drawn8}
+use Rattle.zarr_path.specs.declared.keys.ZarrKey.{ZarrKey}
+use Rattle.zarr_path.specs.declared.keys.ZarrKey.TheVariants as zarr
+use Rattle.zarr_path.specs.Keys.{key_of}
 use Rattle.zarr_meta.specs.declared.faults.MetaFault.{MetaFault}
 use Rattle.zarr_meta.specs.declared.views.View.{View}
 use Rattle.zarr_meta.specs.Meta.{meta_of}
 use Rattle.zarr_meta.specs.Plain.{group_text}
 use Rattle.zarr_tree.specs.Nodes.{Node}
 use Rattle.zarr_tree.specs.declared.edit.EditFault.{EditFault}
-use Rattle.zarr_tree.specs.declared.edit.EditFault.TheVariants as F
-use Rattle.zarr_tree.specs.Held.{touched}
-use Rattle.zarr_tree.specs.Touched.{is_untouched}
-use Rattle.zarr_changes.specs.Sets.{add_refusal, text_refusal, drop_refusal}
 use Rattle.snapshot_file.specs.declared.snapshot.SnapshotFile.{SnapshotFile}
-use Rattle.snapshot_file.specs.Layout.{snapshot_bytes}
-use Rattle.txn_file.specs.Layout.{log_file}
-use Rattle.ref_file.specs.Refs.{ref_bytes}
 use Rattle.repo_objects.specs.declared.bad.Bad.{Bad}
 use Rattle.repo_objects.specs.Readings.{read_snapshot, read_ref}
 use Rattle.store_api.specs.declared.keys.Key.{Key}
-use Rattle.store_api.specs.declared.keys.Key.TheVariants.{Snapshot, Txn, Branch}
-use Rattle.store_api.specs.declared.keys.Why.TheVariants.{Set, Commit as For_commit}
-use Rattle.store_api.specs.declared.events.Op.TheVariants.{Get, PutNew, PutOver}
-use Rattle.store_api.specs.declared.events.Over.TheVariants.{Done as Over_done, Moved}
-use Rattle.store_api.specs.declared.events.Reply.{Reply}
-use Rattle.store_api.specs.declared.events.Reply.TheVariants.{Got as Is_got, New as Is_new, Over as Is_over, Gone as Is_gone, GoneAt as Is_gone_at, Listed as Is_listed, Failed}
+use Rattle.store_api.specs.declared.keys.Key.TheVariants.{Snapshot, Branch}
+use Rattle.store_api.specs.declared.events.Op.TheVariants.{Get}
 use Rattle.store_api.specs.declared.events.Event.{Event}
 use Rattle.store_api.specs.declared.machines.Refusal.{Refusal}
 use Rattle.store_api.specs.declared.machines.Refusal.TheVariants as R
-use Rattle.store_api.specs.Machine.{found, version_at, is_on}
+use Rattle.store_api.specs.Machine.{found, version_at}
 use Rattle.store_api.specs.Journal.{Each, WasPut}
-use Rattle.store_api.specs.Program.{Done, Ask}
+use Rattle.store_api.specs.Program.{Done}
+use Rattle.store_api.specs.Plays.{call}
 use Rattle.store_api.proofs.Journals.{Each-one}
 use Rattle.store_api.proofs.Slots.{WasPut-append}
 use Rattle.session.specs.declared.session.Listing.{Listing}
 use Rattle.store_api.specs.Running.{Program, on_answer}
 use Rattle.repo_read.specs.declared.answers.Resolved.{Resolved}
 use Rattle.repo_read.specs.Answers.{at_key, resolved_at, ref_told, snapshot_told}
-use Rattle.session.specs.Sessions.{SessionState, base_nodes, nodes_seen}
+use Rattle.session.specs.Sessions.{SessionState, nodes_seen}
 use Rattle.session.specs.Opening.{Asked, open_program, base_program, begun}
-use Rattle.session.specs.Editing.{group_fault, array_fault, node_fault, added, entered, meta_set, node_dropped, if_writes, unless_bad, unless_refused, refusal_of_edit, drawn_node, if_there, listed}
 use Rattle.session.specs.Editing as session
 use Rattle.commit_path.specs.declared.commit.Committed.{Committed as Made}
-use Rattle.commit_path.specs.Committing.{commit_program, put_branch, after_log, after_snapshot, after_branch, after_draw, is_long, log_for, snap_for, started, drawn_start}
 use Rattle.play_script.specs.declared.scripts.Call.{Call}
 use Rattle.play_script.specs.declared.scripts.Call.TheVariants.{Edit, Read, Commit}
 use Rattle.play_script.specs.declared.scripts.EditCall.{EditCall}
-use Rattle.play_script.specs.declared.scripts.EditCall.TheVariants.{Group, Array, Make, Meta, Drop}
 use Rattle.play_script.specs.declared.scripts.ReadCall.{ReadCall}
-use Rattle.play_script.specs.declared.scripts.ReadCall.TheVariants.{List as List_call, Get as Get_call}
 use Rattle.play_script.specs.declared.scripts.Line.{Line}
 use Rattle.play_script.specs.declared.scripts.Task.{Task}
 use Rattle.play_outcome.specs.declared.outcome.Shown.{Shown}
 use Rattle.play_outcome.specs.declared.outcome.End.TheVariants as E
 use Rattle.play_outcome.specs.declared.outcome.Outcome.{Outcome}
-use Rattle.play_tasks.specs.Lines.{deed, edited, read_by, silent, still, session_of, nodes_shown, meta_shown}
-use Rattle.play_tasks.specs.Playing.{Rest, after_line, after_start, after_commit, after_open, play_deed, play_lines, refused, asked_by, task_play}
-use Rattle.run_histories.proofs.Drawing.{IsDrawnBy, AreOf, edited-draws, start-draws, head-ids}
 use Rattle.play_course.specs.Refusing.{is_strange, strange_answer, strange_end}
-use Rattle.play_course.proofs.Tidy.{tidy-more, IsAny, IsOthers, Puts, stands-readable, put-stands, all-named, spared-snapshot, spared-log, free-others, free-apart}
-use Rattle.play_course.proofs.Meeting.{was-read, Plain, Meets, PlayMeets, done-meets, ask-meets, ended-meets, or-meets, call-meets, got-meets, put-meets}
+use Rattle.std.specs.Prelude.{All}
+use Rattle.std.proofs.lemmas.List.Elements.{All-head, All-tail}
+use Rattle.zarr_changes.specs.Sets.{add_refusal, text_refusal, drop_refusal, unset_refusal}
+use Rattle.repo_objects.specs.Trees.{tree_under}
+use Rattle.store_api.specs.Machine.{Stored, last_put}
+use Rattle.store_api.specs.Journal.{StoodAt, IsGood, rows_of, snap_in, puts_of}
+use Rattle.store_api.proofs.Slots.{StoodAt-append, found-stood, sound}
+use Rattle.repo_objects.specs.Readings.{snapshot_by, ref_of}
+use Rattle.session.specs.declared.chunks.Value.{Value}
+use Rattle.session.specs.Editing.{group_fault, array_fault, node_fault, added, entered, group_added, array_added, node_added, meta_set, node_dropped, if_writes, unless_bad, unless_refused, refusal_of_edit, drawn_node, if_there, listed}
+use Rattle.session.specs.Chunks.{set_program, get_program, chunk_unset, without_chunk}
+use Rattle.commit_path.specs.Laws.{TellsFaults}
+use Rattle.commit_path.specs.Opened.{IsOpened}
+use Rattle.commit_path.specs.Single.{PutsSnapshot}
+use Rattle.commit_path.specs.Committing.{commit_program}
+use Rattle.commit_path.proofs.Knowing.{tree-by_rows, rows-kept}
+use Rattle.commit_path.proofs.Editing.{node-added, text-set, node-dropped, added-opened, set-opened, dropped-opened}
+use Rattle.commit_path.proofs.Setting.{chunk-unset, without-opened}
+use Rattle.play_script.specs.declared.scripts.EditCall.TheVariants.{Group, Array, Make, Meta, Drop, Set as Set_call, Fill, Unset, KeySet, KeyErase}
+use Rattle.play_script.specs.declared.scripts.ReadCall.TheVariants.{List as List_call, Get as Get_call, Chunk as Chunk_call, KeyGet}
+use Rattle.play_script.specs.Well.{IsWellLine, IsWellTask}
+use Rattle.zarr_keys.specs.Keys.{session_of, meta_value, put_over, erased_at, key_erased}
+use Rattle.play_tasks.specs.Lines.{deed, edit_deed, read_deed, edited, read_by, silent, still, nodes_shown, meta_shown, value_shown, key_shown, chunk_key_shown, key_set_deed, key_get_deed, filled, Goes}
+use Rattle.play_tasks.specs.Playing.{Rest, after_line, after_commit, after_open, shown_by, play_deed, play_lines, refused, asked_by, task_play}
+use Rattle.run_histories.specs.Sources.{NodesAreNew}
+use Rattle.run_histories.proofs.Drawing.{AreOf, edited-draws, text-draws, taken-draws, head-ids}
+use Rattle.run_histories.proofs.Edits.{Edits, edit-later, edit-goes, edit-base, own-stay}
+use Rattle.run_histories.proofs.Editing.{Leads, call-leads, begun-goes}
+use Rattle.play_course.specs.Refusing.{is_strange, strange_answer, strange_end}
+use Rattle.play_course.proofs.Tidy.{stands-readable, put-stands, all-named}
+use Rattle.play_course.proofs.Meeting.{was-read, Plain, Meets, PlayMeets, done-meets, ask-meets, ended-meets, or-meets, call-meets, got-meets}
+use Rattle.play_course.proofs.Knowing.{OfOthers, OfOwn, Before, beside, before-others, before-got, before-later, nodes-others}
+use Rattle.play_course.proofs.Holding.{Held}
+use Rattle.play_course.proofs.Reading.{edit-plain, ReadWell, get-meets}
+use Rattle.play_course.proofs.Placing.{SetWell, set-meets}
+use Rattle.play_course.proofs.Committing.{commit-meets}
 
--- ---- the calls of sessions
+-- ---- the calls of sessions that need no operation
 -- no refusal of this result is strange
 abbrev pub IsPlain : {A : Type 0} → Result A Refusal → Type 0
 IsPlain {A} r = (why : Refusal) → ◌≡◌ {A = Result A Refusal} r (Err why) → is_strange why ≡ false
@@ -77,17 +96,6 @@ refused_as why given plain e = let same : given ≡ why = cc in subst (λ (w : R
 drawn-plain : (s : SessionState) (path text : List ℕ) (o : Option Id8) → IsPlain (drawn_node s path text o)
 drawn-plain s path text None why e = refused_as why R.IdsSpent refl e
 drawn-plain s path text (Some id) why e = cc
-
-edit-plain : (fault : EditFault) → is_strange (refusal_of_edit fault) ≡ false
-edit-plain F.NodeExists = refl
-edit-plain F.NoParent = refl
-edit-plain F.Full = refl
-edit-plain F.NoNode = refl
-edit-plain (F.FrozenField part) = refl
-edit-plain F.NotArray = refl
-edit-plain F.OutOfGrid = refl
-edit-plain (F.ChunkLength want got) = refl
-edit-plain F.NoMemory = refl
 
 unless-plain : {A : Type 0} (o : Option EditFault) (r : Result A Refusal) → IsPlain r → IsPlain (unless_refused o r)
 unless-plain None r p why e = p why e
@@ -127,12 +135,36 @@ drop-plain s path =
     let r : Result SessionState Refusal = unless_refused (drop_refusal (nodes_seen s) path) (Ok (session.without s path)) in
     writes-plain s.writes r (unless-plain (drop_refusal (nodes_seen s) path) (Ok (session.without s path)) (done-plain (session.without s path)))
 
+unset-plain : (s : SessionState) (path index : List ℕ) → IsPlain (chunk_unset s path index)
+unfolding chunk_unset
+unset-plain s path index =
+    let r : Result SessionState Refusal = unless_refused (unset_refusal (nodes_seen s) path index) (Ok (without_chunk s path index)) in
+    writes-plain s.writes r (unless-plain (unset_refusal (nodes_seen s) path index) (Ok (without_chunk s path index)) (done-plain (without_chunk s path index)))
+
+put-plain : (o : Option Node) (s : SessionState) (path text : List ℕ) → IsPlain (put_over o s path text)
+put-plain (Some node) s path text = set-plain s path text
+put-plain None s path text = added-plain node_fault s path text
+
+erased-plain : (o : Option ZarrKey) (s : SessionState) → IsPlain (erased_at s o)
+erased-plain None s = λ why e. refused_as why R.BadKey refl e
+erased-plain (Some (zarr.Meta path)) s = drop-plain s path
+erased-plain (Some (zarr.Chunk path index)) s = unset-plain s path index
+
+key-plain : (s : SessionState) (key : List ℕ) → IsPlain (key_erased s key)
+unfolding key_erased
+key-plain s key = erased-plain (key_of key) s
+
 edited-plain : (edit : EditCall) (s : SessionState) → IsPlain (edited edit s)
 edited-plain (Group path) s = added-plain group_fault s path group_text
 edited-plain (Array path text) s = added-plain array_fault s path text
 edited-plain (Make path text) s = added-plain node_fault s path text
 edited-plain (Meta path text) s = set-plain s path text
 edited-plain (Drop path) s = drop-plain s path
+edited-plain (Set_call path index bytes) s = done-plain s
+edited-plain (Fill path index byte) s = done-plain s
+edited-plain (Unset path index) s = unset-plain s path index
+edited-plain (KeySet key bytes) s = done-plain s
+edited-plain (KeyErase key) s = key-plain s key
 
 there-plain : {A B : Type 0} (o : Option A) (b : B) → IsPlain (if_there o b)
 there-plain None b why e = refused_as why R.NoNode refl e
@@ -146,170 +178,261 @@ meta-plain : (line : ℕ) (o : Option (List ℕ)) → IsPlain (meta_shown line (
 meta-plain line (Some text) why e = cc
 meta-plain line None why e = refused_as why R.NoNode refl e
 
+shown-plain : (shown : List Shown) → IsPlain {A = List Shown} (Ok shown)
+shown-plain shown why e = cc
+
 read-plain : (line : ℕ) (look : ReadCall) (s : SessionState) → IsPlain (read_by line look s)
 read-plain line (List_call path) s = nodes-plain line (listed s path) (there-plain _ _)
+read-plain line (Chunk_call path index) s = shown-plain []
+read-plain line (KeyGet key) s = shown-plain []
 read-plain line (Get_call path) s = meta-plain line (option_map (λ (n : Node). n.text) (get (nodes_seen s) path))
 
-log-plain : (s : SessionState) (id : Id12) (long : Bool) → IsPlain {A = Id12 × SessionState} (if long then Err (R.TooLarge kinds.Log) else Ok (id, after_draw s))
-log-plain s id true why e = refused_as why (R.TooLarge kinds.Log) refl e
-log-plain s id false why e = cc
+-- ---- a session behind an edit
+-- what a session knows stays so
+added-known : (fault : Result View MetaFault → Option MetaFault) (s t : SessionState) (path text : List ℕ) (journal : List Event) → TellsFaults fault → (r : Result (Id8 × SessionState) Refusal) → added fault s path text ≡ r → session_of r ≡ Ok t → IsOpened s journal → IsOpened t journal
+added-known fault s t path text journal tells (Err why) e d o = absurd cc
+added-known fault s t path text journal tells (Ok new) e d o = let same : new.1 ≡ t = cc in subst (λ (x : SessionState). IsOpened x journal) same (added-opened s new.1 path text new.0 journal (node-added fault s new.1 path text new.0 tells e) o)
 
-start-plain : (s : SessionState) (o : Option Id12) → IsPlain (drawn_start s o)
-start-plain s None why e = refused_as why R.IdsSpent refl e
-start-plain s (Some id) why e = log-plain s id (is_long (log_file (log_for s id))) why e
+same-known : (s t : SessionState) (journal : List Event) → ◌≡◌ {A = Result SessionState Refusal} (Ok s) (Ok t) → IsOpened s journal → IsOpened t journal
+same-known s t journal e o = let same : s ≡ t = cc in subst (λ (x : SessionState). IsOpened x journal) same o
 
-tests-plain : (s : SessionState) (w u : Bool) → IsPlain (if w then (if u then Err R.NothingToCommit else drawn_start s (drawn12 s.ids)) else Err R.ReadOnly)
-tests-plain s true true why e = refused_as why R.NothingToCommit refl e
-tests-plain s true false why e = start-plain s (drawn12 s.ids) why e
-tests-plain s false u why e = refused_as why R.ReadOnly refl e
+put-known : (o : Option Node) (s t : SessionState) (path text : List ℕ) (journal : List Event) → put_over o s path text ≡ Ok t → IsOpened s journal → IsOpened t journal
+put-known (Some node) s t path text journal e o = set-opened s t path text journal (text-set s t path text e) o
+put-known None s t path text journal e o = added-known node_fault s t path text journal (λ bad. refl) (node_added s path text) refl e o
 
-started-plain : (s : SessionState) → IsPlain (started s)
-unfolding started
-started-plain s = tests-plain s s.writes (is_untouched (touched s.held (base_nodes s)))
+erased-known : (key : Option ZarrKey) (s t : SessionState) (journal : List Event) → erased_at s key ≡ Ok t → IsOpened s journal → IsOpened t journal
+erased-known None s t journal e o = absurd cc
+erased-known (Some (zarr.Meta path)) s t journal e o = dropped-opened s t path journal (node-dropped s t path e) o
+erased-known (Some (zarr.Chunk path index)) s t journal e o = without-opened s t path index journal (chunk-unset s t path index e) o
 
--- ---- what a client knows
-module _ (client : ℕ) where
-  abbrev Who : Id12 → Type 0
-  Who id = ¬ IsDrawnBy client id
+key-known : (key : List ℕ) (s t : SessionState) (journal : List Event) → key_erased s key ≡ Ok t → IsOpened s journal → IsOpened t journal
+unfolding key_erased
+key-known key s t journal e o = erased-known (key_of key) s t journal e o
 
-  -- the journal of a run over an empty store, in which no commit of this client was made
-  pub record Before (journal : List Event) : Type 0 where
-    pub tidy : Each IsAny [] journal
-    pub free : (id : Id12) → IsDrawnBy client id → (found journal (Snapshot id) ≡ None) × (found journal (Txn id) ≡ None)
+edited-known : (edit : EditCall) (s t : SessionState) (journal : List Event) → edited edit s ≡ Ok t → IsOpened s journal → IsOpened t journal
+edited-known (Group path) s t journal e o = added-known group_fault s t path group_text journal (λ bad. refl) (group_added s path group_text) refl e o
+edited-known (Array path text) s t journal e o = added-known array_fault s t path text journal (λ bad. refl) (array_added s path text) refl e o
+edited-known (Make path text) s t journal e o = added-known node_fault s t path text journal (λ bad. refl) (node_added s path text) refl e o
+edited-known (Meta path text) s t journal e o = set-opened s t path text journal (text-set s t path text e) o
+edited-known (Drop path) s t journal e o = dropped-opened s t path journal (node-dropped s t path e) o
+edited-known (Set_call path index bytes) s t journal e o = same-known s t journal e o
+edited-known (Fill path index byte) s t journal e o = same-known s t journal e o
+edited-known (Unset path index) s t journal e o = without-opened s t path index journal (chunk-unset s t path index e) o
+edited-known (KeySet key bytes) s t journal e o = same-known s t journal e o
+edited-known (KeyErase key) s t journal e o = key-known key s t journal e o
 
-  not-who : (id : Id12) → IsDrawnBy client id → ¬ Who id
-  not-who id d n = n d
+module _ (client : ℕ) (ids : AnyIds) where
+  abbrev Knows : SessionState → List Event → Type 0
+  Knows s journal = Held client ids s journal
 
-  snapshot-free : (id : Id12) → IsDrawnBy client id → (old more : List Event) → Each (IsOthers client) old more → found old (Snapshot id) ≡ None → found (old ++ more) (Snapshot id) ≡ None
-  snapshot-free id d old more others f = free-others Who (Snapshot id) old more (spared-snapshot client id d Who (not-who id d)) others f
-
-  before-others : (journal more : List Event) → Each (IsOthers client) journal more → Before journal → Before (journal ++ more)
-  before-others journal more others b = record {
-    tidy = tidy-more Who journal more b.tidy others;
-    free = λ id d. (snapshot-free id d journal more others (b.free id d).0, free-others Who (Txn id) journal more (spared-log id Who (not-who id d)) others (b.free id d).1);
+  held-led : (s t : SessionState) (journal : List Event) → (t ≡ s) ⊎ Edits s t → AreOf client t.ids → IsOpened t journal → Held client ids s journal → Held client ids t journal
+  held-led s t journal (inl same) known opened h = subst (λ (x : SessionState). Held client ids x journal) (sym same) h
+  held-led s t journal (inr edits) known opened h = record {
+    before = before-later s.ids t.ids journal (edit-later s t edits) h.before;
+    known = known;
+    goes = edit-goes ids s t edits h.goes;
+    own = own-stay ids t s (sym (edit-base s t edits)) h.own;
+    opened = opened;
   }
 
-  before-got : (journal : List Event) (event : Event) (key : Key) → IsAny journal event → event.op ≡ Get key → Before journal → Before (journal ++ event ∷ [])
-  before-got journal event key any is b = before-others journal (event ∷ []) (Each-one (IsOthers client) journal event (record { good = any.good; puts = subst (Puts Who) (sym is) tt })) b
-
   -- ---- an opening
-  Opened : Asked → Result SessionState Refusal → Type 0
-  Opened a (Ok s) = s.ids ≡ a.ids
-  Opened a (Err why) = is_strange why ≡ false
+  -- the journal is known, and no node has an id that the client may draw
+  pub record Begins (journal : List Event) : Type 0 where
+    pub before : Before ids journal
+    pub nodes : NodesAreNew ids journal
 
-  abbrev Opens : Asked → Result SessionState Refusal → List Event → Type 0
-  Opens a r h = Before h × Opened a r
+  module _ (known : AreOf client ids) (a : Asked) (a_ids : a.ids ≡ ids) where
+    begins-others : (journal more : List Event) → Each (OfOthers client ids) journal more → Begins journal → Begins (journal ++ more)
+    begins-others journal more others b = record { before = before-others client ids ids known journal more others b.before; nodes = nodes-others client ids journal more others b.nodes }
 
-  -- what follows the reply to the get of the branch, and what follows the one to the get of the snapshot
-  abbrev after_ref : Asked → Result Resolved Refusal → Program SessionState
-  after_ref a = on_answer (base_program a)
+    gets-no-snapshot : (key : Key) → ¬ PutsSnapshot (Get key)
+    gets-no-snapshot key p = p
 
-  abbrev after_base : Asked → Resolved → Result SnapshotFile Refusal → Program SessionState
-  after_base a named = on_answer (λ snap. Done (Ok (begun a named.id named.version.0 snap)))
+    begins-got : (journal : List Event) (event : Event) (key : Key) → OfOwn ids journal event → event.op ≡ Get key → Begins journal → Begins (journal ++ event ∷ [])
+    begins-got journal event key own is b = record { before = before-got client ids ids known journal event key own is b.before; nodes = own.nodes (λ p. gets-no-snapshot key (subst PutsSnapshot is p)) b.nodes }
 
-  base-meets : (a : Asked) (named : Resolved) (journal : List Event) → Before journal → WasPut journal (Snapshot named.id) → Meets (Opens a) Who (base_program a named) journal
-  unfolding Opened
-  base-meets a named journal b put = ask-meets (Opens a) Who (Get (Snapshot named.id)) (λ reply. after_base a named (snapshot_told named.id reply)) journal (λ more event others any is.
-      let mid = before-others journal more others b in
-      let after = before-got (journal ++ more) event (Snapshot named.id) any is mid in
-      got-meets (Opens a) Who (λ reply. after_base a named (snapshot_told named.id reply)) (journal ++ more) event any.good ((journal ++ more) ++ event ∷ []) (Snapshot named.id) is
-      (λ s at. let can = stands-readable named.id (journal ++ more) s mid.tidy at in
-      subst (λ (r : Result SnapshotFile Bad). Meets (Opens a) Who (after_base a named (at_key (Snapshot named.id) r)) ((journal ++ more) ++ event ∷ [])) (sym (was-read (read_snapshot named.id s.bytes) can.0 can.1))
-      (done-meets (Opens a) Who (Ok (begun a named.id named.version.0 can.0)) ((journal ++ more) ++ event ∷ []) (after, refl)))
-      (λ gone. absurd (put-stands (Snapshot named.id) (journal ++ more) mid.tidy (WasPut-append journal more (Snapshot named.id) put) gone))
-      (λ done. done-meets (Opens a) Who (Err R.StoreFault) ((journal ++ more) ++ event ∷ []) (after, refl)))
+    abbrev Opens : Result SessionState Refusal → List Event → Type 0
+    Opens (Ok s) h = Held client ids s h
+    Opens (Err why) h = is_strange why ≡ false
 
-  open-meets : (a : Asked) (journal : List Event) → Before journal → Meets (Opens a) Who (open_program a) journal
-  unfolding Opened
-  open-meets a journal b = ask-meets (Opens a) Who (Get (Branch a.branch)) (λ reply. after_ref a (ref_told a.branch reply)) journal (λ more event others any is.
-      let mid = before-others journal more others b in
-      let after = before-got (journal ++ more) event (Branch a.branch) any is mid in
-      got-meets (Opens a) Who (λ reply. after_ref a (ref_told a.branch reply)) (journal ++ more) event any.good ((journal ++ more) ++ event ∷ []) (Branch a.branch) is
-      (λ s at. let n = (all-named (journal ++ more) mid.tidy).branches a.branch s at in
-      subst (λ (r : Result Id12 Bad). Meets (Opens a) Who (after_ref a (resolved_at (version_at s.version) (at_key (Branch a.branch) r))) ((journal ++ more) ++ event ∷ [])) (sym (was-read (read_ref s.bytes) n.id n.reference))
-      (base-meets a (record { id = n.id; version = version_at s.version }) ((journal ++ more) ++ event ∷ []) after (WasPut-append (journal ++ more) (event ∷ []) (Snapshot n.id) n.put)))
-      (λ gone. done-meets (Opens a) Who (Err R.NoRef) ((journal ++ more) ++ event ∷ []) (after, refl))
-      (λ done. done-meets (Opens a) Who (Err R.StoreFault) ((journal ++ more) ++ event ∷ []) (after, refl)))
+    -- the branch stood with a reference to the snapshot
+    record Names (named : Resolved) (journal : List Event) : Type 0 where
+      pub bytes : List ℕ
+      pub stood : StoodAt journal (Branch a.branch) named.version.0 bytes
+      pub reference : ref_of bytes ≡ Some named.id
+      pub put : WasPut journal (Snapshot named.id)
 
-  -- ---- a commit
-  branch-meets : (s : SessionState) (id : Id12) (reply : Reply) (journal : List Event) → Meets Plain Who (after_branch s id reply) journal
-  branch-meets s id (Is_over (Over_done version now)) journal = done-meets Plain Who (Ok (record { id = id; version = version })) journal refl
-  branch-meets s id (Is_over (Moved there now)) journal = done-meets Plain Who (Err (R.Conflict (version_at s.version) there)) journal refl
-  branch-meets s id (Is_got x) journal = done-meets Plain Who (Err R.StoreFault) journal refl
-  branch-meets s id (Is_new x) journal = done-meets Plain Who (Err R.StoreFault) journal refl
-  branch-meets s id (Is_gone x) journal = done-meets Plain Who (Err R.StoreFault) journal refl
-  branch-meets s id (Is_gone_at x) journal = done-meets Plain Who (Err R.StoreFault) journal refl
-  branch-meets s id (Is_listed x) journal = done-meets Plain Who (Err R.StoreFault) journal refl
-  branch-meets s id (Failed done) journal = done-meets Plain Who (Err R.StoreFault) journal refl
+    -- the session that begins at this snapshot, got in this journal
+    begun-held : (named : Resolved) (journal : List Event) (event : Event) (st : Stored) (snap : SnapshotFile) → Names named journal → Begins journal → OfOwn ids journal event → event.op ≡ Get (Snapshot named.id) → found journal (Snapshot named.id) ≡ Some st → snapshot_by named.id st.bytes ≡ Some snap
+        → Held client ids (begun a named.id named.version.0 snap) (journal ++ event ∷ [])
+    begun-held named journal event st snap n b own is at read =
+        let s : SessionState = begun a named.id named.version.0 snap in
+        let good = Each-one IsGood journal event own.tidy.good in
+        let last : last_put journal (Snapshot named.id) ≡ Some st.bytes = (sound journal (Snapshot named.id)).last st at in
+        let rows : rows_of journal named.id ≡ Some snap.nodes = ap (λ (o : Option (List ℕ)). option_map (λ (x : SnapshotFile). x.nodes) (snap_in named.id o)) last ∙ ap (option_map (λ (x : SnapshotFile). x.nodes)) read in
+        record {
+          before = subst (λ (x : AnyIds). Before x (journal ++ event ∷ [])) (sym a_ids) (begins-got journal event (Snapshot named.id) own is b).before;
+          known = subst (AreOf client) (sym a_ids) known;
+          goes = begun-goes ids s a_ids refl;
+          own = λ p m f. b.nodes named.id (tree_under (puts_of journal) snap.nodes) p m (tree-by_rows journal named.id snap.nodes rows) f;
+          opened = record {
+            named_by = n.bytes;
+            named = StoodAt-append journal (event ∷ []) (Branch a.branch) named.version.0 n.bytes n.stood;
+            names = n.reference;
+            put = WasPut-append journal (event ∷ []) (Snapshot named.id) n.put;
+            had = record { version = st.version; bytes = st.bytes; stood = StoodAt-append journal (event ∷ []) (Snapshot named.id) st.version st.bytes (found-stood journal (Snapshot named.id) st at); snap = snap; read = read; rows_are = refl };
+            rows = λ once. rows-kept journal (event ∷ []) named.id snap.nodes n.put good (λ before. rows) once;
+            objects = λ node i id offset size e. absurd cc;
+            chunks = λ once node i place e. absurd cc;
+          };
+        }
 
-  over-meets : (s : SessionState) (id : Id12) (journal : List Event) → Meets Plain Who (put_branch s id) journal
-  over-meets s id journal = ask-meets Plain Who (PutOver (Branch s.branch) (ref_bytes id) (version_at s.version) For_commit) (after_branch s id) journal (λ more event others any is. branch-meets s id event.reply ((journal ++ more) ++ event ∷ []))
+    -- what follows the reply to the get of the branch, and what follows the one to the get of the snapshot
+    abbrev after_ref : Result Resolved Refusal → Program SessionState
+    after_ref = on_answer (base_program a)
 
-  -- unless the file is too long
-  snapshot-meets : (s : SessionState) (id : Id12) (file : List ℕ) (journal : List Event) (long : Bool) → IsDrawnBy client id → found journal (Snapshot id) ≡ None
-      → Meets Plain Who (if long then Done (Err (R.TooLarge kinds.Snapshot)) else Ask (PutNew (Snapshot id) file Set) (after_snapshot s id)) journal
-  snapshot-meets s id file journal true d free = done-meets Plain Who (Err (R.TooLarge kinds.Snapshot)) journal refl
-  snapshot-meets s id file journal false d free = ask-meets Plain Who (PutNew (Snapshot id) file Set) (after_snapshot s id) journal (λ more event others any is.
-      put-meets Plain Who (after_snapshot s id) (journal ++ more) event any.good ((journal ++ more) ++ event ∷ []) (Snapshot id) file Set is (snapshot-free id d journal more others free)
-      (over-meets s id ((journal ++ more) ++ event ∷ []))
-      (λ done. done-meets Plain Who (Err R.StoreFault) ((journal ++ more) ++ event ∷ []) refl))
+    abbrev after_base : Resolved → Result SnapshotFile Refusal → Program SessionState
+    after_base named = on_answer (λ snap. Done (Ok (begun a named.id named.version.0 snap)))
 
-  commit-meets : (s : SessionState) (message : List ℕ) (id : Id12) (journal : List Event) → IsDrawnBy client id → Before journal → Meets Plain Who (commit_program s message id) journal
-  commit-meets s message id journal d b = ask-meets Plain Who (PutNew (Txn id) (log_file (log_for s id)) Set) (after_log s message id) journal (λ more event others any is.
-      let mid = before-others journal more others b in
-      let off : is_on (Snapshot id) event.op ≡ false = ap (is_on (Snapshot id)) is in
-      put-meets Plain Who (after_log s message id) (journal ++ more) event any.good ((journal ++ more) ++ event ∷ []) (Txn id) (log_file (log_for s id)) Set is (mid.free id d).1
-      (snapshot-meets s id (snapshot_bytes (snap_for s message id event.time)) ((journal ++ more) ++ event ∷ []) (is_long (snapshot_bytes (snap_for s message id event.time))) d (free-apart (Snapshot id) (journal ++ more) event off (mid.free id d).0))
-      (λ done. done-meets Plain Who (Err R.StoreFault) ((journal ++ more) ++ event ∷ []) refl))
+    names-more : (named : Resolved) (journal more : List Event) → Names named journal → Names named (journal ++ more)
+    names-more named journal more n = record {
+      bytes = n.bytes;
+      stood = StoodAt-append journal more (Branch a.branch) named.version.0 n.bytes n.stood;
+      reference = n.reference;
+      put = WasPut-append journal more (Snapshot named.id) n.put;
+    }
+
+    base-meets : (named : Resolved) (journal : List Event) → Begins journal → Names named journal → Meets Opens (beside client ids) (base_program a named) journal
+    base-meets named journal b n = ask-meets Opens (beside client ids) (Get (Snapshot named.id)) (λ reply. after_base named (snapshot_told named.id reply)) journal (λ more event others own is.
+        let mid = begins-others journal more others b in
+        let there = names-more named journal more n in
+        got-meets Opens (beside client ids) (λ reply. after_base named (snapshot_told named.id reply)) (journal ++ more) event own.tidy.good ((journal ++ more) ++ event ∷ []) (Snapshot named.id) is
+        (λ s at. let can = stands-readable named.id (journal ++ more) s mid.before.tidy at in
+        subst (λ (r : Result SnapshotFile Bad). Meets Opens (beside client ids) (after_base named (at_key (Snapshot named.id) r)) ((journal ++ more) ++ event ∷ [])) (sym (was-read (read_snapshot named.id s.bytes) can.0 can.1))
+        (done-meets Opens (beside client ids) (Ok (begun a named.id named.version.0 can.0)) ((journal ++ more) ++ event ∷ []) (begun-held named (journal ++ more) event s can.0 there mid own is at can.1)))
+        (λ gone. absurd (put-stands (Snapshot named.id) (journal ++ more) mid.before.tidy there.put gone))
+        (λ done. done-meets Opens (beside client ids) (Err R.StoreFault) ((journal ++ more) ++ event ∷ []) refl))
+
+    open-meets : (journal : List Event) → Begins journal → Meets Opens (beside client ids) (open_program a) journal
+    open-meets journal b = ask-meets Opens (beside client ids) (Get (Branch a.branch)) (λ reply. after_ref (ref_told a.branch reply)) journal (λ more event others own is.
+        let mid = begins-others journal more others b in
+        let after = begins-got (journal ++ more) event (Branch a.branch) own is mid in
+        got-meets Opens (beside client ids) (λ reply. after_ref (ref_told a.branch reply)) (journal ++ more) event own.tidy.good ((journal ++ more) ++ event ∷ []) (Branch a.branch) is
+        (λ s at. let n = (all-named (journal ++ more) mid.before.tidy).branches a.branch s at in
+        subst (λ (r : Result Id12 Bad). Meets Opens (beside client ids) (after_ref (resolved_at (version_at s.version) (at_key (Branch a.branch) r))) ((journal ++ more) ++ event ∷ [])) (sym (was-read (read_ref s.bytes) n.id n.reference))
+        (base-meets (record { id = n.id; version = version_at s.version }) ((journal ++ more) ++ event ∷ []) after (record {
+          bytes = s.bytes;
+          stood = StoodAt-append (journal ++ more) (event ∷ []) (Branch a.branch) s.version s.bytes (found-stood (journal ++ more) (Branch a.branch) s at);
+          reference = n.reference;
+          put = WasPut-append (journal ++ more) (event ∷ []) (Snapshot n.id) n.put;
+        })))
+        (λ gone. done-meets Opens (beside client ids) (Err R.NoRef) ((journal ++ more) ++ event ∷ []) refl)
+        (λ done. done-meets Opens (beside client ids) (Err R.StoreFault) ((journal ++ more) ++ event ∷ []) refl))
 
   -- ---- the lines of a task
   abbrev Ends : Outcome → Type 0
   Ends o = strange_end o.end ≡ false
 
-  -- what follows a line, where the session still draws for its client
-  abbrev GoesOn : Rest → List Event → Type 0
-  GoesOn rest journal = (s : SessionState) (shown : List Shown) → AreOf client s.ids → PlayMeets Ends Who (rest s shown) journal
+  -- what follows a line, on a session of which this is known
+  abbrev GoesOn : Rest → Type 0
+  GoesOn rest = (s : SessionState) (shown : List Shown) (journal : List Event) → Held client ids s journal → PlayMeets Ends (beside client ids) (rest s shown) journal
 
-  refused-meets : (line : ℕ) (shown : List Shown) (why : Refusal) (journal : List Event) → is_strange why ≡ false → PlayMeets Ends Who (refused line shown why) journal
-  refused-meets line shown why journal p = ended-meets Ends Who (record { shown = shown; end = E.Refused line why }) journal p
+  refused-meets : (line : ℕ) (shown : List Shown) (why : Refusal) (journal : List Event) → is_strange why ≡ false → PlayMeets Ends (beside client ids) (refused line shown why) journal
+  refused-meets line shown why journal p = ended-meets Ends (beside client ids) (record { shown = shown; end = E.Refused line why }) journal p
 
-  edit-meets : (line : ℕ) (shown : List Shown) (edit : EditCall) (s : SessionState) (rest : Rest) (journal : List Event) → AreOf client s.ids → GoesOn rest journal → (r : Result SessionState Refusal) → edited edit s ≡ r → PlayMeets Ends Who (after_line line shown (silent r) rest) journal
-  edit-meets line shown edit s rest journal known go (Ok t) e = go t (shown ++ []) (edited-draws client edit s t known e)
-  edit-meets line shown edit s rest journal known go (Err why) e = refused-meets line shown why journal (edited-plain edit s why e)
+  edit-meets : (line : ℕ) (shown : List Shown) (edit : EditCall) (s : SessionState) (rest : Rest) (journal : List Event) → Held client ids s journal → GoesOn rest → Leads (Goes (silent (edited edit s))) s → (r : Result SessionState Refusal) → edited edit s ≡ r
+      → PlayMeets Ends (beside client ids) (after_line line shown (silent r) rest) journal
+  edit-meets line shown edit s rest journal h go leads (Ok t) e =
+      go t (shown ++ []) journal (held-led s t journal (leads [] t (ap (λ (x : Result SessionState Refusal). silent x) e)) (edited-draws client edit s t h.known e) (edited-known edit s t journal e h.opened) h)
+  edit-meets line shown edit s rest journal h go leads (Err why) e = refused-meets line shown why journal (edited-plain edit s why e)
 
-  look-meets : (line : ℕ) (shown : List Shown) (s : SessionState) (rest : Rest) (journal : List Event) → AreOf client s.ids → GoesOn rest journal → (r : Result (List Shown) Refusal) → IsPlain r → PlayMeets Ends Who (after_line line shown (still s r) rest) journal
-  look-meets line shown s rest journal known go (Ok more) p = go s _ known
-  look-meets line shown s rest journal known go (Err why) p = refused-meets line shown why journal (p why refl)
+  -- a key's metadata is put
+  put-draws : (o : Option Node) (s t : SessionState) (path text : List ℕ) → AreOf client s.ids → put_over o s path text ≡ Ok t → AreOf client t.ids
+  put-draws (Some node) s t path text known e = text-draws client s t path text known e
+  put-draws None s t path text known e = taken-draws client node_fault s t path text (λ bad. refl) known (node_added s path text) refl e
 
-  answered-meets : (line : ℕ) (shown : List Shown) (r : Result Made Refusal) (journal : List Event) → strange_answer r ≡ false → PlayMeets Ends Who (after_commit line shown r) journal
-  answered-meets line shown (Ok made) journal p = ended-meets Ends Who (record { shown = shown; end = E.Committed made.id }) journal refl
+  put-meets : (line : ℕ) (shown : List Shown) (o : Option Node) (path text : List ℕ) (s : SessionState) (rest : Rest) (journal : List Event) → Held client ids s journal → GoesOn rest → Leads (Goes (silent (put_over o s path text))) s → (r : Result SessionState Refusal) → put_over o s path text ≡ r
+      → PlayMeets Ends (beside client ids) (after_line line shown (silent r) rest) journal
+  put-meets line shown o path text s rest journal h go leads (Ok t) e =
+      go t (shown ++ []) journal (held-led s t journal (leads [] t (ap (λ (x : Result SessionState Refusal). silent x) e)) (put-draws o s t path text h.known e) (put-known o s t path text journal e h.opened) h)
+  put-meets line shown o path text s rest journal h go leads (Err why) e = refused-meets line shown why journal (put-plain o s path text why e)
+
+  look-meets : (line : ℕ) (shown : List Shown) (s : SessionState) (rest : Rest) (journal : List Event) → Held client ids s journal → GoesOn rest → (r : Result (List Shown) Refusal) → IsPlain r → PlayMeets Ends (beside client ids) (after_line line shown (still s r) rest) journal
+  look-meets line shown s rest journal h go (Ok more) p = go s _ journal h
+  look-meets line shown s rest journal h go (Err why) p = refused-meets line shown why journal (p why refl)
+
+  set-goes : (line : ℕ) (shown : List Shown) (s : SessionState) (path index bytes : List ℕ) (rest : Rest) → GoesOn rest → (r : Result SessionState Refusal) (journal : List Event) → SetWell client ids s path index bytes r journal → PlayMeets Ends (beside client ids) (after_line line shown (silent r) rest) journal
+  set-goes line shown s path index bytes rest go (Ok t) journal h = go t (shown ++ []) journal h
+  set-goes line shown s path index bytes rest go (Err why) journal p = refused-meets line shown why journal p
+
+  get-goes : (line : ℕ) (shown : List Shown) (s : SessionState) (show : Value → Shown) (rest : Rest) → GoesOn rest → (r : Result Value Refusal) (journal : List Event) → ReadWell client ids s r journal → PlayMeets Ends (beside client ids) (after_line line shown (shown_by s show r) rest) journal
+  get-goes line shown s show rest go (Ok value) journal h = go s _ journal h
+  get-goes line shown s show rest go (Err why) journal p = refused-meets line shown why journal p
+
+  answered-meets : (line : ℕ) (shown : List Shown) (r : Result Made Refusal) (journal : List Event) → strange_answer r ≡ false → PlayMeets Ends (beside client ids) (after_commit line shown r) journal
+  answered-meets line shown (Ok made) journal p = ended-meets Ends (beside client ids) (record { shown = shown; end = E.Committed made.id }) journal refl
   answered-meets line shown (Err why) journal p = refused-meets line shown why journal p
 
-  start-meets : (line : ℕ) (message : List ℕ) (shown : List Shown) (s : SessionState) (journal : List Event) → AreOf client s.ids → Before journal → (r : Result (Id12 × SessionState) Refusal) → started s ≡ r → PlayMeets Ends Who (after_start line message shown r) journal
-  start-meets line message shown s journal known b (Ok p) e =
-      call-meets Ends Who Plain (commit_program p.1 message p.0) (after_commit line shown) journal (commit-meets p.1 message p.0 journal (start-draws client s p.1 p.0 known e) b)
-      (λ r h plain. answered-meets line shown r h plain) (λ h. answered-meets line shown (Err R.NoMemory) h refl)
-  start-meets line message shown s journal known b (Err why) e = refused-meets line shown why journal (started-plain s why e)
+  sets-meets : (line : ℕ) (shown : List Shown) (s : SessionState) (path index bytes : List ℕ) (rest : Rest) (journal : List Event) → Held client ids s journal → GoesOn rest → PlayMeets Ends (beside client ids) (call (set_program s path index bytes) (λ answer. after_line line shown (silent answer) rest)) journal
+  sets-meets line shown s path index bytes rest journal h go =
+      call-meets Ends (beside client ids) (SetWell client ids s path index bytes) (set_program s path index bytes) (λ answer. after_line line shown (silent answer) rest) journal (set-meets client ids s path index bytes journal h)
+      (λ r j w. set-goes line shown s path index bytes rest go r j w) (λ j. refused-meets line shown R.NoMemory j refl)
 
-  deed-meets : (line : ℕ) (call : Call) (shown : List Shown) (s : SessionState) (rest : Rest) (journal : List Event) → AreOf client s.ids → Before journal → GoesOn rest journal → PlayMeets Ends Who (play_deed line shown s (deed line call s) rest) journal
-  deed-meets line (Edit edit) shown s rest journal known b go = edit-meets line shown edit s rest journal known go (edited edit s) refl
-  deed-meets line (Read look) shown s rest journal known b go = look-meets line shown s rest journal known go (read_by line look s) (read-plain line look s)
-  deed-meets line (Commit message) shown s rest journal known b go = start-meets line message shown s journal known b (started s) refl
+  key-set-meets : (line : ℕ) (bytes : List ℕ) (o : Option ZarrKey) (shown : List Shown) (s : SessionState) (rest : Rest) (journal : List Event) → Held client ids s journal → GoesOn rest → Leads (key_set_deed bytes o s) s → PlayMeets Ends (beside client ids) (play_deed line shown s (key_set_deed bytes o s) rest) journal
+  key-set-meets line bytes None shown s rest journal h go leads = refused-meets line shown R.BadKey journal refl
+  key-set-meets line bytes (Some (zarr.Meta path)) shown s rest journal h go leads = put-meets line shown (get (nodes_seen s) path) path bytes s rest journal h go leads (put_over (get (nodes_seen s) path) s path bytes) refl
+  key-set-meets line bytes (Some (zarr.Chunk path index)) shown s rest journal h go leads = sets-meets line shown s path index bytes rest journal h go
 
-  lines-meets : (lines : List Line) (s : SessionState) (shown : List Shown) (journal : List Event) → AreOf client s.ids → Before journal → PlayMeets Ends Who (play_lines lines s shown) journal
+  edit-deed-meets : (line : ℕ) (edit : EditCall) (shown : List Shown) (s : SessionState) (rest : Rest) (journal : List Event) → Held client ids s journal → GoesOn rest → Leads (edit_deed edit s) s → PlayMeets Ends (beside client ids) (play_deed line shown s (edit_deed edit s) rest) journal
+  edit-deed-meets line (Group path) shown s rest journal h go leads = edit-meets line shown (Group path) s rest journal h go leads (edited (Group path) s) refl
+  edit-deed-meets line (Array path text) shown s rest journal h go leads = edit-meets line shown (Array path text) s rest journal h go leads (edited (Array path text) s) refl
+  edit-deed-meets line (Make path text) shown s rest journal h go leads = edit-meets line shown (Make path text) s rest journal h go leads (edited (Make path text) s) refl
+  edit-deed-meets line (Meta path text) shown s rest journal h go leads = edit-meets line shown (Meta path text) s rest journal h go leads (edited (Meta path text) s) refl
+  edit-deed-meets line (Drop path) shown s rest journal h go leads = edit-meets line shown (Drop path) s rest journal h go leads (edited (Drop path) s) refl
+  edit-deed-meets line (Unset path index) shown s rest journal h go leads = edit-meets line shown (Unset path index) s rest journal h go leads (edited (Unset path index) s) refl
+  edit-deed-meets line (KeyErase key) shown s rest journal h go leads = edit-meets line shown (KeyErase key) s rest journal h go leads (edited (KeyErase key) s) refl
+  edit-deed-meets line (KeySet key bytes) shown s rest journal h go leads = key-set-meets line bytes (key_of key) shown s rest journal h go leads
+  edit-deed-meets line (Set_call path index bytes) shown s rest journal h go leads = sets-meets line shown s path index bytes rest journal h go
+  edit-deed-meets line (Fill path index byte) shown s rest journal h go leads = sets-meets line shown s path index (filled s path byte) rest journal h go
+
+  reads-meets : (line : ℕ) (show : Value → Shown) (path index : List ℕ) (shown : List Shown) (s : SessionState) (rest : Rest) (journal : List Event) → Held client ids s journal → GoesOn rest → PlayMeets Ends (beside client ids) (call (get_program s path index) (λ answer. after_line line shown (shown_by s show answer) rest)) journal
+  reads-meets line show path index shown s rest journal h go =
+      call-meets Ends (beside client ids) (ReadWell client ids s) (get_program s path index) (λ answer. after_line line shown (shown_by s show answer) rest) journal (get-meets client ids s path index journal h)
+      (λ r j w. get-goes line shown s show rest go r j w) (λ j. refused-meets line shown R.NoMemory j refl)
+
+  key-get-meets : (line : ℕ) (o : Option ZarrKey) (shown : List Shown) (s : SessionState) (rest : Rest) (journal : List Event) → Held client ids s journal → GoesOn rest → PlayMeets Ends (beside client ids) (play_deed line shown s (key_get_deed line o s) rest) journal
+  key-get-meets line None shown s rest journal h go = refused-meets line shown R.BadKey journal refl
+  key-get-meets line (Some (zarr.Meta path)) shown s rest journal h go = go s (shown ++ key_shown line (meta_value s path) ∷ []) journal h
+  key-get-meets line (Some (zarr.Chunk path index)) shown s rest journal h go = reads-meets line (chunk_key_shown line) path index shown s rest journal h go
+
+  read-deed-meets : (line : ℕ) (look : ReadCall) (shown : List Shown) (s : SessionState) (rest : Rest) (journal : List Event) → Held client ids s journal → GoesOn rest → PlayMeets Ends (beside client ids) (play_deed line shown s (read_deed line look s) rest) journal
+  read-deed-meets line (List_call path) shown s rest journal h go = look-meets line shown s rest journal h go (read_by line (List_call path) s) (read-plain line (List_call path) s)
+  read-deed-meets line (Get_call path) shown s rest journal h go = look-meets line shown s rest journal h go (read_by line (Get_call path) s) (read-plain line (Get_call path) s)
+  read-deed-meets line (Chunk_call path index) shown s rest journal h go = reads-meets line (value_shown line) path index shown s rest journal h go
+  read-deed-meets line (KeyGet key) shown s rest journal h go = key-get-meets line (key_of key) shown s rest journal h go
+
+  deed-meets : (line : ℕ) (made : Call) (shown : List Shown) (s : SessionState) (rest : Rest) (journal : List Event) → Held client ids s journal → GoesOn rest → Leads (deed line made s) s → PlayMeets Ends (beside client ids) (play_deed line shown s (deed line made s) rest) journal
+  deed-meets line (Edit edit) shown s rest journal h go leads = edit-deed-meets line edit shown s rest journal h go leads
+  deed-meets line (Read look) shown s rest journal h go leads = read-deed-meets line look shown s rest journal h go
+  deed-meets line (Commit message) shown s rest journal h go leads =
+      call-meets Ends (beside client ids) Plain (commit_program s message) (after_commit line shown) journal (commit-meets client ids s message journal h.before h.known h.opened)
+      (λ r j plain. answered-meets line shown r j plain) (λ j. answered-meets line shown (Err R.NoMemory) j refl)
+
+  lines-meets : (lines : List Line) → All IsWellLine lines → (s : SessionState) (shown : List Shown) (journal : List Event) → Held client ids s journal → PlayMeets Ends (beside client ids) (play_lines lines s shown) journal
   unfolding play_lines
-  lines-meets [] s shown journal known b = ended-meets Ends Who (record { shown = shown; end = E.Done }) journal refl
-  lines-meets (l ∷ ls) s shown journal known b =
-      or-meets Ends Who (play_deed l.number shown s (deed l.number l.call s) (play_lines ls)) (refused l.number shown R.NoMemory) journal
-      (deed-meets l.number l.call shown s (play_lines ls) journal known b (λ t more k. lines-meets ls t more journal k b)) (refused-meets l.number shown R.NoMemory journal refl)
+  lines-meets [] well s shown journal h = ended-meets Ends (beside client ids) (record { shown = shown; end = E.Done }) journal refl
+  lines-meets (l ∷ ls) well s shown journal h =
+      or-meets Ends (beside client ids) (play_deed l.number shown s (deed l.number l.call s) (play_lines ls)) (refused l.number shown R.NoMemory) journal
+      (deed-meets l.number l.call shown s (play_lines ls) journal h (λ t more j k. lines-meets ls (All-tail IsWellLine l ls well) t more j k) (call-leads l.number l.call s (All-head IsWellLine l ls well).call))
+      (refused-meets l.number shown R.NoMemory journal refl)
 
-  opened-meets : (task : Task) (a : Asked) (r : Result SessionState Refusal) (journal : List Event) → AreOf client a.ids → Opens a r journal → PlayMeets Ends Who (after_open task r) journal
-  unfolding Opened
-  opened-meets task a (Ok s) journal known o = lines-meets task.body s [] journal (subst (AreOf client) (sym o.1) known) o.0
-  opened-meets task a (Err why) journal known o = refused-meets task.line [] why journal o.1
+  opened-meets : (task : Task) → IsWellTask task → (known : AreOf client ids) (r : Result SessionState Refusal) (journal : List Event) → Opens known (asked_by task.head ids) (head-ids task.head ids) r journal → PlayMeets Ends (beside client ids) (after_open task r) journal
+  opened-meets task well known (Ok s) journal h = lines-meets task.body well.body s [] journal h
+  opened-meets task well known (Err why) journal p = refused-meets task.line [] why journal p
 
   -- a task of this client is never refused so
-  pub task-meets : (ids : AnyIds) (task : Task) (journal : List Event) → AreOf client ids → Before journal → PlayMeets (λ o. strange_end o.end ≡ false) Who (task_play ids task) journal
-  task-meets ids task journal known b =
-      call-meets Ends Who (Opens (asked_by task.head ids)) (open_program (asked_by task.head ids)) (after_open task) journal (open-meets (asked_by task.head ids) journal b)
-      (λ r h o. opened-meets task (asked_by task.head ids) r h (subst (AreOf client) (sym (head-ids task.head ids)) known) o) (λ h. refused-meets task.line [] R.NoMemory h refl)
+  pub task-meets : (task : Task) → IsWellTask task → (journal : List Event) → AreOf client ids → Before ids journal → NodesAreNew ids journal → PlayMeets (λ o. strange_end o.end ≡ false) (beside client ids) (task_play ids task) journal
+  task-meets task well journal known before nodes =
+      call-meets Ends (beside client ids) (Opens known (asked_by task.head ids) (head-ids task.head ids)) (open_program (asked_by task.head ids)) (after_open task) journal
+      (open-meets known (asked_by task.head ids) (head-ids task.head ids) journal (record { before = before; nodes = nodes }))
+      (λ r j o. opened-meets task well known r j o) (λ j. refused-meets task.line [] R.NoMemory j refl)

@@ -24,22 +24,22 @@ use Rattle.run_histories.proofs.Drawing.{IsDrawnBy, drawn-not_initial}
 abbrev pub CanRead : Id12 → List ℕ → Type 0
 CanRead id bytes = (s : SnapshotFile) × (snapshot_by id bytes ≡ Some s)
 
--- a new snapshot can be read, and it is the initial one or under one of these ids; so is a log
+-- a new snapshot can be read, and it is the initial one or under one of these ids; so is a log, a manifest, and an object with a chunk
 abbrev pub PutsNew : (Id12 → Type 0) → List ℕ → Key → Type 0
 PutsNew who bytes (Snapshot id) = CanRead id bytes × ((id ≡ initial_id) ⊎ who id)
 PutsNew who bytes (Txn id) = who id
-PutsNew who bytes (Manifest id) = Unit {0}
-PutsNew who bytes (Chunk id) = Unit {0}
+PutsNew who bytes (Manifest id) = who id
+PutsNew who bytes (Chunk id) = who id
 PutsNew who bytes (Branch name) = Unit {0}
 PutsNew who bytes (Tag name) = Unit {0}
 PutsNew who bytes (TagGone name) = Unit {0}
 
--- snapshots and logs aren't put over
+-- what stands under an id isn't put over
 abbrev pub PutsOver : Key → Type 0
 PutsOver (Snapshot id) = ⊥
 PutsOver (Txn id) = ⊥
-PutsOver (Manifest id) = Unit {0}
-PutsOver (Chunk id) = Unit {0}
+PutsOver (Manifest id) = ⊥
+PutsOver (Chunk id) = ⊥
 PutsOver (Branch name) = Unit {0}
 PutsOver (Tag name) = Unit {0}
 PutsOver (TagGone name) = Unit {0}
@@ -61,8 +61,8 @@ pub record IsTidy (who : Id12 → Type 0) (journal : List Event) (event : Event)
 new-weaker : (who more : Id12 → Type 0) → ((id : Id12) → who id → more id) → (bytes : List ℕ) (key : Key) → PutsNew who bytes key → PutsNew more bytes key
 new-weaker who more f bytes (Snapshot id) p = (p.0, elim p.1 [ inl i ↦ inl i | inr w ↦ inr (f id w) ])
 new-weaker who more f bytes (Txn id) p = f id p
-new-weaker who more f bytes (Manifest id) p = tt
-new-weaker who more f bytes (Chunk id) p = tt
+new-weaker who more f bytes (Manifest id) p = f id p
+new-weaker who more f bytes (Chunk id) p = f id p
 new-weaker who more f bytes (Branch name) p = tt
 new-weaker who more f bytes (Tag name) p = tt
 new-weaker who more f bytes (TagGone name) p = tt
@@ -162,6 +162,12 @@ spared-snapshot client id d who other = record { new = λ bytes p. elim p.1 [ in
 
 pub spared-log : (id : Id12) (who : Id12 → Type 0) → ¬ who id → IsSpared who (Txn id)
 spared-log id who other = record { new = λ bytes p. other p; over = λ p. p }
+
+pub spared-manifest : (id : Id12) (who : Id12 → Type 0) → ¬ who id → IsSpared who (Manifest id)
+spared-manifest id who other = record { new = λ bytes p. other p; over = λ p. p }
+
+pub spared-chunk : (id : Id12) (who : Id12 → Type 0) → ¬ who id → IsSpared who (Chunk id)
+spared-chunk id who other = record { new = λ bytes p. other p; over = λ p. p }
 
 abbrev Free : Slot → Type 0
 Free slot = slot.stands ≡ None

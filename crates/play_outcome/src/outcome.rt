@@ -13,6 +13,12 @@ pub enum Shown {
     Node { line: u32, array: bool, path: Path },
     /// The metadata of a node that was asked for in this line of the script.
     Meta { line: u32, text: Bytes },
+    /// The bytes of a chunk that was asked for in this line of the script.
+    Chunk { line: u32, bytes: Bytes },
+    /// A chunk that was asked for in this line of the script and isn't written: all its elements are the fill value.
+    Fill { line: u32 },
+    /// The value of a key of the Zarr store that was asked for in this line of the script, if the key has one.
+    Key { line: u32, bytes: Option<Bytes> },
 }
 
 /// Lines that a task showed, in order.

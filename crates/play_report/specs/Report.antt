@@ -1,10 +1,11 @@
 -- The report of a run (own): lines of words.
-use Rattle.std.specs.Prelude.{ℕ, ◌==◌, nat_lt, List, [], ◌∷◌, ◌++◌, map, Bool, ◌||◌, if◌then◌else◌, Result, Ok, Err, codes, decimal}
+use Rattle.std.specs.Prelude.{ℕ, ◌/◌, ◌%◌, ◌==◌, nat_lt, List, [], ◌∷◌, ◌++◌, map, Bool, ◌||◌, if◌then◌else◌, Option, Some, None, Result, Ok, Err, codes, decimal}
 use Rattle.std.specs.List.{flat_map}
+use Rattle.std.specs.Char.{digit_char}
 use Rattle.ice_ids.specs.Text.{id12_text}
 use Rattle.store_api.specs.declared.machines.Refusal.{Refusal}
 use Rattle.play_outcome.specs.declared.outcome.Shown.{Shown}
-use Rattle.play_outcome.specs.declared.outcome.Shown.TheVariants.{Node, Meta}
+use Rattle.play_outcome.specs.declared.outcome.Shown.TheVariants.{Node, Meta, Chunk, Fill, Key}
 use Rattle.play_outcome.specs.declared.outcome.End.{End}
 use Rattle.play_outcome.specs.declared.outcome.End.TheVariants.{Committed, Done, Refused}
 use Rattle.play_outcome.specs.declared.outcome.Outcome.{Outcome}
@@ -26,10 +27,27 @@ ref_kind tag = if tag then codes "tag" else codes "branch"
 abbrev pub printed : ℕ → ℕ
 printed b = if nat_lt b 32 || (b == 127) then 32 else b
 
+-- a byte in two digits of base 16, with lower-case letters
+abbrev pub byte_text : ℕ → List ℕ
+byte_text b = digit_char (b / 16) ∷ digit_char (b % 16) ∷ []
+
+-- bytes one behind the other, and `-` where there are none
+abbrev pub bytes_text : List ℕ → List ℕ
+bytes_text [] = codes "-"
+bytes_text (b ∷ bs) = flat_map byte_text (b ∷ bs)
+
+-- the value of a key, if it has one
+abbrev pub value_text : Option (List ℕ) → List ℕ
+value_text None = codes "absent"
+value_text (Some bytes) = bytes_text bytes
+
 -- what a task showed, behind its name
 abbrev pub shown_text : Shown → List ℕ
 shown_text (Node line array path) = decimal line space codes "list" space node_kind array space path
 shown_text (Meta line text) = decimal line space codes "meta" space map printed text
+shown_text (Chunk line bytes) = decimal line space codes "chunk" space bytes_text bytes
+shown_text (Fill line) = decimal line space codes "fill"
+shown_text (Key line bytes) = decimal line space codes "zget" space value_text bytes
 
 abbrev pub shown_line : List ℕ → Shown → List ℕ
 shown_line name shown = line_of name (shown_text shown)

@@ -4,9 +4,10 @@ ghost use Rattle.std.specs.Prelude.{◌≡◌, ◌++◌, IfOk, OnOk, codes, deci
 ghost use Rattle.ice_ids.specs.Text.{id12_text};
 ghost use Rattle.play_report.specs.Words.{◌space◌};
 ghost use Rattle.play_report.specs.Refusals.{case_number, conflict_text, conflicts_text, frozen_text, index_text, kind_text, refusal_text, version_text};
-ghost use Rattle.play_report.specs.Report.{node_kind, printed, shown_text, end_text, ref_text};
+ghost use Rattle.play_report.specs.Report.{node_kind, printed, byte_text, bytes_text, value_text, shown_text, end_text, ref_text};
 
 use flat_tables::Kind;
+use ice_base::Bytes;
 use ice_ids::Id12;
 use play_outcome::{End, RefLine, Shown};
 use std::alloc::{AllocError, Global};
@@ -183,6 +184,37 @@ fn meta_text(alloc: Global, line: u32, text: &[u8]) -> Result<Vec<u8>, AllocErro
     Ok(shown)
 }
 
+/// Appends a byte in two digits of base 16.
+fn add_byte(text: &mut String, byte: u8) -> Result<(), AllocError>
+    ensures { OnOk result (string_bytes text.new ≡ string_bytes text.old ++ byte_text byte) }
+{
+    write!(text, "{byte:02x}")
+}
+
+/// Bytes in pairs of digits of base 16, and `-` where there are none.
+fn bytes_text(alloc: Global, bytes: &[u8]) -> Result<String, AllocError>
+    ensures { IfOk result (λ text. string_bytes text ≡ bytes_text bytes.now) }
+{
+    if bytes.is_empty() {
+        return String::from_str(alloc, "-");
+    }
+    let mut text = String::new(alloc);
+    for byte in bytes {
+        add_byte(&mut text, *byte)?;
+    }
+    Ok(text)
+}
+
+/// The value of a key, if it has one.
+fn value_text(alloc: Global, value: &Option<Bytes>) -> Result<String, AllocError>
+    ensures { IfOk result (λ text. string_bytes text ≡ value_text value.now) }
+{
+    match value {
+        Some(bytes) => bytes_text(alloc, bytes.as_slice()),
+        None => String::from_str(alloc, "absent"),
+    }
+}
+
 /// What a task showed.
 pub fn shown_text(alloc: Global, shown: &Shown) -> Result<Vec<u8>, AllocError>
     ensures { IfOk result (λ text. text.items ≡ shown_text shown.now) }
@@ -193,6 +225,17 @@ pub fn shown_text(alloc: Global, shown: &Shown) -> Result<Vec<u8>, AllocError>
             Ok(text.into_bytes())
         }
         Shown::Meta { line, text } => meta_text(alloc, *line, text.as_slice()),
+        Shown::Chunk { line, bytes } => {
+            let bytes = bytes_text(alloc, bytes.as_slice())?;
+            let text = format!(in alloc; "{line} chunk {bytes}")?;
+            Ok(text.into_bytes())
+        }
+        Shown::Fill { line } => Ok(format!(in alloc; "{line} fill")?.into_bytes()),
+        Shown::Key { line, bytes } => {
+            let value = value_text(alloc, bytes)?;
+            let text = format!(in alloc; "{line} zget {value}")?;
+            Ok(text.into_bytes())
+        }
     }
 }
 

@@ -123,7 +123,7 @@ AllStand-begin law draw tasks tells journal wells k p e =
     record {
       task = r.task;
       at = r.at;
-      careful = subst (λ (x : Play Outcome). PlayKeeps (IsCareful (IsOfTask (ids_at draw k) r.task)) (only tells (k + 1)) x journal) (sym is) well.0;
+      careful = subst (λ (x : Play Outcome). PlayKeeps (IsCareful (ids_at draw k) (IsOfTask (ids_at draw k) r.task)) (only tells (k + 1)) x journal) (sym is) well.0;
       before = subst (λ (x : Play Outcome). PlayKeeps (λ h client op. ChangedNothing client journal h) (only tells (k + 1)) x journal) (sym is) well.1;
       single = subst (λ (x : Play Outcome). PlayKeeps (IsSingle journal) (only tells (k + 1)) x journal) (sym is) well.2;
       leads = subst (λ (x : Play Outcome). PlayLeads (TellsAt draw k r.task journal) (only tells (k + 1)) x journal) (sym is) well.3;

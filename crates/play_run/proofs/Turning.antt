@@ -12,6 +12,7 @@ use Rattle.store_api.specs.Machine.{IsAnswered}
 use Rattle.store_api.specs.Journal.{Each, IsGood}
 use Rattle.store_api.specs.Callers.{Caller, View, Waits, Makes, IsOther, HasAll, own_event, owns, only, as_client}
 use Rattle.store_api.specs.Plays.{Play, Ended, Ask, Or, IsLive, HasEnded, PlayKeeps, PlayIsPolite, Acts, Acted, Starved, BlamesEnd}
+use Rattle.ice_ids.specs.declared.drawing.AnyIds.{AnyIds}
 use Rattle.store_api.proofs.Journals.{Each-one, Each-none, Each-append}
 use Rattle.store_api.proofs.Programs.{alone, has-all, good-waits, Waits-same, Waits-fewer, Makes-fewer, Fewer}
 use Rattle.store_api.proofs.PlayLaws.{PlayKeeps-waits, PlayKeeps-acts, PlayLeads-waits, PlayLeads-acts}
@@ -19,14 +20,17 @@ use Rattle.commit_path.specs.Owed.{Sessions, IsCareful}
 use Rattle.commit_path.specs.Answered.{ChangedNothing}
 use Rattle.commit_path.specs.Single.{IsSingle}
 use Rattle.commit_path.proofs.Owing.{IsCareful-append}
-use Rattle.commit_path.proofs.Answering.{ChangedNothing-others}
+use Rattle.commit_path.proofs.Lawful.{session-law, answers-law}
+use Rattle.chunk_calls.proofs.Lasting.{tells-law}
+use Rattle.commit_path.proofs.Happening.{ChangedNothing-others}
 use Rattle.commit_path.proofs.Singling.{HasPutNone-others}
 use Rattle.play_script.specs.declared.scripts.Task.{Task}
 use Rattle.play_outcome.specs.declared.outcome.Outcome.{Outcome}
 use Rattle.play_outcome.specs.Ending.{is_failed}
 use Rattle.play_tasks.specs.Solving.{IsOfTask}
 use Rattle.play_tasks.specs.Tasks.{ids_at, TellsAt, Stands, AllStand, IsOfClient, HasEndedAt}
-use Rattle.play_tasks.proofs.Others.{TellsOutcome-waits}
+use Rattle.play_tasks.specs.Laws.{OutcomeLaw}
+use Rattle.play_tasks.proofs.Others.{TellsOutcome-others, TellsOutcome-waits}
 use Rattle.play_run.specs.Order.{Turned, InTurns}
 use Rattle.play_run.specs.inside.Taking.{Rested, Stepped, TookTurn}
 use Rattle.play_run.specs.inside.Going.{CanGo, Blame, Kept, Went}
@@ -105,17 +109,21 @@ PlayKeeps-now P by op starved next (Ask o s f) journal e k = let same : o ≡ op
 PlayKeeps-now P by op starved next (Or p r) journal e k = absurd (cc)
 
 -- what the next operation owes
-Keeps-polite : (mine : Sessions) (by : Caller) (p : Play Outcome) (journal : List Event) → PlayKeeps (IsCareful mine) by p journal → PlayIsPolite p journal
+Keeps-polite : (ids : AnyIds) (mine : Sessions) (by : Caller) (p : Play Outcome) (journal : List Event) → PlayKeeps (IsCareful ids mine) by p journal → PlayIsPolite p journal
 unfolding PlayKeeps
-Keeps-polite mine by (Ended a) journal k = tt
-Keeps-polite mine by (Ask op starved next) journal k = k.0.polite
-Keeps-polite mine by (Or p r) journal k = tt
+Keeps-polite ids mine by (Ended a) journal k = tt
+Keeps-polite ids mine by (Ask op starved next) journal k = k.0.polite
+Keeps-polite ids mine by (Or p r) journal k = tt
+
+-- what an outcome tells lasts
+outcomes : OutcomeLaw
+outcomes by ids task outcome start journal more others = TellsOutcome-others (record { session = session-law; answers = answers-law; chunks = tells-law }) by start journal more others ids task outcome
 
 next_same : (k t : ℕ) → t + 1 ≡ k + 1 → k ≡ t
 next_same k t e = omega (arith, e)
 
-stable : (mine : Sessions) (by : Caller) (journal more : List Event) (op : Op) → Each (IsOther by) journal more → IsCareful mine journal by.number op → IsCareful mine (journal ++ more) by.number op
-stable mine by journal more op o c = IsCareful-append mine journal more by.number op (good-waits by journal more o) c
+stable : (ids : AnyIds) (mine : Sessions) (by : Caller) (journal more : List Event) (op : Op) → Each (IsOther by) journal more → IsCareful ids mine journal by.number op → IsCareful ids mine (journal ++ more) by.number op
+stable ids mine by journal more op o c = IsCareful-append ids mine journal more by.number op (good-waits by journal more o) c
 
 -- the client has changed no branch before an operation
 abbrev Before : List Event → List Event → ℕ → Op → Type 0
@@ -136,10 +144,10 @@ AllStand-set draw tasks start tells ps t p q old new at all mine others =
     record {
       task = s.task;
       at = s.at;
-      careful = PlayKeeps-waits (IsCareful (IsOfTask (ids_at draw k) s.task)) (stable (IsOfTask (ids_at draw k) s.task)) (only tells (k + 1)) r old new (others k differs) s.careful;
+      careful = PlayKeeps-waits (IsCareful (ids_at draw k) (IsOfTask (ids_at draw k) s.task)) (stable (ids_at draw k) (IsOfTask (ids_at draw k) s.task)) (only tells (k + 1)) r old new (others k differs) s.careful;
       before = PlayKeeps-waits (Before start) (stable-before start) (only tells (k + 1)) r old new (others k differs) s.before;
       single = PlayKeeps-waits (IsSingle start) (stable-single start) (only tells (k + 1)) r old new (others k differs) s.single;
-      leads = PlayLeads-waits (TellsAt draw k s.task start) (only tells (k + 1)) (TellsOutcome-waits (only tells (k + 1)) (ids_at draw k) s.task start) r old new (others k differs) s.leads;
+      leads = PlayLeads-waits (TellsAt draw k s.task start) (only tells (k + 1)) (TellsOutcome-waits outcomes (only tells (k + 1)) (ids_at draw k) s.task start) r old new (others k differs) s.leads;
     })
 
 -- the event that a step made
@@ -172,10 +180,10 @@ module _ (draw : Draw) (tasks : List Task) (start : List Event) (t : ℕ) (old n
       record {
         task = mine.task;
         at = mine.at;
-        careful = PlayKeeps-acts (IsCareful (IsOfTask (ids_at draw t) mine.task)) (stable (IsOfTask (ids_at draw t) mine.task)) is_failed (seen_by to (as_client (t + 1) old)) (seen_by to new) s.p s.q told acts mine.careful;
+        careful = PlayKeeps-acts (IsCareful (ids_at draw t) (IsOfTask (ids_at draw t) mine.task)) (stable (ids_at draw t) (IsOfTask (ids_at draw t) mine.task)) is_failed (seen_by to (as_client (t + 1) old)) (seen_by to new) s.p s.q told acts mine.careful;
         before = PlayKeeps-acts (Before start) (stable-before start) is_failed (seen_by to (as_client (t + 1) old)) (seen_by to new) s.p s.q told acts mine.before;
         single = PlayKeeps-acts (IsSingle start) (stable-single start) is_failed (seen_by to (as_client (t + 1) old)) (seen_by to new) s.p s.q told acts mine.single;
-        leads = PlayLeads-acts (TellsAt draw t mine.task start) is_failed (seen_by to (as_client (t + 1) old)) (seen_by to new) s.p s.q (TellsOutcome-waits to (ids_at draw t) mine.task start) told acts mine.leads;
+        leads = PlayLeads-acts (TellsAt draw t mine.task start) is_failed (seen_by to (as_client (t + 1) old)) (seen_by to new) s.p s.q (TellsOutcome-waits outcomes to (ids_at draw t) mine.task start) told acts mine.leads;
       }
 
   -- all stand, where the others waited
@@ -193,7 +201,7 @@ module _ (draw : Draw) (tasks : List Task) (start : List Event) (t : ℕ) (old n
       let owner : HasAll by = record { low = s.alone.low; end = s.alone.end } in
       let event : Event = made_event t old new s.p s.q a in
       let added = Adds-makes tells by a.op a.reply old.seen new.seen a.made owner told in
-      let owed : IsCareful (IsOfTask (ids_at draw t) mine.task) old.seen (t + 1) a.op = PlayKeeps-now (IsCareful (IsOfTask (ids_at draw t) mine.task)) (only tells (t + 1)) a.op a.starved a.next s.p old.seen a.asks mine.careful in
+      let owed : IsCareful (ids_at draw t) (IsOfTask (ids_at draw t) mine.task) old.seen (t + 1) a.op = PlayKeeps-now (IsCareful (ids_at draw t) (IsOfTask (ids_at draw t) mine.task)) (only tells (t + 1)) a.op a.starved a.next s.p old.seen a.asks mine.careful in
       let good : IsGood old.seen event = record { legal = added.answered; polite = owed.polite } in
       record {
         stand = all_stand s (λ k n. record {
@@ -350,7 +358,7 @@ polite_at view now t ps p e go at told =
     let told' : IsTrue view.caller.tells = subst (λ (v : View). IsTrue v.caller.tells) e told in
     let r = go told' in
     let s = r.stand t p at in
-    subst (λ (v : View). PlayIsPolite p v.seen) (sym e) (Keeps-polite (IsOfTask (ids_at r.draw t) s.task) (only view.caller.tells (t + 1)) p view.seen s.careful)
+    subst (λ (v : View). PlayIsPolite p v.seen) (sym e) (Keeps-polite (ids_at r.draw t) (IsOfTask (ids_at r.draw t) s.task) (only view.caller.tells (t + 1)) p view.seen s.careful)
 
 pub stepped_at : (view now new : View) (t : ℕ) (ps : List (Play Outcome)) (p q : Play Outcome) → now ≡ as_client (t + 1) view → HasAll view.caller → slice_get ps t ≡ Some p → IsLive p → Acts is_failed now new p q → (qs : List (Play Outcome)) → qs ≡ set ps t q → Stepped t view new ps qs
 stepped_at view now new t ps p q e all at live acts qs rest = record { p = p; at = at; live = live; alone = all; q = q; acts = subst (λ (v : View). Acts is_failed v new p q) e acts; rest = rest }

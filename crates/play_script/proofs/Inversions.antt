@@ -1,18 +1,20 @@
 -- What parts are where a line is read.
-use Rattle.std.specs.Prelude.{◌&&◌, ◌-◌, ◌^◌, ℤ, codes}
+use Rattle.std.specs.Prelude.{◌&&◌, ◌+◌, ◌-◌, ◌*◌, ◌^◌, ◌<◌, ℤ, map, nat_le, nat_lt, codes}
 use Rattle.std.proofs.Common.{◌≡◌, ℕ, ◌≤◌, Bool, true, false, cond, List, [], ◌∷◌, Option, None, Some, Result, Ok, Err, refl, sym, ap, subst, arith}
 use Rattle.std.specs.List.{All}
 use Rattle.std.specs.Str.Parse.{digits_value, signed_digits_value}
-use Rattle.std.proofs.lemmas.Bool.{and_parts, leb-true, cond_both}
+use Rattle.std.proofs.lemmas.Bool.{and_parts, and_from, leb-true, lt-ltb, cond_both}
 use Rattle.std.proofs.lemmas.List.Elements.{All-nil, All-cons}
 use Rattle.ice_base.specs.Names.{main_name}
+use Rattle.ice_base.specs.Lists.{IsBytes}
 use Rattle.std.specs.Str.{is_utf8}
 use Rattle.zarr_path.specs.Paths.{is_path}
+use Rattle.zarr_path.specs.Indices.{is_index}
 use Rattle.play_script.specs.declared.faults.ScriptKind.{ScriptKind}
 use Rattle.play_script.specs.declared.faults.ScriptKind.TheVariants as k
 use Rattle.play_script.specs.Words.{Text, parts}
 use Rattle.play_script.specs.Parts.{◌&◌, made, each, only_if}
-use Rattle.play_script.specs.Values.{◌reads◌, is_task_name, task_name_of, path_of, text_of, branch_of, is_number, number_of, wide_of, numbers_of, is_digits, magnitude, is_signed, fill_of, count_of}
+use Rattle.play_script.specs.Values.{◌reads◌, is_task_name, task_name_of, path_of, text_of, branch_of, is_number, number_of, wide_of, numbers_of, is_digits, magnitude, is_signed, fill_of, count_of, clamped, index_of, hex_digit_of, byte_of, pairs, bytes_of}
 use Rattle.play_script.specs.Forms.{taken}
 
 pub made_ok : {A B : Type 0} (f : A → B) (r : Result A ScriptKind) (t : B) → made f r ≡ Ok t → (x : A) × (r ≡ Ok x) × (f x ≡ t)
@@ -99,3 +101,43 @@ unfolding fill_of
 fill_ok w fill h =
     let t = tested_ok (is_digits (magnitude w) && is_signed (signed_digits_value 10 w)) (signed_digits_value 10 w) fill h in
     subst (λ (z : ℤ). is_signed z ≡ true) t.1 (and_parts _ _ t.0).1
+
+-- the numbers of an index have 32 bits
+clamped_index : (ns : List ℕ) → is_index (map clamped ns) ≡ true
+unfolding is_index
+clamped_index [] = refl
+clamped_index (n ∷ ns) = and_from (nat_lt (clamped n) (2 ^ 32)) (is_index (map clamped ns)) (lt-ltb (clamped n) (2 ^ 32) (omega arith)) (clamped_index ns)
+
+pub index_ok : (w : Text) (index : List ℕ) → index_of w ≡ Ok index → is_index index ≡ true
+unfolding index_of
+index_ok w index h =
+    let m = made_ok (map clamped) (numbers_of w) index h in
+    subst (λ (ns : List ℕ). is_index ns ≡ true) m.2 (clamped_index m.0)
+
+pub digit_ok : (b d : ℕ) → hex_digit_of b ≡ Ok d → d < 16
+unfolding hex_digit_of
+digit_ok b d h =
+    cond_both (nat_le 48 b && nat_le b 57) (Ok (b - 48)) _ (λ (r : Result ℕ ScriptKind). r ≡ Ok d → d < 16)
+    (λ t e. let same : b - 48 ≡ d = cc in omega (arith, leb-true b 57 (and_parts (nat_le 48 b) (nat_le b 57) t).1, same))
+    (λ _. cond_both (nat_le 97 b && nat_le b 102) (Ok (b - 97 + 10)) (Err k.Hex) (λ (r : Result ℕ ScriptKind). r ≡ Ok d → d < 16)
+    (λ t e. let same : b - 97 + 10 ≡ d = cc in omega (arith, leb-true b 102 (and_parts (nat_le 97 b) (nat_le b 102) t).1, same))
+    (λ _ e. absurd (cc)))
+    h
+
+pub byte_ok : (w : Text) (byte : ℕ) → byte_of w ≡ Ok byte → byte < 256
+unfolding byte_of
+byte_ok [] byte h = absurd (cc)
+byte_ok (a ∷ []) byte h = absurd (cc)
+byte_ok (a ∷ b ∷ []) byte h =
+    let m = made_ok (λ (d : ℕ × ℕ). d.0 * 16 + d.1) (hex_digit_of a & hex_digit_of b) byte h in
+    let digits = both_ok (hex_digit_of a) (hex_digit_of b) m.0 m.1 in
+    omega (arith, digit_ok a m.0.0 digits.0, digit_ok b m.0.1 digits.1, m.2)
+byte_ok (a ∷ b ∷ c ∷ w) byte h = absurd (cc)
+
+pub bytes_ok : (w : Text) (bytes : List ℕ) → bytes_of w ≡ Ok bytes → IsBytes bytes
+unfolding bytes_of
+bytes_ok w bytes h =
+    cond_both (w reads codes "-") (Ok []) (each byte_of (pairs w)) (λ (r : Result (List ℕ) ScriptKind). r ≡ Ok bytes → IsBytes bytes)
+    (λ _ e. let none : [] ≡ bytes = cc in subst IsBytes none (All-nil (λ (byte : ℕ). byte < 256)))
+    (λ _ e. each_ok (λ (byte : ℕ). byte < 256) byte_of (pairs w) bytes byte_ok e)
+    h

@@ -3,10 +3,12 @@ pub mod Fills
 pub mod PlainText
 pub mod LastTask
 pub mod Earliest
+pub mod Pairs
 pub mod Cuts
 pub mod Utf8
 pub mod NextLine
 pub mod Inversions
+pub mod HexTexts
 pub mod ArrayUtf8
 pub mod WellLines
 pub mod WellTasks

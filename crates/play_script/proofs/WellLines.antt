@@ -1,8 +1,10 @@
 -- What heads, body lines and turns are where they are read.
 use Rattle.std.proofs.Common.{◌≡◌, ℕ, ◌+◌, ◌<◌, ◌≤◌, Bool, cond, List, [], ◌∷◌, length, Option, None, Some, Result, Ok, refl, sym, ap, subst, ◌∙◌, arith}
 use Rattle.std.specs.Prelude.{ℤ, IfSome, unwrap_or, codes}
+use Rattle.std.specs.Option.{option_or}
 use Rattle.std.proofs.lemmas.Bool.{cond_both}
 use Rattle.ice_base.specs.Names.{main_name}
+use Rattle.ice_base.specs.Lists.{IsBytes}
 use Rattle.play_script.specs.declared.faults.ScriptKind.{ScriptKind}
 use Rattle.play_script.specs.declared.scripts.Call.{Call}
 use Rattle.play_script.specs.declared.scripts.Call.TheVariants as call
@@ -17,12 +19,12 @@ use Rattle.play_script.specs.declared.scripts.Class.TheVariants as c
 use Rattle.play_script.specs.declared.forms.Form.{Form}
 use Rattle.play_script.specs.Words.{Text, cut_of, next, one, two, three, five}
 use Rattle.play_script.specs.Parts.{◌&◌, made}
-use Rattle.play_script.specs.Values.{◌reads◌, fixed, path_of, text_of, branch_of, numbers_of, fill_of, count_of}
+use Rattle.play_script.specs.Values.{◌reads◌, fixed, path_of, text_of, branch_of, numbers_of, fill_of, count_of, index_of, bytes_of, byte_of}
 use Rattle.play_script.specs.Arrays.{array_line_text}
-use Rattle.play_script.specs.Forms.{taken, lone_path, path_and_text, array_of, path_and_array, edit_of, read_of, commit_of, form, no_form, form_of, write_head_of, read_head_of, head_of}
+use Rattle.play_script.specs.Forms.{taken, lone_path, path_and_text, array_of, path_and_array, path_and_index, chunk_and_bytes, chunk_and_byte, lone_key, key_and_bytes, node_edit_of, chunk_edit_of, key_edit_of, edit_of, read_of, commit_of, form, no_form, form_of, write_head_of, read_head_of, head_of}
 use Rattle.play_script.specs.Places.{class_of, client_from, turn, turn_of}
-use Rattle.play_script.specs.Well.{IsWellPath, IsWellText, IsWellEdit, IsWellRead, IsWellCall, head_branch, IsWellTurn}
-use Rattle.play_script.proofs.Inversions.{made_ok, both_ok, taken_ok, path_ok, text_ok, branch_ok, numbers_ok, fill_ok, count_ok}
+use Rattle.play_script.specs.Well.{IsWellPath, IsWellText, IsWellIndex, IsWellEdit, IsWellRead, IsWellCall, head_branch, IsWellTurn}
+use Rattle.play_script.proofs.Inversions.{made_ok, both_ok, taken_ok, path_ok, text_ok, branch_ok, numbers_ok, fill_ok, count_ok, index_ok, byte_ok, bytes_ok}
 use Rattle.play_script.proofs.ArrayUtf8.{array_utf8}
 
 lone_path_ok : (rest : Option Text) (path : Text) → lone_path rest ≡ Ok path → IsWellPath path
@@ -59,6 +61,53 @@ path_and_array_ok rest v h =
     let b = both_ok (path_of t.0.0) (array_of t.0.1 t.0.2 t.0.3 t.0.4) v t.2 in
     (path_ok t.0.0 v.0 b.0, array_ok t.0.1 t.0.2 t.0.3 t.0.4 v.1 b.1)
 
+-- a chunk by its array and its index
+abbrev IsWellChunk : Text × List ℕ → Type 0
+IsWellChunk v = IsWellPath v.0 × IsWellIndex v.1
+
+path_and_index_ok : (rest : Option Text) (v : Text × List ℕ) → path_and_index rest ≡ Ok v → IsWellChunk v
+unfolding path_and_index
+path_and_index_ok rest v h =
+    let t = taken_ok (two rest) (λ w. path_of w.0 & index_of w.1) v h in
+    let b = both_ok (path_of t.0.0) (index_of t.0.1) v t.2 in
+    (path_ok t.0.0 v.0 b.0, index_ok t.0.1 v.1 b.1)
+
+abbrev IsWellBytes : (Text × List ℕ) × List ℕ → Type 0
+IsWellBytes v = IsWellPath v.0.0 × IsWellIndex v.0.1 × IsBytes v.1
+
+chunk_and_bytes_ok : (rest : Option Text) (v : (Text × List ℕ) × List ℕ) → chunk_and_bytes rest ≡ Ok v → IsWellBytes v
+unfolding chunk_and_bytes
+chunk_and_bytes_ok rest v h =
+    let t = taken_ok (three rest) (λ w. path_of w.0 & index_of w.1 & bytes_of w.2) v h in
+    let b = both_ok (path_of t.0.0 & index_of t.0.1) (bytes_of t.0.2) v t.2 in
+    let a = both_ok (path_of t.0.0) (index_of t.0.1) v.0 b.0 in
+    (path_ok t.0.0 v.0.0 a.0, index_ok t.0.1 v.0.1 a.1, bytes_ok t.0.2 v.1 b.1)
+
+abbrev IsWellByte : (Text × List ℕ) × ℕ → Type 0
+IsWellByte v = IsWellPath v.0.0 × IsWellIndex v.0.1 × (v.1 < 256)
+
+chunk_and_byte_ok : (rest : Option Text) (v : (Text × List ℕ) × ℕ) → chunk_and_byte rest ≡ Ok v → IsWellByte v
+unfolding chunk_and_byte
+chunk_and_byte_ok rest v h =
+    let t = taken_ok (three rest) (λ w. path_of w.0 & index_of w.1 & byte_of w.2) v h in
+    let b = both_ok (path_of t.0.0 & index_of t.0.1) (byte_of t.0.2) v t.2 in
+    let a = both_ok (path_of t.0.0) (index_of t.0.1) v.0 b.0 in
+    (path_ok t.0.0 v.0.0 a.0, index_ok t.0.1 v.0.1 a.1, byte_ok t.0.2 v.1 b.1)
+
+lone_key_ok : (rest : Option Text) (key : Text) → lone_key rest ≡ Ok key → IsWellText key
+unfolding lone_key
+lone_key_ok rest key h = let t = taken_ok (one rest) text_of key h in text_ok t.0 key t.2
+
+abbrev IsWellValue : Text × List ℕ → Type 0
+IsWellValue v = IsWellText v.0 × IsBytes v.1
+
+key_and_bytes_ok : (rest : Option Text) (v : Text × List ℕ) → key_and_bytes rest ≡ Ok v → IsWellValue v
+unfolding key_and_bytes
+key_and_bytes_ok rest v h =
+    let t = taken_ok (two rest) (λ w. text_of w.0 & bytes_of w.1) v h in
+    let b = both_ok (text_of t.0.0) (bytes_of t.0.1) v t.2 in
+    (text_ok t.0.0 v.0 b.0, bytes_ok t.0.1 v.1 b.1)
+
 -- what was read is of its grammar
 abbrev IsRight : {A : Type 0} → (A → Type 0) → Option (Result A ScriptKind) → Type 0
 IsRight {A} P words = IfSome words (λ r. (x : A) → r ≡ Ok x → P x)
@@ -71,20 +120,45 @@ made_right P Q f r one right y h = let m = made_ok f r y h in subst Q m.2 (one m
 form_right : {A : Type 0} (P : A → Type 0) (word : Bool) (r : Result A ScriptKind) (other : Option (Result A ScriptKind)) → ((x : A) → r ≡ Ok x → P x) → IsRight P other → IsRight P (cond word (Some r) other)
 form_right P word r other right rest = cond_both word (Some r) other (IsRight P) (λ _. right) (λ _. rest)
 
-edit_ok : (first : Text) (rest : Option Text) → IsRight IsWellEdit (edit_of first rest)
-unfolding edit_of
-edit_ok first rest =
+node_edit_ok : (first : Text) (rest : Option Text) → IsRight IsWellEdit (node_edit_of first rest)
+unfolding node_edit_of
+node_edit_ok first rest =
     form_right IsWellEdit (first reads codes "group") _ _ (made_right IsWellPath IsWellEdit edit.Group (lone_path rest) (λ x w. w) (lone_path_ok rest))
     (form_right IsWellEdit (first reads codes "array") _ _ (made_right IsWellBoth IsWellEdit (λ v. edit.Array v.0 v.1) (path_and_array rest) (λ x w. w) (path_and_array_ok rest))
     (form_right IsWellEdit (first reads codes "make") _ _ (made_right IsWellBoth IsWellEdit (λ v. edit.Make v.0 v.1) (path_and_text rest) (λ x w. w) (path_and_text_ok rest))
     (form_right IsWellEdit (first reads codes "meta") _ _ (made_right IsWellBoth IsWellEdit (λ v. edit.Meta v.0 v.1) (path_and_text rest) (λ x w. w) (path_and_text_ok rest))
     (form_right IsWellEdit (first reads codes "drop") _ _ (made_right IsWellPath IsWellEdit edit.Drop (lone_path rest) (λ x w. w) (lone_path_ok rest)) tt))))
 
+chunk_edit_ok : (first : Text) (rest : Option Text) → IsRight IsWellEdit (chunk_edit_of first rest)
+unfolding chunk_edit_of
+chunk_edit_ok first rest =
+    form_right IsWellEdit (first reads codes "set") _ _ (made_right IsWellBytes IsWellEdit (λ v. edit.Set v.0.0 v.0.1 v.1) (chunk_and_bytes rest) (λ x w. w) (chunk_and_bytes_ok rest))
+    (form_right IsWellEdit (first reads codes "fill") _ _ (made_right IsWellByte IsWellEdit (λ v. edit.Fill v.0.0 v.0.1 v.1) (chunk_and_byte rest) (λ x w. w) (chunk_and_byte_ok rest))
+    (form_right IsWellEdit (first reads codes "unset") _ _ (made_right IsWellChunk IsWellEdit (λ v. edit.Unset v.0 v.1) (path_and_index rest) (λ x w. w) (path_and_index_ok rest)) tt))
+
+key_edit_ok : (first : Text) (rest : Option Text) → IsRight IsWellEdit (key_edit_of first rest)
+unfolding key_edit_of
+key_edit_ok first rest =
+    form_right IsWellEdit (first reads codes "zset") _ _ (made_right IsWellValue IsWellEdit (λ v. edit.KeySet v.0 v.1) (key_and_bytes rest) (λ x w. w) (key_and_bytes_ok rest))
+    (form_right IsWellEdit (first reads codes "zdel") _ _ (made_right IsWellText IsWellEdit edit.KeyErase (lone_key rest) (λ x w. w) (lone_key_ok rest)) tt)
+
+-- a line of one kind, or else of another
+or_right : {A : Type 0} (P : A → Type 0) (words other : Option (Result A ScriptKind)) → IsRight P words → IsRight P other → IsRight P (option_or words other)
+or_right P None other right rest = rest
+or_right P (Some r) other right rest = right
+
+edit_ok : (first : Text) (rest : Option Text) → IsRight IsWellEdit (edit_of first rest)
+edit_ok first rest =
+    or_right IsWellEdit (node_edit_of first rest) _ (node_edit_ok first rest)
+    (or_right IsWellEdit (chunk_edit_of first rest) _ (chunk_edit_ok first rest) (key_edit_ok first rest))
+
 read_ok : (first : Text) (rest : Option Text) → IsRight IsWellRead (read_of first rest)
 unfolding read_of
 read_ok first rest =
     form_right IsWellRead (first reads codes "list") _ _ (made_right IsWellPath IsWellRead read.List (lone_path rest) (λ x w. w) (lone_path_ok rest))
-    (form_right IsWellRead (first reads codes "get") _ _ (made_right IsWellPath IsWellRead read.Get (lone_path rest) (λ x w. w) (lone_path_ok rest)) tt)
+    (form_right IsWellRead (first reads codes "get") _ _ (made_right IsWellPath IsWellRead read.Get (lone_path rest) (λ x w. w) (lone_path_ok rest))
+    (form_right IsWellRead (first reads codes "chunk") _ _ (made_right IsWellChunk IsWellRead (λ v. read.Chunk v.0 v.1) (path_and_index rest) (λ x w. w) (path_and_index_ok rest))
+    (form_right IsWellRead (first reads codes "zget") _ _ (made_right IsWellText IsWellRead read.KeyGet (lone_key rest) (λ x w. w) (lone_key_ok rest)) tt)))
 
 commit_ok : (first : Text) (rest : Option Text) → IsRight IsWellText (commit_of first rest)
 unfolding commit_of

@@ -1,5 +1,6 @@
 -- Own: the forms of heads and body lines, each by its words.
-use Rattle.std.specs.Prelude.{if◌then◌else◌, Option, Some, None, option_map, unwrap_or, Result, Err, codes}
+use Rattle.std.specs.Prelude.{ℕ, List, if◌then◌else◌, Option, Some, None, option_map, unwrap_or, Result, Err, codes}
+use Rattle.std.specs.Option.{option_or}
 use Rattle.play_script.specs.declared.faults.ScriptKind.{ScriptKind}
 use Rattle.play_script.specs.declared.faults.ScriptKind.TheVariants as k
 use Rattle.play_script.specs.declared.scripts.Call.{Call}
@@ -15,7 +16,7 @@ use Rattle.play_script.specs.declared.scripts.Class.TheVariants as c
 use Rattle.play_script.specs.declared.forms.Form.{Form}
 use Rattle.play_script.specs.Words.{Text, next, one, two, three, five}
 use Rattle.play_script.specs.Parts.{◌&◌, made}
-use Rattle.play_script.specs.Values.{◌reads◌, fixed, path_of, text_of, branch_of, numbers_of, fill_of}
+use Rattle.play_script.specs.Values.{◌reads◌, fixed, path_of, text_of, branch_of, numbers_of, fill_of, index_of, bytes_of, byte_of}
 use Rattle.play_script.specs.Arrays.{array_line_text}
 
 -- the words that a form takes, and what it makes of them
@@ -40,22 +41,60 @@ array_of data_type shape chunks fill =
 unfoldable pub path_and_array : Option Text → Result (Text × Text) ScriptKind
 path_and_array rest = taken (five rest) (λ w. path_of w.0 & array_of w.1 w.2 w.3 w.4)
 
+-- a path and the index of a chunk, and nothing else
+unfoldable pub path_and_index : Option Text → Result (Text × List ℕ) ScriptKind
+path_and_index rest = taken (two rest) (λ w. path_of w.0 & index_of w.1)
+
+-- a path, the index of a chunk, and bytes
+unfoldable pub chunk_and_bytes : Option Text → Result ((Text × List ℕ) × List ℕ) ScriptKind
+chunk_and_bytes rest = taken (three rest) (λ w. path_of w.0 & index_of w.1 & bytes_of w.2)
+
+-- a path, the index of a chunk, and one byte
+unfoldable pub chunk_and_byte : Option Text → Result ((Text × List ℕ) × ℕ) ScriptKind
+chunk_and_byte rest = taken (three rest) (λ w. path_of w.0 & index_of w.1 & byte_of w.2)
+
+-- one key, which is any word, and nothing else
+unfoldable pub lone_key : Option Text → Result Text ScriptKind
+lone_key rest = taken (one rest) text_of
+
+-- a key and bytes
+unfoldable pub key_and_bytes : Option Text → Result (Text × List ℕ) ScriptKind
+key_and_bytes rest = taken (two rest) (λ w. text_of w.0 & bytes_of w.1)
+
 -- Lines by class: what a line of this first word calls, if the class has such a line.
 
 -- `group PATH`, `array PATH TYPE SHAPE CHUNKS FILL`, `make PATH JSON`, `meta PATH JSON`, `drop PATH`
-unfoldable pub edit_of : Text → Option Text → Option (Result EditCall ScriptKind)
-edit_of first rest =
+unfoldable pub node_edit_of : Text → Option Text → Option (Result EditCall ScriptKind)
+node_edit_of first rest =
     if first reads codes "group" then Some (made edit.Group (lone_path rest)) else
     (if first reads codes "array" then Some (made (λ v. edit.Array v.0 v.1) (path_and_array rest)) else
     (if first reads codes "make" then Some (made (λ v. edit.Make v.0 v.1) (path_and_text rest)) else
     (if first reads codes "meta" then Some (made (λ v. edit.Meta v.0 v.1) (path_and_text rest)) else
     (if first reads codes "drop" then Some (made edit.Drop (lone_path rest)) else None))))
 
--- `list PATH`, `get PATH`
+-- `set PATH INDEX HEX`, `fill PATH INDEX BYTE`, `unset PATH INDEX`
+unfoldable pub chunk_edit_of : Text → Option Text → Option (Result EditCall ScriptKind)
+chunk_edit_of first rest =
+    if first reads codes "set" then Some (made (λ v. edit.Set v.0.0 v.0.1 v.1) (chunk_and_bytes rest)) else
+    (if first reads codes "fill" then Some (made (λ v. edit.Fill v.0.0 v.0.1 v.1) (chunk_and_byte rest)) else
+    (if first reads codes "unset" then Some (made (λ v. edit.Unset v.0 v.1) (path_and_index rest)) else None))
+
+-- `zset KEY HEX`, `zdel KEY`
+unfoldable pub key_edit_of : Text → Option Text → Option (Result EditCall ScriptKind)
+key_edit_of first rest =
+    if first reads codes "zset" then Some (made (λ v. edit.KeySet v.0 v.1) (key_and_bytes rest)) else
+    (if first reads codes "zdel" then Some (made edit.KeyErase (lone_key rest)) else None)
+
+abbrev pub edit_of : Text → Option Text → Option (Result EditCall ScriptKind)
+edit_of first rest = option_or (node_edit_of first rest) (option_or (chunk_edit_of first rest) (key_edit_of first rest))
+
+-- `list PATH`, `get PATH`, `chunk PATH INDEX`, `zget KEY`
 unfoldable pub read_of : Text → Option Text → Option (Result ReadCall ScriptKind)
 read_of first rest =
     if first reads codes "list" then Some (made read.List (lone_path rest)) else
-    (if first reads codes "get" then Some (made read.Get (lone_path rest)) else None)
+    (if first reads codes "get" then Some (made read.Get (lone_path rest)) else
+    (if first reads codes "chunk" then Some (made (λ v. read.Chunk v.0 v.1) (path_and_index rest)) else
+    (if first reads codes "zget" then Some (made read.KeyGet (lone_key rest)) else None)))
 
 -- `commit MESSAGE`: the rest of the line, perhaps empty
 unfoldable pub commit_of : Text → Option Text → Option (Result Text ScriptKind)

@@ -1,6 +1,7 @@
 pub mod Words
 pub mod Parts
 pub mod Values
+pub mod HexText
 pub mod Arrays
 pub mod Forms
 pub mod Places

@@ -1,12 +1,13 @@
 -- Own: parts of a line, all of their values, or the earliest kind of fault.
 use Rattle.std.specs.Prelude.{ℕ, Bool, true, false, Result, Ok, Err, List, [], ◌∷◌, nat_le, if◌then◌else◌, codes}
 use Rattle.play_script.specs.declared.faults.ScriptKind.{ScriptKind}
-use Rattle.play_script.specs.declared.faults.ScriptKind.TheVariants.{Long, Unbuilt}
+use Rattle.play_script.specs.declared.faults.ScriptKind.TheVariants.{Long, Unbuilt, Hex}
 
 -- the order in which kinds are told
 abbrev pub rank : ScriptKind → ℕ
 rank Long = 0
 rank Unbuilt = 1
+rank Hex = 2
 
 abbrev pub earlier : ScriptKind → ScriptKind → ScriptKind
 earlier k j = if nat_le (rank k) (rank j) then k else j
@@ -15,6 +16,7 @@ earlier k j = if nat_le (rank k) (rank j) then k else j
 abbrev pub kind_text : ScriptKind → List ℕ
 kind_text Long = codes "long"
 kind_text Unbuilt = codes "unbuilt"
+kind_text Hex = codes "hex"
 
 -- two parts: a line's fault is the earliest of the faults of its parts
 infixl 20 ◌&◌

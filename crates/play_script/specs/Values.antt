@@ -1,5 +1,5 @@
 -- Own: what a word stands for, or the kind of its fault.
-use Rattle.std.specs.Prelude.{ℕ, ◌-◌, ◌^◌, ◌==◌, ℤ, pos, negsuc, int_le, List, [], if◌then◌else◌, Option, Some, None, Result, Ok, Err, Bool, not, ◌&&◌, ◌||◌, nat_le, length, drop, bytes_eq, codes}
+use Rattle.std.specs.Prelude.{ℕ, ◌+◌, ◌-◌, ◌*◌, ◌^◌, ◌==◌, min, ℤ, pos, negsuc, int_le, List, [], ◌∷◌, map, if◌then◌else◌, Option, Some, None, Result, Ok, Err, Bool, not, ◌&&◌, ◌||◌, nat_le, length, drop, bytes_eq, codes}
 use Rattle.std.specs.List.{list_all}
 use Rattle.std.specs.Char.{is_ascii_digit, is_ascii_lowercase}
 use Rattle.std.specs.Str.Parse.{digits_value, starts_with_minus, signed_digits_value}
@@ -9,7 +9,7 @@ use Rattle.zarr_path.specs.Paths.{is_path}
 use Rattle.play_script.specs.declared.faults.ScriptKind.{ScriptKind}
 use Rattle.play_script.specs.declared.faults.ScriptKind.TheVariants as k
 use Rattle.play_script.specs.Words.{Text, parts}
-use Rattle.play_script.specs.Parts.{only_if, each}
+use Rattle.play_script.specs.Parts.{◌&◌, made, only_if, each}
 
 -- the word is this text
 infix 30 ◌reads◌
@@ -58,6 +58,36 @@ wide_of w = number_of 0 (2 ^ 128 - 1) w
 
 unfoldable pub numbers_of : Text → Result (List ℕ) ScriptKind
 numbers_of w = if w reads codes "-" then Ok [] else each wide_of (parts 44 w)
+
+-- an index has numbers of 32 bits: a greater one is in no grid, and is held as 4,294,967,295, which is in none either
+abbrev pub clamped : ℕ → ℕ
+clamped n = min n (2 ^ 32 - 1)
+
+unfoldable pub index_of : Text → Result (List ℕ) ScriptKind
+index_of w = made (map clamped) (numbers_of w)
+
+-- a digit of base 16, with lower-case letters
+unfoldable pub hex_digit_of : ℕ → Result ℕ ScriptKind
+hex_digit_of b =
+    if nat_le 48 b && nat_le b 57 then Ok (b - 48) else
+    (if nat_le 97 b && nat_le b 102 then Ok (b - 97 + 10) else Err k.Hex)
+
+-- a byte is two such digits, the high one first
+unfoldable pub byte_of : Text → Result ℕ ScriptKind
+byte_of [] = Err k.Hex
+byte_of (a ∷ []) = Err k.Hex
+byte_of (a ∷ b ∷ []) = made (λ d. d.0 * 16 + d.1) (hex_digit_of a & hex_digit_of b)
+byte_of (a ∷ b ∷ c ∷ w) = Err k.Hex
+
+-- a word in pieces of two bytes, of which the last may have one
+unfoldable pub pairs : Text → List Text
+pairs [] = []
+pairs (a ∷ []) = (a ∷ []) ∷ []
+pairs (a ∷ b ∷ w) = (a ∷ b ∷ []) ∷ pairs w
+
+-- bytes of two digits each, or `-` where there are none
+unfoldable pub bytes_of : Text → Result (List ℕ) ScriptKind
+bytes_of w = if w reads codes "-" then Ok [] else each byte_of (pairs w)
 
 -- a fill value is digits, perhaps behind a `-`, for a number of 128 bits with a sign
 abbrev pub magnitude : Text → Text

@@ -1,8 +1,10 @@
 -- Own: what holds of every script that was read.
-use Rattle.std.specs.Prelude.{◌≡◌, ◌≢◌, ℕ, ◌+◌, ◌≤◌, List, [], ◌∷◌, length, map, IfSome, IsTrue, All, AllPairs}
+use Rattle.std.specs.Prelude.{◌≡◌, ◌≢◌, ℕ, ◌+◌, ◌<◌, ◌≤◌, List, [], ◌∷◌, length, map, IfSome, IsTrue, All, AllPairs}
 use Rattle.ice_base.specs.Names.{main_name}
+use Rattle.ice_base.specs.Lists.{IsBytes}
 use Rattle.std.specs.Str.{is_utf8}
 use Rattle.zarr_path.specs.Paths.{is_path}
+use Rattle.zarr_path.specs.Indices.{is_index}
 use Rattle.play_script.specs.declared.scripts.Call.{Call}
 use Rattle.play_script.specs.declared.scripts.Call.TheVariants as call
 use Rattle.play_script.specs.declared.scripts.EditCall.{EditCall}
@@ -28,16 +30,27 @@ IsWellPath path = IsTrue (is_path path) × IsTrue (is_utf8 path)
 abbrev pub IsWellText : Text → Type 0
 IsWellText text = IsTrue (is_utf8 text)
 
+-- an index has numbers of 32 bits
+abbrev pub IsWellIndex : List ℕ → Type 0
+IsWellIndex index = IsTrue (is_index index)
+
 abbrev pub IsWellEdit : EditCall → Type 0
 IsWellEdit (edit.Group path) = IsWellPath path
 IsWellEdit (edit.Array path text) = IsWellPath path × IsWellText text
 IsWellEdit (edit.Make path text) = IsWellPath path × IsWellText text
 IsWellEdit (edit.Meta path text) = IsWellPath path × IsWellText text
 IsWellEdit (edit.Drop path) = IsWellPath path
+IsWellEdit (edit.Set path index bytes) = IsWellPath path × IsWellIndex index × IsBytes bytes
+IsWellEdit (edit.Fill path index byte) = IsWellPath path × IsWellIndex index × (byte < 256)
+IsWellEdit (edit.Unset path index) = IsWellPath path × IsWellIndex index
+IsWellEdit (edit.KeySet key bytes) = IsWellText key × IsBytes bytes
+IsWellEdit (edit.KeyErase key) = IsWellText key
 
 abbrev pub IsWellRead : ReadCall → Type 0
 IsWellRead (read.List path) = IsWellPath path
 IsWellRead (read.Get path) = IsWellPath path
+IsWellRead (read.Chunk path index) = IsWellPath path × IsWellIndex index
+IsWellRead (read.KeyGet key) = IsWellText key
 
 abbrev pub IsWellCall : Call → Type 0
 IsWellCall (call.Edit change) = IsWellEdit change

@@ -14,6 +14,8 @@ pub enum ScriptKind {
     Long,
     /// The line isn't of a form that is built so far, at its place.
     Unbuilt,
+    /// Its bytes aren't pairs of lower-case digits of base 16.
+    Hex,
 }
 
 impl fmt::Display for ScriptKind {
@@ -26,6 +28,7 @@ impl fmt::Display for ScriptKind {
         match *self {
             ScriptKind::Long => f.write_str("long"),
             ScriptKind::Unbuilt => f.write_str("unbuilt"),
+            ScriptKind::Hex => f.write_str("hex"),
         }
     }
 }

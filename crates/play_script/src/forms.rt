@@ -5,16 +5,18 @@ ghost use Rattle.play_script.specs.Words.{seen};
 ghost use Rattle.play_script.specs.declared.scripts.Call.TheVariants as Call;
 ghost use Rattle.play_script.specs.declared.scripts.Class.TheVariants as Class;
 ghost use Rattle.play_script.specs.Values.{text_of};
-ghost use Rattle.play_script.specs.Forms.{taken, lone_path, path_and_text, array_of, path_and_array, edit_of, read_of, commit_of, form, form_of, write_head_of, read_head_of, head_of};
+ghost use Rattle.play_script.specs.Forms.{taken, lone_path, path_and_text, array_of, path_and_array, path_and_index, chunk_and_bytes, chunk_and_byte, lone_key, key_and_bytes, node_edit_of, chunk_edit_of, key_edit_of, edit_of, read_of, commit_of, form, form_of, write_head_of, read_head_of, head_of};
 
 use crate::arrays::array_text;
 use crate::faults::{ScriptKind, both};
 use crate::scripts::{Call, Class, EditCall, Head, ReadCall};
-use crate::values::{branch_in, fill_in, fixed, numbers_in, path_in, text_in};
+use crate::values::{
+    branch_in, byte_in, bytes_in, fill_in, fixed, index_in, numbers_in, path_in, text_in,
+};
 use crate::words::{five, next, one, three, two};
-use ice_base::Text;
+use ice_base::{Bytes, Text};
 use std::alloc::{AllocError, Global};
-use zarr_path::Path;
+use zarr_path::{Index, Path};
 
 /// A body line by its first word.
 #[derive(Debug, Drop)]
@@ -98,14 +100,92 @@ fn path_and_array(
     Ok(both(path, text))
 }
 
-/// What a line calls that changes the tree.
-#[tactic(auto, unfolding(crate::specs::Forms::edit_of))]
-fn edit_call(
+/// A path and the index of a chunk.
+#[tactic(auto, unfolding(crate::specs::Forms::path_and_index))]
+fn path_and_index(
+    alloc: Global,
+    rest: Option<&str>,
+) -> Result<Result<(Path, Index), ScriptKind>, AllocError>
+    ensures { IfOk result (λ r. r ≡ path_and_index (seen rest.entry)) }
+{
+    let Some((path, index)) = two(rest) else {
+        return Ok(Err(ScriptKind::Unbuilt));
+    };
+    let path = path_in(alloc, path)?;
+    let index = index_in(alloc, index)?;
+    Ok(both(path, index))
+}
+
+/// A path, the index of a chunk, and bytes.
+#[tactic(auto, unfolding(crate::specs::Forms::chunk_and_bytes))]
+fn chunk_and_bytes(
+    alloc: Global,
+    rest: Option<&str>,
+) -> Result<Result<((Path, Index), Bytes), ScriptKind>, AllocError>
+    ensures { IfOk result (λ r. r ≡ chunk_and_bytes (seen rest.entry)) }
+{
+    let Some((path, index, bytes)) = three(rest) else {
+        return Ok(Err(ScriptKind::Unbuilt));
+    };
+    let path = path_in(alloc, path)?;
+    let index = index_in(alloc, index)?;
+    let bytes = bytes_in(alloc, bytes)?;
+    Ok(both(both(path, index), bytes))
+}
+
+/// A path, the index of a chunk, and one byte.
+#[tactic(auto, unfolding(crate::specs::Forms::chunk_and_byte))]
+fn chunk_and_byte(
+    alloc: Global,
+    rest: Option<&str>,
+) -> Result<Result<((Path, Index), u8), ScriptKind>, AllocError>
+    ensures { IfOk result (λ r. r ≡ chunk_and_byte (seen rest.entry)) }
+{
+    let Some((path, index, byte)) = three(rest) else {
+        return Ok(Err(ScriptKind::Unbuilt));
+    };
+    let path = path_in(alloc, path)?;
+    let index = index_in(alloc, index)?;
+    Ok(both(both(path, index), byte_in(byte)))
+}
+
+/// The one key that is left of a line.
+#[tactic(auto, unfolding(crate::specs::Forms::lone_key))]
+fn lone_key(alloc: Global, rest: Option<&str>) -> Result<Result<Text, ScriptKind>, AllocError>
+    ensures { IfOk result (λ r. r ≡ lone_key (seen rest.entry)) }
+{
+    match one(rest) {
+        Some(key) => Ok(Ok(text_in(alloc, key)?)),
+        None => Ok(Err(ScriptKind::Unbuilt)),
+    }
+}
+
+/// A key and bytes.
+#[tactic(auto, unfolding(crate::specs::Forms::key_and_bytes))]
+fn key_and_bytes(
+    alloc: Global,
+    rest: Option<&str>,
+) -> Result<Result<(Text, Bytes), ScriptKind>, AllocError>
+    ensures { IfOk result (λ r. r ≡ key_and_bytes (seen rest.entry)) }
+{
+    let Some((key, bytes)) = two(rest) else {
+        return Ok(Err(ScriptKind::Unbuilt));
+    };
+    let key = text_in(alloc, key)?;
+    match bytes_in(alloc, bytes)? {
+        Ok(bytes) => Ok(Ok((key, bytes))),
+        Err(kind) => Ok(Err(kind)),
+    }
+}
+
+/// What a line calls that changes a node.
+#[tactic(auto, unfolding(crate::specs::Forms::node_edit_of))]
+fn node_edit(
     alloc: Global,
     first: &str,
     rest: Option<&str>,
 ) -> Result<Option<Result<EditCall, ScriptKind>>, AllocError>
-    ensures { IfOk result (λ call. call ≡ edit_of first.now (seen rest.entry)) }
+    ensures { IfOk result (λ call. call ≡ node_edit_of first.now (seen rest.entry)) }
 {
     Ok(Some(match first {
         "group" => lone_path(alloc, rest)?.map(|path| EditCall::Group { path }),
@@ -115,6 +195,66 @@ fn edit_call(
         "drop" => lone_path(alloc, rest)?.map(|path| EditCall::Drop { path }),
         _ => return Ok(None),
     }))
+}
+
+/// What a line calls that changes a chunk.
+#[tactic(auto, unfolding(crate::specs::Forms::chunk_edit_of))]
+fn chunk_edit(
+    alloc: Global,
+    first: &str,
+    rest: Option<&str>,
+) -> Result<Option<Result<EditCall, ScriptKind>>, AllocError>
+    ensures { IfOk result (λ call. call ≡ chunk_edit_of first.now (seen rest.entry)) }
+{
+    Ok(Some(match first {
+        "set" => chunk_and_bytes(alloc, rest)?.map(|((path, index), bytes)| EditCall::Set {
+            path,
+            index,
+            bytes,
+        }),
+        "fill" => chunk_and_byte(alloc, rest)?.map(|((path, index), byte)| EditCall::Fill {
+            path,
+            index,
+            byte,
+        }),
+        "unset" => {
+            path_and_index(alloc, rest)?.map(|(path, index)| EditCall::Unset { path, index })
+        }
+        _ => return Ok(None),
+    }))
+}
+
+/// What a line calls that changes the value of a key.
+#[tactic(auto, unfolding(crate::specs::Forms::key_edit_of))]
+fn key_edit(
+    alloc: Global,
+    first: &str,
+    rest: Option<&str>,
+) -> Result<Option<Result<EditCall, ScriptKind>>, AllocError>
+    ensures { IfOk result (λ call. call ≡ key_edit_of first.now (seen rest.entry)) }
+{
+    Ok(Some(match first {
+        "zset" => key_and_bytes(alloc, rest)?.map(|(key, bytes)| EditCall::KeySet { key, bytes }),
+        "zdel" => lone_key(alloc, rest)?.map(|key| EditCall::KeyErase { key }),
+        _ => return Ok(None),
+    }))
+}
+
+/// What a line calls that changes the tree.
+fn edit_call(
+    alloc: Global,
+    first: &str,
+    rest: Option<&str>,
+) -> Result<Option<Result<EditCall, ScriptKind>>, AllocError>
+    ensures { IfOk result (λ call. call ≡ edit_of first.now (seen rest.entry)) }
+{
+    if let Some(call) = node_edit(alloc, first, rest)? {
+        return Ok(Some(call));
+    }
+    if let Some(call) = chunk_edit(alloc, first, rest)? {
+        return Ok(Some(call));
+    }
+    key_edit(alloc, first, rest)
 }
 
 /// A line that changes the tree.
@@ -142,6 +282,10 @@ fn read_call(
     Ok(Some(match first {
         "list" => lone_path(alloc, rest)?.map(|path| ReadCall::List { path }),
         "get" => lone_path(alloc, rest)?.map(|path| ReadCall::Get { path }),
+        "chunk" => {
+            path_and_index(alloc, rest)?.map(|(path, index)| ReadCall::Chunk { path, index })
+        }
+        "zget" => lone_key(alloc, rest)?.map(|key| ReadCall::KeyGet { key }),
         _ => return Ok(None),
     }))
 }

@@ -4,13 +4,15 @@
 //! between single spaces. It is any number of tasks, at most 64, then at most one line of turns:
 //!
 //! - `task NAME write main 0 fail`, a task that edits: lines `group PATH`, `array PATH TYPE SHAPE CHUNKS FILL`,
-//!   `make PATH JSON`, `meta PATH JSON`, `drop PATH`, `list PATH` and `get PATH`, then at most one `commit MESSAGE`; JSON and
-//!   MESSAGE are the rest of the line and may be empty;
-//! - `task NAME read branch main`, a task that reads: lines `list PATH` and `get PATH`;
+//!   `make PATH JSON`, `meta PATH JSON`, `drop PATH`, `set PATH INDEX HEX`, `fill PATH INDEX BYTE`, `unset PATH INDEX`,
+//!   `zset KEY HEX`, `zdel KEY`, and those of a task that reads, then at most one `commit MESSAGE`; JSON and MESSAGE are the
+//!   rest of the line and may be empty;
+//! - `task NAME read branch main`, a task that reads: lines `list PATH`, `get PATH`, `chunk PATH INDEX` and `zget KEY`;
 //! - `turns WORDS`, each word a task's `NAME`, or `NAME*COUNT` with a count of 1 to 9,999; perhaps no word.
 //!
-//! Names are 1 to 16 bytes of `a` to `z`, `0` to `9` and `_`, and distinct. SHAPE and CHUNKS are numbers of up to
-//! 128 bits joined by commas, or `-` for none; FILL is a number of 128 bits with a sign.
+//! Names are 1 to 16 bytes of `a` to `z`, `0` to `9` and `_`, and distinct. SHAPE, CHUNKS and INDEX are numbers of up to
+//! 128 bits joined by commas, or `-` for none; FILL is a number of 128 bits with a sign. HEX is pairs of lower-case digits
+//! of base 16, or `-` for no bytes; BYTE is one such pair. A KEY is any word.
 #![tactic(auto)]
 
 mod arrays;
@@ -27,7 +29,7 @@ mod words;
 
 pub use faults::{ScriptFault, ScriptKind};
 pub use heads::MOST_TASKS;
-pub use laws::plain_law;
+pub use laws::{hex_law, plain_law};
 pub use reading::MOST_BYTES;
 pub use scripts::{Call, EditCall, Head, Line, Lines, ReadCall, Script, Task, Tasks, Turn, Turns};
 pub use values::TaskName;

@@ -110,9 +110,10 @@ fn lines_in(alloc: Global, text: &[u8]) -> Result<Script, ScriptFault>
 }
 
 impl Script {
-    /// Reads a text as a script. It is refused at its first line that isn't of a form that is built, at its place; a text
-    /// of too many bytes is refused before all that, at the line of the first byte too many. A script that was read is
-    /// well, as the workers above take it to be.
+    /// Reads a text as a script. It is refused at its first line that isn't of a form that is built, at its place, or
+    /// whose bytes aren't pairs of digits, told where nothing else is wrong with the line; a text of too many bytes is
+    /// refused before all that, at the line of the first byte too many. A script that was read is well, as the workers
+    /// above take it to be.
     #[tactic(auto, unfolding(crate::specs::Reading::script_of))]
     pub fn read(alloc: Global, text: &[u8]) -> Result<Script, ScriptFault>
         ensures reads { IsReading (script_of text.now) result }

@@ -1,9 +1,9 @@
 //! What a script says.
 
 use crate::values::TaskName;
-use ice_base::{RefName, Text};
+use ice_base::{Bytes, RefName, Text};
 use ice_items::Items;
-use zarr_path::Path;
+use zarr_path::{Index, Path};
 
 /// What a line calls that changes the tree of its task's session.
 #[derive(Debug, Drop)]
@@ -39,6 +39,43 @@ pub enum EditCall {
         /// The node's path.
         path: Path,
     },
+    /// Writes a chunk of an array.
+    Set {
+        /// The array's path.
+        path: Path,
+        /// The chunk's place in the grid.
+        index: Index,
+        /// The chunk's bytes.
+        bytes: Bytes,
+    },
+    /// Writes a chunk of an array, all of whose bytes are the same.
+    Fill {
+        /// The array's path.
+        path: Path,
+        /// The chunk's place in the grid.
+        index: Index,
+        /// Each of its bytes.
+        byte: u8,
+    },
+    /// Erases a chunk of an array.
+    Unset {
+        /// The array's path.
+        path: Path,
+        /// The chunk's place in the grid.
+        index: Index,
+    },
+    /// Writes the value of a key of the Zarr store.
+    KeySet {
+        /// The key, any word.
+        key: Text,
+        /// The value.
+        bytes: Bytes,
+    },
+    /// Erases a key of the Zarr store.
+    KeyErase {
+        /// The key, any word.
+        key: Text,
+    },
 }
 
 /// What a line calls that shows something and changes nothing.
@@ -53,6 +90,18 @@ pub enum ReadCall {
     Get {
         /// The node's path.
         path: Path,
+    },
+    /// Shows a chunk of an array.
+    Chunk {
+        /// The array's path.
+        path: Path,
+        /// The chunk's place in the grid.
+        index: Index,
+    },
+    /// Shows the value of a key of the Zarr store.
+    KeyGet {
+        /// The key, any word.
+        key: Text,
     },
 }
 

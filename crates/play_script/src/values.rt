@@ -1,19 +1,19 @@
 //! What a word stands for.
 
-ghost use Rattle.std.specs.Prelude.{◌≡◌, IfOk, Ok};
+ghost use Rattle.std.specs.Prelude.{◌≡◌, ◌<◌, IfOk, Ok, map};
 ghost use Rattle.std.specs.List.{list_all};
 ghost use Rattle.std.specs.Char.{is_ascii_digit};
-ghost use Rattle.play_script.specs.Values.{is_digits, number_of, wide_of, numbers_of, magnitude, fill_of, is_task_name, is_task_byte, task_name_of, path_of, text_of, branch_of, fixed, count_of};
+ghost use Rattle.play_script.specs.Values.{is_digits, number_of, wide_of, numbers_of, clamped, index_of, hex_digit_of, byte_of, pairs, bytes_of, magnitude, fill_of, is_task_name, is_task_byte, task_name_of, path_of, text_of, branch_of, fixed, count_of};
 ghost use Rattle.play_script.specs.Words.{parts, seen};
 ghost use Rattle.play_script.specs.Parts.{each};
 ghost use Rattle.play_script.specs.SoFar.{parts_seen};
 
-use crate::faults::{ScriptKind, with_part};
+use crate::faults::{ScriptKind, both, with_part};
 use crate::words::cut;
-use ice_base::{RefName, Text};
+use ice_base::{Bytes, RefName, Text};
 use std::alloc::{AllocError, Global};
 use std::marker::Model;
-use zarr_path::{Path, PathFault};
+use zarr_path::{Index, Path, PathFault};
 
 /// The name of a task: 1 to 16 bytes of `a` to `z`, `0` to `9` and `_`. Contracts see it as the bytes of its text.
 #[derive(Debug, Drop)]
@@ -191,6 +191,97 @@ pub fn numbers_in(alloc: Global, word: &str) -> Result<Result<Vec<u128>, ScriptK
         return Ok(Ok(Vec::new(alloc)));
     }
     listed_in(alloc, word)
+}
+
+/// A number of an index, which is the greatest one of 32 bits where it doesn't fit them.
+fn clamped(number: u128) -> u32
+    ensures { result ≡ clamped number }
+{
+    number.min(u32::MAX as u128) as u32
+}
+
+/// The numbers of an index.
+fn all_clamped(alloc: Global, numbers: &[u128]) -> Result<Vec<u32>, AllocError>
+    ensures { IfOk result (λ all. all.items ≡ map clamped numbers.now) }
+{
+    let mut all = Vec::new(alloc);
+    for number in numbers {
+        all.push(clamped(*number))?;
+    }
+    Ok(all)
+}
+
+/// The index that a word lists, of which `-` lists no number.
+#[tactic(auto, unfolding(crate::specs::Values::index_of))]
+pub fn index_in(alloc: Global, word: &str) -> Result<Result<Index, ScriptKind>, AllocError>
+    ensures { IfOk result (λ r. r ≡ index_of word.now) }
+{
+    match numbers_in(alloc, word)? {
+        Ok(numbers) => {
+            let numbers = all_clamped(alloc, &numbers)?;
+            Ok(Ok(Index::from_parts(numbers)))
+        }
+        Err(kind) => Ok(Err(kind)),
+    }
+}
+
+/// The value of a digit of base 16.
+#[tactic(auto, unfolding(crate::specs::Values::hex_digit_of))]
+fn hex_digit_in(digit: u8) -> Result<u8, ScriptKind>
+    ensures value { result ≡ hex_digit_of digit }
+    ensures low { IfOk result (λ value. value < 16) }
+{
+    match digit {
+        b'0'..=b'9' => Ok(digit - b'0'),
+        b'a'..=b'f' => Ok(digit - b'a' + 10),
+        _ => Err(ScriptKind::Hex),
+    }
+}
+
+/// The byte that two digits of base 16 stand for.
+#[tactic(auto, unfolding(crate::specs::Values::byte_of))]
+fn byte_of(digits: &[u8]) -> Result<u8, ScriptKind>
+    ensures { result ≡ byte_of digits.now }
+{
+    let [high, low] = digits else {
+        return Err(ScriptKind::Hex);
+    };
+    match both(hex_digit_in(*high), hex_digit_in(*low)) {
+        Ok((high, low)) => Ok(high * 16 + low),
+        Err(kind) => Err(kind),
+    }
+}
+
+/// The byte that a word stands for.
+pub fn byte_in(word: &str) -> Result<u8, ScriptKind>
+    ensures { result ≡ byte_of word.now }
+{
+    byte_of(word.as_bytes())
+}
+
+/// The bytes that pairs of digits of base 16 stand for.
+fn pairs_in(alloc: Global, digits: &[u8]) -> Result<Result<Vec<u8>, ScriptKind>, AllocError>
+    ensures { IfOk result (λ r. parts_seen r ≡ each byte_of (pairs digits.now)) }
+{
+    let mut bytes = Ok(Vec::new(alloc));
+    for pair in digits.chunks(2) {
+        bytes = with_part(bytes, byte_of(pair))?;
+    }
+    Ok(bytes)
+}
+
+/// The bytes that a word stands for, of which `-` stands for none.
+#[tactic(auto, unfolding(crate::specs::Values::bytes_of))]
+pub fn bytes_in(alloc: Global, word: &str) -> Result<Result<Bytes, ScriptKind>, AllocError>
+    ensures { IfOk result (λ r. r ≡ bytes_of word.now) }
+{
+    if word == "-" {
+        return Ok(Ok(Bytes::new(alloc)));
+    }
+    match pairs_in(alloc, word.as_bytes())? {
+        Ok(bytes) => Ok(Ok(Bytes::from_vec(bytes))),
+        Err(kind) => Ok(Err(kind)),
+    }
 }
 
 /// A word without the `-` before it.

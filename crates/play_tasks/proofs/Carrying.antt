@@ -1,24 +1,42 @@
 -- What a client minds at each of its operations, and what that carries to the end of its play.
-use Rattle.std.proofs.Common.{List, ◌++◌, ℕ}
+use Rattle.std.proofs.Common.{◌≡◌, List, [], ◌∷◌, ◌++◌, ℕ, refl, sym, ◌∙◌, ap, subst, append_assoc}
+use Rattle.ice_ids.specs.declared.Id12.{Id12}
+use Rattle.ice_ids.specs.declared.drawing.AnyIds.{AnyIds}
+use Rattle.store_api.specs.declared.keys.Key.{Key}
+use Rattle.store_api.specs.declared.keys.Key.TheVariants.{Snapshot, Manifest, Txn, Chunk, Branch, Tag, TagGone}
+use Rattle.store_api.specs.declared.keys.Why.{Why}
 use Rattle.store_api.specs.declared.events.Op.{Op}
+use Rattle.store_api.specs.declared.events.Op.TheVariants.{Get, PutNew, PutOver, Remove, RemoveAt, List as ListPart}
+use Rattle.store_api.specs.declared.events.Reply.{Reply}
 use Rattle.store_api.specs.declared.events.Event.{Event}
 use Rattle.store_api.specs.Journal.{Each, IsGood}
-use Rattle.store_api.specs.Callers.{Caller}
-use Rattle.store_api.specs.Program.{Prog, Done, Ask as Ask_next, Keeps}
+use Rattle.store_api.specs.Callers.{Caller, Makes, own_event}
+use Rattle.store_api.specs.Program.{Prog, Done, Ask as Ask_next, Keeps, Leads}
 use Rattle.store_api.specs.Plays.{Play, Ended, Ask, Or, PlayKeeps, PlayLeads, Stays}
-use Rattle.commit_path.specs.Owed.{Sessions, IsCareful}
+use Rattle.store_api.proofs.Journals.{Each-append, Each-one}
+use Rattle.store_api.proofs.Programs.{Leads-weaker}
+use Rattle.session.specs.Sessions.{SessionState}
+use Rattle.commit_path.specs.Owed.{Sessions, OwesOver, OwesSnap, OwesNew, OwesPutOver, Owes, IsCareful}
 use Rattle.commit_path.specs.Answered.{ChangedNothing}
-use Rattle.commit_path.specs.Single.{IsSingle}
+use Rattle.commit_path.specs.Single.{PutsSnapshot, PutsNone, HasPutNone, IsSingle}
+use Rattle.commit_path.proofs.Singling.{HasPutNone-others}
 use Rattle.commit_path.proofs.Telling.{makes-keeps}
+use Rattle.play_tasks.specs.Solving.{MayEnd}
 
 -- an operation is polite and owed, and comes before its client changed a branch, and one that puts a snapshot before it put any
-abbrev pub Minds : Sessions → List Event → List Event → ℕ → Op → Type 0
-Minds mine start journal client op = IsCareful mine journal client op × ChangedNothing client start journal × IsSingle start journal client op
+abbrev pub Minds : AnyIds → Sessions → List Event → List Event → ℕ → Op → Type 0
+Minds ids mine start journal client op = IsCareful ids mine journal client op × ChangedNothing client start journal × IsSingle start journal client op
 
-pub Keeps-minds : {A : Type 0} (mine : Sessions) (start : List Event) (by : Caller) (p : Prog A) (journal : List Event) → Keeps (IsCareful mine) by p journal → Keeps (IsSingle start) by p journal → Stays (ChangedNothing by.number start) by p journal → Keeps (Minds mine start) by p journal
+pub Keeps-minds : {A : Type 0} (ids : AnyIds) (mine : Sessions) (start : List Event) (by : Caller) (p : Prog A) (journal : List Event) → Keeps (IsCareful ids mine) by p journal → Keeps (IsSingle start) by p journal → Stays (ChangedNothing by.number start) by p journal → Keeps (Minds ids mine start) by p journal
 unfolding Keeps Stays
-Keeps-minds mine start by (Done a) journal k o s = tt
-Keeps-minds mine start by (Ask_next op next) journal k o s = ((k.0, s.0, o.0), λ reply new m. Keeps-minds mine start by (next reply) new (k.1 reply new m) (o.1 reply new m) (s.1 reply new m).1)
+Keeps-minds ids mine start by (Done a) journal k o s = tt
+Keeps-minds ids mine start by (Ask_next op next) journal k o s = ((k.0, s.0, o.0), λ reply new m. Keeps-minds ids mine start by (next reply) new (k.1 reply new m) (o.1 reply new m) (s.1 reply new m).1)
+
+-- two facts of each answer
+pub Leads-both : {A : Type 0} (Q R : A → List Event → Type 0) (by : Caller) (p : Prog A) (journal : List Event) → Leads Q by p journal → Leads R by p journal → Leads (λ a h. Q a h × R a h) by p journal
+unfolding Leads
+Leads-both Q R by (Done a) journal q r = (q, r)
+Leads-both Q R by (Ask_next op next) journal q r = λ reply new m. Leads-both Q R by (next reply) new (q reply new m) (r reply new m)
 
 -- where R follows from Q
 pub PlayLeads-weaker : {A : Type 0} (Q R : A → List Event → Type 0) → ((a : A) (h : List Event) → Q a h → R a h) → (by : Caller) (p : Play A) (journal : List Event) → PlayLeads Q by p journal → PlayLeads R by p journal
@@ -28,12 +46,93 @@ PlayLeads-weaker Q R f by (Ask op s g) journal l = (PlayLeads-weaker Q R f by s 
 PlayLeads-weaker Q R f by (Or p q) journal l = (PlayLeads-weaker Q R f by p journal l.0, PlayLeads-weaker Q R f by q journal l.1)
 
 -- what holds of the journal, and is kept by good events, holds at the end of a minded play
-pub PlayLeads-carry : {A : Type 0} (P : List Event → Type 0) → ((journal more : List Event) → Each IsGood journal more → P journal → P (journal ++ more)) → (mine : Sessions) (start : List Event) (by : Caller) (p : Play A) (journal : List Event) → (Q : A → List Event → Type 0)
-    → PlayKeeps (Minds mine start) by p journal → P journal → PlayLeads Q by p journal → PlayLeads (λ a h. P h × Q a h) by p journal
+pub PlayLeads-carry : {A : Type 0} (P : List Event → Type 0) → ((journal more : List Event) → Each IsGood journal more → P journal → P (journal ++ more)) → (ids : AnyIds) (mine : Sessions) (start : List Event) (by : Caller) (p : Play A) (journal : List Event) → (Q : A → List Event → Type 0)
+    → PlayKeeps (Minds ids mine start) by p journal → P journal → PlayLeads Q by p journal → PlayLeads (λ a h. P h × Q a h) by p journal
 unfolding PlayKeeps PlayLeads
-PlayLeads-carry P stable mine start by (Ended a) journal Q k p l = (p, l)
-PlayLeads-carry P stable mine start by (Ask op s g) journal Q k p l = (
-  PlayLeads-carry P stable mine start by s journal Q k.1 p l.0,
-  λ reply new m. PlayLeads-carry P stable mine start by (g reply) new Q (k.2 reply new m) (makes-keeps P stable by op reply journal new k.0.0.polite m p) (l.1 reply new m),
+PlayLeads-carry P stable ids mine start by (Ended a) journal Q k p l = (p, l)
+PlayLeads-carry P stable ids mine start by (Ask op s g) journal Q k p l = (
+  PlayLeads-carry P stable ids mine start by s journal Q k.1 p l.0,
+  λ reply new m. PlayLeads-carry P stable ids mine start by (g reply) new Q (k.2 reply new m) (makes-keeps P stable by op reply journal new k.0.0.polite m p) (l.1 reply new m),
 )
-PlayLeads-carry P stable mine start by (Or p q) journal Q k held l = (PlayLeads-carry P stable mine start by p journal Q k.0 held l.0, PlayLeads-carry P stable mine start by q journal Q k.1 held l.1)
+PlayLeads-carry P stable ids mine start by (Or p q) journal Q k held l = (PlayLeads-carry P stable ids mine start by p journal Q k.0 held l.0, PlayLeads-carry P stable ids mine start by q journal Q k.1 held l.1)
+
+-- ---- what is owed for fewer sessions is owed for more
+module _ (ids : AnyIds) (mine more : Sessions) (f : (s : SessionState) (id : Id12) → mine s id → more s id) (journal : List Event) where
+  owes-snap : (id : Id12) (bytes : List ℕ) → OwesSnap mine journal id bytes → OwesSnap more journal id bytes
+  owes-snap id bytes o = record {
+    session = o.session;
+    is_mine = f o.session id o.is_mine;
+    snap = o.snap;
+    read = o.read;
+    parent = o.parent;
+    tree = o.tree;
+    readable = o.readable;
+    own = o.own;
+    base_put = o.base_put;
+    base_rows = o.base_rows;
+    logged = o.logged;
+    chunks = o.chunks;
+  }
+
+  owes-new : (bytes : List ℕ) (key : Key) → OwesNew ids mine journal bytes key → OwesNew ids more journal bytes key
+  owes-new bytes (Snapshot id) o = owes-snap id bytes o
+  owes-new bytes (Txn id) o = o
+  owes-new bytes (Manifest id) o = o
+  owes-new bytes (Chunk id) o = o
+  owes-new bytes (Branch name) o = o
+  owes-new bytes (Tag name) o = o
+  owes-new bytes (TagGone name) o = o
+
+  owes-over : (name bytes : List ℕ) (old : ℕ) (why : Why) → OwesOver mine journal name bytes old why → OwesOver more journal name bytes old why
+  owes-over name bytes old why o = record {
+    session = o.session;
+    id = o.id;
+    is_mine = f o.session o.id o.is_mine;
+    branch_is = o.branch_is;
+    version_is = o.version_is;
+    names = o.names;
+    why_is = o.why_is;
+    made = o.made;
+  }
+
+  owes-put-over : (bytes : List ℕ) (old : ℕ) (why : Why) (key : Key) → OwesPutOver mine journal bytes old why key → OwesPutOver more journal bytes old why key
+  owes-put-over bytes old why (Snapshot id) o = o
+  owes-put-over bytes old why (Txn id) o = o
+  owes-put-over bytes old why (Manifest id) o = o
+  owes-put-over bytes old why (Chunk id) o = o
+  owes-put-over bytes old why (Branch name) o = owes-over name bytes old why o
+  owes-put-over bytes old why (Tag name) o = o
+  owes-put-over bytes old why (TagGone name) o = o
+
+  owes : (op : Op) → Owes ids mine journal op → Owes ids more journal op
+  owes (Get key) o = o
+  owes (ListPart part) o = o
+  owes (PutNew key bytes why) o = owes-new bytes key o
+  owes (PutOver key bytes old why) o = owes-put-over bytes old.0 why key o
+  owes (Remove key why) o = o
+  owes (RemoveAt key old why) o = o
+
+  pub careful-more : (client : ℕ) (op : Op) → IsCareful ids mine journal client op → IsCareful ids more journal client op
+  careful-more client op c = record { polite = c.polite; owes = owes op c.owes }
+
+-- ---- a program that puts no snapshot
+HasPutNone-makes : (by : Caller) (start : List Event) (op : Op) (reply : Reply) (old new : List Event) → (m : Makes by op reply old new) → ¬ PutsSnapshot op → HasPutNone by.number start old → HasPutNone by.number start new
+HasPutNone-makes by start op reply old new m none c =
+    let w = subst (λ (h : List Event). HasPutNone by.number start h) (sym m.waits.is) (HasPutNone-others by start old m.waits.between m.waits.others c) in
+    let event : Event = own_event by op reply m.time in
+    record {
+      more = w.more ++ event ∷ [];
+      is = m.is ∙ (ap (λ (h : List Event). h ++ event ∷ []) w.is ∙ append_assoc start w.more (event ∷ []));
+      each = Each-append (PutsNone by.number) start w.more (event ∷ []) w.each (Each-one (PutsNone by.number) (start ++ w.more) event (λ k. none));
+    }
+
+pub puts-none : {A : Type 0} (by : Caller) (start : List Event) (p : Prog A) (journal : List Event) → Keeps (λ h client op. ¬ PutsSnapshot op) by p journal → HasPutNone by.number start journal → Leads (λ a h. HasPutNone by.number start h) by p journal
+unfolding Keeps Leads
+puts-none by start (Done a) journal k c = c
+puts-none by start (Ask_next op next) journal k c = λ reply new m. puts-none by start (next reply) new (k.1 reply new m) (HasPutNone-makes by start op reply journal new m k.0 c)
+
+-- ---- what a program answers, it may answer
+pub may-end : {A : Type 0} (by : Caller) (p : Prog A) (journal : List Event) → Leads (λ a h. MayEnd p a) by p journal
+unfolding Leads MayEnd
+may-end by (Done a) journal = refl
+may-end by (Ask_next op next) journal = λ reply new m. Leads-weaker (λ a h. MayEnd (next reply) a) (λ a h. MayEnd (Ask_next op next) a) (λ a h e. (reply, e)) by (next reply) new (may-end by (next reply) new)

@@ -1,6 +1,11 @@
+pub mod Calm
 pub mod Locals
+pub mod Machines
 pub mod Stepping
+pub mod Keys
 pub mod Carrying
+pub mod Early
+pub mod Ready
 pub mod Playing
 pub mod Others
 pub mod Paths

@@ -1,7 +1,11 @@
 -- A step of a worker's machine is a step of the worker.
 use Rattle.std.proofs.Common.{Bool, true, false, ◌≡◌, ◌⊎◌, inl, inr, refl, sym, ap, subst, ℕ, List, Result, Ok, Err}
 use Rattle.std.specs.Prelude.{IsTrue}
+use Rattle.ice_ids.specs.declared.Id8.{Id8}
+use Rattle.store_api.specs.declared.keys.Key.TheVariants.{Manifest as Manifest_key, Chunk as Chunk_key}
 use Rattle.store_api.specs.declared.events.Op.{Op}
+use Rattle.store_api.specs.declared.events.Op.TheVariants.{Get}
+use Rattle.store_api.specs.declared.events.Reply.{Reply}
 use Rattle.store_api.specs.declared.machines.Next.{Next}
 use Rattle.store_api.specs.declared.machines.Next.TheVariants.{Again, Ready}
 use Rattle.store_api.specs.declared.machines.Refusal.{Refusal}
@@ -9,14 +13,18 @@ use Rattle.store_api.specs.declared.machines.Refusal.TheVariants.{NoMemory}
 use Rattle.store_api.specs.Callers.{View, Waits}
 use Rattle.store_api.specs.Program.{Prog, Done, Ask as Ask_next, is_ask, is_over, is_no_memory, Lands, IsSure, Steps, Blames}
 use Rattle.store_api.specs.Plays.{Play, Ended, Ask, Or, call, behind, Comes, Acts, Starved, BlamesEnd}
-use Rattle.commit_path.specs.declared.commit.Committed.{Committed as Made}
-use Rattle.play_outcome.specs.declared.outcome.Shown.{Shown}
+use Rattle.store_api.specs.Running.{Program}
+use Rattle.session.specs.declared.chunks.Value.{Value}
+use Rattle.session.specs.declared.getting.GetChunk.{GetChunk}
+use Rattle.session.specs.declared.reading.Reading.{Reading}
+use Rattle.session.specs.declared.reading.Reading.TheVariants.{Manifest, Object, Ended as Ended_reading}
+use Rattle.session.specs.Chunks.{read_listed}
+use Rattle.session.specs.Getting.{reading_rest, get_rest}
 use Rattle.play_outcome.specs.declared.outcome.Outcome.{Outcome}
 use Rattle.play_outcome.specs.Ending.{is_failed}
-use Rattle.play_tasks.specs.Playing.{after_commit}
-use Rattle.play_tasks.specs.inside.Working.{settled, Faults}
+use Rattle.play_tasks.specs.inside.Working.{settled, ComesOrStarves, Faults}
 
-is_memory : (why : Refusal) → is_no_memory why ≡ true → why ≡ NoMemory
+pub is_memory : (why : Refusal) → is_no_memory why ≡ true → why ≡ NoMemory
 is_memory NoMemory e = refl
 is_memory _ e = absurd cc
 
@@ -75,16 +83,40 @@ module _ {T : Type 0} (f : Result T Refusal → Play Outcome) (r : Play Outcome)
     ];
   }
 
--- ---- a commit, behind which nothing is played
-ends : (line : ℕ) (shown : List Shown) (p : Prog (Result Made Refusal)) → Comes (call p (after_commit line shown)) (call p (after_commit line shown))
-ends line shown (Done (Ok made)) = refl
-ends line shown (Done (Err why)) = refl
-ends line shown (Ask_next op next) = refl
+  -- ---- machines that only read, behind whose answers there may be no memory
+  landed-read : (op : Op) (next q : Prog (Result T Refusal)) (result : Result (Next T) Refusal) → is_over op ≡ false → Lands next q result → ComesOrStarves f q result r → Comes (behind op (call next f) (f (Err NoMemory))) r
+  landed-read op next q result e l (inl c) = rw e (free next q result l c)
+  landed-read op next q result e l (inr c) = rw e (inr c)
 
-committing : (line : ℕ) (shown : List Shown) (q : Prog (Result Made Refusal)) (answer : Result (Next Made) Refusal) → Comes (settled (after_commit line shown) q answer) (settled (after_commit line shown) q answer)
-committing line shown q (Ok Again) = ends line shown q
-committing line shown q (Ok (Ready made)) = refl
-committing line shown q (Err why) = refl
+  stopped-read : (q : Prog (Result T Refusal)) (result : Result (Next T) Refusal) → result ≡ Err NoMemory → ComesOrStarves f q result r → Comes (f (Err NoMemory)) r
+  stopped-read q result is (inl c) = subst (λ (x : Result (Next T) Refusal). Comes (settled f q x) r) is c
+  stopped-read q result is (inr c) = c
 
-pub committed : (line : ℕ) (shown : List Shown) (q : Prog (Result Made Refusal)) (answer : Result (Next Made) Refusal) (r : Play Outcome) → r ≡ settled (after_commit line shown) q answer → Comes (settled (after_commit line shown) q answer) r
-committed line shown q answer r e = subst (λ (x : Play Outcome). Comes (settled (after_commit line shown) q answer) x) (sym e) (committing line shown q answer)
+  pub acts-reads : (old new : View) (p q : Prog (Result T Refusal)) (result : Result (Next T) Refusal) → ((op : Op) (next : Reply → Prog (Result T Refusal)) → p ≡ Ask_next op next → is_over op ≡ false) → is_ask p ≡ true → Steps old new p q result → ComesOrStarves f q result r → Faults result r → Acts is_failed old new (call p f) r
+  acts-reads old new p q result reads live s c b = record {
+    same = s.same;
+    blames = blamed result r old.faults new.faults s.blames b;
+    went = elim s.went [
+      | inl m ↦ inl (record {
+        op = m.op;
+        starved = f (Err NoMemory);
+        next = λ reply. behind m.op (call (m.next reply) f) (f (Err NoMemory));
+        reply = m.reply;
+        asks = ap (λ (x : Prog (Result T Refusal)). call x f) m.asks;
+        fits = m.fits;
+        made = m.made;
+        comes = landed-read m.op (m.next m.reply) q result (reads m.op m.next m.asks) m.lands c;
+      })
+      | inr n ↦ inr (starves old new p live n.waits (stopped-read q result n.result_is c))
+    ];
+  }
+
+-- the reading of a chunk only reads
+reading-reads : (want : ℕ) (node : Id8) (index : List ℕ) (state : Reading) (op : Op) (next : Reply → Program Value) → reading_rest want node index state ≡ Ask_next op next → is_over op ≡ false
+unfolding read_listed
+reading-reads want node index (Manifest id ids at) op next e = let x : Get (Manifest_key id) ≡ op = cc in sym (ap is_over x)
+reading-reads want node index (Object id offset size) op next e = let x : Get (Chunk_key id) ≡ op = cc in sym (ap is_over x)
+reading-reads want node index Ended_reading op next e = absurd (cc)
+
+pub get-reads : (m : GetChunk) (op : Op) (next : Reply → Program Value) → get_rest m ≡ Ask_next op next → is_over op ≡ false
+get-reads m op next e = reading-reads m.want m.node m.index m.state op next e

@@ -20,7 +20,7 @@ use Rattle.play_tasks.specs.Telling.{TellsOutcome}
 -- task began at `start`.
 abbrev pub TaskLaw : Type 0
 TaskLaw = (by : Caller) (ids : AnyIds) (task : Task) (start : List Event) → IsWellTask task
-    → PlayKeeps (IsCareful (IsOfTask ids task)) by (task_play ids task) start × PlayKeeps (λ journal client op. ChangedNothing client start journal) by (task_play ids task) start
+    → PlayKeeps (IsCareful ids (IsOfTask ids task)) by (task_play ids task) start × PlayKeeps (λ journal client op. ChangedNothing client start journal) by (task_play ids task) start
     × PlayKeeps (IsSingle start) by (task_play ids task) start × PlayLeads (TellsOutcome ids task by.number start) by (task_play ids task) start
 
 -- what an outcome tells stays so, whatever good events others make

@@ -1,38 +1,49 @@
 -- What a line of a task does to its session. Its play, what it shows, what refuses it and which session it leads to are all read from here.
-use Rattle.std.specs.Prelude.{ℕ, List, [], ◌∷◌, map, Result, Ok, Err}
-use Rattle.ice_ids.specs.declared.Id8.{Id8}
+use Rattle.std.specs.Prelude.{ℕ, List, [], ◌∷◌, map, replicate, Option, Some, None, Result, Ok, Err}
+use Rattle.std.specs.FinMap.{get}
+use Rattle.zarr_path.specs.declared.keys.ZarrKey.{ZarrKey}
+use Rattle.zarr_path.specs.declared.keys.ZarrKey.TheVariants.{Meta as Meta_key, Chunk as Chunk_key}
+use Rattle.zarr_path.specs.Keys.{key_of}
 use Rattle.zarr_meta.specs.Plain.{group_text}
+use Rattle.zarr_meta.specs.declared.views.ArrayView.{ArrayView}
+use Rattle.zarr_tree.specs.Nodes.{Node, array_in, chunk_length}
 use Rattle.store_api.specs.declared.machines.Refusal.{Refusal}
+use Rattle.store_api.specs.declared.machines.Refusal.TheVariants.{BadKey}
 use Rattle.session.specs.declared.session.Listing.{Listing}
-use Rattle.session.specs.Sessions.{SessionState}
+use Rattle.session.specs.declared.chunks.Value.{Value}
+use Rattle.session.specs.declared.chunks.Value.TheVariants.{Held, Fill}
+use Rattle.session.specs.Sessions.{SessionState, nodes_seen}
+use Rattle.session.specs.Chunks.{chunk_unset}
 use Rattle.session.specs.Editing.{group_added, array_added, node_added, meta_set, node_dropped, text_at, listed}
+use Rattle.zarr_keys.specs.declared.values.KeyValue.{KeyValue}
+use Rattle.zarr_keys.specs.declared.values.KeyValue.TheVariants.{Bytes, Absent}
+use Rattle.zarr_keys.specs.Keys.{meta_value, chunk_value, session_of, meta_put, key_erased}
 use Rattle.play_script.specs.declared.scripts.Call.{Call}
 use Rattle.play_script.specs.declared.scripts.Call.TheVariants.{Edit, Read, Commit}
 use Rattle.play_script.specs.declared.scripts.EditCall.{EditCall}
-use Rattle.play_script.specs.declared.scripts.EditCall.TheVariants.{Group, Array, Make, Meta, Drop}
+use Rattle.play_script.specs.declared.scripts.EditCall.TheVariants.{Group, Array, Make, Meta, Drop, Set, Fill as Fill_call, Unset, KeySet, KeyErase}
 use Rattle.play_script.specs.declared.scripts.ReadCall.{ReadCall}
-use Rattle.play_script.specs.declared.scripts.ReadCall.TheVariants.{List as List_call, Get}
+use Rattle.play_script.specs.declared.scripts.ReadCall.TheVariants.{List as List_call, Get, Chunk, KeyGet}
 use Rattle.play_outcome.specs.declared.outcome.Shown.{Shown}
-use Rattle.play_outcome.specs.declared.outcome.Shown.TheVariants.{Node, Meta as Shown_meta}
+use Rattle.play_outcome.specs.declared.outcome.Shown.TheVariants.{Node as Shown_node, Meta as Shown_meta, Chunk as Shown_chunk, Fill as Shown_fill, Key as Shown_key}
 
 -- ---- edits
--- the session without the id that was drawn
-abbrev pub session_of : Result (Id8 × SessionState) Refusal → Result SessionState Refusal
-session_of (Ok added) = Ok added.1
-session_of (Err why) = Err why
-
--- the session behind an edit, or why it is refused; a text that is made a node is a group's or an array's, as it says
+-- the session behind an edit that needs no operation, or why it is refused; a text that is made a node is a group's or an array's, as it
+-- says; what sets a chunk leaves it as it is
 abbrev pub edited : EditCall → SessionState → Result SessionState Refusal
 edited (Group path) s = session_of (group_added s path group_text)
 edited (Array path text) s = session_of (array_added s path text)
 edited (Make path text) s = session_of (node_added s path text)
 edited (Meta path text) s = meta_set s path text
 edited (Drop path) s = node_dropped s path
+edited (Unset path index) s = chunk_unset s path index
+edited (KeyErase key) s = key_erased s key
+edited _ s = Ok s
 
 -- ---- reads
 -- a node of a listing that this line of the script asked for
 abbrev pub node_shown : ℕ → Listing → Shown
-node_shown line node = Node line node.array node.path
+node_shown line node = Shown_node line node.array node.path
 
 abbrev pub nodes_shown : ℕ → Result (List Listing) Refusal → Result (List Shown) Refusal
 nodes_shown line (Ok nodes) = Ok (map (node_shown line) nodes)
@@ -47,11 +58,29 @@ meta_shown line (Err why) = Err why
 abbrev pub read_by : ℕ → ReadCall → SessionState → Result (List Shown) Refusal
 read_by line (List_call path) s = nodes_shown line (listed s path)
 read_by line (Get path) s = meta_shown line (text_at s path)
+read_by line _ s = Ok []
+
+-- the chunk that this line of the script asked for
+abbrev pub value_shown : ℕ → Value → Shown
+value_shown line (Held bytes) = Shown_chunk line bytes
+value_shown line Fill = Shown_fill line
+
+-- what the key has that this line of the script asked for
+abbrev pub key_shown : ℕ → KeyValue → Shown
+key_shown line (Bytes bytes) = Shown_key line (Some bytes)
+key_shown line Absent = Shown_key line None
+
+-- what a chunk's key has
+abbrev pub chunk_key_shown : ℕ → Value → Shown
+chunk_key_shown line value = key_shown line (chunk_value value)
 
 -- ---- lines
--- what a line does: it shows something and leads to a session, or is refused; or it commits, with this message
+-- what a line does: it shows something and leads to a session, or is refused; it sets the bytes of a chunk; it reads a chunk and shows it so;
+-- or it commits, with this message
 pub data Deed : Type 0 where
   Goes : Result (List Shown × SessionState) Refusal → Deed
+  Sets : (path index bytes : List ℕ) → Deed
+  Reads : (path index : List ℕ) → (Value → Shown) → Deed
   Commits : List ℕ → Deed
 
 -- an edit shows nothing
@@ -64,8 +93,45 @@ abbrev pub still : SessionState → Result (List Shown) Refusal → Result (List
 still s (Ok shown) = Ok (shown, s)
 still s (Err why) = Err why
 
+-- as many of one byte as a chunk of the array at a path has; none where no array is
+abbrev pub length_in : Option ArrayView → ℕ
+length_in None = 0
+length_in (Some array) = chunk_length array
+
+abbrev pub length_at : Option Node → ℕ
+length_at None = 0
+length_at (Some n) = length_in (array_in n.text)
+
+abbrev pub filled : SessionState → (path : List ℕ) → (byte : ℕ) → List ℕ
+filled s path byte = replicate (length_at (get (nodes_seen s) path)) byte
+
+-- what is done to a session where a key is set: the text of a node is put, or the bytes of a chunk are set
+abbrev pub key_set_deed : (bytes : List ℕ) → Option ZarrKey → SessionState → Deed
+key_set_deed bytes None s = Goes (Err BadKey)
+key_set_deed bytes (Some (Meta_key path)) s = Goes (silent (meta_put s path bytes))
+key_set_deed bytes (Some (Chunk_key path index)) s = Sets path index bytes
+
+-- what is done where a key is read: the text of a node is shown, or a chunk is read
+abbrev pub key_get_deed : ℕ → Option ZarrKey → SessionState → Deed
+key_get_deed line None s = Goes (Err BadKey)
+key_get_deed line (Some (Meta_key path)) s = Goes (Ok (key_shown line (meta_value s path) ∷ [], s))
+key_get_deed line (Some (Chunk_key path index)) s = Reads path index (chunk_key_shown line)
+
+-- what an edit does to a session
+abbrev pub edit_deed : EditCall → SessionState → Deed
+edit_deed (Set path index bytes) s = Sets path index bytes
+edit_deed (Fill_call path index byte) s = Sets path index (filled s path byte)
+edit_deed (KeySet key bytes) s = key_set_deed bytes (key_of key) s
+edit_deed edit s = Goes (silent (edited edit s))
+
+-- what a read in this line of the script does
+abbrev pub read_deed : ℕ → ReadCall → SessionState → Deed
+read_deed line (Chunk path index) s = Reads path index (value_shown line)
+read_deed line (KeyGet key) s = key_get_deed line (key_of key) s
+read_deed line read s = Goes (still s (read_by line read s))
+
 -- what a call in this line of the script does to a session
 abbrev pub deed : ℕ → Call → SessionState → Deed
-deed line (Edit edit) s = Goes (silent (edited edit s))
-deed line (Read read) s = Goes (still s (read_by line read s))
+deed line (Edit edit) s = edit_deed edit s
+deed line (Read read) s = read_deed line read s
 deed line (Commit message) s = Commits message

@@ -36,7 +36,7 @@ TellsAt draw place task start outcome journal = TellsOutcome (ids_at draw place)
 pub record Stands (draw : Draw) (tasks : List Task) (start : List Event) (tells : Bool) (place : ℕ) (p : Play Outcome) (journal : List Event) : Type 0 where
   pub task : Task
   pub at : slice_get tasks place ≡ Some task
-  pub careful : PlayKeeps (IsCareful (IsOfTask (ids_at draw place) task)) (only tells (place + 1)) p journal
+  pub careful : PlayKeeps (IsCareful (ids_at draw place) (IsOfTask (ids_at draw place) task)) (only tells (place + 1)) p journal
   pub before : PlayKeeps (λ h client op. ChangedNothing client start h) (only tells (place + 1)) p journal
   pub single : PlayKeeps (IsSingle start) (only tells (place + 1)) p journal
   pub leads : PlayLeads (TellsAt draw place task start) (only tells (place + 1)) p journal
@@ -51,7 +51,7 @@ pub record IsOfClient (draw : Draw) (tasks : List Task) (start journal : List Ev
   pub task : Task
   pub client : event.client ≡ place + 1
   pub at : slice_get tasks place ≡ Some task
-  pub careful : IsCarefulEvent (IsOfTask (ids_at draw place) task) journal event
+  pub careful : IsCarefulEvent (ids_at draw place) (IsOfTask (ids_at draw place) task) journal event
   pub single : IsSingle start journal event.client event.op
 
 -- the worker at this place, if there is one, has ended

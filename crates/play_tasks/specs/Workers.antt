@@ -1,5 +1,5 @@
 -- What a worker has still to do.
-use Rattle.std.specs.Prelude.{ℕ}
+use Rattle.std.specs.Prelude.{ℕ, length}
 use Rattle.store_api.specs.Plays.{Play}
 use Rattle.play_outcome.specs.declared.outcome.Outcome.{Outcome}
 use Rattle.play_tasks.specs.declared.worker.Worker.{Worker}
@@ -11,4 +11,4 @@ worker_rest w = working_rest w.task.now w.state
 
 -- how many steps are left at most
 abbrev pub worker_left : Worker → ℕ
-worker_left w = working_left w.state
+worker_left w = working_left (length w.task.now.body) w.state

@@ -1,6 +1,7 @@
 //! The tasks of a script as step machines over a store.
 #![tactic(auto)]
 
+mod chunks;
 mod laws;
 mod lines;
 mod steps;

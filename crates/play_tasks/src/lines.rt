@@ -1,20 +1,22 @@
 //! The lines of a task's body, played on its session.
 
-ghost use Rattle.std.specs.Prelude.{◌≡◌, ◌++◌, [], true, map, IfOk, OnErr};
+ghost use Rattle.std.specs.Prelude.{ℕ, ◌≡◌, ◌≤◌, ◌+◌, ◌-◌, ◌*◌, ◌++◌, true, length, map, IfOk, OnErr};
+ghost use Rattle.store_api.specs.Plays.{Comes};
 ghost use Rattle.session.specs.Editing.{listed, text_at};
-ghost use Rattle.play_tasks.specs.Lines.{node_shown, nodes_shown, meta_shown, deed, Goes, Commits, edited, silent, still, read_by};
-ghost use Rattle.play_tasks.specs.Playing.{play_lines};
-ghost use Rattle.play_tasks.specs.inside.Working.{is_clean, is_local, without_id, Edits, Looks, LineComes, LinesCome};
+ghost use Rattle.play_tasks.specs.Lines.{node_shown, nodes_shown, meta_shown, deed, edit_deed, read_deed, Goes, Commits, edited, silent, still, read_by};
+ghost use Rattle.play_tasks.specs.inside.Working.{is_clean, is_well, is_local, without_id, working_rest, working_left, most_steps, lines_from, Edits, Looks, LineComes, IsBounded};
 
+use crate::chunks::{play_fill, play_get, play_key_get, play_key_set, play_set};
 use crate::working::{Step, Working};
 use commit_path::Commit;
 use ice_base::Text;
 use ice_ids::Id8;
 use play_outcome::{End, Outcome, Shown, Shows};
-use play_script::{Call, EditCall, Line, ReadCall};
+use play_script::{Call, EditCall, Line, ReadCall, Task};
 use session::{Listing, Session};
 use std::alloc::{AllocError, Global};
 use store_api::Refusal;
+use zarr_keys::key_erase;
 use zarr_path::Path;
 
 /// The shortest metadata of a group.
@@ -96,8 +98,8 @@ fn without_id(added: Result<Id8, Refusal>) -> Result<(), Refusal>
     }
 }
 
-/// Makes an edit.
-fn edit_session(edit: &EditCall, session: &mut Session) -> Result<(), Refusal>
+/// Makes an edit that needs no operation.
+fn edit_session(alloc: Global, edit: &EditCall, session: &mut Session) -> Result<(), Refusal>
     ensures edits { Edits (edited edit.now session.old) result session.new }
     ensures local { is_local result ≡ true }
 {
@@ -111,14 +113,91 @@ fn edit_session(edit: &EditCall, session: &mut Session) -> Result<(), Refusal>
         }
         EditCall::Meta { path, text } => session.set_meta(path, text.as_str().as_bytes()),
         EditCall::Drop { path } => session.drop_node(path),
+        EditCall::Unset { path, index } => session.unset_chunk(path, index),
+        EditCall::KeyErase { key } => key_erase(alloc, session, key.as_str()),
+        EditCall::Set { .. } | EditCall::Fill { .. } | EditCall::KeySet { .. } => Ok(()),
     }
 }
 
-fn play_edit(line: u32, edit: &EditCall, mut session: Session, shown: Vec<Shown>) -> Step
-    ensures comes { LineComes line shown.items session (Goes (silent (edited edit.now session))) result }
+fn play_change(
+    alloc: Global,
+    line: u32,
+    edit: &EditCall,
+    mut session: Session,
+    shown: Vec<Shown>,
+) -> Step
+    ensures comes { (at : ℕ) → LineComes line at shown.items session (Goes (silent (edited edit.now session))) result }
     ensures clean { is_clean result ≡ true }
+    ensures bounded { (at : ℕ) → IsBounded at result }
 {
-    match edit_session(edit, &mut session) {
+    match edit_session(alloc, edit, &mut session) {
+        Ok(()) => Step::On { session, shown },
+        Err(why) => Step::Stop(refuse(line, shown, why)),
+    }
+}
+
+fn play_edit(
+    alloc: Global,
+    line: u32,
+    at: usize,
+    edit: &EditCall,
+    session: Session,
+    shown: Vec<Shown>,
+) -> Step
+    ensures comes { LineComes line at shown.items session (edit_deed edit.now session) result }
+    ensures clean { is_clean result ≡ true }
+    ensures bounded { IsBounded at result }
+{
+    match edit {
+        EditCall::Set { path, index, bytes } => {
+            play_set(line, at, path, index, bytes.as_slice(), session, shown)
+        }
+        EditCall::Fill { path, index, byte } => {
+            play_fill(alloc, line, at, path, index, *byte, session, shown)
+        }
+        EditCall::KeySet { key, bytes } => {
+            play_key_set(alloc, line, at, key, bytes.as_slice(), session, shown)
+        }
+        EditCall::Group { .. }
+        | EditCall::Array { .. }
+        | EditCall::Make { .. }
+        | EditCall::Meta { .. }
+        | EditCall::Drop { .. }
+        | EditCall::Unset { .. }
+        | EditCall::KeyErase { .. } => play_change(alloc, line, edit, session, shown),
+    }
+}
+
+/// Shows what a read shows that needs no operation.
+fn look(
+    alloc: Global,
+    line: u32,
+    read: &ReadCall,
+    session: &Session,
+    shown: &mut Vec<Shown>,
+) -> Result<(), Refusal>
+    ensures looks { Looks (read_by line read.now session.now) shown.old.items result shown.new.items }
+    ensures local { is_local result ≡ true }
+{
+    match read {
+        ReadCall::List { path } => show_list(line, session, path, shown),
+        ReadCall::Get { path } => show_meta(alloc, line, session, path, shown),
+        ReadCall::Chunk { .. } | ReadCall::KeyGet { .. } => Ok(()),
+    }
+}
+
+fn play_look(
+    alloc: Global,
+    line: u32,
+    read: &ReadCall,
+    session: Session,
+    mut shown: Vec<Shown>,
+) -> Step
+    ensures comes { (at : ℕ) → LineComes line at shown.items session (Goes (still session (read_by line read.now session))) result }
+    ensures clean { is_clean result ≡ true }
+    ensures bounded { (at : ℕ) → IsBounded at result }
+{
+    match look(alloc, line, read, &session, &mut shown) {
         Ok(()) => Step::On { session, shown },
         Err(why) => Step::Stop(refuse(line, shown, why)),
     }
@@ -127,20 +206,21 @@ fn play_edit(line: u32, edit: &EditCall, mut session: Session, shown: Vec<Shown>
 fn play_read(
     alloc: Global,
     line: u32,
+    at: usize,
     read: &ReadCall,
     session: Session,
-    mut shown: Vec<Shown>,
+    shown: Vec<Shown>,
 ) -> Step
-    ensures comes { LineComes line shown.items session (Goes (still session (read_by line read.now session))) result }
+    ensures comes { LineComes line at shown.items session (read_deed line read.now session) result }
     ensures clean { is_clean result ≡ true }
+    ensures bounded { IsBounded at result }
 {
-    let looked = match read {
-        ReadCall::List { path } => show_list(line, &session, path, &mut shown),
-        ReadCall::Get { path } => show_meta(alloc, line, &session, path, &mut shown),
-    };
-    match looked {
-        Ok(()) => Step::On { session, shown },
-        Err(why) => Step::Stop(refuse(line, shown, why)),
+    match read {
+        ReadCall::Chunk { path, index } => play_get(line, at, path, index, session, shown),
+        ReadCall::KeyGet { key } => play_key_get(alloc, line, at, key, session, shown),
+        ReadCall::List { .. } | ReadCall::Get { .. } => play_look(
+            alloc, line, read, session, shown,
+        ),
     }
 }
 
@@ -151,8 +231,9 @@ fn play_commit(
     session: Session,
     shown: Vec<Shown>,
 ) -> Step
-    ensures comes { LineComes line shown.items session (Commits message.now) result }
+    ensures comes { (at : ℕ) → LineComes line at shown.items session (Commits message.now) result }
     ensures clean { is_clean result ≡ true }
+    ensures bounded { (at : ℕ) → IsBounded at result }
 {
     let Ok(message) = message.copy(alloc) else {
         return Step::Stop(refuse(line, shown, Refusal::NoMemory));
@@ -167,27 +248,37 @@ fn play_commit(
     }
 }
 
-fn play_line(alloc: Global, line: &Line, session: Session, shown: Vec<Shown>) -> Step
-    ensures comes { LineComes line.now.number shown.items session (deed line.now.number line.now.call session) result }
+/// Plays a line on a session; the line behind it has the number `at`.
+fn play_line(alloc: Global, line: &Line, at: usize, session: Session, shown: Vec<Shown>) -> Step
+    ensures comes { LineComes line.now.number at shown.items session (deed line.now.number line.now.call session) result }
     ensures clean { is_clean result ≡ true }
+    ensures bounded { IsBounded at result }
 {
     match &line.call {
-        Call::Edit(edit) => play_edit(line.number, edit, session, shown),
-        Call::Read(read) => play_read(alloc, line.number, read, session, shown),
+        Call::Edit(edit) => play_edit(alloc, line.number, at, edit, session, shown),
+        Call::Read(read) => play_read(alloc, line.number, at, read, session, shown),
         Call::Commit { message } => play_commit(alloc, line.number, message, session, shown),
     }
 }
 
-/// Plays these lines on a session, up to the commit that ends them, or the first that is refused, or the
-/// first for which there is no memory.
-pub(crate) fn play_lines(alloc: Global, lines: &[Line], session: Session) -> Working
-    ensures leaves { LinesCome (play_lines lines.now session []) result }
-    ensures clean { is_clean (Step.Stop result) ≡ true }
+/// Plays the lines of a task from a number on, on a session and with these lines shown: up to a machine, or to the first
+/// that is refused, or to the first for which there is no memory.
+pub(crate) fn play_lines(
+    alloc: Global,
+    task: &Task,
+    from: usize,
+    session: Session,
+    shown: Vec<Shown>,
+) -> Working
+    ensures leaves { Comes (lines_from task.now from session shown.items) (working_rest task.now result) }
+    ensures clean { is_well result ≡ true }
+    ensures bounded { working_left (length task.now.body) result ≤ (length task.now.body - from) * most_steps }
 {
+    let lines = task.body.as_slice();
     let mut session = session;
-    let mut shown = Vec::new(alloc);
-    for line in lines {
-        match play_line(alloc, line, session, shown) {
+    let mut shown = shown;
+    for at in from..lines.len() {
+        match play_line(alloc, &lines[at], at + 1, session, shown) {
             Step::On {
                 session: next,
                 shown: more,

@@ -1,52 +1,123 @@
-//! What follows a step of a worker's machine.
+//! The steps of a worker's machines, and what follows them.
 
-ghost use Rattle.std.specs.Prelude.{◌≡◌, ◌≤◌, ◌+◌, true};
-ghost use Rattle.store_api.specs.Program.{is_ask};
-ghost use Rattle.store_api.specs.Plays.{Comes};
+ghost use Rattle.std.specs.Prelude.{ℕ, ◌≡◌, ◌<◌, ◌≤◌, ◌+◌, ◌-◌, ◌*◌, true, length, IsTrue};
+ghost use Rattle.store_api.specs.Program.{is_ask, NextIsPolite};
+ghost use Rattle.store_api.specs.Plays.{call, Acts, Comes, IsLive, PlayIsPolite};
 ghost use Rattle.session.specs.Opening.{open_rest, open_left};
+ghost use Rattle.session.specs.Setting.{set_rest, set_left};
+ghost use Rattle.session.specs.Getting.{get_rest, get_left, get_session};
 ghost use Rattle.commit_path.specs.Committing.{commit_rest, commit_left};
 ghost use Rattle.play_script.specs.declared.scripts.Task.{Task as TheTask};
+ghost use Rattle.play_outcome.specs.Ending.{is_failed};
 ghost use Rattle.play_tasks.specs.Playing.{after_open, after_commit};
-ghost use Rattle.play_tasks.specs.inside.Working.{is_working, working_rest, working_left, settled, answers_well, Faults};
+ghost use Rattle.play_tasks.specs.inside.Working.{after_set, shown_for, after_get, is_working, lines_from, working_rest, working_left, most_steps, settled, answers_well, ComesOrStarves, Faults};
 
+use crate::chunks::show_value;
 use crate::lines::{play_lines, refuse};
-use crate::working::Working;
+use crate::working::{AskedFor, Working};
 use commit_path::{Commit, Committed};
-use play_outcome::{End, Outcome, Shows};
+use play_outcome::{End, Outcome, Shown, Shows};
 use play_script::Task;
-use session::{Open, Session};
+use session::{GetChunk, Open, Session, SetChunk, Value};
 use std::alloc::Global;
-use store_api::{Next, Refusal};
+use store_api::{Next, Refusal, Store};
 
 /// Where a worker stands after a step of the machine that opens its session.
-pub(crate) fn after_opening(
+fn after_opening(
     alloc: Global,
     task: &Task,
     opener: Open,
     answer: Result<Next<Session>, Refusal>,
 ) -> Working
+    requires { answers_well (is_ask (open_rest opener)) answer ≡ true }
     ensures comes { Comes (settled (after_open task.now) (open_rest opener) answer) (working_rest task.now result) }
-    ensures works { answers_well (is_ask (open_rest opener)) answer ≡ true → is_working result ≡ true }
-    ensures falls { working_left result ≤ 4 + open_left opener }
+    ensures works { is_working result ≡ true }
+    ensures falls { working_left (length task.now.body) result ≤ length task.now.body * most_steps + open_left opener }
     ensures blames { Faults answer (working_rest task.now result) }
 {
     match answer {
         Ok(Next::Again) => Working::Opening { opener },
-        Ok(Next::Ready(session)) => play_lines(alloc, task.body.as_slice(), session),
+        Ok(Next::Ready(session)) => play_lines(alloc, task, 0, session, Vec::new(alloc)),
         Err(why) => refuse(task.line, Vec::new(alloc), why),
     }
 }
 
+/// Where a worker stands after a step of the machine that sets a chunk.
+fn after_setting(
+    alloc: Global,
+    task: &Task,
+    line: u32,
+    at: usize,
+    shown: Vec<Shown>,
+    set: SetChunk,
+    answer: Result<Next<Session>, Refusal>,
+) -> Working
+    requires { answers_well (is_ask (set_rest set)) answer ≡ true }
+    ensures comes { Comes (settled (after_set line shown.items (lines_from task.now at)) (set_rest set) answer) (working_rest task.now result) }
+    ensures works { is_working result ≡ true }
+    ensures falls { working_left (length task.now.body) result ≤ (length task.now.body - at) * most_steps + set_left set }
+    ensures blames { Faults answer (working_rest task.now result) }
+{
+    match answer {
+        Ok(Next::Again) => Working::Setting {
+            line,
+            at,
+            shown,
+            set,
+        },
+        Ok(Next::Ready(session)) => play_lines(alloc, task, at, session, shown),
+        Err(why) => refuse(line, shown, why),
+    }
+}
+
+/// Where a worker stands after a step of the machine that reads a chunk. Where there is no memory to show the chunk, the task
+/// ends as if there had been none for the step.
+fn after_getting(
+    alloc: Global,
+    task: &Task,
+    line: u32,
+    at: usize,
+    asked: AskedFor,
+    mut shown: Vec<Shown>,
+    get: GetChunk,
+    answer: Result<Next<Value>, Refusal>,
+) -> Working
+    requires { answers_well (is_ask (get_rest get)) answer ≡ true }
+    ensures comes { ComesOrStarves (after_get (shown_for asked line) line shown.items (get_session get) (lines_from task.now at)) (get_rest get) answer (working_rest task.now result) }
+    ensures works { is_working result ≡ true }
+    ensures falls { working_left (length task.now.body) result ≤ (length task.now.body - at) * most_steps + get_left get }
+    ensures blames { Faults answer (working_rest task.now result) }
+{
+    let value = match answer {
+        Ok(Next::Again) => {
+            return Working::Getting {
+                line,
+                at,
+                asked,
+                shown,
+                get,
+            };
+        }
+        Ok(Next::Ready(value)) => value,
+        Err(why) => return refuse(line, shown, why),
+    };
+    match show_value(asked, line, value, &mut shown) {
+        Ok(()) => play_lines(alloc, task, at, get.into_session(), shown),
+        Err(_) => refuse(line, shown, Refusal::NoMemory),
+    }
+}
+
 /// Where a worker stands after a step of the machine that commits its session.
-pub(crate) fn after_committing(
+fn after_committing(
     line: u32,
     shown: Shows,
     commit: Commit,
     answer: Result<Next<Committed>, Refusal>,
 ) -> Working
-    ensures goes { (task : TheTask) → working_rest task result ≡ settled (after_commit line shown) (commit_rest commit) answer }
-    ensures works { answers_well (is_ask (commit_rest commit)) answer ≡ true → is_working result ≡ true }
-    ensures falls { working_left result ≤ commit_left commit }
+    requires { answers_well (is_ask (commit_rest commit)) answer ≡ true }
+    ensures goes { (task : TheTask) → Comes (settled (after_commit line shown) (commit_rest commit) answer) (working_rest task result) }
+    ensures works { is_working result ≡ true }
+    ensures falls { (lines : ℕ) → working_left lines result ≤ commit_left commit }
     ensures blames { (task : TheTask) → Faults answer (working_rest task result) }
 {
     match answer {
@@ -67,5 +138,112 @@ pub(crate) fn after_committing(
                 end: End::Refused { line, why },
             },
         },
+    }
+}
+
+/// One step of the machine that opens the session.
+fn step_opening<S: Store>(alloc: Global, task: &Task, mut opener: Open, store: &mut S) -> Working
+    requires live { is_ask (open_rest opener) ≡ true }
+    ensures acts { Acts is_failed (S.view store.old) (S.view store.new) (call (open_rest opener) (after_open task.now)) (working_rest task.now result) }
+    ensures works { is_working result ≡ true }
+    ensures falls { working_left (length task.now.body) result < length task.now.body * most_steps + open_left opener }
+{
+    let answer = opener.step(store);
+    after_opening(alloc, task, opener, answer)
+}
+
+/// One step of the machine that sets a chunk.
+fn step_setting<S: Store>(
+    alloc: Global,
+    task: &Task,
+    line: u32,
+    at: usize,
+    shown: Vec<Shown>,
+    mut set: SetChunk,
+    store: &mut S,
+) -> Working
+    requires live { is_ask (set_rest set) ≡ true }
+    requires polite { IsTrue (S.view store.old).caller.tells → NextIsPolite (set_rest set) (S.view store.old).seen }
+    ensures acts { Acts is_failed (S.view store.old) (S.view store.new) (call (set_rest set) (after_set line shown.items (lines_from task.now at))) (working_rest task.now result) }
+    ensures works { is_working result ≡ true }
+    ensures falls { working_left (length task.now.body) result < (length task.now.body - at) * most_steps + set_left set }
+{
+    let answer = set.step(store);
+    after_setting(alloc, task, line, at, shown, set, answer)
+}
+
+/// One step of the machine that reads a chunk.
+fn step_getting<S: Store>(
+    alloc: Global,
+    task: &Task,
+    line: u32,
+    at: usize,
+    asked: AskedFor,
+    shown: Vec<Shown>,
+    mut get: GetChunk,
+    store: &mut S,
+) -> Working
+    requires live { is_ask (get_rest get) ≡ true }
+    ensures acts { Acts is_failed (S.view store.old) (S.view store.new) (call (get_rest get) (after_get (shown_for asked line) line shown.items (get_session get) (lines_from task.now at))) (working_rest task.now result) }
+    ensures works { is_working result ≡ true }
+    ensures falls { working_left (length task.now.body) result < (length task.now.body - at) * most_steps + get_left get }
+{
+    let answer = get.step(store);
+    after_getting(alloc, task, line, at, asked, shown, get, answer)
+}
+
+/// One step of the machine that commits the session.
+fn step_committing<S: Store>(
+    task: &Task,
+    line: u32,
+    shown: Shows,
+    mut commit: Commit,
+    store: &mut S,
+) -> Working
+    requires live { is_ask (commit_rest commit) ≡ true }
+    requires polite { IsTrue (S.view store.old).caller.tells → NextIsPolite (commit_rest commit) (S.view store.old).seen }
+    ensures acts { Acts is_failed (S.view store.old) (S.view store.new) (call (commit_rest commit) (after_commit line shown)) (working_rest task.now result) }
+    ensures works { is_working result ≡ true }
+    ensures falls { working_left (length task.now.body) result < commit_left commit }
+{
+    let answer = commit.step(store);
+    after_committing(line, shown, commit, answer)
+}
+
+/// One step of a worker that stands here.
+pub(crate) fn step_on<S: Store>(
+    alloc: Global,
+    task: &Task,
+    state: Working,
+    store: &mut S,
+) -> Working
+    requires live { IsLive (working_rest task.now state) }
+    requires works { is_working state ≡ true }
+    requires polite { IsTrue (S.view store.old).caller.tells → PlayIsPolite (working_rest task.now state) (S.view store.old).seen }
+    ensures acts { Acts is_failed (S.view store.old) (S.view store.new) (working_rest task.now state) (working_rest task.now result) }
+    ensures works { is_working result ≡ true }
+    ensures falls { working_left (length task.now.body) result < working_left (length task.now.body) state }
+{
+    match state {
+        Working::Opening { opener } => step_opening(alloc, task, opener, store),
+        Working::Setting {
+            line,
+            at,
+            shown,
+            set,
+        } => step_setting(alloc, task, line, at, shown, set, store),
+        Working::Getting {
+            line,
+            at,
+            asked,
+            shown,
+            get,
+        } => step_getting(alloc, task, line, at, asked, shown, get, store),
+        Working::Committing {
+            line,
+            shown,
+            commit,
+        } => step_committing(task, line, shown, commit, store),
+        Working::Ended { .. } => unreachable!(),
     }
 }

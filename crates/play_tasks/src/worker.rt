@@ -3,7 +3,7 @@
 ghost use Rattle.std.specs.Prelude.{◌≡◌, true};
 ghost use Rattle.play_tasks.specs.inside.Working.{is_working};
 
-use crate::steps::{after_committing, after_opening};
+use crate::steps::step_on;
 use crate::working::Working;
 use ice_ids::AnyIds;
 use play_outcome::{End, Outcome, Shows};
@@ -85,20 +85,6 @@ impl<'a> Worker<'a> {
                 },
             },
         );
-        match state {
-            Working::Opening { mut opener } => {
-                let answer = opener.step(store);
-                self.state = after_opening(self.alloc, self.task, opener, answer);
-            }
-            Working::Committing {
-                line,
-                shown,
-                mut commit,
-            } => {
-                let answer = commit.step(store);
-                self.state = after_committing(line, shown, commit, answer);
-            }
-            Working::Ended { .. } => unreachable!(),
-        }
+        self.state = step_on(self.alloc, self.task, state, store);
     }
 }

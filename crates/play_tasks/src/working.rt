@@ -2,7 +2,16 @@
 
 use commit_path::Commit;
 use play_outcome::{Outcome, Shown, Shows};
-use session::{Open, Session};
+use session::{GetChunk, Open, Session, SetChunk};
+
+/// What a line asked for that reads a chunk.
+#[derive(Clone, Copy, Debug, PartialEq, Eq)]
+pub enum AskedFor {
+    /// The chunk.
+    Chunk,
+    /// What the chunk's key has.
+    Key,
+}
 
 /// The machine that a worker steps.
 #[derive(Drop)]
@@ -10,6 +19,21 @@ pub enum Working {
     /// The session is being opened.
     Opening {
         opener: Open,
+    },
+    /// A chunk is being set by this line of the script; the line behind it has the number `at` in the body, from 0.
+    Setting {
+        line: u32,
+        at: usize,
+        shown: Vec<Shown>,
+        set: SetChunk,
+    },
+    /// A chunk is being read by this line of the script; the line behind it has the number `at` in the body, from 0.
+    Getting {
+        line: u32,
+        at: usize,
+        asked: AskedFor,
+        shown: Vec<Shown>,
+        get: GetChunk,
     },
     /// The session is being committed, by this line of the script.
     Committing {
@@ -28,6 +52,6 @@ pub enum Working {
 pub enum Step {
     /// The lines go on, on this session and with these lines shown.
     On { session: Session, shown: Vec<Shown> },
-    /// They have come to their end.
+    /// They have come to their end, or to a machine.
     Stop(Working),
 }

@@ -25,12 +25,13 @@ use Rattle.store_api.proofs.Once.{first-law}
 use Rattle.store_api.proofs.Slots.{effect-cases, free-cases, old-cases, slot-append_one}
 use Rattle.histories.proofs.Choosing.{Knows}
 use Rattle.session.specs.Sessions.{changes_in}
+use Rattle.session.specs.Sources.{MayDrawObject}
 use Rattle.commit_path.specs.Owed.{Sessions, IsMade, OwesOver, Owes}
 use Rattle.play_script.specs.declared.scripts.Task.{Task}
 use Rattle.play_script.specs.Well.{IsWellTask}
 use Rattle.play_tasks.specs.Solving.{IsOfTask}
 use Rattle.play_tasks.specs.Tasks.{ids_at, IsOfClient}
-use Rattle.run_histories.specs.Sources.{MayDrawObject, ObjectsAreNew}
+use Rattle.run_histories.specs.Sources.{ObjectsAreNew}
 use Rattle.run_histories.specs.Told.{IsOfSession, CommitsSession}
 use Rattle.run_histories.proofs.Sources.{object-not_initial}
 use Rattle.run_histories.proofs.Editing.{task-object}
@@ -63,7 +64,12 @@ unused-one journal event key k u =
 pub objects-one : (ids : AnyIds) (journal : List Event) (event : Event) → ¬ Removes event.op → ObjectsAreNew ids journal → ObjectsAreNew ids (journal ++ event ∷ [])
 objects-one ids journal event k new id d =
     let m = new id d in
-    (unused-one journal event (Snapshot id) k m.0, unused-one journal event (Txn id) k m.1)
+    record {
+      snapshot = unused-one journal event (Snapshot id) k m.snapshot;
+      log = unused-one journal event (Txn id) k m.log;
+      manifest = unused-one journal event (Manifest id) k m.manifest;
+      chunk = unused-one journal event (Chunk id) k m.chunk;
+    }
 
 -- the objects of a run's clients are new
 abbrev pub AllObjectsAreNew : Draw → List Task → List Event → Type 0
@@ -113,23 +119,23 @@ module _ (draw : Draw) (tasks : List Task) where
   }
 
 -- of a task
-owes-keeps : (mine : Sessions) (journal : List Event) (op : Op) → Owes mine journal op → ¬ Removes op
-owes-keeps mine journal (Get key) o r = r
-owes-keeps mine journal (PutNew key bytes why) o r = r
-owes-keeps mine journal (PutOver key bytes old why) o r = r
-owes-keeps mine journal (Remove key why) o r = o
-owes-keeps mine journal (RemoveAt key old why) o r = o
-owes-keeps mine journal (ListPart part) o r = r
+owes-keeps : (ids : AnyIds) (mine : Sessions) (journal : List Event) (op : Op) → Owes ids mine journal op → ¬ Removes op
+owes-keeps ids mine journal (Get key) o r = r
+owes-keeps ids mine journal (PutNew key bytes why) o r = r
+owes-keeps ids mine journal (PutOver key bytes old why) o r = r
+owes-keeps ids mine journal (Remove key why) o r = o
+owes-keeps ids mine journal (RemoveAt key old why) o r = o
+owes-keeps ids mine journal (ListPart part) o r = r
 
-owes-once : (ids : AnyIds) (task : Task) (journal : List Event) (op : Op) → client_of ids < 2 ^ 32 → IsWellTask task → ObjectsAreNew ids journal → Owes (IsOfTask ids task) journal op → PutsOnce journal op
+owes-once : (ids : AnyIds) (task : Task) (journal : List Event) (op : Op) → client_of ids < 2 ^ 32 → IsWellTask task → ObjectsAreNew ids journal → Owes ids (IsOfTask ids task) journal op → PutsOnce journal op
 owes-once ids task journal (Get key) small well new o = tt
 owes-once ids task journal (ListPart part) small well new o = tt
 owes-once ids task journal (PutNew (Snapshot id) bytes why) small well new o =
     let drawn : MayDrawObject ids id = task-object ids task o.session id well o.is_mine in
-    (λ e. absurd (object-not_initial ids id small drawn e), λ differs. (new id drawn).0)
-owes-once ids task journal (PutNew (Txn id) bytes why) small well new o = (new id (task-object ids task o.session id well o.is_mine)).1
-owes-once ids task journal (PutNew (Manifest id) bytes why) small well new o = absurd o
-owes-once ids task journal (PutNew (Chunk id) bytes why) small well new o = absurd o
+    (λ e. absurd (object-not_initial ids id small drawn e), λ differs. (new id drawn).snapshot)
+owes-once ids task journal (PutNew (Txn id) bytes why) small well new o = (new id o).log
+owes-once ids task journal (PutNew (Manifest id) bytes why) small well new o = (new id o).manifest
+owes-once ids task journal (PutNew (Chunk id) bytes why) small well new o = (new id o).chunk
 owes-once ids task journal (PutNew (Branch name) bytes why) small well new o = tt
 owes-once ids task journal (PutNew (Tag name) bytes why) small well new o = tt
 owes-once ids task journal (PutNew (TagGone name) bytes why) small well new o = tt
@@ -171,7 +177,7 @@ module _ (draw : Draw) (tasks : List Task) (client place : ℕ) (task : Task) (c
       let versions : old ≡ version = cc in
       subst (λ (v : Version). IsOfSession draw tasks (changes_in (puts_of journal) o.session) journal client branch v.0 id) versions (over-session name bytes old.0 why branch id o branches (ap ref_of references ∙ names))
 
-  op-knows : (op : Op) → Owes (IsOfTask (ids_at draw place) task) journal op → (c : Changes) × CommitsSession draw tasks c journal client op
+  op-knows : (op : Op) → Owes (ids_at draw place) (IsOfTask (ids_at draw place) task) journal op → (c : Changes) × CommitsSession draw tasks c journal client op
   op-knows (Get key) o = (none, λ branch bytes old id e names. absurd cc)
   op-knows (ListPart part) o = (none, λ branch bytes old id e names. absurd cc)
   op-knows (PutNew key bytes why) o = (none, λ branch other old id e names. absurd cc)
@@ -200,10 +206,10 @@ module _ (draw : Draw) (tasks : List Task) where
   pub client-fits : length tasks < 2 ^ 32 - 1 → All IsWellTask tasks → (start journal : List Event) (event : Event) → IsOfClient draw tasks start journal event → Fits draw tasks journal event
   client-fits few wells start journal event c =
       let mine : Sessions = IsOfTask (ids_at draw c.place) c.task in
-      let owes : Owes mine journal event.op = c.careful.owes in
+      let owes : Owes (ids_at draw c.place) mine journal event.op = c.careful.owes in
       record {
         good = c.careful.good;
-        keeps = owes-keeps mine journal event.op owes;
+        keeps = owes-keeps (ids_at draw c.place) mine journal event.op owes;
         first = λ new once d. first-law journal event.op once c.careful.good.polite
             (owes-once (ids_at draw c.place) c.task journal event.op (small-at few c.place (slice_get_within tasks c.place c.task c.at)) (well-at wells c.place c.task c.at) (new c.place (slice_get_within tasks c.place c.task c.at)) owes);
         knows = λ once. op-knows draw tasks event.client c.place c.task c.client c.at journal once event.op owes;

@@ -20,7 +20,7 @@ use Rattle.histories.specs.Calls.{history_of, call_of, TellsCall, Agrees, IsHist
 use Rattle.session.specs.Sessions.{SessionState}
 use Rattle.session.specs.Opening.{Asked}
 use Rattle.commit_path.specs.Opened.{IsOpened, WasBegun}
-use Rattle.commit_path.proofs.Owing.{tree-by_rows}
+use Rattle.commit_path.proofs.Knowing.{tree-by_rows}
 use Rattle.run_histories.specs.Told.{BeganAtLast}
 
 -- a get of a branch that was answered with a reference was answered with the last entry

@@ -1,199 +1,58 @@
--- Along the lines of a task the session's changes stay normal for its base, where its source draws no id of the base's nodes.
-use Rattle.std.proofs.Common.{◌≡◌, inl, inr, ◌⊎◌, ℕ, Bool, true, false, cond, not, ◌&&◌, ◌||◌, List, [], ◌∷◌, refl, sym, ◌∙◌, ap, subst}
-use Rattle.std.specs.Prelude.{Option, Some, None, is_some, Result, Ok, Err, All}
-use Rattle.std.specs.Result.{result_ok}
-use Rattle.std.specs.FinMap.{FinMap, get, insert, retain_keys, get-empty}
-use Rattle.std.proofs.lemmas.Bool.{false_from_ne_true}
+-- Where the lines of a task lead: along them the session's changes stay normal for its base, where its source draws no id of the base's nodes.
+use Rattle.std.proofs.Common.{◌≡◌, ◌⊎◌, inl, inr, ℕ, true, false, List, [], ◌∷◌, refl, sym, ◌∙◌, ap, subst}
+use Rattle.std.specs.Prelude.{Option, Some, None, Result, Ok, Err, All}
+use Rattle.std.specs.FinMap.{get, get-empty}
 use Rattle.std.proofs.lemmas.List.Elements.{All-head, All-tail}
 use Rattle.ice_ids.specs.declared.Id8.{Id8}
 use Rattle.ice_ids.specs.declared.Id12.{Id12}
 use Rattle.ice_ids.specs.declared.drawing.AnyIds.{AnyIds}
-use Rattle.ice_ids.specs.Drawing.{drawn12, drawn8, after8}
-use Rattle.zarr_path.specs.Paths.{path_cmp, same_path, is_path, is_within}
+use Rattle.zarr_path.specs.Paths.{path_cmp, is_path}
+use Rattle.zarr_path.specs.declared.keys.ZarrKey.{ZarrKey}
+use Rattle.zarr_path.specs.declared.keys.ZarrKey.TheVariants as zarr
+use Rattle.zarr_path.specs.Keys.{key_of}
+use Rattle.zarr_path.proofs.KeyLaws.{key_law}
 use Rattle.zarr_meta.specs.declared.faults.MetaFault.{MetaFault}
 use Rattle.zarr_meta.specs.declared.views.View.{View}
-use Rattle.zarr_meta.specs.Meta.{meta_of}
 use Rattle.zarr_meta.specs.Plain.{group_text}
-use Rattle.zarr_tree.specs.Nodes.{Node, is_metadata}
-use Rattle.zarr_tree.specs.Trees.{Tree, IsWellFormed}
-use Rattle.zarr_tree.specs.Edits.{Add, SetMeta, with_text}
-use Rattle.zarr_tree.specs.Edits as tree
-use Rattle.zarr_tree.specs.Changes.{Changes, has_id, IsNormal, IsFresh}
+use Rattle.zarr_tree.specs.Nodes.{Node}
+use Rattle.zarr_tree.specs.Trees.{IsWellFormed}
+use Rattle.zarr_tree.specs.Changes.{IsNormal}
 use Rattle.zarr_tree.specs.Touched.{lists}
-use Rattle.zarr_tree.specs.Held.{Held, changes_of, nodes_over}
-use Rattle.zarr_tree.proofs.Maps.{get-put, get-where}
-use Rattle.zarr_tree.proofs.Apply.{some_id}
-use Rattle.zarr_tree.proofs.Normal.{normal-law, none-law}
-use Rattle.zarr_changes.specs.Edits.{nothing, with_added, with_text_at, with_meta, without_node}
-use Rattle.zarr_changes.specs.Sets.{add_refusal, text_refusal, drop_refusal}
-use Rattle.zarr_changes.proofs.EditLaws.{text-law}
-use Rattle.zarr_changes.proofs.DropLaws.{drop-law}
+use Rattle.zarr_tree.specs.Held.{Held, changes_of}
+use Rattle.zarr_tree.proofs.Normal.{none-law}
+use Rattle.zarr_changes.specs.Edits.{nothing}
 use Rattle.manifest_file.specs.declared.manifest.Place.{Place}
-use Rattle.snapshot_file.specs.declared.nodes.NodeRow.{NodeRow}
-use Rattle.repo_objects.specs.Trees.{Puts, bytes_at, nodes_in}
+use Rattle.repo_objects.specs.Trees.{Puts}
+use Rattle.store_api.specs.declared.events.Event.{Event}
 use Rattle.store_api.specs.declared.machines.Refusal.{Refusal}
-use Rattle.session.specs.Sessions.{SessionState, base_nodes, nodes_seen, base_tree, changes_in}
+use Rattle.session.specs.Sessions.{SessionState, base_tree, nodes_seen, changes_in}
+use Rattle.session.specs.Sources.{IsLater, MayDrawObject, MayDrawNode}
 use Rattle.session.specs.Opening.{begun}
 use Rattle.session.specs.Editing.{group_fault, array_fault, node_fault, added, group_added, array_added, node_added, meta_set, node_dropped}
-use Rattle.commit_path.specs.Committing.{after_draw}
+use Rattle.session.specs.Chunks.{chunk_unset}
+use Rattle.commit_path.specs.Owed.{HasChunks}
 use Rattle.commit_path.specs.Laws.{TellsFaults}
 use Rattle.commit_path.proofs.Editing.{Added, node-added, text-set, node-dropped}
-use Rattle.commit_path.proofs.Opened.{start-started}
+use Rattle.commit_path.proofs.Sources.{later-same, object-later}
+use Rattle.zarr_keys.specs.Keys.{session_of, meta_value, put_over, erased_at, key_erased}
 use Rattle.play_script.specs.declared.scripts.Call.{Call}
 use Rattle.play_script.specs.declared.scripts.Call.TheVariants.{Edit, Read as Read_call, Commit}
 use Rattle.play_script.specs.declared.scripts.EditCall.{EditCall}
-use Rattle.play_script.specs.declared.scripts.EditCall.TheVariants.{Group, Array, Make, Meta, Drop}
+use Rattle.play_script.specs.declared.scripts.EditCall.TheVariants.{Group, Array, Make, Meta, Drop, Set, Fill, Unset, KeySet, KeyErase}
+use Rattle.play_script.specs.declared.scripts.ReadCall.{ReadCall}
+use Rattle.play_script.specs.declared.scripts.ReadCall.TheVariants.{List as List_call, Get, Chunk, KeyGet}
 use Rattle.play_script.specs.declared.scripts.Line.{Line}
 use Rattle.play_script.specs.declared.scripts.Task.{Task}
 use Rattle.play_script.specs.Well.{IsWellEdit, IsWellCall, IsWellLine, IsWellTask}
 use Rattle.play_outcome.specs.declared.outcome.Shown.{Shown}
-use Rattle.play_tasks.specs.Lines.{Goes, deed, edited, session_of, read_by, silent, still}
+use Rattle.play_tasks.specs.Lines.{Deed, Goes, Sets, Reads, Commits, deed, edit_deed, read_deed, edited, read_by, key_shown, key_set_deed, key_get_deed, silent, still}
 use Rattle.play_tasks.specs.Playing.{asked_by}
 use Rattle.play_tasks.specs.Solving.{ReachesBy, Reaches, IsOfTask}
-use Rattle.run_histories.specs.Sources.{IsLater, MayDrawObject, MayDrawNode}
-use Rattle.run_histories.proofs.Sources.{later-same, later-later, later-drawn8, object-now, object-later, node-now, node-later, node-spent, known-small, object-known}
-use Rattle.run_histories.proofs.Drawing.{IsDrawnBy, AreOf, head-ids}
-
--- ---- what an edit is
--- it adds a node under an id that it draws, gives a node another text, or takes a node and all beneath it away
-pub record AddsNode (s t : SessionState) : Type 0 where
-  pub path : List ℕ
-  pub text : List ℕ
-  pub id : Id8
-  pub is_a : is_path path ≡ true
-  pub metadata : is_metadata text ≡ true
-  pub allowed : add_refusal (nodes_seen s) path ≡ None
-  pub drawn : drawn8 s.ids ≡ Some id
-  pub is : t ≡ record s { held = with_added s.held path (record { id = id; text = text }); ids = after8 s.ids }
-
-pub record SetsText (s t : SessionState) : Type 0 where
-  pub path : List ℕ
-  pub text : List ℕ
-  pub allowed : text_refusal (nodes_seen s) path text ≡ None
-  pub is : t ≡ record s { held = with_text_at s.held (base_nodes s) path text }
-
-pub record DropsNode (s t : SessionState) : Type 0 where
-  pub path : List ℕ
-  pub allowed : drop_refusal (nodes_seen s) path ≡ None
-  pub is : t ≡ record s { held = without_node s.held (base_nodes s) path }
-
-abbrev pub Edits : SessionState → SessionState → Type 0
-Edits s t = AddsNode s t ⊎ (SetsText s t ⊎ DropsNode s t)
-
--- ---- what edits keep
--- the nodes of the base have no id that the source may draw
-abbrev pub OwnAreNew : AnyIds → SessionState → Type 0
-OwnAreNew ids s = (p : List ℕ) (n : Node) → get (base_nodes s) p ≡ Some n → ¬ MayDrawNode ids n.id
-
--- a node of this id
-pub record HasId (nodes : FinMap path_cmp Node) (id : Id8) : Type 0 where
-  pub path : List ℕ
-  pub node : Node
-  pub found : get nodes path ≡ Some node
-  pub same : node.id ≡ id
-
--- an id that was drawn: the first source may draw it, and the later one may not
-pub record WasDrawn (ids later : AnyIds) (id : Id8) : Type 0 where
-  pub before : MayDrawNode ids id
-  pub spent : ¬ MayDrawNode later id
-
--- The ids of added nodes were drawn, those of dropped ones are the base's, and the changes are normal for the base, whatever
--- was put.
-pub record IsKept (ids : AnyIds) (s : SessionState) : Type 0 where
-  pub added : (p : List ℕ) (n : Node) → get s.held.added p ≡ Some n → WasDrawn ids s.ids n.id
-  pub dropped : (id : Id8) → lists s.held.dropped id ≡ true → HasId (base_nodes s) id
-  pub normal : (puts : Puts) → IsWellFormed (base_tree puts s) → IsNormal (changes_in puts s) (base_tree puts s)
-
--- what holds of a new node and of each old one holds of each
-each-put : (Q : Node → Type 0) (m : FinMap path_cmp Node) (path : List ℕ) (new : Node) → Q new → ((p : List ℕ) (n : Node) → get m p ≡ Some n → Q n) → (p : List ℕ) (n : Node) → get (insert m path new) p ≡ Some n → Q n
-each-put Q m path new here there p n e = by_path (same_path p path) (sym (get-put m path new p) ∙ e)
-  where
-    by_path : (b : Bool) → cond b (Some new) (get m p) ≡ Some n → Q n
-    by_path true k = let node : new ≡ n = cc in subst Q node here
-    by_path false k = there p n k
-
-each-left : (Q : Node → Type 0) (m : FinMap path_cmp Node) (f : List ℕ → Bool) → ((p : List ℕ) (n : Node) → get m p ≡ Some n → Q n) → (p : List ℕ) (n : Node) → get (retain_keys m f) p ≡ Some n → Q n
-each-left Q m f there p n e = by_test (f p) (sym (get-where m f p) ∙ e)
-  where
-    by_test : (b : Bool) → cond b (get m p) None ≡ Some n → Q n
-    by_test true k = there p n k
-    by_test false k = absurd cc
-
--- the tree of the base's nodes alone
-abbrev bare : SessionState → Tree
-bare s = record { nodes = base_nodes s; chunk = λ p i. None }
-
-module _ (ids : AnyIds) (s : SessionState) (later : IsLater ids s.ids) (own : OwnAreNew ids s) (k : IsKept ids s) where
-  -- an id that is drawn now is fresh
-  now-fresh : (id : Id8) → drawn8 s.ids ≡ Some id → (puts : Puts) → IsFresh (changes_in puts s) (base_tree puts s) id
-  now-fresh id d puts =
-      let now : MayDrawNode s.ids id = node-now s.ids id d in
-      let may : MayDrawNode ids id = node-later ids s.ids id later now in
-      record {
-        not_own = λ p n f e. own p n f (subst (λ (i : Id8). MayDrawNode ids i) (sym e) may);
-        not_added = λ p n f e. (k.added p n f).spent (subst (λ (i : Id8). MayDrawNode s.ids i) (sym e) now);
-        not_dropped = false_from_ne_true (lists s.held.dropped id) (λ l. let h = k.dropped id l in own h.path h.node h.found (subst (λ (i : Id8). MayDrawNode ids i) (sym h.same) may));
-      }
-
-  still-spent : (id : Id8) → WasDrawn ids s.ids id → WasDrawn ids (after8 s.ids) id
-  still-spent id w = record { before = w.before; spent = λ m. w.spent (node-later s.ids (after8 s.ids) id (later-drawn8 s.ids) m) }
-
-  add-keeps : (t : SessionState) → AddsNode s t → IsKept ids t
-  add-keeps t a =
-      let new : Node = record { id = a.id; text = a.text } in
-      subst (IsKept ids) (sym a.is) (record {
-        added = each-put (λ n. WasDrawn ids (after8 s.ids) n.id) s.held.added a.path new
-            (record { before = node-later ids s.ids a.id later (node-now s.ids a.id a.drawn); spent = node-spent s.ids a.id a.drawn })
-            (λ p n f. still-spent n.id (k.added p n f));
-        dropped = k.dropped;
-        normal = λ puts well. normal-law (changes_in puts s) (base_tree puts s) (Add a.path a.id a.text) well (k.normal puts well) (now-fresh a.id a.drawn puts) a.is_a a.metadata a.allowed;
-      })
-
-  text-ids : (path text : List ℕ) (o there : Option Node) → get s.held.added path ≡ o → (p : List ℕ) (n : Node) → get (with_meta s.held path text o there).added p ≡ Some n → WasDrawn ids s.ids n.id
-  text-ids path text (Some m) there f = each-put (λ n. WasDrawn ids s.ids n.id) s.held.added path (with_text text m) (k.added path m f) k.added
-  text-ids path text None (Some m) f = k.added
-  text-ids path text None None f = k.added
-
-  text-dropped : (path text : List ℕ) (o there : Option Node) → (with_meta s.held path text o there).dropped ≡ s.held.dropped
-  text-dropped path text (Some m) there = refl
-  text-dropped path text None (Some m) = refl
-  text-dropped path text None None = refl
-
-  text-keeps : (t : SessionState) → SetsText s t → IsKept ids t
-  text-keeps t a =
-      let there : Option Node = get (nodes_over s.held (base_nodes s)) a.path in
-      subst (IsKept ids) (sym a.is) (record {
-        added = text-ids a.path a.text (get s.held.added a.path) there refl;
-        dropped = λ id l. k.dropped id (sym (ap (λ (xs : List Id8). lists xs id) (text-dropped a.path a.text (get s.held.added a.path) there)) ∙ l);
-        normal = λ puts well. subst (λ (c : Changes). IsNormal c (base_tree puts s)) (sym (text-law (bytes_at puts) s.held (base_tree puts s) a.path a.text))
-            (normal-law (changes_in puts s) (base_tree puts s) (SetMeta a.path a.text) well (k.normal puts well) tt tt tt a.allowed);
-      })
-
-  now-dropped : (path : List ℕ) (id : Id8) (b d : Bool) → lists s.held.dropped id ≡ b → has_id id (get (base_nodes s) path) ≡ d → (seen : Bool) → (b || (seen && d)) ≡ true → HasId (base_nodes s) id
-  now-dropped path id true d f g seen e = k.dropped id f
-  now-dropped path id false true f g seen e = let n = some_id id (get (base_nodes s) path) g in record { path = path; node = n.0; found = n.1; same = n.2 }
-  now-dropped path id false false f g true e = absurd cc
-  now-dropped path id false false f g false e = absurd cc
-
-  drop-keeps : (t : SessionState) → DropsNode s t → IsKept ids t
-  drop-keeps t a = subst (IsKept ids) (sym a.is) (record {
-    added = each-left (λ n. WasDrawn ids s.ids n.id) s.held.added (λ q. not (is_within a.path q)) k.added;
-    dropped = λ id l. now-dropped a.path id (lists s.held.dropped id) (has_id id (get (base_nodes s) a.path)) refl refl (has_id id (get (nodes_over s.held (base_nodes s)) a.path))
-        (sym (ap (λ (c : Changes). c.dropped id) (drop-law (λ (place : Place). None) s.held (bare s) a.path)) ∙ l);
-    normal = λ puts well. subst (λ (c : Changes). IsNormal c (base_tree puts s)) (sym (drop-law (bytes_at puts) s.held (base_tree puts s) a.path))
-        (normal-law (changes_in puts s) (base_tree puts s) (tree.Drop a.path) well (k.normal puts well) tt tt tt a.allowed);
-  })
-
-  pub edit-keeps : (t : SessionState) → Edits s t → IsKept ids t
-  edit-keeps t (inl a) = add-keeps t a
-  edit-keeps t (inr (inl a)) = text-keeps t a
-  edit-keeps t (inr (inr a)) = drop-keeps t a
-
--- an edit leaves the base
-pub edit-base : (s t : SessionState) → Edits s t → t.rows ≡ s.rows
-edit-base s t (inl a) = ap (λ (x : SessionState). x.rows) a.is
-edit-base s t (inr (inl a)) = ap (λ (x : SessionState). x.rows) a.is
-edit-base s t (inr (inr a)) = ap (λ (x : SessionState). x.rows) a.is
+use Rattle.play_tasks.specs.Telling.{DidPlay, PlaysAll}
+use Rattle.run_histories.proofs.Drawing.{IsDrawnBy, AreOf, object-draws, head-ids}
+use Rattle.run_histories.proofs.Sized.{sized, normal-in}
+use Rattle.run_histories.proofs.Setting.{chunk-set, set-told, unset-edits}
+use Rattle.run_histories.proofs.Edits.{SetsChunk, Edits, OwnAreNew, GoesOn, edit-base, edit-goes}
 
 -- ---- the edits of a script
 added-edits : (fault : Result View MetaFault → Option MetaFault) → TellsFaults fault → (path text : List ℕ) (s t : SessionState) → is_path path ≡ true → (r : Result (Id8 × SessionState) Refusal) → added fault s path text ≡ r → session_of r ≡ Ok t → Edits s t
@@ -203,77 +62,141 @@ added-edits fault tells path text s t is_a (Ok new) e d =
     let a : Added s new.1 path text new.0 = node-added fault s new.1 path text new.0 tells e in
     subst (Edits s) same (inl (record { path = path; text = text; id = new.0; is_a = is_a; metadata = a.metadata; allowed = a.allowed; drawn = a.drawn; is = a.is }))
 
-set-edits : (path text : List ℕ) (s t : SessionState) → meta_set s path text ≡ Ok t → Edits s t
-set-edits path text s t e = let a = text-set s t path text e in inr (inl (record { path = path; text = text; allowed = a.allowed; is = a.is }))
+text-edits : (path text : List ℕ) (s t : SessionState) → meta_set s path text ≡ Ok t → Edits s t
+text-edits path text s t e = let a = text-set s t path text e in inr (inl (record { path = path; text = text; allowed = a.allowed; is = a.is }))
 
 drop-edits : (path : List ℕ) (s t : SessionState) → node_dropped s path ≡ Ok t → Edits s t
-drop-edits path s t e = let a = node-dropped s t path e in inr (inr (record { path = path; allowed = a.allowed; is = a.is }))
+drop-edits path s t e = let a = node-dropped s t path e in inr (inr (inl (record { path = path; allowed = a.allowed; is = a.is })))
 
-pub edited-edits : (edit : EditCall) (s t : SessionState) → IsWellEdit edit → edited edit s ≡ Ok t → Edits s t
-edited-edits (Group path) s t well e = added-edits group_fault (λ bad. refl) path group_text s t well.0 (group_added s path group_text) refl e
-edited-edits (Array path text) s t well e = added-edits array_fault (λ bad. refl) path text s t well.0.0 (array_added s path text) refl e
-edited-edits (Make path text) s t well e = added-edits node_fault (λ bad. refl) path text s t well.0.0 (node_added s path text) refl e
-edited-edits (Meta path text) s t well e = set-edits path text s t e
-edited-edits (Drop path) s t well e = drop-edits path s t e
+-- a line leaves its session as it is, or edits it
+abbrev pub Leads : Deed → SessionState → Type 0
+Leads (Goes r) s = (shown : List Shown) (t : SessionState) → r ≡ Ok (shown, t) → (t ≡ s) ⊎ Edits s t
+Leads _ s = Unit {0}
+
+result-same : {A : Type 0} (x y : A) → ◌≡◌ {A = Result A Refusal} (Ok x) (Ok y) → x ≡ y
+result-same x y e = cc
+
+silent-leads : (s : SessionState) (r : Result SessionState Refusal) → ((t : SessionState) → r ≡ Ok t → Edits s t) → Leads (Goes (silent r)) s
+silent-leads s (Ok u) edits shown t e = let same : u ≡ t = ap (λ (q : List Shown × SessionState). q.1) (result-same ([], u) (shown, t) e) in inr (edits t (ap (λ (x : SessionState). Ok x) same))
+silent-leads s (Err why) edits shown t e = cc
+
+still-leads : (s : SessionState) (r : Result (List Shown) Refusal) → Leads (Goes (still s r)) s
+still-leads s (Ok old) shown t e = inl (sym (ap (λ (q : List Shown × SessionState). q.1) (result-same (old, s) (shown, t) e)))
+still-leads s (Err why) shown t e = cc
+
+unset-leads : (path index : List ℕ) (s t : SessionState) → chunk_unset s path index ≡ Ok t → Edits s t
+unset-leads path index s t e = inr (inr (inr (inr (unset-edits s t path index e))))
+
+-- a key's metadata is put
+put-edits : (o : Option Node) (path text : List ℕ) (s t : SessionState) → is_path path ≡ true → put_over o s path text ≡ Ok t → Edits s t
+put-edits (Some node) path text s t is_a e = text-edits path text s t e
+put-edits None path text s t is_a e = added-edits node_fault (λ bad. refl) path text s t is_a (node_added s path text) refl e
+
+key-set-leads : (key bytes : List ℕ) (o : Option ZarrKey) (s : SessionState) → key_of key ≡ o → Leads (key_set_deed bytes o s) s
+key-set-leads key bytes None s is = λ shown t e. cc
+key-set-leads key bytes (Some (zarr.Meta path)) s is = silent-leads s (put_over (get (nodes_seen s) path) s path bytes) (λ t e. put-edits (get (nodes_seen s) path) path bytes s t ((key_law key (zarr.Meta path)).0 is).0 e)
+key-set-leads key bytes (Some (zarr.Chunk path index)) s is = tt
+
+-- a key is erased
+erased-edits : (o : Option ZarrKey) (s t : SessionState) → erased_at s o ≡ Ok t → Edits s t
+erased-edits None s t e = absurd cc
+erased-edits (Some (zarr.Meta path)) s t e = drop-edits path s t e
+erased-edits (Some (zarr.Chunk path index)) s t e = unset-leads path index s t e
+
+key-erased-edits : (key : List ℕ) (s t : SessionState) → key_erased s key ≡ Ok t → Edits s t
+unfolding key_erased
+key-erased-edits key s t e = erased-edits (key_of key) s t e
+
+key-get-leads : (line : ℕ) (o : Option ZarrKey) (s : SessionState) → Leads (key_get_deed line o s) s
+key-get-leads line None s = λ shown t e. cc
+key-get-leads line (Some (zarr.Meta path)) s = still-leads s (Ok (key_shown line (meta_value s path) ∷ []))
+key-get-leads line (Some (zarr.Chunk path index)) s = tt
+
+edit-leads : (edit : EditCall) (s : SessionState) → IsWellEdit edit → Leads (edit_deed edit s) s
+edit-leads (Group path) s well = silent-leads s (edited (Group path) s) (λ t e. added-edits group_fault (λ bad. refl) path group_text s t well.0 (group_added s path group_text) refl e)
+edit-leads (Array path text) s well = silent-leads s (edited (Array path text) s) (λ t e. added-edits array_fault (λ bad. refl) path text s t well.0.0 (array_added s path text) refl e)
+edit-leads (Make path text) s well = silent-leads s (edited (Make path text) s) (λ t e. added-edits node_fault (λ bad. refl) path text s t well.0.0 (node_added s path text) refl e)
+edit-leads (Meta path text) s well = silent-leads s (meta_set s path text) (λ t e. text-edits path text s t e)
+edit-leads (Drop path) s well = silent-leads s (node_dropped s path) (λ t e. drop-edits path s t e)
+edit-leads (Set path index bytes) s well = tt
+edit-leads (Fill path index byte) s well = tt
+edit-leads (Unset path index) s well = silent-leads s (chunk_unset s path index) (λ t e. unset-leads path index s t e)
+edit-leads (KeySet key bytes) s well = key-set-leads key bytes (key_of key) s refl
+edit-leads (KeyErase key) s well = silent-leads s (key_erased s key) (λ t e. key-erased-edits key s t e)
+
+read-leads : (line : ℕ) (look : ReadCall) (s : SessionState) → Leads (read_deed line look s) s
+read-leads line (List_call path) s = still-leads s (read_by line (List_call path) s)
+read-leads line (Get path) s = still-leads s (read_by line (Get path) s)
+read-leads line (Chunk path index) s = tt
+read-leads line (KeyGet key) s = key-get-leads line (key_of key) s
+
+pub call-leads : (line : ℕ) (call : Call) (s : SessionState) → IsWellCall call → Leads (deed line call s) s
+call-leads line (Edit edit) s well = edit-leads edit s well
+call-leads line (Read_call look) s well = read-leads line look s
+call-leads line (Commit message) s well = tt
 
 -- ---- the lines of a task
--- What holds along the lines: the session's source is a later one, and it is kept, where no node of its base has an id that
--- the first source may draw.
-pub record GoesOn (ids : AnyIds) (s : SessionState) : Type 0 where
-  pub later : IsLater ids s.ids
-  pub kept : OwnAreNew ids s → IsKept ids s
+-- what holds behind a line that leads on
+led-goes : (ids : AnyIds) (s t : SessionState) → (t ≡ s) ⊎ Edits s t → GoesOn ids s → GoesOn ids t
+led-goes ids s t (inl same) g = subst (GoesOn ids) (sym same) g
+led-goes ids s t (inr e) g = edit-goes ids s t e g
 
-edit-later : (ids : AnyIds) (s t : SessionState) → Edits s t → IsLater ids s.ids → IsLater ids t.ids
-edit-later ids s t (inl a) l = subst (λ (x : SessionState). IsLater ids x.ids) (sym a.is) (later-later ids s.ids (after8 s.ids) l (later-drawn8 s.ids))
-edit-later ids s t (inr (inl a)) l = subst (λ (x : SessionState). IsLater ids x.ids) (sym a.is) l
-edit-later ids s t (inr (inr a)) l = subst (λ (x : SessionState). IsLater ids x.ids) (sym a.is) l
+led-base : (s t : SessionState) → (t ≡ s) ⊎ Edits s t → t.rows ≡ s.rows
+led-base s t (inl same) = ap (λ (x : SessionState). x.rows) same
+led-base s t (inr e) = edit-base s t e
 
-edit-goes : (ids : AnyIds) (s t : SessionState) → Edits s t → GoesOn ids s → GoesOn ids t
-edit-goes ids s t e g = record {
-  later = edit-later ids s t e g.later;
-  kept = λ own.
-      let before : OwnAreNew ids s = λ p n f. own p n (ap (λ (rows : List NodeRow). get (nodes_in rows) p) (edit-base s t e) ∙ f) in
-      edit-keeps ids s g.later before (g.kept before) t e;
-}
+abbrev sets : (s t : SessionState) → SetsChunk s t → (t ≡ s) ⊎ Edits s t
+sets s t a = inr (inr (inr (inr (inl a))))
 
--- the session at a commit, and the one that the commit began with
+-- the session at a commit
 pub record EndsSo (ids : AnyIds) (t : SessionState) (id : Id12) : Type 0 where
-  pub session : SessionState
-  pub goes : GoesOn ids session
-  pub drawn : drawn12 session.ids ≡ Some id
-  pub is : t ≡ after_draw session
+  pub goes : GoesOn ids t
+  pub drawn : MayDrawObject t.ids id
 
 module _ (ids : AnyIds) (t : SessionState) (id : Id12) where
-  abbrev Next : (SessionState → Type 0) → Type 0
-  Next next = (mid : SessionState) → GoesOn ids mid → next mid → EndsSo ids t id
-
-  edit-ends : (edit : EditCall) (s : SessionState) (next : SessionState → Type 0) → IsWellEdit edit → GoesOn ids s → Next next → (r : Result SessionState Refusal) → edited edit s ≡ r → ReachesBy (Goes (silent r)) s t id next → EndsSo ids t id
-  edit-ends edit s next well g go (Ok mid) e n = go mid (edit-goes ids s mid (edited-edits edit s mid well e) g) n
-  edit-ends edit s next well g go (Err why) e n = absurd n
-
-  read-ends : (s : SessionState) (next : SessionState → Type 0) → GoesOn ids s → Next next → (r : Result (List Shown) Refusal) → ReachesBy (Goes (still s r)) s t id next → EndsSo ids t id
-  read-ends s next g go (Ok shown) n = go s g n
-  read-ends s next g go (Err why) n = absurd n
-
-  deed-ends : (line : ℕ) (call : Call) (s : SessionState) (next : SessionState → Type 0) → IsWellCall call → GoesOn ids s → Next next → ReachesBy (deed line call s) s t id next → EndsSo ids t id
-  deed-ends line (Edit edit) s next well g go r = edit-ends edit s next well g go (edited edit s) refl r
-  deed-ends line (Read_call look) s next well g go r = read-ends s next g go (read_by line look s) r
-  deed-ends line (Commit message) s next well g go r = let a = start-started s t id r in record { session = s; goes = g; drawn = a.drawn; is = a.is }
+  deed-ends : (s : SessionState) (next : SessionState → Type 0) → GoesOn ids s → ((mid : SessionState) → GoesOn ids mid → next mid → EndsSo ids t id) → (d : Deed) → Leads d s → ReachesBy d s t id next → EndsSo ids t id
+  deed-ends s next g go (Goes (Ok went)) leads r = go went.1 (led-goes ids s went.1 (leads went.0 went.1 refl) g) r
+  deed-ends s next g go (Goes (Err why)) leads r = absurd r
+  deed-ends s next g go (Sets path index bytes) leads r = go r.0 (led-goes ids s r.0 (sets s r.0 (chunk-set s r.0 path index bytes r.1)) g) r.2
+  deed-ends s next g go (Reads path index show) leads r = go s g r.2
+  deed-ends s next g go (Commits message) leads r = record { goes = subst (GoesOn ids) (sym r.0) g; drawn = subst (λ (x : SessionState). MayDrawObject x.ids id) (sym r.0) r.1 }
 
   lines-end : (lines : List Line) (s : SessionState) → All IsWellLine lines → GoesOn ids s → Reaches lines s t id → EndsSo ids t id
   unfolding Reaches
   lines-end [] s well g r = absurd r
-  lines-end (l ∷ ls) s well g r = deed-ends l.number l.call s (λ mid. Reaches ls mid t id) (All-head IsWellLine l ls well).call g (λ mid k n. lines-end ls mid (All-tail IsWellLine l ls well) k n) r
+  lines-end (l ∷ ls) s well g r =
+      deed-ends s (λ mid. Reaches ls mid t id) g (λ mid k n. lines-end ls mid (All-tail IsWellLine l ls well) k n) (deed l.number l.call s) (call-leads l.number l.call s (All-head IsWellLine l ls well).call) r
+
+-- the session behind lines that were played
+pub record WentOn (ids : AnyIds) (s t : SessionState) : Type 0 where
+  pub goes : GoesOn ids t
+  pub base : t.rows ≡ s.rows
+
+module _ (ids : AnyIds) (client : ℕ) (start journal : List Event) where
+  deed-went : (s t : SessionState) (shown : List Shown) (d : Deed) → Leads d s → DidPlay client d s start shown t journal → (t ≡ s) ⊎ Edits s t
+  deed-went s t shown (Goes r) leads p = leads shown t p
+  deed-went s t shown (Sets path index bytes) leads p = sets s t (set-told s t path index bytes client start journal p.1)
+  deed-went s t shown (Reads path index show) leads p = inl p.0
+  deed-went s t shown (Commits message) leads p = absurd p
+
+  pub lines-went : (lines : List Line) (s t : SessionState) (shown : List Shown) → All IsWellLine lines → GoesOn ids s → PlaysAll client lines s start shown t journal → WentOn ids s t
+  unfolding PlaysAll
+  lines-went [] s t shown well g p = record { goes = subst (GoesOn ids) (sym p.1) g; base = ap (λ (x : SessionState). x.rows) p.1 }
+  lines-went (l ∷ ls) s t shown well g p =
+      let mid : SessionState = p.2 in
+      let led = deed-went s mid p.0 (deed l.number l.call s) (call-leads l.number l.call s (All-head IsWellLine l ls well).call) p.4 in
+      let rest = lines-went ls mid t p.1 (All-tail IsWellLine l ls well) (led-goes ids s mid led g) p.5 in
+      record { goes = rest.goes; base = rest.base ∙ led-base s mid led }
 
 -- ---- a task
 -- a session as it began
-begun-goes : (ids : AnyIds) (s : SessionState) → s.ids ≡ ids → s.held ≡ nothing → GoesOn ids s
+pub begun-goes : (ids : AnyIds) (s : SessionState) → s.ids ≡ ids → s.held ≡ nothing → GoesOn ids s
 begun-goes ids s same none = record {
   later = subst (IsLater ids) (sym same) (later-same ids);
   kept = λ own. record {
     added = λ p n f. let no : None ≡ Some n = sym (get-empty path_cmp p) ∙ (ap (λ (h : Held Place). get h.added p) (sym none) ∙ f) in absurd cc;
     dropped = λ id l. let no : false ≡ true = ap (λ (h : Held Place). lists h.dropped id) (sym none) ∙ l in absurd cc;
-    normal = λ puts well. subst (λ (h : Held Place). IsNormal (changes_of (bytes_at puts) h) (base_tree puts s)) (sym none) ((none-law (base_tree puts s) well).1);
+    normal = λ puts well. subst (λ (h : Held Place). IsNormal (changes_of sized h) (base_tree puts s)) (sym none) ((none-law (base_tree puts s) well).1);
   };
 }
 
@@ -285,21 +208,18 @@ task-ends ids task t id well o =
 
 -- the id of the commit is one that the task's source may draw
 pub task-object : (ids : AnyIds) (task : Task) (t : SessionState) (id : Id12) → IsWellTask task → IsOfTask ids task t id → MayDrawObject ids id
-task-object ids task t id well o = let e = task-ends ids task t id well o in object-later ids e.session.ids id e.goes.later (object-now e.session.ids id e.drawn)
+task-object ids task t id well o = let e = task-ends ids task t id well o in object-later ids t.ids id e.goes.later e.drawn
 
 -- so it was drawn by the task's client
 pub task-draws : (client : ℕ) (ids : AnyIds) (task : Task) (t : SessionState) (id : Id12) → AreOf client ids → IsWellTask task → IsOfTask ids task t id → IsDrawnBy client id
-task-draws client ids task t id known well o =
-    let m = task-object ids task t id well o in
-    record { ids = m.later; known = object-known ids id (known-small ids known.0) m; client_is = m.is_later.client ∙ known.1; is = m.drawn }
+task-draws client ids task t id known well o = object-draws client ids id known (task-object ids task t id well o)
 
--- its added ids are ones that the source may draw, and its changes are normal for its base, whatever was put
+-- its added ids are ones that the source may draw, and its changes are normal for its base, where the chunks that were set are there
 pub record IsNormalSession (ids : AnyIds) (s : SessionState) : Type 0 where
   pub added : (p : List ℕ) (n : Node) → get s.held.added p ≡ Some n → MayDrawNode ids n.id
-  pub normal : (puts : Puts) → IsWellFormed (base_tree puts s) → IsNormal (changes_in puts s) (base_tree puts s)
+  pub normal : (puts : Puts) → HasChunks puts s.held.chunks → IsWellFormed (base_tree puts s) → IsNormal (changes_in puts s) (base_tree puts s)
 
 pub task-kept : (ids : AnyIds) (task : Task) (t : SessionState) (id : Id12) → IsWellTask task → IsOfTask ids task t id → OwnAreNew ids t → IsNormalSession ids t
 task-kept ids task t id well o own =
-    let e = task-ends ids task t id well o in
-    let k = e.goes.kept (subst (OwnAreNew ids) e.is own) in
-    subst (IsNormalSession ids) (sym e.is) (record { added = λ p n f. (k.added p n f).before; normal = k.normal })
+    let k = (task-ends ids task t id well o).goes.kept own in
+    record { added = λ p n f. (k.added p n f).before; normal = λ puts has base. normal-in puts t has (k.normal puts base) }

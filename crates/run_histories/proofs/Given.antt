@@ -7,21 +7,22 @@ use Rattle.ice_ids.specs.declared.drawing.Draw.{Draw}
 use Rattle.zarr_tree.specs.Trees.{Tree}
 use Rattle.zarr_tree.specs.Changes.{Changes, apply, IsNormal}
 use Rattle.snapshot_file.specs.declared.snapshot.SnapshotFile.{SnapshotFile as Snap}
-use Rattle.changed_snapshot.specs.Laws.{KeepsFrozen}
-use Rattle.changed_snapshot.proofs.Keeping.{frozen-law}
+use Rattle.repo_objects.specs.Trees.{Extends}
 use Rattle.store_api.specs.declared.keys.Key.TheVariants.{Snapshot}
 use Rattle.store_api.specs.declared.events.Event.{Event}
 use Rattle.store_api.specs.Journal.{Each, IsGood, IsGoodJournal, IsOnce, IsFirst, WasPut, puts_of, tree_of, snap_made}
 use Rattle.store_api.proofs.Journals.{Each-back, Each-both}
 use Rattle.store_api.proofs.Slots.{WasPut-append}
-use Rattle.store_api.proofs.Standing.{standing, rows-stay, snap_made-put}
+use Rattle.store_api.proofs.Standing.{standing, rows-stay, snap_made-put, puts-stay}
 use Rattle.histories.specs.Calls.{LeadsFromParent, IsGiven, CommitsApply}
 use Rattle.histories.proofs.Choosing.{Knows, chosen, choice}
 use Rattle.session.specs.Sessions.{SessionState, base_tree, changes_in, overlay}
 use Rattle.commit_path.specs.Owed.{IsMade}
-use Rattle.commit_path.proofs.Owing.{once-front, once-back, tree-by_rows}
+use Rattle.commit_path.proofs.Knowing.{once-front, once-back, tree-by_rows}
+use Rattle.commit_path.proofs.Putting.{extends-same}
 use Rattle.play_script.specs.declared.scripts.Task.{Task}
 use Rattle.run_histories.specs.Told.{IsOfSession, IsSolved, CommitsEnter}
+use Rattle.run_histories.proofs.Sized.{changes-stay}
 use Rattle.run_histories.proofs.Putting.{parent-put}
 
 -- what holds of each event, where the whole journal is known
@@ -76,28 +77,44 @@ module _ (journal rest : List Event) (f : Follows journal rest) (session : Sessi
       base_same : Some session.base ≡ Some base → session.base ≡ base
       base_same e = cc
 
-  -- by what was put until then, where nodes keep the parts of their metadata that stay
-  made-stands : KeepsFrozen session.held session.rows → tree_of (journal ++ rest) id ≡ Some (overlay (puts_of journal) session)
-  made-stands keeps =
-      standing id journal rest f.once (snap_made-put journal id m.snap m.made) f.good f.first
-      ∙ tree-by_rows journal id m.snap.nodes m.rows
-      ∙ ap (λ (t : Tree). Some t) (m.tree (puts_of journal) keeps)
-
   base-stands : tree_of (journal ++ rest) session.base ≡ Some (base_tree (puts_of journal) session)
   base-stands = standing session.base journal rest f.once m.base_put f.good f.first ∙ tree-by_rows journal session.base session.rows m.base_rows
-
-  -- by what was put at last
-  made-tree : KeepsFrozen session.held session.rows → tree_of (journal ++ rest) id ≡ Some (overlay (puts_of (journal ++ rest)) session)
-  made-tree keeps =
-      tree-by_rows (journal ++ rest) id m.snap.nodes (rows-stay id journal rest f.once (snap_made-put journal id m.snap m.made) f.good f.first ∙ m.rows)
-      ∙ ap (λ (t : Tree). Some t) (m.tree (puts_of (journal ++ rest)) keeps)
 
   base-tree : tree_of (journal ++ rest) session.base ≡ Some (base_tree (puts_of (journal ++ rest)) session)
   base-tree = tree-by_rows (journal ++ rest) session.base session.rows (rows-stay session.base journal rest f.once m.base_put f.good f.first ∙ m.base_rows)
 
-  made-leads : KeepsFrozen session.held session.rows → (c : Changes) → c ≡ changes_in (puts_of journal) session → LeadsFromParent (tree_of (journal ++ rest)) c journal id
-  made-leads keeps c changes base snap made parent =
-      made-stands keeps
+  -- what was put until then stays put and readable, so the changes are those by what was put at last
+  grown : Extends (puts_of journal) (puts_of (journal ++ rest))
+  grown = puts-stay journal rest f.once f.good f.first
+
+  abbrev NormalAtLast : Type 0
+  NormalAtLast = IsNormal (changes_in (puts_of (journal ++ rest)) session) (base_tree (puts_of (journal ++ rest)) session)
+
+  normal-then : NormalAtLast → IsNormal (changes_in (puts_of journal) session) (base_tree (puts_of journal) session)
+  normal-then normal =
+      let same : base_tree (puts_of (journal ++ rest)) session ≡ base_tree (puts_of journal) session = tree_same (sym base-tree ∙ base-stands) in
+      subst (λ (c : Changes). IsNormal c (base_tree (puts_of journal) session)) (changes-stay (puts_of journal) (puts_of (journal ++ rest)) session grown m.chunks)
+      (subst (λ (t : Tree). IsNormal (changes_in (puts_of (journal ++ rest)) session) t) same normal)
+    where
+      tree_same : Some (base_tree (puts_of (journal ++ rest)) session) ≡ Some (base_tree (puts_of journal) session) → base_tree (puts_of (journal ++ rest)) session ≡ base_tree (puts_of journal) session
+      tree_same e = cc
+
+  -- the commit's own, by what was put until then
+  made-stands : NormalAtLast → tree_of (journal ++ rest) id ≡ Some (overlay (puts_of journal) session)
+  made-stands normal =
+      standing id journal rest f.once (snap_made-put journal id m.snap m.made) f.good f.first
+      ∙ tree-by_rows journal id m.snap.nodes m.rows
+      ∙ ap (λ (t : Tree). Some t) (m.tree (puts_of journal) (extends-same (puts_of journal)) (normal-then normal))
+
+  -- by what was put at last
+  made-tree : NormalAtLast → tree_of (journal ++ rest) id ≡ Some (overlay (puts_of (journal ++ rest)) session)
+  made-tree normal =
+      tree-by_rows (journal ++ rest) id m.snap.nodes (rows-stay id journal rest f.once (snap_made-put journal id m.snap m.made) f.good f.first ∙ m.rows)
+      ∙ ap (λ (t : Tree). Some t) (m.tree (puts_of (journal ++ rest)) grown normal)
+
+  made-leads : NormalAtLast → (c : Changes) → c ≡ changes_in (puts_of journal) session → LeadsFromParent (tree_of (journal ++ rest)) c journal id
+  made-leads normal c changes base snap made parent =
+      made-stands normal
       ∙ ap (λ (x : Changes). Some (apply x (base_tree (puts_of journal) session))) (sym changes)
       ∙ ap (option_map (apply c)) (sym base-stands)
       ∙ ap (λ (i : Id12). option_map (apply c) (tree_of (journal ++ rest) i)) (made-base base snap made parent)
@@ -117,18 +134,18 @@ module _ (draw : Draw) (tasks : List Task) (changes : ℕ → Changes) (whole : 
   base-has : (journal rest : List Event) (w : whole ≡ journal ++ rest) (session : SessionState) (id : Id12) → IsMade session id journal → tree_of whole session.base ≡ Some (base_tree (puts_of whole) session)
   base-has journal rest w session id made = subst (λ (h : List Event). tree_of h session.base ≡ Some (base_tree (puts_of h) session)) (sym w) (base-tree journal rest (follows journal rest w) session id made)
 
-  -- so nodes keep the parts of their metadata that stay
-  session-keeps : AllNormal → (journal rest : List Event) → whole ≡ journal ++ rest → (c : Changes) (client : ℕ) (branch : List ℕ) (version : ℕ) (id : Id12) (s : IsOfSession draw tasks c journal client branch version id) → KeepsFrozen s.session.held s.session.rows
-  session-keeps normal journal rest w c client branch version id s =
-      frozen-law.normal (puts_of whole) s.session.held s.session.rows (normal journal rest w c client branch version id s (base-has journal rest w s.session id s.made))
+  session-normal : AllNormal → (journal rest : List Event) → whole ≡ journal ++ rest → (c : Changes) (client : ℕ) (branch : List ℕ) (version : ℕ) (id : Id12) (s : IsOfSession draw tasks c journal client branch version id)
+      → IsNormal (changes_in (puts_of (journal ++ rest)) s.session) (base_tree (puts_of (journal ++ rest)) s.session)
+  session-normal normal journal rest w c client branch version id s =
+      subst (λ (h : List Event). IsNormal (changes_in (puts_of h) s.session) (base_tree (puts_of h) s.session)) w (normal journal rest w c client branch version id s (base-has journal rest w s.session id s.made))
 
   solved-one : AllNormal → (journal : List Event) (event : Event) (rest : List Event) → whole ≡ journal ++ event ∷ rest → IsSolved draw tasks changes journal event → IsGiven (tree_of whole) changes journal event
   solved-one normal journal event rest w solved branch bytes old id op_is names =
       let s = solved branch bytes old id op_is names in
       let f = follows journal (event ∷ rest) w in
-      let keeps = session-keeps normal journal (event ∷ rest) w (changes (length journal)) event.client branch old.0 id s in
+      let at_last = session-normal normal journal (event ∷ rest) w (changes (length journal)) event.client branch old.0 id s in
       subst (λ (h : List Event). LeadsFromParent (tree_of h) (changes (length journal)) journal id) (sym w)
-      (made-leads journal (event ∷ rest) f s.session id s.made keeps (changes (length journal)) s.changes_are)
+      (made-leads journal (event ∷ rest) f s.session id s.made at_last (changes (length journal)) s.changes_are)
 
   pub solved-given : AllNormal → (old more : List Event) → whole ≡ old ++ more → Each (IsSolved draw tasks changes) old more → Each (IsGiven (tree_of whole) changes) old more
   solved-given normal old more w a = along-whole (IsSolved draw tasks changes) (IsGiven (tree_of whole) changes) whole old more w (solved-one normal) a
@@ -144,7 +161,7 @@ module _ (draw : Draw) (tasks : List Task) (changes : ℕ → Changes) (whole : 
       let f = follows journal (event ∷ rest) w in
       let base : s.session.base ≡ c.before.id = made-base journal (event ∷ rest) f s.session id s.made c.before.id c.child.snap c.child.made c.child.parent_is in
       let base_has : tree_of whole s.session.base ≡ Some (base_tree (puts_of whole) s.session) = base-has journal (event ∷ rest) w s.session id s.made in
-      let keeps = session-keeps normal journal (event ∷ rest) w (changes (length journal)) event.client branch old.0 id s in
+      let at_last = session-normal normal journal (event ∷ rest) w (changes (length journal)) event.client branch old.0 id s in
       record {
         of_session = s;
         before = c.before;
@@ -152,7 +169,7 @@ module _ (draw : Draw) (tasks : List Task) (changes : ℕ → Changes) (whole : 
         version = c.version;
         base = sym base;
         base_is = subst (λ (i : Id12). tree_of whole i ≡ Some (base_tree (puts_of whole) s.session)) base base_has;
-        tree = subst (λ (h : List Event). tree_of h id ≡ Some (overlay (puts_of h) s.session)) (sym w) (made-tree journal (event ∷ rest) f s.session id s.made keeps);
+        tree = subst (λ (h : List Event). tree_of h id ≡ Some (overlay (puts_of h) s.session)) (sym w) (made-tree journal (event ∷ rest) f s.session id s.made at_last);
         normal = normal journal (event ∷ rest) w (changes (length journal)) event.client branch old.0 id s base_has;
       }
 

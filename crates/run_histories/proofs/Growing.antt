@@ -1,8 +1,7 @@
 -- In a run each snapshot has a well-formed tree, and what another source may draw stays new.
-use Rattle.std.proofs.Common.{◌≡◌, ◌≢◌, inl, inr, ℕ, ◌+◌, ◌-◌, ◌^◌, ◌<◌, List, [], ◌∷◌, ◌++◌, length, sym, ◌∙◌, ap, subst, arith, append_assoc, append-nil}
+use Rattle.std.proofs.Common.{◌≡◌, ◌≢◌, inl, inr, ℕ, ◌+◌, ◌-◌, ◌^◌, ◌<◌, List, [], ◌∷◌, ◌++◌, length, sym, ◌∙◌, ap, subst, arith}
 use Rattle.std.specs.Prelude.{Option, Some, None, option_map, All}
 use Rattle.std.proofs.lemmas.Option.{slice_get_within}
-use Rattle.std.proofs.lemmas.List.{append_cancel_left}
 use Rattle.ice_ids.specs.declared.Id8.{Id8}
 use Rattle.ice_ids.specs.declared.Id12.{Id12}
 use Rattle.ice_ids.specs.declared.drawing.AnyIds.{AnyIds}
@@ -15,36 +14,40 @@ use Rattle.zarr_tree.specs.Changes.{Changes, IsNormal}
 use Rattle.zarr_tree.proofs.Maps.{get-made}
 use Rattle.zarr_tree.proofs.Apply.{node_cases}
 use Rattle.zarr_tree.proofs.Extend.{own-id}
+use Rattle.snapshot_file.specs.declared.nodes.NodeRow.{NodeRow}
 use Rattle.snapshot_file.specs.Initial.{initial_snapshot}
 use Rattle.snapshot_file.specs.declared.snapshot.SnapshotFile.{SnapshotFile}
 use Rattle.repo_objects.specs.Readings.{snapshot_by}
-use Rattle.repo_objects.specs.Trees.{Puts, tree_under}
+use Rattle.repo_objects.specs.Trees.{Puts, Extends, IsReadable, tree_under}
 use Rattle.repo_objects.specs.Laws.{initial_bytes, InitialLaw}
-use Rattle.changed_snapshot.proofs.Keeping.{frozen-law}
 use Rattle.store_api.specs.declared.keys.Key.TheVariants.{Snapshot}
 use Rattle.store_api.specs.declared.keys.Why.{Why}
 use Rattle.store_api.specs.declared.events.Op.{Op}
 use Rattle.store_api.specs.declared.events.Op.TheVariants.{PutNew}
 use Rattle.store_api.specs.declared.events.Event.{Event}
-use Rattle.store_api.specs.Journal.{Each, IsGood, IsGoodJournal, IsFirst, IsOnce, WasPut, puts_of, tree_of, snap_in, snap_made}
-use Rattle.store_api.proofs.Journals.{Each-append, Each-back, Each-one, Each-two}
+use Rattle.store_api.specs.Journal.{IsGood, IsGoodJournal, IsFirst, IsOnce, WasPut, puts_of, tree_of, snap_in, snap_made}
+use Rattle.store_api.proofs.Journals.{Each-append, Each-back, Each-one}
 use Rattle.store_api.proofs.Slots.{WasPut-append}
 use Rattle.store_api.proofs.Standing.{snap_made-append}
 use Rattle.session.specs.Sessions.{SessionState, base_tree, changes_in, overlay}
-use Rattle.commit_path.specs.Owed.{OwesSnap, Owes}
-use Rattle.commit_path.specs.Single.{PutsSnapshot, PutsNone, HasPutNone}
-use Rattle.commit_path.proofs.Owing.{tree-by_rows}
+use Rattle.session.specs.Sources.{MayDrawObject, MayDrawNode}
+use Rattle.commit_path.specs.Owed.{HasChunks, OwesSnap, Owes}
+use Rattle.commit_path.specs.Single.{PutsSnapshot}
+use Rattle.commit_path.proofs.Knowing.{tree-by_rows}
+use Rattle.commit_path.proofs.Readable.{readable-extend, nothing-readable}
+use Rattle.commit_path.proofs.Putting.{puts-kept, chunks-extend}
 use Rattle.play_script.specs.declared.scripts.Task.{Task}
 use Rattle.play_script.specs.Well.{IsWellTask}
 use Rattle.play_tasks.specs.Solving.{IsOfTask}
 use Rattle.play_tasks.specs.Tasks.{ids_at, IsOfClient}
-use Rattle.run_histories.specs.Sources.{MayDrawObject, MayDrawNode, NodesAreNew, IsNewSource, IsOfAnother}
+use Rattle.run_histories.specs.Sources.{NodesAreNew, IsNewSource, IsOfAnother}
 use Rattle.run_histories.specs.Runs.{HasWellFormedTree, AllTrees}
 use Rattle.run_histories.specs.Told.{IsOfSession}
 use Rattle.run_histories.proofs.Programs.{IsPlain}
 use Rattle.run_histories.proofs.Sources.{known-small, object-apart, node-apart}
-use Rattle.run_histories.proofs.Editing.{OwnAreNew, IsNormalSession, task-object, task-kept}
-use Rattle.run_histories.proofs.Putting.{PutsFresh, ParentsAreNew, tree-stays, rows-kept, trees-one, nodes-one, parents-one}
+use Rattle.run_histories.proofs.Edits.{OwnAreNew}
+use Rattle.run_histories.proofs.Editing.{IsNormalSession, task-object, task-kept}
+use Rattle.run_histories.proofs.Putting.{PutsFresh, ParentsAreNew, grown as puts-grow, tree-stays, rows-kept, trees-one, nodes-one, parents-one}
 use Rattle.run_histories.proofs.Along.{AllObjectsAreNew, objects-one, Fits, plain-fits, client-fits, well-at, source-at, small-at}
 
 some-same : {A : Type 0} (a b : A) → Some a ≡ Some b → a ≡ b
@@ -80,6 +83,13 @@ module _ (initial : InitialLaw) (journal : List Event) (event : Event) (plain : 
   initial-tree : tree_of (journal ++ event ∷ []) id ≡ Some (tree_under (puts_of (journal ++ event ∷ [])) [])
   initial-tree = ap (tree-of_bytes (journal ++ event ∷ []) id) n.last ∙ ap (option_map (λ (s : SnapshotFile). tree_under (puts_of (journal ++ event ∷ [])) s.nodes)) initial-read
 
+  initial-has : HasWellFormedTree (journal ++ event ∷ []) id
+  initial-has = record {
+    rows = [];
+    is = ap (λ (o : Option (List ℕ)). option_map (λ (s : SnapshotFile). s.nodes) (snap_in id o)) n.last ∙ ap (option_map (λ (s : SnapshotFile). s.nodes)) initial-read;
+    has = record { readable = nothing-readable (puts_of (journal ++ event ∷ [])); well_formed = nothing-well (puts_of (journal ++ event ∷ [])) };
+  }
+
   initial-nodes : (ids : AnyIds) (t : Tree) (p : List ℕ) (m : Node) → tree_of (journal ++ event ∷ []) id ≡ Some t → node_at t p ≡ Some m → ¬ MayDrawNode ids m.id
   initial-nodes ids t p m tree node may =
       let same = some-same t (tree_under (puts_of (journal ++ event ∷ [])) []) (sym tree ∙ initial-tree) in
@@ -103,7 +113,7 @@ module _ (draw : Draw) (tasks : List Task) (few : length tasks < 2 ^ 32 - 1) (we
     pub parents : (place : ℕ) → place < length tasks → ParentsAreNew (ids_at draw place) journal
     pub others : (ids : AnyIds) → IsOfAnother tasks ids → IsNewSource ids old → IsNewSource ids journal
 
-  abbrev AllNodesAreNew : List Event → Type 0
+  abbrev pub AllNodesAreNew : List Event → Type 0
   AllNodesAreNew journal = (place : ℕ) → place < length tasks → NodesAreNew (ids_at draw place) journal
 
   -- ---- one more event
@@ -132,16 +142,16 @@ module _ (draw : Draw) (tasks : List Task) (few : length tasks < 2 ^ 32 - 1) (we
 
   -- ---- of the opening or the closing reading
   module _ (journal : List Event) (event : Event) (good : IsGood journal event) (plain : IsPlain event.op) (h : Holds journal) where
-    plain-holds : Holds (journal ++ event ∷ [])
+    pub plain-holds : Holds (journal ++ event ∷ [])
     plain-holds = still journal event (plain-fits draw tasks journal event good plain) h
-        (λ id n. record { tree = tree_under (puts_of (journal ++ event ∷ [])) []; is = initial-tree initial journal event plain id n; well_formed = nothing-well (puts_of (journal ++ event ∷ [])) })
+        (λ id n. initial-has initial journal event plain id n)
         (λ place within id base snap t p m n may made parent tree node. absurd (initial-made initial journal event plain id n snap base made parent))
         (λ ids another before id t p m n tree node. initial-nodes initial journal event plain id n ids t p m tree node)
 
-    plain-nodes : AllNodesAreNew journal → AllNodesAreNew (journal ++ event ∷ [])
-    plain-nodes new place within =
+    pub plain-nodes : (place : ℕ) → NodesAreNew (ids_at draw place) journal → NodesAreNew (ids_at draw place) (journal ++ event ∷ [])
+    plain-nodes place new =
         nodes-one journal event h.once good ((plain-fits draw tasks journal event good plain).first h.objects h.once) (ids_at draw place)
-        (λ id t p m n tree node. initial-nodes initial journal event plain id n (ids_at draw place) t p m tree node) (new place within)
+        (λ id t p m n tree node. initial-nodes initial journal event plain id n (ids_at draw place) t p m tree node) new
 
   -- ---- of a task
   module _ (start journal : List Event) (event : Event) (c : IsOfClient draw tasks start journal event) (h : Holds journal) where
@@ -160,7 +170,7 @@ module _ (draw : Draw) (tasks : List Task) (few : length tasks < 2 ^ 32 - 1) (we
     -- a snapshot that it puts
     module _ (id : Id12) (n : PutsFresh journal event (Snapshot id)) (new : NodesAreNew ids journal) where
       abbrev owes : OwesSnap (IsOfTask ids c.task) journal id n.bytes
-      owes = subst (Owes (IsOfTask (ids_at draw c.place) c.task) journal) n.op_is c.careful.owes
+      owes = subst (Owes (ids_at draw c.place) (IsOfTask (ids_at draw c.place) c.task) journal) n.op_is c.careful.owes
 
       abbrev session : SessionState
       session = owes.session
@@ -171,10 +181,21 @@ module _ (draw : Draw) (tasks : List Task) (few : length tasks < 2 ^ 32 - 1) (we
       base-tree : tree_of after session.base ≡ Some (base_tree (puts_of after) session)
       base-tree = tree-by_rows after owes.session.base owes.session.rows (rows-kept journal event h.once fits.good (fits.first h.objects h.once) owes.session.base owes.base_put ∙ owes.base_rows h.once)
 
+      -- what was put stays put and readable
+      grown : Extends (puts_of journal) (puts_of after)
+      grown = puts-grow journal event h.once fits.good (fits.first h.objects h.once)
+
       base-well : IsWellFormed (base_tree (puts_of after) session)
       base-well =
           let t = h.trees owes.session.base owes.base_put in
-          subst IsWellFormed (some-same t.tree (base_tree (puts_of after) session) (sym t.is ∙ (sym stays ∙ base-tree))) t.well_formed
+          subst IsWellFormed (some-same (tree_under (puts_of journal) t.rows) (base_tree (puts_of after) session) (sym (tree-by_rows journal owes.session.base t.rows t.is) ∙ (sym stays ∙ base-tree))) t.has.well_formed
+
+      -- all that the base names is readable
+      base-readable : IsReadable (puts_of after) owes.session.rows
+      base-readable =
+          let t = h.trees owes.session.base owes.base_put in
+          let rows : t.rows ≡ owes.session.rows = some-same t.rows owes.session.rows (sym t.is ∙ owes.base_rows h.once) in
+          subst (λ (r : List NodeRow). IsReadable (puts_of after) r) rows (readable-extend (puts_of journal) (puts_of after) grown t.rows t.has.readable)
 
       own : OwnAreNew ids session
       own p m f = new session.base (base_tree (puts_of after) session) p m (sym stays ∙ base-tree) f
@@ -182,15 +203,22 @@ module _ (draw : Draw) (tasks : List Task) (few : length tasks < 2 ^ 32 - 1) (we
       kept : IsNormalSession ids session
       kept = task-kept ids c.task owes.session id (well-at draw tasks wells c.place c.task c.at) owes.is_mine own
 
+      has_chunks : HasChunks (puts_of after) owes.session.held.chunks
+      has_chunks = chunks-extend (puts_of journal) (puts_of after) grown owes.session.held.chunks (owes.chunks h.once)
+
       normal : IsNormal (changes_in (puts_of after) session) (base_tree (puts_of after) session)
-      normal = kept.normal (puts_of after) base-well
+      normal = kept.normal (puts_of after) has_chunks base-well
 
       tree-is : tree_of after id ≡ Some (overlay (puts_of after) session)
       tree-is =
-          ap (tree-of_bytes after id) n.last ∙ ap (option_map (λ (s : SnapshotFile). tree_under (puts_of after) s.nodes)) owes.read ∙ ap (λ (t : Tree). Some t) (owes.tree (puts_of after) (frozen-law.normal (puts_of after) session.held session.rows normal))
+          ap (tree-of_bytes after id) n.last ∙ ap (option_map (λ (s : SnapshotFile). tree_under (puts_of after) s.nodes)) owes.read ∙ ap (λ (t : Tree). Some t) (owes.tree h.once (puts_of after) grown normal)
 
       session-tree : HasWellFormedTree after id
-      session-tree = record { tree = overlay (puts_of after) session; is = tree-is; well_formed = normal.well_formed }
+      session-tree = record {
+        rows = owes.snap.nodes;
+        is = ap (λ (o : Option (List ℕ)). option_map (λ (s : SnapshotFile). s.nodes) (snap_in id o)) n.last ∙ ap (option_map (λ (s : SnapshotFile). s.nodes)) owes.read;
+        has = record { readable = owes.readable h.once (puts_of after) grown normal base-readable; well_formed = subst IsWellFormed (sym (owes.tree h.once (puts_of after) grown normal)) normal.well_formed };
+      }
 
       -- a node of it is one that the session added, or has the id of one of the base's
       session-nodes : (other : AnyIds) → client_of other < 2 ^ 32 → client_of other ≢ client_of ids → NodesAreNew other journal → (t : Tree) (p : List ℕ) (m : Node) → tree_of after id ≡ Some t → node_at t p ≡ Some m → ¬ MayDrawNode other m.id
@@ -213,7 +241,7 @@ module _ (draw : Draw) (tasks : List Task) (few : length tasks < 2 ^ 32 - 1) (we
       fresh : (id : Id12) (n : PutsFresh journal event (Snapshot id)) → NodesAreNew ids journal
       fresh id n = new (subst PutsSnapshot (sym n.op_is) tt)
 
-      client-holds : Holds after
+      pub client-holds : Holds after
       client-holds = still journal event fits h
           (λ id n. session-tree id n (fresh id n))
           (λ place within id base snap t p m n may made parent tree node.
@@ -230,7 +258,7 @@ module _ (draw : Draw) (tasks : List Task) (few : length tasks < 2 ^ 32 - 1) (we
               omega (arith, a, b, e)
 
       -- another place's nodes stay new
-      client-nodes : (place : ℕ) → place < length tasks → (event.client ≡ place + 1 → ¬ PutsSnapshot event.op) → NodesAreNew (ids_at draw place) journal → NodesAreNew (ids_at draw place) after
+      pub client-nodes : (place : ℕ) → place < length tasks → (event.client ≡ place + 1 → ¬ PutsSnapshot event.op) → NodesAreNew (ids_at draw place) journal → NodesAreNew (ids_at draw place) after
       client-nodes place within none before =
           nodes-one journal event h.once fits.good (fits.first h.objects h.once) (ids_at draw place)
           (λ id t p m n tree node. session-nodes id n (fresh id n) (ids_at draw place) (small-at draw tasks few place within)
@@ -244,54 +272,6 @@ module _ (draw : Draw) (tasks : List Task) (few : length tasks < 2 ^ 32 - 1) (we
               let d = c.client in
               omega (arith, a, b, e, d)
 
-  -- ---- events one after another
-  pub plain-along : (journal events : List Event) → Each IsGood journal events → Each (λ j e. IsPlain e.op) journal events → Holds journal → Holds (journal ++ events)
-  unfolding Each
-  plain-along journal [] good plain h = subst (λ (j : List Event). Holds j) (sym (append-nil journal)) h
-  plain-along journal (x ∷ xs) good plain h =
-      subst (λ (j : List Event). Holds j) (append_assoc journal (x ∷ []) xs) (plain-along (journal ++ x ∷ []) xs good.1 plain.1 (plain-holds journal x good.0 plain.0 h))
-
-  pub plain-nodes-along : (journal events : List Event) → Each IsGood journal events → Each (λ j e. IsPlain e.op) journal events → Holds journal → AllNodesAreNew journal → AllNodesAreNew (journal ++ events)
-  unfolding Each
-  plain-nodes-along journal [] good plain h new = subst (λ (j : List Event). AllNodesAreNew j) (sym (append-nil journal)) new
-  plain-nodes-along journal (x ∷ xs) good plain h new =
-      subst (λ (j : List Event). AllNodesAreNew j) (append_assoc journal (x ∷ []) xs) (plain-nodes-along (journal ++ x ∷ []) xs good.1 plain.1 (plain-holds journal x good.0 plain.0 h) (plain-nodes journal x good.0 plain.0 h new))
-
-  -- the nodes of the trees are new to the source of each client that has put no snapshot since the start
-  abbrev NodesAreNewYet : (start since : List Event) → Type 0
-  NodesAreNewYet start since = (place : ℕ) → place < length tasks → Each (PutsNone (place + 1)) start since → NodesAreNew (ids_at draw place) (start ++ since)
-
-  module _ (start : List Event) where
-    none-since : (client : ℕ) (since : List Event) → HasPutNone client start (start ++ since) → Each (PutsNone client) start since
-    none-since client since p = subst (Each (PutsNone client) start) (append_cancel_left start p.more since (sym p.is)) p.each
-
-    client-one : (since : List Event) (event : Event) → IsOfClient draw tasks start (start ++ since) event → Holds (start ++ since) → NodesAreNewYet start since → Holds ((start ++ since) ++ event ∷ []) × NodesAreNewYet start (since ++ event ∷ [])
-    client-one since event c h yet =
-        let new : PutsSnapshot event.op → NodesAreNew (ids_at draw c.place) (start ++ since) =
-        λ puts. yet c.place (slice_get_within tasks c.place c.task c.at) (none-since (c.place + 1) since (subst (λ (k : ℕ). HasPutNone k start (start ++ since)) c.client (c.single puts))) in (
-          client-holds start (start ++ since) event c h new,
-          λ place within each.
-              let parts = Each-back (PutsNone (place + 1)) start since (event ∷ []) each in
-              let last = (Each-two (PutsNone (place + 1)) (start ++ since) event [] parts.1).0 in
-              subst (NodesAreNew (ids_at draw place)) (append_assoc start since (event ∷ [])) (client-nodes start (start ++ since) event c h new place within last (yet place within parts.0)),
-        )
-
-    client-along : (since events : List Event) → Each (IsOfClient draw tasks start) (start ++ since) events → Holds (start ++ since) → NodesAreNewYet start since → Holds ((start ++ since) ++ events)
-    unfolding Each
-    client-along since [] each h yet = subst (λ (j : List Event). Holds j) (sym (append-nil (start ++ since))) h
-    client-along since (x ∷ xs) each h yet =
-        let next = client-one since x each.0 h yet in
-        let join : (start ++ since) ++ x ∷ [] ≡ start ++ (since ++ x ∷ []) = append_assoc start since (x ∷ []) in
-        let rest = client-along (since ++ x ∷ []) xs (subst (λ (j : List Event). Each (IsOfClient draw tasks start) j xs) join each.1) (subst (λ (j : List Event). Holds j) join next.0) next.1 in
-        subst (λ (j : List Event). Holds j) (ap (λ (j : List Event). j ++ xs) (sym join) ∙ append_assoc (start ++ since) (x ∷ []) xs) rest
-
-    pub clients-hold : (events : List Event) → Each (IsOfClient draw tasks start) start events → Holds start → AllNodesAreNew start → Holds (start ++ events)
-    clients-hold events each h new =
-        let nil : start ≡ start ++ [] = sym (append-nil start) in
-        let yet : NodesAreNewYet start [] = λ place within none. subst (NodesAreNew (ids_at draw place)) nil (new place within) in
-        subst (λ (j : List Event). Holds (j ++ events)) (append-nil start)
-        (client-along [] events (subst (λ (j : List Event). Each (IsOfClient draw tasks start) j events) nil each) (subst (λ (j : List Event). Holds j) nil h) yet)
-
   -- ---- a commit's session
   -- its changes are normal for its base
   pub session-normal : (whole : List Event) → Holds whole → (journal rest : List Event) → whole ≡ journal ++ rest → (c : Changes) (client : ℕ) (branch : List ℕ) (version : ℕ) (id : Id12) (s : IsOfSession draw tasks c journal client branch version id)
@@ -303,5 +283,11 @@ module _ (draw : Draw) (tasks : List Task) (few : length tasks < 2 ^ 32 - 1) (we
       let made : snap_made whole id ≡ Some s.made.snap = subst (λ (j : List Event). snap_made j id ≡ Some s.made.snap) (sym w) (snap_made-append journal rest id s.made.snap s.made.made) in
       let own : OwnAreNew ids s.session = λ p n f. h.parents s.place (slice_get_within tasks s.place s.task s.at) id s.session.base s.made.snap (base_tree (puts_of whole) s.session) p n may made s.made.parent base_is f in
       let t = h.trees s.session.base (subst (λ (j : List Event). WasPut j (Snapshot s.session.base)) (sym w) (WasPut-append journal rest (Snapshot s.session.base) s.made.base_put)) in
-      let well : IsWellFormed (base_tree (puts_of whole) s.session) = subst IsWellFormed (some-same t.tree (base_tree (puts_of whole) s.session) (sym t.is ∙ base_is)) t.well_formed in
-      (task-kept ids s.task s.session id task_well s.of_task own).normal (puts_of whole) well
+      let well : IsWellFormed (base_tree (puts_of whole) s.session) = subst IsWellFormed (some-same (tree_under (puts_of whole) t.rows) (base_tree (puts_of whole) s.session) (sym (tree-by_rows whole s.session.base t.rows t.is) ∙ base_is)) t.has.well_formed in
+      let good : IsGoodJournal (journal ++ rest) = subst (λ (j : List Event). IsGoodJournal j) w h.good in
+      let once : IsOnce (journal ++ rest) = subst (λ (j : List Event). IsOnce j) w h.once in
+      let grown : Extends (puts_of journal) (puts_of (journal ++ rest)) = puts-kept journal rest (Each-back IsGood [] journal rest good).1 once in
+      let has : HasChunks (puts_of whole) s.session.held.chunks =
+      subst (λ (j : List Event). HasChunks (puts_of j) s.session.held.chunks) (sym w) (chunks-extend (puts_of journal) (puts_of (journal ++ rest)) grown s.session.held.chunks s.made.chunks)
+      in
+      (task-kept ids s.task s.session id task_well s.of_task own).normal (puts_of whole) has well

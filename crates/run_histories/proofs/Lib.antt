@@ -1,10 +1,16 @@
 pub mod Sources
+pub mod Sized
+pub mod Edits
+pub mod Setting
 pub mod Drawing
 pub mod Editing
 pub mod Putting
 pub mod Programs
 pub mod Along
 pub mod Growing
+pub mod Passing
 pub mod Given
 pub mod Beginnings
+pub mod Running
+pub mod Played
 pub mod Joined

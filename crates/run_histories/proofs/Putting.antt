@@ -5,9 +5,9 @@ use Rattle.std.specs.Option.{option_or}
 use Rattle.ice_ids.specs.declared.Id12.{Id12}
 use Rattle.ice_ids.specs.declared.drawing.AnyIds.{AnyIds}
 use Rattle.zarr_tree.specs.Nodes.{Node}
-use Rattle.zarr_tree.specs.Trees.{Tree, node_at}
+use Rattle.zarr_tree.specs.Trees.{Tree, node_at, IsWellFormed}
 use Rattle.snapshot_file.specs.declared.snapshot.SnapshotFile.{SnapshotFile}
-use Rattle.repo_objects.specs.Trees.{tree_under}
+use Rattle.repo_objects.specs.Trees.{Extends, tree_under}
 use Rattle.store_api.specs.declared.keys.Key.{Key}
 use Rattle.store_api.specs.declared.keys.Key.TheVariants.{Snapshot}
 use Rattle.store_api.specs.declared.keys.Why.{Why}
@@ -18,9 +18,12 @@ use Rattle.store_api.specs.Machine.{Slot, slot_of, fresh_slot, through, effect, 
 use Rattle.store_api.specs.Journal.{IsGood, IsGoodJournal, IsFirst, IsOnce, WasPut, ParentPut, puts_of, rows_of, tree_of, snap_in, snap_made}
 use Rattle.store_api.proofs.Journals.{Each-one}
 use Rattle.store_api.proofs.Slots.{same_key-true, effect-cases, free-cases, old-cases, slot-append_one, sound, first-append}
-use Rattle.store_api.proofs.Standing.{standing, rows-stay, snap_made-put}
+use Rattle.store_api.proofs.Standing.{standing, rows-stay, puts-stay, snap_made-put}
 use Rattle.store_api.proofs.Naming.{names-law}
-use Rattle.run_histories.specs.Sources.{MayDrawObject, MayDrawNode, NodesAreNew}
+use Rattle.session.specs.Sources.{MayDrawObject, MayDrawNode}
+use Rattle.commit_path.proofs.Knowing.{tree-by_rows}
+use Rattle.commit_path.proofs.Readable.{readable-extend}
+use Rattle.run_histories.specs.Sources.{NodesAreNew}
 use Rattle.run_histories.specs.Runs.{HasWellFormedTree, AllTrees}
 
 -- ---- what was put last was put first
@@ -120,6 +123,9 @@ parent-put journal id base snap g made parent =
 pub parents-begin : (ids : AnyIds) (journal : List Event) → NodesAreNew ids journal → ParentsAreNew ids journal
 parents-begin ids journal new id base snap t p n may made parent tree node = new base t p n tree node
 
+some-same : {A : Type 0} (a b : A) → Some a ≡ Some b → a ≡ b
+some-same a b e = cc
+
 module _ (journal : List Event) (event : Event) (once : IsOnce journal) (good : IsGood journal event) (first : IsFirst journal event) where
   abbrev after : List Event
   after = journal ++ event ∷ []
@@ -130,9 +136,22 @@ module _ (journal : List Event) (event : Event) (once : IsOnce journal) (good : 
   pub rows-kept : (id : Id12) → WasPut journal (Snapshot id) → rows_of (journal ++ event ∷ []) id ≡ rows_of journal id
   rows-kept id w = rows-stay id journal (event ∷ []) once w (Each-one IsGood journal event good) (Each-one IsFirst journal event first)
 
+  -- what was put stays put and readable
+  pub grown : Extends (puts_of journal) (puts_of (journal ++ event ∷ []))
+  grown = puts-stay journal (event ∷ []) once (Each-one IsGood journal event good) (Each-one IsFirst journal event first)
+
   pub trees-one : ((id : Id12) → PutsFresh journal event (Snapshot id) → HasWellFormedTree (journal ++ event ∷ []) id) → AllTrees journal → AllTrees (journal ++ event ∷ [])
   trees-one fresh trees id w = elim (put-now journal event (Snapshot id) w) [
-    | inl before ↦ let h = trees id before in record { tree = h.tree; is = tree-stays id before ∙ h.is; well_formed = h.well_formed }
+    | inl before ↦
+        let h = trees id before in
+        let rows : rows_of (journal ++ event ∷ []) id ≡ Some h.rows = rows-kept id before ∙ h.is in
+        let same : tree_under (puts_of journal) h.rows ≡ tree_under (puts_of (journal ++ event ∷ [])) h.rows =
+        some-same (tree_under (puts_of journal) h.rows) (tree_under (puts_of (journal ++ event ∷ [])) h.rows) (sym (tree-by_rows journal id h.rows h.is) ∙ sym (tree-stays id before) ∙ tree-by_rows (journal ++ event ∷ []) id h.rows rows) in
+        record {
+          rows = h.rows;
+          is = rows;
+          has = record { readable = readable-extend (puts_of journal) (puts_of (journal ++ event ∷ [])) grown h.rows h.has.readable; well_formed = subst IsWellFormed same h.has.well_formed };
+        }
     | inr now ↦ fresh id now
   ]
 

@@ -2,11 +2,12 @@
 use Rattle.std.specs.Prelude.{◌≡◌, ℕ, ◌<◌, ◌-◌, ◌^◌, List, [], ◌++◌, length, Some, All}
 use Rattle.ice_ids.specs.declared.Id12.{Id12}
 use Rattle.ice_ids.specs.declared.drawing.Draw.{Draw}
-use Rattle.zarr_tree.specs.Trees.{Tree, IsWellFormed}
 use Rattle.zarr_tree.specs.Changes.{Changes}
+use Rattle.snapshot_file.specs.declared.nodes.NodeRow.{NodeRow}
+use Rattle.repo_objects.specs.Trees.{HasTree}
 use Rattle.store_api.specs.declared.keys.Key.TheVariants.{Snapshot}
 use Rattle.store_api.specs.declared.events.Event.{Event}
-use Rattle.store_api.specs.Journal.{Each, WasPut, IsGood, IsGoodJournal, IsOnce, tree_of}
+use Rattle.store_api.specs.Journal.{Each, WasPut, IsGood, IsGoodJournal, IsOnce, puts_of, rows_of, tree_of}
 use Rattle.store_api.specs.Program.{Prog, Path}
 use Rattle.histories.specs.Calls.{IsGiven}
 use Rattle.repository.specs.Beginning.{begin_program}
@@ -15,18 +16,19 @@ use Rattle.play_script.specs.declared.scripts.Task.{Task}
 use Rattle.play_script.specs.Well.{IsWellTask}
 use Rattle.play_tasks.specs.Tasks.{IsOfClient}
 
--- the snapshot can be read, and its tree is well formed
+-- the snapshot can be read, and its rows have a tree: the manifests that they name were put and are readable, the bytes of their chunks
+-- are there, and the tree is well formed
 pub record HasWellFormedTree (journal : List Event) (id : Id12) : Type 0 where
-  pub tree : Tree
-  pub is : tree_of journal id ≡ Some tree
-  pub well_formed : IsWellFormed tree
+  pub rows : List NodeRow
+  pub is : rows_of journal id ≡ Some rows
+  pub has : HasTree (puts_of journal) rows
 
 -- each snapshot that was put has one
 abbrev pub AllTrees : List Event → Type 0
 AllTrees journal = (id : Id12) → WasPut journal (Snapshot id) → HasWellFormedTree journal id
 
 -- A journal that a run may go on: each event is legal and polite, nothing is put again, the changes for each commit lead
--- from its parent's tree to its own, and each snapshot has a well-formed tree.
+-- from its parent's tree to its own, and each snapshot has a well-formed tree, of which all is readable.
 pub record IsSound (journal : List Event) (changes : ℕ → Changes) : Type 0 where
   pub good : IsGoodJournal journal
   pub once : IsOnce journal

@@ -1,38 +1,28 @@
--- Sources of ids, and what they may still draw (own).
-use Rattle.std.specs.Prelude.{◌≡◌, ◌≢◌, ℕ, ◌+◌, ◌<◌, ◌≤◌, List, length, Some}
-use Rattle.ice_ids.specs.declared.Id8.{Id8}
+-- Sources of ids whose draws are new to a journal (own).
+use Rattle.std.specs.Prelude.{◌≡◌, ◌≢◌, ℕ, ◌+◌, ◌<◌, List, length, Some}
 use Rattle.ice_ids.specs.declared.Id12.{Id12}
 use Rattle.ice_ids.specs.declared.drawing.AnyIds.{AnyIds}
 use Rattle.ice_ids.specs.declared.drawing.Draw.{Draw}
-use Rattle.ice_ids.specs.Drawing.{IsAnyIds, client_of, left_of, drawn12, drawn8}
+use Rattle.ice_ids.specs.Drawing.{IsAnyIds, client_of}
 use Rattle.zarr_tree.specs.Nodes.{Node}
 use Rattle.zarr_tree.specs.Trees.{Tree, node_at}
-use Rattle.store_api.specs.declared.keys.Key.TheVariants.{Snapshot, Txn}
+use Rattle.store_api.specs.declared.keys.Key.TheVariants.{Snapshot, Manifest, Txn, Chunk}
 use Rattle.store_api.specs.declared.events.Event.{Event}
 use Rattle.store_api.specs.Journal.{IsUnused, tree_of}
+use Rattle.session.specs.Sources.{MayDrawObject, MayDrawNode}
 use Rattle.play_script.specs.declared.scripts.Task.{Task}
 use Rattle.play_tasks.specs.Tasks.{ids_at}
 
--- a source after draws: it is of the same client, and has no more ids left
-pub record IsLater (ids later : AnyIds) : Type 0 where
-  pub client : client_of later ≡ client_of ids
-  pub left : left_of later ≤ left_of ids
+-- what was put under an id, a snapshot, a log, a manifest or an object with a chunk, still stands
+pub record IsUnusedId (journal : List Event) (id : Id12) : Type 0 where
+  pub snapshot : IsUnused journal (Snapshot id)
+  pub log : IsUnused journal (Txn id)
+  pub manifest : IsUnused journal (Manifest id)
+  pub chunk : IsUnused journal (Chunk id)
 
--- an object id that a source may draw from where it stands
-pub record MayDrawObject (ids : AnyIds) (id : Id12) : Type 0 where
-  pub later : AnyIds
-  pub is_later : IsLater ids later
-  pub drawn : drawn12 later ≡ Some id
-
--- and a node id
-pub record MayDrawNode (ids : AnyIds) (id : Id8) : Type 0 where
-  pub later : AnyIds
-  pub is_later : IsLater ids later
-  pub drawn : drawn8 later ≡ Some id
-
--- what was put under an id that the source may draw, a snapshot or a log, still stands
+-- and so it is of each id that the source may draw
 abbrev pub ObjectsAreNew : AnyIds → List Event → Type 0
-ObjectsAreNew ids journal = (id : Id12) → MayDrawObject ids id → IsUnused journal (Snapshot id) × IsUnused journal (Txn id)
+ObjectsAreNew ids journal = (id : Id12) → MayDrawObject ids id → IsUnusedId journal id
 
 -- no node of a tree of the journal has an id that the source may draw
 abbrev pub NodesAreNew : AnyIds → List Event → Type 0

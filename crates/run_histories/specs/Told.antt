@@ -17,20 +17,27 @@ use Rattle.store_api.specs.Journal.{Each, puts_of, tree_of}
 use Rattle.histories.specs.Repository.{Entry, last}
 use Rattle.histories.specs.Calls.{history_of, IsHistory, BranchesStand}
 use Rattle.repo_objects.specs.Trees.{Puts}
+use Rattle.changed_snapshot.specs.Laws.{KeepsFrozen}
 use Rattle.session.specs.Sessions.{SessionState, base_tree, changes_in, overlay}
 use Rattle.session.specs.Opening.{Asked}
 use Rattle.commit_path.specs.Owed.{IsMade}
 use Rattle.commit_path.specs.Opened.{IsOpened, WasNamed, WasBegun}
+use Rattle.commit_path.specs.Single.{HasPutNone}
+use Rattle.repository.specs.Beginning.{begin_program}
+use Rattle.play_script.specs.declared.scripts.Line.{Line}
 use Rattle.play_script.specs.declared.scripts.Task.{Task}
+use Rattle.play_outcome.specs.declared.outcome.Shown.{Shown}
+use Rattle.play_tasks.specs.Playing.{asked_by}
 use Rattle.play_tasks.specs.Solving.{IsOfTask}
+use Rattle.play_tasks.specs.Telling.{PlaysAll}
 use Rattle.play_tasks.specs.Tasks.{ids_at}
 use Rattle.run_histories.specs.Sources.{IsNewSource, IsNewRun, IsOfAnother}
-use Rattle.run_histories.specs.Runs.{IsSound, IsRun}
+use Rattle.run_histories.specs.Runs.{IsSound, RanAlone, IsRun}
 
--- A commit of a session of its client's task: the task's lines lead to the session and to the id that it draws, the
+-- A commit of a session of its client's task: the task's lines lead to the session and to an id that it may draw, the
 -- branch is the session's, put over at the version that it had read, and the changes are the session's, by what was put
 -- until then; and what was put under the id is the session's snapshot, with its base as parent, the base's tree under its
--- changes as tree, and a log of all that they touch.
+-- changes as tree, and a log of all that they touch, while the chunks that it set are there.
 pub record IsOfSession (draw : Draw) (tasks : List Task) (changes : Changes) (journal : List Event) (client : ℕ) (branch : List ℕ) (old : ℕ) (id : Id12) : Type 0 where
   pub place : ℕ
   pub client_is : client ≡ place + 1
@@ -81,11 +88,33 @@ pub record BeganAtLast (puts : Puts) (trees : Id12 → Option Tree) (changes : �
   pub base : entry.id ≡ s.base
   pub tree : trees entry.id ≡ Some (base_tree puts s)
 
+-- ---- sessions that lines were played on
+-- A session of a task of this client: it was opened at a snapshot that the client got before it put one itself, and lines of
+-- the task were played on it.
+pub record WasPlayed (ids : AnyIds) (task : Task) (client : ℕ) (start : List Event) (s : SessionState) (journal : List Event) : Type 0 where
+  pub opened : SessionState
+  pub begun : WasBegun client (asked_by task.head ids) opened start journal
+  pub early : HasPutNone client start begun.got.own.before
+  pub read : IsOpened opened journal
+  pub played : List Line
+  pub left : List Line
+  pub body : task.body ≡ played ++ left
+  pub shown : List Shown
+  pub plays : PlaysAll client played opened start shown s journal
+
+-- In each such session of the tasks, which began behind the opening, the nodes that stay keep the parts of their metadata that
+-- stay: so what its reads told of chunks holds.
+abbrev pub AllKeepFrozen : Draw → List Task → (old new : List Event) → Type 0
+AllKeepFrozen draw tasks old new = (start : List Event) (place : ℕ) (task : Task) (s : SessionState) → RanAlone begin_program old start → slice_get tasks place ≡ Some task
+    → WasPlayed (ids_at draw place) task (place + 1) start s new → KeepsFrozen s.held s.rows
+
+-- ---- a run
 -- After a run: the changes for each position are those before it, and for each commit that it added those of a session
 -- of its client's task; each commit that took effect follows on the entry before it; each session that was opened began
--- at the last entry of its branch. With these changes the journal is sound, and what the source of another client may draw
--- is new to it where it was before, so that a run of other clients may go on; the histories run over its calls; and the
--- branches stand as their histories say. Trees are by what was put in the whole journal.
+-- at the last entry of its branch, and keeps through its lines what stays of its nodes' metadata. With these changes the
+-- journal is sound, and what the source of another client may draw is new to it where it was before, so that a run of other
+-- clients may go on; the histories run over its calls; and the branches stand as their histories say. Trees are by what was
+-- put in the whole journal.
 pub record HasHistories (draw : Draw) (tasks : List Task) (before : ℕ → Changes) (old new : List Event) : Type 0 where
   pub added : List Event
   pub is : new ≡ old ++ added
@@ -94,6 +123,7 @@ pub record HasHistories (draw : Draw) (tasks : List Task) (before : ℕ → Chan
   pub solved : Each (IsSolved draw tasks changes) old added
   pub commits : Each (CommitsEnter draw tasks (puts_of new) (tree_of new) changes) old added
   pub opened : (client : ℕ) (a : Asked) (s : SessionState) (start : List Event) → WasBegun client a s start new → IsOpened s new → BeganAtLast (puts_of new) (tree_of new) changes client a s start new
+  pub frozen : AllKeepFrozen draw tasks old new
   pub sound : IsSound new changes
   pub others : (ids : AnyIds) → IsOfAnother tasks ids → IsNewSource ids old → IsNewSource ids new
   pub history : IsHistory (tree_of new) changes new

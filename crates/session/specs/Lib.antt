@@ -4,6 +4,7 @@ pub mod Editing
 pub mod Opening
 pub mod Viewed
 pub mod Chunks
+pub mod Sources
 pub mod Setting
 pub mod Getting
 pub mod inside

@@ -1,14 +1,18 @@
 -- What a worker has still to do.
-use Rattle.std.specs.Prelude.{◌≡◌, ℕ, ◌+◌, ◌++◌, List, Bool, true, false, not, ◌&&◌, nat_le, Result, Ok, Err}
+use Rattle.std.specs.Prelude.{◌≡◌, ◌⊎◌, ℕ, ◌+◌, ◌-◌, ◌*◌, ◌^◌, ◌≤◌, ◌++◌, List, drop, Bool, true, false, not, Result, Ok, Err}
 use Rattle.ice_ids.specs.declared.Id8.{Id8}
 use Rattle.store_api.specs.declared.machines.Next.{Next}
 use Rattle.store_api.specs.declared.machines.Next.TheVariants.{Again, Ready}
 use Rattle.store_api.specs.declared.machines.Refusal.{Refusal}
 use Rattle.store_api.specs.declared.machines.Refusal.TheVariants.{NoMemory}
-use Rattle.store_api.specs.Program.{Prog, is_ask, is_fault}
+use Rattle.store_api.specs.Program.{Prog, Done, is_ask, is_fault}
+use Rattle.store_api.specs.Running.{Program}
 use Rattle.store_api.specs.Plays.{Play, Ended, Ask, Or, call, Comes}
+use Rattle.session.specs.declared.chunks.Value.{Value}
 use Rattle.session.specs.Sessions.{SessionState}
 use Rattle.session.specs.Opening.{open_rest, open_left}
+use Rattle.session.specs.Setting.{set_rest, set_left}
+use Rattle.session.specs.Getting.{get_rest, get_left, get_session}
 use Rattle.commit_path.specs.Committing.{commit_rest, commit_left}
 use Rattle.play_script.specs.declared.scripts.Task.{Task}
 use Rattle.play_outcome.specs.declared.outcome.Shown.{Shown}
@@ -16,27 +20,69 @@ use Rattle.play_outcome.specs.declared.outcome.Outcome.{Outcome}
 use Rattle.play_outcome.specs.Ending.{is_failed}
 use Rattle.play_tasks.specs.declared.working.Working.{Working}
 use Rattle.play_tasks.specs.declared.working.Working.TheVariants as w
+use Rattle.play_tasks.specs.declared.working.AskedFor.{AskedFor}
+use Rattle.play_tasks.specs.declared.working.AskedFor.TheVariants as asked
 use Rattle.play_tasks.specs.declared.working.Step.{Step}
 use Rattle.play_tasks.specs.declared.working.Step.TheVariants as step
-use Rattle.play_tasks.specs.Lines.{Deed, Goes}
-use Rattle.play_tasks.specs.Playing.{Rest, refused, after_open, after_commit, play_deed}
+use Rattle.play_tasks.specs.Lines.{Deed, silent, value_shown, chunk_key_shown}
+use Rattle.play_tasks.specs.Playing.{Rest, refused, after_line, shown_by, after_open, after_commit, play_deed, play_lines}
+
+-- ---- where a worker stands
+-- the lines of a task from a number on, from 0
+abbrev pub lines_from : Task → ℕ → Rest
+lines_from task at = play_lines (drop at task.body)
+
+-- what is played behind the setting of a chunk in a line, and behind the reading of one
+abbrev pub after_set : ℕ → List Shown → Rest → Result SessionState Refusal → Play Outcome
+after_set line shown rest answer = after_line line shown (silent answer) rest
+
+-- a chunk that was read for this is shown so
+abbrev pub shown_for : AskedFor → ℕ → Value → Shown
+shown_for asked.Chunk line = value_shown line
+shown_for asked.Key line = chunk_key_shown line
+
+abbrev pub after_get : (Value → Shown) → ℕ → List Shown → SessionState → Rest → Result Value Refusal → Play Outcome
+after_get show line shown s rest answer = after_line line shown (shown_by s show answer) rest
 
 abbrev pub working_rest : Task → Working → Play Outcome
 working_rest task (w.Opening opener) = call (open_rest opener) (after_open task)
+working_rest task (w.Setting line at shown set) = call (set_rest set) (after_set line shown.items (lines_from task at))
+working_rest task (w.Getting line at for shown get) = call (get_rest get) (after_get (shown_for for line) line shown.items (get_session get) (lines_from task at))
 working_rest task (w.Committing line shown commit) = call (commit_rest commit) (after_commit line shown)
 working_rest task (w.Ended outcome) = Ended outcome
-
--- how many steps are left at most
-abbrev pub working_left : Working → ℕ
-working_left (w.Opening opener) = 4 + open_left opener
-working_left (w.Committing line shown commit) = commit_left commit
-working_left (w.Ended outcome) = 0
 
 -- the machine in it has something to do
 abbrev pub is_working : Working → Bool
 is_working (w.Opening opener) = is_ask (open_rest opener)
+is_working (w.Setting line at shown set) = is_ask (set_rest set)
+is_working (w.Getting line at for shown get) = is_ask (get_rest get)
 is_working (w.Committing line shown commit) = is_ask (commit_rest commit)
 is_working (w.Ended outcome) = true
+
+-- ---- how many steps are left
+-- no machine of a line takes more steps
+abbrev pub most_steps : ℕ
+most_steps = 2 ^ 200
+
+-- the steps of its machine, at most
+abbrev pub machine_left : Working → ℕ
+machine_left (w.Opening opener) = open_left opener
+machine_left (w.Setting line at shown set) = set_left set
+machine_left (w.Getting line at for shown get) = get_left get
+machine_left (w.Committing line shown commit) = commit_left commit
+machine_left (w.Ended outcome) = 0
+
+-- the lines behind it, of a body of so many
+abbrev pub lines_left : ℕ → Working → ℕ
+lines_left lines (w.Opening opener) = lines
+lines_left lines (w.Setting line at shown set) = lines - at
+lines_left lines (w.Getting line at for shown get) = lines - at
+lines_left lines (w.Committing line shown commit) = 0
+lines_left lines (w.Ended outcome) = 0
+
+-- how many steps are left at most, of a body of so many lines
+abbrev pub working_left : ℕ → Working → ℕ
+working_left lines state = lines_left lines state * most_steps + machine_left state
 
 -- ---- what a call of a session came to
 -- what an edit that adds a node came to, without the node's id
@@ -61,24 +107,37 @@ abbrev pub is_local : Result (Unit {0}) Refusal → Bool
 is_local (Ok done) = true
 is_local (Err why) = not (is_fault why)
 
--- what a line came to that does this on a session, where these lines were shown before it: with memory or without
-abbrev pub LineComes : ℕ → List Shown → SessionState → Deed → Step → Type 0
-LineComes line shown s d (step.On t more) = (first : List Shown) × (d ≡ Goes (Ok (first, t))) × (more.items ≡ shown ++ first)
-LineComes line shown s d (step.Stop state) = (task : Task) (rest : Rest) → Comes (Or (play_deed line shown s d rest) (refused line shown NoMemory)) (working_rest task state)
+-- ---- lines
+-- What a line came to that is played so, where these lines were shown before it, and `at` is the number of the line behind it:
+-- the play has come to what follows on that line, or to where the worker stands, with memory or without.
+abbrev pub PlayComes : (line at : ℕ) → List Shown → (Rest → Play Outcome) → Step → Type 0
+PlayComes line at shown play (step.On t more) = (rest : Rest) → play rest ≡ rest t more.items
+PlayComes line at shown play (step.Stop state) = (task : Task) → Comes (Or (play (lines_from task at)) (refused line shown NoMemory)) (working_rest task state)
 
--- what lines came to: nothing of the store has failed, and a commit that began has its three steps to make
+-- one that does this on a session
+abbrev pub LineComes : (line at : ℕ) → List Shown → SessionState → Deed → Step → Type 0
+LineComes line at shown s d = PlayComes line at shown (λ rest. play_deed line shown s d rest)
+
+-- where a program ends at once, it tells no fault of the store
+abbrev pub EndsCalmly : {A : Type 0} → Program A → Type 0
+EndsCalmly p = (why : Refusal) → p ≡ Done (Err why) → is_fault why ≡ false
+
+-- what lines came to: nothing of the store has failed, and a machine that began has something to do
 abbrev pub is_well : Working → Bool
 is_well (w.Opening opener) = false
-is_well (w.Committing line shown commit) = is_ask (commit_rest commit) && nat_le (commit_left commit) 3
+is_well (w.Setting line at shown set) = is_ask (set_rest set)
+is_well (w.Getting line at for shown get) = is_ask (get_rest get)
+is_well (w.Committing line shown commit) = is_ask (commit_rest commit)
 is_well (w.Ended outcome) = not (is_failed outcome)
 
 abbrev pub is_clean : Step → Bool
 is_clean (step.On s shown) = true
 is_clean (step.Stop state) = is_well state
 
--- with memory or without, the play has come to where the worker stands
-abbrev pub LinesCome : Play Outcome → Working → Type 0
-LinesCome p state = (task : Task) → Comes p (working_rest task state)
+-- it takes no more steps than those of a line and of the lines from this number on
+abbrev pub IsBounded : (at : ℕ) → Step → Type 0
+IsBounded at (step.On s shown) = Unit {0}
+IsBounded at (step.Stop state) = (lines : ℕ) → working_left lines state ≤ (lines - at) * most_steps + most_steps
 
 -- ---- a step of the machine in it
 -- what is left to do after a step of a machine that has q left
@@ -86,6 +145,10 @@ abbrev pub settled : {A B : Type 0} → (Result A Refusal → Play B) → Prog (
 settled f q (Ok Again) = call q f
 settled f q (Ok (Ready a)) = f (Ok a)
 settled f q (Err refusal) = f (Err refusal)
+
+-- where a worker stands behind a machine that only reads: want of memory may come behind its answer
+abbrev pub ComesOrStarves : {A : Type 0} → (Result A Refusal → Play Outcome) → Prog (Result A Refusal) → Result (Next A) Refusal → Play Outcome → Type 0
+ComesOrStarves f q answer p = Comes (settled f q answer) p ⊎ Comes (f (Err NoMemory)) p
 
 -- a machine that answered `Again` has something to do
 abbrev pub answers_well : {T : Type 0} → Bool → Result (Next T) Refusal → Bool

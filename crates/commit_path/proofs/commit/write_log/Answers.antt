@@ -1,4 +1,4 @@
-use Rattle.commit_path.proofs.Spelling.{log-ordered}
+use Rattle.commit_path.proofs.Logs.{log-ordered}
 use Rattle.commit_path.proofs.commit.write_log.Goals as goal
 
 pub write-requires : goal.write-requires

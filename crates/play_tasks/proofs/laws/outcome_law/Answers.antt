@@ -1,5 +1,7 @@
-use Rattle.play_tasks.proofs.Others.{TellsOutcome-others}
+use Rattle.play_tasks.proofs.Others.{Lasting, TellsOutcome-others}
 use Rattle.play_tasks.proofs.laws.outcome_law.Goals as goal
 
 pub returns : goal.returns
-returns c = λ by ids task outcome start journal more others. TellsOutcome-others by start journal more others ids task outcome
+returns c =
+    let L : Lasting = record { session = c.session_law.ensures; answers = c.answers_law.ensures; chunks = c.tells_law.ensures } in
+    λ by ids task outcome start journal more others. TellsOutcome-others L by start journal more others ids task outcome

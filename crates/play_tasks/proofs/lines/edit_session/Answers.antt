@@ -1,12 +1,13 @@
-use Rattle.std.proofs.Common.{◌≡◌, true, sym, subst, ap, ◌∙◌, Result}
+use Rattle.std.proofs.Common.{sym, subst, ap, ◌∙◌, Result}
 use Rattle.zarr_meta.specs.Plain.{group_text}
 use Rattle.store_api.specs.declared.machines.Refusal.{Refusal}
 use Rattle.session.specs.Editing.{group_fault, array_fault, node_fault, group_added}
 use Rattle.play_script.specs.declared.scripts.EditCall.{EditCall}
 use Rattle.play_script.specs.declared.scripts.EditCall.TheVariants.{Group}
 use Rattle.play_tasks.specs.Lines.{edited}
-use Rattle.play_tasks.specs.inside.Working.{is_local, without_id, Edits}
-use Rattle.play_tasks.proofs.Locals.{added-local, set-local, drop-local, adds-edits}
+use Rattle.play_tasks.specs.inside.Working.{is_local, Edits}
+use Rattle.play_tasks.proofs.Locals.{added-local, set-local, drop-local, unset-local, adds-edits}
+use Rattle.play_tasks.proofs.Keys.{erase-local}
 use Rattle.play_tasks.proofs.lines.edit_session.Goals as goal
 
 pub returns-in-Group-clause-edits : goal.returns-in-Group-clause-edits
@@ -29,3 +30,9 @@ returns-in-Meta-clause-local c = set-local c.args.session.now c.set_meta.new.sel
 
 pub returns-in-Drop-clause-local : goal.returns-in-Drop-clause-local
 returns-in-Drop-clause-local c = drop-local c.args.session.now c.drop_node.new.self c.in-Drop.path c.drop_node.result c.drop_node.ensures
+
+pub returns-in-Unset-clause-local : goal.returns-in-Unset-clause-local
+returns-in-Unset-clause-local c = unset-local c.args.session.now c.unset_chunk.new.self c.in-Unset.path c.in-Unset.index c.unset_chunk.result c.unset_chunk.ensures
+
+pub returns-in-KeyErase-clause-local : goal.returns-in-KeyErase-clause-local
+returns-in-KeyErase-clause-local c = erase-local c.args.session.now c.key_erase.new.session c.as_str-in-KeyErase.result.now c.key_erase.result c.key_erase.ensures

@@ -5,4 +5,7 @@ use Rattle.play_tasks.specs.inside.Working.{LineComes}
 use Rattle.play_tasks.proofs.lines.play_line.Goals as goal
 
 pub returns-in-Commit-clause-comes : goal.returns-in-Commit-clause-comes
-returns-in-Commit-clause-comes c = subst (λ (x : Call). LineComes c.args.line.now.number c.args.shown.items c.args.session (deed c.args.line.now.number x c.args.session) c.play_commit.result) (sym c.in-Commit.is) c.play_commit.ensures.comes
+returns-in-Commit-clause-comes c = subst (λ (x : Call). LineComes c.args.line.now.number c.args.at c.args.shown.items c.args.session (deed c.args.line.now.number x c.args.session) c.play_commit.result) (sym c.in-Commit.is) (c.play_commit.ensures.comes c.args.at)
+
+pub returns-in-Commit-clause-bounded : goal.returns-in-Commit-clause-bounded
+returns-in-Commit-clause-bounded c = c.play_commit.ensures.bounded c.args.at

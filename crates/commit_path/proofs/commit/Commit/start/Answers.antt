@@ -1,26 +1,25 @@
-use Rattle.std.proofs.Common.{rules, ◌≡◌, true, false, ap}
-use Rattle.std.specs.Prelude.{Some}
-use Rattle.ice_ids.specs.Drawing.{drawn12}
-use Rattle.zarr_tree.specs.Held.{touched}
-use Rattle.zarr_tree.specs.Touched.{is_untouched}
-use Rattle.txn_file.specs.Layout.{log_file}
-use Rattle.store_api.specs.declared.keys.Key.TheVariants.{Txn}
-use Rattle.store_api.specs.declared.keys.Why.TheVariants.{Set}
-use Rattle.store_api.specs.declared.events.Op.TheVariants.{PutNew}
-use Rattle.store_api.specs.Program.{Ask}
+use Rattle.std.proofs.Common.{sym, ◌∙◌}
 use Rattle.session.specs.Sessions.{base_nodes}
-use Rattle.commit_path.specs.Committing.{Answer, log_for, is_long, after_draw, after_log}
-use Rattle.commit_path.proofs.Starting.{start-is}
+use Rattle.commit_path.proofs.Ascending.{these-ascend}
+use Rattle.commit_path.proofs.Walking.{undrawn, read-only, nothing-changed, begins}
 use Rattle.commit_path.proofs.commit.Commit.start.Goals as goal
 
-pub returns-in-Ok : goal.returns-in-Ok
-returns-in-Ok c =
-    let w : c.args.session.writes ≡ true = search rules in
-    let u : is_untouched (touched c.args.session.held (base_nodes c.args.session)) ≡ false = search rules in
-    let d : drawn12 c.args.session.ids ≡ Some c.in-Some.id = search rules in
-    let a : c.draw.new.self ≡ after_draw c.args.session = search rules in
-    let f : c.in-Ok.file ≡ log_file (log_for c.draw.new.self c.in-Some.id) = search rules in
-    let l : is_long (log_file (log_for c.draw.new.self c.in-Some.id)) ≡ false = search rules in (
-      start-is c.args.session c.draw.new.self c.in-Some.id w u d a l,
-      ap (λ file. Ask (PutNew (Txn c.in-Some.id) file Set) (after_log c.draw.new.self c.args.message c.in-Some.id)) f,
-    )
+pub returns-then-not-writes-clause-starts : goal.returns-then-not-writes-clause-starts
+returns-then-not-writes-clause-starts c = (undrawn c.args.session, λ n. read-only c.args.session c.args.message (sym c.writes.ensures ∙ c.if-not-writes.true))
+
+pub returns-then-is_unchanged-clause-starts : goal.returns-then-is_unchanged-clause-starts
+returns-then-is_unchanged-clause-starts c =
+    (undrawn c.args.session, λ n. nothing-changed c.args.session c.args.message (sym c.writes.ensures ∙ c.if-not-writes.false) (sym c.is_unchanged.ensures ∙ c.if-is_unchanged.true))
+
+pub new-requires : goal.new-requires
+new-requires c = these-ascend c.in-Ok.arrays c.args.session.held (base_nodes c.args.session) c.in-Ok.ensures
+
+pub returns-in-Ok-go_on-clause-starts : goal.returns-in-Ok-go_on-clause-starts
+returns-in-Ok-go_on-clause-starts c =
+    let r = c.in-Ok-go_on.ensures.reaches in
+    (sym (begins c.args.session c.args.message c.new.result c.in-Ok.arrays (sym c.writes.ensures ∙ c.if-not-writes.false) (sym c.is_unchanged.ensures ∙ c.if-is_unchanged.false) c.new.ensures.news c.new.ensures.left c.in-Ok.ensures ∙ r.0), r.1, c.in-Ok-go_on.ensures.kept)
+
+pub returns-in-Err-clause-starts : goal.returns-in-Err-clause-starts
+returns-in-Err-clause-starts c =
+    let r = c.in-Err.ensures.reaches in
+    (c.in-Err.ensures.kept, λ n. begins c.args.session c.args.message c.new.result c.in-Ok.arrays (sym c.writes.ensures ∙ c.if-not-writes.false) (sym c.is_unchanged.ensures ∙ c.if-is_unchanged.false) c.new.ensures.news c.new.ensures.left c.in-Ok.ensures ∙ r.1 n)

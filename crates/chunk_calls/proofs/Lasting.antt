@@ -1,0 +1,109 @@
+-- What answers of sets and reads tell stays so, whatever others do.
+use Rattle.std.proofs.Common.{◌≡◌, ◌⊎◌, ◌≤◌, inl, inr, ℕ, List, ◌++◌, length}
+use Rattle.std.specs.Prelude.{Result, Ok, Err}
+use Rattle.manifest_file.specs.declared.manifest.Place.TheVariants.{Inline}
+use Rattle.repo_objects.specs.declared.bad.Bad.{Bad}
+use Rattle.repo_objects.specs.Trees.{Puts}
+use Rattle.changed_snapshot.specs.Laws.{KeepsFrozen}
+use Rattle.store_api.specs.declared.keys.Key.{Key}
+use Rattle.store_api.specs.declared.keys.Key.TheVariants.{Chunk}
+use Rattle.store_api.specs.declared.keys.Why.TheVariants.{Set}
+use Rattle.store_api.specs.declared.events.Op.TheVariants.{Get, PutNew}
+use Rattle.store_api.specs.declared.events.Got.TheVariants.{Found, Absent}
+use Rattle.store_api.specs.declared.events.New.TheVariants.{Done as New_done, Present}
+use Rattle.store_api.specs.declared.events.Reply.TheVariants.{Got as Is_got, New as Is_new}
+use Rattle.store_api.specs.declared.events.Event.{Event}
+use Rattle.store_api.specs.declared.machines.Refusal.{Refusal}
+use Rattle.store_api.specs.declared.machines.Refusal.TheVariants as R
+use Rattle.store_api.specs.Machine.{version_at}
+use Rattle.store_api.specs.Journal.{Each, IsGood}
+use Rattle.store_api.specs.Callers.{Caller, IsOther}
+use Rattle.store_api.proofs.Programs.{good-waits}
+use Rattle.session.specs.declared.chunks.Value.{Value}
+use Rattle.session.specs.Sessions.{SessionState, overlay}
+use Rattle.session.specs.Chunks.{most_inline, with_chunk}
+use Rattle.commit_path.specs.Answered.{WasGot, WasAbsent}
+use Rattle.commit_path.proofs.Happening.{ChangedNothing-others, HasOwn-append}
+use Rattle.commit_path.proofs.Lasting.{failed-others}
+use Rattle.chunk_calls.specs.Told.{WasPutOut, WasSet, WasObjectTaken, IsOfSet, SetRefused, SetTells, value_of, IsChunk, IsOfGet, WasNotThere, WasUnfit, GetRefused, GetTells}
+use Rattle.chunk_calls.specs.Laws.{TellsLaw}
+use Rattle.chunk_calls.proofs.Growing.{Surely-append}
+
+WasGot-append : (client : ℕ) (key : Key) (bytes : List ℕ) (version : ℕ) (start journal more : List Event) → WasGot client key bytes version start journal → WasGot client key bytes version start (journal ++ more)
+WasGot-append client key bytes version start journal more g = record { now = g.now; own = HasOwn-append client (Get key) (Is_got (Found bytes (version_at version) g.now)) start journal more g.own }
+
+WasAbsent-append : (client : ℕ) (key : Key) (start journal more : List Event) → WasAbsent client key start journal → WasAbsent client key start (journal ++ more)
+WasAbsent-append client key start journal more g = record { now = g.now; own = HasOwn-append client (Get key) (Is_got (Absent g.now)) start journal more g.own; nothing = g.nothing }
+
+-- ---- a set
+module _ (client : ℕ) (s : SessionState) (path index bytes : List ℕ) (start journal more : List Event) where
+  abbrev IsShort : SessionState → Type 0
+  IsShort t = (length bytes ≤ most_inline) × (t ≡ with_chunk s path index (Inline bytes))
+
+  out-append : (t : SessionState) → IsShort t ⊎ WasPutOut client s path index bytes t start journal → IsShort t ⊎ WasPutOut client s path index bytes t start (journal ++ more)
+  out-append t (inl short) = inl short
+  out-append t (inr o) = inr (record {
+    long = o.long;
+    id = o.id;
+    drawn = o.drawn;
+    put = record { version = o.put.version; now = o.put.now; own = HasOwn-append client (PutNew (Chunk o.id) bytes Set) (Is_new (New_done o.put.version o.put.now)) start journal more o.put.own };
+    is = o.is;
+  })
+
+  -- so it is of the client's own events
+  pub WasSet-append : (t : SessionState) → WasSet client s path index bytes t start journal → WasSet client s path index bytes t start (journal ++ more)
+  WasSet-append t x = record { writes = x.writes; taken = x.taken; is = out-append t x.is }
+
+  taken-append : (key : Key) → WasObjectTaken client s key bytes start journal → WasObjectTaken client s key bytes start (journal ++ more)
+  taken-append key x = record {
+    id = x.id;
+    drawn = x.drawn;
+    key_is = x.key_is;
+    version = x.version;
+    now = x.now;
+    own = HasOwn-append client (PutNew (Chunk x.id) bytes Set) (Is_new (Present x.version x.now)) start journal more x.own;
+    there = x.there;
+  }
+
+  refused-append : (why : Refusal) → SetRefused client s path index bytes start why journal → SetRefused client s path index bytes start why (journal ++ more)
+  refused-append R.ReadOnly x = x
+  refused-append R.IdsSpent x = x
+  refused-append (R.IdTaken key) x = taken-append key x
+  refused-append R.NoMemory x = x
+  refused-append _ x = x
+
+-- ---- a read
+module _ (client : ℕ) (s : SessionState) (path index : List ℕ) (start journal more : List Event) where
+  missing-append : (key : Key) → WasNotThere client s key start journal → WasNotThere client s key start (journal ++ more)
+  missing-append key x = record { of_get = x.of_get; absent = WasAbsent-append client key start journal more x.absent }
+
+  unfit-append : (key : Key) (bad : Bad) → WasUnfit client s key bad start journal → WasUnfit client s key bad start (journal ++ more)
+  unfit-append key bad x = record { of_get = x.of_get; bytes = x.bytes; version = x.version; got = WasGot-append client key x.bytes x.version start journal more x.got; unfit = x.unfit }
+
+  unread-append : (why : Refusal) → GetRefused client s path index start why journal → GetRefused client s path index start why (journal ++ more)
+  unread-append (R.Missing key) x = missing-append key x
+  unread-append (R.BadFile key bad) x = unfit-append key bad x
+  unread-append R.NoMemory x = x
+  unread-append _ x = x
+
+-- the chunk that was read stays what was read, whatever good events come, the client's own as well
+pub IsChunk-append : (s : SessionState) (path index : List ℕ) (value : Value) (journal more : List Event) → Each IsGood journal more → IsChunk s path index value journal → IsChunk s path index value (journal ++ more)
+IsChunk-append s path index value journal more g x = Surely-append (λ (puts : Puts). KeepsFrozen s.held s.rows → (overlay puts s).chunk path index ≡ value_of value) journal more g x
+
+-- ---- answers
+module _ (by : Caller) (s : SessionState) (path index : List ℕ) (start journal more : List Event) (others : Each (IsOther by) journal more) where
+  sets-others : (bytes : List ℕ) (answer : Result SessionState Refusal) → SetTells by.number s path index bytes start answer journal → SetTells by.number s path index bytes start answer (journal ++ more)
+  sets-others bytes (Ok t) x = (WasSet-append by.number s path index bytes start journal more t x.0, ChangedNothing-others by start journal more others x.1)
+  sets-others bytes (Err R.StoreFault) x = failed-others by start journal more others (IsOfSet s bytes) x
+  sets-others bytes (Err why) x = (refused-append by.number s path index bytes start journal more why x.0, ChangedNothing-others by start journal more others x.1)
+
+  gets-others : (answer : Result Value Refusal) → GetTells by.number s path index start answer journal → GetTells by.number s path index start answer (journal ++ more)
+  gets-others (Ok value) x = (IsChunk-append s path index value journal more (good-waits by journal more others) x.0, ChangedNothing-others by start journal more others x.1)
+  gets-others (Err R.StoreFault) x = failed-others by start journal more others (IsOfGet s) x
+  gets-others (Err why) x = (unread-append by.number s path index start journal more why x.0, ChangedNothing-others by start journal more others x.1)
+
+pub tells-law : TellsLaw
+tells-law = record {
+  sets = λ by s path index bytes answer start journal more others. sets-others by s path index start journal more others bytes answer;
+  gets = λ by s path index answer start journal more others. gets-others by s path index start journal more others answer;
+}

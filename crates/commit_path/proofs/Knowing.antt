@@ -1,0 +1,42 @@
+-- What a session knows of the journal, whatever good events come.
+use Rattle.std.proofs.Common.{◌≡◌, List, [], ◌++◌, ◌∙◌, ap}
+use Rattle.std.specs.Prelude.{Some, option_map}
+use Rattle.ice_ids.specs.declared.Id12.{Id12}
+use Rattle.snapshot_file.specs.declared.nodes.NodeRow.{NodeRow}
+use Rattle.repo_objects.specs.Trees.{tree_under}
+use Rattle.store_api.specs.declared.keys.Key.TheVariants.{Snapshot, Chunk, Branch}
+use Rattle.store_api.specs.declared.events.Event.{Event}
+use Rattle.store_api.specs.Machine.{last_put}
+use Rattle.store_api.specs.Journal.{Each, WasPut, puts_of, rows_of, tree_of, snap_in, IsFirst, IsOnce, IsGood}
+use Rattle.store_api.proofs.Journals.{Each-back}
+use Rattle.store_api.proofs.Slots.{WasPut-append, StoodAt-append}
+use Rattle.store_api.proofs.Standing.{by-rows, rows-stay, HadRows-append}
+use Rattle.session.specs.Sessions.{SessionState}
+use Rattle.commit_path.specs.Opened.{IsOpened}
+use Rattle.commit_path.proofs.Putting.{puts-kept, chunks-extend}
+
+pub once-front : (old more : List Event) → IsOnce (old ++ more) → IsOnce old
+once-front old more once = (Each-back IsFirst [] old more once).0
+
+pub once-back : (old more : List Event) → IsOnce (old ++ more) → Each IsFirst old more
+once-back old more once = (Each-back IsFirst [] old more once).1
+
+-- the tree of a snapshot with these rows
+pub tree-by_rows : (journal : List Event) (id : Id12) (rows : List NodeRow) → rows_of journal id ≡ Some rows → tree_of journal id ≡ Some (tree_under (puts_of journal) rows)
+tree-by_rows journal id rows e = by-rows (puts_of journal) (snap_in id (last_put journal (Snapshot id))) ∙ ap (option_map (tree_under (puts_of journal))) e
+
+-- rows stay where a snapshot has them
+pub rows-kept : (journal more : List Event) (id : Id12) (rows : List NodeRow) → WasPut journal (Snapshot id) → Each IsGood journal more → (IsOnce journal → rows_of journal id ≡ Some rows) → IsOnce (journal ++ more) → rows_of (journal ++ more) id ≡ Some rows
+rows-kept journal more id rows w g e once = rows-stay id journal more (once-front journal more once) w g (once-back journal more once) ∙ e (once-front journal more once)
+
+pub IsOpened-append : (s : SessionState) (journal more : List Event) → Each IsGood journal more → IsOpened s journal → IsOpened s (journal ++ more)
+IsOpened-append s journal more g o = record {
+  named_by = o.named_by;
+  named = StoodAt-append journal more (Branch s.branch) s.version o.named_by o.named;
+  names = o.names;
+  put = WasPut-append journal more (Snapshot s.base) o.put;
+  had = HadRows-append journal more s.base s.rows o.had;
+  rows = rows-kept journal more s.base s.rows o.put g o.rows;
+  objects = λ node i id offset size e. WasPut-append journal more (Chunk id) (o.objects node i id offset size e);
+  chunks = λ once. chunks-extend (puts_of journal) (puts_of (journal ++ more)) (puts-kept journal more g once) s.held.chunks (o.chunks (once-front journal more once));
+}

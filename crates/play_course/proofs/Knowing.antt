@@ -1,0 +1,145 @@
+-- What a client knows of the journal of a run over an empty store, while others act.
+use Rattle.std.proofs.Common.{◌≡◌, ◌≢◌, ℕ, Bool, true, false, List, [], ◌∷◌, ◌++◌, refl, sym, ◌∙◌, ap, subst}
+use Rattle.std.specs.Prelude.{Option, Some, None}
+use Rattle.ice_ids.specs.declared.Id12.{Id12}
+use Rattle.ice_ids.specs.declared.drawing.AnyIds.{AnyIds}
+use Rattle.ice_ids.specs.Drawing.{drawn12, after12}
+use Rattle.store_api.specs.declared.keys.Key.{Key}
+use Rattle.store_api.specs.declared.keys.Key.TheVariants.{Snapshot, Manifest, Txn, Chunk, Branch, Tag, TagGone}
+use Rattle.store_api.specs.declared.keys.Why.{Why}
+use Rattle.store_api.specs.declared.events.Op.TheVariants.{Get, PutNew}
+use Rattle.store_api.specs.declared.events.Event.{Event}
+use Rattle.store_api.specs.Machine.{found, is_on, same_key}
+use Rattle.store_api.specs.Journal.{Each, IsGood, IsOnce}
+use Rattle.store_api.proofs.Journals.{Each-append, Each-weaker, Each-one}
+use Rattle.store_api.proofs.Slots.{same_key-true}
+use Rattle.session.specs.Sources.{IsLater, MayDrawObject}
+use Rattle.commit_path.specs.Single.{PutsSnapshot}
+use Rattle.commit_path.proofs.Sources.{later-same, later-drawn12, object-drawn, object-later}
+use Rattle.run_histories.specs.Sources.{NodesAreNew}
+use Rattle.run_histories.specs.Runs.{AllTrees}
+use Rattle.run_histories.proofs.Sources.{object-spent}
+use Rattle.run_histories.proofs.Drawing.{IsDrawnBy, AreOf, object-draws}
+use Rattle.play_course.proofs.Tidy.{IsTidy, IsAny, Puts, any-of, along, spared-snapshot, spared-log, spared-manifest, spared-chunk, free-others, free-apart}
+use Rattle.play_course.proofs.Meeting.{Watch}
+
+-- ---- the journal
+-- so far nothing was put again, and each snapshot has its tree
+pub record IsSoFar (journal : List Event) : Type 0 where
+  pub once : IsOnce journal
+  pub trees : AllTrees journal
+
+-- nothing stands under an id
+pub record IsFreeId (journal : List Event) (id : Id12) : Type 0 where
+  pub snapshot : found journal (Snapshot id) ≡ None
+  pub log : found journal (Txn id) ≡ None
+  pub manifest : found journal (Manifest id) ≡ None
+  pub chunk : found journal (Chunk id) ≡ None
+
+-- ---- the events of others, and the client's own
+-- an event of others than this client: it puts nothing under the client's ids, and nodes stay new to this source
+pub record OfOthers (client : ℕ) (ids : AnyIds) (journal : List Event) (event : Event) : Type 0 where
+  pub tidy : IsTidy (λ id. ¬ IsDrawnBy client id) journal event
+  pub after : IsSoFar (journal ++ event ∷ [])
+  pub nodes : NodesAreNew ids journal → NodesAreNew ids (journal ++ event ∷ [])
+
+-- one of the client's own: nodes stay new where it puts no snapshot
+pub record OfOwn (ids : AnyIds) (journal : List Event) (event : Event) : Type 0 where
+  pub tidy : IsAny journal event
+  pub after : IsSoFar (journal ++ event ∷ [])
+  pub nodes : ¬ PutsSnapshot event.op → NodesAreNew ids journal → NodesAreNew ids (journal ++ event ∷ [])
+
+abbrev pub beside : ℕ → AnyIds → Watch
+beside client ids = record { others = OfOthers client ids; own = OfOwn ids }
+
+-- ---- what a client knows
+-- the journal so far is one of a run over an empty store, and nothing stands under an id that this source may draw
+pub record Before (source : AnyIds) (journal : List Event) : Type 0 where
+  pub tidy : Each IsAny [] journal
+  pub so_far : IsSoFar journal
+  pub free : (id : Id12) → MayDrawObject source id → IsFreeId journal id
+
+-- a later source draws fewer ids
+pub before-later : (source later : AnyIds) (journal : List Event) → IsLater source later → Before source journal → Before later journal
+before-later source later journal l b = record { tidy = b.tidy; so_far = b.so_far; free = λ id m. b.free id (object-later source later id l m) }
+
+module _ (client : ℕ) where
+  abbrev Who : Id12 → Type 0
+  Who id = ¬ IsDrawnBy client id
+
+  not-who : (id : Id12) → IsDrawnBy client id → ¬ Who id
+  not-who id d n = n d
+
+  -- through an event that puts nothing under the client's ids
+  pub id-free : (id : Id12) → IsDrawnBy client id → (old more : List Event) → Each (IsTidy (λ i. ¬ IsDrawnBy client i)) old more → IsFreeId old id → IsFreeId (old ++ more) id
+  id-free id d old more others f = record {
+    snapshot = free-others Who (Snapshot id) old more (spared-snapshot client id d Who (not-who id d)) others f.snapshot;
+    log = free-others Who (Txn id) old more (spared-log id Who (not-who id d)) others f.log;
+    manifest = free-others Who (Manifest id) old more (spared-manifest id Who (not-who id d)) others f.manifest;
+    chunk = free-others Who (Chunk id) old more (spared-chunk id Who (not-who id d)) others f.chunk;
+  }
+
+  before-tidy : (source : AnyIds) → AreOf client source → (journal : List Event) (event : Event) → IsTidy (λ i. ¬ IsDrawnBy client i) journal event → IsSoFar (journal ++ event ∷ []) → Before source journal → Before source (journal ++ event ∷ [])
+  before-tidy source known journal event t after b = record {
+    tidy = Each-append IsAny [] journal (event ∷ []) b.tidy (Each-one IsAny journal event (any-of Who journal event t));
+    so_far = after;
+    free = λ id m. id-free id (object-draws client source id known m) journal (event ∷ []) (Each-one (IsTidy Who) journal event t) (b.free id m);
+  }
+
+  pub before-others : (ids source : AnyIds) → AreOf client source → (journal more : List Event) → Each (OfOthers client ids) journal more → Before source journal → Before source (journal ++ more)
+  before-others ids source known journal more others b = along (OfOthers client ids) (Before source) (λ h event o k. before-tidy source known h event o.tidy o.after k) journal more others b
+
+  -- through an own get
+  pub before-got : (ids source : AnyIds) → AreOf client source → (journal : List Event) (event : Event) (key : Key) → OfOwn ids journal event → event.op ≡ Get key → Before source journal → Before source (journal ++ event ∷ [])
+  before-got ids source known journal event key own is b = before-tidy source known journal event (record { good = own.tidy.good; puts = subst (Puts Who) (sym is) tt }) own.after b
+
+  -- and nodes stay new
+  pub nodes-others : (ids : AnyIds) (journal more : List Event) → Each (OfOthers client ids) journal more → NodesAreNew ids journal → NodesAreNew ids (journal ++ more)
+  nodes-others ids journal more others new = along (OfOthers client ids) (NodesAreNew ids) (λ h event o k. o.nodes k) journal more others new
+
+  pub good-others : (ids : AnyIds) (journal more : List Event) → Each (OfOthers client ids) journal more → Each IsGood journal more
+  good-others ids journal more others = Each-weaker (OfOthers client ids) IsGood (λ h event o. o.tidy.good) journal more others
+
+-- ---- an own put under the next id drawn
+-- the id of a key
+abbrev pub id_of : Key → Option Id12
+id_of (Snapshot id) = Some id
+id_of (Manifest id) = Some id
+id_of (Txn id) = Some id
+id_of (Chunk id) = Some id
+id_of (Branch name) = None
+id_of (Tag name) = None
+id_of (TagGone name) = None
+
+some-same : {A : Type 0} (a b : A) → Some a ≡ Some b → a ≡ b
+some-same a b e = cc
+
+pub apart-keys : (key other : Key) (id given : Id12) → id_of key ≡ Some id → id_of other ≡ Some given → id ≢ given → same_key key other ≡ false
+apart-keys key other id given a b differs = by_test (same_key key other) refl
+  where
+    by_test : (t : Bool) → same_key key other ≡ t → t ≡ false
+    by_test true e = absurd (differs (some-same id given (sym a ∙ ap id_of (same_key-true key other e) ∙ b)))
+    by_test false e = refl
+
+-- at another id nothing stands still
+pub free-beside : (journal : List Event) (event : Event) (key : Key) (bytes : List ℕ) (why : Why) (id other : Id12) → event.op ≡ PutNew key bytes why → id_of key ≡ Some id → id ≢ other → IsFreeId journal other → IsFreeId (journal ++ event ∷ []) other
+free-beside journal event key bytes why id other is under differs f =
+    let off : (k : Key) → id_of k ≡ Some other → is_on k event.op ≡ false = λ k e. ap (is_on k) is ∙ apart-keys key k id other under e differs in
+    record {
+      snapshot = free-apart (Snapshot other) journal event (off (Snapshot other) refl) f.snapshot;
+      log = free-apart (Txn other) journal event (off (Txn other) refl) f.log;
+      manifest = free-apart (Manifest other) journal event (off (Manifest other) refl) f.manifest;
+      chunk = free-apart (Chunk other) journal event (off (Chunk other) refl) f.chunk;
+    }
+
+pub before-put : (ids source : AnyIds) (journal : List Event) (event : Event) (key : Key) (bytes : List ℕ) (why : Why) (id : Id12) → OfOwn ids journal event → event.op ≡ PutNew key bytes why → id_of key ≡ Some id → drawn12 source ≡ Some id → Before source journal → Before (after12 source) (journal ++ event ∷ [])
+before-put ids source journal event key bytes why id own is under drawn b = record {
+  tidy = Each-append IsAny [] journal (event ∷ []) b.tidy (Each-one IsAny journal event own.tidy);
+  so_far = own.after;
+  free = λ other m.
+      let differs : id ≢ other = λ e. object-spent source id drawn (subst (MayDrawObject (after12 source)) (sym e) m) in
+      free-beside journal event key bytes why id other is under differs (b.free other (object-later source (after12 source) other (later-drawn12 source) m));
+}
+
+pub drawn-now : (source : AnyIds) (id : Id12) → drawn12 source ≡ Some id → MayDrawObject source id
+drawn-now source id d = object-drawn source source id (later-same source) d

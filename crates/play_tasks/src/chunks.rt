@@ -1,0 +1,240 @@
+//! The lines of a task that set and read chunks, by their places and by their keys.
+
+ghost use Rattle.std.specs.Prelude.{◌≡◌, ◌++◌, ◌∷◌, [], true, replicate, IfOk, OnOk, OnErr};
+ghost use Rattle.std.specs.FinMap.{get};
+ghost use Rattle.zarr_path.specs.Keys.{key_of};
+ghost use Rattle.store_api.specs.Plays.{call};
+ghost use Rattle.store_api.specs.Running.{Program};
+ghost use Rattle.session.specs.Sessions.{SessionState, nodes_seen};
+ghost use Rattle.session.specs.Setting.{Sets as CameTo};
+ghost use Rattle.play_tasks.specs.Lines.{value_shown, key_shown, length_at, filled, key_set_deed, key_get_deed, Sets, Reads};
+ghost use Rattle.play_tasks.specs.inside.Working.{after_set, shown_for, is_clean, PlayComes, LineComes, IsBounded, EndsCalmly};
+
+use crate::lines::refuse;
+use crate::working::{AskedFor, Step, Working};
+use ice_base::Text;
+use play_outcome::Shown;
+use session::{Getting, Session, Setting, Value};
+use std::alloc::{AllocError, Global};
+use store_api::Refusal;
+use zarr_grid::chunk_bytes;
+use zarr_keys::{KeyGetting, KeyValue, key_answer, key_get, key_set};
+use zarr_meta::View;
+use zarr_path::{Index, Path};
+use zarr_tree::grid_law;
+
+/// What follows a call that sets a chunk or a key: it was done, or a machine has it to do, or it was refused.
+fn after_call(
+    line: u32,
+    at: usize,
+    came: Result<Setting, (Session, Refusal)>,
+    shown: Vec<Shown>,
+) -> Step
+    ensures comes { (s : SessionState) (p : Program SessionState) → CameTo p s came → PlayComes line at shown.items (λ rest. call p (after_set line shown.items rest)) result }
+    ensures clean { (s : SessionState) (p : Program SessionState) → CameTo p s came → EndsCalmly p → is_clean result ≡ true }
+    ensures bounded { IsBounded at result }
+{
+    match came {
+        Ok(Setting::Ready(session)) => Step::On { session, shown },
+        Ok(Setting::Again(set)) => Step::Stop(Working::Setting {
+            line,
+            at,
+            shown,
+            set,
+        }),
+        Err((_, why)) => Step::Stop(refuse(line, shown, why)),
+    }
+}
+
+/// Sets a chunk.
+pub(crate) fn play_set(
+    line: u32,
+    at: usize,
+    path: &Path,
+    index: &Index,
+    bytes: &[u8],
+    session: Session,
+    shown: Vec<Shown>,
+) -> Step
+    ensures comes { LineComes line at shown.items session (Sets path.now index.now bytes.now) result }
+    ensures clean { is_clean result ≡ true }
+    ensures bounded { IsBounded at result }
+{
+    after_call(line, at, session.set_chunk(path, index, bytes), shown)
+}
+
+/// Sets what a key has.
+pub(crate) fn play_key_set(
+    alloc: Global,
+    line: u32,
+    at: usize,
+    key: &Text,
+    bytes: &[u8],
+    session: Session,
+    shown: Vec<Shown>,
+) -> Step
+    ensures comes { LineComes line at shown.items session (key_set_deed bytes.now (key_of key.now) session) result }
+    ensures clean { is_clean result ≡ true }
+    ensures bounded { IsBounded at result }
+{
+    after_call(
+        line,
+        at,
+        key_set(alloc, session, key.as_str(), bytes),
+        shown,
+    )
+}
+
+/// How many bytes a chunk of the array at a path has: none where no array is.
+fn chunk_len(session: &Session, path: &Path) -> u64
+    ensures { result ≡ length_at (get (nodes_seen session.now) path.now) }
+{
+    grid_law();
+    let Ok(meta) = session.get_meta(path) else {
+        return 0;
+    };
+    let View::Array(array) = &meta.view else {
+        return 0;
+    };
+    chunk_bytes(array.kind.size(), array.chunks.as_slice())
+}
+
+/// So many of one byte.
+fn repeated(alloc: Global, byte: u8, len: usize) -> Result<Vec<u8>, AllocError>
+    ensures { IfOk result (λ bytes. bytes.items ≡ replicate len byte) }
+{
+    let bytes = vec![in alloc; byte; len]?;
+    Ok(bytes)
+}
+
+/// Sets a chunk all of whose bytes are the same.
+pub(crate) fn play_fill(
+    alloc: Global,
+    line: u32,
+    at: usize,
+    path: &Path,
+    index: &Index,
+    byte: u8,
+    session: Session,
+    shown: Vec<Shown>,
+) -> Step
+    ensures comes { LineComes line at shown.items session (Sets path.now index.now (filled session path.now byte)) result }
+    ensures clean { is_clean result ≡ true }
+    ensures bounded { IsBounded at result }
+{
+    let len = chunk_len(&session, path) as usize;
+    let Ok(bytes) = repeated(alloc, byte, len) else {
+        return Step::Stop(refuse(line, shown, Refusal::NoMemory));
+    };
+    play_set(line, at, path, index, &bytes, session, shown)
+}
+
+/// A chunk that this line of the script asked for.
+fn value_shown(line: u32, value: Value) -> Shown
+    ensures { result ≡ value_shown line value }
+{
+    match value {
+        Value::Held(bytes) => Shown::Chunk { line, bytes },
+        Value::Fill => Shown::Fill { line },
+    }
+}
+
+/// What the key has that this line of the script asked for.
+fn key_shown(line: u32, value: KeyValue) -> Shown
+    ensures { result ≡ key_shown line value }
+{
+    match value {
+        KeyValue::Bytes(bytes) => Shown::Key {
+            line,
+            bytes: Some(bytes),
+        },
+        KeyValue::Absent => Shown::Key { line, bytes: None },
+    }
+}
+
+/// Shows one thing more.
+fn show(value: Shown, shown: &mut Vec<Shown>) -> Result<(), AllocError>
+    ensures ok { OnOk result (shown.new.items ≡ shown.old.items ++ value ∷ []) }
+    ensures err { OnErr result (shown.new.items ≡ shown.old.items) }
+{
+    match shown.push(value) {
+        Ok(()) => Ok(()),
+        Err(_) => Err(AllocError),
+    }
+}
+
+/// Shows a chunk that was read for this line of the script.
+pub(crate) fn show_value(
+    asked: AskedFor,
+    line: u32,
+    value: Value,
+    shown: &mut Vec<Shown>,
+) -> Result<(), AllocError>
+    ensures ok { OnOk result (shown.new.items ≡ shown.old.items ++ shown_for asked line value ∷ []) }
+    ensures err { OnErr result (shown.new.items ≡ shown.old.items) }
+{
+    match asked {
+        AskedFor::Chunk => show(value_shown(line, value), shown),
+        AskedFor::Key => show(key_shown(line, key_answer(value)), shown),
+    }
+}
+
+/// Reads a chunk.
+pub(crate) fn play_get(
+    line: u32,
+    at: usize,
+    path: &Path,
+    index: &Index,
+    session: Session,
+    mut shown: Vec<Shown>,
+) -> Step
+    ensures comes { LineComes line at shown.items session (Reads path.now index.now (value_shown line)) result }
+    ensures clean { is_clean result ≡ true }
+    ensures bounded { IsBounded at result }
+{
+    match session.get_chunk(path, index) {
+        Ok(Getting::Ready(session, value)) => {
+            match show(value_shown(line, value), &mut shown) {
+                Ok(()) => Step::On { session, shown },
+                Err(_) => Step::Stop(refuse(line, shown, Refusal::NoMemory)),
+            }
+        }
+        Ok(Getting::Again(get)) => Step::Stop(Working::Getting {
+            line,
+            at,
+            asked: AskedFor::Chunk,
+            shown,
+            get,
+        }),
+        Err((_, why)) => Step::Stop(refuse(line, shown, why)),
+    }
+}
+
+/// Reads what a key has.
+pub(crate) fn play_key_get(
+    alloc: Global,
+    line: u32,
+    at: usize,
+    key: &Text,
+    session: Session,
+    mut shown: Vec<Shown>,
+) -> Step
+    ensures comes { LineComes line at shown.items session (key_get_deed line (key_of key.now) session) result }
+    ensures clean { is_clean result ≡ true }
+    ensures bounded { IsBounded at result }
+{
+    match key_get(alloc, session, key.as_str()) {
+        Ok(KeyGetting::Ready(session, value)) => match show(key_shown(line, value), &mut shown) {
+            Ok(()) => Step::On { session, shown },
+            Err(_) => Step::Stop(refuse(line, shown, Refusal::NoMemory)),
+        },
+        Ok(KeyGetting::Again(get)) => Step::Stop(Working::Getting {
+            line,
+            at,
+            asked: AskedFor::Key,
+            shown,
+            get,
+        }),
+        Err((_, why)) => Step::Stop(refuse(line, shown, why)),
+    }
+}
