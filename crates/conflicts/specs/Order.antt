@@ -1,0 +1,38 @@
+-- The order of conflicts: by the bytes of their paths, then by the numbers of their cases, then by their indices. (Own.)
+use Rattle.std.specs.Prelude.{◌≡◌, ◌⊎◌, ℕ, ◌<◌, List, [], ◌∷◌, Option, Some, None, Contains}
+use Rattle.std.specs.declared.cmp.Ordering.TheVariants.{Less}
+use Rattle.zarr_path.specs.Paths.{path_cmp}
+use Rattle.zarr_path.specs.Indices.{index_cmp}
+use Rattle.zarr_tree.specs.declared.cases.Case.{Case}
+use Rattle.zarr_tree.specs.declared.cases.Case.TheVariants as case
+use Rattle.zarr_tree.specs.declared.cases.Conflict.{Conflict}
+
+-- the number of a case
+abbrev pub number : Case → ℕ
+number case.NewNodeConflictsWithExistingNode = 1
+number case.NewNodeInInvalidGroup = 2
+number case.ZarrMetadataDoubleUpdate = 3
+number case.ZarrMetadataUpdateOfDeletedArray = 4
+number case.ZarrMetadataUpdateOfDeletedGroup = 5
+number case.ChunkDoubleUpdate = 6
+number case.ChunksUpdatedInDeletedArray = 7
+number case.ChunksUpdatedInUpdatedArray = 8
+number case.DeleteOfUpdatedArray = 9
+number case.DeleteOfUpdatedGroup = 10
+
+-- no index stands before an index
+abbrev pub IndexPrecedes : (a b : Option (List ℕ)) → Type 0
+IndexPrecedes None None = ⊥
+IndexPrecedes None (Some j) = Unit {0}
+IndexPrecedes (Some i) None = ⊥
+IndexPrecedes (Some i) (Some j) = index_cmp i j ≡ Less
+
+abbrev pub Precedes : (x y : Conflict) → Type 0
+Precedes x y =
+    (path_cmp x.path y.path ≡ Less)
+    ⊎ ((x.path ≡ y.path) × ((number x.case < number y.case) ⊎ ((x.case ≡ y.case) × IndexPrecedes x.index y.index)))
+
+-- each one precedes all that stand behind it
+abbrev pub Ascend : List Conflict → Type 0
+Ascend [] = Unit {0}
+Ascend (x ∷ xs) = ((y : Conflict) → Contains xs y → Precedes x y) × Ascend xs

@@ -1,0 +1,118 @@
+//! Both sides of a rebase, kept for look-ups.
+
+ghost use Rattle.std.specs.Prelude.{◌≡◌, ◌∷◌, ◌++◌, [], if◌then◌else◌, map, IfOk, OnOk};
+ghost use Rattle.std.specs.List.{list_any};
+ghost use Rattle.ice_ids.specs.declared.Id8.{Id8 as TheId};
+ghost use Rattle.ice_ids.specs.Text.{same_id8};
+ghost use Rattle.zarr_tree.specs.Touched.{lists, lists_new, IsOrdered};
+ghost use Rattle.conflicts.specs.Found.{new_rows};
+
+use crate::ids::{IdSet, set_of};
+use crate::lists::is_new;
+use ice_ids::Id8;
+use ice_items::Items;
+use std::alloc::{AllocError, Global};
+use std::marker::Model;
+use zarr_changes::{ChangeSet, ChunkKey};
+use zarr_path::Path;
+use zarr_tree::{Touched, TreeLike};
+
+/// Our changes, the lists of a later commit, and the trees before it and after it, with what is looked up in them. Contracts
+/// see what is held, listed and found.
+#[derive(Drop)]
+pub(crate) struct Sides<'a, B: TreeLike, U: TreeLike> {
+    pub(crate) mine: &'a ChangeSet,
+    pub(crate) theirs: &'a Touched,
+    pub(crate) before: &'a B,
+    pub(crate) after: &'a U,
+    pub(crate) dropped: IdSet,
+    pub(crate) metas: IdSet,
+    pub(crate) arrays: IdSet,
+    pub(crate) added: Items<Path>,
+    pub(crate) news: Vec<&'a str>,
+}
+
+impl<'a, B: TreeLike, U: TreeLike> Model for Sides<'a, B, U> {
+    ghost use Rattle.conflicts.specs.Found.{Sides as TheSides};
+    ghost use Rattle.conflicts.specs.inside.Codes.{coded_sides};
+    ghost use Rattle.conflicts.specs.inside.Looking.{Keeps};
+
+    ghost Value = { TheSides };
+
+    ghost coded = { coded_sides };
+
+    ghost view = { λ s. record { held = s.mine.now; theirs = s.theirs.now; before = B.nodes s.before.now; after = U.nodes s.after.now } };
+
+    ghost invariant = { λ s. Keeps s.dropped s.metas s.arrays s.added s.news.items s.mine.now s.theirs.now (U.nodes s.after.now) };
+}
+
+/// The ids of the arrays of chunks.
+fn arrays_of(alloc: Global, chunks: &[ChunkKey]) -> Result<IdSet, AllocError>
+    ensures { IfOk result (λ set. (id : TheId) → lists set id ≡ list_any (λ key. same_id8 key.0 id) chunks.now) }
+{
+    let mut set = IdSet::new(alloc);
+    for (id, _) in chunks {
+        set.insert(*id)?;
+    }
+    Ok(set)
+}
+
+/// Pushes a node's path, if the node is listed as new.
+fn push_new<'a>(
+    news: &mut Vec<&'a str>,
+    theirs: &Touched,
+    path: &'a str,
+    id: &Id8,
+) -> Result<(), AllocError>
+    requires { IsOrdered theirs.now }
+    ensures { OnOk result (map (λ text. text.now) news.new.items ≡ map (λ text. text.now) news.old.items ++ (if lists_new theirs.now id.now then path.entry.now ∷ [] else [])) }
+{
+    if is_new(theirs, id) {
+        news.push(path)?;
+    }
+    Ok(())
+}
+
+/// The paths of the nodes of a later tree that are listed as new.
+fn new_paths<'a, U: TreeLike>(
+    alloc: Global,
+    theirs: &Touched,
+    after: &'a U,
+) -> Result<Vec<&'a str>, AllocError>
+    requires { IsOrdered theirs.now }
+    ensures { IfOk result (λ news. map (λ text. text.now) news.items ≡ map (λ row. row.0) (new_rows theirs.now (U.nodes after.now))) }
+{
+    let mut news = Vec::new(alloc);
+    for at in 0..after.len() {
+        let (path, found) = after.row(at);
+        push_new(&mut news, theirs, path, &found.id)?;
+    }
+    Ok(news)
+}
+
+impl<'a, B: TreeLike, U: TreeLike> Sides<'a, B, U> {
+    /// Both sides.
+    pub(crate) fn new(
+        alloc: Global,
+        mine: &'a ChangeSet,
+        theirs: &'a Touched,
+        before: &'a B,
+        after: &'a U,
+    ) -> Result<Sides<'a, B, U>, AllocError>
+        requires { IsOrdered theirs.now }
+        ensures { IfOk result (λ s. s ≡ record { held = mine.now; theirs = theirs.now; before = B.nodes before.now; after = U.nodes after.now }) }
+    {
+        let keys = mine.keys(alloc)?;
+        Ok(Sides {
+            mine,
+            theirs,
+            before,
+            after,
+            dropped: set_of(alloc, keys.dropped.as_slice())?,
+            metas: set_of(alloc, keys.metas.as_slice())?,
+            arrays: arrays_of(alloc, keys.chunks.as_slice())?,
+            added: keys.added,
+            news: new_paths(alloc, theirs, after)?,
+        })
+    }
+}

@@ -1,0 +1,15 @@
+pub mod Walks
+pub mod Own
+pub mod Replies
+pub mod Stays
+pub mod Namings
+pub mod Targets
+pub mod NewBranch
+pub mod ResetBranch
+pub mod DropBranch
+pub mod NewTag
+pub mod DropTag
+pub mod NewRepository
+pub mod Lines
+pub mod Kept
+pub mod Lawful

@@ -1,0 +1,119 @@
+-- What own operations are answered.
+use Rattle.std.proofs.Common.{◌≡◌, ℕ, Bool, true, false, cond, List, refl, sym, ap, eqb-true, eq-eqb}
+use Rattle.std.specs.Prelude.{Option, Some, None, ◌==◌}
+use Rattle.store_api.specs.declared.keys.Key.{Key}
+use Rattle.store_api.specs.declared.keys.Why.{Why}
+use Rattle.store_api.specs.declared.events.Version.{Version}
+use Rattle.store_api.specs.declared.events.Op.TheVariants.{Get, PutNew, PutOver, RemoveAt}
+use Rattle.store_api.specs.declared.events.Got.TheVariants.{Found, Absent}
+use Rattle.store_api.specs.declared.events.New.TheVariants.{Done as New_done, Present}
+use Rattle.store_api.specs.declared.events.Over.TheVariants.{Done as Over_done, Moved as Over_moved}
+use Rattle.store_api.specs.declared.events.GoneAt.TheVariants.{Done as Gone_done, Moved as Gone_moved}
+use Rattle.store_api.specs.declared.events.Reply.{Reply}
+use Rattle.store_api.specs.declared.events.Reply.TheVariants.{Got, New, Over, Gone, GoneAt, Listed, Failed}
+use Rattle.store_api.specs.declared.events.Event.{Event}
+use Rattle.store_api.specs.Machine.{Stored, version_at, got_of, new_of, gone_at_of}
+use Rattle.store_api.specs.Callers.{Caller, Makes}
+use Rattle.commit_path.proofs.Happening.{Differs}
+
+-- ---- by kind: a reply of another kind is none of an honest store's
+module _ (by : Caller) (old new : List Event) (P : Reply → Type 0) where
+  pub got-cases : (key : Key)
+      → ((bytes : List ℕ) (version : Version) (now : ℕ) → Makes by (Get key) (Got (Found bytes version now)) old new → P (Got (Found bytes version now)))
+      → ((now : ℕ) → Makes by (Get key) (Got (Absent now)) old new → P (Got (Absent now)))
+      → ((done : Bool) → Makes by (Get key) (Failed done) old new → P (Failed done))
+      → (reply : Reply) → Makes by (Get key) reply old new → P reply
+  got-cases key found absent failed (Got (Found bytes version now)) m = found bytes version now m
+  got-cases key found absent failed (Got (Absent now)) m = absent now m
+  got-cases key found absent failed (Failed done) m = failed done m
+  got-cases key found absent failed (New x) m = let e = m.answered.answered in absurd (cc)
+  got-cases key found absent failed (Over x) m = let e = m.answered.answered in absurd (cc)
+  got-cases key found absent failed (Gone x) m = let e = m.answered.answered in absurd (cc)
+  got-cases key found absent failed (GoneAt x) m = let e = m.answered.answered in absurd (cc)
+  got-cases key found absent failed (Listed x) m = let e = m.answered.answered in absurd (cc)
+
+  pub new-cases : (key : Key) (bytes : List ℕ) (why : Why)
+      → ((version : Version) (now : ℕ) → Makes by (PutNew key bytes why) (New (New_done version now)) old new → P (New (New_done version now)))
+      → ((version : Version) (now : ℕ) → Makes by (PutNew key bytes why) (New (Present version now)) old new → P (New (Present version now)))
+      → ((done : Bool) → Makes by (PutNew key bytes why) (Failed done) old new → P (Failed done))
+      → (reply : Reply) → Makes by (PutNew key bytes why) reply old new → P reply
+  new-cases key bytes why did present failed (New (New_done version now)) m = did version now m
+  new-cases key bytes why did present failed (New (Present version now)) m = present version now m
+  new-cases key bytes why did present failed (Failed done) m = failed done m
+  new-cases key bytes why did present failed (Got x) m = let e = m.answered.answered in absurd (cc)
+  new-cases key bytes why did present failed (Over x) m = let e = m.answered.answered in absurd (cc)
+  new-cases key bytes why did present failed (Gone x) m = let e = m.answered.answered in absurd (cc)
+  new-cases key bytes why did present failed (GoneAt x) m = let e = m.answered.answered in absurd (cc)
+  new-cases key bytes why did present failed (Listed x) m = let e = m.answered.answered in absurd (cc)
+
+  pub over-cases : (key : Key) (bytes : List ℕ) (at : Version) (why : Why)
+      → ((version : Version) (now : ℕ) → Makes by (PutOver key bytes at why) (Over (Over_done version now)) old new → P (Over (Over_done version now)))
+      → ((there : Option Version) (now : ℕ) → Makes by (PutOver key bytes at why) (Over (Over_moved there now)) old new → P (Over (Over_moved there now)))
+      → ((done : Bool) → Makes by (PutOver key bytes at why) (Failed done) old new → P (Failed done))
+      → (reply : Reply) → Makes by (PutOver key bytes at why) reply old new → P reply
+  over-cases key bytes at why did moved failed (Over (Over_done version now)) m = did version now m
+  over-cases key bytes at why did moved failed (Over (Over_moved there now)) m = moved there now m
+  over-cases key bytes at why did moved failed (Failed done) m = failed done m
+  over-cases key bytes at why did moved failed (Got x) m = let e = m.answered.answered in absurd (cc)
+  over-cases key bytes at why did moved failed (New x) m = let e = m.answered.answered in absurd (cc)
+  over-cases key bytes at why did moved failed (Gone x) m = let e = m.answered.answered in absurd (cc)
+  over-cases key bytes at why did moved failed (GoneAt x) m = let e = m.answered.answered in absurd (cc)
+  over-cases key bytes at why did moved failed (Listed x) m = let e = m.answered.answered in absurd (cc)
+
+  pub gone-cases : (key : Key) (at : Version) (why : Why)
+      → ((now : ℕ) → Makes by (RemoveAt key at why) (GoneAt (Gone_done now)) old new → P (GoneAt (Gone_done now)))
+      → ((there : Option Version) (now : ℕ) → Makes by (RemoveAt key at why) (GoneAt (Gone_moved there now)) old new → P (GoneAt (Gone_moved there now)))
+      → ((done : Bool) → Makes by (RemoveAt key at why) (Failed done) old new → P (Failed done))
+      → (reply : Reply) → Makes by (RemoveAt key at why) reply old new → P reply
+  gone-cases key at why did moved failed (GoneAt (Gone_done now)) m = did now m
+  gone-cases key at why did moved failed (GoneAt (Gone_moved there now)) m = moved there now m
+  gone-cases key at why did moved failed (Failed done) m = failed done m
+  gone-cases key at why did moved failed (Got x) m = let e = m.answered.answered in absurd (cc)
+  gone-cases key at why did moved failed (New x) m = let e = m.answered.answered in absurd (cc)
+  gone-cases key at why did moved failed (Over x) m = let e = m.answered.answered in absurd (cc)
+  gone-cases key at why did moved failed (Gone x) m = let e = m.answered.answered in absurd (cc)
+  gone-cases key at why did moved failed (Listed x) m = let e = m.answered.answered in absurd (cc)
+
+-- ---- what the answers say of what stands
+-- this stands
+pub record Holds (at : Option Stored) (bytes : List ℕ) (version : Version) : Type 0 where
+  pub stored : Stored
+  pub stands : at ≡ Some stored
+  pub bytes_are : stored.bytes ≡ bytes
+  pub version_is : stored.version ≡ version.0
+
+pub got-holds : (at : Option Stored) (bytes : List ℕ) (version : Version) (now time : ℕ) → Got (Found bytes version now) ≡ Got (got_of time at) → Holds at bytes version
+got-holds None bytes version now time e = absurd (cc)
+got-holds (Some s) bytes version now time e = let v : version ≡ version_at s.version = cc in record { stored = s; stands = refl; bytes_are = cc; version_is = ap (λ (x : Version). x.0) (sym v) }
+
+pub got-absent : (at : Option Stored) (now time : ℕ) → Got (Absent now) ≡ Got (got_of time at) → at ≡ None
+got-absent None now time e = refl
+got-absent (Some s) now time e = absurd (cc)
+
+pub new-done : (n time : ℕ) (at : Option Stored) (version : Version) (now : ℕ) → New (New_done version now) ≡ New (new_of n time at) → (at ≡ None) × (version ≡ version_at n)
+new-done n time None version now e = (refl, cc)
+new-done n time (Some s) version now e = absurd (cc)
+
+-- a removal that was done: this version stood
+pub record StoodSo (old : ℕ) (at : Option Stored) : Type 0 where
+  pub stored : Stored
+  pub stands : at ≡ Some stored
+  pub old_is : stored.version ≡ old
+
+pub gone-done : (time old : ℕ) (at : Option Stored) (now : ℕ) → GoneAt (Gone_done now) ≡ GoneAt (gone_at_of time old at) → StoodSo old at
+gone-done time old None now e = absurd (cc)
+gone-done time old (Some s) now e = decide (s.version == old) refl e
+  where
+    decide : (b : Bool) → (s.version == old) ≡ b → GoneAt (Gone_done now) ≡ GoneAt (cond b (Gone_done time) (Gone_moved (Some (version_at s.version)) time)) → StoodSo old (Some s)
+    decide true h d = record { stored = s; stands = refl; old_is = eqb-true s.version old h }
+    decide false h d = absurd (cc)
+
+pub gone-moved : (time old : ℕ) (at : Option Stored) (there : Option Version) (now : ℕ) → GoneAt (Gone_moved there now) ≡ GoneAt (gone_at_of time old at) → Differs old at there
+gone-moved time old None None now e = refl
+gone-moved time old None (Some v) now e = absurd (cc)
+gone-moved time old (Some s) there now e = decide (s.version == old) refl there e
+  where
+    decide : (b : Bool) → (s.version == old) ≡ b → (t : Option Version) → GoneAt (Gone_moved t now) ≡ GoneAt (cond b (Gone_done time) (Gone_moved (Some (version_at s.version)) time)) → Differs old (Some s) t
+    decide true h t d = absurd (cc)
+    decide false h None d = absurd (cc)
+    decide false h (Some v) d = (s, refl, cc, λ same. let y = eq-eqb s.version old same in cc)

@@ -1,0 +1,48 @@
+-- Laws of refs: tags and `main` stay; and whatever others do, each operation of a call is polite, and the answer tells the journal.
+use Rattle.std.specs.Prelude.{◌≡◌, ℕ, List, ◌++◌, Some, Result}
+use Rattle.ice_base.specs.Names.{main_name}
+use Rattle.store_api.specs.declared.keys.Key.TheVariants.{Branch, Tag, TagGone}
+use Rattle.store_api.specs.declared.events.Event.{Event}
+use Rattle.store_api.specs.declared.machines.Refusal.{Refusal}
+use Rattle.store_api.specs.Machine.{Stored, found}
+use Rattle.store_api.specs.Journal.{Each, IsGood}
+use Rattle.store_api.specs.Callers.{Caller, IsOther}
+use Rattle.store_api.specs.Program.{Leads}
+use Rattle.store_api.specs.Running.{Program, StaysPolite}
+use Rattle.refs_admin.specs.declared.resolving.At.{At}
+use Rattle.refs_admin.specs.Resolving.{resolve_at_program}
+use Rattle.refs_admin.specs.Branches.{branch_new_program, branch_reset_program, branch_drop_program}
+use Rattle.refs_admin.specs.Tags.{tag_new_program, tag_drop_program}
+use Rattle.refs_admin.specs.Beginning.{init_program}
+use Rattle.refs_admin.specs.Logs.{log_program}
+use Rattle.refs_admin.specs.Telling.{NamingTells}
+use Rattle.refs_admin.specs.BranchTelling.{BranchNewTells, BranchResetTells, BranchDropTells}
+use Rattle.refs_admin.specs.TagTelling.{TagNewTells, TagDropTells}
+use Rattle.refs_admin.specs.InitTelling.{InitTells}
+use Rattle.refs_admin.specs.LogTelling.{LogTells}
+
+-- Whatever others do, each operation to come is polite; the answer tells this of the journal, where `tells` has the journal at the call
+-- first; and what it tells stays so.
+pub record IsTold (by : Caller) {A : Type 0} (p : Program A) (tells : List Event → Result A Refusal → List Event → Type 0) : Type 0 where
+  pub polite : (journal : List Event) → StaysPolite by p journal
+  pub leads : (journal : List Event) → Leads (tells journal) by p journal
+  pub kept : (result : Result A Refusal) (start journal more : List Event) → Each (IsOther by) journal more → tells start result journal → tells start result (journal ++ more)
+
+pub record RefsLaw (by : Caller) : Type 0 where
+  pub resolve : (at : At) → IsTold by (resolve_at_program at) (NamingTells by.number at)
+  pub init : IsTold by init_program (InitTells by.number)
+  pub branch_new : (name : List ℕ) (at : At) → IsTold by (branch_new_program name at) (BranchNewTells by.number name at)
+  pub branch_reset : (name : List ℕ) (at : At) → IsTold by (branch_reset_program name at) (BranchResetTells by.number name at)
+  pub branch_drop : (name : List ℕ) → IsTold by (branch_drop_program name) (BranchDropTells by.number name)
+  pub tag_new : (name : List ℕ) (at : At) → IsTold by (tag_new_program name at) (TagNewTells by.number name at)
+  pub tag_drop : (name : List ℕ) → IsTold by (tag_drop_program name) (TagDropTells by.number name)
+  pub log : (at : At) → IsTold by (log_program at) (LogTells by.number at)
+
+-- Whatever good events come, a tag stays as it was put, and so does a tombstone: a tag never moves, and its name isn't used again.
+pub record TagsStay : Type 0 where
+  pub tags : (name : List ℕ) (journal more : List Event) (s : Stored) → Each IsGood journal more → found journal (Tag name) ≡ Some s → found (journal ++ more) (Tag name) ≡ Some s
+  pub tombstones : (name : List ℕ) (journal more : List Event) (s : Stored) → Each IsGood journal more → found journal (TagGone name) ≡ Some s → found (journal ++ more) (TagGone name) ≡ Some s
+
+-- And where `main` is there, it stays there.
+abbrev pub MainStays : Type 0
+MainStays = (journal more : List Event) (s : Stored) → Each IsGood journal more → found journal (Branch main_name) ≡ Some s → (t : Stored) × (found (journal ++ more) (Branch main_name) ≡ Some t)

@@ -1,0 +1,12 @@
+pub mod Resolving
+pub mod Branches
+pub mod Tags
+pub mod Logs
+pub mod Beginning
+pub mod Telling
+pub mod BranchTelling
+pub mod TagTelling
+pub mod InitTelling
+pub mod LogTelling
+pub mod Laws
+pub mod inside

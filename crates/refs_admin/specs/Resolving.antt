@@ -1,0 +1,70 @@
+-- What a branch, a tag or an id names. (Icechunk specification version 1, "Reference Files", "Tags".)
+use Rattle.std.specs.Prelude.{ℕ, List, Some, None, Result, Ok, Err}
+use Rattle.ice_ids.specs.declared.Id12.{Id12}
+use Rattle.snapshot_file.specs.declared.snapshot.SnapshotFile.{SnapshotFile}
+use Rattle.repo_objects.specs.Readings.{read_ref}
+use Rattle.store_api.specs.declared.keys.Key.TheVariants.{Snapshot, Tag, TagGone}
+use Rattle.store_api.specs.declared.events.Op.TheVariants.{Get}
+use Rattle.store_api.specs.declared.events.Got.TheVariants.{Found, Absent}
+use Rattle.store_api.specs.declared.events.Reply.{Reply}
+use Rattle.store_api.specs.declared.events.Reply.TheVariants.{Got}
+use Rattle.store_api.specs.declared.machines.Refusal.{Refusal}
+use Rattle.store_api.specs.declared.machines.Refusal.TheVariants.{NoRef, Missing, NoSnapshot, StoreFault}
+use Rattle.store_api.specs.Program.{Done, Ask}
+use Rattle.store_api.specs.Running.{Program, ◌>>=◌}
+use Rattle.repo_read.specs.Answers.{at_key, snapshot_told}
+use Rattle.repo_read.specs.Programs.{resolve_program}
+use Rattle.refs_admin.specs.declared.resolving.At.{At}
+use Rattle.refs_admin.specs.declared.resolving.Named.{Named}
+
+-- a snapshot that isn't named by a branch
+abbrev pub alone : Id12 → Named
+alone id = record { id = id; version = None }
+
+-- the snapshot that a tag names
+abbrev pub tag_told : (tag : List ℕ) → Reply → Result Id12 Refusal
+tag_told tag (Got (Found bytes version now)) = at_key (Tag tag) (read_ref bytes)
+tag_told tag (Got (Absent now)) = Err NoRef
+tag_told tag _ = Err StoreFault
+
+-- own: a tag with a tombstone counts as absent, whatever the tombstone holds
+abbrev pub tombstone_told : Id12 → Reply → Result Id12 Refusal
+tombstone_told id (Got (Found bytes version now)) = Err NoRef
+tombstone_told id (Got (Absent now)) = Ok id
+tombstone_told id _ = Err StoreFault
+
+-- gets a tag, tombstone or not
+abbrev pub tag_program : (tag : List ℕ) → Program Id12
+tag_program tag = Ask (Get (Tag tag)) (λ reply. Done (tag_told tag reply))
+
+-- gets the tombstone of a tag that names this snapshot
+abbrev pub tombstone_program : (tag : List ℕ) → Id12 → Program Id12
+tombstone_program tag id = Ask (Get (TagGone tag)) (λ reply. Done (tombstone_told id reply))
+
+-- gets what names a snapshot: a branch, or a tag and then its tombstone; for an id there is nothing to get
+abbrev pub resolve_at_program : At → Program Named
+resolve_at_program (At.Branch name) = do
+  read ← resolve_program name
+  Done (Ok (record { id = read.id; version = Some read.version }))
+resolve_at_program (At.Tag name) = do
+  tagged ← tag_program name
+  id ← tombstone_program name tagged
+  Done (Ok (alone id))
+resolve_at_program (At.Snapshot id) = Done (Ok (alone id))
+
+-- ---- the snapshot that a ref is to name
+abbrev pub no_snapshot : Refusal → Refusal
+no_snapshot (Missing key) = NoSnapshot
+no_snapshot why = why
+
+abbrev pub but_refused : {A : Type 0} → (Refusal → Refusal) → Result A Refusal → Result A Refusal
+but_refused f (Ok x) = Ok x
+but_refused f (Err why) = Err (f why)
+
+-- the snapshot is there and readable
+abbrev pub target_told : Id12 → Reply → Result SnapshotFile Refusal
+target_told id reply = but_refused no_snapshot (snapshot_told id reply)
+
+-- gets the snapshot that a ref is to name
+abbrev pub target_program : Id12 → Program SnapshotFile
+target_program id = Ask (Get (Snapshot id)) (λ reply. Done (target_told id reply))

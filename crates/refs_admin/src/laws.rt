@@ -1,0 +1,22 @@
+//! Laws of the calls on refs, as the contracts of functions that do nothing.
+
+ghost use Rattle.store_api.specs.Callers.{Caller as TheCaller};
+ghost use Rattle.refs_admin.specs.Laws.{MainStays, RefsLaw, TagsStay};
+
+use repo_objects::{initial_law, ref_law, snapshot_law};
+
+/// Whatever others do, each operation of these calls is polite, and each answer tells the journal: a ref that was made, moved
+/// or dropped was so by the client's own operation, and each refusal has its cause there.
+pub fn refs_law()
+    ensures { (by : TheCaller) → RefsLaw by }
+{
+    snapshot_law();
+    ref_law();
+    initial_law();
+}
+
+/// Whatever good events come, a tag stays as it was put, and so does a tombstone; and `main` stays there.
+pub fn stays_law()
+    ensures tags { TagsStay }
+    ensures main { MainStays }
+{}

@@ -1,0 +1,23 @@
+//! Branches and tags: machines that make, move and drop them, and the log of a snapshot's chain.
+#![tactic(auto)]
+
+mod answers;
+mod branch_drop;
+mod branch_new;
+mod branch_reset;
+mod init;
+mod laws;
+mod log;
+mod resolving;
+mod tag_drop;
+mod tag_new;
+
+pub use branch_drop::BranchDrop;
+pub use branch_new::BranchNew;
+pub use branch_reset::BranchReset;
+pub use init::Init;
+pub use laws::{refs_law, stays_law};
+pub use log::{Log, LogLine, LogLines};
+pub use resolving::{At, Named, ResolveAt};
+pub use tag_drop::TagDrop;
+pub use tag_new::TagNew;
