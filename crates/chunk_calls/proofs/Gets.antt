@@ -30,8 +30,8 @@ use Rattle.session.specs.declared.chunks.Value.{Value}
 use Rattle.session.specs.declared.chunks.Value.TheVariants.{Held}
 use Rattle.session.specs.Sessions.{SessionState, nodes_seen}
 use Rattle.session.specs.Chunks.{found, read_entry, read_place, read_listed, read_own, read_at, read_found, get_program}
-use Rattle.commit_path.specs.Answered.{ChangedNothing}
-use Rattle.commit_path.proofs.Happening.{ChangedNothing-makes, get-leaves}
+use Rattle.store_api.specs.Telling.{ChangedNothing}
+use Rattle.store_api.proofs.Happening.{ChangedNothing-makes, get-leaves}
 
 -- each of its operations is a get
 abbrev pub OnlyGets : {A : Type 0} → Prog A → Type 0

@@ -43,12 +43,12 @@ use Rattle.session.specs.Sessions.{SessionState, nodes_seen, overlay}
 use Rattle.session.specs.Editing.{refusal_of_edit}
 use Rattle.session.specs.Chunks.{found as found_bytes, read_entry, read_listed, read_at, read_found, get_program}
 use Rattle.commit_path.specs.Owed.{IsCareful}
-use Rattle.commit_path.specs.Answered.{ChangedNothing, WasGot, WasAbsent}
+use Rattle.store_api.specs.Telling.{ChangedNothing, WasAbsent, WasGot}
 use Rattle.commit_path.specs.Opened.{IsOpened}
 use Rattle.commit_path.specs.Single.{PutsSnapshot}
 use Rattle.commit_path.specs.Laws.{SessionLaw}
-use Rattle.commit_path.proofs.Telling.{get-had, makes-keeps}
-use Rattle.commit_path.proofs.Happening.{own-made, failed-made}
+use Rattle.store_api.proofs.Telling.{get-had, makes-keeps}
+use Rattle.store_api.proofs.Happening.{own-made, failed-made}
 use Rattle.chunk_calls.specs.Told.{value_of, IsOfLength, IsOfGet, GetTells}
 use Rattle.chunk_calls.specs.Laws.{GetLaw}
 use Rattle.chunk_calls.proofs.Growing.{Surely, Surely-makes}

@@ -7,7 +7,7 @@ use Rattle.store_api.specs.declared.events.Event.{Event}
 use Rattle.store_api.specs.Journal.{Each, puts_of, IsFirst, IsOnce, IsGood, IsPolite}
 use Rattle.store_api.specs.Callers.{Caller, Makes}
 use Rattle.store_api.proofs.Journals.{Each-back}
-use Rattle.commit_path.proofs.Telling.{makes-keeps}
+use Rattle.store_api.proofs.Telling.{makes-keeps}
 use Rattle.commit_path.proofs.Putting.{extends-more, puts-kept}
 
 -- where nothing is put again, it is so of all puts that extend those of the journal

@@ -22,8 +22,8 @@ use Rattle.store_api.proofs.Programs.{good-waits}
 use Rattle.session.specs.declared.chunks.Value.{Value}
 use Rattle.session.specs.Sessions.{SessionState, overlay}
 use Rattle.session.specs.Chunks.{most_inline, with_chunk}
-use Rattle.commit_path.specs.Answered.{WasGot, WasAbsent}
-use Rattle.commit_path.proofs.Happening.{ChangedNothing-others, HasOwn-append}
+use Rattle.store_api.specs.Telling.{WasAbsent, WasGot}
+use Rattle.store_api.proofs.Happening.{ChangedNothing-others, HasOwn-append}
 use Rattle.commit_path.proofs.Lasting.{failed-others}
 use Rattle.chunk_calls.specs.Told.{WasPutOut, WasSet, WasObjectTaken, IsOfSet, SetRefused, SetTells, value_of, IsChunk, IsOfGet, WasNotThere, WasUnfit, GetRefused, GetTells}
 use Rattle.chunk_calls.specs.Laws.{TellsLaw}

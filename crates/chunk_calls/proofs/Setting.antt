@@ -49,14 +49,14 @@ use Rattle.session.specs.Sources.{IsLater}
 use Rattle.session.specs.Editing.{refusal_of_edit}
 use Rattle.session.specs.Chunks.{most_inline, with_chunk, after_draw, after_object, put_object, put_chunk, unless_fault, set_program}
 use Rattle.commit_path.specs.Owed.{HasChunks, IsCareful}
-use Rattle.commit_path.specs.Answered.{ChangedNothing, StandsAt}
+use Rattle.store_api.specs.Telling.{ChangedNothing, StandsAt}
 use Rattle.commit_path.specs.Opened.{ObjectsPut, IsOpened}
 use Rattle.commit_path.specs.Spelled.{AreSized, IsSpelled}
 use Rattle.commit_path.specs.Single.{PutsSnapshot}
 use Rattle.commit_path.specs.Laws.{SessionLaw}
-use Rattle.commit_path.proofs.Telling.{put-did, makes-keeps}
+use Rattle.store_api.proofs.Telling.{put-did, makes-keeps}
 use Rattle.commit_path.proofs.Sources.{later-later, later-drawn12}
-use Rattle.commit_path.proofs.Happening.{own-made, ChangedNothing-makes, failed-made}
+use Rattle.store_api.proofs.Happening.{own-made, ChangedNothing-makes, failed-made}
 use Rattle.chunk_calls.specs.Told.{IsOfSet, SetTells}
 use Rattle.chunk_calls.specs.Laws.{SetLaw}
 use Rattle.chunk_calls.proofs.Entries.{both-true, entered}

@@ -13,7 +13,7 @@ use Rattle.session.specs.Sessions.{SessionState}
 use Rattle.session.specs.Sources.{IsLater}
 use Rattle.session.specs.Chunks.{set_program, get_program}
 use Rattle.commit_path.specs.Owed.{IsCareful}
-use Rattle.commit_path.specs.Answered.{ChangedNothing}
+use Rattle.store_api.specs.Telling.{ChangedNothing}
 use Rattle.commit_path.specs.Opened.{IsOpened}
 use Rattle.commit_path.specs.Spelled.{IsSpelled}
 use Rattle.commit_path.specs.Single.{PutsSnapshot}

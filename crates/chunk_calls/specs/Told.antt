@@ -29,7 +29,7 @@ use Rattle.session.specs.declared.chunks.Value.TheVariants.{Held, Fill}
 use Rattle.session.specs.Sessions.{SessionState, nodes_seen, overlay}
 use Rattle.session.specs.Editing.{refusal_of_edit}
 use Rattle.session.specs.Chunks.{most_inline, with_chunk, after_draw}
-use Rattle.commit_path.specs.Answered.{HasOwn, ChangedNothing, StandsAt, WasFailed, WasGot, WasAbsent}
+use Rattle.store_api.specs.Telling.{ChangedNothing, HasOwn, StandsAt, WasAbsent, WasFailed, WasGot}
 
 -- ---- a chunk that was set
 -- the client's own put of a chunk's object under this id was done

@@ -37,14 +37,15 @@ use Rattle.session.specs.Sources.{IsLater, MayDrawObject}
 use Rattle.commit_path.specs.declared.commit.Committed.{Committed}
 use Rattle.commit_path.specs.Committing.{Written, commit_program, arrays_program, unwritten, after_arrays, write_all, put_log, after_log, after_snapshot, put_branch, after_branch, log_for, snap_for, is_long}
 use Rattle.commit_path.specs.Owed.{Sessions, IsMade, IsCareful}
-use Rattle.commit_path.specs.Answered.{ChangedNothing, commits_over, WasLogged, WasSnapped, WerePut, TookEffect, WasMoved, WasTaken, IsOfCommit, CommitTells}
+use Rattle.commit_path.specs.Answered.{commits_over, WasLogged, WasSnapped, WerePut, TookEffect, WasMoved, WasTaken, IsOfCommit, CommitTells}
+use Rattle.store_api.specs.Telling.{ChangedNothing}
 use Rattle.commit_path.specs.Opened.{IsOpened}
 use Rattle.commit_path.specs.Spelled.{IsSpelled}
 use Rattle.commit_path.proofs.Sources.{later-same, object-drawn, object-later}
 use Rattle.commit_path.proofs.Walks.{Walks, walks-done, walks-ask, walks-then}
 use Rattle.commit_path.proofs.Spelling.{Spellings}
-use Rattle.commit_path.proofs.Telling.{put-did, put-time, makes-keeps}
-use Rattle.commit_path.proofs.Happening.{ChangedNothing-makes, own-made, HasOwn-makes, log-leaves, snapshot-leaves, over-same, over-done, over-moved, moved-leaves, moved-later, stands-as, new-present, changed-once, failed-made}
+use Rattle.store_api.proofs.Telling.{put-did, put-time, makes-keeps}
+use Rattle.store_api.proofs.Happening.{ChangedNothing-makes, own-made, HasOwn-makes, log-leaves, snapshot-leaves, over-same, over-done, over-moved, moved-leaves, moved-later, stands-as, new-present, changed-once, failed-made}
 use Rattle.commit_path.proofs.Knowing.{IsOpened-append}
 use Rattle.commit_path.proofs.Having.{Wrote, Wrote-makes}
 use Rattle.commit_path.proofs.Writing.{arrays-walks}

@@ -29,12 +29,13 @@ use Rattle.changed_snapshot.specs.declared.written.NewList.{NewList}
 use Rattle.changed_snapshot.specs.Laws.{IsSized}
 use Rattle.session.specs.Sources.{IsLater, MayDrawObject}
 use Rattle.commit_path.specs.Committing.{Written}
-use Rattle.commit_path.specs.Answered.{ChangedNothing, WasRead, WereRead, WasManifestPut}
+use Rattle.commit_path.specs.Answered.{WasRead, WereRead, WasManifestPut}
+use Rattle.store_api.specs.Telling.{ChangedNothing}
 use Rattle.commit_path.specs.Opened.{IsOpened}
 use Rattle.commit_path.proofs.Putting.{puts-kept}
 use Rattle.commit_path.proofs.Rewriting.{IsRead, AreRead, Rewritten, rewritten-extends, zip-weaker, Among}
-use Rattle.commit_path.proofs.Telling.{makes-keeps}
-use Rattle.commit_path.proofs.Happening.{HasOwn-append, WasGot-append}
+use Rattle.store_api.proofs.Telling.{makes-keeps}
+use Rattle.store_api.proofs.Happening.{HasOwn-append, WasGot-append}
 use Rattle.commit_path.proofs.Knowing.{once-front, IsOpened-append}
 
 -- ---- what is known of a manifest that was got

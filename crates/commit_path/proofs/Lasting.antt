@@ -25,9 +25,10 @@ use Rattle.store_api.specs.Callers.{Caller, IsOther}
 use Rattle.store_api.proofs.Programs.{good-waits}
 use Rattle.session.specs.Sessions.{SessionState}
 use Rattle.commit_path.specs.declared.commit.Committed.{Committed}
-use Rattle.commit_path.specs.Answered.{ChangedOnce, commits_over, WasLogged, WasSnapped, WasManifestPut, WerePut, WasRead, WereRead, TookEffect, WasMoved, WasTaken, WasFailed, IsOfCommit, IsLong, CommitRefused, CommitTells}
+use Rattle.commit_path.specs.Answered.{commits_over, WasLogged, WasSnapped, WasManifestPut, WerePut, WasRead, WereRead, TookEffect, WasMoved, WasTaken, IsOfCommit, IsLong, CommitRefused, CommitTells}
+use Rattle.store_api.specs.Telling.{ChangedOnce, WasFailed}
 use Rattle.commit_path.proofs.Rewriting.{zip-weaker}
-use Rattle.commit_path.proofs.Happening.{ChangedNothing-others, HasOwn-append, WasGot-append, WasAbsent-append}
+use Rattle.store_api.proofs.Happening.{ChangedNothing-others, HasOwn-append, WasGot-append, WasAbsent-append}
 use Rattle.commit_path.proofs.Having.{WasRead-append, WasManifestPut-append}
 use Rattle.commit_path.proofs.Owing.{made-stable}
 

@@ -10,7 +10,7 @@ use Rattle.store_api.proofs.Programs.{Leads-weaker, good-waits}
 use Rattle.session.specs.Sessions.{SessionState}
 use Rattle.session.specs.Opening.{Asked, open_program}
 use Rattle.commit_path.specs.Owed.{Sessions}
-use Rattle.commit_path.specs.Answered.{ChangedNothing}
+use Rattle.store_api.specs.Telling.{ChangedNothing}
 use Rattle.commit_path.specs.Opened.{OpeningTells}
 use Rattle.commit_path.specs.Spelled.{IsSpelled}
 use Rattle.commit_path.specs.Laws.{OpeningLaw, SessionLaw, CommitLaw, AnswersLaw}
@@ -19,7 +19,7 @@ use Rattle.commit_path.proofs.Editing.{node-added, added-spelled, added-opened, 
 use Rattle.commit_path.proofs.Setting.{chunk-set, chunk-spelled, chunk-opened, chunk-unset, without-spelled, without-opened}
 use Rattle.session.specs.Sources.{MayDrawObject}
 use Rattle.commit_path.proofs.Knowing.{IsOpened-append}
-use Rattle.commit_path.proofs.Happening.{ChangedNothing-others}
+use Rattle.store_api.proofs.Happening.{ChangedNothing-others}
 use Rattle.commit_path.proofs.Opened.{Opens, open-careful, open-leads}
 use Rattle.commit_path.proofs.Answering.{commit-walks}
 use Rattle.commit_path.proofs.Lasting.{CommitTells-others}

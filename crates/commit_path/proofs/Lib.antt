@@ -1,7 +1,6 @@
 pub mod Logs
 pub mod Ascending
 pub mod Walking
-pub mod Telling
 pub mod Walks
 pub mod Sources
 pub mod Putting
@@ -10,7 +9,6 @@ pub mod Readable
 pub mod Spelling
 pub mod Named
 pub mod Chunking
-pub mod Happening
 pub mod Knowing
 pub mod Having
 pub mod Writing

@@ -45,7 +45,7 @@ use Rattle.commit_path.specs.Owed.{Sessions, IsCareful}
 use Rattle.commit_path.specs.Spelled.{IsSpelled}
 use Rattle.commit_path.specs.Opened.{IsOpened}
 use Rattle.commit_path.proofs.Spelling.{Spellings}
-use Rattle.commit_path.proofs.Telling.{Had, get-had, makes-keeps}
+use Rattle.store_api.proofs.Telling.{Had, get-had, makes-keeps}
 
 -- ---- the program behind its replies
 -- what follows where the branch's bytes read so, and where the snapshot's do

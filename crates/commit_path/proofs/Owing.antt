@@ -50,7 +50,7 @@ use Rattle.commit_path.proofs.Rewriting.{IsListOf, AreListsOf, rewritten-extends
 use Rattle.commit_path.proofs.Readable.{over-readable}
 use Rattle.commit_path.proofs.Spelling.{Spellings, tree-over, log-read, snap-read}
 use Rattle.commit_path.proofs.Differing.{snap_tree, differs-over}
-use Rattle.commit_path.proofs.Telling.{DidPut, put-did}
+use Rattle.store_api.proofs.Telling.{DidPut, put-did}
 use Rattle.commit_path.proofs.Knowing.{once-front, tree-by_rows, rows-kept}
 use Rattle.commit_path.proofs.Having.{IsOwnNew, IsNewFor, AreNewFor, Wrote}
 

@@ -23,9 +23,9 @@ use Rattle.repo_read.specs.declared.answers.Resolved.{Resolved}
 use Rattle.repo_read.specs.Answers.{at_key, resolved_at, ref_told, snapshot_told}
 use Rattle.session.specs.Sessions.{SessionState}
 use Rattle.session.specs.Opening.{Asked, open_program}
-use Rattle.commit_path.specs.Answered.{ChangedNothing, WasGot}
+use Rattle.store_api.specs.Telling.{ChangedNothing, WasGot}
 use Rattle.commit_path.specs.Opened.{WasNamed, WasBegun, WasMissing, WasNoReference, WasNoSnapshot, IsOfOpening, RefusalTells}
-use Rattle.commit_path.proofs.Happening.{ChangedNothing-others, failed-made, got-nothing, got-made, absent-made, WasGot-append, WasAbsent-append}
+use Rattle.store_api.proofs.Happening.{ChangedNothing-others, failed-made, got-nothing, got-made, absent-made, WasGot-append, WasAbsent-append}
 use Rattle.commit_path.proofs.Lasting.{failed-others}
 use Rattle.commit_path.proofs.Opened.{after_ref, after_base}
 

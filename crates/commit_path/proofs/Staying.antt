@@ -11,9 +11,9 @@ use Rattle.store_api.specs.Plays.{Stays}
 use Rattle.repo_read.specs.declared.answers.Resolved.{Resolved}
 use Rattle.repo_read.specs.Answers.{ref_told, snapshot_told}
 use Rattle.session.specs.Opening.{Asked, open_program}
-use Rattle.commit_path.specs.Answered.{ChangedNothing}
+use Rattle.store_api.specs.Telling.{ChangedNothing}
 use Rattle.commit_path.proofs.Opened.{after_ref, after_base}
-use Rattle.commit_path.proofs.Happening.{ChangedNothing-makes, get-leaves}
+use Rattle.store_api.proofs.Happening.{ChangedNothing-makes, get-leaves}
 
 module _ (by : Caller) (start : List Event) where
   abbrev Nothing : List Event → Type 0

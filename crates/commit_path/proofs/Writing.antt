@@ -50,7 +50,8 @@ use Rattle.session.specs.Sources.{IsLater, MayDrawObject}
 use Rattle.repo_read.specs.Programs.{manifest_program}
 use Rattle.commit_path.specs.Committing.{Written, manifest_for, with_list, with_manifest, after_manifest, put_manifest, write_array, old_program, array_program, arrays_program, is_long}
 use Rattle.commit_path.specs.Owed.{Sessions, IsCareful}
-use Rattle.commit_path.specs.Answered.{ChangedNothing, IsOfCommit, CommitTells}
+use Rattle.commit_path.specs.Answered.{IsOfCommit, CommitTells}
+use Rattle.store_api.specs.Telling.{ChangedNothing}
 use Rattle.commit_path.specs.Opened.{IsOpened}
 use Rattle.commit_path.specs.Spelled.{IsSpelled}
 use Rattle.commit_path.proofs.Sources.{later-later, later-drawn12, object-drawn, object-later}
@@ -59,8 +60,8 @@ use Rattle.commit_path.proofs.Rewriting.{zip-push, IsChanged, each-changed, Amon
 use Rattle.commit_path.proofs.Spelling.{Spellings, node-id, not-long}
 use Rattle.commit_path.proofs.Named.{own-named, own-sized}
 use Rattle.commit_path.proofs.Chunking.{IsFrom, all-from, IsFineOld, proper-new, extents-fine}
-use Rattle.commit_path.proofs.Telling.{DidPut, get-had, put-did, makes-keeps}
-use Rattle.commit_path.proofs.Happening.{own-made, ChangedNothing-makes, manifest-leaves, stands-as, new-present, failed-made, got-nothing, got-made, absent-made}
+use Rattle.store_api.proofs.Telling.{DidPut, get-had, put-did, makes-keeps}
+use Rattle.store_api.proofs.Happening.{own-made, ChangedNothing-makes, manifest-leaves, stands-as, new-present, failed-made, got-nothing, got-made, absent-made}
 use Rattle.commit_path.proofs.Having.{IsGot, WereGot, WereGot-append, got-told, got-read, there, here, got-for, IsOwnNew, IsNewFor, Wrote, Wrote-makes, one-among, no-chunks, small-file, small-refs, too-many}
 
 module _ (L : Spellings) (by : Caller) (ids : AnyIds) (mine : Sessions) (s : SessionState) (message : List ℕ) (later : IsLater ids s.ids) (w : IsSpelled s) (start : List Event) where

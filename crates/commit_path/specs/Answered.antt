@@ -33,55 +33,19 @@ use Rattle.store_api.specs.declared.keys.Why.TheVariants.{Set, Commit}
 use Rattle.store_api.specs.declared.events.Version.{Version}
 use Rattle.store_api.specs.declared.events.Op.{Op}
 use Rattle.store_api.specs.declared.events.Op.TheVariants.{Get, PutNew, PutOver}
-use Rattle.store_api.specs.declared.events.Got.TheVariants.{Found, Absent}
 use Rattle.store_api.specs.declared.events.New.TheVariants.{Done as New_done, Present}
 use Rattle.store_api.specs.declared.events.Over.TheVariants.{Done as Over_done, Moved}
-use Rattle.store_api.specs.declared.events.Reply.{Reply}
-use Rattle.store_api.specs.declared.events.Reply.TheVariants.{Got as Is_got, New as Is_new, Over as Is_over, Failed}
+use Rattle.store_api.specs.declared.events.Reply.TheVariants.{New as Is_new, Over as Is_over}
 use Rattle.store_api.specs.declared.events.Event.{Event}
 use Rattle.store_api.specs.declared.machines.Refusal.{Refusal}
 use Rattle.store_api.specs.declared.machines.Refusal.TheVariants.{ReadOnly, NothingToCommit, IdsSpent, Missing, BadFile, IdTaken, Conflict, TooLarge, StoreFault, NoMemory}
-use Rattle.store_api.specs.Machine.{Stored, found, version_at}
-use Rattle.store_api.specs.Journal.{Each, StoodAt, IsOnce}
+use Rattle.store_api.specs.Machine.{found, version_at}
+use Rattle.store_api.specs.Journal.{IsOnce}
+use Rattle.store_api.specs.Telling.{HasOwn, StandsAt, WasGot, WasAbsent, HasMovedOn, ChangedNothing, ChangedOnce, WasFailed}
 use Rattle.session.specs.Sessions.{SessionState, base_nodes}
 use Rattle.commit_path.specs.declared.commit.Committed.{Committed}
 use Rattle.commit_path.specs.Committing.{log_for, snap_for, manifest_for, is_long}
 use Rattle.commit_path.specs.Owed.{IsMade}
-
--- ---- a client's own events
--- An event of this client, with this operation and this reply, stands in the journal behind `start`.
-pub record HasOwn (client : ℕ) (op : Op) (reply : Reply) (start journal : List Event) : Type 0 where
-  pub before : List Event
-  pub since : List Event
-  pub before_is : before ≡ start ++ since
-  pub event : Event
-  pub after : List Event
-  pub is : journal ≡ before ++ event ∷ after
-  pub client_is : event.client ≡ client
-  pub op_is : event.op ≡ op
-  pub reply_is : event.reply ≡ reply
-
--- the event isn't the client's, or leaves what stands at each branch as it was
-abbrev pub LeavesBranches : ℕ → List Event → Event → Type 0
-LeavesBranches client before event = event.client ≡ client → (branch : List ℕ) → found (before ++ event ∷ []) (Branch branch) ≡ found before (Branch branch)
-
--- From `start` on, no event of the client changed a branch.
-pub record ChangedNothing (client : ℕ) (start journal : List Event) : Type 0 where
-  pub more : List Event
-  pub is : journal ≡ start ++ more
-  pub each : Each (LeavesBranches client) start more
-
--- From `start` on, no event of the client but this one changed a branch.
-pub record ChangedOnce (client : ℕ) (start before : List Event) (event : Event) (journal : List Event) : Type 0 where
-  pub earlier : ChangedNothing client start before
-  pub later : ChangedNothing client (before ++ event ∷ []) journal
-
--- the key stands with this version, which is the position of the put that left it there
-pub record StandsAt (journal : List Event) (key : Key) (version : ℕ) : Type 0 where
-  pub stored : Stored
-  pub stands : found journal key ≡ Some stored
-  pub version_is : stored.version ≡ version
-  pub put : StoodAt journal key version stored.bytes
 
 -- ---- the answers
 -- a put of the session's branch for a commit, over the version that the session had read
@@ -142,22 +106,6 @@ pub record TookEffect (client : ℕ) (s : SessionState) (message : List ℕ) (ma
   pub written : WasWritten client s made.id message start journal
   pub is_made : IsOnce journal → IsMade s made.id journal
 
--- an event later than this version removed the branch
-pub record WasRemoved (journal : List Event) (branch : List ℕ) (old : ℕ) : Type 0 where
-  pub before : List Event
-  pub event : Event
-  pub after : List Event
-  pub is : journal ≡ before ++ event ∷ after
-  pub later : old < length before
-  pub there : Stored
-  pub stood : found before (Branch branch) ≡ Some there
-  pub gone : found (before ++ event ∷ []) (Branch branch) ≡ None
-
--- the branch stood at a later version than this one, or was gone, removed by a later event
-abbrev pub HasMovedOn : List Event → List ℕ → ℕ → Option Version → Type 0
-HasMovedOn journal branch old None = (found journal (Branch branch) ≡ None) × WasRemoved journal branch old
-HasMovedOn journal branch old (Some version) = (old < version.0) × StandsAt journal (Branch branch) version.0
-
 -- The branch had moved on. The client's own put over of the session's branch, with a reference to this
 -- snapshot, found it at a later version than the one that the session had read, which is the answer's
 -- old one, or found it gone. No event of the client changed a branch.
@@ -182,26 +130,6 @@ pub record WasTaken (client : ℕ) (s : SessionState) (key : Key) (start journal
   pub now : ℕ
   pub own : HasOwn client (PutNew key bytes Set) (Is_new (Present version now)) start journal
   pub there : StandsAt own.before key version.0
-
--- The store failed an operation of the client, of this kind, which may have been done. No other event of
--- the client changed a branch.
-pub record WasFailed (client : ℕ) (kind : Op → Type 0) (start journal : List Event) : Type 0 where
-  pub op : Op
-  pub of_kind : kind op
-  pub done : Bool
-  pub own : HasOwn client op (Failed done) start journal
-  pub once : ChangedOnce client start own.before own.event journal
-
--- the client's own get of the key was answered with these bytes and this version
-pub record WasGot (client : ℕ) (key : Key) (bytes : List ℕ) (version : ℕ) (start journal : List Event) : Type 0 where
-  pub now : ℕ
-  pub own : HasOwn client (Get key) (Is_got (Found bytes (version_at version) now)) start journal
-
--- the client's own get of the key was answered that nothing is there, and nothing was
-pub record WasAbsent (client : ℕ) (key : Key) (start journal : List Event) : Type 0 where
-  pub now : ℕ
-  pub own : HasOwn client (Get key) (Is_got (Absent now)) start journal
-  pub nothing : found own.before key ≡ None
 
 -- an operation of a commit of this session: the get of a manifest that its base names; or under an id that it drew, the put of a
 -- manifest, of its log or of its snapshot, or the put over of the session's branch with a reference to it

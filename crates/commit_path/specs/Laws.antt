@@ -21,7 +21,8 @@ use Rattle.session.specs.Editing.{added, meta_set, node_dropped}
 use Rattle.commit_path.specs.declared.commit.Committed.{Committed}
 use Rattle.commit_path.specs.Committing.{commit_program}
 use Rattle.commit_path.specs.Owed.{IsCareful}
-use Rattle.commit_path.specs.Answered.{ChangedNothing, CommitTells}
+use Rattle.commit_path.specs.Answered.{CommitTells}
+use Rattle.store_api.specs.Telling.{ChangedNothing}
 use Rattle.commit_path.specs.Opened.{IsOpened, OpeningTells}
 use Rattle.commit_path.specs.Spelled.{IsSpelled}
 

@@ -20,7 +20,7 @@ use Rattle.zarr_tree.specs.Held.{Entry, entry_in}
 use Rattle.manifest_file.specs.declared.manifest.Place.{Place}
 use Rattle.manifest_file.specs.declared.manifest.Place.TheVariants.{Object}
 use Rattle.commit_path.specs.Owed.{HasChunks}
-use Rattle.commit_path.specs.Answered.{ChangedNothing, WasFailed, WasGot, WasAbsent}
+use Rattle.store_api.specs.Telling.{ChangedNothing, WasAbsent, WasFailed, WasGot}
 
 -- ---- what a session knows
 -- the objects of the chunks that were set were put

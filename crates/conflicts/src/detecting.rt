@@ -17,25 +17,16 @@ ghost use Rattle.conflicts.specs.Order.{Ascend};
 ghost use Rattle.conflicts.specs.inside.Looking.{twice_at};
 ghost use Rattle.conflicts.specs.Found.{if_so, of_added, of_case, of_row, rows_before, rows_from, found_in, found};
 
-use crate::looking::is_array;
 use crate::sides::Sides;
 use ice_ids::Id8;
 use ice_items::Items;
 use std::alloc::{AllocError, Global};
-use zarr_changes::ChangeSet;
+use zarr_changes::{ChangeSet, is_array, path_of};
 use zarr_path::{Index, Path};
 use zarr_tree::{Case, Conflict, Found, Touched, TreeLike};
 
 /// The conflicts that were found so far.
 type Conflicts = Items<Conflict>;
-
-/// The path of this text.
-fn path_of(alloc: Global, text: &str) -> Result<Path, AllocError>
-    requires { IsTrue (is_path text.now) }
-    ensures { IfOk result (λ path. path ≡ text.now) }
-{
-    Path::read(alloc, text).map_err(|_| AllocError)
-}
 
 /// Whether a path stands before another.
 fn is_before(path: &str, other: &str) -> bool

@@ -1,13 +1,12 @@
 //! Whether a case holds.
 
-ghost use Rattle.std.specs.Prelude.{◌≡◌, ◌<◌, ◌++◌, ◌∷◌, [], length, map, nat_eq, is_some, option_map, IfOk, IfSome};
+ghost use Rattle.std.specs.Prelude.{◌≡◌, ◌++◌, ◌∷◌, [], length, map, nat_eq, is_some, option_map, IfOk};
 ghost use Rattle.std.specs.List.{list_any, starts_with};
 ghost use Rattle.std.specs.List.Sorted.{IsStrictlySortedBy};
 ghost use Rattle.std.specs.String.{string_bytes};
 ghost use Rattle.std.specs.FinMap as finmap;
-ghost use Rattle.zarr_path.specs.Paths.{path_cmp, same_path, is_beneath, before_slash};
+ghost use Rattle.zarr_path.specs.Paths.{path_cmp, same_path, is_beneath};
 ghost use Rattle.zarr_tree.specs.declared.cases.Case.TheVariants.{DeleteOfUpdatedArray, DeleteOfUpdatedGroup};
-ghost use Rattle.zarr_tree.specs.Nodes.{is_group, is_array};
 ghost use Rattle.zarr_tree.specs.Rows.{node_found};
 ghost use Rattle.zarr_tree.specs.Changes.{is_dropped, is_gone, has_id};
 ghost use Rattle.zarr_tree.specs.Touched.{lists};
@@ -20,23 +19,9 @@ use crate::sides::Sides;
 use ice_ids::Id8;
 use std::alloc::{AllocError, Global};
 use std::cmp::Ordering;
-use zarr_meta::{Meta, View};
+use zarr_changes::{before_slash, is_array, is_group};
 use zarr_path::{Index, is_within, parent_text};
 use zarr_tree::{Case, Found, TreeLike};
-
-/// Whether this is the metadata of a group.
-fn is_group(meta: &Meta) -> bool
-    ensures { result ≡ is_group meta.now.text }
-{
-    matches!(meta.view, View::Group)
-}
-
-/// Whether this is the metadata of an array.
-pub(crate) fn is_array(meta: &Meta) -> bool
-    ensures { result ≡ is_array meta.now.text }
-{
-    matches!(meta.view, View::Array(_))
-}
 
 /// Whether two paths are the same.
 pub(crate) fn same_path(path: &str, other: &str) -> bool
@@ -63,15 +48,6 @@ fn same_node(found: Option<Found<'_>>, other: Option<Found<'_>>) -> bool
         Some(found) => has_id(found.id, other),
         None => false,
     }
-}
-
-/// The text before the last slash.
-fn before_slash(text: &str) -> Option<&str>
-    ensures value { before_slash text.now ≡ option_map (λ before. before.now) result }
-    ensures shorter { IfSome result (λ before. length before.now < length text.now) }
-{
-    let (before, _) = text.rsplit_once('/')?;
-    Some(before)
 }
 
 /// Whether one of these paths is beneath another; the first that is ends the search.

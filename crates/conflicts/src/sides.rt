@@ -7,13 +7,13 @@ ghost use Rattle.ice_ids.specs.Text.{same_id8};
 ghost use Rattle.zarr_tree.specs.Touched.{lists, lists_new, IsOrdered};
 ghost use Rattle.conflicts.specs.Found.{new_rows};
 
-use crate::ids::{IdSet, set_of};
+use crate::ids::set_of;
 use crate::lists::is_new;
 use ice_ids::Id8;
 use ice_items::Items;
 use std::alloc::{AllocError, Global};
 use std::marker::Model;
-use zarr_changes::{ChangeSet, ChunkKey};
+use zarr_changes::{ChangeSet, ChunkKey, IdSet};
 use zarr_path::Path;
 use zarr_tree::{Touched, TreeLike};
 

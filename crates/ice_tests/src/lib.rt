@@ -11,9 +11,9 @@ mod manifests;
 #[cfg(test)]
 mod memory;
 #[cfg(test)]
-mod reports;
+mod refs;
 #[cfg(test)]
-mod run;
+mod reports;
 #[cfg(test)]
 mod sessions;
 #[cfg(test)]

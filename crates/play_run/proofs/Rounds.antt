@@ -9,7 +9,7 @@ use Rattle.store_api.specs.declared.events.Event.{Event}
 use Rattle.store_api.specs.Callers.{View, only}
 use Rattle.store_api.specs.Plays.{Play, Ended, HasEnded, PlayKeeps, PlayLeads}
 use Rattle.commit_path.specs.Owed.{IsCareful}
-use Rattle.commit_path.specs.Answered.{ChangedNothing}
+use Rattle.store_api.specs.Telling.{ChangedNothing}
 use Rattle.commit_path.specs.Single.{IsSingle}
 use Rattle.ice_ids.specs.declared.drawing.Draw.{Draw}
 use Rattle.play_script.specs.declared.scripts.Task.{Task}

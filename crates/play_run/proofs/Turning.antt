@@ -17,12 +17,12 @@ use Rattle.store_api.proofs.Journals.{Each-one, Each-none, Each-append}
 use Rattle.store_api.proofs.Programs.{alone, has-all, good-waits, Waits-same, Waits-fewer, Makes-fewer, Fewer}
 use Rattle.store_api.proofs.PlayLaws.{PlayKeeps-waits, PlayKeeps-acts, PlayLeads-waits, PlayLeads-acts}
 use Rattle.commit_path.specs.Owed.{Sessions, IsCareful}
-use Rattle.commit_path.specs.Answered.{ChangedNothing}
+use Rattle.store_api.specs.Telling.{ChangedNothing}
 use Rattle.commit_path.specs.Single.{IsSingle}
 use Rattle.commit_path.proofs.Owing.{IsCareful-append}
 use Rattle.commit_path.proofs.Lawful.{session-law, answers-law}
 use Rattle.chunk_calls.proofs.Lasting.{tells-law}
-use Rattle.commit_path.proofs.Happening.{ChangedNothing-others}
+use Rattle.store_api.proofs.Happening.{ChangedNothing-others}
 use Rattle.commit_path.proofs.Singling.{HasPutNone-others}
 use Rattle.play_script.specs.declared.scripts.Task.{Task}
 use Rattle.play_outcome.specs.declared.outcome.Outcome.{Outcome}

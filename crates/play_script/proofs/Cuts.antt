@@ -62,3 +62,11 @@ lines_whole [] some none = absurd (omega (arith, some))
 lines_whole (x ∷ []) some none = rw (differ x 10 (none 0 (omega arith))) refl
 lines_whole (x ∷ y ∷ ys) some none =
     rw (differ x 10 (none 0 (omega arith)), lines_whole (y ∷ ys) (omega arith) (λ k h. none (suc k) (omega (arith, h)))) refl
+
+-- the first word ends at the first space
+pub cut_at : (c : ℕ) (xs : List ℕ) (i : ℕ) → i < length xs → get_or xs i 0 ≡ c → ((k : ℕ) → k < i → get_or xs k 0 ≢ c) → (cut_of c xs).0 ≡ take i xs
+unfolding cut_of
+cut_at c [] i lt is none = absurd (omega (arith, lt))
+cut_at c (x ∷ xs) zero lt is none = rw (is, same c) refl
+cut_at c (x ∷ xs) (suc i) lt is none =
+    rw (differ x c (none 0 (omega arith)), cut_at c xs i (omega (arith, lt)) is (λ k h. none (suc k) (omega (arith, h)))) refl

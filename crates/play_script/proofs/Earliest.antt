@@ -1,9 +1,10 @@
 -- The earliest of many faults.
 use Rattle.std.proofs.Common.{◌≡◌, ℕ, Bool, true, false, cond, List, [], ◌∷◌, ◌++◌, Result, Ok, Err, length, Option, None, Some, ◌+◌, refl, ap, ◌∙◌, append_assoc, arith}
-use Rattle.std.specs.Prelude.{nat_le}
+use Rattle.std.specs.Prelude.{ℤ, Vec, nat_le}
 use Rattle.std.proofs.lemmas.Bool.Decides.{nat_tests}
 use Rattle.play_script.specs.declared.faults.ScriptKind.{ScriptKind}
 use Rattle.play_script.specs.Parts.{rank, earlier, ◌&◌, made, each}
+use Rattle.play_script.specs.SoFar.{parts_seen}
 
 by_ranks : (a b d : Bool) (x y z : ScriptKind) → nat_le (rank x) (rank y) ≡ a → nat_le (rank y) (rank z) ≡ b → nat_le (rank x) (rank z) ≡ d → earlier (cond a x y) z ≡ earlier x (cond b y z)
 by_ranks true true true x y z p q r = rw (p, r) refl
@@ -44,3 +45,14 @@ one_more_part f so_far more t word rest all whole h split part is_more =
 abbrev pub left_size : Option (List ℕ) → ℕ
 left_size None = 0
 left_size (Some t) = length t + 1
+
+-- a fault of two lists and a value is that of the text that is made of them
+pub made_fault : {B Z : Type 0} (text : List ℕ) (shape chunks : Result (Vec ℕ Z) ScriptKind) (fill : Result ℤ ScriptKind) (f : ((List ℕ × List ℕ) × List ℕ) × ℤ → B) (kind : ScriptKind) → ((shape & chunks) & fill) ≡ Err kind → Err kind ≡ made f (((Ok text & parts_seen shape) & parts_seen chunks) & fill)
+made_fault text (Ok shape) (Ok chunks) (Ok fill) f kind h = absurd (cc)
+made_fault text (Ok shape) (Ok chunks) (Err c) f kind h = let e : kind ≡ c = cc in ap (λ x. Err x) e
+made_fault text (Ok shape) (Err b) (Ok fill) f kind h = let e : kind ≡ b = cc in ap (λ x. Err x) e
+made_fault text (Ok shape) (Err b) (Err c) f kind h = let e : kind ≡ earlier b c = cc in ap (λ x. Err x) e
+made_fault text (Err a) (Ok chunks) (Ok fill) f kind h = let e : kind ≡ a = cc in ap (λ x. Err x) e
+made_fault text (Err a) (Ok chunks) (Err c) f kind h = let e : kind ≡ earlier a c = cc in ap (λ x. Err x) e
+made_fault text (Err a) (Err b) (Ok fill) f kind h = let e : kind ≡ earlier a b = cc in ap (λ x. Err x) e
+made_fault text (Err a) (Err b) (Err c) f kind h = let e : kind ≡ earlier (earlier a b) c = cc in ap (λ x. Err x) e

@@ -49,16 +49,16 @@ signed_fits (negsuc n) h = record { sfits = omega (arith, leb-true n (2 ^ 127 - 
 
 -- a test of two parts, of which the first holds
 abbrev Tested : Bool → Bool → ℤ → Result ℤ ScriptKind → Type 0
-Tested a b value r = r ≡ cond (a && b) (Ok value) (Err k.Unbuilt)
+Tested a b value r = r ≡ cond (a && b) (Ok value) (Err k.Number)
 
 taken_value : (a b : Bool) (value z : ℤ) → a ≡ true → b ≡ true → z ≡ value → Tested a b value (Ok z)
 taken_value a b value z p q e = rw (p, q, e) refl
 
-refused_value : (a b : Bool) (value : ℤ) → a ≡ true → (b ≡ true → ⊥) → Tested a b value (Err k.Unbuilt)
+refused_value : (a b : Bool) (value : ℤ) → a ≡ true → (b ≡ true → ⊥) → Tested a b value (Err k.Number)
 refused_value a true value p q = absurd (q refl)
 refused_value a false value p q = rw p refl
 
-pub read_fill : {E : Type 0} (w : Text) (r : Result ℤ E) → ParsesSigned w128 10 w r → is_digits (magnitude w) ≡ true → MatchResult r (λ z. Ok z ≡ fill_of w) (λ _. Err k.Unbuilt ≡ fill_of w)
+pub read_fill : {E : Type 0} (w : Text) (r : Result ℤ E) → ParsesSigned w128 10 w r → is_digits (magnitude w) ≡ true → MatchResult r (λ z. Ok z ≡ fill_of w) (λ _. Err k.Number ≡ fill_of w)
 unfolding fill_of
 read_fill w (Ok z) h d = taken_value _ _ (signed_digits_value 10 w) z d (fits_signed _ h.0.1) h.1
 read_fill w (Err e) h d =

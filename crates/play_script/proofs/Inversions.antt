@@ -1,11 +1,12 @@
 -- What parts are where a line is read.
 use Rattle.std.specs.Prelude.{◌&&◌, ◌+◌, ◌-◌, ◌*◌, ◌^◌, ◌<◌, ℤ, map, nat_le, nat_lt, codes}
-use Rattle.std.proofs.Common.{◌≡◌, ℕ, ◌≤◌, Bool, true, false, cond, List, [], ◌∷◌, Option, None, Some, Result, Ok, Err, refl, sym, ap, subst, arith}
+use Rattle.std.proofs.Common.{◌≡◌, ℕ, ◌≤◌, Bool, true, false, cond, List, [], ◌∷◌, Option, None, Some, Result, Ok, Err, refl, ap, subst, arith}
 use Rattle.std.specs.List.{All}
 use Rattle.std.specs.Str.Parse.{digits_value, signed_digits_value}
 use Rattle.std.proofs.lemmas.Bool.{and_parts, and_from, leb-true, lt-ltb, cond_both}
 use Rattle.std.proofs.lemmas.List.Elements.{All-nil, All-cons}
-use Rattle.ice_base.specs.Names.{main_name}
+use Rattle.std.specs.Option.{is_none}
+use Rattle.ice_base.specs.Names.{name_fault, IsRefName}
 use Rattle.ice_base.specs.Lists.{IsBytes}
 use Rattle.std.specs.Str.{is_utf8}
 use Rattle.zarr_path.specs.Paths.{is_path}
@@ -14,7 +15,7 @@ use Rattle.play_script.specs.declared.faults.ScriptKind.{ScriptKind}
 use Rattle.play_script.specs.declared.faults.ScriptKind.TheVariants as k
 use Rattle.play_script.specs.Words.{Text, parts}
 use Rattle.play_script.specs.Parts.{◌&◌, made, each, only_if}
-use Rattle.play_script.specs.Values.{◌reads◌, is_task_name, task_name_of, path_of, text_of, branch_of, is_number, number_of, wide_of, numbers_of, is_digits, magnitude, is_signed, fill_of, count_of, clamped, index_of, hex_digit_of, byte_of, pairs, bytes_of}
+use Rattle.play_script.specs.Values.{◌reads◌, is_task_name, task_name_of, path_of, text_of, ref_name_of, is_number, number_of, wide_of, numbers_of, is_digits, magnitude, is_signed, fill_of, count_of, clamped, index_of, hex_digit_of, byte_of, pairs, bytes_of}
 use Rattle.play_script.specs.Forms.{taken}
 
 pub made_ok : {A B : Type 0} (f : A → B) (r : Result A ScriptKind) (t : B) → made f r ≡ Ok t → (x : A) × (r ≡ Ok x) × (f x ≡ t)
@@ -44,14 +45,14 @@ each_ok {A} {B} P f (w ∷ ws) ts one h =
     subst (All P) m.2 (All-cons P m.0.0 m.0.1 (one w m.0.0 b.0) (each_ok P f ws m.0.1 one b.1))
 
 -- a value that is tested
-pub tested_ok : {A : Type 0} (b : Bool) (x t : A) → cond b (Ok x) (Err k.Unbuilt) ≡ Ok t → (b ≡ true) × (x ≡ t)
-tested_ok true x t h = (refl, cc)
-tested_ok false x t h = absurd (cc)
+pub tested_ok : {A : Type 0} (b : Bool) (x t : A) (kind : ScriptKind) → cond b (Ok x) (Err kind) ≡ Ok t → (b ≡ true) × (x ≡ t)
+tested_ok true x t kind h = (refl, cc)
+tested_ok false x t kind h = absurd (cc)
 
 pub path_ok : (w path : Text) → path_of w ≡ Ok path → (is_path path ≡ true) × (is_utf8 path ≡ true)
 unfolding path_of
 path_ok w path h =
-    let t = tested_ok (is_path w && is_utf8 w) w path h in
+    let t = tested_ok (is_path w && is_utf8 w) w path _ h in
     subst (λ (p : Text). (is_path p ≡ true) × (is_utf8 p ≡ true)) t.1 (both_true (is_path w) (is_utf8 w) t.0)
   where
     both_true : (a b : Bool) → (a && b) ≡ true → (a ≡ true) × (b ≡ true)
@@ -59,22 +60,29 @@ path_ok w path h =
     both_true false b e = absurd (cc)
 
 pub text_ok : (w text : Text) → text_of w ≡ Ok text → is_utf8 text ≡ true
-text_ok w text h = let t = tested_ok (is_utf8 w) w text h in subst (λ (x : Text). is_utf8 x ≡ true) t.1 t.0
+text_ok w text h = let t = tested_ok (is_utf8 w) w text _ h in subst (λ (x : Text). is_utf8 x ≡ true) t.1 t.0
 
 pub task_name_ok : (w name : Text) → task_name_of w ≡ Ok name → (is_task_name name ≡ true) × (w ≡ name)
 unfolding task_name_of
 task_name_ok w name h =
-    let t = tested_ok (is_task_name w) w name h in
+    let t = tested_ok (is_task_name w) w name _ h in
     (subst (λ (p : Text). is_task_name p ≡ true) t.1 t.0, t.1)
 
-pub branch_ok : (w branch : Text) → branch_of w ≡ Ok branch → branch ≡ main_name
-unfolding branch_of
-branch_ok w branch h = sym (tested_ok (w reads main_name) main_name branch h).1
+-- a name that no fault is found of
+no_fault : {A : Type 0} (fault : Option A) → is_none fault ≡ true → fault ≡ None
+no_fault None h = refl
+no_fault (Some x) h = absurd (cc)
+
+pub ref_name_ok : (w name : Text) → ref_name_of w ≡ Ok name → IsRefName name
+unfolding ref_name_of
+ref_name_ok w name h =
+    let t = tested_ok (is_none (name_fault w)) w name _ h in
+    subst IsRefName t.1 (no_fault (name_fault w) t.0)
 
 number_ok : (least most : ℕ) (w : Text) (n : ℕ) → number_of least most w ≡ Ok n → (least ≤ n) × (n ≤ most)
 unfolding number_of
 number_ok least most w n h =
-    let t = tested_ok (is_number least most w) (digits_value 10 w) n h in
+    let t = tested_ok (is_number least most w) (digits_value 10 w) n _ h in
     let outer = and_parts _ _ t.0 in
     let inner = and_parts _ _ outer.0 in
     (subst (λ (m : ℕ). least ≤ m) t.1 (leb-true _ _ inner.1), subst (λ (m : ℕ). m ≤ most) t.1 (leb-true _ _ outer.1))
@@ -99,7 +107,7 @@ numbers_ok w ns h =
 pub fill_ok : (w : Text) (fill : ℤ) → fill_of w ≡ Ok fill → is_signed fill ≡ true
 unfolding fill_of
 fill_ok w fill h =
-    let t = tested_ok (is_digits (magnitude w) && is_signed (signed_digits_value 10 w)) (signed_digits_value 10 w) fill h in
+    let t = tested_ok (is_digits (magnitude w) && is_signed (signed_digits_value 10 w)) (signed_digits_value 10 w) fill _ h in
     subst (λ (z : ℤ). is_signed z ≡ true) t.1 (and_parts _ _ t.0).1
 
 -- the numbers of an index have 32 bits

@@ -1,19 +1,19 @@
 -- One line after the other.
-use Rattle.std.proofs.Common.{◌≡◌, ℕ, ◌+◌, List, [], ◌∷◌, Result, Ok, Err, length, arith, refl, sym, ◌∙◌}
+use Rattle.std.proofs.Common.{◌≡◌, ℕ, ◌+◌, false, List, [], ◌∷◌, Result, Ok, Err, length, arith, refl, sym, ◌∙◌}
 use Rattle.play_script.specs.declared.faults.ScriptKind.{ScriptKind}
 use Rattle.play_script.specs.declared.scripts.Script.{Script}
 use Rattle.play_script.specs.Words.{Text, lines_of}
-use Rattle.play_script.specs.Places.{line_at}
+use Rattle.play_script.specs.Places.{has_line, line_at}
 use Rattle.play_script.specs.Reading.{lines_from}
 
 abbrev pub Reading : Type 0
 Reading = Result Script (ℕ × ScriptKind)
 
-pub line_err : (s : Script) (n : ℕ) (lines rest : List Text) (line : Text) (kind : ScriptKind) (whole : Reading) (r : Result Script ScriptKind) → lines_from s n lines ≡ whole → lines ≡ line ∷ rest → r ≡ line_at s n line → r ≡ Err kind → whole ≡ Err (n, kind)
+pub line_err : (s : Script) (n : ℕ) (lines rest : List Text) (line : Text) (kind : ScriptKind) (whole : Reading) (r : Result Script ScriptKind) → lines_from s n lines ≡ whole → lines ≡ line ∷ rest → r ≡ line_at s n rest line → r ≡ Err kind → whole ≡ Err (n, kind)
 unfolding lines_from
 line_err s n lines rest line kind whole r h split e f = sym h ∙ rw (split, ← e, f) refl
 
-pub line_ok : (s t : Script) (n : ℕ) (lines rest : List Text) (line : Text) (whole : Reading) (r : Result Script ScriptKind) → lines_from s n lines ≡ whole → lines ≡ line ∷ rest → r ≡ line_at s n line → r ≡ Ok t → lines_from t (n + 1) rest ≡ whole
+pub line_ok : (s t : Script) (n : ℕ) (lines rest : List Text) (line : Text) (whole : Reading) (r : Result Script ScriptKind) → lines_from s n lines ≡ whole → lines ≡ line ∷ rest → r ≡ line_at s n rest line → r ≡ Ok t → lines_from t (n + 1) rest ≡ whole
 unfolding lines_from
 line_ok s t n lines rest line whole r h split e f =
     let step : lines_from s n lines ≡ lines_from t (n + 1) rest = rw (split, ← e, f) refl in
@@ -23,3 +23,8 @@ pub no_lines : (s : Script) (n : ℕ) (text : Text) → length text ≡ 0 → li
 unfolding lines_of lines_from
 no_lines s n [] none = refl
 no_lines s n (b ∷ bs) none = absurd (omega (arith, none))
+
+pub no_line : (text : Text) → length text ≡ 0 → has_line (lines_of text) ≡ false
+unfolding lines_of has_line
+no_line [] none = refl
+no_line (b ∷ bs) none = absurd (omega (arith, none))

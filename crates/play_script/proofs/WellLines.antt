@@ -1,15 +1,18 @@
 -- What heads, body lines and turns are where they are read.
-use Rattle.std.proofs.Common.{◌≡◌, ℕ, ◌+◌, ◌<◌, ◌≤◌, Bool, cond, List, [], ◌∷◌, length, Option, None, Some, Result, Ok, refl, sym, ap, subst, ◌∙◌, arith}
-use Rattle.std.specs.Prelude.{ℤ, IfSome, unwrap_or, codes}
-use Rattle.std.specs.Option.{option_or}
+use Rattle.std.proofs.Common.{◌≡◌, ℕ, ◌+◌, ◌<◌, ◌≤◌, Bool, true, false, cond, List, [], ◌∷◌, length, Option, None, Some, Result, Ok, Err, refl, subst, arith}
+use Rattle.std.specs.Prelude.{ℤ, ◌==◌, IfSome, is_some, unwrap_or, codes}
+use Rattle.std.specs.Option.{option_or, is_none}
 use Rattle.std.proofs.lemmas.Bool.{cond_both}
-use Rattle.ice_base.specs.Names.{main_name}
+use Rattle.ice_base.specs.Names.{IsRefName}
 use Rattle.ice_base.specs.Lists.{IsBytes}
 use Rattle.play_script.specs.declared.faults.ScriptKind.{ScriptKind}
 use Rattle.play_script.specs.declared.scripts.Call.{Call}
 use Rattle.play_script.specs.declared.scripts.Call.TheVariants as call
 use Rattle.play_script.specs.declared.scripts.EditCall.TheVariants as edit
 use Rattle.play_script.specs.declared.scripts.ReadCall.TheVariants as read
+use Rattle.play_script.specs.declared.faults.ScriptKind.TheVariants as k
+use Rattle.play_script.specs.declared.scripts.At.{At}
+use Rattle.play_script.specs.declared.scripts.At.TheVariants as look
 use Rattle.play_script.specs.declared.scripts.Head.{Head}
 use Rattle.play_script.specs.declared.scripts.Head.TheVariants as head
 use Rattle.play_script.specs.declared.scripts.Task.{Task}
@@ -19,12 +22,12 @@ use Rattle.play_script.specs.declared.scripts.Class.TheVariants as c
 use Rattle.play_script.specs.declared.forms.Form.{Form}
 use Rattle.play_script.specs.Words.{Text, cut_of, next, one, two, three, five}
 use Rattle.play_script.specs.Parts.{◌&◌, made}
-use Rattle.play_script.specs.Values.{◌reads◌, fixed, path_of, text_of, branch_of, numbers_of, fill_of, count_of, index_of, bytes_of, byte_of}
+use Rattle.play_script.specs.Values.{◌reads◌, path_of, text_of, ref_name_of, id_of, tries_of, policy_of, numbers_of, fill_of, count_of, index_of, bytes_of, byte_of}
 use Rattle.play_script.specs.Arrays.{array_line_text}
-use Rattle.play_script.specs.Forms.{taken, lone_path, path_and_text, array_of, path_and_array, path_and_index, chunk_and_bytes, chunk_and_byte, lone_key, key_and_bytes, node_edit_of, chunk_edit_of, key_edit_of, edit_of, read_of, commit_of, form, no_form, form_of, write_head_of, read_head_of, head_of}
+use Rattle.play_script.specs.Forms.{taken, lone_path, path_and_text, array_of, path_and_array, path_and_index, chunk_and_bytes, chunk_and_byte, lone_key, key_and_bytes, node_edit_of, chunk_edit_of, key_edit_of, edit_of, read_of, commit_of, form, no_form, form_of, at_of, lone_at, built_at, unbuilt_where, write_head_of, read_head_of, head_of}
 use Rattle.play_script.specs.Places.{class_of, client_from, turn, turn_of}
 use Rattle.play_script.specs.Well.{IsWellPath, IsWellText, IsWellIndex, IsWellEdit, IsWellRead, IsWellCall, head_branch, IsWellTurn}
-use Rattle.play_script.proofs.Inversions.{made_ok, both_ok, taken_ok, path_ok, text_ok, branch_ok, numbers_ok, fill_ok, count_ok, index_ok, byte_ok, bytes_ok}
+use Rattle.play_script.proofs.Inversions.{made_ok, both_ok, taken_ok, path_ok, text_ok, ref_name_ok, numbers_ok, fill_ok, count_ok, index_ok, byte_ok, bytes_ok}
 use Rattle.play_script.proofs.ArrayUtf8.{array_utf8}
 
 lone_path_ok : (rest : Option Text) (path : Text) → lone_path rest ≡ Ok path → IsWellPath path
@@ -183,32 +186,66 @@ form_ok first rest =
     (class_ok IsWellRead c.Read call.Read (read_of first rest) _ (λ x w. (w, refl)) (read_ok first rest)
     (class_ok IsWellText c.Commit call.Commit (commit_of first rest) no_form (λ x w. (w, refl)) (commit_ok first rest) (λ v h. absurd (cc))))
 
--- a head names the branch that is built
-abbrev pub IsOnMain : Result Head ScriptKind → Type 0
-IsOnMain r = (v : Head) → r ≡ Ok v → head_branch v ≡ main_name
+-- a head names a branch
+abbrev pub HasBranch : Result Head ScriptKind → Type 0
+HasBranch r = (v : Head) → r ≡ Ok v → IsRefName (head_branch v)
 
-write_head_ok : (rest : Option Text) → IsOnMain (write_head_of rest)
+write_head_ok : (rest : Option Text) → HasBranch (write_head_of rest)
 unfolding write_head_of
 write_head_ok rest v h =
-    let t = taken_ok (three rest) (λ w. made (λ v. head.Write v.0.0) (branch_of w.0 & fixed w.1 (codes "0") & fixed w.2 (codes "fail"))) v h in
-    let m = made_ok (λ (v : (Text × Unit {0}) × Unit {0}). head.Write v.0.0) (branch_of t.0.0 & fixed t.0.1 (codes "0") & fixed t.0.2 (codes "fail")) v t.2 in
-    let b = both_ok (branch_of t.0.0 & fixed t.0.1 (codes "0")) (fixed t.0.2 (codes "fail")) m.0 m.1 in
-    let a = both_ok (branch_of t.0.0) (fixed t.0.1 (codes "0")) m.0.0 b.0 in
-    sym (ap head_branch m.2) ∙ branch_ok t.0.0 m.0.0.0 a.0
+    let t = taken_ok (three rest) (λ w. made (λ v. head.Write v.0.0) (ref_name_of w.0 & tries_of w.1 & policy_of w.2)) v h in
+    let m = made_ok (λ (v : (Text × Unit {0}) × Unit {0}). head.Write v.0.0) (ref_name_of t.0.0 & tries_of t.0.1 & policy_of t.0.2) v t.2 in
+    let b = both_ok (ref_name_of t.0.0 & tries_of t.0.1) (policy_of t.0.2) m.0 m.1 in
+    let a = both_ok (ref_name_of t.0.0) (tries_of t.0.1) m.0.0 b.0 in
+    subst (λ (h : Head). IsRefName (head_branch h)) m.2 (ref_name_ok t.0.0 m.0.0.0 a.0)
 
-read_head_ok : (rest : Option Text) → IsOnMain (read_head_of rest)
-unfolding read_head_of
+-- a place in the history that is built
+built_ok : (r : Result At ScriptKind) (v : Head) → built_at r ≡ Ok v → (name : Text) × (r ≡ Ok (look.Branch name)) × (head.Read name ≡ v)
+built_ok (Ok (look.Branch name)) v h = (name, refl, cc)
+built_ok (Ok (look.Tag name)) v h = absurd (cc)
+built_ok (Ok (look.Id id)) v h = absurd (cc)
+built_ok (Err kind) v h = absurd (cc)
+
+-- a branch that is told is one by its name
+abbrev NamesRef : Result At ScriptKind → Type 0
+NamesRef r = (name : Text) → r ≡ Ok (look.Branch name) → IsRefName name
+
+branch_at_ok : (w : Text) → NamesRef (made look.Branch (ref_name_of w))
+branch_at_ok w name h =
+    let m = made_ok look.Branch (ref_name_of w) (look.Branch name) h in
+    let same : m.0 ≡ name = cc in
+    subst IsRefName same (ref_name_ok w m.0 m.1)
+
+other_at_ok : {A : Type 0} (f : A → At) (r : Result A ScriptKind) → ((x : A) (name : Text) → f x ≡ look.Branch name → ⊥) → NamesRef (made f r)
+other_at_ok f r differs name h = let m = made_ok f r (look.Branch name) h in absurd (differs m.0 name m.2)
+
+at_ok : (word w : Text) → NamesRef (at_of word w)
+unfolding at_of
+at_ok word w =
+    cond_both (word reads codes "branch") _ _ NamesRef (λ _. branch_at_ok w) (λ _.
+    cond_both (word reads codes "tag") _ _ NamesRef (λ _. other_at_ok look.Tag (ref_name_of w) (λ x name e. cc)) (λ _.
+    cond_both (word reads codes "id") _ _ NamesRef (λ _. other_at_ok look.Id (id_of w) (λ x name e. cc)) (λ _ name h. absurd (cc))))
+
+read_head_ok : (rest : Option Text) → HasBranch (read_head_of rest)
+unfolding read_head_of lone_at
 read_head_ok rest v h =
-    let t = taken_ok (two rest) (λ w. made (λ v. head.Read v.1) (fixed w.0 (codes "branch") & branch_of w.1)) v h in
-    let m = made_ok (λ (v : Unit {0} × Text). head.Read v.1) (fixed t.0.0 (codes "branch") & branch_of t.0.1) v t.2 in
-    let b = both_ok (fixed t.0.0 (codes "branch")) (branch_of t.0.1) m.0 m.1 in
-    sym (ap head_branch m.2) ∙ branch_ok t.0.1 m.0.1 b.1
+    let b = built_ok (taken (two rest) (λ w. at_of w.0 w.1)) v h in
+    let t = taken_ok (two rest) (λ w. at_of w.0 w.1) (look.Branch b.0) b.1 in
+    subst (λ (h : Head). IsRefName (head_branch h)) b.2 (at_ok t.0.0 t.0.1 b.0 t.2)
 
-pub head_ok : (word : Text) (rest : Option Text) → IsOnMain (head_of word rest)
+-- no head is made of one that isn't built
+unbuilt_ok : (fits : Bool) → HasBranch (unbuilt_where fits)
+unbuilt_ok true v h = absurd (cc)
+unbuilt_ok false v h = absurd (cc)
+
+pub head_ok : (word : Text) (rest : Option Text) → HasBranch (head_of word rest)
 unfolding head_of
 head_ok word rest =
-    cond_both (word reads codes "write") _ _ IsOnMain (λ _. write_head_ok rest) (λ _.
-    cond_both (word reads codes "read") _ _ IsOnMain (λ _. read_head_ok rest) (λ _ v h. absurd (cc)))
+    cond_both (word reads codes "write") _ _ HasBranch (λ _. write_head_ok rest) (λ _.
+    cond_both (word reads codes "read") _ _ HasBranch (λ _. read_head_ok rest) (λ _.
+    cond_both (word reads codes "refs") _ _ HasBranch (λ _. unbuilt_ok (is_none rest)) (λ _.
+    cond_both (word reads codes "collect") _ _ HasBranch (λ _. unbuilt_ok (is_some (one rest))) (λ _.
+    cond_both (word reads codes "expire") _ _ HasBranch (λ _. unbuilt_ok (is_some (two rest))) (λ _ v h. absurd (cc))))))
 
 -- a client is the number of a task
 abbrev IsFrom : ℕ → ℕ → Result ℕ ScriptKind → Type 0
@@ -221,10 +258,16 @@ client_ok i (t ∷ ts) name =
     (λ _ n h. let e : i ≡ n = cc in (omega (arith, e), omega (arith, e)))
     (λ _ n h. let rest = client_ok (i + 1) ts name n h in (omega (arith, rest.0), omega (arith, rest.1)))
 
+-- what isn't refused is read on
+word_ok : {A : Type 0} (empty : Bool) (r : Result A ScriptKind) (t : A) → cond empty (Err k.Word) r ≡ Ok t → r ≡ Ok t
+word_ok true r t h = absurd (cc)
+word_ok false r t h = h
+
 pub turn_ok : (tasks : List Task) (w : Text) (t : Turn) → turn_of tasks w ≡ Ok t → IsWellTurn (length tasks) t
 unfolding turn_of
 turn_ok tasks w t h =
-    let m = made_ok turn (client_from 1 tasks (cut_of 42 w).0 & count_of (cut_of 42 w).1) t h in
+    let filled = word_ok (length w == 0) (made turn (client_from 1 tasks (cut_of 42 w).0 & count_of (cut_of 42 w).1)) t h in
+    let m = made_ok turn (client_from 1 tasks (cut_of 42 w).0 & count_of (cut_of 42 w).1) t filled in
     let b = both_ok (client_from 1 tasks (cut_of 42 w).0) (count_of (cut_of 42 w).1) m.0 m.1 in
     let client = client_ok 1 tasks (cut_of 42 w).0 m.0.0 b.0 in
     let count = count_ok (cut_of 42 w).1 m.0.1 b.1 in

@@ -1,6 +1,6 @@
 -- Own: the forms of heads and body lines, each by its words.
-use Rattle.std.specs.Prelude.{ℕ, List, if◌then◌else◌, Option, Some, None, option_map, unwrap_or, Result, Err, codes}
-use Rattle.std.specs.Option.{option_or}
+use Rattle.std.specs.Prelude.{ℕ, List, if◌then◌else◌, Option, Some, None, is_some, option_map, unwrap_or, Result, Ok, Err, Bool, codes}
+use Rattle.std.specs.Option.{option_or, is_none}
 use Rattle.play_script.specs.declared.faults.ScriptKind.{ScriptKind}
 use Rattle.play_script.specs.declared.faults.ScriptKind.TheVariants as k
 use Rattle.play_script.specs.declared.scripts.Call.{Call}
@@ -9,6 +9,8 @@ use Rattle.play_script.specs.declared.scripts.EditCall.{EditCall}
 use Rattle.play_script.specs.declared.scripts.EditCall.TheVariants as edit
 use Rattle.play_script.specs.declared.scripts.ReadCall.{ReadCall}
 use Rattle.play_script.specs.declared.scripts.ReadCall.TheVariants as read
+use Rattle.play_script.specs.declared.scripts.At.{At}
+use Rattle.play_script.specs.declared.scripts.At.TheVariants as look
 use Rattle.play_script.specs.declared.scripts.Head.{Head}
 use Rattle.play_script.specs.declared.scripts.Head.TheVariants as head
 use Rattle.play_script.specs.declared.scripts.Class.{Class}
@@ -16,12 +18,12 @@ use Rattle.play_script.specs.declared.scripts.Class.TheVariants as c
 use Rattle.play_script.specs.declared.forms.Form.{Form}
 use Rattle.play_script.specs.Words.{Text, next, one, two, three, five}
 use Rattle.play_script.specs.Parts.{◌&◌, made}
-use Rattle.play_script.specs.Values.{◌reads◌, fixed, path_of, text_of, branch_of, numbers_of, fill_of, index_of, bytes_of, byte_of}
+use Rattle.play_script.specs.Values.{◌reads◌, path_of, text_of, ref_name_of, id_of, tries_of, policy_of, numbers_of, fill_of, index_of, bytes_of, byte_of}
 use Rattle.play_script.specs.Arrays.{array_line_text}
 
 -- the words that a form takes, and what it makes of them
 abbrev pub taken : {A B : Type 0} → Option A → (A → Result B ScriptKind) → Result B ScriptKind
-taken None f = Err k.Unbuilt
+taken None f = Err k.Word
 taken (Some words) f = f words
 
 -- one path, and nothing else
@@ -107,7 +109,7 @@ form class call words = option_map (λ words. record { class = class; call = mad
 
 -- a line of no class is refused as an edit is
 abbrev pub no_form : Form
-no_form = record { class = c.Edit; call = Err k.Unbuilt }
+no_form = record { class = c.Edit; call = Err k.Word }
 
 -- a body line by its first word
 unfoldable pub form_of : Text → Option Text → Form
@@ -116,16 +118,67 @@ form_of first rest =
     (unwrap_or (form c.Read call.Read (read_of first rest))
     (unwrap_or (form c.Commit call.Commit (commit_of first rest)) no_form))
 
--- `write main 0 fail`
+-- Places in the history, and lines of refs.
+
+-- `branch NAME`, `tag NAME` or `id ID`
+unfoldable pub at_of : Text → Text → Result At ScriptKind
+at_of word w =
+    if word reads codes "branch" then made look.Branch (ref_name_of w) else
+    (if word reads codes "tag" then made look.Tag (ref_name_of w) else
+    (if word reads codes "id" then made look.Id (id_of w) else Err k.Word))
+
+-- a place in the history, and nothing else
+unfoldable pub lone_at : Option Text → Result At ScriptKind
+lone_at rest = taken (two rest) (λ w. at_of w.0 w.1)
+
+-- the name of a ref, and nothing else
+unfoldable pub lone_name : Option Text → Result Text ScriptKind
+lone_name rest = taken (one rest) ref_name_of
+
+-- the name of a ref, and a place in the history
+unfoldable pub name_and_at : Option Text → Result (Text × At) ScriptKind
+name_and_at rest = taken (three rest) (λ w. ref_name_of w.0 & at_of w.1 w.2)
+
+-- words of which nothing is made yet
+abbrev pub seen_only : {A : Type 0} → Result A ScriptKind → Result (Unit {0}) ScriptKind
+seen_only words = made (λ _. tt) words
+
+-- `branch NAME AT`, `reset NAME AT`, `tag NAME AT`, `unbranch NAME`, `untag NAME`, `log AT`
+unfoldable pub ref_of : Text → Option Text → Option (Result (Unit {0}) ScriptKind)
+ref_of first rest =
+    if first reads codes "branch" then Some (seen_only (name_and_at rest)) else
+    (if first reads codes "reset" then Some (seen_only (name_and_at rest)) else
+    (if first reads codes "tag" then Some (seen_only (name_and_at rest)) else
+    (if first reads codes "unbranch" then Some (seen_only (lone_name rest)) else
+    (if first reads codes "untag" then Some (seen_only (lone_name rest)) else
+    (if first reads codes "log" then Some (seen_only (lone_at rest)) else None)))))
+
+-- Heads.
+
+-- `write BRANCH TRIES POLICY`
 unfoldable pub write_head_of : Option Text → Result Head ScriptKind
-write_head_of rest = taken (three rest) (λ w. made (λ v. head.Write v.0.0) (branch_of w.0 & fixed w.1 (codes "0") & fixed w.2 (codes "fail")))
+write_head_of rest = taken (three rest) (λ w. made (λ v. head.Write v.0.0) (ref_name_of w.0 & tries_of w.1 & policy_of w.2))
 
--- `read branch main`
+-- a task that reads, of whose places a branch alone is built
+abbrev pub built_at : Result At ScriptKind → Result Head ScriptKind
+built_at (Ok (look.Branch name)) = Ok (head.Read name)
+built_at (Ok (look.Tag name)) = Err k.Unbuilt
+built_at (Ok (look.Id id)) = Err k.Unbuilt
+built_at (Err kind) = Err kind
+
+-- `read AT`
 unfoldable pub read_head_of : Option Text → Result Head ScriptKind
-read_head_of rest = taken (two rest) (λ w. made (λ v. head.Read v.1) (fixed w.0 (codes "branch") & branch_of w.1))
+read_head_of rest = built_at (lone_at rest)
 
--- a head by its word
+-- a head that isn't built, with as many words as it has
+abbrev pub unbuilt_where : Bool → Result Head ScriptKind
+unbuilt_where fits = if fits then Err k.Unbuilt else Err k.Word
+
+-- a head by its word; `refs`, `collect CUTOFF` and `expire CUTOFF FLAGS` aren't built
 unfoldable pub head_of : Text → Option Text → Result Head ScriptKind
 head_of word rest =
     if word reads codes "write" then write_head_of rest else
-    (if word reads codes "read" then read_head_of rest else Err k.Unbuilt)
+    (if word reads codes "read" then read_head_of rest else
+    (if word reads codes "refs" then unbuilt_where (is_none rest) else
+    (if word reads codes "collect" then unbuilt_where (is_some (one rest)) else
+    (if word reads codes "expire" then unbuilt_where (is_some (two rest)) else Err k.Word))))

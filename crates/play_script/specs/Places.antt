@@ -1,5 +1,5 @@
 -- Own: where a line may stand, in view of the script before it and nothing else.
-use Rattle.std.specs.Prelude.{ℕ, ◌+◌, ◌-◌, List, [], ◌∷◌, ◌++◌, nat_lt, if◌then◌else◌, Option, Some, None, is_some, Result, Ok, Err, Bool, true, false, not, ◌&&◌, length, slice_get, codes}
+use Rattle.std.specs.Prelude.{ℕ, ◌+◌, ◌-◌, List, [], ◌∷◌, ◌++◌, ◌==◌, nat_lt, if◌then◌else◌, Option, Some, None, is_some, option_map, unwrap_or, Result, Ok, Err, Bool, true, false, not, ◌&&◌, ◌||◌, length, slice_get, codes}
 use Rattle.std.specs.List.{list_any}
 use Rattle.std.specs.Str.{is_utf8}
 use Rattle.play_script.specs.declared.faults.ScriptKind.{ScriptKind}
@@ -17,7 +17,7 @@ use Rattle.play_script.specs.declared.scripts.Class.TheVariants as c
 use Rattle.play_script.specs.Words.{Text, cut_of, pieces, next}
 use Rattle.play_script.specs.Parts.{◌&◌, made, each, only_if}
 use Rattle.play_script.specs.Values.{◌reads◌, task_name_of, count_of}
-use Rattle.play_script.specs.Forms.{taken, form_of, head_of}
+use Rattle.play_script.specs.Forms.{taken, form_of, ref_of, head_of}
 
 -- how many tasks a script may have
 abbrev pub most_tasks : ℕ
@@ -69,7 +69,25 @@ with_line s n call = record s { tasks = onto_last (record { number = n; call = c
 unfoldable pub body_line : Script → ℕ → Text → Option Text → Result Script ScriptKind
 body_line s n first rest =
     let f = form_of first rest in
-    made (λ v. with_line s n v.1) (only_if (is_open s && takes (last s.tasks) f.class) k.Unbuilt & f.call)
+    made (λ v. with_line s n v.1) (only_if (is_open s && takes (last s.tasks) f.class) k.Place & f.call)
+
+-- a line of refs stands in a task of refs alone, and no such task is built
+abbrev pub ref_line : Script → Result (Unit {0}) ScriptKind → Result Script ScriptKind
+ref_line s words = made (λ _. s) (only_if false k.Place & words)
+
+-- which lines are passed over: empty ones and comments
+abbrev pub is_passed : Text → Bool
+is_passed [] = true
+is_passed (b ∷ bs) = b == 35
+
+-- a head or the turns, by the first word
+abbrev pub ends_task : Text → Bool
+ends_task line = ((cut_of 32 line).0 reads codes "task") || ((cut_of 32 line).0 reads codes "turns")
+
+-- a body line follows: the first of these lines that isn't passed over is one
+unfoldable pub has_line : List Text → Bool
+has_line [] = false
+has_line (l ∷ ls) = if is_passed l then has_line ls else not (ends_task l)
 
 -- one more task
 
@@ -79,46 +97,52 @@ is_used tasks name = list_any (λ t. t.name reads name) tasks
 abbrev pub with_task : Script → ℕ → Text → Head → Script
 with_task s n name head = record s { tasks = s.tasks ++ record { name = name; line = n; head = head; body = [] } ∷ [] }
 
--- what a head asks of the script before it
-unfoldable pub may_begin : Script → Text → Result (Unit {0}) ScriptKind
-may_begin s name = made (λ v. v.1) (
-    only_if (is_open s) k.Unbuilt
-    & only_if (nat_lt (length s.tasks) most_tasks) k.Unbuilt
-    & only_if (not (is_used s.tasks name)) k.Unbuilt)
+-- a head's place: before the turns, and a task of refs has a line
+unfoldable pub is_head_placed : Script → List Text → Text → Bool
+is_head_placed s after word = is_open s && (not (word reads codes "refs") || has_line after)
 
-unfoldable pub task_line : Script → ℕ → Text → Text → Option Text → Result Script ScriptKind
-task_line s n name word rest =
-    made (λ v. with_task s n v.0.1 v.1) (may_begin s name & task_name_of name & head_of word rest)
+-- what a head asks of the script before it and of the lines behind it
+unfoldable pub may_begin : Script → List Text → Text → Text → Result (Unit {0}) ScriptKind
+may_begin s after name word = made (λ v. v.1) (
+    only_if (is_head_placed s after word) k.Place
+    & only_if (nat_lt (length s.tasks) most_tasks) k.Many
+    & only_if (not (is_used s.tasks name)) k.Name)
+
+unfoldable pub task_line : Script → ℕ → List Text → Text → Text → Option Text → Result Script ScriptKind
+task_line s n after name word rest =
+    made (λ v. with_task s n v.0.1 v.1) (may_begin s after name word & task_name_of name & head_of word rest)
 
 -- `task NAME HEAD`
-unfoldable pub head_line : Script → ℕ → Option Text → Result Script ScriptKind
-head_line s n rest = taken (next rest) (λ p. taken (next p.1) (λ q. task_line s n p.0 q.0 q.1))
+unfoldable pub head_line : Script → ℕ → List Text → Option Text → Result Script ScriptKind
+head_line s n after rest = taken (next rest) (λ p. taken (next p.1) (λ q. task_line s n after p.0 q.0 q.1))
 
 -- the turns: each word is `NAME` or `NAME*COUNT`
 
 -- the number of the task of this name
 abbrev pub client_from : ℕ → List Task → Text → Result ℕ ScriptKind
-client_from i [] name = Err k.Unbuilt
+client_from i [] name = Err k.Turn
 client_from i (t ∷ ts) name = if t.name reads name then Ok i else client_from (i + 1) ts name
 
 abbrev pub turn : ℕ × ℕ → Turn
 turn v = record { client = v.0; count = v.1 }
 
 unfoldable pub turn_of : List Task → Text → Result Turn ScriptKind
-turn_of tasks w = made turn (client_from 1 tasks (cut_of 42 w).0 & count_of (cut_of 42 w).1)
+turn_of tasks w =
+    if length w == 0 then Err k.Word else made turn (client_from 1 tasks (cut_of 42 w).0 & count_of (cut_of 42 w).1)
 
 -- `turns WORDS`
 unfoldable pub turns_line : Script → Option Text → Result Script ScriptKind
-turns_line s rest = made (λ v. record s { turns = Some v.1 }) (only_if (is_open s) k.Unbuilt & each (turn_of s.tasks) (pieces 32 rest))
+turns_line s rest = made (λ v. record s { turns = Some v.1 }) (only_if (is_open s) k.Place & each (turn_of s.tasks) (pieces 32 rest))
 
 -- a line by its first word
-unfoldable pub words_line : Script → ℕ → Text → Option Text → Result Script ScriptKind
-words_line s n first rest =
-    if first reads codes "task" then head_line s n rest else
+unfoldable pub words_line : Script → ℕ → List Text → Text → Option Text → Result Script ScriptKind
+words_line s n after first rest =
+    if first reads codes "task" then head_line s n after rest else
     (if first reads codes "turns" then turns_line s rest else
-    body_line s n first rest)
+    unwrap_or (option_map (ref_line s) (ref_of first rest)) (body_line s n first rest))
 
--- line n behind the lines of s
-unfoldable pub line_at : Script → ℕ → Text → Result Script ScriptKind
-line_at s n line =
-    if is_utf8 line then words_line s n (cut_of 32 line).0 (cut_of 32 line).1 else Err k.Unbuilt
+-- line n, behind the lines of s and before those after it
+unfoldable pub line_at : Script → ℕ → List Text → Text → Result Script ScriptKind
+line_at s n after line =
+    if not (is_utf8 line) then Err k.Text else
+    (if is_passed line then Ok s else words_line s n after (cut_of 32 line).0 (cut_of 32 line).1)

@@ -20,7 +20,7 @@ at_line n (Err kind) more = Err (n, kind)
 -- the script s and these lines behind it, of which the first has the number n
 unfoldable pub lines_from : Script → ℕ → List Text → Result Script (ℕ × ScriptKind)
 lines_from s n [] = Ok s
-lines_from s n (l ∷ ls) = at_line n (line_at s n l) (λ t. lines_from t (n + 1) ls)
+lines_from s n (l ∷ ls) = at_line n (line_at s n ls l) (λ t. lines_from t (n + 1) ls)
 
 abbrev pub empty : Script
 empty = record { tasks = []; turns = None }

@@ -1,24 +1,23 @@
 -- Own: what a word stands for, or the kind of its fault.
-use Rattle.std.specs.Prelude.{ℕ, ◌+◌, ◌-◌, ◌*◌, ◌^◌, ◌==◌, min, ℤ, pos, negsuc, int_le, List, [], ◌∷◌, map, if◌then◌else◌, Option, Some, None, Result, Ok, Err, Bool, not, ◌&&◌, ◌||◌, nat_le, length, drop, bytes_eq, codes}
+use Rattle.std.specs.Prelude.{ℕ, ◌+◌, ◌-◌, ◌*◌, ◌^◌, ◌==◌, min, ℤ, pos, negsuc, int_le, List, [], ◌∷◌, map, if◌then◌else◌, Option, Some, None, Result, Ok, Err, Bool, true, not, ◌&&◌, ◌||◌, nat_le, length, drop, bytes_eq, codes}
 use Rattle.std.specs.List.{list_all}
 use Rattle.std.specs.Char.{is_ascii_digit, is_ascii_lowercase}
 use Rattle.std.specs.Str.Parse.{digits_value, starts_with_minus, signed_digits_value}
-use Rattle.ice_base.specs.Names.{main_name}
+use Rattle.std.specs.Option.{is_none}
+use Rattle.ice_base.specs.Names.{name_fault}
+use Rattle.ice_ids.specs.declared.Id12.{Id12}
+use Rattle.ice_ids.specs.Text.{id12_of_text}
 use Rattle.std.specs.Str.{is_utf8}
 use Rattle.zarr_path.specs.Paths.{is_path}
 use Rattle.play_script.specs.declared.faults.ScriptKind.{ScriptKind}
 use Rattle.play_script.specs.declared.faults.ScriptKind.TheVariants as k
-use Rattle.play_script.specs.Words.{Text, parts}
-use Rattle.play_script.specs.Parts.{◌&◌, made, only_if, each}
+use Rattle.play_script.specs.Words.{Text, cut_of, parts}
+use Rattle.play_script.specs.Parts.{◌&◌, made, only_if, each, told_as}
 
 -- the word is this text
 infix 30 ◌reads◌
 abbrev pub ◌reads◌ : Text → Text → Bool
 w reads text = bytes_eq w text
-
--- a word that stands as it is
-abbrev pub fixed : Text → Text → Result (Unit {0}) ScriptKind
-fixed w text = only_if (w reads text) k.Unbuilt
 
 -- the name of a task is 1 to 16 bytes of `a` to `z`, `0` to `9` and `_`
 abbrev pub is_task_byte : ℕ → Bool
@@ -28,19 +27,23 @@ abbrev pub is_task_name : Text → Bool
 is_task_name w = not (length w == 0) && nat_le (length w) 16 && list_all is_task_byte w
 
 unfoldable pub task_name_of : Text → Result Text ScriptKind
-task_name_of w = if is_task_name w then Ok w else Err k.Unbuilt
+task_name_of w = if is_task_name w then Ok w else Err k.Name
 
 -- the path of a node: UTF-8, as any text is
 unfoldable pub path_of : Text → Result Text ScriptKind
-path_of w = if is_path w && is_utf8 w then Ok w else Err k.Unbuilt
+path_of w = if is_path w && is_utf8 w then Ok w else Err k.Path
 
 -- a text of the language is UTF-8
 abbrev pub text_of : Text → Result Text ScriptKind
-text_of w = if is_utf8 w then Ok w else Err k.Unbuilt
+text_of w = if is_utf8 w then Ok w else Err k.Text
 
--- the one branch that is built so far
-unfoldable pub branch_of : Text → Result Text ScriptKind
-branch_of w = if w reads main_name then Ok main_name else Err k.Unbuilt
+-- the name of a branch or a tag
+unfoldable pub ref_name_of : Text → Result Text ScriptKind
+ref_name_of w = if is_none (name_fault w) then Ok w else Err k.Name
+
+-- the id of a snapshot
+unfoldable pub id_of : Text → Result Id12 ScriptKind
+id_of w = told_as k.Id (id12_of_text w)
 
 -- a number is decimal digits alone, and may begin with zeros
 abbrev pub is_digits : Text → Bool
@@ -50,7 +53,7 @@ abbrev pub is_number : ℕ → ℕ → Text → Bool
 is_number least most w = is_digits w && nat_le least (digits_value 10 w) && nat_le (digits_value 10 w) most
 
 unfoldable pub number_of : ℕ → ℕ → Text → Result ℕ ScriptKind
-number_of least most w = if is_number least most w then Ok (digits_value 10 w) else Err k.Unbuilt
+number_of least most w = if is_number least most w then Ok (digits_value 10 w) else Err k.Number
 
 -- numbers of up to 128 bits with commas between them, or `-` where there are none
 abbrev pub wide_of : Text → Result ℕ ScriptKind
@@ -97,9 +100,38 @@ abbrev pub is_signed : ℤ → Bool
 is_signed z = int_le (negsuc (2 ^ 127 - 1)) z && int_le z (pos (2 ^ 127 - 1))
 
 unfoldable pub fill_of : Text → Result ℤ ScriptKind
-fill_of w = if is_digits (magnitude w) && is_signed (signed_digits_value 10 w) then Ok (signed_digits_value 10 w) else Err k.Unbuilt
+fill_of w = if is_digits (magnitude w) && is_signed (signed_digits_value 10 w) then Ok (signed_digits_value 10 w) else Err k.Number
 
 -- the count of a turn, which is 1 where none stands
 unfoldable pub count_of : Option Text → Result ℕ ScriptKind
 count_of None = Ok 1
 count_of (Some w) = number_of 1 9999 w
+
+-- a word of its grammar, and of such words the one that is built
+abbrev pub only_built : Bool → ScriptKind → Text → Text → Result (Unit {0}) ScriptKind
+only_built fits kind w text = made (λ v. v.1) (only_if fits kind & only_if (w reads text) k.Unbuilt)
+
+-- one digit
+abbrev pub is_digit : Text → Bool
+is_digit w = (length w == 1) && list_all is_ascii_digit w
+
+-- how often a commit is carried over those of others: one digit, of which `0` is built
+unfoldable pub tries_of : Text → Result (Unit {0}) ScriptKind
+tries_of w = only_built (is_digit w) k.Number w (codes "0")
+
+-- which side of a conflict stays
+abbrev pub is_side : Text → Bool
+is_side w = (w reads codes "fail") || (w reads codes "ours") || (w reads codes "theirs")
+
+-- which drops of updated nodes pass, behind a `+`: those of arrays, of groups, of both
+abbrev pub are_drops : Option Text → Bool
+are_drops None = true
+are_drops (Some w) = (w reads codes "a") || (w reads codes "g") || (w reads codes "ag")
+
+-- a policy is a side, and perhaps drops
+unfoldable pub is_policy : Text → Bool
+is_policy w = is_side (cut_of 43 w).0 && are_drops (cut_of 43 w).1
+
+-- a policy, of which `fail` is built
+unfoldable pub policy_of : Text → Result (Unit {0}) ScriptKind
+policy_of w = only_built (is_policy w) k.Word w (codes "fail")

@@ -1,6 +1,6 @@
 -- Own: what holds of every script that was read.
 use Rattle.std.specs.Prelude.{◌≡◌, ◌≢◌, ℕ, ◌+◌, ◌<◌, ◌≤◌, List, [], ◌∷◌, length, map, IfSome, IsTrue, All, AllPairs}
-use Rattle.ice_base.specs.Names.{main_name}
+use Rattle.ice_base.specs.Names.{IsRefName}
 use Rattle.ice_base.specs.Lists.{IsBytes}
 use Rattle.std.specs.Str.{is_utf8}
 use Rattle.zarr_path.specs.Paths.{is_path}
@@ -81,7 +81,7 @@ AreTaken h body = All (λ l. IsTrue (head_takes h (class_of l.call))) body
 pub record IsWellTask (t : Task) : Type 0 where
   pub name : IsTrue (is_task_name t.name)
   pub line : IsLineNumber t.line
-  pub branch : head_branch t.head ≡ main_name
+  pub branch : IsRefName (head_branch t.head)
   pub body : All IsWellLine t.body
   pub taken : AreTaken t.head t.body
   pub commit : EndsAtCommit t.body

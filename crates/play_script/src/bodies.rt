@@ -2,7 +2,7 @@
 
 ghost use Rattle.std.specs.Prelude.{◌≡◌, IfOk, length, option_map};
 ghost use Rattle.play_script.specs.Words.{seen};
-ghost use Rattle.play_script.specs.Places.{head_takes, is_commit, takes, is_open, with_line, body_line};
+ghost use Rattle.play_script.specs.Places.{head_takes, is_commit, takes, is_open, with_line, body_line, ref_line};
 
 use crate::faults::{ScriptKind, both, only_if};
 use crate::forms::form_in;
@@ -87,11 +87,22 @@ pub fn body_line(
 {
     let form = form_in(alloc, first, rest)?;
     let placed = is_open(&script) && takes(script.tasks.as_slice().last(), form.class);
-    match both(only_if(placed, ScriptKind::Unbuilt), form.call) {
+    match both(only_if(placed, ScriptKind::Place), form.call) {
         Ok(((), call)) => {
             let script = with_line(script, number, call)?;
             Ok(Ok(script))
         }
         Err(kind) => Ok(Err(kind)),
+    }
+}
+
+/// The script with a line of refs, whose words are these: no task that is built takes it.
+pub fn ref_line(script: Script, words: Result<(), ScriptKind>) -> Result<Script, ScriptKind>
+    ensures value { result ≡ ref_line script words }
+    ensures few { IfOk result (λ s. length s.tasks ≡ length script.tasks) }
+{
+    match both(only_if(false, ScriptKind::Place), words) {
+        Ok(_) => Ok(script),
+        Err(kind) => Err(kind),
     }
 }

@@ -12,10 +12,28 @@ use std::fmt;
 pub enum ScriptKind {
     /// The script has more bytes than a script may have.
     Long,
-    /// The line isn't of a form that is built so far, at its place.
-    Unbuilt,
+    /// The line isn't UTF-8.
+    Text,
+    /// A word of it is unknown where it stands, it has too few or too many words, or an empty one.
+    Word,
+    /// It doesn't stand at its place.
+    Place,
+    /// It begins a task, and the script has as many as it may have.
+    Many,
+    /// The name of a task or of a ref is refused, or another task has it.
+    Name,
+    /// The path of a node is refused.
+    Path,
+    /// A digit, a list of numbers, a fill value or a count is refused.
+    Number,
     /// Its bytes aren't pairs of lower-case digits of base 16.
     Hex,
+    /// The id of a snapshot is refused.
+    Id,
+    /// A turn is of a task that the script doesn't have.
+    Turn,
+    /// The line is of the grammar, and what it asks for isn't built so far.
+    Unbuilt,
 }
 
 impl fmt::Display for ScriptKind {
@@ -27,8 +45,17 @@ impl fmt::Display for ScriptKind {
     fn fmt<W: fmt::Write>(&self, f: &mut fmt::Formatter<W>) -> fmt::Result {
         match *self {
             ScriptKind::Long => f.write_str("long"),
-            ScriptKind::Unbuilt => f.write_str("unbuilt"),
+            ScriptKind::Text => f.write_str("text"),
+            ScriptKind::Word => f.write_str("word"),
+            ScriptKind::Place => f.write_str("place"),
+            ScriptKind::Many => f.write_str("many"),
+            ScriptKind::Name => f.write_str("name"),
+            ScriptKind::Path => f.write_str("path"),
+            ScriptKind::Number => f.write_str("number"),
             ScriptKind::Hex => f.write_str("hex"),
+            ScriptKind::Id => f.write_str("id"),
+            ScriptKind::Turn => f.write_str("turn"),
+            ScriptKind::Unbuilt => f.write_str("unbuilt"),
         }
     }
 }

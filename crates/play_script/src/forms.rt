@@ -1,18 +1,16 @@
-//! The forms of heads and body lines.
+//! The forms of body lines.
 
 ghost use Rattle.std.specs.Prelude.{◌≡◌, IfOk, Ok};
 ghost use Rattle.play_script.specs.Words.{seen};
 ghost use Rattle.play_script.specs.declared.scripts.Call.TheVariants as Call;
 ghost use Rattle.play_script.specs.declared.scripts.Class.TheVariants as Class;
 ghost use Rattle.play_script.specs.Values.{text_of};
-ghost use Rattle.play_script.specs.Forms.{taken, lone_path, path_and_text, array_of, path_and_array, path_and_index, chunk_and_bytes, chunk_and_byte, lone_key, key_and_bytes, node_edit_of, chunk_edit_of, key_edit_of, edit_of, read_of, commit_of, form, form_of, write_head_of, read_head_of, head_of};
+ghost use Rattle.play_script.specs.Forms.{taken, lone_path, path_and_text, array_of, path_and_array, path_and_index, chunk_and_bytes, chunk_and_byte, lone_key, key_and_bytes, node_edit_of, chunk_edit_of, key_edit_of, edit_of, read_of, commit_of, form, form_of};
 
 use crate::arrays::array_text;
 use crate::faults::{ScriptKind, both};
-use crate::scripts::{Call, Class, EditCall, Head, ReadCall};
-use crate::values::{
-    branch_in, byte_in, bytes_in, fill_in, fixed, index_in, numbers_in, path_in, text_in,
-};
+use crate::scripts::{Call, Class, EditCall, ReadCall};
+use crate::values::{byte_in, bytes_in, fill_in, index_in, numbers_in, path_in, text_in};
 use crate::words::{five, next, one, three, two};
 use ice_base::{Bytes, Text};
 use std::alloc::{AllocError, Global};
@@ -34,7 +32,7 @@ fn lone_path(alloc: Global, rest: Option<&str>) -> Result<Result<Path, ScriptKin
 {
     match one(rest) {
         Some(path) => path_in(alloc, path),
-        None => Ok(Err(ScriptKind::Unbuilt)),
+        None => Ok(Err(ScriptKind::Word)),
     }
 }
 
@@ -44,7 +42,7 @@ fn rest_text(alloc: Global, rest: Option<&str>) -> Result<Result<Text, ScriptKin
 {
     match rest {
         Some(text) => Ok(Ok(text_in(alloc, text)?)),
-        None => Ok(Err(ScriptKind::Unbuilt)),
+        None => Ok(Err(ScriptKind::Word)),
     }
 }
 
@@ -57,7 +55,7 @@ fn path_and_text(
     ensures { IfOk result (λ r. r ≡ path_and_text (seen rest.entry)) }
 {
     let Some((path, rest)) = next(rest) else {
-        return Ok(Err(ScriptKind::Unbuilt));
+        return Ok(Err(ScriptKind::Word));
     };
     let path = path_in(alloc, path)?;
     let text = rest_text(alloc, rest)?;
@@ -93,7 +91,7 @@ fn path_and_array(
     ensures { IfOk result (λ r. r ≡ path_and_array (seen rest.entry)) }
 {
     let Some((path, data_type, shape, chunks, fill)) = five(rest) else {
-        return Ok(Err(ScriptKind::Unbuilt));
+        return Ok(Err(ScriptKind::Word));
     };
     let path = path_in(alloc, path)?;
     let text = array_in(alloc, data_type, shape, chunks, fill)?;
@@ -109,7 +107,7 @@ fn path_and_index(
     ensures { IfOk result (λ r. r ≡ path_and_index (seen rest.entry)) }
 {
     let Some((path, index)) = two(rest) else {
-        return Ok(Err(ScriptKind::Unbuilt));
+        return Ok(Err(ScriptKind::Word));
     };
     let path = path_in(alloc, path)?;
     let index = index_in(alloc, index)?;
@@ -125,7 +123,7 @@ fn chunk_and_bytes(
     ensures { IfOk result (λ r. r ≡ chunk_and_bytes (seen rest.entry)) }
 {
     let Some((path, index, bytes)) = three(rest) else {
-        return Ok(Err(ScriptKind::Unbuilt));
+        return Ok(Err(ScriptKind::Word));
     };
     let path = path_in(alloc, path)?;
     let index = index_in(alloc, index)?;
@@ -142,7 +140,7 @@ fn chunk_and_byte(
     ensures { IfOk result (λ r. r ≡ chunk_and_byte (seen rest.entry)) }
 {
     let Some((path, index, byte)) = three(rest) else {
-        return Ok(Err(ScriptKind::Unbuilt));
+        return Ok(Err(ScriptKind::Word));
     };
     let path = path_in(alloc, path)?;
     let index = index_in(alloc, index)?;
@@ -156,7 +154,7 @@ fn lone_key(alloc: Global, rest: Option<&str>) -> Result<Result<Text, ScriptKind
 {
     match one(rest) {
         Some(key) => Ok(Ok(text_in(alloc, key)?)),
-        None => Ok(Err(ScriptKind::Unbuilt)),
+        None => Ok(Err(ScriptKind::Word)),
     }
 }
 
@@ -169,7 +167,7 @@ fn key_and_bytes(
     ensures { IfOk result (λ r. r ≡ key_and_bytes (seen rest.entry)) }
 {
     let Some((key, bytes)) = two(rest) else {
-        return Ok(Err(ScriptKind::Unbuilt));
+        return Ok(Err(ScriptKind::Word));
     };
     let key = text_in(alloc, key)?;
     match bytes_in(alloc, bytes)? {
@@ -334,55 +332,6 @@ pub fn form_in(alloc: Global, first: &str, rest: Option<&str>) -> Result<Form, A
     }
     Ok(Form {
         class: Class::Edit,
-        call: Err(ScriptKind::Unbuilt),
+        call: Err(ScriptKind::Word),
     })
-}
-
-#[tactic(auto, unfolding(crate::specs::Forms::write_head_of))]
-fn write(alloc: Global, rest: Option<&str>) -> Result<Result<Head, ScriptKind>, AllocError>
-    ensures { IfOk result (λ r. r ≡ write_head_of (seen rest.entry)) }
-{
-    let Some((branch, tries, policy)) = three(rest) else {
-        return Ok(Err(ScriptKind::Unbuilt));
-    };
-    let branch = branch_in(alloc, branch)?;
-    let tries = fixed(tries, "0");
-    let policy = fixed(policy, "fail");
-    Ok(match both(both(branch, tries), policy) {
-        Ok(((branch, ()), ())) => Ok(Head::Write { branch }),
-        Err(kind) => Err(kind),
-    })
-}
-
-#[tactic(auto, unfolding(crate::specs::Forms::read_head_of))]
-fn read(alloc: Global, rest: Option<&str>) -> Result<Result<Head, ScriptKind>, AllocError>
-    ensures { IfOk result (λ r. r ≡ read_head_of (seen rest.entry)) }
-{
-    let Some((at, branch)) = two(rest) else {
-        return Ok(Err(ScriptKind::Unbuilt));
-    };
-    let at = fixed(at, "branch");
-    let branch = branch_in(alloc, branch)?;
-    Ok(match both(at, branch) {
-        Ok(((), branch)) => Ok(Head::Read { branch }),
-        Err(kind) => Err(kind),
-    })
-}
-
-/// A head by its word.
-#[tactic(auto, unfolding(crate::specs::Forms::head_of))]
-pub fn head_in(
-    alloc: Global,
-    word: &str,
-    rest: Option<&str>,
-) -> Result<Result<Head, ScriptKind>, AllocError>
-    ensures { IfOk result (λ r. r ≡ head_of word.now (seen rest.entry)) }
-{
-    if word == "write" {
-        return write(alloc, rest);
-    }
-    if word == "read" {
-        return read(alloc, rest);
-    }
-    Ok(Err(ScriptKind::Unbuilt))
 }

@@ -1,19 +1,52 @@
 //! Heads of tasks, each in view of the script before it.
 
 ghost use Rattle.std.specs.Prelude.{◌≡◌, ◌+◌, ◌<◌, ◌≤◌, IfOk, length};
-ghost use Rattle.play_script.specs.Words.{seen};
-ghost use Rattle.play_script.specs.Places.{most_tasks, is_used, with_task, may_begin, task_line, head_line};
+ghost use Rattle.play_script.specs.Words.{seen, lines_of};
+ghost use Rattle.play_script.specs.Places.{most_tasks, is_passed, ends_task, has_line, is_used, with_task, is_head_placed, may_begin, task_line, head_line};
 
 use crate::bodies::is_open;
 use crate::faults::{ScriptKind, both, only_if};
-use crate::forms::head_in;
+use crate::openings::head_in;
 use crate::scripts::{Head, Lines, Script, Task, Tasks};
 use crate::values::{TaskName, task_name_in};
-use crate::words::next;
+use crate::words::{cut_line, first_word, next};
 use std::alloc::{AllocError, Global};
 
 /// How many tasks a script may have.
 pub const MOST_TASKS: usize = 64;
+
+/// Whether a line is passed over.
+pub fn is_passed(line: &[u8]) -> bool
+    ensures { result ≡ is_passed line.now }
+{
+    match line {
+        [] => true,
+        [first, ..] => *first == b'#',
+    }
+}
+
+fn ends_task(line: &[u8]) -> bool
+    ensures { result ≡ ends_task line.now }
+{
+    let first = first_word(line);
+    first == b"task".as_slice() || first == b"turns".as_slice()
+}
+
+/// Whether the first line that isn't passed over is a body line.
+#[tactic(auto, unfolding(crate::specs::Places::has_line))]
+fn has_line(text: &[u8]) -> bool
+    ensures { result ≡ has_line (lines_of text.now) }
+{
+    let mut left = text;
+    while !left.is_empty() {
+        let (line, after) = cut_line(left);
+        if !is_passed(line) {
+            return !ends_task(line);
+        }
+        left = after;
+    }
+    false
+}
 
 fn is_used(tasks: &[Task], name: &str) -> bool
     ensures { result ≡ is_used tasks.now name.now }
@@ -46,16 +79,30 @@ fn with_task(
     })
 }
 
-/// What a head asks of the script before it.
+/// Whether a head stands at its place: before the turns, and with a line behind it where it is that of refs.
+#[tactic(auto, unfolding(crate::specs::Places::is_head_placed))]
+fn is_head_placed(script: &Script, after: &[u8], word: &str) -> bool
+    ensures { result ≡ is_head_placed script.now (lines_of after.now) word.now }
+{
+    if !is_open(script) {
+        return false;
+    }
+    if word != "refs" {
+        return true;
+    }
+    has_line(after)
+}
+
+/// What a head asks of the script before it and of the text behind it.
 #[tactic(auto, unfolding(crate::specs::Places::may_begin))]
-fn may_begin(script: &Script, name: &str) -> Result<(), ScriptKind>
-    ensures value { result ≡ may_begin script.now name.now }
+fn may_begin(script: &Script, after: &[u8], name: &str, word: &str) -> Result<(), ScriptKind>
+    ensures value { result ≡ may_begin script.now (lines_of after.now) name.now word.now }
     ensures few { IfOk result (λ _. length script.now.tasks < most_tasks) }
 {
     let tasks = script.tasks.as_slice();
-    let placed = only_if(is_open(script), ScriptKind::Unbuilt);
-    let few = only_if(tasks.len() < MOST_TASKS, ScriptKind::Unbuilt);
-    let unused = only_if(!is_used(tasks, name), ScriptKind::Unbuilt);
+    let placed = only_if(is_head_placed(script, after, word), ScriptKind::Place);
+    let few = only_if(tasks.len() < MOST_TASKS, ScriptKind::Many);
+    let unused = only_if(!is_used(tasks, name), ScriptKind::Name);
     match both(both(placed, few), unused) {
         Ok(_) => Ok(()),
         Err(kind) => Err(kind),
@@ -68,14 +115,15 @@ fn task_line(
     alloc: Global,
     script: Script,
     number: u32,
+    after: &[u8],
     name: &str,
     word: &str,
     rest: Option<&str>,
 ) -> Result<Result<Script, ScriptKind>, AllocError>
-    ensures value { IfOk result (λ r. r ≡ task_line script number name.now word.now (seen rest.entry)) }
+    ensures value { IfOk result (λ r. r ≡ task_line script number (lines_of after.now) name.now word.now (seen rest.entry)) }
     ensures few { IfOk result (λ r. IfOk r (λ s. length s.tasks ≤ most_tasks)) }
 {
-    let before = may_begin(&script, name);
+    let before = may_begin(&script, after, name, word);
     let name = task_name_in(alloc, name)?;
     let head = head_in(alloc, word, rest)?;
     match both(both(before, name), head) {
@@ -93,16 +141,17 @@ pub fn head_line(
     alloc: Global,
     script: Script,
     number: u32,
+    after: &[u8],
     rest: Option<&str>,
 ) -> Result<Result<Script, ScriptKind>, AllocError>
-    ensures value { IfOk result (λ r. r ≡ head_line script number (seen rest.entry)) }
+    ensures value { IfOk result (λ r. r ≡ head_line script number (lines_of after.now) (seen rest.entry)) }
     ensures few { IfOk result (λ r. IfOk r (λ s. length s.tasks ≤ most_tasks)) }
 {
     let Some((name, rest)) = next(rest) else {
-        return Ok(Err(ScriptKind::Unbuilt));
+        return Ok(Err(ScriptKind::Word));
     };
     let Some((word, rest)) = next(rest) else {
-        return Ok(Err(ScriptKind::Unbuilt));
+        return Ok(Err(ScriptKind::Word));
     };
-    task_line(alloc, script, number, name, word, rest)
+    task_line(alloc, script, number, after, name, word, rest)
 }

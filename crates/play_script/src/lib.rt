@@ -1,16 +1,19 @@
 //! Scripts: the tasks that clients play against a repository, and the turns that they take.
 //!
 //! A script is UTF-8 text of at most 1,048,576 bytes. A line ends with a line feed, which the last one may lack; words stand
-//! between single spaces. It is any number of tasks, at most 64, then at most one line of turns:
+//! between single spaces; empty lines and those that begin with `#` are passed over. It is any number of tasks, at most 64,
+//! then at most one line of turns:
 //!
-//! - `task NAME write main 0 fail`, a task that edits: lines `group PATH`, `array PATH TYPE SHAPE CHUNKS FILL`,
+//! - `task NAME write BRANCH TRIES POLICY`, a task that edits: lines `group PATH`, `array PATH TYPE SHAPE CHUNKS FILL`,
 //!   `make PATH JSON`, `meta PATH JSON`, `drop PATH`, `set PATH INDEX HEX`, `fill PATH INDEX BYTE`, `unset PATH INDEX`,
 //!   `zset KEY HEX`, `zdel KEY`, and those of a task that reads, then at most one `commit MESSAGE`; JSON and MESSAGE are the
 //!   rest of the line and may be empty;
-//! - `task NAME read branch main`, a task that reads: lines `list PATH`, `get PATH`, `chunk PATH INDEX` and `zget KEY`;
+//! - `task NAME read AT`, a task that reads: lines `list PATH`, `get PATH`, `chunk PATH INDEX` and `zget KEY`;
+//! - heads `task NAME refs`, `task NAME collect CUTOFF`, `task NAME expire CUTOFF FLAGS`, and lines of refs, none of them built;
 //! - `turns WORDS`, each word a task's `NAME`, or `NAME*COUNT` with a count of 1 to 9,999; perhaps no word.
 //!
-//! Names are 1 to 16 bytes of `a` to `z`, `0` to `9` and `_`, and distinct. SHAPE, CHUNKS and INDEX are numbers of up to
+//! Names are 1 to 16 bytes of `a` to `z`, `0` to `9` and `_`, and distinct. AT is `branch REF`, `tag REF` or `id ID`; a branch,
+//! TRIES `0` and POLICY `fail` are built. SHAPE, CHUNKS and INDEX are numbers of up to
 //! 128 bits joined by commas, or `-` for none; FILL is a number of 128 bits with a sign. HEX is pairs of lower-case digits
 //! of base 16, or `-` for no bytes; BYTE is one such pair. A KEY is any word.
 #![tactic(auto)]
@@ -21,7 +24,9 @@ mod faults;
 mod forms;
 mod heads;
 mod laws;
+mod openings;
 mod reading;
+mod refs;
 mod scripts;
 mod turning;
 mod values;

@@ -7,9 +7,10 @@ ghost use Rattle.play_script.specs.Places.{most_tasks, words_line, line_at};
 ghost use Rattle.play_script.specs.Reading.{most_bytes, feeds, lines_from, empty, script_of, IsReading};
 ghost use Rattle.play_script.specs.Well.{IsWell};
 
-use crate::bodies::body_line;
+use crate::bodies::{body_line, ref_line};
 use crate::faults::{ScriptFault, ScriptKind};
-use crate::heads::head_line;
+use crate::heads::{head_line, is_passed};
+use crate::refs::ref_in;
 use crate::scripts::{Script, Tasks};
 use crate::turning::turns_line;
 use crate::words::{cut, cut_line};
@@ -24,18 +25,22 @@ fn words_line(
     alloc: Global,
     script: Script,
     number: u32,
+    after: &[u8],
     first: &str,
     rest: Option<&str>,
 ) -> Result<Result<Script, ScriptKind>, AllocError>
     requires { length script.tasks ≤ most_tasks }
-    ensures value { IfOk result (λ r. r ≡ words_line script number first.now (seen rest.entry)) }
+    ensures value { IfOk result (λ r. r ≡ words_line script number (lines_of after.now) first.now (seen rest.entry)) }
     ensures few { IfOk result (λ r. IfOk r (λ s. length s.tasks ≤ most_tasks)) }
 {
     if first == "task" {
-        return head_line(alloc, script, number, rest);
+        return head_line(alloc, script, number, after, rest);
     }
     if first == "turns" {
         return turns_line(alloc, script, rest);
+    }
+    if let Some(words) = ref_in(alloc, first, rest)? {
+        return Ok(ref_line(script, words));
     }
     body_line(alloc, script, number, first, rest)
 }
@@ -57,17 +62,21 @@ fn line_at(
     alloc: Global,
     script: Script,
     number: u32,
+    after: &[u8],
     line: &[u8],
 ) -> Result<Result<Script, ScriptKind>, AllocError>
     requires { length script.tasks ≤ most_tasks }
-    ensures value { IfOk result (λ r. r ≡ line_at script number line.now) }
+    ensures value { IfOk result (λ r. r ≡ line_at script number (lines_of after.now) line.now) }
     ensures few { IfOk result (λ r. IfOk r (λ s. length s.tasks ≤ most_tasks)) }
 {
     let Some(text) = text_of(line) else {
-        return Ok(Err(ScriptKind::Unbuilt));
+        return Ok(Err(ScriptKind::Text));
     };
+    if is_passed(line) {
+        return Ok(Ok(script));
+    }
     let (first, rest) = cut(text, ' ');
-    words_line(alloc, script, number, first, rest)
+    words_line(alloc, script, number, after, first, rest)
 }
 
 fn feeds(text: &[u8]) -> u32
@@ -99,7 +108,7 @@ fn lines_in(alloc: Global, text: &[u8]) -> Result<Script, ScriptFault>
     let mut left = text;
     while !left.is_empty() {
         let (line, after) = cut_line(left);
-        script = match line_at(alloc, script, number, line)? {
+        script = match line_at(alloc, script, number, after, line)? {
             Ok(script) => script,
             Err(kind) => return Err(ScriptFault::At { line: number, kind }),
         };
@@ -110,10 +119,10 @@ fn lines_in(alloc: Global, text: &[u8]) -> Result<Script, ScriptFault>
 }
 
 impl Script {
-    /// Reads a text as a script. It is refused at its first line that isn't of a form that is built, at its place, or
-    /// whose bytes aren't pairs of digits, told where nothing else is wrong with the line; a text of too many bytes is
-    /// refused before all that, at the line of the first byte too many. A script that was read is well, as the workers
-    /// above take it to be.
+    /// Reads a text as a script. It is refused at its first line that isn't of the grammar, at its place, or that isn't
+    /// built so far; of what is wrong with that line the first kind in the order of `ScriptKind` is told. A text of too
+    /// many bytes is refused before all that, at the line of the first byte too many. A script that was read is well, as
+    /// the workers above take it to be.
     #[tactic(auto, unfolding(crate::specs::Reading::script_of))]
     pub fn read(alloc: Global, text: &[u8]) -> Result<Script, ScriptFault>
         ensures reads { IsReading (script_of text.now) result }

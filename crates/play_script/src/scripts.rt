@@ -2,6 +2,7 @@
 
 use crate::values::TaskName;
 use ice_base::{Bytes, RefName, Text};
+use ice_ids::Id12;
 use ice_items::Items;
 use zarr_path::{Index, Path};
 
@@ -141,6 +142,17 @@ pub struct Line {
 
 /// The body lines of a task, in their order.
 pub type Lines = Items<Line>;
+
+/// Where one looks in the history.
+#[derive(Debug, Drop)]
+pub enum At {
+    /// Where a branch stands.
+    Branch(RefName),
+    /// Where a tag stands.
+    Tag(RefName),
+    /// At a snapshot.
+    Id(Id12),
+}
 
 /// How a task begins.
 #[derive(Debug, Drop)]

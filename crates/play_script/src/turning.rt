@@ -25,7 +25,7 @@ fn client_of(tasks: &[Task], name: &str) -> Result<u32, ScriptKind>
         }
         client += 1;
     }
-    Err(ScriptKind::Unbuilt)
+    Err(ScriptKind::Turn)
 }
 
 /// The turn that a word stands for.
@@ -34,6 +34,9 @@ fn turn_in(tasks: &[Task], word: &str) -> Result<Turn, ScriptKind>
     requires { length tasks.now ≤ most_tasks }
     ensures { result ≡ turn_of tasks.now word.now }
 {
+    if word.is_empty() {
+        return Err(ScriptKind::Word);
+    }
     let (name, count) = cut(word, '*');
     match both(client_of(tasks, name), count_in(count)) {
         Ok((client, count)) => Ok(Turn { client, count }),
@@ -71,7 +74,7 @@ pub fn turns_line(
     ensures value { IfOk result (λ r. r ≡ turns_line script (seen rest.entry)) }
     ensures few { IfOk result (λ r. IfOk r (λ s. s.tasks ≡ script.tasks)) }
 {
-    let placed = only_if(is_open(&script), ScriptKind::Unbuilt);
+    let placed = only_if(is_open(&script), ScriptKind::Place);
     let turns = turns_in(alloc, script.tasks.as_slice(), rest)?;
     let Script { tasks, turns: _ } = script;
     match both(placed, turns) {

@@ -3,14 +3,15 @@
 ghost use Rattle.std.specs.Prelude.{◌≡◌, ◌<◌, IfOk, Ok, map};
 ghost use Rattle.std.specs.List.{list_all};
 ghost use Rattle.std.specs.Char.{is_ascii_digit};
-ghost use Rattle.play_script.specs.Values.{is_digits, number_of, wide_of, numbers_of, clamped, index_of, hex_digit_of, byte_of, pairs, bytes_of, magnitude, fill_of, is_task_name, is_task_byte, task_name_of, path_of, text_of, branch_of, fixed, count_of};
+ghost use Rattle.play_script.specs.Values.{is_digits, number_of, wide_of, numbers_of, clamped, index_of, hex_digit_of, byte_of, pairs, bytes_of, magnitude, fill_of, is_task_name, is_task_byte, task_name_of, path_of, text_of, ref_name_of, id_of, only_built, is_digit, tries_of, is_side, are_drops, is_policy, policy_of, count_of};
 ghost use Rattle.play_script.specs.Words.{parts, seen};
 ghost use Rattle.play_script.specs.Parts.{each};
 ghost use Rattle.play_script.specs.SoFar.{parts_seen};
 
-use crate::faults::{ScriptKind, both, with_part};
+use crate::faults::{ScriptKind, both, only_if, with_part};
 use crate::words::cut;
-use ice_base::{Bytes, RefName, Text};
+use ice_base::{Bytes, NameFault, RefName, Text};
+use ice_ids::Id12;
 use std::alloc::{AllocError, Global};
 use std::marker::Model;
 use zarr_path::{Index, Path, PathFault};
@@ -71,7 +72,7 @@ pub fn task_name_in(alloc: Global, word: &str) -> Result<Result<TaskName, Script
     ensures { IfOk result (λ r. r ≡ task_name_of word.now) }
 {
     if !is_task_name(word) {
-        return Ok(Err(ScriptKind::Unbuilt));
+        return Ok(Err(ScriptKind::Name));
     }
     let text = String::from_str(alloc, word)?;
     Ok(Ok(TaskName { text }))
@@ -85,7 +86,7 @@ pub fn path_in(alloc: Global, word: &str) -> Result<Result<Path, ScriptKind>, Al
     match Path::read(alloc, word) {
         Ok(path) => Ok(Ok(path)),
         Err(PathFault::NoMemory) => Err(AllocError),
-        Err(_) => Ok(Err(ScriptKind::Unbuilt)),
+        Err(_) => Ok(Err(ScriptKind::Path)),
     }
 }
 
@@ -96,26 +97,26 @@ pub fn text_in(alloc: Global, word: &str) -> Result<Text, AllocError>
     Text::of(alloc, word)
 }
 
-/// The branch that a word names.
-#[tactic(auto, unfolding(crate::specs::Values::branch_of))]
-pub fn branch_in(alloc: Global, word: &str) -> Result<Result<RefName, ScriptKind>, AllocError>
-    ensures { IfOk result (λ r. r ≡ branch_of word.now) }
+/// The name of a branch or a tag that a word is.
+#[tactic(auto, unfolding(crate::specs::Values::ref_name_of))]
+pub fn ref_name_in(alloc: Global, word: &str) -> Result<Result<RefName, ScriptKind>, AllocError>
+    ensures { IfOk result (λ r. r ≡ ref_name_of word.now) }
 {
-    if word != "main" {
-        return Ok(Err(ScriptKind::Unbuilt));
+    match RefName::read(alloc, word) {
+        Ok(name) => Ok(Ok(name)),
+        Err(NameFault::NoMemory) => Err(AllocError),
+        Err(_) => Ok(Err(ScriptKind::Name)),
     }
-    let branch = RefName::main(alloc)?;
-    Ok(Ok(branch))
 }
 
-/// A word that stands as it is.
-pub fn fixed(word: &str, text: &str) -> Result<(), ScriptKind>
-    ensures { result ≡ fixed word.now text.now }
+/// The id of a snapshot that a word is.
+#[tactic(auto, unfolding(crate::specs::Values::id_of))]
+pub fn id_in(word: &str) -> Result<Id12, ScriptKind>
+    ensures { result ≡ id_of word.now }
 {
-    if word == text {
-        Ok(())
-    } else {
-        Err(ScriptKind::Unbuilt)
+    match Id12::read(word.as_bytes()) {
+        Ok(id) => Ok(id),
+        Err(_) => Err(ScriptKind::Id),
     }
 }
 
@@ -140,17 +141,17 @@ fn number_in(word: &str, least: u32, most: u32) -> Result<u32, ScriptKind>
     ensures { result ≡ number_of least most word.now }
 {
     if !is_digits(word) {
-        return Err(ScriptKind::Unbuilt);
+        return Err(ScriptKind::Number);
     }
     match word.parse::<u32>() {
         Ok(value) => {
             if least <= value && value <= most {
                 Ok(value)
             } else {
-                Err(ScriptKind::Unbuilt)
+                Err(ScriptKind::Number)
             }
         }
-        Err(_) => Err(ScriptKind::Unbuilt),
+        Err(_) => Err(ScriptKind::Number),
     }
 }
 
@@ -160,11 +161,11 @@ fn wide_in(word: &str) -> Result<u128, ScriptKind>
     ensures { result ≡ wide_of word.now }
 {
     if !is_digits(word) {
-        return Err(ScriptKind::Unbuilt);
+        return Err(ScriptKind::Number);
     }
     match word.parse::<u128>() {
         Ok(value) => Ok(value),
-        Err(_) => Err(ScriptKind::Unbuilt),
+        Err(_) => Err(ScriptKind::Number),
     }
 }
 
@@ -300,11 +301,11 @@ pub fn fill_in(word: &str) -> Result<i128, ScriptKind>
     ensures { result ≡ fill_of word.now }
 {
     if !is_digits(magnitude(word)) {
-        return Err(ScriptKind::Unbuilt);
+        return Err(ScriptKind::Number);
     }
     match word.parse::<i128>() {
         Ok(value) => Ok(value),
-        Err(_) => Err(ScriptKind::Unbuilt),
+        Err(_) => Err(ScriptKind::Number),
     }
 }
 
@@ -317,4 +318,63 @@ pub fn count_in(text: Option<&str>) -> Result<u32, ScriptKind>
         None => Ok(1),
         Some(word) => number_in(word, 1, 9999),
     }
+}
+
+/// A word of its grammar, and of such words the one that is built.
+fn only_built(fits: bool, kind: ScriptKind, word: &str, built: &str) -> Result<(), ScriptKind>
+    ensures { result ≡ only_built fits kind word.now built.now }
+{
+    let is_built = only_if(word == built, ScriptKind::Unbuilt);
+    match both(only_if(fits, kind), is_built) {
+        Ok(((), ())) => Ok(()),
+        Err(kind) => Err(kind),
+    }
+}
+
+fn is_digit(word: &str) -> bool
+    ensures { result ≡ is_digit word.now }
+{
+    if word.len() != 1 {
+        return false;
+    }
+    are_digits(word)
+}
+
+/// How often a commit is carried over those of others.
+#[tactic(auto, unfolding(crate::specs::Values::tries_of))]
+pub fn tries_in(word: &str) -> Result<(), ScriptKind>
+    ensures { result ≡ tries_of word.now }
+{
+    only_built(is_digit(word), ScriptKind::Number, word, "0")
+}
+
+fn is_side(word: &str) -> bool
+    ensures { result ≡ is_side word.now }
+{
+    word == "fail" || word == "ours" || word == "theirs"
+}
+
+fn are_drops(text: Option<&str>) -> bool
+    ensures { result ≡ are_drops (seen text.entry) }
+{
+    match text {
+        None => true,
+        Some(word) => word == "a" || word == "g" || word == "ag",
+    }
+}
+
+#[tactic(auto, unfolding(crate::specs::Values::is_policy))]
+fn is_policy(word: &str) -> bool
+    ensures { result ≡ is_policy word.now }
+{
+    let (side, drops) = cut(word, '+');
+    is_side(side) && are_drops(drops)
+}
+
+/// Who wins a conflict.
+#[tactic(auto, unfolding(crate::specs::Values::policy_of))]
+pub fn policy_in(word: &str) -> Result<(), ScriptKind>
+    ensures { result ≡ policy_of word.now }
+{
+    only_built(is_policy(word), ScriptKind::Word, word, "fail")
 }

@@ -30,6 +30,18 @@ pub fn cut(text: &str, separator: char) -> (&str, Option<&str>)
     }
 }
 
+/// The first word of a line, perhaps empty.
+pub fn first_word(line: &[u8]) -> &[u8]
+    ensures { result.now ≡ (cut_of 32 line.now).0 }
+{
+    for (i, byte) in line.iter().enumerate() {
+        if *byte == b' ' {
+            return &line[..i];
+        }
+    }
+    line
+}
+
 /// The next word, which isn't empty, and what is left behind it.
 pub fn next<'a>(rest: Option<&'a str>) -> Option<(&'a str, Option<&'a str>)>
     ensures { option_map (λ cut. (cut.0.now, seen cut.1)) result ≡ next (seen rest.entry) }

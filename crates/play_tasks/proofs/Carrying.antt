@@ -17,10 +17,10 @@ use Rattle.store_api.proofs.Journals.{Each-append, Each-one}
 use Rattle.store_api.proofs.Programs.{Leads-weaker}
 use Rattle.session.specs.Sessions.{SessionState}
 use Rattle.commit_path.specs.Owed.{Sessions, OwesOver, OwesSnap, OwesNew, OwesPutOver, Owes, IsCareful}
-use Rattle.commit_path.specs.Answered.{ChangedNothing}
+use Rattle.store_api.specs.Telling.{ChangedNothing}
 use Rattle.commit_path.specs.Single.{PutsSnapshot, PutsNone, HasPutNone, IsSingle}
 use Rattle.commit_path.proofs.Singling.{HasPutNone-others}
-use Rattle.commit_path.proofs.Telling.{makes-keeps}
+use Rattle.store_api.proofs.Telling.{makes-keeps}
 use Rattle.play_tasks.specs.Solving.{MayEnd}
 
 -- an operation is polite and owed, and comes before its client changed a branch, and one that puts a snapshot before it put any

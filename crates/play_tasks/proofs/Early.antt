@@ -12,7 +12,7 @@ use Rattle.session.specs.Sessions.{SessionState}
 use Rattle.session.specs.Opening.{Asked}
 use Rattle.commit_path.specs.Opened.{WasBegun}
 use Rattle.commit_path.specs.Single.{PutsNone, HasPutNone}
-use Rattle.commit_path.proofs.Happening.{HasOwn-append}
+use Rattle.store_api.proofs.Happening.{HasOwn-append}
 use Rattle.commit_path.proofs.Reading.{WasBegun-append}
 
 each-front : (P : List Event → Event → Type 0) (old xs ys : List Event) → Each P old (xs ++ ys) → Each P old xs

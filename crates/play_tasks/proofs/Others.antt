@@ -10,7 +10,7 @@ use Rattle.store_api.proofs.Programs.{good-waits}
 use Rattle.store_api.proofs.PlayLaws.{IsKeptByOthers}
 use Rattle.session.specs.Sessions.{SessionState}
 use Rattle.commit_path.specs.Laws.{SessionLaw, AnswersLaw}
-use Rattle.commit_path.proofs.Happening.{ChangedNothing-others}
+use Rattle.store_api.proofs.Happening.{ChangedNothing-others}
 use Rattle.chunk_calls.specs.Laws.{TellsLaw}
 use Rattle.play_script.specs.declared.scripts.Line.{Line}
 use Rattle.play_script.specs.declared.scripts.Task.{Task}

@@ -29,12 +29,13 @@ use Rattle.session.specs.Chunks.{set_program, get_program}
 use Rattle.commit_path.specs.declared.commit.Committed.{Committed as Made}
 use Rattle.commit_path.specs.Committing.{commit_program}
 use Rattle.commit_path.specs.Owed.{Sessions, IsCareful}
-use Rattle.commit_path.specs.Answered.{ChangedNothing, CommitTells}
+use Rattle.commit_path.specs.Answered.{CommitTells}
+use Rattle.store_api.specs.Telling.{ChangedNothing}
 use Rattle.commit_path.specs.Opened.{IsOpened, WasBegun, OpeningTells}
 use Rattle.commit_path.specs.Laws.{OpeningLaw, SessionLaw, CommitLaw}
 use Rattle.commit_path.specs.Single.{PutsSnapshot, HasPutNone, IsSingle, SingleLaw}
 use Rattle.commit_path.specs.Spelled.{IsSpelled}
-use Rattle.commit_path.proofs.Happening.{ChangedNothing-none}
+use Rattle.store_api.proofs.Happening.{ChangedNothing-none}
 use Rattle.commit_path.proofs.Singling.{HasPutNone-none}
 use Rattle.commit_path.proofs.Sources.{later-same}
 use Rattle.chunk_calls.specs.Told.{SetTells, GetTells}

@@ -6,7 +6,7 @@ use Rattle.store_api.specs.Journal.{Each}
 use Rattle.store_api.specs.Callers.{Caller, IsOther}
 use Rattle.store_api.specs.Plays.{PlayKeeps, PlayLeads}
 use Rattle.commit_path.specs.Owed.{IsCareful}
-use Rattle.commit_path.specs.Answered.{ChangedNothing}
+use Rattle.store_api.specs.Telling.{ChangedNothing}
 use Rattle.commit_path.specs.Single.{IsSingle}
 use Rattle.play_script.specs.declared.scripts.Task.{Task}
 use Rattle.play_script.specs.Well.{IsWellTask}

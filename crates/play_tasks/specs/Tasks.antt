@@ -8,7 +8,7 @@ use Rattle.store_api.specs.declared.events.Event.{Event}
 use Rattle.store_api.specs.Callers.{only}
 use Rattle.store_api.specs.Plays.{Play, HasEnded, PlayKeeps, PlayLeads}
 use Rattle.commit_path.specs.Owed.{IsCareful, IsCarefulEvent}
-use Rattle.commit_path.specs.Answered.{ChangedNothing}
+use Rattle.store_api.specs.Telling.{ChangedNothing}
 use Rattle.commit_path.specs.Single.{IsSingle}
 use Rattle.play_script.specs.declared.scripts.Task.{Task}
 use Rattle.play_outcome.specs.declared.outcome.Outcome.{Outcome}

@@ -6,7 +6,8 @@ use Rattle.store_api.specs.declared.machines.Refusal.{Refusal}
 use Rattle.store_api.specs.declared.machines.Refusal.TheVariants.{NoMemory}
 use Rattle.session.specs.Sessions.{SessionState}
 use Rattle.commit_path.specs.declared.commit.Committed.{Committed as Made}
-use Rattle.commit_path.specs.Answered.{ChangedNothing, CommitTells}
+use Rattle.commit_path.specs.Answered.{CommitTells}
+use Rattle.store_api.specs.Telling.{ChangedNothing}
 use Rattle.commit_path.specs.Opened.{IsOpened, WasBegun, RefusalTells}
 use Rattle.commit_path.specs.Single.{HasPutNone}
 use Rattle.play_script.specs.declared.scripts.Line.{Line}

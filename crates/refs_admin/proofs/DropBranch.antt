@@ -25,11 +25,10 @@ use Rattle.store_api.specs.Running.{Program, on_answer, StaysPolite}
 use Rattle.store_api.proofs.Slots.{bytes-true, bytes-same}
 use Rattle.repo_read.specs.declared.answers.Resolved.{Resolved}
 use Rattle.repo_read.specs.Answers.{at_key, resolved_at, ref_told}
-use Rattle.commit_path.specs.Answered.{WasGot}
-use Rattle.commit_path.proofs.Telling.{get-had}
-use Rattle.commit_path.proofs.Happening.{moved-later, stands-as}
+use Rattle.store_api.specs.Telling.{MadeGets, WasGot}
+use Rattle.store_api.proofs.Telling.{get-had}
+use Rattle.store_api.proofs.Happening.{moved-later, stands-as}
 use Rattle.refs_admin.specs.Branches.{dropped, removal, branch_drop_program}
-use Rattle.refs_admin.specs.Telling.{MadeGets}
 use Rattle.refs_admin.specs.BranchTelling.{IsOfDrop, removes, BranchDropTells}
 use Rattle.refs_admin.proofs.Own.{MadeGets-none, MadeGets-get, one-made}
 use Rattle.refs_admin.proofs.Replies.{got-cases, gone-cases, gone-done, gone-moved}

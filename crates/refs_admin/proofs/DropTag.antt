@@ -21,12 +21,12 @@ use Rattle.store_api.specs.Callers.{Caller, Makes}
 use Rattle.store_api.specs.Program.{Leads, Keeps}
 use Rattle.store_api.specs.Running.{Program, on_answer, StaysPolite}
 use Rattle.repo_read.specs.Answers.{at_key}
-use Rattle.commit_path.specs.Answered.{WasGot}
-use Rattle.commit_path.proofs.Telling.{get-had}
-use Rattle.commit_path.proofs.Happening.{new-present, stands-as}
+use Rattle.store_api.specs.Telling.{MadeGets, WasGot}
+use Rattle.store_api.proofs.Telling.{get-had}
+use Rattle.store_api.proofs.Happening.{new-present, stands-as}
 use Rattle.refs_admin.specs.Resolving.{tag_told}
 use Rattle.refs_admin.specs.Tags.{buried, put_tombstone, tag_drop_program}
-use Rattle.refs_admin.specs.Telling.{MadeGets, TagNames}
+use Rattle.refs_admin.specs.Telling.{TagNames}
 use Rattle.refs_admin.specs.TagTelling.{TagWasRead, IsOfBurying, buries, TagDropTells}
 use Rattle.refs_admin.proofs.Own.{MadeGets-none, MadeGets-get, one-made}
 use Rattle.refs_admin.proofs.Replies.{got-cases, new-cases, Holds, new-done}

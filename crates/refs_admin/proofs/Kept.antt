@@ -19,12 +19,12 @@ use Rattle.store_api.specs.declared.machines.Refusal.{Refusal}
 use Rattle.store_api.specs.declared.machines.Refusal.TheVariants as R
 use Rattle.store_api.specs.Journal.{Each}
 use Rattle.store_api.specs.Callers.{Caller, IsOther}
-use Rattle.commit_path.specs.Answered.{HasOwn, WasAbsent}
-use Rattle.commit_path.proofs.Happening.{HasOwn-append, WasGot-append, WasAbsent-append}
+use Rattle.store_api.specs.Telling.{GetsOf, HasOwn, MadeGets, MadeOne, RefWasBad, SnapshotWasBad, WasAbsent, WasFailure, WasPresent, WasSnapshot}
+use Rattle.store_api.proofs.Happening.{HasOwn-append, WasGot-append, WasAbsent-append}
 use Rattle.refs_admin.specs.declared.resolving.At.{At}
 use Rattle.refs_admin.specs.declared.resolving.Named.{Named}
 use Rattle.refs_admin.specs.declared.log.LogLine.{LogLine}
-use Rattle.refs_admin.specs.Telling.{GetsTarget, IsOfMaking, WasAimed, MadeGets, MadeOne, WasFailure, WasPresent, RefWasBad, SnapshotWasBad, WasResolved, WasNothing, WasUnnamed, key_of, GetsOf, IsNaming, NamingTells, WasSnapshot, TargetWasAbsent, TargetWasBad, MakingRefused}
+use Rattle.refs_admin.specs.Telling.{GetsTarget, IsOfMaking, WasAimed, WasResolved, WasNothing, WasUnnamed, key_of, IsNaming, NamingTells, TargetWasAbsent, TargetWasBad, MakingRefused}
 use Rattle.refs_admin.specs.BranchTelling.{creates, BranchNewTells, BranchWasAt, ResetRefused, IsOfReset, resets, BranchResetTells, DropRefused, IsOfDrop, removes, BranchDropTells}
 use Rattle.refs_admin.specs.TagTelling.{TagWasThere, TombstoneWasNotGot, tags, TagNewTells, TagWasRead, HadTombstone, IsOfBurying, buries, TagDropTells}
 use Rattle.refs_admin.specs.InitTelling.{HasInitial, puts_initial, puts_main, InitTells}

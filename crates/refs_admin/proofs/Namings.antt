@@ -23,12 +23,12 @@ use Rattle.store_api.specs.Running.{Program, on_answer, StaysPolite, ◌>>=◌}
 use Rattle.store_api.proofs.Programs.{Keeps-bind}
 use Rattle.repo_read.specs.declared.answers.Resolved.{Resolved}
 use Rattle.repo_read.specs.Answers.{at_key, resolved_at, ref_told}
-use Rattle.commit_path.specs.Answered.{WasGot, WasAbsent}
-use Rattle.commit_path.proofs.Happening.{HasOwn-append, WasGot-append}
+use Rattle.store_api.specs.Telling.{GetsOf, MadeGets, WasAbsent, WasFailure, WasGot, WasRef}
+use Rattle.store_api.proofs.Happening.{HasOwn-append, WasGot-append}
 use Rattle.refs_admin.specs.declared.resolving.At.{At}
 use Rattle.refs_admin.specs.declared.resolving.Named.{Named}
 use Rattle.refs_admin.specs.Resolving.{alone, tag_told, tombstone_told, tombstone_program, resolve_at_program}
-use Rattle.refs_admin.specs.Telling.{MadeGets, WasRef, TagNames, WasResolved, NamingTells, GetsOf, IsNaming, WasFailure}
+use Rattle.refs_admin.specs.Telling.{TagNames, WasResolved, NamingTells, IsNaming}
 use Rattle.refs_admin.proofs.Own.{MadeGets-none, MadeGets-get, Since-gets, own-made, one-made, made-more}
 use Rattle.refs_admin.proofs.Replies.{got-cases, Holds, got-holds, got-absent}
 use Rattle.refs_admin.proofs.Stays.{tag-get, tag-waits}

@@ -20,12 +20,13 @@ use Rattle.store_api.specs.Callers.{Caller, Makes}
 use Rattle.store_api.specs.Program.{Done, Leads, Keeps}
 use Rattle.store_api.specs.Running.{on_answer, StaysPolite}
 use Rattle.store_api.proofs.Programs.{Leads-bind}
-use Rattle.commit_path.proofs.Happening.{new-present, stands-as}
+use Rattle.store_api.proofs.Happening.{new-present, stands-as}
 use Rattle.refs_admin.specs.declared.resolving.At.{At}
 use Rattle.refs_admin.specs.declared.resolving.Named.{Named}
 use Rattle.refs_admin.specs.Resolving.{resolve_at_program}
 use Rattle.refs_admin.specs.Branches.{created, put_branch, create_program, branch_new_program}
-use Rattle.refs_admin.specs.Telling.{NamingTells, WasFailure, GetsOf, IsNaming, IsOfMaking}
+use Rattle.refs_admin.specs.Telling.{NamingTells, IsNaming, IsOfMaking}
+use Rattle.store_api.specs.Telling.{GetsOf, WasFailure}
 use Rattle.refs_admin.specs.BranchTelling.{creates, BranchNewTells}
 use Rattle.refs_admin.proofs.Own.{MadeGets-none, one-made}
 use Rattle.refs_admin.proofs.Replies.{new-cases, new-done}

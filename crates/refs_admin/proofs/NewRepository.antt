@@ -28,7 +28,7 @@ use Rattle.store_api.specs.Callers.{Caller, Makes, own_event}
 use Rattle.store_api.specs.Program.{Leads, Keeps}
 use Rattle.store_api.specs.Running.{Program, on_answer, StaysPolite}
 use Rattle.store_api.proofs.Slots.{same_key-refl, slot-append_one, sound}
-use Rattle.commit_path.proofs.Happening.{HasOwn-makes, new-present, stands-as}
+use Rattle.store_api.proofs.Happening.{HasOwn-makes, new-present, stands-as}
 use Rattle.refs_admin.specs.Branches.{created}
 use Rattle.refs_admin.specs.Beginning.{placed, put_main, init_program}
 use Rattle.refs_admin.specs.InitTelling.{HasInitial, puts_initial, puts_main, InitTells}

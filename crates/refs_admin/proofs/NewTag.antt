@@ -22,12 +22,13 @@ use Rattle.store_api.specs.Callers.{Caller, Makes, own_event}
 use Rattle.store_api.specs.Program.{Done, Leads, Keeps}
 use Rattle.store_api.specs.Running.{on_answer, StaysPolite}
 use Rattle.store_api.proofs.Programs.{Leads-bind}
-use Rattle.commit_path.proofs.Happening.{new-present, stands-as}
+use Rattle.store_api.proofs.Happening.{new-present, stands-as}
 use Rattle.refs_admin.specs.declared.resolving.At.{At}
 use Rattle.refs_admin.specs.declared.resolving.Named.{Named}
 use Rattle.refs_admin.specs.Resolving.{resolve_at_program}
 use Rattle.refs_admin.specs.Tags.{taken, after_tag, put_tag, tag_target_program, tag_new_program}
-use Rattle.refs_admin.specs.Telling.{NamingTells, GetsOf, IsNaming, IsOfMaking}
+use Rattle.refs_admin.specs.Telling.{NamingTells, IsNaming, IsOfMaking}
+use Rattle.store_api.specs.Telling.{GetsOf}
 use Rattle.refs_admin.specs.TagTelling.{tags, TagWasThere, TagNewTells}
 use Rattle.refs_admin.proofs.Own.{MadeGets-none, MadeOne-append, Since, Since-gets, Since-makes, got-alone, made-more, own-made, one-made}
 use Rattle.refs_admin.proofs.Replies.{got-cases, new-cases, got-absent, new-done}

@@ -8,9 +8,8 @@ use Rattle.store_api.specs.declared.events.Event.{Event}
 use Rattle.store_api.specs.Journal.{Each}
 use Rattle.store_api.specs.Callers.{Caller, IsOther, Waits, Makes, own_event}
 use Rattle.store_api.proofs.Journals.{Each-append, Each-weaker, Each-one, Each-none}
-use Rattle.commit_path.specs.Answered.{HasOwn}
-use Rattle.commit_path.proofs.Happening.{HasOwn-append}
-use Rattle.refs_admin.specs.Telling.{GetsAlone, MadeGets, MadeOne}
+use Rattle.store_api.specs.Telling.{GetsAlone, HasOwn, MadeGets, MadeOne}
+use Rattle.store_api.proofs.Happening.{HasOwn-append}
 
 -- ---- gets alone
 pub MadeGets-none : (client : ℕ) (start : List Event) → MadeGets client start start

@@ -14,7 +14,7 @@ use Rattle.store_api.specs.declared.events.Reply.TheVariants.{Got, New, Over, Go
 use Rattle.store_api.specs.declared.events.Event.{Event}
 use Rattle.store_api.specs.Machine.{Stored, version_at, got_of, new_of, gone_at_of}
 use Rattle.store_api.specs.Callers.{Caller, Makes}
-use Rattle.commit_path.proofs.Happening.{Differs}
+use Rattle.store_api.proofs.Happening.{Differs}
 
 -- ---- by kind: a reply of another kind is none of an honest store's
 module _ (by : Caller) (old new : List Event) (P : Reply → Type 0) where

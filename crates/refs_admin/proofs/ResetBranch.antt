@@ -28,14 +28,14 @@ use Rattle.store_api.proofs.Programs.{Leads-bind}
 use Rattle.store_api.proofs.Slots.{StoodAt-append}
 use Rattle.repo_read.specs.declared.answers.Resolved.{Resolved}
 use Rattle.repo_read.specs.Answers.{at_key, resolved_at, ref_told}
-use Rattle.commit_path.specs.Answered.{WasGot}
-use Rattle.commit_path.proofs.Telling.{get-had}
-use Rattle.commit_path.proofs.Happening.{over-done, over-moved, over-same, moved-later, stands-as}
+use Rattle.store_api.specs.Telling.{GetsOf, MadeGets, WasGot}
+use Rattle.store_api.proofs.Telling.{get-had}
+use Rattle.store_api.proofs.Happening.{over-done, over-moved, over-same, moved-later, stands-as}
 use Rattle.refs_admin.specs.declared.resolving.At.{At}
 use Rattle.refs_admin.specs.declared.resolving.Named.{Named}
 use Rattle.refs_admin.specs.Resolving.{resolve_at_program}
 use Rattle.refs_admin.specs.Branches.{moved, put_over, move_program, reset_program, branch_reset_program}
-use Rattle.refs_admin.specs.Telling.{WasResolved, NamingTells, MadeGets, GetsOf, IsNaming}
+use Rattle.refs_admin.specs.Telling.{WasResolved, NamingTells, IsNaming}
 use Rattle.refs_admin.specs.BranchTelling.{BranchWasAt, IsOfReset, resets, BranchResetTells}
 use Rattle.refs_admin.proofs.Own.{MadeGets-none, MadeGets-get, made-more, one-made}
 use Rattle.refs_admin.proofs.Replies.{got-cases, over-cases}

@@ -23,13 +23,13 @@ use Rattle.store_api.specs.Callers.{Caller, Makes, own_event}
 use Rattle.store_api.specs.Program.{Leads, Keeps}
 use Rattle.store_api.specs.Running.{Program, on_answer, StaysPolite, ◌>>=◌}
 use Rattle.repo_read.specs.Answers.{at_key}
-use Rattle.commit_path.specs.Answered.{WasGot}
-use Rattle.commit_path.proofs.Happening.{WasGot-append}
-use Rattle.commit_path.proofs.Telling.{get-had}
+use Rattle.store_api.specs.Telling.{MadeGets, WasFailure, WasGot, WasReadAs, WasSnapshot}
+use Rattle.store_api.proofs.Happening.{WasGot-append}
+use Rattle.store_api.proofs.Telling.{get-had}
 use Rattle.refs_admin.specs.declared.resolving.At.{At}
 use Rattle.refs_admin.specs.declared.resolving.Named.{Named}
 use Rattle.refs_admin.specs.Resolving.{but_refused, no_snapshot, target_told, target_program}
-use Rattle.refs_admin.specs.Telling.{MadeGets, WasResolved, WasReadAs, WasSnapshot, TargetWasAbsent, TargetWasBad, WasFailure}
+use Rattle.refs_admin.specs.Telling.{WasResolved, TargetWasAbsent, TargetWasBad}
 use Rattle.refs_admin.proofs.Own.{MadeGets-get, made-more}
 use Rattle.refs_admin.proofs.Replies.{got-cases}
 use Rattle.refs_admin.proofs.Namings.{got-made, absent-made, failed-made, WasResolved-makes}

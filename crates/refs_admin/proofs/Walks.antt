@@ -234,3 +234,16 @@ pub log-begins : (at : At) → first_rest (begun at) ≡ log_program at
 log-begins (At.Branch name) = named-lines (At.Branch name)
 log-begins (At.Tag name) = named-lines (At.Tag name)
 log-begins (At.Snapshot id) = ap (refused_first no_ref) (walk-lines most_snapshots [] id) ∙ first-bind no_ref (map line_of) (chain_program id)
+
+-- ---- a log begins with a get
+first-is-ask : {A : Type 0} (f : Refusal → Refusal) (p : Program A) → IsAsk p → IsAsk (refused_first f p)
+first-is-ask f (Done r) i = absurd i
+first-is-ask f (Ask op k) i = tt
+
+begun-asks : (at : At) → IsAsk (first_rest (begun at))
+begun-asks (At.Branch name) = tt
+begun-asks (At.Tag name) = tt
+begun-asks (At.Snapshot id) = first-is-ask no_ref (log_walk most_snapshots [] id) (walk-is-ask most_snapshots [] id (omega arith))
+
+pub log-asks : (at : At) → IsAsk (log_program at)
+log-asks at = subst (λ (p : Program (List LogLine)). IsAsk p) (log-begins at) (begun-asks at)

@@ -16,9 +16,9 @@ use Rattle.store_api.specs.declared.events.Event.{Event}
 use Rattle.store_api.specs.declared.machines.Refusal.{Refusal}
 use Rattle.store_api.specs.declared.machines.Refusal.TheVariants as R
 use Rattle.store_api.specs.Machine.{found, version_at}
-use Rattle.commit_path.specs.Answered.{StandsAt, HasMovedOn, WasAbsent}
+use Rattle.store_api.specs.Telling.{GetsOf, HasMovedOn, MadeGets, MadeOne, RefWasBad, StandsAt, WasAbsent, WasFailure, WasRef}
 use Rattle.refs_admin.specs.declared.resolving.At.{At}
-use Rattle.refs_admin.specs.Telling.{MadeGets, MadeOne, WasRef, RefWasBad, WasNothing, WasUnnamed, WasFailure, GetsOf, IsNaming, GetsTarget, WasAimed, TargetWasAbsent, TargetWasBad, IsOfMaking, MakingRefused}
+use Rattle.refs_admin.specs.Telling.{WasNothing, WasUnnamed, IsNaming, GetsTarget, WasAimed, TargetWasAbsent, TargetWasBad, IsOfMaking, MakingRefused}
 
 -- ---- a new branch
 -- a put of a new branch with a reference to a snapshot

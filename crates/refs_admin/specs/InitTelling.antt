@@ -16,7 +16,7 @@ use Rattle.store_api.specs.declared.events.Event.{Event}
 use Rattle.store_api.specs.declared.machines.Refusal.{Refusal}
 use Rattle.store_api.specs.declared.machines.Refusal.TheVariants as R
 use Rattle.store_api.specs.Machine.{found, version_at}
-use Rattle.commit_path.specs.Answered.{HasOwn, StandsAt}
+use Rattle.store_api.specs.Telling.{HasOwn, StandsAt}
 
 -- ---- a repository
 -- the initial snapshot was put by the client, or was there

@@ -3,12 +3,10 @@ use Rattle.std.specs.Prelude.{◌≡◌, ℕ, List, ◌++◌, Some, Result}
 use Rattle.ice_base.specs.Names.{main_name}
 use Rattle.store_api.specs.declared.keys.Key.TheVariants.{Branch, Tag, TagGone}
 use Rattle.store_api.specs.declared.events.Event.{Event}
-use Rattle.store_api.specs.declared.machines.Refusal.{Refusal}
 use Rattle.store_api.specs.Machine.{Stored, found}
 use Rattle.store_api.specs.Journal.{Each, IsGood}
-use Rattle.store_api.specs.Callers.{Caller, IsOther}
-use Rattle.store_api.specs.Program.{Leads}
-use Rattle.store_api.specs.Running.{Program, StaysPolite}
+use Rattle.store_api.specs.Callers.{Caller}
+use Rattle.store_api.specs.Telling.{IsTold}
 use Rattle.refs_admin.specs.declared.resolving.At.{At}
 use Rattle.refs_admin.specs.Resolving.{resolve_at_program}
 use Rattle.refs_admin.specs.Branches.{branch_new_program, branch_reset_program, branch_drop_program}
@@ -20,13 +18,6 @@ use Rattle.refs_admin.specs.BranchTelling.{BranchNewTells, BranchResetTells, Bra
 use Rattle.refs_admin.specs.TagTelling.{TagNewTells, TagDropTells}
 use Rattle.refs_admin.specs.InitTelling.{InitTells}
 use Rattle.refs_admin.specs.LogTelling.{LogTells}
-
--- Whatever others do, each operation to come is polite; the answer tells this of the journal, where `tells` has the journal at the call
--- first; and what it tells stays so.
-pub record IsTold (by : Caller) {A : Type 0} (p : Program A) (tells : List Event → Result A Refusal → List Event → Type 0) : Type 0 where
-  pub polite : (journal : List Event) → StaysPolite by p journal
-  pub leads : (journal : List Event) → Leads (tells journal) by p journal
-  pub kept : (result : Result A Refusal) (start journal more : List Event) → Each (IsOther by) journal more → tells start result journal → tells start result (journal ++ more)
 
 pub record RefsLaw (by : Caller) : Type 0 where
   pub resolve : (at : At) → IsTold by (resolve_at_program at) (NamingTells by.number at)

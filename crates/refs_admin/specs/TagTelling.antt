@@ -13,9 +13,9 @@ use Rattle.store_api.specs.declared.events.Event.{Event}
 use Rattle.store_api.specs.declared.machines.Refusal.{Refusal}
 use Rattle.store_api.specs.declared.machines.Refusal.TheVariants as R
 use Rattle.store_api.specs.Machine.{found, version_at}
-use Rattle.commit_path.specs.Answered.{HasOwn, StandsAt, WasAbsent}
+use Rattle.store_api.specs.Telling.{HasOwn, MadeGets, MadeOne, RefWasBad, StandsAt, WasAbsent, WasFailure, WasPresent, WasRef}
 use Rattle.refs_admin.specs.declared.resolving.At.{At}
-use Rattle.refs_admin.specs.Telling.{MadeGets, MadeOne, WasRef, RefWasBad, TagNames, WasPresent, WasFailure, WasAimed, IsOfMaking, MakingRefused}
+use Rattle.refs_admin.specs.Telling.{TagNames, WasAimed, IsOfMaking, MakingRefused}
 
 -- ---- a new tag
 abbrev pub tags : (name : List ℕ) → Id12 → Op

@@ -2,61 +2,21 @@
 -- `start` is the journal at the call. (Icechunk specification version 1, "Reference Files", "Tags".)
 use Rattle.std.specs.Prelude.{◌≡◌, ◌⊎◌, ℕ, Bool, List, [], ◌∷◌, ◌++◌, Some, Result, Ok, Err}
 use Rattle.ice_ids.specs.declared.Id12.{Id12}
-use Rattle.snapshot_file.specs.declared.snapshot.SnapshotFile.{SnapshotFile}
 use Rattle.repo_objects.specs.declared.bad.Bad.{Bad}
-use Rattle.repo_objects.specs.Readings.{read_snapshot, read_ref, snapshot_by, ref_of}
+use Rattle.repo_objects.specs.Readings.{ref_of}
 use Rattle.store_api.specs.declared.keys.Key.{Key}
 use Rattle.store_api.specs.declared.keys.Key.TheVariants.{Snapshot, Branch, Tag, TagGone}
 use Rattle.store_api.specs.declared.events.Version.{Version}
 use Rattle.store_api.specs.declared.events.Op.{Op}
 use Rattle.store_api.specs.declared.events.Op.TheVariants.{Get}
-use Rattle.store_api.specs.declared.events.Reply.{Reply}
-use Rattle.store_api.specs.declared.events.Reply.TheVariants.{Failed}
 use Rattle.store_api.specs.declared.events.Event.{Event}
 use Rattle.store_api.specs.declared.machines.Refusal.{Refusal}
 use Rattle.store_api.specs.declared.machines.Refusal.TheVariants as R
 use Rattle.store_api.specs.Machine.{Stored, found}
-use Rattle.store_api.specs.Journal.{Each}
-use Rattle.commit_path.specs.Answered.{HasOwn, WasGot, WasAbsent}
+use Rattle.store_api.specs.Telling.{WasAbsent, MadeGets, WasRef, RefWasBad, WasPresent, WasSnapshot, SnapshotWasBad, WasFailure, GetsOf}
 use Rattle.refs_admin.specs.declared.resolving.At.{At}
 use Rattle.refs_admin.specs.declared.resolving.Named.{Named}
 use Rattle.refs_admin.specs.Resolving.{alone}
-
--- ---- a client's own events
-abbrev pub IsGet : Op → Type 0
-IsGet (Get key) = Unit {0}
-IsGet _ = ⊥
-
--- the event isn't the client's, or a get
-abbrev pub GetsAlone : ℕ → List Event → Event → Type 0
-GetsAlone client before event = event.client ≡ client → IsGet event.op
-
--- From `start` on, the client made gets alone.
-pub record MadeGets (client : ℕ) (start journal : List Event) : Type 0 where
-  pub more : List Event
-  pub is : journal ≡ start ++ more
-  pub each : Each (GetsAlone client) start more
-
--- The client's own operation was answered so, and it was the only one since `start` that is no get.
-pub record MadeOne (client : ℕ) (op : Op) (reply : Reply) (start journal : List Event) : Type 0 where
-  pub own : HasOwn client op reply start journal
-  pub earlier : MadeGets client start own.before
-  pub later : MadeGets client (own.before ++ own.event ∷ []) journal
-
--- ---- what was read
--- the client's own get of the ref was answered with a reference to this snapshot
-pub record WasRef (client : ℕ) (key : Key) (version : Version) (id : Id12) (start journal : List Event) : Type 0 where
-  pub bytes : List ℕ
-  pub got : WasGot client key bytes version.0 start journal
-  pub names : ref_of bytes ≡ Some id
-
--- the ref's bytes are no reference, for this cause
-pub record RefWasBad (client : ℕ) (ref key : Key) (bad : Bad) (start journal : List Event) : Type 0 where
-  pub key_is : key ≡ ref
-  pub bytes : List ℕ
-  pub version : ℕ
-  pub got : WasGot client ref bytes version start journal
-  pub unread : read_ref bytes ≡ Err bad
 
 -- the tag stands, and names this snapshot
 pub record TagNames (journal : List Event) (tag : List ℕ) (id : Id12) : Type 0 where
@@ -70,12 +30,6 @@ pub record WasTagged (client : ℕ) (tag : List ℕ) (id : Id12) (start journal 
   pub read : WasRef client (Tag tag) version id start journal
   pub stands : WasAbsent client (TagGone tag) start journal
   pub still : TagNames stands.own.before tag id
-
--- the client's own get of the key was answered that something is there
-pub record WasPresent (client : ℕ) (key : Key) (start journal : List Event) : Type 0 where
-  pub bytes : List ℕ
-  pub version : ℕ
-  pub got : WasGot client key bytes version start journal
 
 pub record WasBranch (client : ℕ) (branch : List ℕ) (named : Named) (start journal : List Event) : Type 0 where
   pub version : Version
@@ -102,38 +56,6 @@ key_of (At.Snapshot id) = Snapshot id
 -- the bytes of the ref are no reference
 abbrev pub WasUnnamed : ℕ → At → Key → Bad → List Event → List Event → Type 0
 WasUnnamed client at key bad start journal = RefWasBad client (key_of at) key bad start journal
-
--- the client's own get of the snapshot was answered with bytes that read so
-pub record WasReadAs (client : ℕ) (id : Id12) (snap : SnapshotFile) (start journal : List Event) : Type 0 where
-  pub bytes : List ℕ
-  pub version : ℕ
-  pub got : WasGot client (Snapshot id) bytes version start journal
-  pub read : snapshot_by id bytes ≡ Some snap
-
--- ... with one that can be read
-pub record WasSnapshot (client : ℕ) (id : Id12) (start journal : List Event) : Type 0 where
-  pub snap : SnapshotFile
-  pub read : WasReadAs client id snap start journal
-
--- ... with bytes that are no snapshot of this id, for this cause
-pub record SnapshotWasBad (client : ℕ) (id : Id12) (key : Key) (bad : Bad) (start journal : List Event) : Type 0 where
-  pub key_is : key ≡ Snapshot id
-  pub bytes : List ℕ
-  pub version : ℕ
-  pub got : WasGot client (Snapshot id) bytes version start journal
-  pub unread : read_snapshot id bytes ≡ Err bad
-
--- ---- a store's failure
--- an operation of the client, of this kind, failed, and may have been done; all else that it made are gets
-pub record WasFailure (client : ℕ) (kind : Op → Type 0) (start journal : List Event) : Type 0 where
-  pub op : Op
-  pub of_kind : kind op
-  pub done : Bool
-  pub made : MadeOne client op (Failed done) start journal
-
--- a get of a key of these
-abbrev pub GetsOf : (Key → Type 0) → Op → Type 0
-GetsOf keys op = (key : Key) × keys key × (op ≡ Get key)
 
 -- ---- names
 -- a get of what names a snapshot: a branch; a tag, or its tombstone

@@ -5,6 +5,7 @@ mod answers;
 mod branch_drop;
 mod branch_new;
 mod branch_reset;
+mod calls;
 mod init;
 mod laws;
 mod log;
@@ -15,6 +16,9 @@ mod tag_new;
 pub use branch_drop::BranchDrop;
 pub use branch_new::BranchNew;
 pub use branch_reset::BranchReset;
+pub use calls::{
+    drop_branch, drop_tag, make_branch, make_repository, make_tag, read_log, set_branch,
+};
 pub use init::Init;
 pub use laws::{refs_law, stays_law};
 pub use log::{Log, LogLine, LogLines};

@@ -1,7 +1,7 @@
 //! Why the bytes of an object aren't what its key asks for.
 
 use flat_tables::FileFault;
-use ice_ids::Id12;
+use ice_ids::{Id8, Id12};
 use ref_file::RefFault;
 use std::alloc::{AllocError, AllocFailed};
 use zarr_meta::MetaFault;
@@ -23,6 +23,9 @@ pub enum Bad {
         /// What is wrong with its text.
         fault: MetaFault,
     },
+    /// The log doesn't tell what its commit did to this node: the node is gone, or a part of its metadata has changed that stays
+    /// as it is.
+    Unlisted(Id8),
     /// The bytes of a chunk aren't as many as a chunk of its array has, or its part runs past the end of the object.
     Chunk {
         /// How many a chunk has.

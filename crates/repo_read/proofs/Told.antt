@@ -2,10 +2,11 @@
 use Rattle.std.proofs.Common.{◌≡◌, ℕ, List, Bool, true, false, Result, Ok, Err, IfErr, refl, sym, ap, ◌∙◌, subst}
 use Rattle.ice_ids.specs.declared.Id12.{Id12}
 use Rattle.snapshot_file.specs.declared.snapshot.SnapshotFile.{SnapshotFile}
+use Rattle.txn_file.specs.declared.log.TxnFile.{TxnFile}
 use Rattle.repo_objects.specs.declared.bad.Bad.{Bad}
-use Rattle.repo_objects.specs.Readings.{read_snapshot, read_ref}
+use Rattle.repo_objects.specs.Readings.{read_snapshot, read_log, read_ref}
 use Rattle.store_api.specs.declared.keys.Key.{Key}
-use Rattle.store_api.specs.declared.keys.Key.TheVariants.{Snapshot, Branch}
+use Rattle.store_api.specs.declared.keys.Key.TheVariants.{Snapshot, Txn, Branch}
 use Rattle.store_api.specs.declared.events.Op.TheVariants.{Get}
 use Rattle.store_api.specs.declared.events.Got.{Got as TheGot}
 use Rattle.store_api.specs.declared.events.Got.TheVariants.{Found, Absent}
@@ -19,8 +20,8 @@ use Rattle.store_api.specs.Program.{Ask, IsDone, Lands, IsSure, is_fault, is_no_
 use Rattle.store_api.specs.Running.{Program, on_answer, ◌>>=◌}
 use Rattle.store_api.specs.Driving.{Heard, Excuses, Took, has_failed}
 use Rattle.repo_read.specs.declared.answers.Resolved.{Resolved}
-use Rattle.repo_read.specs.Answers.{at_key, resolved_at, ref_told, snapshot_told, Answers}
-use Rattle.repo_read.specs.Programs.{resolve_program, snapshot_program}
+use Rattle.repo_read.specs.Answers.{at_key, resolved_at, ref_told, snapshot_told, log_told, Answers}
+use Rattle.repo_read.specs.Programs.{resolve_program, snapshot_program, log_program}
 
 fault-is : (why : Refusal) → is_fault why ≡ true → why ≡ StoreFault
 fault-is StoreFault e = refl
@@ -109,3 +110,19 @@ module _ {B : Type 0} (id : Id12) (reply : Reply) (f : SnapshotFile → Program 
 
   pub snapshot-went : (s : SnapshotFile) → Answers (snapshot_told id reply) (Ok s) → (q : Program B) (result : Result (Next B) Refusal) → Lands (f s) q result → IfErr result (λ refusal. is_fault refusal ≡ false) → Took (snapshot_program id >>= f) reply q result
   snapshot-went s t q result l n = went (Snapshot id) (snapshot_told id) f (λ done. refl) (snapshot-tells id) reply s w t q result l n
+
+-- ---- logs
+log-tells : (id : Id12) (got : TheGot) → log_told id (Got got) ≡ Err StoreFault → ⊥
+log-tells id (Found bytes version now) e = by_bytes (read_log id bytes) e
+  where
+    by_bytes : (r : Result TxnFile Bad) → at_key (Txn id) r ≡ Err StoreFault → ⊥
+    by_bytes (Ok log) e = cc
+    by_bytes (Err bad) e = cc
+log-tells id (Absent now) e = cc
+
+module _ {B : Type 0} (id : Id12) (reply : Reply) (f : TxnFile → Program B) (w : Fits (Get (Txn id)) reply) where
+  pub log-refused : (why : Refusal) → Answers {A = TxnFile} (log_told id reply) (Err why) → (q : Program B) → IsDone q → Took (log_program id >>= f) reply q (Err why)
+  log-refused why t q d = refused (Txn id) (log_told id) f (λ done. refl) (log-tells id) reply why w t q d
+
+  pub log-went : (log : TxnFile) → Answers (log_told id reply) (Ok log) → (q : Program B) (result : Result (Next B) Refusal) → Lands (f log) q result → IfErr result (λ refusal. is_fault refusal ≡ false) → Took (log_program id >>= f) reply q result
+  log-went log t q result l n = went (Txn id) (log_told id) f (λ done. refl) (log-tells id) reply log w t q result l n

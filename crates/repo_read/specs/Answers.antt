@@ -1,12 +1,13 @@
--- What replies to the gets of refs, snapshots, manifests and objects with chunks tell. (Icechunk specification version 1, "Read from Repository".)
+-- What replies to the gets of refs, snapshots, logs, manifests and objects with chunks tell. (Icechunk specification version 1, "Read from Repository".)
 use Rattle.std.specs.Prelude.{◌≡◌, ℕ, false, List, Result, Ok, Err}
 use Rattle.ice_ids.specs.declared.Id12.{Id12}
 use Rattle.snapshot_file.specs.declared.snapshot.SnapshotFile.{SnapshotFile}
 use Rattle.manifest_file.specs.declared.manifest.ManifestFile.{ManifestFile}
+use Rattle.txn_file.specs.declared.log.TxnFile.{TxnFile}
 use Rattle.repo_objects.specs.declared.bad.Bad.{Bad}
-use Rattle.repo_objects.specs.Readings.{read_snapshot, read_manifest, read_chunk, read_ref}
+use Rattle.repo_objects.specs.Readings.{read_snapshot, read_manifest, read_log, read_chunk, read_ref}
 use Rattle.store_api.specs.declared.keys.Key.{Key}
-use Rattle.store_api.specs.declared.keys.Key.TheVariants.{Snapshot, Manifest, Chunk, Branch}
+use Rattle.store_api.specs.declared.keys.Key.TheVariants.{Snapshot, Manifest, Txn, Chunk, Branch}
 use Rattle.store_api.specs.declared.events.Version.{Version}
 use Rattle.store_api.specs.declared.events.Got.TheVariants.{Found, Absent}
 use Rattle.store_api.specs.declared.events.Reply.{Reply}
@@ -42,6 +43,12 @@ abbrev pub manifest_told : Id12 → Reply → Result ManifestFile Refusal
 manifest_told id (Got (Found bytes version now)) = at_key (Manifest id) (read_manifest id bytes)
 manifest_told id (Got (Absent now)) = Err (Missing (Manifest id))
 manifest_told id _ = Err StoreFault
+
+-- a transaction log
+abbrev pub log_told : Id12 → Reply → Result TxnFile Refusal
+log_told id (Got (Found bytes version now)) = at_key (Txn id) (read_log id bytes)
+log_told id (Got (Absent now)) = Err (Missing (Txn id))
+log_told id _ = Err StoreFault
 
 -- a chunk of `want` bytes, in this part of an object
 abbrev pub object_told : (want : ℕ) → Id12 → (offset size : ℕ) → Reply → Result (List ℕ) Refusal

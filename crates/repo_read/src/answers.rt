@@ -1,15 +1,16 @@
-//! What replies to the gets of refs, snapshots, manifests and objects with chunks tell.
+//! What replies to the gets of refs, snapshots, logs, manifests and objects with chunks tell.
 
 ghost use Rattle.std.specs.Prelude.{◌≡◌, IfErr};
-ghost use Rattle.repo_read.specs.Answers.{ref_told, snapshot_told, manifest_told, object_told, Answers};
-ghost use Rattle.repo_read.specs.Programs.{MayRefuseRef, MayRefuseSnapshot, MayRefuseManifest, MayRefuseObject};
+ghost use Rattle.repo_read.specs.Answers.{ref_told, snapshot_told, manifest_told, log_told, object_told, Answers};
+ghost use Rattle.repo_read.specs.Programs.{MayRefuseRef, MayRefuseSnapshot, MayRefuseManifest, MayRefuseLog, MayRefuseObject};
 
 use held_manifest::Held;
 use ice_base::{Bytes, RefName};
 use ice_ids::Id12;
-use repo_objects::{Loaded, Unread, chunk_read, manifest_hold, ref_read};
+use repo_objects::{Loaded, Unread, chunk_read, log_read, manifest_hold, ref_read};
 use std::alloc::Global;
 use store_api::{Got, Key, Refusal, Reply, Version};
+use txn_file::TxnFile;
 
 /// What a branch names: a snapshot, from this version on.
 #[derive(Clone, Copy, Debug, PartialEq, Eq)]
@@ -91,6 +92,30 @@ pub fn manifest_told(id: Id12, reply: Reply) -> Result<Held, Refusal>
     match manifest_hold(id, bytes) {
         Ok(held) => Ok(held),
         Err(bad) => Err(Refusal::BadFile(Key::Manifest(id), bad)),
+    }
+}
+
+/// What a reply to the get of a transaction log tells. Refusals: `Missing` where it was absent, `BadFile` where its bytes are no
+/// log of this id, `StoreFault` where the get failed, or `NoMemory`.
+pub fn log_told(alloc: Global, id: Id12, reply: Reply) -> Result<TxnFile, Refusal>
+    ensures told { Answers (log_told id reply) result }
+    ensures listed { IfErr result MayRefuseLog }
+{
+    let Reply::Got(got) = reply else {
+        return Err(Refusal::StoreFault);
+    };
+    let Got::Found {
+        bytes,
+        version: _,
+        now: _,
+    } = got
+    else {
+        return Err(Refusal::Missing(Key::Txn(id)));
+    };
+    match log_read(alloc, id, bytes.as_slice()) {
+        Ok(log) => Ok(log),
+        Err(Unread::NoMemory) => Err(Refusal::NoMemory),
+        Err(Unread::Bad(bad)) => Err(Refusal::BadFile(Key::Txn(id), bad)),
     }
 }
 

@@ -1,8 +1,8 @@
 //! The machine that walks along parents.
 
-ghost use Rattle.std.specs.Prelude.{◌≡◌, ◌<◌, ◌-◌, ◌++◌, ◌∷◌, [], None, false, IfErr};
+ghost use Rattle.std.specs.Prelude.{◌≡◌, ◌<◌, ◌≤◌, ◌-◌, ◌++◌, ◌∷◌, [], None, false, IfErr};
 ghost use Rattle.store_api.specs.Program.{IsAsk, Lands, Steps, is_fault};
-ghost use Rattle.repo_read.specs.Chains.{chain_program, MayRefuseChain};
+ghost use Rattle.repo_read.specs.Chains.{chain_program, most_snapshots, MayRefuseChain};
 ghost use Rattle.repo_read.specs.inside.Working.{chain_rest, chain_left, walk_behind};
 
 use crate::answers::snapshot_told;
@@ -62,7 +62,8 @@ impl Machine for Chain {
 impl Chain {
     /// Before its first operation, which reads this snapshot.
     pub fn new(alloc: Global, from: Id12) -> Chain
-        ensures { chain_rest result ≡ chain_program from }
+        ensures rest { chain_rest result ≡ chain_program from }
+        ensures few { chain_left result ≤ most_snapshots }
     {
         Chain {
             alloc,

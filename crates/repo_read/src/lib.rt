@@ -1,4 +1,4 @@
-//! Refs, snapshots and their chains, manifests and chunks, read from a store.
+//! Refs, snapshots and their chains, logs, manifests and chunks, read from a store.
 #![tactic(auto)]
 
 mod answers;
@@ -6,7 +6,7 @@ mod chain;
 mod resolve;
 mod snapshot;
 
-pub use answers::{Resolved, manifest_told, object_told, ref_told, snapshot_told};
+pub use answers::{Resolved, log_told, manifest_told, object_told, ref_told, snapshot_told};
 pub use chain::{Chain, MOST_SNAPSHOTS};
 pub use resolve::Resolve;
 pub use snapshot::ReadSnapshot;

@@ -12,6 +12,7 @@ use Rattle.zarr_tree.specs.Held.{Held, changes_of, nodes_over}
 use Rattle.manifest_file.specs.declared.manifest.Place.{Place}
 use Rattle.snapshot_file.specs.declared.nodes.NodeRow.{NodeRow}
 use Rattle.snapshot_file.specs.declared.snapshot.ManifestInfo.{ManifestInfo}
+use Rattle.snapshot_file.specs.declared.snapshot.SnapshotFile.{SnapshotFile}
 use Rattle.repo_objects.specs.Trees.{Puts, bytes_at, nodes_in, tree_under}
 
 -- The branch that a session was opened on, and whether to write; the snapshot that is its base, the
@@ -42,3 +43,7 @@ changes_in puts s = changes_of (bytes_at puts) s.held
 
 abbrev pub overlay : Puts → SessionState → Tree
 overlay puts s = apply (changes_in puts s) (base_tree puts s)
+
+-- a session on another snapshot, which its branch names from this version on, with these changes
+abbrev pub moved_to : SessionState → Id12 → (version : ℕ) → SnapshotFile → Held Place → SessionState
+moved_to s id version snap held = record s { base = id; version = version; rows = snap.nodes; files = snap.manifest_files; held = held }

@@ -5,6 +5,7 @@ mod chunks;
 mod committing;
 mod editing;
 mod getting;
+mod moving;
 mod open;
 mod opening;
 mod putting;

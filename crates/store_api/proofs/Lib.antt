@@ -8,3 +8,5 @@ pub mod Programs
 pub mod Drives
 pub mod PlayLaws
 pub mod RunLaws
+pub mod Telling
+pub mod Happening

@@ -8,3 +8,4 @@ pub mod Laws
 pub mod Plays
 pub mod Driving
 pub mod Running
+pub mod Telling

@@ -47,7 +47,7 @@ fn array_change(a: &ArrayView, b: &ArrayView) -> Option<Frozen>
 }
 
 /// The first part that stays in which later metadata differs.
-pub(crate) fn frozen_change(meta: &Meta, later: &Meta) -> Option<Frozen>
+pub fn frozen_change(meta: &Meta, later: &Meta) -> Option<Frozen>
     ensures { result ≡ frozen_change meta.now.text later.now.text }
 {
     match (&meta.view, &later.view) {

@@ -12,7 +12,7 @@ use std::marker::Model;
 
 /// A set of ids. Contracts see them in the order of their bytes.
 #[derive(Debug, Drop)]
-pub(crate) struct IdSet {
+pub struct IdSet {
     ids: BTreeSet<Id8>,
 }
 
@@ -30,7 +30,7 @@ impl Model for IdSet {
 
 impl IdSet {
     /// No ids. It takes no memory.
-    pub(crate) fn new(alloc: Global) -> IdSet
+    pub fn new(alloc: Global) -> IdSet
         ensures { result ≡ [] }
     {
         IdSet {
@@ -39,21 +39,21 @@ impl IdSet {
     }
 
     /// Whether there are none.
-    pub(crate) fn is_empty(&self) -> bool
+    pub fn is_empty(&self) -> bool
         ensures { result ≡ (length self.now == 0) }
     {
         self.ids.is_empty()
     }
 
     /// Whether an id is in the set.
-    pub(crate) fn contains(&self, id: &Id8) -> bool
+    pub fn contains(&self, id: &Id8) -> bool
         ensures { result ≡ lists self.now id.now }
     {
         self.ids.contains(id)
     }
 
     /// One more id. Where memory runs out, all is as before.
-    pub(crate) fn insert(&mut self, id: Id8) -> Result<(), AllocError>
+    pub fn insert(&mut self, id: Id8) -> Result<(), AllocError>
         ensures ok { OnOk result (self.new ≡ with_id self.old id) }
         ensures err { OnErr result (self.new ≡ self.old) }
     {
@@ -62,7 +62,7 @@ impl IdSet {
     }
 
     /// The same ids once more.
-    pub(crate) fn copy(&self) -> Result<IdSet, AllocError>
+    pub fn copy(&self) -> Result<IdSet, AllocError>
         ensures { IfOk result (λ ids. ids ≡ self.now) }
     {
         Ok(IdSet {
@@ -71,7 +71,7 @@ impl IdSet {
     }
 
     /// The ids in their order.
-    pub(crate) fn items(&self, alloc: Global) -> Result<Items<Id8>, AllocError>
+    pub fn items(&self, alloc: Global) -> Result<Items<Id8>, AllocError>
         ensures { IfOk result (λ ids. ids ≡ self.now) }
     {
         Ok(Items::from_vec(self.ids.iter().copied().collect(alloc)?))

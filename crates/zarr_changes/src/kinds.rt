@@ -6,14 +6,14 @@ ghost use Rattle.zarr_tree.specs.Nodes.{is_group, is_array};
 use zarr_meta::{Meta, View};
 
 /// Whether this is the metadata of a group.
-pub(crate) fn is_group(meta: &Meta) -> bool
+pub fn is_group(meta: &Meta) -> bool
     ensures { result ≡ is_group meta.now.text }
 {
     matches!(meta.view, View::Group)
 }
 
 /// Whether this is the metadata of an array. What isn't a group's is.
-pub(crate) fn is_array(meta: &Meta) -> bool
+pub fn is_array(meta: &Meta) -> bool
     ensures { result ≡ is_array meta.now.text }
 {
     matches!(meta.view, View::Array(_))

@@ -25,10 +25,15 @@ mod texts;
 mod written;
 
 pub use chunks::{ChangedArray, ChunkAt};
+pub use frozen::frozen_change;
+pub use ids::IdSet;
 pub use keys::{ChangeKeys, ChunkKey};
+pub use kinds::{is_array, is_group};
 pub use laws::{
     added_law, drop_law, refusal_law, set_law, set_refusal_law, taken_law, text_law, unset_law,
     unset_refusal_law,
 };
+pub use listing::path_of;
+pub use looking::before_slash;
 pub use overlay::{Overlay, Row};
 pub use set::ChangeSet;

@@ -20,7 +20,7 @@ fn is_beneath(of: &str, path: &str) -> bool
 }
 
 /// The path of this text.
-pub(crate) fn path_of(alloc: Global, text: &str) -> Result<Path, AllocError>
+pub fn path_of(alloc: Global, text: &str) -> Result<Path, AllocError>
     requires { IsTrue (is_path text.now) }
     ensures { IfOk result (λ path. path ≡ text.now) }
 {

@@ -1,19 +1,22 @@
 //! Look-ups in a base under changes.
 
-ghost use Rattle.std.specs.Prelude.{◌≡◌, length, ◌<◌, IfSome, option_map};
+ghost use Rattle.std.specs.Prelude.{◌≡◌, length, map as list_map, ◌<◌, IfOk, IfSome, option_map};
 ghost use Rattle.std.specs.FinMap as map;
 ghost use Rattle.zarr_path.specs.Paths.{before_slash};
 ghost use Rattle.zarr_tree.specs.Rows.{node_found};
 ghost use Rattle.zarr_tree.specs.Changes.{is_dropped, is_gone, patched};
-ghost use Rattle.zarr_tree.specs.Touched.{lists};
+ghost use Rattle.zarr_tree.specs.Touched.{lists, IdsAscend};
 ghost use Rattle.zarr_tree.specs.Held.{meta_in, nodes_over};
 ghost use Rattle.zarr_changes.specs.inside.Own.{own_node};
 
 use crate::set::ChangeSet;
-use zarr_tree::{Found, TreeLike};
+use ice_ids::Id8;
+use std::alloc::{AllocError, Global};
+use zarr_meta::Meta;
+use zarr_tree::{Found, Ids, TreeLike};
 
 /// The text before the last slash.
-fn before_slash(text: &str) -> Option<&str>
+pub fn before_slash(text: &str) -> Option<&str>
     ensures value { before_slash text.now ≡ option_map (λ before. before.now) result }
     ensures shorter { IfSome result (λ before. length before.now < length text.now) }
 {
@@ -47,6 +50,22 @@ impl ChangeSet {
             next = before_slash(text);
         }
         path.starts_with('/') && self.is_dropped(base, "/")
+    }
+
+    /// The other metadata that a node of the base has here, if any. It takes no memory.
+    pub fn other_meta(&self, id: &Id8) -> Option<&Meta>
+        ensures { option_map (λ meta. meta.now.text) result ≡ meta_in self.now.metas id.now }
+    {
+        self.metas.get(id)
+    }
+
+    /// The ids of the nodes of the base that have other metadata here, in the order of their bytes. Where there are none it takes
+    /// no memory.
+    pub fn other_ids(&self, alloc: Global) -> Result<Ids, AllocError>
+        ensures ids { IfOk result (λ ids. ids ≡ list_map (λ row. row.0) self.now.metas) }
+        ensures order { IfOk result IdsAscend }
+    {
+        self.metas.ids(alloc)
     }
 
     /// A node of the base, with its other metadata if it has some here.

@@ -2,7 +2,7 @@
 
 ghost use Rattle.std.specs.Prelude.{◌≡◌, ◌==◌, [], map, length, not, IfOk, OnOk, OnErr, option_map};
 ghost use Rattle.std.specs.List.{filter};
-ghost use Rattle.zarr_tree.specs.Touched.{lists};
+ghost use Rattle.zarr_tree.specs.Touched.{lists, IdsAscend};
 ghost use Rattle.zarr_tree.specs.Held.{meta_in};
 ghost use Rattle.zarr_changes.specs.Edits.{with_row};
 
@@ -76,7 +76,8 @@ impl Texts {
 
     /// The ids of the nodes that have metadata here, in their order.
     pub(crate) fn ids(&self, alloc: Global) -> Result<Items<Id8>, AllocError>
-        ensures { IfOk result (λ ids. ids ≡ map (λ row. row.0) self.now) }
+        ensures ids { IfOk result (λ ids. ids ≡ map (λ row. row.0) self.now) }
+        ensures order { IfOk result IdsAscend }
     {
         let mut ids = Items::new(alloc);
         for (id, _) in self.metas.iter() {

@@ -11,7 +11,7 @@ use Rattle.play_script.specs.Values.{path_of}
 use Rattle.play_script.proofs.Utf8.{is_text}
 use Rattle.play_script.proofs.values.path_in.Goals as goal
 
-both : (a b : Bool) (w : Text) → a ≡ true → b ≡ true → ◌≡◌ {A = Result Text ScriptKind} (Ok w) (cond (a && b) (Ok w) (Err k.Unbuilt))
+both : (a b : Bool) (w : Text) → a ≡ true → b ≡ true → ◌≡◌ {A = Result Text ScriptKind} (Ok w) (cond (a && b) (Ok w) (Err k.Path))
 both true true w x y = refl
 both true false w x y = absurd (cc)
 both false b w x y = absurd (cc)

@@ -8,7 +8,7 @@ use Rattle.play_script.proofs.Utf8.{is_text}
 use Rattle.play_script.proofs.values.text_in.Goals as goal
 
 taken_as : {E : Type 0} (text : Text) (r : Result Text E) → is_utf8 text ≡ true → IfOk r (λ message. message ≡ text) → IfOk r (λ message. text_of text ≡ Ok message)
-taken_as text (Ok message) utf8 same = ap (λ (b : Bool). cond b (Ok text) (Err k.Unbuilt)) utf8 ∙ ap (λ (x : Text). Ok x) (sym same)
+taken_as text (Ok message) utf8 same = ap (λ (b : Bool). cond b (Ok text) (Err k.Text)) utf8 ∙ ap (λ (x : Text). Ok x) (sym same)
 taken_as text (Err fault) utf8 same = tt
 
 pub returns : goal.returns

@@ -1,0 +1,279 @@
+//! Whole runs over a store in memory that is empty at first: scripts, and the reports and statuses that belong to them.
+
+use ice_base::{ByteSink, ByteSource, TickClock};
+use ice_ids::Draw;
+use mem_store::{FaultStore, MemStore};
+use play_script::ScriptKind;
+use std::alloc::Global;
+use std::test::Fail;
+use top_call::{Status, UsageFault, Word, run, words_of};
+
+/// Which reads of the input, writes of the output and calls of the store fail; a call of the store may be done all the same.
+#[derive(Clone, Copy)]
+struct Failing<'a> {
+    reads: &'a [u64],
+    writes: &'a [u64],
+    calls: &'a [(u64, bool)],
+}
+
+const NOTHING_FAILS: Failing<'static> = Failing {
+    reads: &[],
+    writes: &[],
+    calls: &[],
+};
+
+/// The words behind the program's name.
+fn words(alloc: Global, said: &[&str]) -> Result<Vec<Word>, Fail> {
+    let mut texts = vec![in alloc; String::from_str(alloc, "icerepo")?]?;
+    for word in said {
+        texts.push(String::from_str(alloc, word)?)?;
+    }
+    Ok(words_of(alloc, texts.into_iter())?)
+}
+
+/// What a run writes, and its status.
+fn ran(
+    alloc: Global,
+    said: &[&str],
+    script: &str,
+    failing: Failing<'_>,
+) -> Result<(String, Status), Fail> {
+    let words = words(alloc, said)?;
+    let script = script.as_bytes().to_vec(alloc)?;
+    let mut input = ByteSource::new(script, failing.reads.to_vec(alloc)?);
+    let mut output = ByteSink::new(alloc, 1000, failing.writes.to_vec(alloc)?)?;
+    let calls = failing.calls.to_vec(alloc)?;
+    let store = FaultStore::new(MemStore::new(alloc, TickClock::new()), calls);
+    let ended = run(alloc, &words, Draw::Count, &mut input, store, &mut output);
+    let report = String::from_utf8_lossy(alloc, output.written())?;
+    Ok((report, ended.status))
+}
+
+/// A script, and the report and the status that it should have.
+struct Row {
+    script: &'static str,
+    report: &'static str,
+    status: Status,
+}
+
+const SMALLEST_COMMIT: &str = "task a write main 0 fail\ngroup /\ncommit first\n";
+
+/// An id is the number of the task's client and the number of ids that it drew before: one for each group, and then the
+/// snapshot's. A version is the number of operations before the one that put it.
+const ROWS: [Row; 14] = [
+    Row {
+        script: "",
+        report: "branch main 1CECHNKREP0F1RSTCMT0\n",
+        status: Status::Ok,
+    },
+    Row {
+        script: SMALLEST_COMMIT,
+        report: "a committed 0000008000000000000G\nbranch main 0000008000000000000G\n",
+        status: Status::Ok,
+    },
+    // The groups that stand already and those of the session itself are shown; a listing without nodes shows none.
+    Row {
+        script: "task a write main 0 fail\n\
+            group /\ngroup /b\nlist /\ngroup /b/c\nlist /\nlist /b/c\ncommit x\n\
+            task r read branch main\nlist /b\n",
+        report: "a 4 list group /b\n\
+            a 6 list group /b\na 6 list group /b/c\n\
+            a committed 0000008000000000001G\n\
+            r 10 list group /b/c\nr done\n\
+            branch main 0000008000000000001G\n",
+        status: Status::Ok,
+    },
+    // A task shows what it came to before the line that is refused.
+    Row {
+        script: "task a write main 0 fail\n\
+            group /\ngroup /b\nlist /\ngroup /c/d\ncommit x\n",
+        report: "a 4 list group /b\na refused 5 noparent\n\
+            branch main 1CECHNKREP0F1RSTCMT0\n",
+        status: Status::Refused,
+    },
+    // Both tasks read the same version before one commits: the other's commit is refused, and what the first made stands.
+    Row {
+        script: "task a write main 0 fail\ngroup /\ngroup /a\ncommit one\n\
+            task b write main 0 fail\ngroup /\ngroup /b\ncommit two\n\
+            task r read branch main\nlist /\nturns a*2 b*2 a*9 b*9 r*9\n",
+        report: "a committed 00000080000000000010\n\
+            b refused 8 conflict 1 8\n\
+            r 10 list group /a\nr done\n\
+            branch main 00000080000000000010\n",
+        status: Status::Refused,
+    },
+    // Between the two gets of an opening another task commits: the session reads what its branch named at the first.
+    Row {
+        script: "task a write main 0 fail\ngroup /\ncommit one\n\
+            task b write main 0 fail\ngroup /b\ncommit two\n\
+            task r read branch main\nlist /\nturns a*5 r b*5 r\n",
+        report: "a committed 0000008000000000000G\n\
+            b committed 000000G000000000000G\n\
+            r done\n\
+            branch main 000000G000000000000G\n",
+        status: Status::Ok,
+    },
+    // Arrays are listed and their metadata is shown; what is dropped is gone with all beneath it.
+    Row {
+        script: "task a write main 0 fail\n\
+            group /\narray /x uint8 4 2 0\ngroup /g\narray /g/y int16 - - -5\n\
+            list /\nget /g/y\ndrop /g\nlist /\ncommit one\n\
+            task b write main 0 fail\ndrop /\nlist /\n",
+        report: "a 6 list group /g\na 6 list array /g/y\na 6 list array /x\n\
+            a 7 meta {\"zarr_format\":3,\"node_type\":\"array\",\"shape\":[],\"data_type\":\"int16\",\
+            \"chunk_grid\":{\"name\":\"regular\",\"configuration\":{\"chunk_shape\":[]}},\
+            \"chunk_key_encoding\":{\"name\":\"default\",\"configuration\":{\"separator\":\"/\"}},\
+            \"fill_value\":-5,\"codecs\":[{\"name\":\"bytes\",\"configuration\":{\"endian\":\"little\"}}]}\n\
+            a 9 list array /x\na committed 00000080000000000020\n\
+            b refused 13 nonode\nbranch main 00000080000000000020\n",
+        status: Status::Refused,
+    },
+    // An empty tree may be committed.
+    Row {
+        script: "task a write main 0 fail\ngroup /\ngroup /a\ncommit one\n\
+            task b write main 0 fail\ndrop /\ncommit two\n\
+            task c write main 0 fail\ngroup /\nlist /\ncommit three\n",
+        report: "a committed 00000080000000000010\n\
+            b committed 000000G0000000000000\n\
+            c committed 000000R000000000000G\n\
+            branch main 000000R000000000000G\n",
+        status: Status::Ok,
+    },
+    // The type of elements stays.
+    Row {
+        script: "task a write main 0 fail\ngroup /\narray /x int8 4 2 0\n\
+            meta /x {\"zarr_format\":3,\"node_type\":\"array\",\"shape\":[4],\"data_type\":\"uint8\",\
+            \"chunk_grid\":{\"name\":\"regular\",\"configuration\":{\"chunk_shape\":[2]}},\
+            \"chunk_key_encoding\":\"default\",\"fill_value\":0,\"codecs\":[\"bytes\"]}\n",
+        report: "a refused 4 frozen data_type\nbranch main 1CECHNKREP0F1RSTCMT0\n",
+        status: Status::Refused,
+    },
+    // Chunks are set, filled, unset and read, in the session itself and behind its commit.
+    Row {
+        script: "task a write main 0 fail\n\
+            group /\narray /x uint8 5 2 7\nset /x 0 0102\nfill /x 1 ff\nset /x 2 0a0b\n\
+            chunk /x 1\nunset /x 1\nchunk /x 1\ncommit one\n\
+            task r read branch main\nchunk /x 0\nchunk /x 1\nchunk /x 2\nchunk /x 3\n",
+        report: "a 7 chunk ffff\na 9 fill\na committed 0000008000000000001G\n\
+            r 12 chunk 0102\nr 13 fill\nr 14 chunk 0a0b\nr refused 15 outofgrid\n\
+            branch main 0000008000000000001G\n",
+        status: Status::Refused,
+    },
+    // A chunk of 513 bytes is an object of its own, which takes an id; where no chunk is left, no manifest is written.
+    Row {
+        script: "task a write main 0 fail\n\
+            group /\narray /x uint8 1026 513 0\nfill /x 0 61\ncommit one\n\
+            task b write main 0 fail\nfill /x 1 62\nunset /x 0\ncommit two\n\
+            task c write main 0 fail\nchunk /x 0\nunset /x 1\nchunk /x 1\ncommit three\n\
+            task r read branch main\nchunk /x 1\n",
+        report: "a committed 00000080000000000020\nb committed 000000G0000000000010\n\
+            c 11 fill\nc 13 fill\nc committed 000000R0000000000000\n\
+            r 16 fill\nr done\nbranch main 000000R0000000000000\n",
+        status: Status::Ok,
+    },
+    // A Zarr store's keys: what a key names is set, read and erased; another word is no key.
+    Row {
+        script: "task a write main 0 fail\n\
+            group /\narray /x uint8 4 2 7\nzset x/c/0 0102\nzget x/c/0\nzget x/c/1\n\
+            chunk /x 0\nzdel x/c/0\nzget x/c/0\nzdel x/zarr.json\nzget x/zarr.json\nlist /\nzset x 00\n",
+        report: "a 5 zget 0102\na 6 zget absent\na 7 chunk 0102\na 9 zget absent\n\
+            a 11 zget absent\na refused 13 badkey\n\
+            branch main 1CECHNKREP0F1RSTCMT0\n",
+        status: Status::Refused,
+    },
+    // A branch that isn't there, between lines that are passed over.
+    Row {
+        script: "# one\ntask a write other 0 fail\n\ngroup /\ncommit x\n\
+            task b read branch other\n# two\nlist /\n",
+        report: "a refused 2 noref\nb refused 6 noref\nbranch main 1CECHNKREP0F1RSTCMT0\n",
+        status: Status::Refused,
+    },
+    Row {
+        script: "task a write main 0 fail\ngroup /\ngroop /b\ncommit x\n",
+        report: "",
+        status: Status::Script {
+            line: 3,
+            kind: ScriptKind::Word,
+        },
+    },
+];
+
+#[test]
+fn scripts(rt: HostRuntime) -> Result<(), Fail> {
+    for row in &ROWS {
+        let (report, status) = ran(rt.alloc(), &["play"], row.script, NOTHING_FAILS)?;
+        assert_eq!(rt; report.as_str(), row.report, "{}", row.script);
+        assert_eq!(rt; status, row.status, "{}", row.script);
+    }
+    Ok(())
+}
+
+/// A run of the smallest commit in which something fails.
+struct FailingRow {
+    failing: Failing<'static>,
+    report: &'static str,
+    status: Status,
+}
+
+const FAILING_ROWS: [FailingRow; 4] = [
+    FailingRow {
+        failing: Failing {
+            reads: &[0],
+            ..NOTHING_FAILS
+        },
+        report: "",
+        status: Status::ReadFault,
+    },
+    FailingRow {
+        failing: Failing {
+            writes: &[0],
+            ..NOTHING_FAILS
+        },
+        report: "",
+        status: Status::WriteFault,
+    },
+    // The opening of the session fails.
+    FailingRow {
+        failing: Failing {
+            calls: &[(2, false)],
+            ..NOTHING_FAILS
+        },
+        report: "a refused 1 storefault\nbranch main 1CECHNKREP0F1RSTCMT0\n",
+        status: Status::StoreFault,
+    },
+    // The put of the branch was done, and its answer was lost.
+    FailingRow {
+        failing: Failing {
+            calls: &[(6, true)],
+            ..NOTHING_FAILS
+        },
+        report: "a refused 3 storefault\nbranch main 0000008000000000000G\n",
+        status: Status::StoreFault,
+    },
+];
+
+#[test]
+fn ends_that_fail(rt: HostRuntime) -> Result<(), Fail> {
+    for row in &FAILING_ROWS {
+        let (report, status) = ran(rt.alloc(), &["play"], SMALLEST_COMMIT, row.failing)?;
+        assert_eq!(rt; report.as_str(), row.report);
+        assert_eq!(rt; status, row.status);
+    }
+    Ok(())
+}
+
+#[test]
+fn wrong_words(rt: HostRuntime) -> Result<(), Fail> {
+    let cases: [(&[&str], UsageFault); 4] = [
+        (&[], UsageFault::NoCommand),
+        (&["Play"], UsageFault::Unknown),
+        (&["pla", "--dir"], UsageFault::Unknown),
+        (&["play", ""], UsageFault::Words),
+    ];
+    for (said, fault) in cases {
+        let (report, status) = ran(rt.alloc(), said, SMALLEST_COMMIT, NOTHING_FAILS)?;
+        assert_eq!(rt; report.as_str(), "");
+        assert_eq!(rt; status, Status::Usage(fault));
+    }
+    Ok(())
+}

@@ -1,0 +1,28 @@
+-- The law of rebases.
+use Rattle.repo_objects.specs.Laws.{RefLaw, SnapshotLaw}
+use Rattle.conflicts.specs.declared.solving.Policy.{Policy}
+use Rattle.store_api.specs.Callers.{Caller}
+use Rattle.store_api.specs.Journal.{IsPolite}
+use Rattle.store_api.specs.Telling.{ChangedNothing, IsGet}
+use Rattle.session.specs.Sessions.{SessionState}
+use Rattle.rebase.specs.Laws.{RebaseLaw}
+use Rattle.rebase.specs.Rebasing.{rebase_program}
+use Rattle.rebase.proofs.Own.{MadeGets-none, MadeGets-makes}
+use Rattle.rebase.proofs.Gets.{gets-keep_each, gets-stay}
+use Rattle.rebase.proofs.Quiet.{gets-change_nothing, gets-put_none}
+use Rattle.rebase.proofs.Kept.{rebase-kept}
+use Rattle.rebase.proofs.Saying.{rebase-gets, rebase-leads, rebase-goes_on}
+
+pub rebase-law : RefLaw → SnapshotLaw → (by : Caller) (policy : Policy) (s : SessionState) → RebaseLaw by policy s
+rebase-law reference law by policy s = record {
+  told = record {
+    polite = λ journal. gets-keep_each (λ known client op. IsPolite known op) by (λ h key. tt) (rebase_program policy s) journal (rebase-gets policy s);
+    leads = λ journal. rebase-leads reference law by policy s journal;
+    kept = λ result start journal more others t. rebase-kept by policy s start journal more others result t;
+  };
+  gets = λ journal. gets-keep_each (λ known client op. IsGet op) by (λ h key. tt) (rebase_program policy s) journal (rebase-gets policy s);
+  quiet = λ start middle journal m. (gets-change_nothing by.number start middle journal m, gets-put_none by.number start middle journal m);
+  stays = λ start journal c.
+      gets-stay (ChangedNothing by.number start) by (λ op reply old new g m n. gets-change_nothing by.number start old new (MadeGets-makes by old op reply old new g m (MadeGets-none by.number old)) n) (rebase_program policy s) journal (rebase-gets policy s) c;
+  goes_on = λ journal spelled opened. rebase-goes_on reference law by policy s journal spelled opened;
+}

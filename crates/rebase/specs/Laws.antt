@@ -1,0 +1,35 @@
+-- Laws of rebases.
+use Rattle.std.specs.Prelude.{List, Result, Ok, Err}
+use Rattle.conflicts.specs.declared.solving.Policy.{Policy}
+use Rattle.store_api.specs.declared.events.Event.{Event}
+use Rattle.store_api.specs.declared.machines.Refusal.{Refusal}
+use Rattle.store_api.specs.Callers.{Caller}
+use Rattle.store_api.specs.Plays.{Stays as HoldsThroughout}
+use Rattle.store_api.specs.Program.{Keeps, Leads}
+use Rattle.store_api.specs.Telling.{ChangedNothing, IsGet, IsTold, MadeGets}
+use Rattle.session.specs.Sessions.{SessionState}
+use Rattle.commit_path.specs.Opened.{IsOpened}
+use Rattle.commit_path.specs.Single.{HasPutNone}
+use Rattle.commit_path.specs.Spelled.{IsSpelled}
+use Rattle.rebase.specs.declared.machine.Rebased.{Rebased}
+use Rattle.rebase.specs.declared.machine.Rebased.TheVariants.{Moved, UpToDate}
+use Rattle.rebase.specs.Rebasing.{rebase_program}
+use Rattle.rebase.specs.Telling.{RebaseTells}
+
+-- ---- answers
+-- the session that a rebase answers knows its base and can be written
+abbrev pub GoesOn : Result Rebased Refusal → List Event → Type 0
+GoesOn (Ok (Moved t count)) journal = IsSpelled t × IsOpened t journal
+GoesOn (Ok (UpToDate t)) journal = IsSpelled t × IsOpened t journal
+GoesOn (Err why) journal = Unit {0}
+
+-- Whatever others do: each operation of a rebase is polite, and its answer tells the journal. Each is a get, and a client that makes gets alone
+-- changes no branch and puts no snapshot; nor has it where a rebase may find no memory. And where the session knew its base and could be written,
+-- so does the session that is answered, and can be.
+pub record RebaseLaw (by : Caller) (policy : Policy) (s : SessionState) : Type 0 where
+  pub told : IsTold by (rebase_program policy s) (RebaseTells by.number policy s)
+  pub gets : (journal : List Event) → Keeps (λ known client op. IsGet op) by (rebase_program policy s) journal
+  pub quiet : (start middle journal : List Event) → MadeGets by.number middle journal
+      → (ChangedNothing by.number start middle → ChangedNothing by.number start journal) × (HasPutNone by.number start middle → HasPutNone by.number start journal)
+  pub stays : (start journal : List Event) → ChangedNothing by.number start journal → HoldsThroughout (ChangedNothing by.number start) by (rebase_program policy s) journal
+  pub goes_on : (journal : List Event) → IsSpelled s → IsOpened s journal → Leads GoesOn by (rebase_program policy s) journal

@@ -1,0 +1,8 @@
+use Rattle.std.proofs.Common.{subst, sym}
+use Rattle.store_api.specs.Running.{Program, StaysPolite}
+use Rattle.refs_admin.proofs.calls.drop_tag.Goals as goal
+
+pub run_machine-requires-clause-polite : goal.run_machine-requires-clause-polite
+run_machine-requires-clause-polite g c = λ t.
+    let view = g.S.Store.view c.args.store.now in
+    subst (λ (p : Program (Unit {0})). StaysPolite view.caller p view.seen) (sym c.new.ensures.program) (((c.refs_law.ensures view.caller).tag_drop c.args.name).polite view.seen)
