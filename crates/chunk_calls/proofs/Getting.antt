@@ -257,7 +257,7 @@ module _ (L : SessionLaw) (by : Caller) (s : SessionState) (path index : List �
 pub get-law : SessionLaw → GetLaw
 get-law L by ids s path index start journal w o c =
     let g = get-gets s path index in (
-      gets-keep (IsCareful ids (λ t id. ⊥)) by (λ h key. record { polite = tt; owes = tt }) (get_program s path index) g journal,
+      gets-keep (IsCareful ids (λ h t id. ⊥)) by (λ h key. record { polite = tt; owes = tt }) (get_program s path index) g journal,
       gets-keep (λ h client op. ¬ PutsSnapshot op) by (λ h key p. p) (get_program s path index) g journal,
       gets-stay by start (get_program s path index) g journal c,
       get-told L by s path index start journal o c,

@@ -367,7 +367,7 @@ module _ (L : SessionLaw) (by : Caller) (ids : AnyIds) (s : SessionState) (path 
 
 pub set-law : SessionLaw → SetLaw
 set-law L by ids s path index bytes start journal later small w o c = (
-  set-keeps (IsCareful ids (λ t id. ⊥)) by s path index bytes journal (λ id d. record { polite = tt; owes = record { later = s.ids; is_later = later; drawn = d } }),
+  set-keeps (IsCareful ids (λ h t id. ⊥)) by s path index bytes journal (λ id d. record { polite = tt; owes = record { later = s.ids; is_later = later; drawn = d } }),
   set-keeps (λ h client op. ¬ PutsSnapshot op) by s path index bytes journal (λ id d p. p),
   set-stays by s path index bytes start journal c,
   set-told L by ids s path index bytes later small w start journal o c,

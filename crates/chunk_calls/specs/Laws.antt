@@ -24,7 +24,7 @@ use Rattle.chunk_calls.specs.Told.{SetTells, GetTells}
 -- what it knew and that the chunk's bytes are there.
 abbrev pub SetLaw : Type 0
 SetLaw = (by : Caller) (ids : AnyIds) (s : SessionState) (path index bytes : List ℕ) (start journal : List Event) → IsLater ids s.ids → list_all (λ n. nat_lt n 256) bytes ≡ true → IsSpelled s → IsOpened s journal → ChangedNothing by.number start journal
-    → Keeps (IsCareful ids (λ t id. ⊥)) by (set_program s path index bytes) journal × Keeps (λ h client op. ¬ PutsSnapshot op) by (set_program s path index bytes) journal
+    → Keeps (IsCareful ids (λ h t id. ⊥)) by (set_program s path index bytes) journal × Keeps (λ h client op. ¬ PutsSnapshot op) by (set_program s path index bytes) journal
     × Stays (ChangedNothing by.number start) by (set_program s path index bytes) journal
     × Leads (λ answer h. SetTells by.number s path index bytes start answer h × IfOk answer (λ t. IsSpelled t × IsOpened t h × IsLater ids t.ids)) by (set_program s path index bytes) journal
 
@@ -32,7 +32,7 @@ SetLaw = (by : Caller) (ids : AnyIds) (s : SessionState) (path index bytes : Lis
 -- the chunk of the session's base under its own changes.
 abbrev pub GetLaw : Type 0
 GetLaw = (by : Caller) (ids : AnyIds) (s : SessionState) (path index : List ℕ) (start journal : List Event) → IsSpelled s → IsOpened s journal → ChangedNothing by.number start journal
-    → Keeps (IsCareful ids (λ t id. ⊥)) by (get_program s path index) journal × Keeps (λ h client op. ¬ PutsSnapshot op) by (get_program s path index) journal
+    → Keeps (IsCareful ids (λ h t id. ⊥)) by (get_program s path index) journal × Keeps (λ h client op. ¬ PutsSnapshot op) by (get_program s path index) journal
     × Stays (ChangedNothing by.number start) by (get_program s path index) journal
     × Leads (λ answer h. GetTells by.number s path index start answer h × IsOpened s h) by (get_program s path index) journal
 

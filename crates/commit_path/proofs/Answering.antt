@@ -4,7 +4,7 @@ use Rattle.std.specs.Prelude.{Option, Some, None, Result, Ok, Err}
 use Rattle.std.specs.Str.{IsUtf8}
 use Rattle.ice_ids.specs.declared.Id12.{Id12}
 use Rattle.ice_ids.specs.declared.drawing.AnyIds.{AnyIds}
-use Rattle.ice_ids.specs.Drawing.{drawn12}
+use Rattle.ice_ids.specs.Drawing.{drawn12, after12}
 use Rattle.ice_ids.specs.Text.{IsId12}
 use Rattle.ice_ids.proofs.Drawn.{drawn12-IsId12}
 use Rattle.flat_tables.specs.declared.header.Kind.TheVariants as kinds
@@ -34,14 +34,15 @@ use Rattle.store_api.specs.Program.{Done, Ask}
 use Rattle.store_api.proofs.Programs.{good-waits}
 use Rattle.session.specs.Sessions.{SessionState, base_nodes}
 use Rattle.session.specs.Sources.{IsLater, MayDrawObject}
-use Rattle.commit_path.specs.declared.commit.Committed.{Committed}
+use Rattle.commit_path.specs.declared.commit.Tried.{Tried}
+use Rattle.commit_path.specs.declared.commit.Tried.TheVariants.{Done as Was_done, Lost}
 use Rattle.commit_path.specs.Committing.{Written, commit_program, arrays_program, unwritten, after_arrays, write_all, put_log, after_log, after_snapshot, put_branch, after_branch, log_for, snap_for, is_long}
 use Rattle.commit_path.specs.Owed.{Sessions, IsMade, IsCareful}
 use Rattle.commit_path.specs.Answered.{commits_over, WasLogged, WasSnapped, WerePut, TookEffect, WasMoved, WasTaken, IsOfCommit, CommitTells}
 use Rattle.store_api.specs.Telling.{ChangedNothing}
 use Rattle.commit_path.specs.Opened.{IsOpened}
 use Rattle.commit_path.specs.Spelled.{IsSpelled}
-use Rattle.commit_path.proofs.Sources.{later-same, object-drawn, object-later}
+use Rattle.commit_path.proofs.Sources.{later-same, later-later, later-drawn12, object-drawn, object-later}
 use Rattle.commit_path.proofs.Walks.{Walks, walks-done, walks-ask, walks-then}
 use Rattle.commit_path.proofs.Spelling.{Spellings}
 use Rattle.store_api.proofs.Telling.{put-did, put-time, makes-keeps}
@@ -80,13 +81,16 @@ module _ (L : Spellings) (by : Caller) (ids : AnyIds) (mine : Sessions) (s : Ses
   abbrev Nothing : List Event → Type 0
   Nothing = ChangedNothing by.number start
 
-  abbrev Told : Result Committed Refusal → List Event → Type 0
+  abbrev Told : Result Tried Refusal → List Event → Type 0
   Told = CommitTells by.number s message start
 
   abbrev Ready : Written → List Event → Type 0
   Ready x journal = Wrote s by.number start (changed_arrays s.held (base_nodes s)) x journal
 
-  module _ (x : Written) (id : Id12) (own : mine s id) (is_id : IsId12 id) (drawn : MayDrawObject s.ids id) (logs : is_long (log_file (log_for s id)) ≡ false) where
+  module _ (x : Written) (id : Id12) (own : (journal : List Event) → mine journal s id) (is_id : IsId12 id) (drawn : MayDrawObject s.ids id) (logs : is_long (log_file (log_for s id)) ≡ false) where
+    abbrev next : AnyIds
+    next = after12 x.ids
+
     abbrev over_put : Op
     over_put = commits_over s (ref_bytes id)
 
@@ -147,31 +151,32 @@ module _ (L : Spellings) (by : Caller) (ids : AnyIds) (mine : Sessions) (s : Ses
           is_made = makes-keeps (λ h. IsOnce h → IsMade s id h) (made-stable s id) by over_put (Is_over (Over_done version now)) old new polite n (made-now L s by.number start x message flushed id old a.ready a.logged a.snapped);
         }
 
-    moved-told : (there : Option Version) (now : ℕ) (old new : List Event) → IsOpened s old → Nothing old → Makes by over_put (Is_over (Moved there now)) old new → WasMoved by.number s (version_at s.version) there start new
-    moved-told there now old new o c n =
+    moved-told : (there : Option Version) (now : ℕ) (old new : List Event) → Ready x old → Makes by over_put (Is_over (Moved there now)) old new → WasMoved by.number s (version_at s.version) there next start new
+    moved-told there now old new k n =
         let differs = over-moved (length n.middle) n.time s.version (found n.middle (Branch s.branch)) there now (over-same _ _ n.answered.answered) in
-        let o' = subst (λ (h : List Event). IsOpened s h) (sym n.waits.is) (IsOpened-append s old n.waits.between (good-waits by old n.waits.between n.waits.others) o) in
+        let o' = subst (λ (h : List Event). IsOpened s h) (sym n.waits.is) (IsOpened-append s old n.waits.between (good-waits by old n.waits.between n.waits.others) k.opened) in
         record {
           old_is = refl;
+          next_is = later-later s.ids x.ids (after12 x.ids) k.ids (later-drawn12 x.ids);
           id = id;
           drawn = drawn;
           bytes = ref_bytes id;
           names = L.reference.written id is_id;
           now = now;
-          own = own-made by start over_put (Is_over (Moved there now)) old new n c;
+          own = own-made by start over_put (Is_over (Moved there now)) old new n k.nothing;
           later = moved-later n.middle s.branch s.version o'.named_by there o'.named differs;
-          nothing = ChangedNothing-makes by start over_put (Is_over (Moved there now)) old new n (moved-leaves by s.branch (ref_bytes id) (version_at s.version) Commit there now n.time n.middle differs) c;
+          nothing = ChangedNothing-makes by start over_put (Is_over (Moved there now)) old new n (moved-leaves by s.branch (ref_bytes id) (version_at s.version) Commit there now n.time n.middle differs) k.nothing;
         }
 
-    branch-told : (flushed : ℕ) (reply : Reply) (old new : List Event) → AfterSnapshot flushed old → Makes by over_put reply old new → Walks Careful Nothing Told by (after_branch s id reply) new
-    branch-told flushed (Is_over (Over_done v now)) old new a n = walks-done Careful Nothing Told by (Ok (record { id = id; version = v })) new (done-told flushed v now old new a n)
-    branch-told flushed (Is_over (Moved there now)) old new a n = walks-done Careful Nothing Told by (Err (R.Conflict (version_at s.version) there)) new (moved-told there now old new a.ready.opened a.ready.nothing n)
+    branch-told : (flushed : ℕ) (reply : Reply) (old new : List Event) → AfterSnapshot flushed old → Makes by over_put reply old new → Walks Careful Nothing Told by (after_branch s id next reply) new
+    branch-told flushed (Is_over (Over_done v now)) old new a n = walks-done Careful Nothing Told by (Ok (Was_done (record { id = id; version = v }))) new (done-told flushed v now old new a n)
+    branch-told flushed (Is_over (Moved there now)) old new a n = walks-done Careful Nothing Told by (Ok (Lost (version_at s.version) there next)) new (moved-told there now old new a.ready n)
     branch-told flushed (Failed d) old new a n = walks-done Careful Nothing Told by (Err R.StoreFault) new (failed-made by (IsOfCommit s) start over_put d old new (inr (id, ref_bytes id, drawn, inr (inr (inr (refl, L.reference.written id is_id))))) n a.ready.nothing)
     branch-told flushed _ old new a n = let e = n.answered.answered in absurd (cc)
 
-    branch-walks : (flushed : ℕ) (journal : List Event) → AfterSnapshot flushed journal → Walks Careful Nothing Told by (put_branch s id) journal
+    branch-walks : (flushed : ℕ) (journal : List Event) → AfterSnapshot flushed journal → Walks Careful Nothing Told by (put_branch s id next) journal
     branch-walks flushed journal a =
-        walks-ask Careful Nothing Told by over_put (after_branch s id) journal (over-careful L by ids mine s message start x id own is_id may w m logs flushed journal a.ready a.logged a.snapped) a.ready.nothing
+        walks-ask Careful Nothing Told by over_put (after_branch s id next) journal (over-careful L by ids mine s message start x id own is_id may w m logs flushed journal a.ready a.logged a.snapped) a.ready.nothing
         (λ reply new n. (λ off. absurd cc, branch-told flushed reply journal new a n))
 
     -- ---- the snapshot
@@ -196,7 +201,7 @@ module _ (L : Spellings) (by : Caller) (ids : AnyIds) (mine : Sessions) (s : Ses
       snap-careful-now : (journal : List Event) → AfterLog flushed journal → IsCareful ids mine journal by.number (snap_put flushed)
       snap-careful-now journal a = snap-careful L by ids mine s message start x id own is_id may w m logs flushed journal f short a.ready a.logged
 
-      snapshot-told : (reply : Reply) (old new : List Event) → AfterLog flushed old → Makes by (snap_put flushed) reply old new → Walks Careful Nothing Told by (after_snapshot s id reply) new
+      snapshot-told : (reply : Reply) (old new : List Event) → AfterLog flushed old → Makes by (snap_put flushed) reply old new → Walks Careful Nothing Told by (after_snapshot s id next reply) new
       snapshot-told (Is_new (New_done v now)) old new a n =
           let polite : IsPolite old (snap_put flushed) = (snap-careful-now old a).polite in
           let sized = new-sized s by.number start old (changed_arrays s.held (base_nodes s)) x.news a.ready.lists in
@@ -224,11 +229,11 @@ module _ (L : Spellings) (by : Caller) (ids : AnyIds) (mine : Sessions) (s : Ses
 
     -- a snapshot that is too long isn't put
     snapshot-walks : (flushed : ℕ) → flushed < 2 ^ 64 → (journal : List Event) → AfterLog flushed journal → (long : Bool) → is_long (snap_bytes flushed) ≡ long
-        → Walks Careful Nothing Told by (cond long (Done (Err (R.TooLarge kinds.Snapshot))) (Ask (snap_put flushed) (after_snapshot s id))) journal
+        → Walks Careful Nothing Told by (cond long (Done (Err (R.TooLarge kinds.Snapshot))) (Ask (snap_put flushed) (after_snapshot s id next))) journal
     snapshot-walks flushed f journal a true e =
         walks-done Careful Nothing Told by (Err (R.TooLarge kinds.Snapshot)) journal (record { id = id; drawn = drawn; news = x.news; manifests = were-put journal a.ready; time = flushed; log = a.log; long = e }, a.ready.nothing)
     snapshot-walks flushed f journal a false e =
-        walks-ask Careful Nothing Told by (snap_put flushed) (after_snapshot s id) journal (snap-careful-now flushed f e journal a) a.ready.nothing
+        walks-ask Careful Nothing Told by (snap_put flushed) (after_snapshot s id next) journal (snap-careful-now flushed f e journal a) a.ready.nothing
         (λ reply new n. (λ off. snap-nothing flushed reply journal new a.ready.nothing n, snapshot-told flushed f e reply journal new a n))
 
     -- ---- the log
@@ -249,7 +254,7 @@ module _ (L : Spellings) (by : Caller) (ids : AnyIds) (mine : Sessions) (s : Ses
           there = stands-as n.middle (Txn id) there.stored version.0 there.stands there.version_is;
         }
 
-    log-told : (reply : Reply) (old new : List Event) → Ready x old → Makes by log_put reply old new → Walks Careful Nothing Told by (after_log s message x.news id reply) new
+    log-told : (reply : Reply) (old new : List Event) → Ready x old → Makes by log_put reply old new → Walks Careful Nothing Told by (after_log s message x.news id next reply) new
     log-told (Is_new (New_done v now)) old new k n =
         snapshot-walks now (put-time by (Txn id) log_bytes Set v now old new n) new
         (record {
@@ -261,25 +266,25 @@ module _ (L : Spellings) (by : Caller) (ids : AnyIds) (mine : Sessions) (s : Ses
     log-told (Failed d) old new k n = walks-done Careful Nothing Told by (Err R.StoreFault) new (failed-made by (IsOfCommit s) start log_put d old new (inr (id, log_bytes, drawn, inr (inl refl))) n k.nothing)
     log-told _ old new k n = let e = n.answered.answered in absurd (cc)
 
-    log-walks : (journal : List Event) → Ready x journal → Walks Careful Nothing Told by (Ask (PutNew (Txn id) (log_file (log_for s id)) Set) (after_log s message x.news id)) journal
+    log-walks : (journal : List Event) → Ready x journal → Walks Careful Nothing Told by (Ask (PutNew (Txn id) (log_file (log_for s id)) Set) (after_log s message x.news id (after12 x.ids))) journal
     log-walks journal k =
-        walks-ask Careful Nothing Told by log_put (after_log s message x.news id) journal (log-careful L by ids mine s message start x id own is_id may w m logs journal) k.nothing
+        walks-ask Careful Nothing Told by log_put (after_log s message x.news id next) journal (log-careful L by ids mine s message start x id own is_id may w m logs journal) k.nothing
         (λ reply new n. (λ off. log-nothing reply journal new k.nothing n, log-told reply journal new k n))
 
   -- ---- behind the arrays
-  module _ (draws : (id : Id12) → MayDrawObject s.ids id → mine s id) (x : Written) (journal : List Event) (k : Ready x journal) where
+  module _ (draws : (h : List Event) (id : Id12) → MayDrawObject s.ids id → mine h s id) (x : Written) (journal : List Event) (k : Ready x journal) where
     by_length : (id : Id12) → drawn12 x.ids ≡ Some id → (long : Bool) → is_long (log_file (log_for s id)) ≡ long
-        → Walks Careful Nothing Told by (cond long (Done (Err (R.TooLarge kinds.Log))) (Ask (PutNew (Txn id) (log_file (log_for s id)) Set) (after_log s message x.news id))) journal
+        → Walks Careful Nothing Told by (cond long (Done (Err (R.TooLarge kinds.Log))) (Ask (PutNew (Txn id) (log_file (log_for s id)) Set) (after_log s message x.news id (after12 x.ids)))) journal
     by_length id e true l = walks-done Careful Nothing Told by (Err (R.TooLarge kinds.Log)) journal (record { id = id; drawn = object-drawn s.ids x.ids id k.ids e; long = l }, k.nothing)
-    by_length id e false l = let drawn = object-drawn s.ids x.ids id k.ids e in log-walks x id (draws id drawn) (drawn12-IsId12 x.ids id e) drawn l journal k
+    by_length id e false l = let drawn = object-drawn s.ids x.ids id k.ids e in log-walks x id (λ h. draws h id drawn) (drawn12-IsId12 x.ids id e) drawn l journal k
 
-    by_draw : (o : Option Id12) → drawn12 x.ids ≡ o → Walks Careful Nothing Told by (put_log s message x.news o) journal
+    by_draw : (o : Option Id12) → drawn12 x.ids ≡ o → Walks Careful Nothing Told by (put_log s message x.news o (after12 x.ids)) journal
     by_draw None e = walks-done Careful Nothing Told by (Err R.IdsSpent) journal (record { later = x.ids; is_later = k.ids; spent = e }, k.nothing)
     by_draw (Some id) e = by_length id e (is_long (log_file (log_for s id))) refl
 
   -- Whatever others do, each operation of a commit is polite and owed; wherever it may find no memory, its client has changed no branch;
   -- and its answer tells the journal so.
-  pub commit-walks : ((id : Id12) → MayDrawObject s.ids id → mine s id) → (journal : List Event) → IsOpened s journal → ChangedNothing by.number start journal → Walks (IsCareful ids mine) (ChangedNothing by.number start) (CommitTells by.number s message start) by (commit_program s message) journal
+  pub commit-walks : ((h : List Event) (id : Id12) → MayDrawObject s.ids id → mine h s id) → (journal : List Event) → IsOpened s journal → ChangedNothing by.number start journal → Walks (IsCareful ids mine) (ChangedNothing by.number start) (CommitTells by.number s message start) by (commit_program s message) journal
   unfolding commit_program
   commit-walks draws journal o c = by_tests s.writes refl (is_untouched (touched s.held (base_nodes s))) refl
     where

@@ -24,7 +24,10 @@ use Rattle.store_api.specs.Journal.{Each}
 use Rattle.store_api.specs.Callers.{Caller, IsOther}
 use Rattle.store_api.proofs.Programs.{good-waits}
 use Rattle.session.specs.Sessions.{SessionState}
+use Rattle.ice_ids.specs.declared.drawing.AnyIds.{AnyIds}
 use Rattle.commit_path.specs.declared.commit.Committed.{Committed}
+use Rattle.commit_path.specs.declared.commit.Tried.{Tried}
+use Rattle.commit_path.specs.declared.commit.Tried.TheVariants.{Done as Was_done, Lost}
 use Rattle.commit_path.specs.Answered.{commits_over, WasLogged, WasSnapped, WasManifestPut, WerePut, WasRead, WereRead, TookEffect, WasMoved, WasTaken, IsOfCommit, IsLong, CommitRefused, CommitTells}
 use Rattle.store_api.specs.Telling.{ChangedOnce, WasFailed}
 use Rattle.commit_path.proofs.Rewriting.{zip-weaker}
@@ -81,9 +84,10 @@ module _ (by : Caller) (start journal more : List Event) (others : Each (IsOther
     is_made = made-stable s made.id journal more (good-waits by journal more others) t.is_made;
   }
 
-  moved-others : (s : SessionState) (old : Version) (there : Option Version) → WasMoved by.number s old there start journal → WasMoved by.number s old there start (journal ++ more)
-  moved-others s old there t = record {
+  moved-others : (s : SessionState) (old : Version) (there : Option Version) (next : AnyIds) → WasMoved by.number s old there next start journal → WasMoved by.number s old there next start (journal ++ more)
+  moved-others s old there next t = record {
     old_is = t.old_is;
+    next_is = t.next_is;
     id = t.id;
     drawn = t.drawn;
     bytes = t.bytes;
@@ -125,8 +129,8 @@ module _ (by : Caller) (start journal more : List Event) (others : Each (IsOther
   refused-others s message R.NoMemory t = tt
   refused-others s message _ t = absurd t
 
-  pub CommitTells-others : (s : SessionState) (message : List ℕ) (result : Result Committed Refusal) → CommitTells by.number s message start result journal → CommitTells by.number s message start result (journal ++ more)
-  CommitTells-others s message (Ok made) t = effect-others s message made t
-  CommitTells-others s message (Err (R.Conflict old there)) t = moved-others s old there t
+  pub CommitTells-others : (s : SessionState) (message : List ℕ) (result : Result Tried Refusal) → CommitTells by.number s message start result journal → CommitTells by.number s message start result (journal ++ more)
+  CommitTells-others s message (Ok (Was_done made)) t = effect-others s message made t
+  CommitTells-others s message (Ok (Lost old there next)) t = moved-others s old there next t
   CommitTells-others s message (Err R.StoreFault) t = failed-others (IsOfCommit s) t
   CommitTells-others s message (Err why) t = (refused-others s message why t.0, ChangedNothing-others by start journal more others t.1)

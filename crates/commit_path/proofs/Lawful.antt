@@ -37,7 +37,7 @@ opening-told L by a start journal c =
     (Leads-both (GetsTell by.number a start) (Opens a) by (open_program a) journal (open-told by a start journal c) (open-leads L by a journal))
 
 pub opening-law : Spellings → OpeningLaw
-opening-law L by ids a start journal c = (open-careful by ids (λ t id. ⊥) a journal, open-stays by start a journal c, opening-told L by a start journal c)
+opening-law L by ids a start journal c = (open-careful by ids (λ h t id. ⊥) a journal, open-stays by start a journal c, opening-told L by a start journal c)
 
 pub session-law : SessionLaw
 session-law = record {
@@ -61,8 +61,8 @@ session-law = record {
 
 pub commit-law : Spellings → CommitLaw
 commit-law L by ids s message start journal later m w o c =
-    let mine : Sessions = λ t id. (t ≡ s) × MayDrawObject s.ids id in
-    let all = commit-walks L by ids mine s message later w m start (λ id drawn. (refl, drawn)) journal o c in
+    let mine : Sessions = λ h t id. (t ≡ s) × MayDrawObject s.ids id in
+    let all = commit-walks L by ids mine s message later w m start (λ h id drawn. (refl, drawn)) journal o c in
     (all.keeps, all.stays, all.leads)
 
 OpeningTells-others : (by : Caller) (a : Asked) (answer : Result SessionState Refusal) (start journal more : List Event) → Each (IsOther by) journal more → OpeningTells by.number a start answer journal → OpeningTells by.number a start answer (journal ++ more)

@@ -210,7 +210,7 @@ module _ (L : Spellings) where
         let e = read s message x.news flushed id w sized i f m short in
         (inr l.put, parent-put s message x.news flushed id w sized i f m short journal (snapshot_by id bytes) k.opened e, manifests-known journal (snapshot_by id bytes) k e)
 
-  module _ (by : Caller) (ids : AnyIds) (mine : Sessions) (s : SessionState) (message : List ℕ) (start : List Event) (x : Written) (id : Id12) (own : mine s id) (is_id : IsId12 id) (may : MayDrawObject ids id) (w : IsSpelled s) (m : IsUtf8 message) (logs : is_long (log_file (log_for s id)) ≡ false) where
+  module _ (by : Caller) (ids : AnyIds) (mine : Sessions) (s : SessionState) (message : List ℕ) (start : List Event) (x : Written) (id : Id12) (own : (journal : List Event) → mine journal s id) (is_id : IsId12 id) (may : MayDrawObject ids id) (w : IsSpelled s) (m : IsUtf8 message) (logs : is_long (log_file (log_for s id)) ≡ false) where
     abbrev Kept : List Event → Type 0
     Kept journal = Wrote s by.number start (changed_arrays s.held (base_nodes s)) x journal
 
@@ -248,7 +248,7 @@ module _ (L : Spellings) where
           owes = record {
             session = s;
             id = id;
-            is_mine = own;
+            is_mine = own journal;
             branch_is = refl;
             version_is = refl;
             names = L.reference.written id is_id;
@@ -263,7 +263,7 @@ module _ (L : Spellings) where
       polite = snap-polite by s message start x flushed id w is_id f m short journal k l;
       owes = record {
         session = s;
-        is_mine = own;
+        is_mine = own journal;
         snap = snap_for s message x.news id flushed;
         read = read s message x.news flushed id w (new-sized s by.number start journal (changed_arrays s.held (base_nodes s)) x.news k.lists) is_id f m short;
         parent = refl;
@@ -281,10 +281,14 @@ module _ (L : Spellings) where
     log-careful journal = record { polite = tt; owes = may }
 
 -- ---- what is owed stays owed
-snap-stable : (mine : Sessions) (journal more : List Event) (id : Id12) (bytes : List ℕ) → Each IsGood journal more → OwesSnap mine journal id bytes → OwesSnap mine (journal ++ more) id bytes
-snap-stable mine journal more id bytes g o = record {
+-- the client's sessions stay its sessions
+abbrev pub KeepsMine : Sessions → (journal more : List Event) → Type 0
+KeepsMine mine journal more = (s : SessionState) (id : Id12) → mine journal s id → mine (journal ++ more) s id
+
+snap-stable : (mine : Sessions) (journal more : List Event) (id : Id12) (bytes : List ℕ) → KeepsMine mine journal more → Each IsGood journal more → OwesSnap mine journal id bytes → OwesSnap mine (journal ++ more) id bytes
+snap-stable mine journal more id bytes keep g o = record {
   session = o.session;
-  is_mine = o.is_mine;
+  is_mine = keep o.session id o.is_mine;
   snap = o.snap;
   read = o.read;
   parent = o.parent;
@@ -297,24 +301,24 @@ snap-stable mine journal more id bytes g o = record {
   chunks = λ once. chunks-extend (puts_of journal) (puts_of (journal ++ more)) (puts-kept journal more g once) o.session.held.chunks (o.chunks (once-front journal more once));
 }
 
-owes-stable : (ids : AnyIds) (mine : Sessions) (journal more : List Event) (op : Op) → Each IsGood journal more → Owes ids mine journal op → Owes ids mine (journal ++ more) op
-owes-stable ids mine journal more (Get key) g o = tt
-owes-stable ids mine journal more (ListPart part) g o = tt
-owes-stable ids mine journal more (PutNew (Snapshot id) bytes why) g o = snap-stable mine journal more id bytes g o
-owes-stable ids mine journal more (PutNew _ bytes why) g o = o
-owes-stable ids mine journal more (PutOver (Branch name) bytes old why) g o = record {
+owes-stable : (ids : AnyIds) (mine : Sessions) (journal more : List Event) (op : Op) → KeepsMine mine journal more → Each IsGood journal more → Owes ids mine journal op → Owes ids mine (journal ++ more) op
+owes-stable ids mine journal more (Get key) keep g o = tt
+owes-stable ids mine journal more (ListPart part) keep g o = tt
+owes-stable ids mine journal more (PutNew (Snapshot id) bytes why) keep g o = snap-stable mine journal more id bytes keep g o
+owes-stable ids mine journal more (PutNew _ bytes why) keep g o = o
+owes-stable ids mine journal more (PutOver (Branch name) bytes old why) keep g o = record {
   session = o.session;
   id = o.id;
-  is_mine = o.is_mine;
+  is_mine = keep o.session o.id o.is_mine;
   branch_is = o.branch_is;
   version_is = o.version_is;
   names = o.names;
   why_is = o.why_is;
   made = made-stable o.session o.id journal more g o.made;
 }
-owes-stable ids mine journal more (PutOver _ bytes old why) g o = o
-owes-stable ids mine journal more _ g o = o
+owes-stable ids mine journal more (PutOver _ bytes old why) keep g o = o
+owes-stable ids mine journal more _ keep g o = o
 
 -- what is careful stays careful, whatever good events others make
-pub IsCareful-append : (ids : AnyIds) (mine : Sessions) (journal more : List Event) (client : ℕ) (op : Op) → Each IsGood journal more → IsCareful ids mine journal client op → IsCareful ids mine (journal ++ more) client op
-IsCareful-append ids mine journal more client op g c = record { polite = IsPolite-append journal more op g c.polite; owes = owes-stable ids mine journal more op g c.owes }
+pub IsCareful-append : (ids : AnyIds) (mine : Sessions) (journal more : List Event) (client : ℕ) (op : Op) → KeepsMine mine journal more → Each IsGood journal more → IsCareful ids mine journal client op → IsCareful ids mine (journal ++ more) client op
+IsCareful-append ids mine journal more client op keep g c = record { polite = IsPolite-append journal more op g c.polite; owes = owes-stable ids mine journal more op keep g c.owes }

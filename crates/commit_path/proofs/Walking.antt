@@ -45,16 +45,16 @@ use Rattle.commit_path.specs.inside.Lists.{IsFirst, IsRank, closed_at}
 use Rattle.commit_path.specs.inside.Working.{info_of, merged_behind, got_behind, MayRefuseOwn}
 
 -- ---- the log
-pub log-reaches : (s t : SessionState) (ids : AnyIds) (message : List ℕ) (news : List NewList) (id : Id12) (file : List ℕ) → t ≡ record s { ids = ids } → drawn12 s.ids ≡ Some id → file ≡ log_file (log_for t id) → is_long (log_file (log_for t id)) ≡ false
-    → put_log s message news (drawn12 s.ids) ≡ Ask (PutNew (Txn id) file Set) (after_log t message news id)
-log-reaches s t ids message news id file same drawn =
-    subst (λ (x : SessionState). file ≡ log_file (log_for x id) → is_long (log_file (log_for x id)) ≡ false → put_log s message news (drawn12 s.ids) ≡ Ask (PutNew (Txn id) file Set) (after_log x message news id)) (sym same) goes
+pub log-reaches : (s t : SessionState) (message : List ℕ) (news : List NewList) (id : Id12) (file : List ℕ) → t ≡ record s { ids = after12 s.ids } → drawn12 s.ids ≡ Some id → file ≡ log_file (log_for t id) → is_long (log_file (log_for t id)) ≡ false
+    → put_log s message news (drawn12 s.ids) (after12 s.ids) ≡ Ask (PutNew (Txn id) file Set) (after_log t message news id t.ids)
+log-reaches s t message news id file same drawn =
+    subst (λ (x : SessionState). file ≡ log_file (log_for x id) → is_long (log_file (log_for x id)) ≡ false → put_log s message news (drawn12 s.ids) (after12 s.ids) ≡ Ask (PutNew (Txn id) file Set) (after_log x message news id x.ids)) (sym same) goes
   where
-    goes : file ≡ log_file (log_for s id) → is_long (log_file (log_for s id)) ≡ false → put_log s message news (drawn12 s.ids) ≡ Ask (PutNew (Txn id) file Set) (after_log s message news id)
+    goes : file ≡ log_file (log_for s id) → is_long (log_file (log_for s id)) ≡ false → put_log s message news (drawn12 s.ids) (after12 s.ids) ≡ Ask (PutNew (Txn id) file Set) (after_log s message news id (after12 s.ids))
     goes made short =
-        ap (put_log s message news) drawn
-        ∙ (ap (λ (long : Bool). if long then Done (Err (TooLarge kinds.Log)) else Ask (PutNew (Txn id) (log_file (log_for s id)) Set) (after_log s message news id)) short
-        ∙ ap (λ (f : List ℕ). Ask (PutNew (Txn id) f Set) (after_log s message news id)) (sym made))
+        ap (λ (o : Option Id12). put_log s message news o (after12 s.ids)) drawn
+        ∙ (ap (λ (long : Bool). if long then Done (Err (TooLarge kinds.Log)) else Ask (PutNew (Txn id) (log_file (log_for s id)) Set) (after_log s message news id (after12 s.ids))) short
+        ∙ ap (λ (f : List ℕ). Ask (PutNew (Txn id) f Set) (after_log s message news id (after12 s.ids))) (sym made))
 
 -- ---- a new manifest
 is-few : (n : ℕ) → n ≤ refs_limit → nat_lt refs_limit n ≡ false
@@ -197,4 +197,5 @@ pub record GoesOn (old now : Commit) : Type 0 where
   pub ended : now.state ≡ Ended
   pub same : arrays_behind old.session old.message (written_in old) old.arrays.left [] ≡ arrays_behind now.session now.message (written_in now) now.arrays.left []
   pub drawn : IsDrawn old.session now.session
+  pub message : now.message ≡ old.message
   pub fewer : length now.arrays.left ≤ length old.arrays.left

@@ -7,7 +7,7 @@ use Rattle.changed_snapshot.specs.declared.written.NewManifest.{NewManifest}
 use Rattle.changed_snapshot.specs.declared.written.NewList.{NewList}
 use Rattle.changed_snapshot.specs.Rows.{own_manifests}
 use Rattle.session.specs.Sources.{IsLater, MayDrawObject}
-use Rattle.std.specs.Prelude.{◌≡◌, ◌⊎◌, ℕ, ◌<◌, Bool, true, false, List, [], ◌∷◌, ◌++◌, length, Option, Some, None, Result, Ok, Err}
+use Rattle.std.specs.Prelude.{◌≡◌, ◌⊎◌, ℕ, ◌<◌, true, false, List, length, Option, Some, None, Result, Ok, Err}
 use Rattle.std.specs.List.{AllZip, Contains}
 use Rattle.ice_ids.specs.declared.Id12.{Id12}
 use Rattle.ice_ids.specs.declared.drawing.AnyIds.{AnyIds}
@@ -38,12 +38,14 @@ use Rattle.store_api.specs.declared.events.Over.TheVariants.{Done as Over_done, 
 use Rattle.store_api.specs.declared.events.Reply.TheVariants.{New as Is_new, Over as Is_over}
 use Rattle.store_api.specs.declared.events.Event.{Event}
 use Rattle.store_api.specs.declared.machines.Refusal.{Refusal}
-use Rattle.store_api.specs.declared.machines.Refusal.TheVariants.{ReadOnly, NothingToCommit, IdsSpent, Missing, BadFile, IdTaken, Conflict, TooLarge, StoreFault, NoMemory}
-use Rattle.store_api.specs.Machine.{found, version_at}
+use Rattle.store_api.specs.declared.machines.Refusal.TheVariants.{ReadOnly, NothingToCommit, IdsSpent, Missing, BadFile, IdTaken, TooLarge, StoreFault, NoMemory}
+use Rattle.store_api.specs.Machine.{version_at}
 use Rattle.store_api.specs.Journal.{IsOnce}
 use Rattle.store_api.specs.Telling.{HasOwn, StandsAt, WasGot, WasAbsent, HasMovedOn, ChangedNothing, ChangedOnce, WasFailed}
 use Rattle.session.specs.Sessions.{SessionState, base_nodes}
 use Rattle.commit_path.specs.declared.commit.Committed.{Committed}
+use Rattle.commit_path.specs.declared.commit.Tried.{Tried}
+use Rattle.commit_path.specs.declared.commit.Tried.TheVariants.{Done as Was_done, Lost}
 use Rattle.commit_path.specs.Committing.{log_for, snap_for, manifest_for, is_long}
 use Rattle.commit_path.specs.Owed.{IsMade}
 
@@ -108,9 +110,10 @@ pub record TookEffect (client : ℕ) (s : SessionState) (message : List ℕ) (ma
 
 -- The branch had moved on. The client's own put over of the session's branch, with a reference to this
 -- snapshot, found it at a later version than the one that the session had read, which is the answer's
--- old one, or found it gone. No event of the client changed a branch.
-pub record WasMoved (client : ℕ) (s : SessionState) (old : Version) (there : Option Version) (start journal : List Event) : Type 0 where
+-- old one, or found it gone. No event of the client changed a branch. The ids that are drawn next come after those of the session.
+pub record WasMoved (client : ℕ) (s : SessionState) (old : Version) (there : Option Version) (next : AnyIds) (start journal : List Event) : Type 0 where
   pub old_is : old ≡ version_at s.version
+  pub next_is : IsLater s.ids next
   pub id : Id12
   pub drawn : MayDrawObject s.ids id
   pub bytes : List ℕ
@@ -219,8 +222,8 @@ CommitRefused client s message start _ journal = ⊥
 
 -- What the answer of a commit of this session, with this message, says of the journal, where the client had changed no branch between
 -- `start` and the commit.
-abbrev pub CommitTells : ℕ → SessionState → List ℕ → List Event → Result Committed Refusal → List Event → Type 0
-CommitTells client s message start (Ok made) journal = TookEffect client s message made start journal
-CommitTells client s message start (Err (Conflict old there)) journal = WasMoved client s old there start journal
+abbrev pub CommitTells : ℕ → SessionState → List ℕ → List Event → Result Tried Refusal → List Event → Type 0
+CommitTells client s message start (Ok (Was_done made)) journal = TookEffect client s message made start journal
+CommitTells client s message start (Ok (Lost old there next)) journal = WasMoved client s old there next start journal
 CommitTells client s message start (Err StoreFault) journal = WasFailed client (IsOfCommit s) start journal
 CommitTells client s message start (Err why) journal = CommitRefused client s message start why journal × ChangedNothing client start journal

@@ -36,21 +36,24 @@ use Rattle.store_api.specs.declared.events.New.TheVariants.{Done as New_done, Pr
 use Rattle.store_api.specs.declared.events.Over.TheVariants.{Done as Over_done, Moved}
 use Rattle.store_api.specs.declared.events.Reply.{Reply}
 use Rattle.store_api.specs.declared.events.Reply.TheVariants.{New as Is_new, Over as Is_over}
+use Rattle.store_api.specs.declared.machines.Next.{Next}
+use Rattle.store_api.specs.declared.machines.Next.TheVariants.{Ready}
 use Rattle.store_api.specs.declared.machines.Refusal.{Refusal}
-use Rattle.store_api.specs.declared.machines.Refusal.TheVariants.{ReadOnly, NothingToCommit, IdsSpent, TooLarge, Missing, BadFile, IdTaken, Conflict, StoreFault, NoMemory}
+use Rattle.store_api.specs.declared.machines.Refusal.TheVariants.{ReadOnly, NothingToCommit, IdsSpent, TooLarge, Missing, BadFile, IdTaken, StoreFault, NoMemory}
 use Rattle.store_api.specs.Machine.{version_at}
-use Rattle.store_api.specs.Program.{Prog, Done, Ask, IsAsk, is_no_memory}
+use Rattle.store_api.specs.Program.{Done, Ask, IsAsk, is_no_memory}
 use Rattle.store_api.specs.Running.{Program, ◌>>=◌}
 use Rattle.repo_read.specs.Programs.{manifest_program}
 use Rattle.session.specs.Sessions.{SessionState, base_nodes}
 use Rattle.session.specs.Sources.{IsLater}
-use Rattle.commit_path.specs.declared.commit.Committed.{Committed}
+use Rattle.commit_path.specs.declared.commit.Tried.{Tried}
+use Rattle.commit_path.specs.declared.commit.Tried.TheVariants.{Done as Was_done, Lost}
 use Rattle.commit_path.specs.declared.commit.Commit.{Commit}
 use Rattle.commit_path.specs.declared.committing.Committing.{Committing}
 use Rattle.commit_path.specs.declared.committing.Committing.TheVariants.{Old, New, Log, Snapshot, Branch, Ended}
 
 abbrev pub Answer : Type 0
-Answer = Prog (Result Committed Refusal)
+Answer = Program Tried
 
 -- whether a file is longer than a file may be
 abbrev pub is_long : List ℕ → Bool
@@ -115,38 +118,39 @@ log_for s id = record { id = id; lists = touched s.held (base_nodes s) }
 abbrev pub snap_for : SessionState → (message : List ℕ) → List NewList → Id12 → (flushed : ℕ) → SnapshotFile
 snap_for s message news id flushed = snapshot_over s.held news s.rows s.files (record { id = id; parent = s.base; flushed_at = flushed }) message
 
-abbrev pub after_branch : SessionState → Id12 → Reply → Answer
-after_branch s id (Is_over (Over_done version now)) = Done (Ok (record { id = id; version = version }))
-after_branch s id (Is_over (Moved found now)) = Done (Err (Conflict (version_at s.version) found))
-after_branch s id _ = Done (Err StoreFault)
+-- what was put over is the commit; or the branch had moved on, and these ids are the next to draw
+abbrev pub after_branch : SessionState → Id12 → (next : AnyIds) → Reply → Answer
+after_branch s id next (Is_over (Over_done version now)) = Done (Ok (Was_done (record { id = id; version = version })))
+after_branch s id next (Is_over (Moved found now)) = Done (Ok (Lost (version_at s.version) found next))
+after_branch s id next _ = Done (Err StoreFault)
 
 -- the put over of the branch at the version that was read
-abbrev pub put_branch : SessionState → Id12 → Answer
-put_branch s id = Ask (PutOver (Branch_key s.branch) (ref_bytes id) (version_at s.version) For_commit) (after_branch s id)
+abbrev pub put_branch : SessionState → Id12 → (next : AnyIds) → Answer
+put_branch s id next = Ask (PutOver (Branch_key s.branch) (ref_bytes id) (version_at s.version) For_commit) (after_branch s id next)
 
-abbrev pub after_snapshot : SessionState → Id12 → Reply → Answer
-after_snapshot s id (Is_new (New_done version now)) = put_branch s id
-after_snapshot s id (Is_new (Present version now)) = Done (Err (IdTaken (Snapshot_key id)))
-after_snapshot s id _ = Done (Err StoreFault)
+abbrev pub after_snapshot : SessionState → Id12 → (next : AnyIds) → Reply → Answer
+after_snapshot s id next (Is_new (New_done version now)) = put_branch s id next
+after_snapshot s id next (Is_new (Present version now)) = Done (Err (IdTaken (Snapshot_key id)))
+after_snapshot s id next _ = Done (Err StoreFault)
 
 -- a snapshot's file is put, unless it is too long
-abbrev pub put_snapshot : SessionState → Id12 → (file : List ℕ) → Answer
-put_snapshot s id file = if is_long file then Done (Err (TooLarge kinds.Snapshot)) else Ask (PutNew (Snapshot_key id) file Set) (after_snapshot s id)
+abbrev pub put_snapshot : SessionState → Id12 → (next : AnyIds) → (file : List ℕ) → Answer
+put_snapshot s id next file = if is_long file then Done (Err (TooLarge kinds.Snapshot)) else Ask (PutNew (Snapshot_key id) file Set) (after_snapshot s id next)
 
 -- the snapshot is flushed at the time that the log's put told
-abbrev pub after_log : SessionState → (message : List ℕ) → List NewList → Id12 → Reply → Answer
-after_log s message news id (Is_new (New_done version now)) = put_snapshot s id (snapshot_bytes (snap_for s message news id now))
-after_log s message news id (Is_new (Present version now)) = Done (Err (IdTaken (Txn id)))
-after_log s message news id _ = Done (Err StoreFault)
+abbrev pub after_log : SessionState → (message : List ℕ) → List NewList → Id12 → (next : AnyIds) → Reply → Answer
+after_log s message news id next (Is_new (New_done version now)) = put_snapshot s id next (snapshot_bytes (snap_for s message news id now))
+after_log s message news id next (Is_new (Present version now)) = Done (Err (IdTaken (Txn id)))
+after_log s message news id next _ = Done (Err StoreFault)
 
 -- the log is put under the next id drawn, which is the snapshot's, unless its file is too long
-abbrev pub put_log : SessionState → (message : List ℕ) → List NewList → Option Id12 → Answer
-put_log s message news None = Done (Err IdsSpent)
-put_log s message news (Some id) =
-    if is_long (log_file (log_for s id)) then Done (Err (TooLarge kinds.Log)) else Ask (PutNew (Txn id) (log_file (log_for s id)) Set) (after_log s message news id)
+abbrev pub put_log : SessionState → (message : List ℕ) → List NewList → Option Id12 → (next : AnyIds) → Answer
+put_log s message news None next = Done (Err IdsSpent)
+put_log s message news (Some id) next =
+    if is_long (log_file (log_for s id)) then Done (Err (TooLarge kinds.Log)) else Ask (PutNew (Txn id) (log_file (log_for s id)) Set) (after_log s message news id next)
 
 abbrev pub after_arrays : SessionState → (message : List ℕ) → Written → Answer
-after_arrays s message w = put_log s message w.news (drawn12 w.ids)
+after_arrays s message w = put_log s message w.news (drawn12 w.ids) (after12 w.ids)
 
 -- ---- the commit
 -- nothing is written yet
@@ -192,14 +196,17 @@ new_behind s message w arrays manifest reply =
 abbrev pub committing_rest : SessionState → (message : List ℕ) → Written → List ChangedArray → Committing → Answer
 committing_rest s message w arrays (Old m got) = old_rest s message w arrays m got.items
 committing_rest s message w arrays (New manifest file) = Ask (PutNew (Manifest_key manifest.id) file Set) (new_behind s message w arrays manifest)
-committing_rest s message w arrays (Log id file) = Ask (PutNew (Txn id) file Set) (after_log s message w.news id)
-committing_rest s message w arrays (Snapshot id file) = Ask (PutNew (Snapshot_key id) file Set) (after_snapshot s id)
-committing_rest s message w arrays (Branch id file) = Ask (PutOver (Branch_key s.branch) file (version_at s.version) For_commit) (after_branch s id)
+committing_rest s message w arrays (Log id file) = Ask (PutNew (Txn id) file Set) (after_log s message w.news id w.ids)
+committing_rest s message w arrays (Snapshot id file) = Ask (PutNew (Snapshot_key id) file Set) (after_snapshot s id w.ids)
+committing_rest s message w arrays (Branch id file) = Ask (PutOver (Branch_key s.branch) file (version_at s.version) For_commit) (after_branch s id w.ids)
 committing_rest s message w arrays Ended = Done (Err NoMemory)
 
--- the session in the machine
+-- the session and the message in the machine
 abbrev pub session_in : Commit → SessionState
 session_in c = c.session
+
+abbrev pub message_in : Commit → List ℕ
+message_in c = c.message
 
 -- what is written so far
 abbrev pub written_in : Commit → Written
@@ -213,6 +220,11 @@ commit_rest c = committing_rest c.session c.message (written_in c) c.arrays.left
 pub record IsDrawn (old new : SessionState) : Type 0 where
   pub same : new ≡ record old { ids = new.ids }
   pub later : IsLater old.ids new.ids
+
+-- where the branch had moved on, the ids to draw next are those of the session
+abbrev pub IsLeft : Result (Next Tried) Refusal → SessionState → Type 0
+IsLeft (Ok (Ready (Lost old found next))) s = s.ids ≡ next
+IsLeft _ s = Unit {0}
 
 -- the machine's own commit begins, or the session comes back
 abbrev pub CommitStarts : SessionState → (message : List ℕ) → Result Commit (SessionState × Refusal) → Type 0
@@ -250,7 +262,6 @@ MayRefuseCommit IdsSpent = Unit {0}
 MayRefuseCommit (Missing key) = Unit {0}
 MayRefuseCommit (BadFile key bad) = Unit {0}
 MayRefuseCommit (IdTaken key) = Unit {0}
-MayRefuseCommit (Conflict old found) = Unit {0}
 MayRefuseCommit (TooLarge kind) = Unit {0}
 MayRefuseCommit StoreFault = Unit {0}
 MayRefuseCommit NoMemory = Unit {0}

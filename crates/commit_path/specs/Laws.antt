@@ -18,7 +18,7 @@ use Rattle.store_api.specs.Plays.{Stays}
 use Rattle.session.specs.Sessions.{SessionState}
 use Rattle.session.specs.Opening.{Asked, open_program}
 use Rattle.session.specs.Editing.{added, meta_set, node_dropped}
-use Rattle.commit_path.specs.declared.commit.Committed.{Committed}
+use Rattle.commit_path.specs.declared.commit.Tried.{Tried}
 use Rattle.commit_path.specs.Committing.{commit_program}
 use Rattle.commit_path.specs.Owed.{IsCareful}
 use Rattle.commit_path.specs.Answered.{CommitTells}
@@ -30,7 +30,7 @@ use Rattle.commit_path.specs.Spelled.{IsSpelled}
 -- has changed no branch; and its answer tells the journal. A session that it opened can be written.
 abbrev pub OpeningLaw : Type 0
 OpeningLaw = (by : Caller) (ids : AnyIds) (a : Asked) (start journal : List Event) → ChangedNothing by.number start journal
-    → Keeps (IsCareful ids (λ t id. ⊥)) by (open_program a) journal × Stays (ChangedNothing by.number start) by (open_program a) journal
+    → Keeps (IsCareful ids (λ h t id. ⊥)) by (open_program a) journal × Stays (ChangedNothing by.number start) by (open_program a) journal
     × Leads (λ answer h. OpeningTells by.number a start answer h × IfOk answer IsSpelled) by (open_program a) journal
 
 -- each text that isn't read as metadata has a fault
@@ -53,10 +53,10 @@ pub record SessionLaw : Type 0 where
 -- wherever it may find no memory, its client has changed no branch; and its answer tells the journal.
 abbrev pub CommitLaw : Type 0
 CommitLaw = (by : Caller) (ids : AnyIds) (s : SessionState) (message : List ℕ) (start journal : List Event) → IsLater ids s.ids → IsUtf8 message → IsSpelled s → IsOpened s journal → ChangedNothing by.number start journal
-    → Keeps (IsCareful ids (λ t id. (t ≡ s) × MayDrawObject s.ids id)) by (commit_program s message) journal × Stays (ChangedNothing by.number start) by (commit_program s message) journal
+    → Keeps (IsCareful ids (λ h t id. (t ≡ s) × MayDrawObject s.ids id)) by (commit_program s message) journal × Stays (ChangedNothing by.number start) by (commit_program s message) journal
     × Leads (CommitTells by.number s message start) by (commit_program s message) journal
 
 -- what answers tell stays so, whatever good events others make
 pub record AnswersLaw : Type 0 where
   pub opening : (by : Caller) (a : Asked) (answer : Result SessionState Refusal) (start journal more : List Event) → Each (IsOther by) journal more → OpeningTells by.number a start answer journal → OpeningTells by.number a start answer (journal ++ more)
-  pub commit : (by : Caller) (s : SessionState) (message : List ℕ) (answer : Result Committed Refusal) (start journal more : List Event) → Each (IsOther by) journal more → CommitTells by.number s message start answer journal → CommitTells by.number s message start answer (journal ++ more)
+  pub commit : (by : Caller) (s : SessionState) (message : List ℕ) (answer : Result Tried Refusal) (start journal more : List Event) → Each (IsOther by) journal more → CommitTells by.number s message start answer journal → CommitTells by.number s message start answer (journal ++ more)

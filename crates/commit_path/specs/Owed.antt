@@ -22,9 +22,9 @@ use Rattle.store_api.specs.declared.events.Event.{Event}
 use Rattle.store_api.specs.Journal.{WasPut, puts_of, rows_of, snap_made, log_made, IsOnce, IsPolite, IsGood}
 use Rattle.session.specs.Sessions.{SessionState, base_nodes, base_tree, changes_in, overlay}
 
--- The client's sessions at their commits, each with an object id that its commit may draw.
+-- The client's sessions at their commits, by the journal until then, each with an object id that its commit may draw.
 abbrev pub Sessions : Type 1
-Sessions = SessionState → Id12 → Type 0
+Sessions = List Event → SessionState → Id12 → Type 0
 
 -- the bytes of each chunk that was set are there, as many as its place tells
 abbrev pub HasChunks : Puts → List (Entry Place) → Type 0
@@ -63,7 +63,7 @@ pub record IsMade (s : SessionState) (id : Id12) (journal : List Event) : Type 0
 pub record OwesOver (mine : Sessions) (journal : List Event) (branch bytes : List ℕ) (old : ℕ) (why : Why) : Type 0 where
   pub session : SessionState
   pub id : Id12
-  pub is_mine : mine session id
+  pub is_mine : mine journal session id
   pub branch_is : branch ≡ session.branch
   pub version_is : old ≡ session.version
   pub names : ref_of bytes ≡ Some id
@@ -75,7 +75,7 @@ pub record OwesOver (mine : Sessions) (journal : List Event) (branch bytes : Lis
 -- but the base's and the session's own; and the session's chunks are there
 pub record OwesSnap (mine : Sessions) (journal : List Event) (id : Id12) (bytes : List ℕ) : Type 0 where
   pub session : SessionState
-  pub is_mine : mine session id
+  pub is_mine : mine journal session id
   pub snap : SnapshotFile
   pub read : snapshot_by id bytes ≡ Some snap
   pub parent : snap.parent ≡ Some session.base

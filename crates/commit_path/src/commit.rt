@@ -4,11 +4,11 @@ ghost use Rattle.std.specs.Prelude.{◌≡◌, ◌<◌, ◌≤◌, ◌+◌, ◌*
 ghost use Rattle.flat_tables.specs.Rows.{Ascends};
 ghost use Rattle.manifest_file.specs.Manifests.{ref_key};
 ghost use Rattle.manifest_index.specs.Extents.{are_low};
-ghost use Rattle.store_api.specs.Program.{IsAsk, Steps, NextIsPolite};
+ghost use Rattle.store_api.specs.Program.{IsAsk, IsDone, Steps, NextIsPolite};
 ghost use Rattle.store_api.specs.Driving.{Awaits, Took, op_of};
 ghost use Rattle.store_api.specs.declared.events.Op.TheVariants as Op;
 ghost use Rattle.txn_file.specs.Layout.{log_file};
-ghost use Rattle.commit_path.specs.Committing.{log_for, old_rest, new_behind, arrays_behind, written_in, after_arrays, after_log, after_snapshot, after_branch, commit_rest, commit_left, manifests_left, session_in, IsDrawn, CommitStarts, MayRefuseStart, MayRefuseCommit};
+ghost use Rattle.commit_path.specs.Committing.{log_for, old_rest, new_behind, arrays_behind, written_in, after_arrays, after_log, after_snapshot, after_branch, commit_rest, commit_left, manifests_left, session_in, message_in, IsDrawn, IsLeft, CommitStarts, MayRefuseStart, MayRefuseCommit};
 ghost use Rattle.commit_path.specs.inside.Lists.{IsRank};
 ghost use Rattle.commit_path.specs.inside.Working.{IsUnwritten, WritesFile, PassesUnless, got_behind, merged_behind, MayRefuseOwn, LandsCalmly, LandsSurely, Reaches, Turns};
 
@@ -18,7 +18,7 @@ use crate::manifests::{made, merged};
 use changed_snapshot::NewManifest;
 use flat_tables::{Kind, WriteFault};
 use ice_base::{Bytes, Text};
-use ice_ids::Id12;
+use ice_ids::{AnyIds, Id12};
 use manifest_file::{ArrayRefs, REFS_LIMIT};
 use ref_file::ref_write;
 use repo_read::manifest_told;
@@ -27,7 +27,8 @@ use snapshot_file::ManifestRef;
 use std::alloc::{AllocError, Global};
 use std::mem;
 use store_api::{
-    Key, Machine, New, Next, Over, Payload, Refusal, Reply, Request, Store, Version, Why, drive,
+    Key, Machine, New, Next, Over, Payload, Refusal, Reply, Request, Store, StoreFault, Version,
+    Why, ask,
 };
 use txn_file::TxnFile;
 
@@ -40,10 +41,26 @@ pub struct Committed {
     pub version: Version,
 }
 
+/// What a commit came to.
+#[derive(Clone, Copy, Debug)]
+pub enum Tried {
+    /// It is done.
+    Done(Committed),
+    /// The branch had moved on, and the commit changed nothing of it.
+    Lost {
+        /// The version that the session had read.
+        old: Version,
+        /// The version that was found, unless the branch is gone.
+        found: Option<Version>,
+        /// The ids to draw next.
+        next: AnyIds,
+    },
+}
+
 /// A machine that commits a session: it writes a manifest for each array whose chunks changed (its old manifests are got,
 /// one after another, and the new one is put), then it puts the transaction log, then the snapshot, whose parent is the
-/// session's base, and then the branch over the version that the session had read. The session stays in it, and comes back
-/// after a refusal. The bytes of each put are made before it, with the reply to the one before.
+/// session's base, and then the branch over the version that the session had read. The session and the message stay in it,
+/// and come back. The bytes of each put are made before it, with the reply to the one before.
 #[derive(Drop)]
 pub struct Commit {
     alloc: Global,
@@ -88,7 +105,7 @@ fn put_new(key: Key, file: &Bytes) -> Request<'_>
 }
 
 impl Machine for Commit {
-    type Answer = Committed;
+    type Answer = Tried;
 
     ghost rest = { commit_rest };
 
@@ -116,7 +133,15 @@ impl Machine for Commit {
         }
     }
 
-    fn answer(&mut self, reply: Reply) -> Result<Next<Committed>, Refusal> {
+    fn answer(&mut self, reply: Reply) -> Result<Next<Tried>, Refusal>
+        requires { Awaits (commit_rest self.old) reply }
+        ensures took { Took (commit_rest self.old) reply (commit_rest self.new) result }
+        ensures falls { commit_left self.new < commit_left self.old }
+        ensures kept { IsDrawn (session_in self.old) (session_in self.new) }
+        ensures listed { IfErr result MayRefuseCommit }
+        ensures message { message_in self.new ≡ message_in self.old }
+        ensures left { IsLeft result (session_in self.new) }
+    {
         let state = mem::replace(&mut self.state, Committing::Ended);
         match (state, reply) {
             (Committing::Old { manifest, got }, reply) => self.on_old(manifest, got, reply),
@@ -130,7 +155,13 @@ impl Machine for Commit {
         }
     }
 
-    fn stop(&mut self) {
+    fn stop(&mut self)
+        requires { IsAsk (commit_rest self.old) }
+        ensures ended { IsDone (commit_rest self.new) }
+        ensures falls { commit_left self.new < commit_left self.old }
+        ensures kept { IsDrawn (session_in self.old) (session_in self.new) }
+        ensures message { message_in self.new ≡ message_in self.old }
+    {
         self.state = Committing::Ended;
     }
 
@@ -144,6 +175,7 @@ impl Commit {
         ensures reaches { Reaches (after_arrays self.old.session self.old.message (written_in self.old)) (commit_rest self.new) result }
         ensures falls { commit_left self.new ≤ length self.old.arrays.left * 2 ^ 65 + 3 }
         ensures kept { IsDrawn (session_in self.old) (session_in self.new) }
+        ensures message { message_in self.new ≡ message_in self.old }
         ensures listed { IfErr result MayRefuseOwn }
     {
         let Some(id) = self.session.draw() else {
@@ -165,6 +197,7 @@ impl Commit {
         ensures reaches { Reaches (merged_behind self.old.session self.old.message (written_in self.old) self.old.arrays.left (Some array)) (commit_rest self.new) result }
         ensures falls { commit_left self.new ≤ length self.old.arrays.left * 2 ^ 65 + 4 }
         ensures kept { IsDrawn (session_in self.old) (session_in self.new) }
+        ensures message { message_in self.new ≡ message_in self.old }
         ensures listed { IfErr result MayRefuseOwn }
     {
         if array.refs.len() > REFS_LIMIT {
@@ -186,6 +219,7 @@ impl Commit {
         ensures passes { PassesUnless result self.old self.new }
         ensures falls { commit_left self.new ≤ length self.old.arrays.left * 2 ^ 65 + 4 }
         ensures kept { IsDrawn (session_in self.old) (session_in self.new) }
+        ensures message { message_in self.new ≡ message_in self.old }
         ensures listed { IfErr result MayRefuseOwn }
     {
         let Some(array) = self.arrays.first() else {
@@ -214,6 +248,7 @@ impl Commit {
         ensures falls { commit_left self.new ≤ length self.old.arrays.left * 2 ^ 65 + manifests_left self.old.session.rows self.old.arrays.left (length got.items) + 4 }
         ensures few { manifests_left self.old.session.rows self.old.arrays.left (length got.items) < 2 ^ 64 }
         ensures kept { IsDrawn (session_in self.old) (session_in self.new) }
+        ensures message { message_in self.new ≡ message_in self.old }
         ensures listed { IfErr result MayRefuseOwn }
     {
         let Some(array) = self.arrays.first() else {
@@ -236,6 +271,7 @@ impl Commit {
         ensures reaches { Reaches (arrays_behind self.old.session self.old.message (written_in self.old) self.old.arrays.left []) (commit_rest self.new) result }
         ensures falls { commit_left self.new ≤ length self.old.arrays.left * 2 ^ 65 + 2 ^ 64 + 4 }
         ensures kept { IsDrawn (session_in self.old) (session_in self.new) }
+        ensures message { message_in self.new ≡ message_in self.old }
         ensures listed { IfErr result MayRefuseOwn }
     {
         while self.arrays.is_left() {
@@ -253,12 +289,14 @@ impl Commit {
         manifest: ManifestRef,
         mut got: Got,
         reply: Reply,
-    ) -> Result<Next<Committed>, Refusal>
+    ) -> Result<Next<Tried>, Refusal>
         requires ended { self.old.state ≡ Committing.Ended }
         requires awaited { Awaits (old_rest self.old.session self.old.message (written_in self.old) self.old.arrays.left manifest got.items) reply }
         ensures took { Took (old_rest self.old.session self.old.message (written_in self.old) self.old.arrays.left manifest got.items) reply (commit_rest self.new) result }
         ensures falls { commit_left self.new < length self.old.arrays.left * 2 ^ 65 + manifests_left self.old.session.rows self.old.arrays.left (length got.items + 1) + 5 }
         ensures kept { IsDrawn (session_in self.old) (session_in self.new) }
+        ensures message { message_in self.new ≡ message_in self.old }
+        ensures left { IsLeft result (session_in self.new) }
         ensures listed { IfErr result MayRefuseCommit }
     {
         let held = match manifest_told(manifest.id, reply) {
@@ -283,11 +321,13 @@ impl Commit {
 
     /// A new manifest was put: the first array that is left is done with, and the commit goes on.
     #[tactic(auto, using(crate::proofs::Walking::own_commit))]
-    fn on_manifest(&mut self, manifest: NewManifest, new: New) -> Result<Next<Committed>, Refusal>
+    fn on_manifest(&mut self, manifest: NewManifest, new: New) -> Result<Next<Tried>, Refusal>
         requires ended { self.old.state ≡ Committing.Ended }
         ensures took { LandsCalmly (new_behind self.old.session self.old.message (written_in self.old) self.old.arrays.left manifest (Reply.New new)) (commit_rest self.new) result }
         ensures falls { commit_left self.new < length self.old.arrays.left * 2 ^ 65 + 4 }
         ensures kept { IsDrawn (session_in self.old) (session_in self.new) }
+        ensures message { message_in self.new ≡ message_in self.old }
+        ensures left { IsLeft result (session_in self.new) }
         ensures listed { IfErr result MayRefuseCommit }
     {
         let New::Done { version: _, now: _ } = new else {
@@ -303,11 +343,13 @@ impl Commit {
     }
 
     /// The log was put: the snapshot is flushed at the time that the reply tells.
-    fn on_log(&mut self, id: Id12, new: New) -> Result<Next<Committed>, Refusal>
+    fn on_log(&mut self, id: Id12, new: New) -> Result<Next<Tried>, Refusal>
         requires { self.old.state ≡ Committing.Ended }
-        ensures took { LandsCalmly (after_log self.old.session self.old.message self.old.arrays.news id (Reply.New new)) (commit_rest self.new) result }
+        ensures took { LandsCalmly (after_log self.old.session self.old.message self.old.arrays.news id self.old.session.ids (Reply.New new)) (commit_rest self.new) result }
         ensures falls { commit_left self.new < length self.old.arrays.left * 2 ^ 65 + 3 }
         ensures kept { IsDrawn (session_in self.old) (session_in self.new) }
+        ensures message { message_in self.new ≡ message_in self.old }
+        ensures left { IsLeft result (session_in self.new) }
         ensures listed { IfErr result MayRefuseCommit }
     {
         let now = match new {
@@ -329,11 +371,13 @@ impl Commit {
     }
 
     /// The snapshot was put: the reference's bytes are made, so that nothing behind its put takes memory.
-    fn on_snapshot(&mut self, id: Id12, new: New) -> Result<Next<Committed>, Refusal>
+    fn on_snapshot(&mut self, id: Id12, new: New) -> Result<Next<Tried>, Refusal>
         requires { self.old.state ≡ Committing.Ended }
-        ensures took { LandsCalmly (after_snapshot self.old.session id (Reply.New new)) (commit_rest self.new) result }
+        ensures took { LandsCalmly (after_snapshot self.old.session id self.old.session.ids (Reply.New new)) (commit_rest self.new) result }
         ensures falls { commit_left self.new < length self.old.arrays.left * 2 ^ 65 + 2 }
         ensures kept { IsDrawn (session_in self.old) (session_in self.new) }
+        ensures message { message_in self.new ≡ message_in self.old }
+        ensures left { IsLeft result (session_in self.new) }
         ensures listed { IfErr result MayRefuseCommit }
     {
         if let New::Present { version: _, now: _ } = new {
@@ -349,19 +393,25 @@ impl Commit {
     }
 
     /// The branch was put over, or not.
-    fn on_branch(&mut self, id: Id12, over: Over) -> Result<Next<Committed>, Refusal>
+    fn on_branch(&mut self, id: Id12, over: Over) -> Result<Next<Tried>, Refusal>
         requires { self.old.state ≡ Committing.Ended }
-        ensures took { LandsSurely (after_branch self.old.session id (Reply.Over over)) (commit_rest self.new) result }
+        ensures took { LandsSurely (after_branch self.old.session id self.old.session.ids (Reply.Over over)) (commit_rest self.new) result }
         ensures falls { commit_left self.new < length self.old.arrays.left * 2 ^ 65 + 1 }
         ensures kept { IsDrawn (session_in self.old) (session_in self.new) }
+        ensures message { message_in self.new ≡ message_in self.old }
+        ensures left { IsLeft result (session_in self.new) }
         ensures listed { IfErr result MayRefuseCommit }
     {
         match over {
-            Over::Done { version, now: _ } => Ok(Next::Ready(Committed { id, version })),
-            Over::Moved { found, now: _ } => Err(Refusal::Conflict {
+            Over::Done { version, now: _ } => Ok(Next::Ready(Tried::Done(Committed {
+                id,
+                version,
+            }))),
+            Over::Moved { found, now: _ } => Ok(Next::Ready(Tried::Lost {
                 old: self.session.version(),
                 found,
-            }),
+                next: self.session.ids(),
+            })),
         }
     }
 
@@ -375,6 +425,7 @@ impl Commit {
         message: Text,
     ) -> Result<Commit, (Session, Refusal)>
         ensures starts { CommitStarts session message result }
+        ensures message { IfOk result (λ c. message_in c ≡ message) }
         ensures bounded { IfOk result (λ c. commit_left c ≤ 2 ^ 200) }
         ensures listed { IfErr result (λ refused. MayRefuseStart refused.1) }
     {
@@ -400,22 +451,32 @@ impl Commit {
         }
     }
 
-    /// The session, after the commit was refused.
-    pub fn into_session(self) -> Session
-        ensures { result ≡ session_in self }
+    /// The session and the message, after the commit was tried.
+    pub fn into_parts(self) -> (Session, Text)
+        ensures session { result.0 ≡ session_in self }
+        ensures message { result.1 ≡ message_in self }
     {
-        self.session
+        (self.session, self.message)
     }
 
     /// One operation of the store.
-    pub fn step<S: Store>(&mut self, store: &mut S) -> Result<Next<Committed>, Refusal>
+    pub fn step<S: Store>(&mut self, store: &mut S) -> Result<Next<Tried>, Refusal>
         requires live { IsAsk (commit_rest self.old) }
         requires polite { IsTrue (S.view store.old).caller.tells → NextIsPolite (commit_rest self.old) (S.view store.old).seen }
         ensures step { Steps (S.view store.old) (S.view store.new) (commit_rest self.old) (commit_rest self.new) result }
         ensures falls { commit_left self.new < commit_left self.old }
         ensures session { IsDrawn (session_in self.old) (session_in self.new) }
+        ensures message { message_in self.new ≡ message_in self.old }
+        ensures left { IsLeft result (session_in self.new) }
         ensures listed { IfErr result MayRefuseCommit }
     {
-        drive(self, store)
+        match ask(self, store) {
+            Ok(reply) => self.answer(reply),
+            Err(StoreFault::Failed) => self.answer(Reply::Failed { done: false }),
+            Err(StoreFault::NoMemory) => {
+                self.stop();
+                Err(Refusal::NoMemory)
+            }
+        }
     }
 }

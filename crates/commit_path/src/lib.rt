@@ -8,6 +8,6 @@ mod laws;
 mod manifests;
 mod single;
 
-pub use commit::{Commit, Committed};
+pub use commit::{Commit, Committed, Tried};
 pub use laws::{answers_law, commit_law, opening_law, session_law};
 pub use single::single_law;

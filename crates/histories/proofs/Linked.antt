@@ -169,11 +169,11 @@ honest-got n now (Some s) None k = absurd k
 honest-got n now (Some s) (Some x) k = record { bytes = s.bytes; now = now; is = ap (λ (v : ℕ). Is_got (got_of now (Some (record s { version = v })))) k.0; names = k.1 }
 
 -- the reply is another way to write the honest one
-told : (P : Reply → Type 0) (honest reply : Reply) → P honest → reply ≡ honest → P reply
+pub told : (P : Reply → Type 0) (honest reply : Reply) → P honest → reply ≡ honest → P reply
 told P honest reply p e = subst P (sym e) p
 
 -- what holds of each honest reply holds of the reply, unless it failed
-unless-failed : (P Q : Reply → Type 0) → ((r : Reply) → P r → Q r) → (reply : Reply) → UnlessFailed P reply → UnlessFailed Q reply
+pub unless-failed : (P Q : Reply → Type 0) → ((r : Reply) → P r → Q r) → (reply : Reply) → UnlessFailed P reply → UnlessFailed Q reply
 unless-failed P Q f (Failed d) u = tt
 unless-failed P Q f (Is_got g) u = f (Is_got g) u
 unless-failed P Q f (Is_new g) u = f (Is_new g) u

@@ -60,7 +60,7 @@ const SMALLEST_COMMIT: &str = "task a write main 0 fail\ngroup /\ncommit first\n
 
 /// An id is the number of the task's client and the number of ids that it drew before: one for each group, and then the
 /// snapshot's. A version is the number of operations before the one that put it.
-const ROWS: [Row; 14] = [
+const ROWS: [Row; 21] = [
     Row {
         script: "",
         report: "branch main 1CECHNKREP0F1RSTCMT0\n",
@@ -179,6 +179,82 @@ const ROWS: [Row; 14] = [
         report: "a 5 zget 0102\na 6 zget absent\na 7 chunk 0102\na 9 zget absent\n\
             a 11 zget absent\na refused 13 badkey\n\
             branch main 1CECHNKREP0F1RSTCMT0\n",
+        status: Status::Refused,
+    },
+    // Two sessions set different chunks of one array: the second one is rebased over the first one's commit, and both stand.
+    Row {
+        script: "task a write main 0 fail\ngroup /\narray /x uint8 4 2 0\ncommit base\n\
+            task b write main 1 fail\nset /x 0 0102\ncommit left\n\
+            task c write main 1 fail\nset /x 1 0304\ncommit right\n\
+            task d read branch main\nchunk /x 0\nchunk /x 1\nturns a*5 b*2 c*2 b*4 c*4\n",
+        report: "a committed 00000080000000000010\nb committed 000000G000000000000G\n\
+            c committed 000000R000000000001G\n\
+            d 12 chunk 0102\nd 13 chunk 0304\nd done\nbranch main 000000R000000000001G\n",
+        status: Status::Ok,
+    },
+    // They set the same chunk, and which one stays is asked of the policy: neither,
+    Row {
+        script: "task a write main 0 fail\ngroup /\narray /x uint8 4 2 0\ncommit base\n\
+            task b write main 1 fail\nset /x 0 0102\ncommit left\n\
+            task c write main 1 fail\nset /x 0 0304\ncommit right\n\
+            turns a*5 b*2 c*2 b*4 c*4\n",
+        report: "a committed 00000080000000000010\nb committed 000000G000000000000G\n\
+            c refused 10 left 000000G000000000000G 6:/x:0\nbranch main 000000G000000000000G\n",
+        status: Status::Refused,
+    },
+    // ours,
+    Row {
+        script: "task a write main 0 fail\ngroup /\narray /x uint8 4 2 0\ncommit base\n\
+            task b write main 1 fail\nset /x 0 0102\ncommit left\n\
+            task c write main 1 ours\nset /x 0 0304\ncommit right\n\
+            task d read branch main\nchunk /x 0\nturns a*5 b*2 c*2 b*4 c*4\n",
+        report: "a committed 00000080000000000010\nb committed 000000G000000000000G\n\
+            c committed 000000R000000000001G\nd 12 chunk 0304\nd done\n\
+            branch main 000000R000000000001G\n",
+        status: Status::Ok,
+    },
+    // or theirs, and then nothing is left to commit.
+    Row {
+        script: "task a write main 0 fail\ngroup /\narray /x uint8 4 2 0\ncommit base\n\
+            task b write main 1 fail\nset /x 0 0102\ncommit left\n\
+            task c write main 1 theirs\nset /x 0 0304\ncommit right\n\
+            turns a*5 b*2 c*2 b*4 c*4\n",
+        report: "a committed 00000080000000000010\nb committed 000000G000000000000G\n\
+            c refused 10 nothing\nbranch main 000000G000000000000G\n",
+        status: Status::Refused,
+    },
+    // A node was made beneath a group that is dropped: that passes only where the policy drops it all the same.
+    Row {
+        script: "task a write main 0 fail\ngroup /\ngroup /g\ncommit base\n\
+            task b write main 0 fail\ngroup /g/x\ncommit add\n\
+            task c write main 1 fail\ndrop /g\ncommit drop\n\
+            task d write main 1 fail+g\ndrop /g\nlist /\ncommit drop\n\
+            turns a*5 c*2 d*2 b*5 c*3\n",
+        report: "a committed 00000080000000000010\nb committed 000000G000000000000G\n\
+            c refused 10 left 000000G000000000000G 10:/g\n\
+            d committed 0000010000000000000G\nbranch main 0000010000000000000G\n",
+        status: Status::Refused,
+    },
+    // At the same path another group was made: what was to be added beneath the old one isn't.
+    Row {
+        script: "task a write main 0 fail\ngroup /\ngroup /g\ncommit base\n\
+            task b write main 0 fail\ndrop /g\ngroup /g\ncommit swap\n\
+            task c write main 1 fail\ngroup /g/x\ncommit add\nturns a*5 c*2 b*5 c*3\n",
+        report: "a committed 00000080000000000010\nb committed 000000G000000000000G\n\
+            c refused 11 left 000000G000000000000G 2:/g/x\nbranch main 000000G000000000000G\n",
+        status: Status::Refused,
+    },
+    // A session that loses twice is rebased twice; one that may be rebased once is refused at its second loss.
+    Row {
+        script: "task a write main 0 fail\ngroup /\ncommit base\n\
+            task b write main 2 fail\ngroup /b\ncommit b\n\
+            task c write main 1 fail\ngroup /c\ncommit c\n\
+            task d write main 0 fail\ngroup /d\ncommit d\n\
+            task e write main 0 fail\ngroup /e\ncommit e\n\
+            turns a*5 b*2 c*2 d*5 b*6 c*6 e*5 b*9 c*9\n",
+        report: "a committed 0000008000000000000G\nb committed 000000G000000000001G\n\
+            c refused 9 conflict 15 41\nd committed 0000010000000000000G\n\
+            e committed 0000018000000000000G\nbranch main 000000G000000000001G\n",
         status: Status::Refused,
     },
     // A branch that isn't there, between lines that are passed over.

@@ -1,14 +1,17 @@
 //! What refusals are called in a report.
 
 use crate::store_keys::{id_of, key_of};
-use crate::words::{NoAnswer, first_word, number_of};
+use crate::texts::path_of;
+use crate::words::{NoAnswer, first_word, indices_of, number_of};
 use flat_tables::Kind;
+use ice_items::Items;
 use ref_file::RefFault;
 use repo_objects::Bad;
 use std::alloc::Global;
 use store_api::{Refusal, Version};
 use zarr_meta::MetaFault;
-use zarr_tree::Frozen;
+use zarr_path::{Index, Path};
+use zarr_tree::{Case, Conflict, Frozen};
 
 /// The version that a word says; `-` is an absent branch.
 fn found_of(word: &str) -> Result<Option<Version>, NoAnswer> {
@@ -40,6 +43,54 @@ fn kind_of(word: &str) -> Result<Kind, NoAnswer> {
     }
 }
 
+/// The kind of conflicts of this name in the code.
+fn case_of(word: &str) -> Result<Case, NoAnswer> {
+    match word {
+        "NewNodeConflictsWithExistingNode" => Ok(Case::NewNodeConflictsWithExistingNode),
+        "NewNodeInInvalidGroup" => Ok(Case::NewNodeInInvalidGroup),
+        "ZarrMetadataDoubleUpdate" => Ok(Case::ZarrMetadataDoubleUpdate),
+        "ZarrMetadataUpdateOfDeletedArray" => Ok(Case::ZarrMetadataUpdateOfDeletedArray),
+        "ZarrMetadataUpdateOfDeletedGroup" => Ok(Case::ZarrMetadataUpdateOfDeletedGroup),
+        "ChunkDoubleUpdate" => Ok(Case::ChunkDoubleUpdate),
+        "ChunksUpdatedInDeletedArray" => Ok(Case::ChunksUpdatedInDeletedArray),
+        "ChunksUpdatedInUpdatedArray" => Ok(Case::ChunksUpdatedInUpdatedArray),
+        "DeleteOfUpdatedArray" => Ok(Case::DeleteOfUpdatedArray),
+        "DeleteOfUpdatedGroup" => Ok(Case::DeleteOfUpdatedGroup),
+        _ => Err(NoAnswer::Words),
+    }
+}
+
+/// The path of a conflict, and its index behind a `=`, if it has one.
+fn place_of(alloc: Global, text: &str) -> Result<(Path, Option<Index>), NoAnswer> {
+    match text.split_once('=') {
+        Some((path, index)) => {
+            let index = Index::from_parts(indices_of(alloc, index)?);
+            Ok((path_of(alloc, path)?, Some(index)))
+        }
+        None => Ok((path_of(alloc, text)?, None)),
+    }
+}
+
+/// The conflict that a word like `ChunkDoubleUpdate=/x=0,1` says.
+fn conflict_of(alloc: Global, word: &str) -> Result<Conflict, NoAnswer> {
+    let (case, place) = word.split_once('=').ok_or(NoAnswer::Words)?;
+    let case = case_of(case)?;
+    let (path, index) = place_of(alloc, place)?;
+    Ok(Conflict { case, path, index })
+}
+
+/// The conflicts with the commit of this id that stay.
+fn left_of(alloc: Global, id: &str, words: &str) -> Result<Refusal, NoAnswer> {
+    let mut conflicts = Items::new(alloc);
+    for word in words.split(' ') {
+        conflicts.push(conflict_of(alloc, word)?)?;
+    }
+    Ok(Refusal::Left {
+        at: id_of(id)?,
+        conflicts,
+    })
+}
+
 /// The refusal of this name in the code, with nothing behind it.
 fn bare_of(name: &str) -> Result<Refusal, NoAnswer> {
     match name {
@@ -64,10 +115,11 @@ fn bare_of(name: &str) -> Result<Refusal, NoAnswer> {
     }
 }
 
-/// The refusal of this name in the code, with two words behind it.
+/// The refusal of this name in the code, with more than one word behind it.
 fn refusal_of(alloc: Global, text: &str) -> Result<Refusal, NoAnswer> {
     let (name, rest) = first_word(text);
-    let (first, second) = first_word(rest);
+    let (first, more) = first_word(rest);
+    let (second, _) = first_word(more);
     match name {
         "BadMeta" => Ok(Refusal::BadMeta(MetaFault::NodeType)),
         "FrozenField" => Ok(Refusal::FrozenField(frozen_of(first)?)),
@@ -82,6 +134,7 @@ fn refusal_of(alloc: Global, text: &str) -> Result<Refusal, NoAnswer> {
             old: Version(number_of(first)?),
             found: found_of(second)?,
         }),
+        "Left" => left_of(alloc, first, more),
         _ => later_of(name, first),
     }
 }
@@ -108,5 +161,9 @@ fn later_of(name: &str, word: &str) -> Result<Refusal, NoAnswer> {
 /// What a report calls a refusal.
 pub fn tell_refusal(alloc: Global, text: &str) -> Result<String, NoAnswer> {
     let why = refusal_of(alloc, text)?;
-    Ok(play_report::refusal_text(alloc, &why)?)
+    let text = play_report::refusal_text(alloc, &why)?;
+    match String::from_utf8(text) {
+        Ok(text) => Ok(text),
+        Err(_) => Err(NoAnswer::Words),
+    }
 }

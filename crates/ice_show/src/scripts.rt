@@ -2,6 +2,7 @@
 
 use crate::told::{push_bytes, push_index};
 use crate::words::NoAnswer;
+use conflicts::{Pick, Policy};
 use play_script::{Call, EditCall, Head, Line, ReadCall, Script, ScriptFault, Task};
 use std::alloc::{AllocError, Global};
 use zarr_path::{Index, Path};
@@ -65,12 +66,40 @@ fn push_lines(told: &mut String, lines: &[Line]) -> Result<(), AllocError> {
     Ok(())
 }
 
+/// What becomes of chunks that both sides wrote.
+fn pick_told(pick: Pick) -> &'static str {
+    match pick {
+        Pick::Fail => "fail",
+        Pick::Ours => "ours",
+        Pick::Theirs => "theirs",
+    }
+}
+
+/// Appends how conflicts are solved, and which drops pass.
+fn push_policy(told: &mut String, policy: &Policy) -> Result<(), AllocError> {
+    told.push_str(pick_told(policy.chunks))?;
+    if policy.drop_arrays {
+        told.push_str(" arrays")?;
+    }
+    if policy.drop_groups {
+        told.push_str(" groups")?;
+    }
+    Ok(())
+}
+
 /// Appends tasks.
 fn push_tasks(told: &mut String, tasks: &[Task]) -> Result<(), AllocError> {
     for task in tasks {
         write!(told, "\n  {} {} ", task.line, task.name.as_str())?;
         match &task.head {
-            Head::Write { branch } => write!(told, "writes {branch}")?,
+            Head::Write {
+                branch,
+                tries,
+                policy,
+            } => {
+                write!(told, "writes {branch} {tries} ")?;
+                push_policy(told, policy)?;
+            }
             Head::Read { branch } => write!(told, "reads {branch}")?,
         }
         push_lines(told, task.body.as_slice())?;

@@ -11,6 +11,8 @@ mod manifests;
 #[cfg(test)]
 mod memory;
 #[cfg(test)]
+mod rebases;
+#[cfg(test)]
 mod refs;
 #[cfg(test)]
 mod reports;

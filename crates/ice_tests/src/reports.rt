@@ -2,6 +2,7 @@
 
 use ice_base::RefName;
 use ice_ids::Id12;
+use ice_items::Items;
 use play_outcome::{End, Outcome, RefLine, RefLines, Shown, Shows};
 use play_report::report;
 use ref_file::RefFault;
@@ -9,7 +10,8 @@ use repo_objects::Bad;
 use std::alloc::Global;
 use std::test::Fail;
 use store_api::{Key, Refusal};
-use zarr_path::Path;
+use zarr_path::{Index, Path};
+use zarr_tree::{Case, Conflict};
 
 const ID: Id12 = Id12::INITIAL;
 
@@ -22,6 +24,18 @@ fn listed(alloc: Global) -> Result<Shows, Fail> {
     let root = node(alloc, 2, false, "/")?;
     let array = node(alloc, 13, true, "/a/b")?;
     Ok(Shows::from_vec(vec![in alloc; root, array]?))
+}
+
+fn left(alloc: Global) -> Result<Refusal, Fail> {
+    let conflict = Conflict {
+        case: Case::ChunkDoubleUpdate,
+        path: Path::read(alloc, "/x")?,
+        index: Some(Index::from_parts(vec![in alloc; 0]?)),
+    };
+    Ok(Refusal::Left {
+        at: Id12::read(b"000000G000000000000G")?,
+        conflicts: Items::from_vec(vec![in alloc; conflict]?),
+    })
 }
 
 fn refs(alloc: Global) -> Result<RefLines, Fail> {
@@ -52,7 +66,7 @@ fn tasks_and_refs(rt: HostRuntime) -> Result<(), Fail> {
         shown: Shows::from_vec(Vec::new(rt.alloc())),
         end: End::Refused {
             line: 10,
-            why: Refusal::Full,
+            why: left(rt.alloc())?,
         },
     };
     let refs = Ok(refs(rt.alloc())?);
@@ -64,7 +78,7 @@ fn tasks_and_refs(rt: HostRuntime) -> Result<(), Fail> {
         &refs,
     )?;
     let wanted =
-        "a 2 list group /\na 13 list array /a/b\na committed 1CECHNKREP0F1RSTCMT0\nb done\nc refused 10 full\nbranch main 1CECHNKREP0F1RSTCMT0\ntag v 1 1CECHNKREP0F1RSTCMT0\n";
+        "a 2 list group /\na 13 list array /a/b\na committed 1CECHNKREP0F1RSTCMT0\nb done\nc refused 10 left 000000G000000000000G 6:/x:0\nbranch main 1CECHNKREP0F1RSTCMT0\ntag v 1 1CECHNKREP0F1RSTCMT0\n";
     assert_eq!(rt; text.as_slice(), wanted.as_bytes());
     Ok(())
 }

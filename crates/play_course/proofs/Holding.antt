@@ -22,8 +22,10 @@ use Rattle.changed_snapshot.proofs.Found.{node_at_row}
 use Rattle.store_api.specs.declared.keys.Key.{Key}
 use Rattle.store_api.specs.declared.keys.Key.TheVariants.{Manifest}
 use Rattle.store_api.specs.declared.events.Event.{Event}
+use Rattle.store_api.specs.declared.events.Op.TheVariants.{Get}
 use Rattle.store_api.specs.Machine.{Stored, found, last_put}
-use Rattle.store_api.specs.Journal.{Each, puts_of}
+use Rattle.store_api.specs.Journal.{Each, IsGood, puts_of}
+use Rattle.store_api.proofs.Journals.{Each-one}
 use Rattle.store_api.proofs.Slots.{sound}
 use Rattle.session.specs.Sessions.{SessionState, base_tree, changes_in, overlay}
 use Rattle.commit_path.specs.Owed.{HasChunks}
@@ -36,7 +38,7 @@ use Rattle.run_histories.proofs.Edits.{OwnAreNew, IsKept, GoesOn}
 use Rattle.run_histories.proofs.Sized.{normal-in, sized-keeps}
 use Rattle.chunk_calls.proofs.Seen.{IsThere}
 use Rattle.play_course.proofs.Tidy.{IsAny, put-stands}
-use Rattle.play_course.proofs.Knowing.{IsSoFar, OfOthers, Before, before-others, good-others}
+use Rattle.play_course.proofs.Knowing.{IsSoFar, OfOthers, OfOwn, Before, before-others, before-got, good-others}
 
 some-same : {A : Type 0} (a b : A) → Some a ≡ Some b → a ≡ b
 some-same a b e = cc
@@ -63,6 +65,31 @@ pub record Held (client : ℕ) (ids : AnyIds) (s : SessionState) (journal : List
   pub goes : GoesOn ids s
   pub own : OwnAreNew ids s
   pub opened : IsOpened s journal
+
+-- What is enough for a commit or a rebase: the client draws by its own source, nothing stands under what it may draw, and what the session knows of
+-- its base holds.
+pub record MayCommit (client : ℕ) (s : SessionState) (journal : List Event) : Type 0 where
+  pub before : Before s.ids journal
+  pub known : AreOf client s.ids
+  pub opened : IsOpened s journal
+
+pub held-may : (client : ℕ) (ids : AnyIds) (s : SessionState) (journal : List Event) → Held client ids s journal → MayCommit client s journal
+held-may client ids s journal h = record { before = h.before; known = h.known; opened = h.opened }
+
+module _ (client : ℕ) (ids : AnyIds) (s : SessionState) where
+  pub may-others : (journal more : List Event) → Each (OfOthers client ids) journal more → MayCommit client s journal → MayCommit client s (journal ++ more)
+  may-others journal more others m = record {
+    before = before-others client ids s.ids m.known journal more others m.before;
+    known = m.known;
+    opened = IsOpened-append s journal more (good-others client ids journal more others) m.opened;
+  }
+
+  pub may-got : (journal : List Event) (event : Event) (key : Key) → OfOwn ids journal event → event.op ≡ Get key → MayCommit client s journal → MayCommit client s (journal ++ event ∷ [])
+  may-got journal event key own is m = record {
+    before = before-got client ids s.ids m.known journal event key own is m.before;
+    known = m.known;
+    opened = IsOpened-append s journal (event ∷ []) (Each-one IsGood journal event own.tidy.good) m.opened;
+  }
 
 -- all that the base names is readable, and its tree is well formed
 pub base-of : (s : SessionState) (journal : List Event) → IsSoFar journal → IsOpened s journal → HasTree (puts_of journal) s.rows

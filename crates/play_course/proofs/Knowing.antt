@@ -7,7 +7,8 @@ use Rattle.ice_ids.specs.Drawing.{drawn12, after12}
 use Rattle.store_api.specs.declared.keys.Key.{Key}
 use Rattle.store_api.specs.declared.keys.Key.TheVariants.{Snapshot, Manifest, Txn, Chunk, Branch, Tag, TagGone}
 use Rattle.store_api.specs.declared.keys.Why.{Why}
-use Rattle.store_api.specs.declared.events.Op.TheVariants.{Get, PutNew}
+use Rattle.store_api.specs.declared.events.Version.{Version}
+use Rattle.store_api.specs.declared.events.Op.TheVariants.{Get, PutNew, PutOver}
 use Rattle.store_api.specs.declared.events.Event.{Event}
 use Rattle.store_api.specs.Machine.{found, is_on, same_key}
 use Rattle.store_api.specs.Journal.{Each, IsGood, IsOnce}
@@ -17,17 +18,18 @@ use Rattle.session.specs.Sources.{IsLater, MayDrawObject}
 use Rattle.commit_path.specs.Single.{PutsSnapshot}
 use Rattle.commit_path.proofs.Sources.{later-same, later-drawn12, object-drawn, object-later}
 use Rattle.run_histories.specs.Sources.{NodesAreNew}
-use Rattle.run_histories.specs.Runs.{AllTrees}
+use Rattle.run_histories.specs.Runs.{AllTrees, AllCaused}
 use Rattle.run_histories.proofs.Sources.{object-spent}
 use Rattle.run_histories.proofs.Drawing.{IsDrawnBy, AreOf, object-draws}
 use Rattle.play_course.proofs.Tidy.{IsTidy, IsAny, Puts, any-of, along, spared-snapshot, spared-log, spared-manifest, spared-chunk, free-others, free-apart}
 use Rattle.play_course.proofs.Meeting.{Watch}
 
 -- ---- the journal
--- so far nothing was put again, and each snapshot has its tree
+-- so far nothing was put again, each snapshot has its tree, and comes from its parent by what its log tells
 pub record IsSoFar (journal : List Event) : Type 0 where
   pub once : IsOnce journal
   pub trees : AllTrees journal
+  pub causes : AllCaused journal
 
 -- nothing stands under an id
 pub record IsFreeId (journal : List Event) (id : Id12) : Type 0 where
@@ -132,14 +134,38 @@ free-beside journal event key bytes why id other is under differs f =
       chunk = free-apart (Chunk other) journal event (off (Chunk other) refl) f.chunk;
     }
 
-pub before-put : (ids source : AnyIds) (journal : List Event) (event : Event) (key : Key) (bytes : List ℕ) (why : Why) (id : Id12) → OfOwn ids journal event → event.op ≡ PutNew key bytes why → id_of key ≡ Some id → drawn12 source ≡ Some id → Before source journal → Before (after12 source) (journal ++ event ∷ [])
-before-put ids source journal event key bytes why id own is under drawn b = record {
+-- through an own event that puts nothing under what the source may draw
+pub before-own : (ids source : AnyIds) (journal : List Event) (event : Event) → OfOwn ids journal event → ((id : Id12) → MayDrawObject source id → IsFreeId journal id → IsFreeId (journal ++ event ∷ []) id) → Before source journal → Before source (journal ++ event ∷ [])
+before-own ids source journal event own free b = record {
   tidy = Each-append IsAny [] journal (event ∷ []) b.tidy (Each-one IsAny journal event own.tidy);
   so_far = own.after;
-  free = λ other m.
-      let differs : id ≢ other = λ e. object-spent source id drawn (subst (MayDrawObject (after12 source)) (sym e) m) in
-      free-beside journal event key bytes why id other is under differs (b.free other (object-later source (after12 source) other (later-drawn12 source) m));
+  free = λ id m. free id m (b.free id m);
 }
+
+-- a put under an id that the source doesn't draw
+pub before-under : (ids source : AnyIds) (journal : List Event) (event : Event) (key : Key) (bytes : List ℕ) (why : Why) (id : Id12) → OfOwn ids journal event → event.op ≡ PutNew key bytes why → id_of key ≡ Some id → ((other : Id12) → MayDrawObject source other → id ≢ other) → Before source journal
+    → Before source (journal ++ event ∷ [])
+before-under ids source journal event key bytes why id own is under differs b =
+    before-own ids source journal event own (λ other m f. free-beside journal event key bytes why id other is under (differs other m) f) b
+
+-- what was drawn isn't drawn again
+pub spent-differs : (source : AnyIds) (id : Id12) → drawn12 source ≡ Some id → (other : Id12) → MayDrawObject (after12 source) other → id ≢ other
+spent-differs source id drawn other m e = object-spent source id drawn (subst (MayDrawObject (after12 source)) (sym e) m)
+
+-- a put under the next id
+pub before-put : (ids source : AnyIds) (journal : List Event) (event : Event) (key : Key) (bytes : List ℕ) (why : Why) (id : Id12) → OfOwn ids journal event → event.op ≡ PutNew key bytes why → id_of key ≡ Some id → drawn12 source ≡ Some id → Before source journal → Before (after12 source) (journal ++ event ∷ [])
+before-put ids source journal event key bytes why id own is under drawn b =
+    before-under ids (after12 source) journal event key bytes why id own is under (spent-differs source id drawn) (before-later source (after12 source) journal (later-drawn12 source) b)
+
+-- a branch that is put over
+pub before-over : (ids source : AnyIds) (journal : List Event) (event : Event) (branch bytes : List ℕ) (old : Version) (why : Why) → OfOwn ids journal event → event.op ≡ PutOver (Branch branch) bytes old why → Before source journal → Before source (journal ++ event ∷ [])
+before-over ids source journal event branch bytes old why own is b =
+    before-own ids source journal event own (λ id m f. record {
+      snapshot = free-apart (Snapshot id) journal event (ap (is_on (Snapshot id)) is) f.snapshot;
+      log = free-apart (Txn id) journal event (ap (is_on (Txn id)) is) f.log;
+      manifest = free-apart (Manifest id) journal event (ap (is_on (Manifest id)) is) f.manifest;
+      chunk = free-apart (Chunk id) journal event (ap (is_on (Chunk id)) is) f.chunk;
+    }) b
 
 pub drawn-now : (source : AnyIds) (id : Id12) → drawn12 source ≡ Some id → MayDrawObject source id
 drawn-now source id d = object-drawn source source id (later-same source) d

@@ -27,7 +27,7 @@ use Rattle.play_outcome.specs.declared.outcome.Outcome.{Outcome}
 use Rattle.play_outcome.specs.declared.outcome.RefLine.{RefLine}
 use Rattle.play_tasks.specs.Tasks.{IsOfClient}
 use Rattle.run_histories.specs.Sources.{IsNewRun}
-use Rattle.run_histories.specs.Runs.{RanAlone, PlayedAlone, IsSound}
+use Rattle.run_histories.specs.Runs.{RanAlone, PlayedAlone, IsSound, IsRun}
 use Rattle.run_histories.specs.Told.{HasHistories, RunLaw}
 use Rattle.play_course.specs.declared.course.Played.{Played}
 use Rattle.play_course.specs.Course.{Course, OnlyBegan, Plays}
@@ -35,7 +35,7 @@ use Rattle.play_course.specs.Leaving.{TellsEnds, LeavesBranches}
 use Rattle.play_course.proofs.Playing.{tells-on}
 
 -- ---- the parts of a run
-ran-alone : {A : Type 0} (p : Program A) (result : Result A Refusal) (old new : View) → IsTrue old.caller.tells → HasAll old.caller → Runs old new p result → RanAlone p old.seen new.seen
+pub ran-alone : {A : Type 0} (p : Program A) (result : Result A Refusal) (old new : View) → IsTrue old.caller.tells → HasAll old.caller → Runs old new p result → RanAlone p old.seen new.seen
 ran-alone p result old new told all r = elim r.ends [
   | inl path ↦ record { own = r.own; is = (r.alone told all).is; good = (r.alone told all).good; left = Done result; path = path }
   | inr cut ↦ record { own = r.own; is = (r.alone told all).is; good = (r.alone told all).good; left = cut.left; path = cut.path }
@@ -93,23 +93,31 @@ ran-told result old new law told all r lines e = elim r.ends [
 ]
 
 -- ---- the run
-pub course-leaves : RunLaw → RefsLaw → (draw : Draw) (script : Script) (old new : View) (opening : Result (Unit {0}) Refusal) (outcomes : List Outcome) (refs : Result (List RefLine) Refusal) → length script.tasks < 2 ^ 32 - 1 → All IsWellTask script.tasks
-    → Course draw script old new opening outcomes refs → IsTrue old.caller.tells → (before : ℕ → Changes) → IsSound old.seen before → IsNewRun draw script.tasks old.seen → LeavesBranches draw script.tasks before old.seen new.seen refs
-course-leaves run closing draw script old new opening outcomes refs few wells c t before sound new_run =
+-- the opening, the tasks and the closing reading are a run
+pub course-run : (draw : Draw) (script : Script) (old new : View) (opening : Result (Unit {0}) Refusal) (outcomes : List Outcome) (refs : Result (List RefLine) Refusal) → length script.tasks < 2 ^ 32 - 1 → All IsWellTask script.tasks
+    → Course draw script old new opening outcomes refs → IsTrue old.caller.tells → IsRun draw script.tasks old.seen new.seen
+course-run draw script old new opening outcomes refs few wells c t =
     let all : HasAll (as_client 0 old).caller = record { low = c.alone.low; end = c.alone.end } in
     let begun_tells : IsTrue c.begun.caller.tells = subst (λ (b : Caller). IsTrue b.tells) (sym c.begins.same) t in
     let played_tells : IsTrue c.played.caller.tells = tells-on draw script c.begun c.played opening outcomes c.plays begun_tells in
     let last_all : HasAll (as_client 0 c.played).caller = record { low = c.still_alone.low; end = c.still_alone.end } in
-    let first = ran-alone begin_program opening (as_client 0 old) c.begun t all c.begins in
-    let h = run draw script.tasks before old.seen new.seen sound new_run (record {
+    record {
       few = few;
       well = wells;
       begun = c.begun.seen;
       played = c.played.seen;
-      opening = first;
+      opening = ran-alone begin_program opening (as_client 0 old) c.begun t all c.begins;
       playing = plays-alone draw script c.begun c.played opening outcomes begun_tells c.plays;
       closing = ran-alone refs_program refs (as_client 0 c.played) new played_tells last_all c.reads;
-    }) in
+    }
+
+pub course-leaves : RunLaw → RefsLaw → (draw : Draw) (script : Script) (old new : View) (opening : Result (Unit {0}) Refusal) (outcomes : List Outcome) (refs : Result (List RefLine) Refusal) → length script.tasks < 2 ^ 32 - 1 → All IsWellTask script.tasks
+    → Course draw script old new opening outcomes refs → IsTrue old.caller.tells → (before : ℕ → Changes) → IsSound old.seen before → IsNewRun draw script.tasks old.seen → LeavesBranches draw script.tasks before old.seen new.seen refs
+course-leaves run closing draw script old new opening outcomes refs few wells c t before sound new_run =
+    let begun_tells : IsTrue c.begun.caller.tells = subst (λ (b : Caller). IsTrue b.tells) (sym c.begins.same) t in
+    let played_tells : IsTrue c.played.caller.tells = tells-on draw script c.begun c.played opening outcomes c.plays begun_tells in
+    let last_all : HasAll (as_client 0 c.played).caller = record { low = c.still_alone.low; end = c.still_alone.end } in
+    let h = run draw script.tasks before old.seen new.seen sound new_run (course-run draw script old new opening outcomes refs few wells c t) in
     record {
       histories = h;
       told = λ lines e. told-ends h.changes new.seen lines h.stand (ran-told refs (as_client 0 c.played) new closing played_tells last_all c.reads lines e);

@@ -7,6 +7,8 @@ mod Holding
 mod Reading
 mod Placing
 mod Committing
+mod Rebasing
 mod Tasks
 mod Edges
+mod Hiding
 mod Whole

@@ -1,5 +1,5 @@
 -- What tasks answer in a run over an empty store.
-use Rattle.std.proofs.Common.{◌≡◌, ◌⊎◌, inl, inr, ℕ, Bool, true, false, List, [], ◌∷◌, ◌++◌, refl, sym, ◌∙◌, ap, subst}
+use Rattle.std.proofs.Common.{◌≡◌, ◌⊎◌, inl, inr, ℕ, zero, suc, Bool, true, false, List, [], ◌∷◌, ◌++◌, refl, sym, ◌∙◌, ap, subst}
 use Rattle.std.specs.Prelude.{Option, Some, None, option_map, ok_or, Result, Ok, Err}
 use Rattle.std.specs.FinMap.{get}
 use Rattle.ice_ids.specs.declared.Id8.{Id8}
@@ -17,17 +17,19 @@ use Rattle.zarr_tree.specs.Nodes.{Node}
 use Rattle.zarr_tree.specs.declared.edit.EditFault.{EditFault}
 use Rattle.snapshot_file.specs.declared.snapshot.SnapshotFile.{SnapshotFile}
 use Rattle.repo_objects.specs.declared.bad.Bad.{Bad}
+use Rattle.repo_objects.specs.Laws.{SnapshotLaw}
 use Rattle.repo_objects.specs.Readings.{read_snapshot, read_ref}
 use Rattle.store_api.specs.declared.keys.Key.{Key}
 use Rattle.store_api.specs.declared.keys.Key.TheVariants.{Snapshot, Branch}
 use Rattle.store_api.specs.declared.events.Op.TheVariants.{Get}
 use Rattle.store_api.specs.declared.events.Event.{Event}
+use Rattle.store_api.specs.declared.events.Version.{Version}
 use Rattle.store_api.specs.declared.machines.Refusal.{Refusal}
 use Rattle.store_api.specs.declared.machines.Refusal.TheVariants as R
 use Rattle.store_api.specs.Machine.{found, version_at}
 use Rattle.store_api.specs.Journal.{Each, WasPut}
 use Rattle.store_api.specs.Program.{Done}
-use Rattle.store_api.specs.Plays.{call}
+use Rattle.store_api.specs.Plays.{Play, call}
 use Rattle.store_api.proofs.Journals.{Each-one}
 use Rattle.store_api.proofs.Slots.{WasPut-append}
 use Rattle.session.specs.declared.session.Listing.{Listing}
@@ -37,17 +39,17 @@ use Rattle.repo_read.specs.Answers.{at_key, resolved_at, ref_told, snapshot_told
 use Rattle.session.specs.Sessions.{SessionState, nodes_seen}
 use Rattle.session.specs.Opening.{Asked, open_program, base_program, begun}
 use Rattle.session.specs.Editing as session
-use Rattle.commit_path.specs.declared.commit.Committed.{Committed as Made}
 use Rattle.play_script.specs.declared.scripts.Call.{Call}
 use Rattle.play_script.specs.declared.scripts.Call.TheVariants.{Edit, Read, Commit}
 use Rattle.play_script.specs.declared.scripts.EditCall.{EditCall}
 use Rattle.play_script.specs.declared.scripts.ReadCall.{ReadCall}
+use Rattle.play_script.specs.declared.scripts.Head.{Head}
 use Rattle.play_script.specs.declared.scripts.Line.{Line}
 use Rattle.play_script.specs.declared.scripts.Task.{Task}
 use Rattle.play_outcome.specs.declared.outcome.Shown.{Shown}
+use Rattle.play_outcome.specs.declared.outcome.End.{End}
 use Rattle.play_outcome.specs.declared.outcome.End.TheVariants as E
 use Rattle.play_outcome.specs.declared.outcome.Outcome.{Outcome}
-use Rattle.play_course.specs.Refusing.{is_strange, strange_answer, strange_end}
 use Rattle.std.specs.Prelude.{All}
 use Rattle.std.proofs.lemmas.List.Elements.{All-head, All-tail}
 use Rattle.zarr_changes.specs.Sets.{add_refusal, text_refusal, drop_refusal, unset_refusal}
@@ -62,7 +64,13 @@ use Rattle.session.specs.Chunks.{set_program, get_program, chunk_unset, without_
 use Rattle.commit_path.specs.Laws.{TellsFaults}
 use Rattle.commit_path.specs.Opened.{IsOpened}
 use Rattle.commit_path.specs.Single.{PutsSnapshot}
+use Rattle.commit_path.specs.declared.commit.Tried.{Tried}
+use Rattle.commit_path.specs.declared.commit.Tried.TheVariants.{Done as Was_done, Lost}
 use Rattle.commit_path.specs.Committing.{commit_program}
+use Rattle.conflicts.specs.declared.solving.Policy.{Policy}
+use Rattle.rebase.specs.declared.machine.Rebased.{Rebased}
+use Rattle.rebase.specs.declared.machine.Rebased.TheVariants.{Moved, UpToDate}
+use Rattle.rebase.specs.Rebasing.{rebase_program}
 use Rattle.commit_path.proofs.Knowing.{tree-by_rows, rows-kept}
 use Rattle.commit_path.proofs.Editing.{node-added, text-set, node-dropped, added-opened, set-opened, dropped-opened}
 use Rattle.commit_path.proofs.Setting.{chunk-unset, without-opened}
@@ -71,26 +79,27 @@ use Rattle.play_script.specs.declared.scripts.ReadCall.TheVariants.{List as List
 use Rattle.play_script.specs.Well.{IsWellLine, IsWellTask}
 use Rattle.zarr_keys.specs.Keys.{session_of, meta_value, put_over, erased_at, key_erased}
 use Rattle.play_tasks.specs.Lines.{deed, edit_deed, read_deed, edited, read_by, silent, still, nodes_shown, meta_shown, value_shown, key_shown, chunk_key_shown, key_set_deed, key_get_deed, filled, Goes}
-use Rattle.play_tasks.specs.Playing.{Rest, after_line, after_commit, after_open, shown_by, play_deed, play_lines, refused, asked_by, task_play}
+use Rattle.play_tasks.specs.Playing.{Rest, after_line, after_commit, after_rebase, after_open, shown_by, commit_play, tries_of, policy_of, play_deed, play_lines, refused, asked_by, task_play}
 use Rattle.run_histories.specs.Sources.{NodesAreNew}
 use Rattle.run_histories.proofs.Drawing.{AreOf, edited-draws, text-draws, taken-draws, head-ids}
 use Rattle.run_histories.proofs.Edits.{Edits, edit-later, edit-goes, edit-base, own-stay}
 use Rattle.run_histories.proofs.Editing.{Leads, call-leads, begun-goes}
-use Rattle.play_course.specs.Refusing.{is_strange, strange_answer, strange_end}
+use Rattle.play_course.specs.Refusing.{is_strange}
 use Rattle.play_course.proofs.Tidy.{stands-readable, put-stands, all-named}
-use Rattle.play_course.proofs.Meeting.{was-read, Plain, Meets, PlayMeets, done-meets, ask-meets, ended-meets, or-meets, call-meets, got-meets}
+use Rattle.play_course.proofs.Meeting.{was-read, Meets, PlayMeets, done-meets, ask-meets, ended-meets, or-meets, call-meets, got-meets}
 use Rattle.play_course.proofs.Knowing.{OfOthers, OfOwn, Before, beside, before-others, before-got, before-later, nodes-others}
-use Rattle.play_course.proofs.Holding.{Held}
+use Rattle.play_course.proofs.Holding.{Held, MayCommit, held-may}
 use Rattle.play_course.proofs.Reading.{edit-plain, ReadWell, get-meets}
 use Rattle.play_course.proofs.Placing.{SetWell, set-meets}
-use Rattle.play_course.proofs.Committing.{commit-meets}
+use Rattle.play_course.proofs.Committing.{CommitsWell, commit-meets}
+use Rattle.play_course.proofs.Rebasing.{IsFine, RebasesWell, rebase-meets}
 
 -- ---- the calls of sessions that need no operation
 -- no refusal of this result is strange
 abbrev pub IsPlain : {A : Type 0} → Result A Refusal → Type 0
 IsPlain {A} r = (why : Refusal) → ◌≡◌ {A = Result A Refusal} r (Err why) → is_strange why ≡ false
 
-refused_as : {A : Type 0} (why given : Refusal) → is_strange given ≡ false → ◌≡◌ {A = Result A Refusal} (Err given) (Err why) → is_strange why ≡ false
+pub refused_as : {A : Type 0} (why given : Refusal) → is_strange given ≡ false → ◌≡◌ {A = Result A Refusal} (Err given) (Err why) → is_strange why ≡ false
 refused_as why given plain e = let same : given ≡ why = cc in subst (λ (w : Refusal). is_strange w ≡ false) same plain
 
 drawn-plain : (s : SessionState) (path text : List ℕ) (o : Option Id8) → IsPlain (drawn_node s path text o)
@@ -141,7 +150,7 @@ unset-plain s path index =
     let r : Result SessionState Refusal = unless_refused (unset_refusal (nodes_seen s) path index) (Ok (without_chunk s path index)) in
     writes-plain s.writes r (unless-plain (unset_refusal (nodes_seen s) path index) (Ok (without_chunk s path index)) (done-plain (without_chunk s path index)))
 
-put-plain : (o : Option Node) (s : SessionState) (path text : List ℕ) → IsPlain (put_over o s path text)
+pub put-plain : (o : Option Node) (s : SessionState) (path text : List ℕ) → IsPlain (put_over o s path text)
 put-plain (Some node) s path text = set-plain s path text
 put-plain None s path text = added-plain node_fault s path text
 
@@ -154,7 +163,7 @@ key-plain : (s : SessionState) (key : List ℕ) → IsPlain (key_erased s key)
 unfolding key_erased
 key-plain s key = erased-plain (key_of key) s
 
-edited-plain : (edit : EditCall) (s : SessionState) → IsPlain (edited edit s)
+pub edited-plain : (edit : EditCall) (s : SessionState) → IsPlain (edited edit s)
 edited-plain (Group path) s = added-plain group_fault s path group_text
 edited-plain (Array path text) s = added-plain array_fault s path text
 edited-plain (Make path text) s = added-plain node_fault s path text
@@ -181,7 +190,7 @@ meta-plain line None why e = refused_as why R.NoNode refl e
 shown-plain : (shown : List Shown) → IsPlain {A = List Shown} (Ok shown)
 shown-plain shown why e = cc
 
-read-plain : (line : ℕ) (look : ReadCall) (s : SessionState) → IsPlain (read_by line look s)
+pub read-plain : (line : ℕ) (look : ReadCall) (s : SessionState) → IsPlain (read_by line look s)
 read-plain line (List_call path) s = nodes-plain line (listed s path) (there-plain _ _)
 read-plain line (Chunk_call path index) s = shown-plain []
 read-plain line (KeyGet key) s = shown-plain []
@@ -220,6 +229,12 @@ edited-known (Fill path index byte) s t journal e o = same-known s t journal e o
 edited-known (Unset path index) s t journal e o = without-opened s t path index journal (chunk-unset s t path index e) o
 edited-known (KeySet key bytes) s t journal e o = same-known s t journal e o
 edited-known (KeyErase key) s t journal e o = key-known key s t journal e o
+
+-- a task ends by no strange refusal but one that says that a log hides a node
+abbrev pub EndsFine : End → Type 0
+EndsFine (E.Committed id) = Unit {0}
+EndsFine E.Done = Unit {0}
+EndsFine (E.Refused line why) = IsFine why
 
 module _ (client : ℕ) (ids : AnyIds) where
   abbrev Knows : SessionState → List Event → Type 0
@@ -331,14 +346,17 @@ module _ (client : ℕ) (ids : AnyIds) where
 
   -- ---- the lines of a task
   abbrev Ends : Outcome → Type 0
-  Ends o = strange_end o.end ≡ false
+  Ends o = EndsFine o.end
 
   -- what follows a line, on a session of which this is known
   abbrev GoesOn : Rest → Type 0
   GoesOn rest = (s : SessionState) (shown : List Shown) (journal : List Event) → Held client ids s journal → PlayMeets Ends (beside client ids) (rest s shown) journal
 
+  refused-fine : (line : ℕ) (shown : List Shown) (why : Refusal) (journal : List Event) → IsFine why → PlayMeets Ends (beside client ids) (refused line shown why) journal
+  refused-fine line shown why journal p = ended-meets Ends (beside client ids) (record { shown = shown; end = E.Refused line why }) journal p
+
   refused-meets : (line : ℕ) (shown : List Shown) (why : Refusal) (journal : List Event) → is_strange why ≡ false → PlayMeets Ends (beside client ids) (refused line shown why) journal
-  refused-meets line shown why journal p = ended-meets Ends (beside client ids) (record { shown = shown; end = E.Refused line why }) journal p
+  refused-meets line shown why journal p = refused-fine line shown why journal (inl p)
 
   edit-meets : (line : ℕ) (shown : List Shown) (edit : EditCall) (s : SessionState) (rest : Rest) (journal : List Event) → Held client ids s journal → GoesOn rest → Leads (Goes (silent (edited edit s))) s → (r : Result SessionState Refusal) → edited edit s ≡ r
       → PlayMeets Ends (beside client ids) (after_line line shown (silent r) rest) journal
@@ -369,70 +387,99 @@ module _ (client : ℕ) (ids : AnyIds) where
   get-goes line shown s show rest go (Ok value) journal h = go s _ journal h
   get-goes line shown s show rest go (Err why) journal p = refused-meets line shown why journal p
 
-  answered-meets : (line : ℕ) (shown : List Shown) (r : Result Made Refusal) (journal : List Event) → strange_answer r ≡ false → PlayMeets Ends (beside client ids) (after_commit line shown r) journal
-  answered-meets line shown (Ok made) journal p = ended-meets Ends (beside client ids) (record { shown = shown; end = E.Committed made.id }) journal refl
-  answered-meets line shown (Err why) journal p = refused-meets line shown why journal p
+  -- ---- commits
+  -- what follows the answer of a commit
+  committed-meets : (line : ℕ) (shown : List Shown) (s : SessionState) (lost : Version → Option Version → AnyIds → Play Outcome) → ((old : Version) (there : Option Version) (next : AnyIds) (h : List Event) → MayCommit client (record s { ids = next }) h → PlayMeets Ends (beside client ids) (lost old there next) h)
+      → (r : Result Tried Refusal) (h : List Event) → CommitsWell client ids s r h → PlayMeets Ends (beside client ids) (after_commit line shown lost r) h
+  committed-meets line shown s lost go (Ok (Was_done made)) h q = ended-meets Ends (beside client ids) (record { shown = shown; end = E.Committed made.id }) h tt
+  committed-meets line shown s lost go (Ok (Lost old there next)) h q = go old there next h q
+  committed-meets line shown s lost go (Err why) h q = refused-meets line shown why h q
+
+  module _ (law : SnapshotLaw) where
+    -- and what follows that of a rebase
+    rebased-meets : (line : ℕ) (shown : List Shown) (policy : Policy) (s : SessionState) (again : SessionState → Play Outcome) → ((t : SessionState) (h : List Event) → MayCommit client t h → PlayMeets Ends (beside client ids) (again t) h)
+        → (r : Result Rebased Refusal) (h : List Event) → RebasesWell client ids law policy s r h → PlayMeets Ends (beside client ids) (after_rebase line shown again r) h
+    rebased-meets line shown policy s again go (Ok (Moved t count)) h q = or-meets Ends (beside client ids) (again t) (refused line shown R.NoMemory) h (go t h q) (refused-meets line shown R.NoMemory h refl)
+    rebased-meets line shown policy s again go (Ok (UpToDate t)) h q = or-meets Ends (beside client ids) (again t) (refused line shown R.NoMemory) h (go t h q) (refused-meets line shown R.NoMemory h refl)
+    rebased-meets line shown policy s again go (Err why) h q = refused-fine line shown why h q
+
+    -- a commit, and what follows where it was lost
+    lost-meets : (line : ℕ) (shown : List Shown) (message : List ℕ) (s : SessionState) (journal : List Event) → MayCommit client s journal → (lost : Version → Option Version → AnyIds → Play Outcome)
+        → ((old : Version) (there : Option Version) (next : AnyIds) (h : List Event) → MayCommit client (record s { ids = next }) h → PlayMeets Ends (beside client ids) (lost old there next) h) → PlayMeets Ends (beside client ids) (call (commit_program s message) (after_commit line shown lost)) journal
+    lost-meets line shown message s journal k lost go =
+        call-meets Ends (beside client ids) (CommitsWell client ids s) (commit_program s message) (after_commit line shown lost) journal (commit-meets client ids s message journal k)
+        (λ r h q. committed-meets line shown s lost go r h q) (λ h. refused-meets line shown R.NoMemory h refl)
+
+    -- as often as it may be tried
+    tries-meet : (tries : ℕ) (policy : Policy) (line : ℕ) (shown : List Shown) (message : List ℕ) (s : SessionState) (journal : List Event) → MayCommit client s journal → PlayMeets Ends (beside client ids) (commit_play tries policy line shown message s) journal
+    unfolding commit_play
+    tries-meet zero policy line shown message s journal k =
+        lost-meets line shown message s journal k (λ old there next. refused line shown (R.Conflict old there)) (λ old there next h m. refused-meets line shown (R.Conflict old there) h refl)
+    tries-meet (suc tries) policy line shown message s journal k =
+        let again = λ (t : SessionState). commit_play tries policy line shown message t in
+        lost-meets line shown message s journal k (λ old there next. call (rebase_program policy (record s { ids = next })) (after_rebase line shown again)) (λ old there next h m.
+        let left : SessionState = record s { ids = next } in
+        call-meets Ends (beside client ids) (RebasesWell client ids law policy left) (rebase_program policy left) (after_rebase line shown again) h (rebase-meets client ids law policy left h m)
+        (λ r j q. rebased-meets line shown policy left again (λ t i n. tries-meet tries policy line shown message t i n) r j q) (λ j. refused-meets line shown R.NoMemory j refl))
 
   sets-meets : (line : ℕ) (shown : List Shown) (s : SessionState) (path index bytes : List ℕ) (rest : Rest) (journal : List Event) → Held client ids s journal → GoesOn rest → PlayMeets Ends (beside client ids) (call (set_program s path index bytes) (λ answer. after_line line shown (silent answer) rest)) journal
   sets-meets line shown s path index bytes rest journal h go =
       call-meets Ends (beside client ids) (SetWell client ids s path index bytes) (set_program s path index bytes) (λ answer. after_line line shown (silent answer) rest) journal (set-meets client ids s path index bytes journal h)
       (λ r j w. set-goes line shown s path index bytes rest go r j w) (λ j. refused-meets line shown R.NoMemory j refl)
 
-  key-set-meets : (line : ℕ) (bytes : List ℕ) (o : Option ZarrKey) (shown : List Shown) (s : SessionState) (rest : Rest) (journal : List Event) → Held client ids s journal → GoesOn rest → Leads (key_set_deed bytes o s) s → PlayMeets Ends (beside client ids) (play_deed line shown s (key_set_deed bytes o s) rest) journal
-  key-set-meets line bytes None shown s rest journal h go leads = refused-meets line shown R.BadKey journal refl
-  key-set-meets line bytes (Some (zarr.Meta path)) shown s rest journal h go leads = put-meets line shown (get (nodes_seen s) path) path bytes s rest journal h go leads (put_over (get (nodes_seen s) path) s path bytes) refl
-  key-set-meets line bytes (Some (zarr.Chunk path index)) shown s rest journal h go leads = sets-meets line shown s path index bytes rest journal h go
+  key-set-meets : (head : Head) (line : ℕ) (bytes : List ℕ) (o : Option ZarrKey) (shown : List Shown) (s : SessionState) (rest : Rest) (journal : List Event) → Held client ids s journal → GoesOn rest → Leads (key_set_deed bytes o s) s → PlayMeets Ends (beside client ids) (play_deed head line shown s (key_set_deed bytes o s) rest) journal
+  key-set-meets head line bytes None shown s rest journal h go leads = refused-meets line shown R.BadKey journal refl
+  key-set-meets head line bytes (Some (zarr.Meta path)) shown s rest journal h go leads = put-meets line shown (get (nodes_seen s) path) path bytes s rest journal h go leads (put_over (get (nodes_seen s) path) s path bytes) refl
+  key-set-meets head line bytes (Some (zarr.Chunk path index)) shown s rest journal h go leads = sets-meets line shown s path index bytes rest journal h go
 
-  edit-deed-meets : (line : ℕ) (edit : EditCall) (shown : List Shown) (s : SessionState) (rest : Rest) (journal : List Event) → Held client ids s journal → GoesOn rest → Leads (edit_deed edit s) s → PlayMeets Ends (beside client ids) (play_deed line shown s (edit_deed edit s) rest) journal
-  edit-deed-meets line (Group path) shown s rest journal h go leads = edit-meets line shown (Group path) s rest journal h go leads (edited (Group path) s) refl
-  edit-deed-meets line (Array path text) shown s rest journal h go leads = edit-meets line shown (Array path text) s rest journal h go leads (edited (Array path text) s) refl
-  edit-deed-meets line (Make path text) shown s rest journal h go leads = edit-meets line shown (Make path text) s rest journal h go leads (edited (Make path text) s) refl
-  edit-deed-meets line (Meta path text) shown s rest journal h go leads = edit-meets line shown (Meta path text) s rest journal h go leads (edited (Meta path text) s) refl
-  edit-deed-meets line (Drop path) shown s rest journal h go leads = edit-meets line shown (Drop path) s rest journal h go leads (edited (Drop path) s) refl
-  edit-deed-meets line (Unset path index) shown s rest journal h go leads = edit-meets line shown (Unset path index) s rest journal h go leads (edited (Unset path index) s) refl
-  edit-deed-meets line (KeyErase key) shown s rest journal h go leads = edit-meets line shown (KeyErase key) s rest journal h go leads (edited (KeyErase key) s) refl
-  edit-deed-meets line (KeySet key bytes) shown s rest journal h go leads = key-set-meets line bytes (key_of key) shown s rest journal h go leads
-  edit-deed-meets line (Set_call path index bytes) shown s rest journal h go leads = sets-meets line shown s path index bytes rest journal h go
-  edit-deed-meets line (Fill path index byte) shown s rest journal h go leads = sets-meets line shown s path index (filled s path byte) rest journal h go
+  edit-deed-meets : (head : Head) (line : ℕ) (edit : EditCall) (shown : List Shown) (s : SessionState) (rest : Rest) (journal : List Event) → Held client ids s journal → GoesOn rest → Leads (edit_deed edit s) s → PlayMeets Ends (beside client ids) (play_deed head line shown s (edit_deed edit s) rest) journal
+  edit-deed-meets head line (Group path) shown s rest journal h go leads = edit-meets line shown (Group path) s rest journal h go leads (edited (Group path) s) refl
+  edit-deed-meets head line (Array path text) shown s rest journal h go leads = edit-meets line shown (Array path text) s rest journal h go leads (edited (Array path text) s) refl
+  edit-deed-meets head line (Make path text) shown s rest journal h go leads = edit-meets line shown (Make path text) s rest journal h go leads (edited (Make path text) s) refl
+  edit-deed-meets head line (Meta path text) shown s rest journal h go leads = edit-meets line shown (Meta path text) s rest journal h go leads (edited (Meta path text) s) refl
+  edit-deed-meets head line (Drop path) shown s rest journal h go leads = edit-meets line shown (Drop path) s rest journal h go leads (edited (Drop path) s) refl
+  edit-deed-meets head line (Unset path index) shown s rest journal h go leads = edit-meets line shown (Unset path index) s rest journal h go leads (edited (Unset path index) s) refl
+  edit-deed-meets head line (KeyErase key) shown s rest journal h go leads = edit-meets line shown (KeyErase key) s rest journal h go leads (edited (KeyErase key) s) refl
+  edit-deed-meets head line (KeySet key bytes) shown s rest journal h go leads = key-set-meets head line bytes (key_of key) shown s rest journal h go leads
+  edit-deed-meets head line (Set_call path index bytes) shown s rest journal h go leads = sets-meets line shown s path index bytes rest journal h go
+  edit-deed-meets head line (Fill path index byte) shown s rest journal h go leads = sets-meets line shown s path index (filled s path byte) rest journal h go
 
   reads-meets : (line : ℕ) (show : Value → Shown) (path index : List ℕ) (shown : List Shown) (s : SessionState) (rest : Rest) (journal : List Event) → Held client ids s journal → GoesOn rest → PlayMeets Ends (beside client ids) (call (get_program s path index) (λ answer. after_line line shown (shown_by s show answer) rest)) journal
   reads-meets line show path index shown s rest journal h go =
       call-meets Ends (beside client ids) (ReadWell client ids s) (get_program s path index) (λ answer. after_line line shown (shown_by s show answer) rest) journal (get-meets client ids s path index journal h)
       (λ r j w. get-goes line shown s show rest go r j w) (λ j. refused-meets line shown R.NoMemory j refl)
 
-  key-get-meets : (line : ℕ) (o : Option ZarrKey) (shown : List Shown) (s : SessionState) (rest : Rest) (journal : List Event) → Held client ids s journal → GoesOn rest → PlayMeets Ends (beside client ids) (play_deed line shown s (key_get_deed line o s) rest) journal
-  key-get-meets line None shown s rest journal h go = refused-meets line shown R.BadKey journal refl
-  key-get-meets line (Some (zarr.Meta path)) shown s rest journal h go = go s (shown ++ key_shown line (meta_value s path) ∷ []) journal h
-  key-get-meets line (Some (zarr.Chunk path index)) shown s rest journal h go = reads-meets line (chunk_key_shown line) path index shown s rest journal h go
+  key-get-meets : (head : Head) (line : ℕ) (o : Option ZarrKey) (shown : List Shown) (s : SessionState) (rest : Rest) (journal : List Event) → Held client ids s journal → GoesOn rest → PlayMeets Ends (beside client ids) (play_deed head line shown s (key_get_deed line o s) rest) journal
+  key-get-meets head line None shown s rest journal h go = refused-meets line shown R.BadKey journal refl
+  key-get-meets head line (Some (zarr.Meta path)) shown s rest journal h go = go s (shown ++ key_shown line (meta_value s path) ∷ []) journal h
+  key-get-meets head line (Some (zarr.Chunk path index)) shown s rest journal h go = reads-meets line (chunk_key_shown line) path index shown s rest journal h go
 
-  read-deed-meets : (line : ℕ) (look : ReadCall) (shown : List Shown) (s : SessionState) (rest : Rest) (journal : List Event) → Held client ids s journal → GoesOn rest → PlayMeets Ends (beside client ids) (play_deed line shown s (read_deed line look s) rest) journal
-  read-deed-meets line (List_call path) shown s rest journal h go = look-meets line shown s rest journal h go (read_by line (List_call path) s) (read-plain line (List_call path) s)
-  read-deed-meets line (Get_call path) shown s rest journal h go = look-meets line shown s rest journal h go (read_by line (Get_call path) s) (read-plain line (Get_call path) s)
-  read-deed-meets line (Chunk_call path index) shown s rest journal h go = reads-meets line (value_shown line) path index shown s rest journal h go
-  read-deed-meets line (KeyGet key) shown s rest journal h go = key-get-meets line (key_of key) shown s rest journal h go
+  read-deed-meets : (head : Head) (line : ℕ) (look : ReadCall) (shown : List Shown) (s : SessionState) (rest : Rest) (journal : List Event) → Held client ids s journal → GoesOn rest → PlayMeets Ends (beside client ids) (play_deed head line shown s (read_deed line look s) rest) journal
+  read-deed-meets head line (List_call path) shown s rest journal h go = look-meets line shown s rest journal h go (read_by line (List_call path) s) (read-plain line (List_call path) s)
+  read-deed-meets head line (Get_call path) shown s rest journal h go = look-meets line shown s rest journal h go (read_by line (Get_call path) s) (read-plain line (Get_call path) s)
+  read-deed-meets head line (Chunk_call path index) shown s rest journal h go = reads-meets line (value_shown line) path index shown s rest journal h go
+  read-deed-meets head line (KeyGet key) shown s rest journal h go = key-get-meets head line (key_of key) shown s rest journal h go
 
-  deed-meets : (line : ℕ) (made : Call) (shown : List Shown) (s : SessionState) (rest : Rest) (journal : List Event) → Held client ids s journal → GoesOn rest → Leads (deed line made s) s → PlayMeets Ends (beside client ids) (play_deed line shown s (deed line made s) rest) journal
-  deed-meets line (Edit edit) shown s rest journal h go leads = edit-deed-meets line edit shown s rest journal h go leads
-  deed-meets line (Read look) shown s rest journal h go leads = read-deed-meets line look shown s rest journal h go
-  deed-meets line (Commit message) shown s rest journal h go leads =
-      call-meets Ends (beside client ids) Plain (commit_program s message) (after_commit line shown) journal (commit-meets client ids s message journal h.before h.known h.opened)
-      (λ r j plain. answered-meets line shown r j plain) (λ j. answered-meets line shown (Err R.NoMemory) j refl)
+  deed-meets : (law : SnapshotLaw) (head : Head) (line : ℕ) (made : Call) (shown : List Shown) (s : SessionState) (rest : Rest) (journal : List Event) → Held client ids s journal → GoesOn rest → Leads (deed line made s) s → PlayMeets Ends (beside client ids) (play_deed head line shown s (deed line made s) rest) journal
+  deed-meets law head line (Edit edit) shown s rest journal h go leads = edit-deed-meets head line edit shown s rest journal h go leads
+  deed-meets law head line (Read look) shown s rest journal h go leads = read-deed-meets head line look shown s rest journal h go
+  deed-meets law head line (Commit message) shown s rest journal h go leads = tries-meet law (tries_of head) (policy_of head) line shown message s journal (held-may client ids s journal h)
 
-  lines-meets : (lines : List Line) → All IsWellLine lines → (s : SessionState) (shown : List Shown) (journal : List Event) → Held client ids s journal → PlayMeets Ends (beside client ids) (play_lines lines s shown) journal
+  lines-meets : (law : SnapshotLaw) (head : Head) (lines : List Line) → All IsWellLine lines → (s : SessionState) (shown : List Shown) (journal : List Event) → Held client ids s journal → PlayMeets Ends (beside client ids) (play_lines head lines s shown) journal
   unfolding play_lines
-  lines-meets [] well s shown journal h = ended-meets Ends (beside client ids) (record { shown = shown; end = E.Done }) journal refl
-  lines-meets (l ∷ ls) well s shown journal h =
-      or-meets Ends (beside client ids) (play_deed l.number shown s (deed l.number l.call s) (play_lines ls)) (refused l.number shown R.NoMemory) journal
-      (deed-meets l.number l.call shown s (play_lines ls) journal h (λ t more j k. lines-meets ls (All-tail IsWellLine l ls well) t more j k) (call-leads l.number l.call s (All-head IsWellLine l ls well).call))
+  lines-meets law head [] well s shown journal h = ended-meets Ends (beside client ids) (record { shown = shown; end = E.Done }) journal tt
+  lines-meets law head (l ∷ ls) well s shown journal h =
+      or-meets Ends (beside client ids) (play_deed head l.number shown s (deed l.number l.call s) (play_lines head ls)) (refused l.number shown R.NoMemory) journal
+      (deed-meets law head l.number l.call shown s (play_lines head ls) journal h (λ t more j k. lines-meets law head ls (All-tail IsWellLine l ls well) t more j k) (call-leads l.number l.call s (All-head IsWellLine l ls well).call))
       (refused-meets l.number shown R.NoMemory journal refl)
 
-  opened-meets : (task : Task) → IsWellTask task → (known : AreOf client ids) (r : Result SessionState Refusal) (journal : List Event) → Opens known (asked_by task.head ids) (head-ids task.head ids) r journal → PlayMeets Ends (beside client ids) (after_open task r) journal
-  opened-meets task well known (Ok s) journal h = lines-meets task.body well.body s [] journal h
-  opened-meets task well known (Err why) journal p = refused-meets task.line [] why journal p
+  opened-meets : (law : SnapshotLaw) (task : Task) → IsWellTask task → (known : AreOf client ids) (r : Result SessionState Refusal) (journal : List Event) → Opens known (asked_by task.head ids) (head-ids task.head ids) r journal → PlayMeets Ends (beside client ids) (after_open task r) journal
+  opened-meets law task well known (Ok s) journal h = lines-meets law task.head task.body well.body s [] journal h
+  opened-meets law task well known (Err why) journal p = refused-meets task.line [] why journal p
 
-  -- a task of this client is never refused so
-  pub task-meets : (task : Task) → IsWellTask task → (journal : List Event) → AreOf client ids → Before ids journal → NodesAreNew ids journal → PlayMeets (λ o. strange_end o.end ≡ false) (beside client ids) (task_play ids task) journal
-  task-meets task well journal known before nodes =
+  -- a task of this client is refused as it may be, or by a log that hides a node
+  pub task-meets : (law : SnapshotLaw) (task : Task) → IsWellTask task → (journal : List Event) → AreOf client ids → Before ids journal → NodesAreNew ids journal → PlayMeets (λ o. EndsFine o.end) (beside client ids) (task_play ids task) journal
+  task-meets law task well journal known before nodes =
       call-meets Ends (beside client ids) (Opens known (asked_by task.head ids) (head-ids task.head ids)) (open_program (asked_by task.head ids)) (after_open task) journal
       (open-meets known (asked_by task.head ids) (head-ids task.head ids) journal (record { before = before; nodes = nodes }))
-      (λ r j o. opened-meets task well known r j o) (λ j. refused-meets task.line [] R.NoMemory j refl)
+      (λ r j o. opened-meets law task well known r j o) (λ j. refused-meets task.line [] R.NoMemory j refl)

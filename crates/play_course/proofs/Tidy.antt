@@ -1,6 +1,7 @@
 -- What stands in the journal of a run over an empty store.
-use Rattle.std.proofs.Common.{◌≡◌, ◌≢◌, ℕ, ◌⊎◌, inl, inr, true, false, List, [], ◌∷◌, ◌++◌, length, sym, ap, subst, append_assoc, append-nil}
-use Rattle.std.specs.Prelude.{Some, None}
+use Rattle.std.proofs.Common.{◌≡◌, ◌≢◌, ℕ, ◌⊎◌, inl, inr, true, false, List, [], ◌∷◌, ◌++◌, length, sym, ◌∙◌, ap, subst, append_assoc, append-nil}
+use Rattle.std.specs.Prelude.{Option, Some, None}
+use Rattle.std.specs.Option.{option_or}
 use Rattle.ice_ids.specs.declared.Id12.{Id12}
 use Rattle.ice_ids.specs.Text.{initial_id}
 use Rattle.snapshot_file.specs.declared.snapshot.SnapshotFile.{SnapshotFile}
@@ -143,6 +144,38 @@ unused-none key e = ap (λ (s : Slot). s.first) (slot-none key)
 
 all-unused : (key : Key) (journal : List Event) → Each IsAny [] journal → IsUnused journal key
 all-unused key journal tidy = along IsAny (λ h. IsUnused h key) (λ h event t u. unused-one h event key (puts-keep (λ i. Unit {0}) event.op t.puts) u) [] journal tidy (unused-none key)
+
+-- what stands was put first, where it isn't put over
+abbrev IsFirstPut : Slot → Type 0
+IsFirstPut slot = (s : Stored) → slot.stands ≡ Some s → slot.first ≡ Some s.bytes
+
+put-first : (n time : ℕ) (bytes : List ℕ) (slot : Slot) → slot.first ≡ None → IsFirstPut (put_at n time bytes slot)
+put-first n time bytes slot none s e = let same : bytes ≡ s.bytes = cc in ap (λ (o : Option (List ℕ)). option_or o (Some bytes)) none ∙ ap (λ (b : List ℕ). Some b) same
+
+leaves-first : (key : Key) → ¬ PutsOver key → (n time : ℕ) (op : Op) (slot : Slot) → (slot.stands ≡ None → slot.first ≡ None) → Puts (λ i. Unit {0}) op → is_on key op ≡ true → IsFirstPut slot → IsFirstPut (leaves n time op slot)
+leaves-first key never n time (Get k) slot unused p on f = f
+leaves-first key never n time (ListPart part) slot unused p on f = f
+leaves-first key never n time (PutNew k bytes why) slot unused p on f = free-cases IsFirstPut slot.stands (put_at n time bytes slot) slot f (λ free. put-first n time bytes slot (unused free))
+leaves-first key never n time (PutOver k bytes old why) slot unused p on f = absurd (never (subst PutsOver (same_key-true k key on) p))
+leaves-first key never n time (Remove k why) slot unused p on f = absurd p
+leaves-first key never n time (RemoveAt k old why) slot unused p on f = absurd p
+
+record WasPutFirst (key : Key) (journal : List Event) : Type 0 where
+  unused : IsUnused journal key
+  first : IsFirstPut (slot_of journal key)
+
+first-one : (key : Key) → ¬ PutsOver key → (journal : List Event) (event : Event) → IsAny journal event → WasPutFirst key journal → WasPutFirst key (journal ++ event ∷ [])
+first-one key never journal event t w = record {
+  unused = unused-one journal event key (puts-keep (λ i. Unit {0}) event.op t.puts) w.unused;
+  first = subst IsFirstPut (sym (slot-append_one journal event key))
+      (effect-cases IsFirstPut key (length journal) (slot_of journal key) event w.first (λ on done. leaves-first key never (length journal) event.time event.op (slot_of journal key) w.unused t.puts on w.first));
+}
+
+first-none : (key : Key) → WasPutFirst key []
+first-none key = record { unused = unused-none key; first = subst IsFirstPut (sym (slot-none key)) (λ s e. absurd cc) }
+
+pub stands-first : (key : Key) → ¬ PutsOver key → (journal : List Event) (s : Stored) → Each IsAny [] journal → found journal key ≡ Some s → first_put journal key ≡ Some s.bytes
+stands-first key never journal s tidy e = (along IsAny (WasPutFirst key) (first-one key never) [] journal tidy (first-none key)).first s e
 
 pub put-stands : (key : Key) (journal : List Event) → Each IsAny [] journal → WasPut journal key → found journal key ≢ None
 put-stands key journal tidy put none = let first : first_put journal key ≡ None = all-unused key journal tidy none in let was = put.1 in absurd cc

@@ -1,6 +1,6 @@
 -- A run over an empty store gives no strange refusal.
 use Rattle.std.proofs.Common.{◌≡◌, ◌≢◌, ℕ, ◌+◌, ◌-◌, ◌^◌, ◌<◌, ◌⊎◌, inl, inr, false, List, [], ◌∷◌, ◌++◌, length, refl, sym, ◌∙◌, ap, subst, append_assoc, append-nil, set, arith, zero-add}
-use Rattle.std.specs.Prelude.{Some, Result, Ok, Err, All, IfOk, IsTrue, slice_get}
+use Rattle.std.specs.Prelude.{◌≤◌, Some, None, Result, Ok, Err, All, IfOk, IsTrue, slice_get, get_or}
 use Rattle.std.specs.declared.alloc.AllocError.{AllocError}
 use Rattle.ice_ids.specs.declared.Id12.{Id12}
 use Rattle.ice_ids.specs.declared.drawing.AnyIds.{AnyIds}
@@ -20,7 +20,7 @@ use Rattle.store_api.proofs.Journals.{Each-append, Each-weaker, Each-both, Each-
 use Rattle.session.specs.Sessions.{SessionState}
 use Rattle.commit_path.specs.Owed.{Sessions, OwesNew, Owes}
 use Rattle.store_api.specs.Running.{Program, Runs}
-use Rattle.repo_objects.specs.Laws.{InitialLaw}
+use Rattle.repo_objects.specs.Laws.{InitialLaw, SnapshotLaw}
 use Rattle.repository.specs.Beginning.{begin_program}
 use Rattle.repository.specs.Refs.{refs_program}
 use Rattle.play_script.specs.declared.scripts.Script.{Script}
@@ -36,32 +36,34 @@ use Rattle.play_run.proofs.Places.{at_set}
 use Rattle.play_run.proofs.Rounds.{play_at, ends_of, ends_at}
 use Rattle.run_histories.proofs.Programs.{IsPlain, AllPlain, path-plain, begin-plain, refs-plain}
 use Rattle.run_histories.proofs.Drawing.{IsDrawnBy, AreOf, object-draws, drawn-apart, ids_at-of}
-use Rattle.run_histories.proofs.Editing.{task-draws}
+use Rattle.run_histories.proofs.Carrying.{task-draws}
 use Rattle.run_histories.proofs.Along.{well-at}
-use Rattle.run_histories.specs.Sources.{NodesAreNew}
-use Rattle.run_histories.proofs.Putting.{parents-begin}
+use Rattle.run_histories.specs.Sources.{NodesAreNew, IsNewRun}
+use Rattle.run_histories.specs.Runs.{IsSound, RanAlone}
+use Rattle.run_histories.specs.Told.{NoneHidden, RunLaw}
 use Rattle.run_histories.proofs.Growing.{Holds, AllNodesAreNew}
 use Rattle.run_histories.proofs.Passing.{IsOfRun, IsKnown, known-holds, known-nodes, holds-along, plain-known, plain-nodes-along, run-knows}
 use Rattle.run_histories.proofs.Joined.{nothing-law}
 use Rattle.zarr_tree.specs.Changes.{none}
 use Rattle.session.specs.Sources.{MayDrawObject}
 use Rattle.commit_path.specs.Single.{PutsNone}
-use Rattle.std.proofs.lemmas.Option.{slice_get_within}
+use Rattle.std.proofs.lemmas.Option.{slice_get_cases, slice_get_within}
 use Rattle.play_course.specs.declared.course.Played.{Played}
 use Rattle.play_course.specs.Course.{Course, Plays}
-use Rattle.play_course.specs.Refusing.{strange_answer, strange_end, NothingStrange}
+use Rattle.play_course.specs.Refusing.{strange_answer, NothingStrange}
 use Rattle.play_course.proofs.Tidy.{IsTidy, IsAny, IsOthers, Puts, PutsNew, puts-weaker, any-of, free-others, spared-snapshot, spared-log, spared-manifest, spared-chunk, nothing-stands}
 use Rattle.play_course.proofs.Meeting.{drawing, Meets, PlayMeets, meets-ended, meets-others, meets-acted, meets-starved, meets-path}
-use Rattle.play_course.proofs.Tasks.{task-meets}
+use Rattle.play_course.proofs.Tasks.{EndsFine, task-meets}
+use Rattle.play_course.proofs.Hiding.{told-plain}
 use Rattle.play_course.proofs.Knowing.{IsSoFar, IsFreeId, OfOthers, OfOwn, Before, beside}
 use Rattle.play_course.proofs.Playing.{tells-on}
-use Rattle.play_course.proofs.Leaving.{few-tasks}
+use Rattle.play_course.proofs.Leaving.{few-tasks, ran-alone, course-run}
 use Rattle.play_course.proofs.Edges.{plain-tidy, begin-meets, refs-meets}
 
 -- ---- the events of tasks
 -- an id of a client's is one that it drew
-new-puts : (ids : AnyIds) (mine : Sessions) (who : Id12 → Type 0) → ((s : SessionState) (id : Id12) → mine s id → who id) → ((id : Id12) → MayDrawObject ids id → who id) → (journal : List Event) (bytes : List ℕ) (key : Key) → OwesNew ids mine journal bytes key → PutsNew who bytes key
-new-puts ids mine who f g journal bytes (Snapshot id) o = ((o.snap, o.read), inr (f o.session id o.is_mine))
+new-puts : (ids : AnyIds) (mine : Sessions) (who : Id12 → Type 0) → ((h : List Event) (s : SessionState) (id : Id12) → mine h s id → who id) → ((id : Id12) → MayDrawObject ids id → who id) → (journal : List Event) (bytes : List ℕ) (key : Key) → OwesNew ids mine journal bytes key → PutsNew who bytes key
+new-puts ids mine who f g journal bytes (Snapshot id) o = ((o.snap, o.read), inr (f journal o.session id o.is_mine))
 new-puts ids mine who f g journal bytes (Txn id) o = g id o
 new-puts ids mine who f g journal bytes (Manifest id) o = g id o
 new-puts ids mine who f g journal bytes (Chunk id) o = g id o
@@ -69,7 +71,7 @@ new-puts ids mine who f g journal bytes (Branch name) o = absurd o
 new-puts ids mine who f g journal bytes (Tag name) o = absurd o
 new-puts ids mine who f g journal bytes (TagGone name) o = absurd o
 
-owes-puts : (ids : AnyIds) (mine : Sessions) (who : Id12 → Type 0) → ((s : SessionState) (id : Id12) → mine s id → who id) → ((id : Id12) → MayDrawObject ids id → who id) → (journal : List Event) (op : Op) → Owes ids mine journal op → Puts who op
+owes-puts : (ids : AnyIds) (mine : Sessions) (who : Id12 → Type 0) → ((h : List Event) (s : SessionState) (id : Id12) → mine h s id → who id) → ((id : Id12) → MayDrawObject ids id → who id) → (journal : List Event) (op : Op) → Owes ids mine journal op → Puts who op
 owes-puts ids mine who f g journal (Get key) o = tt
 owes-puts ids mine who f g journal (ListPart part) o = tt
 owes-puts ids mine who f g journal (PutNew key bytes why) o = new-puts ids mine who f g journal bytes key o
@@ -88,7 +90,8 @@ module _ (initial : InitialLaw) (draw : Draw) (tasks : List Task) (few : length 
   owned : (start journal : List Event) (event : Event) → (c : IsOfClient draw tasks start journal event) → IsTidy (IsDrawnBy (c.place + 1)) journal event
   owned start journal event c = record {
     good = c.careful.good;
-    puts = owes-puts (ids_at draw c.place) (IsOfTask (ids_at draw c.place) c.task) (IsDrawnBy (c.place + 1)) (λ s id m. task-draws (c.place + 1) (ids_at draw c.place) c.task s id (ids_at-of draw tasks c.place c.task few c.at) (well-at draw tasks wells c.place c.task c.at) m)
+    puts = owes-puts (ids_at draw c.place) (IsOfTask (ids_at draw c.place) c.task (c.place + 1) start) (IsDrawnBy (c.place + 1))
+        (λ h s id m. task-draws (ids_at draw c.place) c.task (c.place + 1) start h s id (well-at draw tasks wells c.place c.task c.at) m (c.place + 1) (ids_at-of draw tasks c.place c.task few c.at))
         (λ id m. object-draws (c.place + 1) (ids_at draw c.place) id (ids_at-of draw tasks c.place c.task few c.at) m) journal event.op c.careful.owes;
   }
 
@@ -110,7 +113,7 @@ module _ (initial : InitialLaw) (draw : Draw) (tasks : List Task) (few : length 
   Comes start journal event = IsOfClient draw tasks start journal event × IsKnown draw tasks few wells initial [] start journal event
 
   so-far : (journal : List Event) → Hold journal → IsSoFar journal
-  so-far journal h = record { once = h.once; trees = h.trees }
+  so-far journal h = record { once = h.once; trees = h.trees; causes = h.causes }
 
   nodes-stay : (k : ℕ) → k < length tasks → (start journal : List Event) (event : Event) → IsKnown draw tasks few wells initial [] start journal event → PutsNone (k + 1) journal event → NodesAreNew (ids_at draw k) journal → NodesAreNew (ids_at draw k) (journal ++ event ∷ [])
   nodes-stay k within start journal event known none new = known-nodes draw tasks few wells initial [] start k within journal event known none new
@@ -132,13 +135,13 @@ module _ (initial : InitialLaw) (draw : Draw) (tasks : List Task) (few : length 
   -- ---- turns
   -- the worker at a place won't be refused so
   abbrev GoesWell : ℕ → Play Outcome → List Event → Type 0
-  GoesWell k p journal = PlayMeets (λ o. strange_end o.end ≡ false) (beside (k + 1) (ids_at draw k)) p journal
+  GoesWell k p journal = PlayMeets (λ o. EndsFine o.end) (beside (k + 1) (ids_at draw k)) p journal
 
   abbrev AllWell : List (Play Outcome) → List Event → Type 0
   AllWell ps journal = (k : ℕ) (p : Play Outcome) → slice_get ps k ≡ Some p → (k < length tasks) × GoesWell k p journal
 
   well-others : (k : ℕ) (p : Play Outcome) (old : List Event) (event : Event) → OfOthers (k + 1) (ids_at draw k) old event → GoesWell k p old → GoesWell k p (old ++ event ∷ [])
-  well-others k p old event o m = meets-others (λ x. strange_end x.end ≡ false) (beside (k + 1) (ids_at draw k)) p old (event ∷ []) (Each-one (OfOthers (k + 1) (ids_at draw k)) old event o) m
+  well-others k p old event o m = meets-others (λ x. EndsFine x.end) (beside (k + 1) (ids_at draw k)) p old (event ∷ []) (Each-one (OfOthers (k + 1) (ids_at draw k)) old event o) m
 
   well-nothing : (ps : List (Play Outcome)) (old events : List Event) → events ≡ [] → AllWell ps old → AllWell ps (old ++ events)
   well-nothing ps old events e all = subst (λ (xs : List Event). AllWell ps (old ++ xs)) (sym e) (subst (λ (h : List Event). AllWell ps h) (sym (append-nil old)) all)
@@ -148,7 +151,7 @@ module _ (initial : InitialLaw) (draw : Draw) (tasks : List Task) (few : length 
       let p : Play Outcome = Ask a.event.op a.starved a.next in
       let c : Comes start old a.event = (Each-two (Comes start) old a.event [] (subst (λ (xs : List Event). Each (Comes start) old xs) a.one each)).0 in
       let here = all t p a.at in
-      let mine : (t < length tasks) × GoesWell t a.q (old ++ a.event ∷ []) = (here.0, meets-acted (λ o. strange_end o.end ≡ false) (beside (t + 1) (ids_at draw t)) a.event.op a.starved a.next a.q old a.event (by-itself t here.0 start old a.event c) refl a.comes here.1) in
+      let mine : (t < length tasks) × GoesWell t a.q (old ++ a.event ∷ []) = (here.0, meets-acted (λ o. EndsFine o.end) (beside (t + 1) (ids_at draw t)) a.event.op a.starved a.next a.q old a.event (by-itself t here.0 start old a.event c) refl a.comes here.1) in
       let set_all : AllWell (set ps t a.q) (old ++ a.event ∷ []) = at_set (λ k p. (k < length tasks) × GoesWell k p (old ++ a.event ∷ [])) ps t p a.q a.at mine
       (λ k p differs at. let there = all k p at in (there.0, well-others k p old a.event (by-other k there.0 start old a.event (λ e. differs (next_same k t (sym a.client ∙ e))) c) there.1)) in
       subst (λ (xs : List Event). AllWell qs (old ++ xs)) (sym a.one) (subst (λ (xs : List (Play Outcome)). AllWell xs (old ++ a.event ∷ [])) (sym a.rest) set_all)
@@ -160,7 +163,7 @@ module _ (initial : InitialLaw) (draw : Draw) (tasks : List Task) (few : length 
   well-starved t ps qs old events s all =
       let p : Play Outcome = Ask s.op s.starved s.next in
       let here = all t p s.at in
-      let mine : (t < length tasks) × GoesWell t s.q old = (here.0, meets-starved (λ o. strange_end o.end ≡ false) (beside (t + 1) (ids_at draw t)) s.op s.starved s.next s.q old s.comes here.1) in
+      let mine : (t < length tasks) × GoesWell t s.q old = (here.0, meets-starved (λ o. EndsFine o.end) (beside (t + 1) (ids_at draw t)) s.op s.starved s.next s.q old s.comes here.1) in
       let set_all : AllWell (set ps t s.q) old = at_set (λ k p. (k < length tasks) × GoesWell k p old) ps t p s.q s.at mine (λ k p differs at. all k p at) in
       well-nothing qs old events s.nothing (subst (λ (xs : List (Play Outcome)). AllWell xs old) (sym s.rest) set_all)
 
@@ -182,15 +185,15 @@ module _ (initial : InitialLaw) (draw : Draw) (tasks : List Task) (few : length 
       let rest : AllWell qs ((old ++ i.0) ++ i.1) = well-turns ts i.2 qs start (old ++ i.0) i.1 parts.1 i.5 first in
       subst (λ (xs : List Event). AllWell qs (old ++ xs)) (sym i.3) (subst (λ (h : List Event). AllWell qs h) (append_assoc old i.0 i.1) rest)
 
-  well-begun : (journal : List Event) → ((client : ℕ) (ids : AnyIds) → AreOf client ids → Before ids journal) → AllNodesAreNew draw tasks few wells initial [] journal → AllWell (plays_from draw 0 tasks) journal
-  well-begun journal before nodes k p at =
+  well-begun : SnapshotLaw → (journal : List Event) → ((client : ℕ) (ids : AnyIds) → AreOf client ids → Before ids journal) → AllNodesAreNew draw tasks few wells initial [] journal → AllWell (plays_from draw 0 tasks) journal
+  well-begun law journal before nodes k p at =
       let r = play_at draw 0 tasks k p at in
       let is : p ≡ task_play (ids_at draw k) r.task = r.is ∙ ap (λ (n : ℕ). task_play (ids_at draw n) r.task) (zero-add k) in
       let within : k < length tasks = slice_get_within tasks k r.task r.at in
-      (within, subst (λ (x : Play Outcome). GoesWell k x journal) (sym is) (task-meets (k + 1) (ids_at draw k) r.task (well-at draw tasks wells k r.task r.at) journal (ids_at-of draw tasks k r.task few r.at) (before (k + 1) (ids_at draw k) (ids_at-of draw tasks k r.task few r.at)) (nodes k within)))
+      (within, subst (λ (x : Play Outcome). GoesWell k x journal) (sym is) (task-meets (k + 1) (ids_at draw k) law r.task (well-at draw tasks wells k r.task r.at) journal (ids_at-of draw tasks k r.task few r.at) (before (k + 1) (ids_at draw k) (ids_at-of draw tasks k r.task few r.at)) (nodes k within)))
 
-  well-ended : (outcomes : List Outcome) (journal : List Event) → AllWell (ends_of outcomes) journal → (place : ℕ) (outcome : Outcome) → slice_get outcomes place ≡ Some outcome → strange_end outcome.end ≡ false
-  well-ended outcomes journal all place outcome at = meets-ended (λ o. strange_end o.end ≡ false) (beside (place + 1) (ids_at draw place)) outcome journal (all place (Ended outcome) (ends_at outcomes place outcome at)).1
+  well-ended : (outcomes : List Outcome) (journal : List Event) → AllWell (ends_of outcomes) journal → (place : ℕ) (outcome : Outcome) → slice_get outcomes place ≡ Some outcome → EndsFine outcome.end
+  well-ended outcomes journal all place outcome at = meets-ended (λ o. EndsFine o.end) (beside (place + 1) (ids_at draw place)) outcome journal (all place (Ended outcome) (ends_at outcomes place outcome at)).1
 
 -- ---- the opening and the closing reading
 -- a program that was run alone: its events put nothing under drawn ids, and it came to its end or wanted memory
@@ -229,7 +232,7 @@ module _ (initial : InitialLaw) (draw : Draw) (tasks : List Task) (few : length 
         once = s.once;
         objects = λ place within. (nothing-law.1 (ids_at draw place)).objects;
         trees = s.trees;
-        parents = λ place within. parents-begin (ids_at draw place) [] (nothing-law.1 (ids_at draw place)).nodes;
+        causes = s.causes;
         others = λ ids another new. new;
       }
 
@@ -253,7 +256,7 @@ module _ (initial : InitialLaw) (draw : Draw) (tasks : List Task) (few : length 
   begun-before : (client : ℕ) (ids : AnyIds) → AreOf client ids → Before ids begun
   begun-before client ids known = record {
     tidy = begun-tidy;
-    so_far = record { once = begun-holds.once; trees = begun-holds.trees };
+    so_far = record { once = begun-holds.once; trees = begun-holds.trees; causes = begun-holds.causes };
     free = λ id m. begun-free client id (object-draws client ids id known m);
   }
 
@@ -265,31 +268,54 @@ module _ (initial : InitialLaw) (draw : Draw) (script : Script) (few : length sc
       subst (λ (h : List Event). Each IsAny [] h) (sym (r.is told)) (Each-append IsAny [] old.seen r.own tidy (Each-weaker (IsOfClient draw script.tasks old.seen) IsAny (anybody initial draw script.tasks few wells old.seen) old.seen r.own (r.careful told)))
   plays-tidy old new (Err why) outcomes told p tidy = subst (λ (v : View). Each IsAny [] v.seen) (sym p.0) tidy
 
-  plays-plain : (old new : View) (opening : Result (Unit {0}) Refusal) (outcomes : List Outcome) → IsTrue old.caller.tells → Plays draw script old new opening outcomes → ((client : ℕ) (ids : AnyIds) → AreOf client ids → Before ids old.seen)
-      → Holds draw script.tasks few wells initial [] old.seen → AllNodesAreNew draw script.tasks few wells initial [] old.seen → (place : ℕ) (outcome : Outcome) → slice_get outcomes place ≡ Some outcome → strange_end outcome.end ≡ false
-  plays-plain old new (Ok done) outcomes told p before holds nodes place outcome at =
+  -- each task ends by no strange refusal but one that says that a log hides a node
+  plays-fine : SnapshotLaw → (old new : View) (opening : Result (Unit {0}) Refusal) (outcomes : List Outcome) → IsTrue old.caller.tells → Plays draw script old new opening outcomes → ((client : ℕ) (ids : AnyIds) → AreOf client ids → Before ids old.seen)
+      → Holds draw script.tasks few wells initial [] old.seen → AllNodesAreNew draw script.tasks few wells initial [] old.seen → (place : ℕ) (outcome : Outcome) → slice_get outcomes place ≡ Some outcome → EndsFine outcome.end
+  plays-fine law old new (Ok done) outcomes told p before holds nodes place outcome at =
       let r = p.ran.ran in
       let known = run-knows draw script.tasks few wells initial [] old.seen r.own (Each-weaker (IsOfClient draw script.tasks old.seen) (IsOfRun draw script.tasks few wells initial [] old.seen) (λ h event c. inl c) old.seen r.own (r.careful told)) holds nodes in
       let comes = Each-both (IsOfClient draw script.tasks old.seen) (IsKnown draw script.tasks few wells initial [] old.seen) (Comes initial draw script.tasks few wells old.seen) (λ h event c k. (c, k)) old.seen r.own (r.careful told) known in
-      well-ended initial draw script.tasks few wells outcomes (old.seen ++ r.own) (well-turns initial draw script.tasks few wells _ (plays_from draw 0 script.tasks) (ends_of outcomes) old.seen old.seen r.own comes r.order (well-begun initial draw script.tasks few wells old.seen before nodes)) place outcome at
-  plays-plain old new (Err why) outcomes told p before holds nodes place outcome at = let no = sym (ap (λ (os : List Outcome). slice_get os place) p.1) ∙ at in absurd cc
+      well-ended initial draw script.tasks few wells outcomes (old.seen ++ r.own) (well-turns initial draw script.tasks few wells _ (plays_from draw 0 script.tasks) (ends_of outcomes) old.seen old.seen r.own comes r.order (well-begun initial draw script.tasks few wells law old.seen before nodes)) place outcome at
+  plays-fine law old new (Err why) outcomes told p before holds nodes place outcome at = let no = sym (ap (λ (os : List Outcome). slice_get os place) p.1) ∙ at in absurd cc
 
-  pub course-plain : (old new : View) (opening : Result (Unit {0}) Refusal) (outcomes : List Outcome) (refs : Result (List RefLine) Refusal) → Course draw script old new opening outcomes refs → IsTrue old.caller.tells → old.seen ≡ [] → NothingStrange opening outcomes refs
-  course-plain old new opening outcomes refs c told empty =
+  -- there is a task for each outcome
+  task-of : (old new : View) (opening : Result (Unit {0}) Refusal) (outcomes : List Outcome) → Plays draw script old new opening outcomes → (place : ℕ) (outcome : Outcome) → slice_get outcomes place ≡ Some outcome → (task : Task) × (slice_get script.tasks place ≡ Some task)
+  task-of old new (Ok done) outcomes p place outcome at = by_cases (slice_get_cases script.tasks place).1
+    where
+      within : place < length script.tasks
+      within = subst (λ (n : ℕ). place < n) p.size (slice_get_within outcomes place outcome at)
+
+      by_cases : ((x : Task) × (place < length script.tasks) × (slice_get script.tasks place ≡ Some x) × (get_or script.tasks place x ≡ x)) ⊎ ((length script.tasks ≤ place) × (slice_get script.tasks place ≡ None)) → (task : Task) × (slice_get script.tasks place ≡ Some task)
+      by_cases (inl c) = (c.0, c.2)
+      by_cases (inr c) = let past = c.0 in absurd (omega (arith, past, within))
+  task-of old new (Err why) outcomes p place outcome at = let no = sym (ap (λ (os : List Outcome). slice_get os place) p.1) ∙ at in absurd cc
+
+  pub course-plain : SnapshotLaw → (old new : View) (opening : Result (Unit {0}) Refusal) (outcomes : List Outcome) (refs : Result (List RefLine) Refusal) → (c : Course draw script old new opening outcomes refs) → NoneHidden draw script.tasks old.seen new.seen → IsTrue old.caller.tells → old.seen ≡ []
+      → NothingStrange opening outcomes refs
+  course-plain law old new opening outcomes refs c none told empty =
       let all : HasAll (as_client 0 old).caller = record { low = c.alone.low; end = c.alone.end } in
       let last_all : HasAll (as_client 0 c.played).caller = record { low = c.still_alone.low; end = c.still_alone.end } in
       let begun_tells : IsTrue c.begun.caller.tells = subst (λ (b : Caller). IsTrue b.tells) (sym c.begins.same) told in
       let played_tells : IsTrue c.played.caller.tells = tells-on draw script c.begun c.played opening outcomes c.plays begun_tells in
       let first : Alone begin_program opening [] c.begun.seen = subst (λ (h : List Event). Alone begin_program opening h c.begun.seen) empty (was-alone initial begin_program opening (as_client 0 old) c.begun begin-plain told all c.begins) in
       let last : Alone refs_program refs c.played.seen new.seen = was-alone initial refs_program refs (as_client 0 c.played) new refs-plain played_tells last_all c.reads in
+      let opened : RanAlone begin_program old.seen c.begun.seen = ran-alone begin_program opening (as_client 0 old) c.begun told all c.begins in
       let tidy : Each IsAny [] c.begun.seen = begun-tidy initial draw script.tasks few wells opening c.begun.seen first in
+      let fine = plays-fine law c.begun c.played opening outcomes begun_tells c.plays (begun-before initial draw script.tasks few wells opening c.begun.seen first) (begun-holds initial draw script.tasks few wells opening c.begun.seen first) (begun-nodes initial draw script.tasks few wells opening c.begun.seen first) in
       record {
         opened = answers-plain begin_program opening [] c.begun.seen first (begin-meets (λ id. ⊥) []);
-        tasks = plays-plain c.begun c.played opening outcomes begun_tells c.plays (begun-before initial draw script.tasks few wells opening c.begun.seen first) (begun-holds initial draw script.tasks few wells opening c.begun.seen first) (begun-nodes initial draw script.tasks few wells opening c.begun.seen first);
+        tasks = λ place outcome at.
+            let task = task-of c.begun c.played opening outcomes c.plays place outcome at in
+            told-plain (ids_at draw place) task.0 (place + 1) c.begun.seen new.seen (λ lost since key bad. none c.begun.seen since place task.0 lost key bad opened task.1) outcome (c.told told place task.0 outcome task.1 at) (fine place outcome at);
         closed = answers-plain refs_program refs c.played.seen new.seen last (refs-meets (λ id. ⊥) c.played.seen (plays-tidy c.begun c.played opening outcomes begun_tells c.plays tidy));
       }
 
-pub played-plain : InitialLaw → (draw : Draw) (script : Script) (old new : View) (result : Result Played AllocError) → IsWell script → IfOk result (λ played. Course draw script old new played.opening played.outcomes.items played.refs) → IsTrue old.caller.tells → old.seen ≡ []
+pub played-plain : InitialLaw → SnapshotLaw → RunLaw → (draw : Draw) (script : Script) (old new : View) (result : Result Played AllocError) → IsWell script → IfOk result (λ played. Course draw script old new played.opening played.outcomes.items played.refs) → IsTrue old.caller.tells → old.seen ≡ []
     → IfOk result (λ played. NothingStrange played.opening played.outcomes.items played.refs)
-played-plain initial draw script old new (Ok played) well c told empty = course-plain initial draw script (few-tasks script well) well.tasks old new played.opening played.outcomes.items played.refs c told empty
-played-plain initial draw script old new (Err error) well c told empty = tt
+played-plain initial law run draw script old new (Ok played) well c told empty =
+    let few = few-tasks script well in
+    let sound : IsSound old.seen (λ n. none) = subst (λ (h : List Event). IsSound h (λ n. none)) (sym empty) (nothing-law.0 (λ n. none)) in
+    let new_run : IsNewRun draw script.tasks old.seen = subst (λ (h : List Event). IsNewRun draw script.tasks h) (sym empty) (λ place within. nothing-law.1 (ids_at draw place)) in
+    let histories = run draw script.tasks (λ n. none) old.seen new.seen sound new_run (course-run draw script old new played.opening played.outcomes.items played.refs few well.tasks c told) in
+    course-plain initial draw script few well.tasks law old new played.opening played.outcomes.items played.refs c histories.unhidden told empty
+played-plain initial law run draw script old new (Err error) well c told empty = tt

@@ -16,7 +16,7 @@ use play_outcome::{Outcome, RefLines};
 use play_run::run_tasks;
 use play_script::{Script, Turn};
 use play_tasks::outcome_law;
-use repo_objects::initial_law;
+use repo_objects::{initial_law, snapshot_law};
 use repository::{begin, read_refs, refs_law};
 use run_histories::run_law;
 use std::alloc::{AllocError, Global};
@@ -127,6 +127,7 @@ pub fn play<S: Base>(
     ensures regular { IsTrue (S.view store.old).caller.tells → (S.view store.old).seen ≡ [] → IfOk result (λ played. NothingStrange played.opening played.outcomes.items played.refs) }
 {
     initial_law();
+    snapshot_law();
     run_law();
     refs_law();
     play_through(alloc, script, draw, store)

@@ -1,3 +1,4 @@
+pub mod inside
 pub mod Words
 pub mod Refusals
 pub mod Report

@@ -1,8 +1,10 @@
 //! The report of a run: how outcomes of tasks, and refs, are printed.
 #![tactic(auto)]
 
+mod drafts;
+mod refusals;
 mod reporting;
 mod texts;
 
-pub use reporting::{add_opening, add_outcome, add_refs, report};
-pub use texts::refusal_text;
+pub use refusals::refusal_text;
+pub use reporting::report;

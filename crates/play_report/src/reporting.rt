@@ -1,11 +1,15 @@
-//! The report of a run, whole or by its pieces.
+//! The report of a run.
+#![tactic(auto, using(crate::proofs::Drafting::drafting))]
 
-ghost use Rattle.std.specs.Prelude.{◌≡◌, ◌++◌, IfOk, OnOk, OnErr, map};
+ghost use Rattle.std.specs.Prelude.{◌≡◌, IfOk, OnOk, length, map, vec_capacity};
 ghost use Rattle.std.specs.List.{flat_map};
-ghost use Rattle.play_report.specs.Report.{ref_kind, line_of, shown_line, outcome_text, tasks_text, opening_text, ref_line, refs_text, refused_line, played_text, report_of};
+ghost use Rattle.play_report.specs.Report.{ref_kind, line_of, end_text, shown_line, outcome_text, tasks_text, opening_text, ref_line, refs_text, refused_line, played_text, report_of};
+ghost use Rattle.play_report.specs.inside.Drafts.{added};
 
-use crate::texts::{end_text, ref_text, refusal_text, shown_text};
-use play_outcome::{Outcome, RefLine, RefLines, Shown};
+use crate::drafts::Draft;
+use crate::refusals::add_refusal;
+use crate::texts::{add_end, add_ref, add_shown};
+use play_outcome::{End, Outcome, RefLine, RefLines, Shown};
 use std::alloc::{AllocError, Global};
 use store_api::Refusal;
 
@@ -15,99 +19,87 @@ fn ref_kind(tag: bool) -> &'static [u8]
     if tag { b"tag" } else { b"branch" }
 }
 
-/// Appends a line of a first word and what stands behind it.
-fn add_line(out: &mut Vec<u8>, first: &[u8], rest: &[u8]) -> Result<(), AllocError>
-    ensures { OnOk result (out.new.items ≡ out.old.items ++ line_of first.now rest.now) }
+/// A line that a task showed.
+fn add_shown_line(out: &mut Draft, name: &[u8], shown: &Shown) -> Result<(), AllocError>
+    ensures { OnOk result (out.new ≡ added out.old (shown_line name.now shown.now)) }
 {
-    out.extend_from_slice(first)?;
-    out.push(b' ')?;
-    out.extend_from_slice(rest)?;
-    out.push(b'\n')?;
-    Ok(())
+    out.add(name)?;
+    out.add(b" ")?;
+    add_shown(out, shown)?;
+    out.add(b"\n")
 }
 
-fn add_all_shown(
-    alloc: Global,
-    out: &mut Vec<u8>,
-    name: &[u8],
-    all: &[Shown],
-) -> Result<(), AllocError>
-    ensures { OnOk result (out.new.items ≡ out.old.items ++ flat_map (shown_line name.now) all.now) }
+/// The lines that a task showed.
+fn add_all_shown(out: &mut Draft, name: &[u8], all: &[Shown]) -> Result<(), AllocError>
+    ensures { OnOk result (out.new ≡ added out.old (flat_map (shown_line name.now) all.now)) }
 {
     for shown in all {
-        let text = shown_text(alloc, shown)?;
-        add_line(out, name, &text)?;
+        add_shown_line(out, name, shown)?;
     }
     Ok(())
 }
 
-fn outcome_text(alloc: Global, name: &[u8], outcome: &Outcome) -> Result<Vec<u8>, AllocError>
-    ensures { IfOk result (λ text. text.items ≡ outcome_text name.now outcome.now) }
+/// How a task ended, as a line.
+fn add_end_line(out: &mut Draft, name: &[u8], end: &End) -> Result<(), AllocError>
+    ensures { OnOk result (out.new ≡ added out.old (line_of name.now (end_text end.now))) }
 {
-    let mut text = Vec::new(alloc);
-    add_all_shown(alloc, &mut text, name, outcome.shown.as_slice())?;
-    let end = end_text(alloc, &outcome.end)?;
-    add_line(&mut text, name, end.as_bytes())?;
-    Ok(text)
+    out.add(name)?;
+    out.add(b" ")?;
+    add_end(out, end)?;
+    out.add(b"\n")
 }
 
-/// Appends what the task of this name showed, line by line, and how it ended. Without memory for all
-/// of it, the text stays as it is.
-pub fn add_outcome(out: &mut Vec<u8>, name: &[u8], outcome: &Outcome) -> Result<(), AllocError>
-    ensures ok { OnOk result (out.new.items ≡ out.old.items ++ outcome_text name.now outcome.now) }
-    ensures err { OnErr result (out.new.items ≡ out.old.items) }
+/// What the task of this name showed, line by line, and how it ended.
+fn add_outcome(out: &mut Draft, name: &[u8], outcome: &Outcome) -> Result<(), AllocError>
+    ensures { OnOk result (out.new ≡ added out.old (outcome_text name.now outcome.now)) }
 {
-    let text = outcome_text(*out.allocator(), name, outcome)?;
-    out.extend_from_slice(&text)
+    add_all_shown(out, name, outcome.shown.as_slice())?;
+    add_end_line(out, name, &outcome.end)
 }
 
-fn refused_line(alloc: Global, what: &[u8], why: &Refusal) -> Result<Vec<u8>, AllocError>
-    ensures { IfOk result (λ text. text.items ≡ refused_line what.now why.now) }
+/// The line that stands in the place of what was refused.
+fn add_refused(out: &mut Draft, what: &[u8], why: &Refusal) -> Result<(), AllocError>
+    ensures { OnOk result (out.new ≡ added out.old (refused_line what.now why.now)) }
 {
-    let why = refusal_text(alloc, why)?;
-    let rest = format!(in alloc; "refused {why}")?;
-    let mut text = Vec::new(alloc);
-    add_line(&mut text, what, rest.as_bytes())?;
-    Ok(text)
+    out.add(what)?;
+    out.add(b" refused ")?;
+    add_refusal(out, why)?;
+    out.add(b"\n")
 }
 
-/// Appends the line that stands in the place of all tasks where the repository's opening was refused.
-/// Without memory for it, the text stays as it is.
-pub fn add_opening(out: &mut Vec<u8>, why: &Refusal) -> Result<(), AllocError>
-    ensures ok { OnOk result (out.new.items ≡ out.old.items ++ opening_text why.now) }
-    ensures err { OnErr result (out.new.items ≡ out.old.items) }
+/// A ref, as a line.
+fn add_ref_line(out: &mut Draft, line: &RefLine) -> Result<(), AllocError>
+    ensures { OnOk result (out.new ≡ added out.old (ref_line line.now)) }
 {
-    let text = refused_line(*out.allocator(), b"init", why)?;
-    out.extend_from_slice(&text)
+    out.add(ref_kind(line.tag))?;
+    out.add(b" ")?;
+    add_ref(out, line)?;
+    out.add(b"\n")
 }
 
-fn ref_lines(alloc: Global, refs: &[RefLine]) -> Result<Vec<u8>, AllocError>
-    ensures { IfOk result (λ text. text.items ≡ flat_map ref_line refs.now) }
+/// A line for each ref.
+fn add_ref_lines(out: &mut Draft, refs: &[RefLine]) -> Result<(), AllocError>
+    ensures { OnOk result (out.new ≡ added out.old (flat_map ref_line refs.now)) }
 {
-    let mut text = Vec::new(alloc);
     for line in refs {
-        let rest = ref_text(alloc, line)?;
-        add_line(&mut text, ref_kind(line.tag), rest.as_bytes())?;
+        add_ref_line(out, line)?;
     }
-    Ok(text)
+    Ok(())
 }
 
-/// Appends a line for each ref, in the order given, or the one line that tells why the refs weren't
-/// read. Without memory for all of it, the text stays as it is.
-pub fn add_refs(out: &mut Vec<u8>, refs: &Result<RefLines, Refusal>) -> Result<(), AllocError>
-    ensures ok { OnOk result (out.new.items ≡ out.old.items ++ refs_text refs.now) }
-    ensures err { OnErr result (out.new.items ≡ out.old.items) }
+/// A line for each ref, in the order given, or the one line that tells why the refs weren't read.
+fn add_refs(out: &mut Draft, refs: &Result<RefLines, Refusal>) -> Result<(), AllocError>
+    ensures { OnOk result (out.new ≡ added out.old (refs_text refs.now)) }
 {
-    let alloc = *out.allocator();
-    let text = match refs {
-        Ok(refs) => ref_lines(alloc, refs.as_slice())?,
-        Err(why) => refused_line(alloc, b"refs", why)?,
-    };
-    out.extend_from_slice(&text)
+    match refs {
+        Ok(refs) => add_ref_lines(out, refs.as_slice()),
+        Err(why) => add_refused(out, b"refs", why),
+    }
 }
 
-fn add_tasks(out: &mut Vec<u8>, names: &[&[u8]], outcomes: &[Outcome]) -> Result<(), AllocError>
-    ensures { OnOk result (out.new.items ≡ out.old.items ++ tasks_text (map (λ n. n.now) names.now) outcomes.now) }
+/// Each task in order, under its name.
+fn add_tasks(out: &mut Draft, names: &[&[u8]], outcomes: &[Outcome]) -> Result<(), AllocError>
+    ensures { OnOk result (out.new ≡ added out.old (tasks_text (map (λ n. n.now) names.now) outcomes.now)) }
 {
     for (name, outcome) in names.iter().zip(outcomes) {
         add_outcome(out, name, outcome)?;
@@ -115,25 +107,42 @@ fn add_tasks(out: &mut Vec<u8>, names: &[&[u8]], outcomes: &[Outcome]) -> Result
     Ok(())
 }
 
+/// The tasks, in whose place a refused opening stands.
 fn add_played(
-    out: &mut Vec<u8>,
+    out: &mut Draft,
     names: &[&[u8]],
     opening: &Result<(), Refusal>,
     outcomes: &[Outcome],
 ) -> Result<(), AllocError>
-    ensures { OnOk result (out.new.items ≡ out.old.items ++ played_text (map (λ n. n.now) names.now) opening.now outcomes.now) }
+    ensures { OnOk result (out.new ≡ added out.old (played_text (map (λ n. n.now) names.now) opening.now outcomes.now)) }
 {
     match opening {
         Ok(()) => add_tasks(out, names, outcomes),
-        Err(why) => add_opening(out, why),
+        Err(why) => add_refused(out, b"init", why),
     }
+}
+
+/// The whole report.
+#[tactic(auto, using(crate::proofs::Drafting::drafting), unfolding(crate::specs::Report::report_of))]
+fn add_report(
+    out: &mut Draft,
+    names: &[&[u8]],
+    opening: &Result<(), Refusal>,
+    outcomes: &[Outcome],
+    refs: &Result<RefLines, Refusal>,
+) -> Result<(), AllocError>
+    ensures { OnOk result (out.new ≡ added out.old (report_of (map (λ n. n.now) names.now) opening.now outcomes.now refs.now)) }
+{
+    add_played(out, names, opening, outcomes)?;
+    add_refs(out, refs)
 }
 
 /// The report of a run: what each task showed and how it ended, in the order of the script, and then
 /// the refs in the order given. `names` and `outcomes` go by the tasks of the script, from the first
 /// on; what one of them has beyond the other is left out. Where the opening was refused, `init refused` and its text stand in the place of all tasks;
 /// where the closing reading was refused, `refs refused` and its text in the place of the refs.
-#[tactic(auto, unfolding(crate::specs::Report::report_of))]
+///
+/// It is counted before it is written, into just as much memory as it has bytes.
 pub fn report(
     alloc: Global,
     names: &[&[u8]],
@@ -141,10 +150,12 @@ pub fn report(
     outcomes: &[Outcome],
     refs: &Result<RefLines, Refusal>,
 ) -> Result<Vec<u8>, AllocError>
-    ensures { IfOk result (λ text. text.items ≡ report_of (map (λ n. n.now) names.now) opening.now outcomes.now refs.now) }
+    ensures text { IfOk result (λ text. text.items ≡ report_of (map (λ n. n.now) names.now) opening.now outcomes.now refs.now) }
+    ensures memory { IfOk result (λ text. vec_capacity text ≡ length text.items) }
 {
-    let mut out = Vec::new(alloc);
-    add_played(&mut out, names, opening, outcomes)?;
-    add_refs(&mut out, refs)?;
-    Ok(out)
+    let mut counted = Draft::without_room(alloc);
+    add_report(&mut counted, names, opening, outcomes, refs)?;
+    let mut out = Draft::with_room(alloc, counted.count())?;
+    add_report(&mut out, names, opening, outcomes, refs)?;
+    Ok(out.into_kept())
 }

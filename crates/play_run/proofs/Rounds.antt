@@ -10,7 +10,6 @@ use Rattle.store_api.specs.Callers.{View, only}
 use Rattle.store_api.specs.Plays.{Play, Ended, HasEnded, PlayKeeps, PlayLeads}
 use Rattle.commit_path.specs.Owed.{IsCareful}
 use Rattle.store_api.specs.Telling.{ChangedNothing}
-use Rattle.commit_path.specs.Single.{IsSingle}
 use Rattle.ice_ids.specs.declared.drawing.Draw.{Draw}
 use Rattle.play_script.specs.declared.scripts.Task.{Task}
 use Rattle.play_script.specs.declared.scripts.Turn.{Turn}
@@ -123,10 +122,9 @@ AllStand-begin law draw tasks tells journal wells k p e =
     record {
       task = r.task;
       at = r.at;
-      careful = subst (λ (x : Play Outcome). PlayKeeps (IsCareful (ids_at draw k) (IsOfTask (ids_at draw k) r.task)) (only tells (k + 1)) x journal) (sym is) well.0;
+      careful = subst (λ (x : Play Outcome). PlayKeeps (IsCareful (ids_at draw k) (IsOfTask (ids_at draw k) r.task (k + 1) journal)) (only tells (k + 1)) x journal) (sym is) well.0;
       before = subst (λ (x : Play Outcome). PlayKeeps (λ h client op. ChangedNothing client journal h) (only tells (k + 1)) x journal) (sym is) well.1;
-      single = subst (λ (x : Play Outcome). PlayKeeps (IsSingle journal) (only tells (k + 1)) x journal) (sym is) well.2;
-      leads = subst (λ (x : Play Outcome). PlayLeads (TellsAt draw k r.task journal) (only tells (k + 1)) x journal) (sym is) well.3;
+      leads = subst (λ (x : Play Outcome). PlayLeads (TellsAt draw k r.task journal) (only tells (k + 1)) x journal) (sym is) well.2;
     }
 
 pub plays_size : (draw : Draw) (place : ℕ) (tasks : List Task) → length (plays_from draw place tasks) ≡ length tasks

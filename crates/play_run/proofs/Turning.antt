@@ -18,19 +18,21 @@ use Rattle.store_api.proofs.Programs.{alone, has-all, good-waits, Waits-same, Wa
 use Rattle.store_api.proofs.PlayLaws.{PlayKeeps-waits, PlayKeeps-acts, PlayLeads-waits, PlayLeads-acts}
 use Rattle.commit_path.specs.Owed.{Sessions, IsCareful}
 use Rattle.store_api.specs.Telling.{ChangedNothing}
-use Rattle.commit_path.specs.Single.{IsSingle}
-use Rattle.commit_path.proofs.Owing.{IsCareful-append}
+use Rattle.commit_path.proofs.Owing.{KeepsMine, IsCareful-append}
 use Rattle.commit_path.proofs.Lawful.{session-law, answers-law}
 use Rattle.chunk_calls.proofs.Lasting.{tells-law}
 use Rattle.store_api.proofs.Happening.{ChangedNothing-others}
-use Rattle.commit_path.proofs.Singling.{HasPutNone-others}
+use Rattle.commit_path.proofs.Singling.{HasPutAlike-others}
 use Rattle.play_script.specs.declared.scripts.Task.{Task}
 use Rattle.play_outcome.specs.declared.outcome.Outcome.{Outcome}
 use Rattle.play_outcome.specs.Ending.{is_failed}
+use Rattle.play_tasks.specs.Playing.{asked_by, policy_of}
 use Rattle.play_tasks.specs.Solving.{IsOfTask}
 use Rattle.play_tasks.specs.Tasks.{ids_at, TellsAt, Stands, AllStand, IsOfClient, HasEndedAt}
 use Rattle.play_tasks.specs.Laws.{OutcomeLaw}
+use Rattle.play_tasks.proofs.Early.{WasBegun-more}
 use Rattle.play_tasks.proofs.Others.{TellsOutcome-others, TellsOutcome-waits}
+use Rattle.play_tasks.proofs.Tried.{WasCarried-append}
 use Rattle.play_run.specs.Order.{Turned, InTurns}
 use Rattle.play_run.specs.inside.Taking.{Rested, Stepped, TookTurn}
 use Rattle.play_run.specs.inside.Going.{CanGo, Blame, Kept, Went}
@@ -122,8 +124,51 @@ outcomes by ids task outcome start journal more others = TellsOutcome-others (re
 next_same : (k t : ℕ) → t + 1 ≡ k + 1 → k ≡ t
 next_same k t e = omega (arith, e)
 
-stable : (ids : AnyIds) (mine : Sessions) (by : Caller) (journal more : List Event) (op : Op) → Each (IsOther by) journal more → IsCareful ids mine journal by.number op → IsCareful ids mine (journal ++ more) by.number op
-stable ids mine by journal more op o c = IsCareful-append ids mine journal more by.number op (good-waits by journal more o) c
+-- a session of a task stays one, whatever others do
+of-task-others : (by : Caller) (ids : AnyIds) (task : Task) (start journal more : List Event) → Each (IsOther by) journal more → KeepsMine (IsOfTask ids task by.number start) journal more
+of-task-others by ids task start journal more others t id o = record {
+  opened = o.opened;
+  begun = WasBegun-more by.number (asked_by task.head ids) o.opened start journal more o.begun;
+  early = o.early;
+  session = o.session;
+  reaches = o.reaches;
+  count = o.count;
+  few = o.few;
+  carried = WasCarried-append by.number (policy_of task.head) o.count o.session t start journal more o.carried;
+  alike = HasPutAlike-others by t start journal more others o.alike;
+  drawn = o.drawn;
+}
+
+-- what the client of a task owes of an operation, whichever client it is
+abbrev Owing : AnyIds → Task → List Event → List Event → ℕ → Op → Type 0
+Owing ids task start journal client op = IsCareful ids (IsOfTask ids task client start) journal client op
+
+stable : (ids : AnyIds) (task : Task) (start : List Event) (by : Caller) (journal more : List Event) (op : Op) → Each (IsOther by) journal more → Owing ids task start journal by.number op → Owing ids task start (journal ++ more) by.number op
+stable ids task start by journal more op o c = IsCareful-append ids (IsOfTask ids task by.number start) journal more by.number op (of-task-others by ids task start journal more o) (good-waits by journal more o) c
+
+-- where Q follows from P of the caller's own operations
+keeps-own : (P Q : List Event → ℕ → Op → Type 0) (by : Caller) → ((journal : List Event) (op : Op) → P journal by.number op → Q journal by.number op) → (p : Play Outcome) (journal : List Event) → PlayKeeps P by p journal → PlayKeeps Q by p journal
+unfolding PlayKeeps
+keeps-own P Q by f (Ended a) journal k = tt
+keeps-own P Q by f (Ask op s n) journal k = (f journal op k.0, keeps-own P Q by f s journal k.1, λ reply new m. keeps-own P Q by f (n reply) new (k.2 reply new m))
+keeps-own P Q by f (Or p q) journal k = (keeps-own P Q by f p journal k.0, keeps-own P Q by f q journal k.1)
+
+module _ (ids : AnyIds) (task : Task) (start : List Event) (tells : Bool) (k : ℕ) where
+  abbrev Owed : List Event → ℕ → Op → Type 0
+  Owed = IsCareful ids (IsOfTask ids task (k + 1) start)
+
+  -- it stays careful while it waits, and by a step of its own
+  careful-waits : (p : Play Outcome) (old new : List Event) → Waits (only tells (k + 1)) old new → PlayKeeps Owed (only tells (k + 1)) p old → PlayKeeps Owed (only tells (k + 1)) p new
+  careful-waits p old new w c =
+      keeps-own (Owing ids task start) Owed (only tells (k + 1)) (λ h op x. x) p new
+      (PlayKeeps-waits (Owing ids task start) (stable ids task start) (only tells (k + 1)) p old new w (keeps-own Owed (Owing ids task start) (only tells (k + 1)) (λ h op x. x) p old c))
+
+  careful-acts : (old new : View) (p q : Play Outcome) → old.caller ≡ only tells (k + 1) → IsTrue old.caller.tells → Acts is_failed old new p q → PlayKeeps Owed (only tells (k + 1)) p old.seen → PlayKeeps Owed (only tells (k + 1)) q new.seen
+  careful-acts old new p q same told acts c =
+      keeps-own (Owing ids task start) Owed (only tells (k + 1)) (λ h op x. x) q new.seen
+      (subst (λ (by : Caller). PlayKeeps (Owing ids task start) by q new.seen) same
+      (PlayKeeps-acts (Owing ids task start) (stable ids task start) is_failed old new p q told acts
+      (subst (λ (by : Caller). PlayKeeps (Owing ids task start) by p old.seen) (sym same) (keeps-own Owed (Owing ids task start) (only tells (k + 1)) (λ h op x. x) p old.seen c))))
 
 -- the client has changed no branch before an operation
 abbrev Before : List Event → List Event → ℕ → Op → Type 0
@@ -131,10 +176,6 @@ Before start journal client op = ChangedNothing client start journal
 
 stable-before : (start : List Event) (by : Caller) (journal more : List Event) (op : Op) → Each (IsOther by) journal more → Before start journal by.number op → Before start (journal ++ more) by.number op
 stable-before start by journal more op others c = ChangedNothing-others by start journal more others c
-
--- nor has it put a snapshot before another one
-stable-single : (start : List Event) (by : Caller) (journal more : List Event) (op : Op) → Each (IsOther by) journal more → IsSingle start journal by.number op → IsSingle start (journal ++ more) by.number op
-stable-single start by journal more op others c p = HasPutNone-others by start journal more others (c p)
 
 -- what holds of each worker, where one of them went on
 AllStand-set : (draw : Draw) (tasks : List Task) (start : List Event) (tells : Bool) (ps : List (Play Outcome)) (t : ℕ) (p q : Play Outcome) (old new : List Event) → slice_get ps t ≡ Some p → AllStand draw tasks start tells ps old → Stands draw tasks start tells t q new → ((k : ℕ) → k ≢ t → Waits (only tells (k + 1)) old new) → AllStand draw tasks start tells (set ps t q) new
@@ -144,9 +185,8 @@ AllStand-set draw tasks start tells ps t p q old new at all mine others =
     record {
       task = s.task;
       at = s.at;
-      careful = PlayKeeps-waits (IsCareful (ids_at draw k) (IsOfTask (ids_at draw k) s.task)) (stable (ids_at draw k) (IsOfTask (ids_at draw k) s.task)) (only tells (k + 1)) r old new (others k differs) s.careful;
+      careful = careful-waits (ids_at draw k) s.task start tells k r old new (others k differs) s.careful;
       before = PlayKeeps-waits (Before start) (stable-before start) (only tells (k + 1)) r old new (others k differs) s.before;
-      single = PlayKeeps-waits (IsSingle start) (stable-single start) (only tells (k + 1)) r old new (others k differs) s.single;
       leads = PlayLeads-waits (TellsAt draw k s.task start) (only tells (k + 1)) (TellsOutcome-waits outcomes (only tells (k + 1)) (ids_at draw k) s.task start) r old new (others k differs) s.leads;
     })
 
@@ -180,9 +220,8 @@ module _ (draw : Draw) (tasks : List Task) (start : List Event) (t : ℕ) (old n
       record {
         task = mine.task;
         at = mine.at;
-        careful = PlayKeeps-acts (IsCareful (ids_at draw t) (IsOfTask (ids_at draw t) mine.task)) (stable (ids_at draw t) (IsOfTask (ids_at draw t) mine.task)) is_failed (seen_by to (as_client (t + 1) old)) (seen_by to new) s.p s.q told acts mine.careful;
+        careful = careful-acts (ids_at draw t) mine.task start tells t (seen_by to (as_client (t + 1) old)) (seen_by to new) s.p s.q refl told acts mine.careful;
         before = PlayKeeps-acts (Before start) (stable-before start) is_failed (seen_by to (as_client (t + 1) old)) (seen_by to new) s.p s.q told acts mine.before;
-        single = PlayKeeps-acts (IsSingle start) (stable-single start) is_failed (seen_by to (as_client (t + 1) old)) (seen_by to new) s.p s.q told acts mine.single;
         leads = PlayLeads-acts (TellsAt draw t mine.task start) is_failed (seen_by to (as_client (t + 1) old)) (seen_by to new) s.p s.q (TellsOutcome-waits outcomes to (ids_at draw t) mine.task start) told acts mine.leads;
       }
 
@@ -201,7 +240,7 @@ module _ (draw : Draw) (tasks : List Task) (start : List Event) (t : ℕ) (old n
       let owner : HasAll by = record { low = s.alone.low; end = s.alone.end } in
       let event : Event = made_event t old new s.p s.q a in
       let added = Adds-makes tells by a.op a.reply old.seen new.seen a.made owner told in
-      let owed : IsCareful (ids_at draw t) (IsOfTask (ids_at draw t) mine.task) old.seen (t + 1) a.op = PlayKeeps-now (IsCareful (ids_at draw t) (IsOfTask (ids_at draw t) mine.task)) (only tells (t + 1)) a.op a.starved a.next s.p old.seen a.asks mine.careful in
+      let owed : IsCareful (ids_at draw t) (IsOfTask (ids_at draw t) mine.task (t + 1) start) old.seen (t + 1) a.op = PlayKeeps-now (IsCareful (ids_at draw t) (IsOfTask (ids_at draw t) mine.task (t + 1) start)) (only tells (t + 1)) a.op a.starved a.next s.p old.seen a.asks mine.careful in
       let good : IsGood old.seen event = record { legal = added.answered; polite = owed.polite } in
       record {
         stand = all_stand s (λ k n. record {
@@ -210,7 +249,7 @@ module _ (draw : Draw) (tasks : List Task) (start : List Event) (t : ℕ) (old n
           is = added.is;
         });
         is = added.is;
-        careful = Each-one (IsOfClient draw tasks start) old.seen event (record { place = t; task = mine.task; client = refl; at = mine.at; careful = record { good = good; owes = owed.owes }; single = PlayKeeps-now (IsSingle start) (only tells (t + 1)) a.op a.starved a.next s.p old.seen a.asks mine.single });
+        careful = Each-one (IsOfClient draw tasks start) old.seen event (record { place = t; task = mine.task; client = refl; at = mine.at; careful = record { good = good; owes = owed.owes } });
       }
 
   kept-starved : (s : Stepped t old new ps qs) → Starved (as_client (t + 1) old) new s.p s.q → Kept draw tasks start old new [] qs
@@ -358,7 +397,7 @@ polite_at view now t ps p e go at told =
     let told' : IsTrue view.caller.tells = subst (λ (v : View). IsTrue v.caller.tells) e told in
     let r = go told' in
     let s = r.stand t p at in
-    subst (λ (v : View). PlayIsPolite p v.seen) (sym e) (Keeps-polite (ids_at r.draw t) (IsOfTask (ids_at r.draw t) s.task) (only view.caller.tells (t + 1)) p view.seen s.careful)
+    subst (λ (v : View). PlayIsPolite p v.seen) (sym e) (Keeps-polite (ids_at r.draw t) (IsOfTask (ids_at r.draw t) s.task (t + 1) r.start) (only view.caller.tells (t + 1)) p view.seen s.careful)
 
 pub stepped_at : (view now new : View) (t : ℕ) (ps : List (Play Outcome)) (p q : Play Outcome) → now ≡ as_client (t + 1) view → HasAll view.caller → slice_get ps t ≡ Some p → IsLive p → Acts is_failed now new p q → (qs : List (Play Outcome)) → qs ≡ set ps t q → Stepped t view new ps qs
 stepped_at view now new t ps p q e all at live acts qs rest = record { p = p; at = at; live = live; alone = all; q = q; acts = subst (λ (v : View). Acts is_failed v new p q) e acts; rest = rest }

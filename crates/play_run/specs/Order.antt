@@ -55,7 +55,7 @@ InTurns [] ps events qs = (events ≡ []) × (qs ≡ ps)
 InTurns (t ∷ ts) ps events qs = (first more : List Event) × (mid : List (Play Outcome)) × (events ≡ first ++ more) × Turned t ps first mid × InTurns ts mid more qs
 
 -- By these turns, the workers of these tasks went from the plays ps to the plays qs. Where the store tells its journal, it goes on by exactly their
--- operations, each of them good and owed by its client's task, and no client puts two snapshots.
+-- operations, each of them good and owed by its client's task.
 pub record Ran (draw : Draw) (tasks : List Task) (tells : Bool) (turns : List ℕ) (ps qs : List (Play Outcome)) (old new : List Event) : Type 0 where
   pub own : List Event
   pub order : InTurns turns ps own qs

@@ -2,6 +2,7 @@
 use Rattle.std.specs.Prelude.{◌&&◌, ◌+◌, ◌-◌, ◌*◌, ◌^◌, ◌<◌, ℤ, map, nat_le, nat_lt, codes}
 use Rattle.std.proofs.Common.{◌≡◌, ℕ, ◌≤◌, Bool, true, false, cond, List, [], ◌∷◌, Option, None, Some, Result, Ok, Err, refl, ap, subst, arith}
 use Rattle.std.specs.List.{All}
+use Rattle.std.specs.Char.{is_ascii_digit}
 use Rattle.std.specs.Str.Parse.{digits_value, signed_digits_value}
 use Rattle.std.proofs.lemmas.Bool.{and_parts, and_from, leb-true, lt-ltb, cond_both}
 use Rattle.std.proofs.lemmas.List.Elements.{All-nil, All-cons}
@@ -15,7 +16,7 @@ use Rattle.play_script.specs.declared.faults.ScriptKind.{ScriptKind}
 use Rattle.play_script.specs.declared.faults.ScriptKind.TheVariants as k
 use Rattle.play_script.specs.Words.{Text, parts}
 use Rattle.play_script.specs.Parts.{◌&◌, made, each, only_if}
-use Rattle.play_script.specs.Values.{◌reads◌, is_task_name, task_name_of, path_of, text_of, ref_name_of, is_number, number_of, wide_of, numbers_of, is_digits, magnitude, is_signed, fill_of, count_of, clamped, index_of, hex_digit_of, byte_of, pairs, bytes_of}
+use Rattle.play_script.specs.Values.{◌reads◌, is_task_name, task_name_of, path_of, text_of, ref_name_of, is_number, number_of, wide_of, numbers_of, is_digits, magnitude, is_signed, fill_of, count_of, clamped, index_of, hex_digit_of, byte_of, pairs, bytes_of, tries_in}
 use Rattle.play_script.specs.Forms.{taken}
 
 pub made_ok : {A B : Type 0} (f : A → B) (r : Result A ScriptKind) (t : B) → made f r ≡ Ok t → (x : A) × (r ≡ Ok x) × (f x ≡ t)
@@ -149,3 +150,11 @@ bytes_ok w bytes h =
     (λ _ e. let none : [] ≡ bytes = cc in subst IsBytes none (All-nil (λ (byte : ℕ). byte < 256)))
     (λ _ e. each_ok (λ (byte : ℕ). byte < 256) byte_of (pairs w) bytes byte_ok e)
     h
+
+pub tries_ok : (w : Text) (tries : ℕ) → tries_in w ≡ Ok tries → tries ≤ 9
+unfolding tries_in
+tries_ok [] tries h = absurd (cc)
+tries_ok (b ∷ []) tries h =
+    let t = tested_ok (is_ascii_digit b) (b - 48) tries _ h in
+    omega (arith, leb-true b 57 (and_parts (nat_le 48 b) (nat_le b 57) t.0).1, t.1)
+tries_ok (b ∷ c ∷ w) tries h = absurd (cc)

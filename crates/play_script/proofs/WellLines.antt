@@ -5,6 +5,7 @@ use Rattle.std.specs.Option.{option_or, is_none}
 use Rattle.std.proofs.lemmas.Bool.{cond_both}
 use Rattle.ice_base.specs.Names.{IsRefName}
 use Rattle.ice_base.specs.Lists.{IsBytes}
+use Rattle.conflicts.specs.declared.solving.Policy.{Policy}
 use Rattle.play_script.specs.declared.faults.ScriptKind.{ScriptKind}
 use Rattle.play_script.specs.declared.scripts.Call.{Call}
 use Rattle.play_script.specs.declared.scripts.Call.TheVariants as call
@@ -22,12 +23,12 @@ use Rattle.play_script.specs.declared.scripts.Class.TheVariants as c
 use Rattle.play_script.specs.declared.forms.Form.{Form}
 use Rattle.play_script.specs.Words.{Text, cut_of, next, one, two, three, five}
 use Rattle.play_script.specs.Parts.{◌&◌, made}
-use Rattle.play_script.specs.Values.{◌reads◌, path_of, text_of, ref_name_of, id_of, tries_of, policy_of, numbers_of, fill_of, count_of, index_of, bytes_of, byte_of}
+use Rattle.play_script.specs.Values.{◌reads◌, path_of, text_of, ref_name_of, id_of, tries_in, policy_in, numbers_of, fill_of, count_of, index_of, bytes_of, byte_of}
 use Rattle.play_script.specs.Arrays.{array_line_text}
 use Rattle.play_script.specs.Forms.{taken, lone_path, path_and_text, array_of, path_and_array, path_and_index, chunk_and_bytes, chunk_and_byte, lone_key, key_and_bytes, node_edit_of, chunk_edit_of, key_edit_of, edit_of, read_of, commit_of, form, no_form, form_of, at_of, lone_at, built_at, unbuilt_where, write_head_of, read_head_of, head_of}
 use Rattle.play_script.specs.Places.{class_of, client_from, turn, turn_of}
-use Rattle.play_script.specs.Well.{IsWellPath, IsWellText, IsWellIndex, IsWellEdit, IsWellRead, IsWellCall, head_branch, IsWellTurn}
-use Rattle.play_script.proofs.Inversions.{made_ok, both_ok, taken_ok, path_ok, text_ok, ref_name_ok, numbers_ok, fill_ok, count_ok, index_ok, byte_ok, bytes_ok}
+use Rattle.play_script.specs.Well.{IsWellPath, IsWellText, IsWellIndex, IsWellEdit, IsWellRead, IsWellCall, head_branch, HasFewTries, IsWellTurn}
+use Rattle.play_script.proofs.Inversions.{made_ok, both_ok, taken_ok, path_ok, text_ok, ref_name_ok, numbers_ok, fill_ok, count_ok, index_ok, byte_ok, bytes_ok, tries_ok}
 use Rattle.play_script.proofs.ArrayUtf8.{array_utf8}
 
 lone_path_ok : (rest : Option Text) (path : Text) → lone_path rest ≡ Ok path → IsWellPath path
@@ -186,18 +187,24 @@ form_ok first rest =
     (class_ok IsWellRead c.Read call.Read (read_of first rest) _ (λ x w. (w, refl)) (read_ok first rest)
     (class_ok IsWellText c.Commit call.Commit (commit_of first rest) no_form (λ x w. (w, refl)) (commit_ok first rest) (λ v h. absurd (cc))))
 
--- a head names a branch
-abbrev pub HasBranch : Result Head ScriptKind → Type 0
-HasBranch r = (v : Head) → r ≡ Ok v → IsRefName (head_branch v)
+-- a head names a branch, and has few tries
+abbrev pub IsWellHead : Head → Type 0
+IsWellHead h = IsRefName (head_branch h) × HasFewTries h
 
-write_head_ok : (rest : Option Text) → HasBranch (write_head_of rest)
+abbrev pub AreWellHeads : Result Head ScriptKind → Type 0
+AreWellHeads r = (v : Head) → r ≡ Ok v → IsWellHead v
+
+written_head : (branch : Text) (tries : ℕ) (policy : Policy) (h : Head) → head.Write branch tries policy ≡ h → IsRefName branch → tries ≤ 9 → IsWellHead h
+written_head branch tries policy h same name few = subst IsWellHead same (name, few)
+
+write_head_ok : (rest : Option Text) → AreWellHeads (write_head_of rest)
 unfolding write_head_of
 write_head_ok rest v h =
-    let t = taken_ok (three rest) (λ w. made (λ v. head.Write v.0.0) (ref_name_of w.0 & tries_of w.1 & policy_of w.2)) v h in
-    let m = made_ok (λ (v : (Text × Unit {0}) × Unit {0}). head.Write v.0.0) (ref_name_of t.0.0 & tries_of t.0.1 & policy_of t.0.2) v t.2 in
-    let b = both_ok (ref_name_of t.0.0 & tries_of t.0.1) (policy_of t.0.2) m.0 m.1 in
-    let a = both_ok (ref_name_of t.0.0) (tries_of t.0.1) m.0.0 b.0 in
-    subst (λ (h : Head). IsRefName (head_branch h)) m.2 (ref_name_ok t.0.0 m.0.0.0 a.0)
+    let t = taken_ok (three rest) (λ w. made (λ v. head.Write v.0.0 v.0.1 v.1) (ref_name_of w.0 & tries_in w.1 & policy_in w.2)) v h in
+    let m = made_ok (λ (v : (Text × ℕ) × Policy). head.Write v.0.0 v.0.1 v.1) (ref_name_of t.0.0 & tries_in t.0.1 & policy_in t.0.2) v t.2 in
+    let b = both_ok (ref_name_of t.0.0 & tries_in t.0.1) (policy_in t.0.2) m.0 m.1 in
+    let a = both_ok (ref_name_of t.0.0) (tries_in t.0.1) m.0.0 b.0 in
+    written_head m.0.0.0 m.0.0.1 m.0.1 v m.2 (ref_name_ok t.0.0 m.0.0.0 a.0) (tries_ok t.0.1 m.0.0.1 a.1)
 
 -- a place in the history that is built
 built_ok : (r : Result At ScriptKind) (v : Head) → built_at r ≡ Ok v → (name : Text) × (r ≡ Ok (look.Branch name)) × (head.Read name ≡ v)
@@ -226,26 +233,26 @@ at_ok word w =
     cond_both (word reads codes "tag") _ _ NamesRef (λ _. other_at_ok look.Tag (ref_name_of w) (λ x name e. cc)) (λ _.
     cond_both (word reads codes "id") _ _ NamesRef (λ _. other_at_ok look.Id (id_of w) (λ x name e. cc)) (λ _ name h. absurd (cc))))
 
-read_head_ok : (rest : Option Text) → HasBranch (read_head_of rest)
+read_head_ok : (rest : Option Text) → AreWellHeads (read_head_of rest)
 unfolding read_head_of lone_at
 read_head_ok rest v h =
     let b = built_ok (taken (two rest) (λ w. at_of w.0 w.1)) v h in
     let t = taken_ok (two rest) (λ w. at_of w.0 w.1) (look.Branch b.0) b.1 in
-    subst (λ (h : Head). IsRefName (head_branch h)) b.2 (at_ok t.0.0 t.0.1 b.0 t.2)
+    subst IsWellHead b.2 (at_ok t.0.0 t.0.1 b.0 t.2, tt)
 
 -- no head is made of one that isn't built
-unbuilt_ok : (fits : Bool) → HasBranch (unbuilt_where fits)
+unbuilt_ok : (fits : Bool) → AreWellHeads (unbuilt_where fits)
 unbuilt_ok true v h = absurd (cc)
 unbuilt_ok false v h = absurd (cc)
 
-pub head_ok : (word : Text) (rest : Option Text) → HasBranch (head_of word rest)
+pub head_ok : (word : Text) (rest : Option Text) → AreWellHeads (head_of word rest)
 unfolding head_of
 head_ok word rest =
-    cond_both (word reads codes "write") _ _ HasBranch (λ _. write_head_ok rest) (λ _.
-    cond_both (word reads codes "read") _ _ HasBranch (λ _. read_head_ok rest) (λ _.
-    cond_both (word reads codes "refs") _ _ HasBranch (λ _. unbuilt_ok (is_none rest)) (λ _.
-    cond_both (word reads codes "collect") _ _ HasBranch (λ _. unbuilt_ok (is_some (one rest))) (λ _.
-    cond_both (word reads codes "expire") _ _ HasBranch (λ _. unbuilt_ok (is_some (two rest))) (λ _ v h. absurd (cc))))))
+    cond_both (word reads codes "write") _ _ AreWellHeads (λ _. write_head_ok rest) (λ _.
+    cond_both (word reads codes "read") _ _ AreWellHeads (λ _. read_head_ok rest) (λ _.
+    cond_both (word reads codes "refs") _ _ AreWellHeads (λ _. unbuilt_ok (is_none rest)) (λ _.
+    cond_both (word reads codes "collect") _ _ AreWellHeads (λ _. unbuilt_ok (is_some (one rest))) (λ _.
+    cond_both (word reads codes "expire") _ _ AreWellHeads (λ _. unbuilt_ok (is_some (two rest))) (λ _ v h. absurd (cc))))))
 
 -- a client is the number of a task
 abbrev IsFrom : ℕ → ℕ → Result ℕ ScriptKind → Type 0

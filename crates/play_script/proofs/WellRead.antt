@@ -71,10 +71,11 @@ task_well s n after name word rest w number t h =
     let room = ltb-true (length s.tasks) most_tasks (only_if_ok _ _ _ placed.1) in
     let free : is_used s.tasks name ≡ false = not-true _ (only_if_ok _ _ _ before.1) in
     let is_name = task_name_ok name m.0.0.1 named.1 in
+    let head = head_ok word rest m.0.1 all.1 in
     let task : Task = record { name = m.0.0.1; line = n; head = m.0.1; body = [] } in
     subst IsWell m.2 (record {
       few = omega (arith, length-append s.tasks (task ∷ []), room);
-      tasks = All-push IsWellTask s.tasks task w.tasks (record { name = is_name.0; line = number; branch = head_ok word rest m.0.1 all.1; body = All-nil _; taken = All-nil (λ (l : Line). head_takes m.0.1 (class_of l.call) ≡ true); commit = tt });
+      tasks = All-push IsWellTask s.tasks task w.tasks (record { name = is_name.0; line = number; branch = head.0; tries = head.1; body = All-nil _; taken = All-nil (λ (l : Line). head_takes m.0.1 (class_of l.call) ≡ true); commit = tt });
       names = names_more s.tasks task (subst (λ (x : Text). is_used s.tasks x ≡ false) is_name.1 free) w.names;
       turns = no_turns s.turns _ waiting;
     })

@@ -36,6 +36,7 @@ task_more t l class placed of_class is_well w =
       name = w.name;
       line = w.line;
       branch = w.branch;
+      tries = w.tries;
       body = All-push IsWellLine t.body l w.body is_well;
       taken = taken_more t.head t.body l (rw of_class parts.0) w.taken;
       commit = ends_more t.body l (not-true _ parts.1) w.commit;

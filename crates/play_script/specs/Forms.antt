@@ -18,7 +18,7 @@ use Rattle.play_script.specs.declared.scripts.Class.TheVariants as c
 use Rattle.play_script.specs.declared.forms.Form.{Form}
 use Rattle.play_script.specs.Words.{Text, next, one, two, three, five}
 use Rattle.play_script.specs.Parts.{◌&◌, made}
-use Rattle.play_script.specs.Values.{◌reads◌, path_of, text_of, ref_name_of, id_of, tries_of, policy_of, numbers_of, fill_of, index_of, bytes_of, byte_of}
+use Rattle.play_script.specs.Values.{◌reads◌, path_of, text_of, ref_name_of, id_of, tries_in, policy_in, numbers_of, fill_of, index_of, bytes_of, byte_of}
 use Rattle.play_script.specs.Arrays.{array_line_text}
 
 -- the words that a form takes, and what it makes of them
@@ -157,7 +157,7 @@ ref_of first rest =
 
 -- `write BRANCH TRIES POLICY`
 unfoldable pub write_head_of : Option Text → Result Head ScriptKind
-write_head_of rest = taken (three rest) (λ w. made (λ v. head.Write v.0.0) (ref_name_of w.0 & tries_of w.1 & policy_of w.2))
+write_head_of rest = taken (three rest) (λ w. made (λ v. head.Write v.0.0 v.0.1 v.1) (ref_name_of w.0 & tries_in w.1 & policy_in w.2))
 
 -- a task that reads, of whose places a branch alone is built
 abbrev pub built_at : Result At ScriptKind → Result Head ScriptKind

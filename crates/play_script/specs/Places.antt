@@ -38,7 +38,7 @@ class_of (call.Read look) = c.Read
 class_of (call.Commit message) = c.Commit
 
 abbrev pub head_takes : Head → Class → Bool
-head_takes (head.Write branch) class = true
+head_takes (head.Write branch tries policy) class = true
 head_takes (head.Read branch) c.Edit = false
 head_takes (head.Read branch) c.Read = true
 head_takes (head.Read branch) c.Commit = false

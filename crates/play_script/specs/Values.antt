@@ -1,5 +1,5 @@
 -- Own: what a word stands for, or the kind of its fault.
-use Rattle.std.specs.Prelude.{ℕ, ◌+◌, ◌-◌, ◌*◌, ◌^◌, ◌==◌, min, ℤ, pos, negsuc, int_le, List, [], ◌∷◌, map, if◌then◌else◌, Option, Some, None, Result, Ok, Err, Bool, true, not, ◌&&◌, ◌||◌, nat_le, length, drop, bytes_eq, codes}
+use Rattle.std.specs.Prelude.{ℕ, ◌+◌, ◌-◌, ◌*◌, ◌^◌, ◌==◌, min, ℤ, pos, negsuc, int_le, List, [], ◌∷◌, map, if◌then◌else◌, Option, Some, None, Result, Ok, Err, Bool, true, false, not, ◌&&◌, ◌||◌, nat_le, length, drop, bytes_eq, codes}
 use Rattle.std.specs.List.{list_all}
 use Rattle.std.specs.Char.{is_ascii_digit, is_ascii_lowercase}
 use Rattle.std.specs.Str.Parse.{digits_value, starts_with_minus, signed_digits_value}
@@ -9,10 +9,13 @@ use Rattle.ice_ids.specs.declared.Id12.{Id12}
 use Rattle.ice_ids.specs.Text.{id12_of_text}
 use Rattle.std.specs.Str.{is_utf8}
 use Rattle.zarr_path.specs.Paths.{is_path}
+use Rattle.conflicts.specs.declared.solving.Pick.{Pick}
+use Rattle.conflicts.specs.declared.solving.Pick.TheVariants as pick
+use Rattle.conflicts.specs.declared.solving.Policy.{Policy}
 use Rattle.play_script.specs.declared.faults.ScriptKind.{ScriptKind}
 use Rattle.play_script.specs.declared.faults.ScriptKind.TheVariants as k
 use Rattle.play_script.specs.Words.{Text, cut_of, parts}
-use Rattle.play_script.specs.Parts.{◌&◌, made, only_if, each, told_as}
+use Rattle.play_script.specs.Parts.{◌&◌, made, each, told_as}
 
 -- the word is this text
 infix 30 ◌reads◌
@@ -107,31 +110,30 @@ unfoldable pub count_of : Option Text → Result ℕ ScriptKind
 count_of None = Ok 1
 count_of (Some w) = number_of 1 9999 w
 
--- a word of its grammar, and of such words the one that is built
-abbrev pub only_built : Bool → ScriptKind → Text → Text → Result (Unit {0}) ScriptKind
-only_built fits kind w text = made (λ v. v.1) (only_if fits kind & only_if (w reads text) k.Unbuilt)
+-- how often a commit may be carried over those of others: one digit
+unfoldable pub tries_in : Text → Result ℕ ScriptKind
+tries_in [] = Err k.Number
+tries_in (b ∷ []) = if is_ascii_digit b then Ok (b - 48) else Err k.Number
+tries_in (b ∷ c ∷ w) = Err k.Number
 
--- one digit
-abbrev pub is_digit : Text → Bool
-is_digit w = (length w == 1) && list_all is_ascii_digit w
+-- what becomes of a chunk that both sides wrote
+unfoldable pub pick_in : Text → Result Pick ScriptKind
+pick_in w =
+    if w reads codes "fail" then Ok pick.Fail else
+    (if w reads codes "ours" then Ok pick.Ours else
+    (if w reads codes "theirs" then Ok pick.Theirs else Err k.Word))
 
--- how often a commit is carried over those of others: one digit, of which `0` is built
-unfoldable pub tries_of : Text → Result (Unit {0}) ScriptKind
-tries_of w = only_built (is_digit w) k.Number w (codes "0")
+-- whether updated arrays may be dropped, and whether groups may: `a`, `g` or `ag` behind a `+`, and neither where none stands
+unfoldable pub drops_in : Option Text → Result (Bool × Bool) ScriptKind
+drops_in None = Ok (false, false)
+drops_in (Some w) =
+    if w reads codes "a" then Ok (true, false) else
+    (if w reads codes "g" then Ok (false, true) else
+    (if w reads codes "ag" then Ok (true, true) else Err k.Word))
 
--- which side of a conflict stays
-abbrev pub is_side : Text → Bool
-is_side w = (w reads codes "fail") || (w reads codes "ours") || (w reads codes "theirs")
+abbrev pub policy : Pick × (Bool × Bool) → Policy
+policy v = record { chunks = v.0; drop_arrays = v.1.0; drop_groups = v.1.1 }
 
--- which drops of updated nodes pass, behind a `+`: those of arrays, of groups, of both
-abbrev pub are_drops : Option Text → Bool
-are_drops None = true
-are_drops (Some w) = (w reads codes "a") || (w reads codes "g") || (w reads codes "ag")
-
--- a policy is a side, and perhaps drops
-unfoldable pub is_policy : Text → Bool
-is_policy w = is_side (cut_of 43 w).0 && are_drops (cut_of 43 w).1
-
--- a policy, of which `fail` is built
-unfoldable pub policy_of : Text → Result (Unit {0}) ScriptKind
-policy_of w = only_built (is_policy w) k.Word w (codes "fail")
+-- how conflicts are solved: what becomes of chunks, and perhaps which drops pass
+unfoldable pub policy_in : Text → Result Policy ScriptKind
+policy_in w = made policy (pick_in (cut_of 43 w).0 & drops_in (cut_of 43 w).1)

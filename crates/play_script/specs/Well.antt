@@ -71,8 +71,13 @@ EndsAtCommit [] = Unit {0}
 EndsAtCommit (l ∷ ls) = (IsTrue (is_commit_call l.call) → ls ≡ []) × EndsAtCommit ls
 
 abbrev pub head_branch : Head → Text
-head_branch (head.Write branch) = branch
+head_branch (head.Write branch tries policy) = branch
 head_branch (head.Read branch) = branch
+
+-- a commit is carried over those of others at most 9 times
+abbrev pub HasFewTries : Head → Type 0
+HasFewTries (head.Write branch tries policy) = tries ≤ 9
+HasFewTries (head.Read branch) = Unit {0}
 
 -- the lines are of classes that the head takes
 abbrev pub AreTaken : Head → List Line → Type 0
@@ -82,6 +87,7 @@ pub record IsWellTask (t : Task) : Type 0 where
   pub name : IsTrue (is_task_name t.name)
   pub line : IsLineNumber t.line
   pub branch : IsRefName (head_branch t.head)
+  pub tries : HasFewTries t.head
   pub body : All IsWellLine t.body
   pub taken : AreTaken t.head t.body
   pub commit : EndsAtCommit t.body

@@ -12,10 +12,11 @@
 //! - heads `task NAME refs`, `task NAME collect CUTOFF`, `task NAME expire CUTOFF FLAGS`, and lines of refs, none of them built;
 //! - `turns WORDS`, each word a task's `NAME`, or `NAME*COUNT` with a count of 1 to 9,999; perhaps no word.
 //!
-//! Names are 1 to 16 bytes of `a` to `z`, `0` to `9` and `_`, and distinct. AT is `branch REF`, `tag REF` or `id ID`; a branch,
-//! TRIES `0` and POLICY `fail` are built. SHAPE, CHUNKS and INDEX are numbers of up to
-//! 128 bits joined by commas, or `-` for none; FILL is a number of 128 bits with a sign. HEX is pairs of lower-case digits
-//! of base 16, or `-` for no bytes; BYTE is one such pair. A KEY is any word.
+//! Names are 1 to 16 bytes of `a` to `z`, `0` to `9` and `_`, and distinct. TRIES is one digit.
+//! POLICY is `fail`, `ours` or `theirs`, alone or followed by `+a`, `+g` or `+ag`. AT is `branch REF`, `tag REF` or `id ID`, of
+//! which a branch is built. SHAPE, CHUNKS and INDEX are numbers of up to 128 bits joined by commas, or `-` for none; FILL is a
+//! number of 128 bits with a sign. HEX is pairs of lower-case digits of base 16, or `-` for no bytes; BYTE is one such pair. A
+//! KEY is any word.
 #![tactic(auto)]
 
 mod arrays;

@@ -21,7 +21,11 @@ fn write(alloc: Global, rest: Option<&str>) -> Result<Result<Head, ScriptKind>, 
     let branch = ref_name_in(alloc, branch)?;
     Ok(
         match both(both(branch, tries_in(tries)), policy_in(policy)) {
-            Ok(((branch, ()), ())) => Ok(Head::Write { branch }),
+            Ok(((branch, tries), policy)) => Ok(Head::Write {
+                branch,
+                tries,
+                policy,
+            }),
             Err(kind) => Err(kind),
         },
     )

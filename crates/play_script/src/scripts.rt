@@ -1,6 +1,7 @@
 //! What a script says.
 
 use crate::values::TaskName;
+use conflicts::Policy;
 use ice_base::{Bytes, RefName, Text};
 use ice_ids::Id12;
 use ice_items::Items;
@@ -161,6 +162,10 @@ pub enum Head {
     Write {
         /// The branch.
         branch: RefName,
+        /// How often its commit may be carried over those of others, at most 9 times.
+        tries: u8,
+        /// How conflicts with them are solved.
+        policy: Policy,
     },
     /// The task reads the tree at a branch.
     Read {

@@ -3,13 +3,14 @@
 ghost use Rattle.std.specs.Prelude.{◌≡◌, ◌<◌, IfOk, Ok, map};
 ghost use Rattle.std.specs.List.{list_all};
 ghost use Rattle.std.specs.Char.{is_ascii_digit};
-ghost use Rattle.play_script.specs.Values.{is_digits, number_of, wide_of, numbers_of, clamped, index_of, hex_digit_of, byte_of, pairs, bytes_of, magnitude, fill_of, is_task_name, is_task_byte, task_name_of, path_of, text_of, ref_name_of, id_of, only_built, is_digit, tries_of, is_side, are_drops, is_policy, policy_of, count_of};
+ghost use Rattle.play_script.specs.Values.{is_digits, number_of, wide_of, numbers_of, clamped, index_of, hex_digit_of, byte_of, pairs, bytes_of, magnitude, fill_of, is_task_name, is_task_byte, task_name_of, path_of, text_of, ref_name_of, id_of, tries_in, pick_in, drops_in, policy_in, count_of};
 ghost use Rattle.play_script.specs.Words.{parts, seen};
 ghost use Rattle.play_script.specs.Parts.{each};
 ghost use Rattle.play_script.specs.SoFar.{parts_seen};
 
-use crate::faults::{ScriptKind, both, only_if, with_part};
+use crate::faults::{ScriptKind, both, with_part};
 use crate::words::cut;
+use conflicts::{Pick, Policy};
 use ice_base::{Bytes, NameFault, RefName, Text};
 use ice_ids::Id12;
 use std::alloc::{AllocError, Global};
@@ -320,61 +321,56 @@ pub fn count_in(text: Option<&str>) -> Result<u32, ScriptKind>
     }
 }
 
-/// A word of its grammar, and of such words the one that is built.
-fn only_built(fits: bool, kind: ScriptKind, word: &str, built: &str) -> Result<(), ScriptKind>
-    ensures { result ≡ only_built fits kind word.now built.now }
+/// How often a commit may be carried over those of others.
+#[tactic(auto, unfolding(crate::specs::Values::tries_in))]
+pub fn tries_in(word: &str) -> Result<u8, ScriptKind>
+    ensures { result ≡ tries_in word.now }
 {
-    let is_built = only_if(word == built, ScriptKind::Unbuilt);
-    match both(only_if(fits, kind), is_built) {
-        Ok(((), ())) => Ok(()),
-        Err(kind) => Err(kind),
+    match word.as_bytes() {
+        [digit @ b'0'..=b'9'] => Ok(digit - b'0'),
+        _ => Err(ScriptKind::Number),
     }
 }
 
-fn is_digit(word: &str) -> bool
-    ensures { result ≡ is_digit word.now }
+/// What becomes of a chunk that both sides wrote.
+#[tactic(auto, unfolding(crate::specs::Values::pick_in))]
+fn pick_in(word: &str) -> Result<Pick, ScriptKind>
+    ensures { result ≡ pick_in word.now }
 {
-    if word.len() != 1 {
-        return false;
+    match word {
+        "fail" => Ok(Pick::Fail),
+        "ours" => Ok(Pick::Ours),
+        "theirs" => Ok(Pick::Theirs),
+        _ => Err(ScriptKind::Word),
     }
-    are_digits(word)
 }
 
-/// How often a commit is carried over those of others.
-#[tactic(auto, unfolding(crate::specs::Values::tries_of))]
-pub fn tries_in(word: &str) -> Result<(), ScriptKind>
-    ensures { result ≡ tries_of word.now }
-{
-    only_built(is_digit(word), ScriptKind::Number, word, "0")
-}
-
-fn is_side(word: &str) -> bool
-    ensures { result ≡ is_side word.now }
-{
-    word == "fail" || word == "ours" || word == "theirs"
-}
-
-fn are_drops(text: Option<&str>) -> bool
-    ensures { result ≡ are_drops (seen text.entry) }
+/// Whether updated arrays may be dropped, and whether groups may.
+#[tactic(auto, unfolding(crate::specs::Values::drops_in))]
+fn drops_in(text: Option<&str>) -> Result<(bool, bool), ScriptKind>
+    ensures { result ≡ drops_in (seen text.entry) }
 {
     match text {
-        None => true,
-        Some(word) => word == "a" || word == "g" || word == "ag",
+        None => Ok((false, false)),
+        Some("a") => Ok((true, false)),
+        Some("g") => Ok((false, true)),
+        Some("ag") => Ok((true, true)),
+        Some(_) => Err(ScriptKind::Word),
     }
 }
 
-#[tactic(auto, unfolding(crate::specs::Values::is_policy))]
-fn is_policy(word: &str) -> bool
-    ensures { result ≡ is_policy word.now }
+/// How conflicts are solved.
+#[tactic(auto, unfolding(crate::specs::Values::policy_in))]
+pub fn policy_in(word: &str) -> Result<Policy, ScriptKind>
+    ensures { result ≡ policy_in word.now }
 {
-    let (side, drops) = cut(word, '+');
-    is_side(side) && are_drops(drops)
-}
-
-/// Who wins a conflict.
-#[tactic(auto, unfolding(crate::specs::Values::policy_of))]
-pub fn policy_in(word: &str) -> Result<(), ScriptKind>
-    ensures { result ≡ policy_of word.now }
-{
-    only_built(is_policy(word), ScriptKind::Word, word, "fail")
+    let (chunks, drops) = cut(word, '+');
+    match both(pick_in(chunks), drops_in(drops)) {
+        Ok((chunks, (drop_arrays, drop_groups))) => Ok(Policy {
+            chunks,
+            drop_arrays,
+            drop_groups,
+        }),
+        Err(kind) => Err(kind),
+    }
 }

@@ -3,7 +3,8 @@ use Rattle.std.proofs.Common.{◌≡◌, refl, sym, ◌∙◌, ap, cond, Bool, t
 use Rattle.std.specs.Prelude.{nat_le, nat_lt}
 use Rattle.ice_ids.specs.declared.Id8.{Id8}
 use Rattle.ice_ids.specs.declared.Id12.{Id12}
-use Rattle.ice_ids.specs.Drawing.{drawn12}
+use Rattle.ice_ids.specs.declared.drawing.AnyIds.{AnyIds}
+use Rattle.ice_ids.specs.Drawing.{drawn12, after12}
 use Rattle.flat_tables.specs.declared.header.Kind.TheVariants as kinds
 use Rattle.zarr_tree.specs.declared.edit.EditFault.{EditFault}
 use Rattle.zarr_tree.specs.declared.edit.EditFault.TheVariants as E
@@ -118,14 +119,14 @@ unfolding arrays_program
 arrays-calm rows entries [] w = λ why e. absurd (cc)
 arrays-calm rows entries (a ∷ more) w = ends-behind (array_program rows entries w a) _ (array-calm rows entries w a) (λ v. arrays-calm rows entries more v)
 
-log-calm : (s : SessionState) (message : List ℕ) (news : List NewList) (o : Option Id12) → EndsCalmly (put_log s message news o)
-log-calm s message news None = ends-refused R.IdsSpent refl
-log-calm s message news (Some id) = either (is_long (log_file (log_for s id))) _ _ (ends-refused (R.TooLarge kinds.Log) refl) (λ why e. absurd (cc))
+log-calm : (s : SessionState) (message : List ℕ) (news : List NewList) (o : Option Id12) (next : AnyIds) → EndsCalmly (put_log s message news o next)
+log-calm s message news None next = ends-refused R.IdsSpent refl
+log-calm s message news (Some id) next = either (is_long (log_file (log_for s id))) _ _ (ends-refused (R.TooLarge kinds.Log) refl) (λ why e. absurd (cc))
 
 pub commit-calm : (s : SessionState) (message : List ℕ) → EndsCalmly (commit_program s message)
 unfolding commit_program
 commit-calm s message =
     either s.writes _ _
     (either (is_untouched (touched s.held (base_nodes s))) _ _ (ends-refused R.NothingToCommit refl)
-    (ends-behind (arrays_program s.rows s.held.chunks (changed_arrays s.held (base_nodes s)) (unwritten s)) (after_arrays s message) (arrays-calm s.rows s.held.chunks (changed_arrays s.held (base_nodes s)) (unwritten s)) (λ w. log-calm s message w.news (drawn12 w.ids))))
+    (ends-behind (arrays_program s.rows s.held.chunks (changed_arrays s.held (base_nodes s)) (unwritten s)) (after_arrays s message) (arrays-calm s.rows s.held.chunks (changed_arrays s.held (base_nodes s)) (unwritten s)) (λ w. log-calm s message w.news (drawn12 w.ids) (after12 w.ids))))
     (ends-refused R.ReadOnly refl)

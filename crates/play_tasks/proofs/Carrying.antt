@@ -1,5 +1,5 @@
 -- What a client minds at each of its operations, and what that carries to the end of its play.
-use Rattle.std.proofs.Common.{◌≡◌, List, [], ◌∷◌, ◌++◌, ℕ, refl, sym, ◌∙◌, ap, subst, append_assoc}
+use Rattle.std.proofs.Common.{List, [], ◌∷◌, ◌++◌, ℕ, refl, sym, ◌∙◌, ap, subst, append_assoc}
 use Rattle.ice_ids.specs.declared.Id12.{Id12}
 use Rattle.ice_ids.specs.declared.drawing.AnyIds.{AnyIds}
 use Rattle.store_api.specs.declared.keys.Key.{Key}
@@ -18,19 +18,32 @@ use Rattle.store_api.proofs.Programs.{Leads-weaker}
 use Rattle.session.specs.Sessions.{SessionState}
 use Rattle.commit_path.specs.Owed.{Sessions, OwesOver, OwesSnap, OwesNew, OwesPutOver, Owes, IsCareful}
 use Rattle.store_api.specs.Telling.{ChangedNothing}
-use Rattle.commit_path.specs.Single.{PutsSnapshot, PutsNone, HasPutNone, IsSingle}
+use Rattle.commit_path.specs.Single.{PutsSnapshot, PutsNone, HasPutNone}
 use Rattle.commit_path.proofs.Singling.{HasPutNone-others}
 use Rattle.store_api.proofs.Telling.{makes-keeps}
+use Rattle.rebase.proofs.Own.{stays-makes}
 use Rattle.play_tasks.specs.Solving.{MayEnd}
 
--- an operation is polite and owed, and comes before its client changed a branch, and one that puts a snapshot before it put any
+-- an operation is polite and owed, and comes before its client changed a branch
 abbrev pub Minds : AnyIds → Sessions → List Event → List Event → ℕ → Op → Type 0
-Minds ids mine start journal client op = IsCareful ids mine journal client op × ChangedNothing client start journal × IsSingle start journal client op
+Minds ids mine start journal client op = IsCareful ids mine journal client op × ChangedNothing client start journal
 
-pub Keeps-minds : {A : Type 0} (ids : AnyIds) (mine : Sessions) (start : List Event) (by : Caller) (p : Prog A) (journal : List Event) → Keeps (IsCareful ids mine) by p journal → Keeps (IsSingle start) by p journal → Stays (ChangedNothing by.number start) by p journal → Keeps (Minds ids mine start) by p journal
+pub Keeps-minds : {A : Type 0} (ids : AnyIds) (mine : Sessions) (start : List Event) (by : Caller) (p : Prog A) (journal : List Event) → Keeps (IsCareful ids mine) by p journal → Stays (ChangedNothing by.number start) by p journal → Keeps (Minds ids mine start) by p journal
 unfolding Keeps Stays
-Keeps-minds ids mine start by (Done a) journal k o s = tt
-Keeps-minds ids mine start by (Ask_next op next) journal k o s = ((k.0, s.0, o.0), λ reply new m. Keeps-minds ids mine start by (next reply) new (k.1 reply new m) (o.1 reply new m) (s.1 reply new m).1)
+Keeps-minds ids mine start by (Done a) journal k s = tt
+Keeps-minds ids mine start by (Ask_next op next) journal k s = ((k.0, s.0), λ reply new m. Keeps-minds ids mine start by (next reply) new (k.1 reply new m) (s.1 reply new m).1)
+
+-- where Q follows from P at the client's own operations
+pub Keeps-own : {A : Type 0} (P Q : List Event → ℕ → Op → Type 0) (by : Caller) → ((journal : List Event) (op : Op) → P journal by.number op → Q journal by.number op) → (p : Prog A) (journal : List Event) → Keeps P by p journal → Keeps Q by p journal
+unfolding Keeps
+Keeps-own P Q by f (Done a) journal k = tt
+Keeps-own P Q by f (Ask_next op g) journal k = (f journal op k.0, λ reply new m. Keeps-own P Q by f (g reply) new (k.1 reply new m))
+
+-- two facts of each operation
+pub Keeps-both : {A : Type 0} (P Q : List Event → ℕ → Op → Type 0) (by : Caller) (p : Prog A) (journal : List Event) → Keeps P by p journal → Keeps Q by p journal → Keeps (λ h client op. P h client op × Q h client op) by p journal
+unfolding Keeps
+Keeps-both P Q by (Done a) journal k o = tt
+Keeps-both P Q by (Ask_next op next) journal k o = ((k.0, o.0), λ reply new m. Keeps-both P Q by (next reply) new (k.1 reply new m) (o.1 reply new m))
 
 -- two facts of each answer
 pub Leads-both : {A : Type 0} (Q R : A → List Event → Type 0) (by : Caller) (p : Prog A) (journal : List Event) → Leads Q by p journal → Leads R by p journal → Leads (λ a h. Q a h × R a h) by p journal
@@ -56,8 +69,36 @@ PlayLeads-carry P stable ids mine start by (Ask op s g) journal Q k p l = (
 )
 PlayLeads-carry P stable ids mine start by (Or p q) journal Q k held l = (PlayLeads-carry P stable ids mine start by p journal Q k.0 held l.0, PlayLeads-carry P stable ids mine start by q journal Q k.1 held l.1)
 
+-- ---- what stays so, whatever comes
+module _ (P : List Event → Type 0) (stays : (journal more : List Event) → P journal → P (journal ++ more)) (by : Caller) where
+  -- ... holds at each operation
+  pub Keeps-with : {A : Type 0} (Q : List Event → ℕ → Op → Type 0) (p : Prog A) (journal : List Event) → P journal → Keeps Q by p journal → Keeps (λ h client op. P h × Q h client op) by p journal
+  unfolding Keeps
+  Keeps-with Q (Done a) journal held k = tt
+  Keeps-with Q (Ask_next op next) journal held k = ((held, k.0), λ reply new m. Keeps-with Q (next reply) new (stays-makes P stays by op reply journal new m held) (k.1 reply new m))
+
+  -- ... and at each answer
+  pub Leads-with : {A : Type 0} (Q : A → List Event → Type 0) (p : Prog A) (journal : List Event) → P journal → Leads Q by p journal → Leads (λ a h. P h × Q a h) by p journal
+  unfolding Leads
+  Leads-with Q (Done a) journal held l = (held, l)
+  Leads-with Q (Ask_next op next) journal held l = λ reply new m. Leads-with Q (next reply) new (stays-makes P stays by op reply journal new m held) (l reply new m)
+
+  -- ... and at each operation of a play
+  pub PlayKeeps-with : {A : Type 0} (Q : List Event → ℕ → Op → Type 0) (p : Play A) (journal : List Event) → P journal → PlayKeeps Q by p journal → PlayKeeps (λ h client op. P h × Q h client op) by p journal
+  unfolding PlayKeeps
+  PlayKeeps-with Q (Ended a) journal held k = tt
+  PlayKeeps-with Q (Ask op s g) journal held k = ((held, k.0), PlayKeeps-with Q s journal held k.1, λ reply new m. PlayKeeps-with Q (g reply) new (stays-makes P stays by op reply journal new m held) (k.2 reply new m))
+  PlayKeeps-with Q (Or p q) journal held k = (PlayKeeps-with Q p journal held k.0, PlayKeeps-with Q q journal held k.1)
+
+-- what good events keep holds at each answer of a careful program
+pub Leads-good : {A : Type 0} (P : List Event → Type 0) → ((journal more : List Event) → Each IsGood journal more → P journal → P (journal ++ more)) → (ids : AnyIds) (mine : Sessions) (by : Caller) (Q : A → List Event → Type 0) (p : Prog A) (journal : List Event)
+    → Keeps (IsCareful ids mine) by p journal → P journal → Leads Q by p journal → Leads (λ a h. P h × Q a h) by p journal
+unfolding Keeps Leads
+Leads-good P stable ids mine by Q (Done a) journal k held l = (held, l)
+Leads-good P stable ids mine by Q (Ask_next op next) journal k held l = λ reply new m. Leads-good P stable ids mine by Q (next reply) new (k.1 reply new m) (makes-keeps P stable by op reply journal new k.0.polite m held) (l reply new m)
+
 -- ---- what is owed for fewer sessions is owed for more
-module _ (ids : AnyIds) (mine more : Sessions) (f : (s : SessionState) (id : Id12) → mine s id → more s id) (journal : List Event) where
+module _ (ids : AnyIds) (mine more : Sessions) (journal : List Event) (f : (s : SessionState) (id : Id12) → mine journal s id → more journal s id) where
   owes-snap : (id : Id12) (bytes : List ℕ) → OwesSnap mine journal id bytes → OwesSnap more journal id bytes
   owes-snap id bytes o = record {
     session = o.session;

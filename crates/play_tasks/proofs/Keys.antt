@@ -1,6 +1,6 @@
 -- Lines that set, erase and read what keys have.
 use Rattle.std.proofs.Common.{◌≡◌, ◌≢◌, inl, inr, refl, sym, ap, subst, ◌∙◌, arith, Bool, true, false, ℕ, zero, suc, ◌<◌, List, [], ◌∷◌, ◌++◌, append_assoc, length, Option, None, Some, Result, Ok, Err}
-use Rattle.std.specs.Prelude.{nat_lt, codes, take}
+use Rattle.std.specs.Prelude.{nat_lt, codes}
 use Rattle.std.specs.FinMap.{get}
 use Rattle.std.specs.List.{list_all}
 use Rattle.std.specs.Str.{is_utf8, IsUtf8, IsAscii}
@@ -10,24 +10,25 @@ use Rattle.std.proofs.lemmas.Str.{IsUtf8-from_is_utf8, is_utf8-from_IsUtf8, IsUt
 use Rattle.ice_ids.specs.declared.Id8.{Id8}
 use Rattle.zarr_path.specs.declared.keys.ZarrKey.{ZarrKey}
 use Rattle.zarr_path.specs.declared.keys.ZarrKey.TheVariants as k
-use Rattle.zarr_path.specs.Paths.{root, is_path}
+use Rattle.zarr_path.specs.Paths.{root}
 use Rattle.zarr_path.specs.Keys.{key_of, key_front, meta_key}
 use Rattle.zarr_path.proofs.KeyLaws.{key_law}
 use Rattle.zarr_path.proofs.KeyTests.{front-inner}
 use Rattle.zarr_path.proofs.SpellLaws.{path_parts}
 use Rattle.zarr_tree.specs.Nodes.{Node}
 use Rattle.zarr_keys.specs.declared.values.KeyValue.{KeyValue}
-use Rattle.zarr_keys.specs.Keys.{chunk_value, session_of, answered, get_at, key_get_program, put_over, meta_put, set_at, key_set_program, erased_at, key_erased}
+use Rattle.zarr_keys.specs.Keys.{chunk_value, session_of, answered, get_at, key_get_program, put_over, set_at, key_set_program, erased_at, key_erased}
 use Rattle.zarr_keys.specs.Calls.{GetRefused}
 use Rattle.store_api.specs.declared.machines.Refusal.{Refusal}
 use Rattle.store_api.specs.declared.machines.Refusal.TheVariants as R
-use Rattle.store_api.specs.Program.{Done, Ask, IsAsk, is_ask, is_fault, is_no_memory}
+use Rattle.store_api.specs.Program.{Done, Ask, IsAsk, is_fault, is_no_memory}
 use Rattle.store_api.specs.Running.{Program, ◌>>=◌}
 use Rattle.store_api.specs.Plays.{Play, Ask as Ask_play, Or, call, behind, Comes}
 use Rattle.session.specs.declared.chunks.Value.{Value}
 use Rattle.session.specs.Sessions.{SessionState, nodes_seen}
 use Rattle.session.specs.Editing.{Leaves, node_fault, node_added}
 use Rattle.session.specs.Chunks.{get_program}
+use Rattle.play_script.specs.declared.scripts.Head.{Head}
 use Rattle.play_script.specs.Well.{IsWellPath}
 use Rattle.play_outcome.specs.declared.outcome.Shown.{Shown}
 use Rattle.play_outcome.specs.declared.outcome.Outcome.{Outcome}
@@ -119,14 +120,14 @@ key-get-why p s back R.NoMemory c e = absurd (cc)
 key-get-why p s back why c e = c.0
 
 -- ---- a key that is set
-set_plays : (line : ℕ) (shown : List Shown) (s : SessionState) (bytes : List ℕ) (rest : Rest) (o : Option ZarrKey) → play_deed line shown s (key_set_deed bytes o s) rest ≡ call (set_at s bytes o) (after_set line shown rest)
-set_plays line shown s bytes rest None = refl
-set_plays line shown s bytes rest (Some (k.Meta path)) = refl
-set_plays line shown s bytes rest (Some (k.Chunk path index)) = refl
+set_plays : (head : Head) (line : ℕ) (shown : List Shown) (s : SessionState) (bytes : List ℕ) (rest : Rest) (o : Option ZarrKey) → play_deed head line shown s (key_set_deed bytes o s) rest ≡ call (set_at s bytes o) (after_set line shown rest)
+set_plays head line shown s bytes rest None = refl
+set_plays head line shown s bytes rest (Some (k.Meta path)) = refl
+set_plays head line shown s bytes rest (Some (k.Chunk path index)) = refl
 
-pub key-set-plays : (line : ℕ) (shown : List Shown) (s : SessionState) (key bytes : List ℕ) (rest : Rest) → play_deed line shown s (key_set_deed bytes (key_of key) s) rest ≡ call (key_set_program s key bytes) (after_set line shown rest)
+pub key-set-plays : (head : Head) (line : ℕ) (shown : List Shown) (s : SessionState) (key bytes : List ℕ) (rest : Rest) → play_deed head line shown s (key_set_deed bytes (key_of key) s) rest ≡ call (key_set_program s key bytes) (after_set line shown rest)
 unfolding key_set_program
-key-set-plays line shown s key bytes rest = set_plays line shown s bytes rest (key_of key)
+key-set-plays head line shown s key bytes rest = set_plays head line shown s bytes rest (key_of key)
 
 -- what is played the same comes to the same
 pub plays-comes : (line at : ℕ) (shown : List Shown) (f g : Rest → Play Outcome) (x : Step) → ((rest : Rest) → f rest ≡ g rest) → PlayComes line at shown g x → PlayComes line at shown f x
@@ -155,36 +156,36 @@ keyed_same line shown s rest (Err why) = refl
 get_keyed : (line : ℕ) (shown : List Shown) (s : SessionState) (rest : Rest) (p : Program Value) → call (p >>= answered) (after_key line shown s rest) ≡ call p (after_get (chunk_key_shown line) line shown s rest)
 get_keyed line shown s rest p = called-keyed p (after_key line shown s rest) ∙ ap (call p) (λ i r. keyed_same line shown s rest r i)
 
-get_plays : (line : ℕ) (shown : List Shown) (s : SessionState) (rest : Rest) (o : Option ZarrKey) → play_deed line shown s (key_get_deed line o s) rest ≡ call (get_at s o) (after_key line shown s rest)
-get_plays line shown s rest None = refl
-get_plays line shown s rest (Some (k.Meta path)) = refl
-get_plays line shown s rest (Some (k.Chunk path index)) = sym (get_keyed line shown s rest (get_program s path index))
+get_plays : (head : Head) (line : ℕ) (shown : List Shown) (s : SessionState) (rest : Rest) (o : Option ZarrKey) → play_deed head line shown s (key_get_deed line o s) rest ≡ call (get_at s o) (after_key line shown s rest)
+get_plays head line shown s rest None = refl
+get_plays head line shown s rest (Some (k.Meta path)) = refl
+get_plays head line shown s rest (Some (k.Chunk path index)) = sym (get_keyed line shown s rest (get_program s path index))
 
-key_get_plays : (line : ℕ) (shown : List Shown) (s : SessionState) (key : List ℕ) (rest : Rest) → play_deed line shown s (key_get_deed line (key_of key) s) rest ≡ call (key_get_program s key) (after_key line shown s rest)
+key_get_plays : (head : Head) (line : ℕ) (shown : List Shown) (s : SessionState) (key : List ℕ) (rest : Rest) → play_deed head line shown s (key_get_deed line (key_of key) s) rest ≡ call (key_get_program s key) (after_key line shown s rest)
 unfolding key_get_program
-key_get_plays line shown s key rest = get_plays line shown s rest (key_of key)
+key_get_plays head line shown s key rest = get_plays head line shown s rest (key_of key)
 
 -- it was told at once
-pub key-got : (line : ℕ) (shown more : List Shown) (s t : SessionState) (key : List ℕ) (value : KeyValue) (rest : Rest) → key_get_program s key ≡ Done (Ok value) → t ≡ s → more ≡ shown ++ key_shown line value ∷ []
-    → play_deed line shown s (key_get_deed line (key_of key) s) rest ≡ rest t more
-key-got line shown more s t key value rest is same shows =
-    key_get_plays line shown s key rest ∙ ap (λ (p : Program KeyValue). call p (after_key line shown s rest)) is ∙ (λ i. rest (sym same i) (sym shows i))
+pub key-got : (head : Head) (line : ℕ) (shown more : List Shown) (s t : SessionState) (key : List ℕ) (value : KeyValue) (rest : Rest) → key_get_program s key ≡ Done (Ok value) → t ≡ s → more ≡ shown ++ key_shown line value ∷ []
+    → play_deed head line shown s (key_get_deed line (key_of key) s) rest ≡ rest t more
+key-got head line shown more s t key value rest is same shows =
+    key_get_plays head line shown s key rest ∙ ap (λ (p : Program KeyValue). call p (after_key line shown s rest)) is ∙ (λ i. rest (sym same i) (sym shows i))
 
 -- a machine has it to do
-pub key-asks : (line : ℕ) (shown : List Shown) (s t : SessionState) (key : List ℕ) (q : Program Value) (rest : Rest) → key_get_program s key ≡ (q >>= answered) → IsAsk q → t ≡ s
-    → Comes (play_deed line shown s (key_get_deed line (key_of key) s) rest) (call q (after_get (chunk_key_shown line) line shown t rest))
-key-asks line shown s t key q rest is asking same =
-    let to : play_deed line shown s (key_get_deed line (key_of key) s) rest ≡ call q (after_get (chunk_key_shown line) line shown t rest) =
-    key_get_plays line shown s key rest ∙ ap (λ (p : Program KeyValue). call p (after_key line shown s rest)) is ∙ get_keyed line shown s rest q ∙ ap (λ (x : SessionState). call q (after_get (chunk_key_shown line) line shown x rest)) (sym same) in
+pub key-asks : (head : Head) (line : ℕ) (shown : List Shown) (s t : SessionState) (key : List ℕ) (q : Program Value) (rest : Rest) → key_get_program s key ≡ (q >>= answered) → IsAsk q → t ≡ s
+    → Comes (play_deed head line shown s (key_get_deed line (key_of key) s) rest) (call q (after_get (chunk_key_shown line) line shown t rest))
+key-asks head line shown s t key q rest is asking same =
+    let to : play_deed head line shown s (key_get_deed line (key_of key) s) rest ≡ call q (after_get (chunk_key_shown line) line shown t rest) =
+    key_get_plays head line shown s key rest ∙ ap (λ (p : Program KeyValue). call p (after_key line shown s rest)) is ∙ get_keyed line shown s rest q ∙ ap (λ (x : SessionState). call q (after_get (chunk_key_shown line) line shown x rest)) (sym same) in
     subst (λ (p : Play Outcome). Comes p (call q (after_get (chunk_key_shown line) line shown t rest))) (sym to) (began q q (after_get (chunk_key_shown line) line shown t rest) refl asking)
 
 -- it was refused
-pub key-refused : (line : ℕ) (shown : List Shown) (s back : SessionState) (key : List ℕ) (why : Refusal) (rest : Rest) → GetRefused (key_get_program s key) s back why
-    → Comes (Or (play_deed line shown s (key_get_deed line (key_of key) s) rest) (refused line shown R.NoMemory)) (refused line shown why)
-key-refused line shown s back key why rest c = by_memory (is_no_memory why) refl
+pub key-refused : (head : Head) (line : ℕ) (shown : List Shown) (s back : SessionState) (key : List ℕ) (why : Refusal) (rest : Rest) → GetRefused (key_get_program s key) s back why
+    → Comes (Or (play_deed head line shown s (key_get_deed line (key_of key) s) rest) (refused line shown R.NoMemory)) (refused line shown why)
+key-refused head line shown s back key why rest c = by_memory (is_no_memory why) refl
   where
-    by_memory : (b : Bool) → is_no_memory why ≡ b → Comes (Or (play_deed line shown s (key_get_deed line (key_of key) s) rest) (refused line shown R.NoMemory)) (refused line shown why)
+    by_memory : (b : Bool) → is_no_memory why ≡ b → Comes (Or (play_deed head line shown s (key_get_deed line (key_of key) s) rest) (refused line shown R.NoMemory)) (refused line shown why)
     by_memory true e = inr (ap (refused line shown) (is_memory why e))
     by_memory false e =
-        let to = key_get_plays line shown s key rest ∙ ap (λ (p : Program KeyValue). call p (after_key line shown s rest)) (key-get-why (key_get_program s key) s back why c e) in
+        let to = key_get_plays head line shown s key rest ∙ ap (λ (p : Program KeyValue). call p (after_key line shown s rest)) (key-get-why (key_get_program s key) s back why c e) in
         inl (subst (λ (p : Play Outcome). Comes p (refused line shown why)) (sym to) refl)

@@ -6,6 +6,9 @@ pub mod Keys
 pub mod Carrying
 pub mod Early
 pub mod Ready
+pub mod Tried
+pub mod Going
+pub mod Trying
 pub mod Playing
 pub mod Others
 pub mod Paths

@@ -19,6 +19,7 @@ use Rattle.session.specs.Sessions.{SessionState, nodes_seen}
 use Rattle.session.specs.Editing.{Adds, Leaves, refusal_of_edit, node_fault, added, meta_set, node_dropped, if_writes, unless_bad, unless_refused, drawn_node}
 use Rattle.session.specs.Chunks.{chunk_unset}
 use Rattle.zarr_keys.specs.Keys.{session_of}
+use Rattle.play_script.specs.declared.scripts.Head.{Head}
 use Rattle.play_script.specs.declared.scripts.Line.{Line}
 use Rattle.play_script.specs.declared.scripts.Task.{Task}
 use Rattle.play_outcome.specs.declared.outcome.Shown.{Shown}
@@ -105,25 +106,25 @@ drop_at : (lines : List Line) (i : ℕ) (l : Line) → i < length lines → drop
 drop_at lines i l within = let next : suc i ≡ i + 1 = omega arith in drop-cons lines i l within ∙ ap (λ (n : ℕ). slice_index_or lines i l ∷ drop n lines) next
 
 -- the first of the lines of a body that are left
-one_left : (body lines : List Line) (i : ℕ) (l : Line) (s : SessionState) (shown : List Shown) → lines ≡ body → i < length lines → l ≡ slice_index_or lines i l
-    → play_lines (drop i body) s shown ≡ Or (play_deed l.number shown s (deed l.number l.call s) (play_lines (drop (i + 1) body))) (refused l.number shown R.NoMemory)
+one_left : (head : Head) (body lines : List Line) (i : ℕ) (l : Line) (s : SessionState) (shown : List Shown) → lines ≡ body → i < length lines → l ≡ slice_index_or lines i l
+    → play_lines head (drop i body) s shown ≡ Or (play_deed head l.number shown s (deed l.number l.call s) (play_lines head (drop (i + 1) body))) (refused l.number shown R.NoMemory)
 unfolding play_lines
-one_left body lines i l s shown same within is =
+one_left head body lines i l s shown same within is =
     let there = subst (λ (ls : List Line). i < length ls) same within in
     let own = subst (λ (ls : List Line). l ≡ slice_index_or ls i l) same is in
-    ap (λ (ls : List Line). play_lines ls s shown) (drop_at body i l there ∙ ap (λ (x : Line). x ∷ drop (i + 1) body) (sym own))
+    ap (λ (ls : List Line). play_lines head ls s shown) (drop_at body i l there ∙ ap (λ (x : Line). x ∷ drop (i + 1) body) (sym own))
 
 pub one_stop : (task : Task) (lines : List Line) (i : ℕ) (l : Line) (s : SessionState) (shown : List Shown) (state : Working) → lines ≡ task.body → i < length lines → l ≡ slice_index_or lines i l
-    → LineComes l.number (i + 1) shown s (deed l.number l.call s) (step.Stop state) → Comes (lines_from task i s shown) (working_rest task state)
-one_stop task lines i l s shown state body within is c = subst (λ (p : Play Outcome). Comes p (working_rest task state)) (sym (one_left task.body lines i l s shown body within is)) (c task)
+    → LineComes task.head l.number (i + 1) shown s (deed l.number l.call s) (step.Stop state) → Comes (lines_from task i s shown) (working_rest task state)
+one_stop task lines i l s shown state body within is c = subst (λ (p : Play Outcome). Comes p (working_rest task state)) (sym (one_left task.head task.body lines i l s shown body within is)) (c task)
 
 pub one_on : (task : Task) (lines : List Line) (i : ℕ) (l : Line) (s t : SessionState) (shown more : List Shown) (q : Play Outcome) → lines ≡ task.body → i < length lines → l ≡ slice_index_or lines i l
-    → ((rest : Rest) → play_deed l.number shown s (deed l.number l.call s) rest ≡ rest t more) → Comes (lines_from task (i + 1) t more) q → Comes (lines_from task i s shown) q
+    → ((rest : Rest) → play_deed task.head l.number shown s (deed l.number l.call s) rest ≡ rest t more) → Comes (lines_from task (i + 1) t more) q → Comes (lines_from task i s shown) q
 one_on task lines i l s t shown more q body within is d c =
-    subst (λ (p : Play Outcome). Comes p q) (sym (one_left task.body lines i l s shown body within is)) (inl (subst (λ (p : Play Outcome). Comes p q) (sym (d (lines_from task (i + 1)))) c))
+    subst (λ (p : Play Outcome). Comes p q) (sym (one_left task.head task.body lines i l s shown body within is)) (inl (subst (λ (p : Play Outcome). Comes p q) (sym (d (lines_from task (i + 1)))) c))
 
 pub at_end : (task : Task) (lines : List Line) (i : ℕ) (s : SessionState) (shown kept : List Shown) → lines ≡ task.body → length lines ≤ i → kept ≡ shown → Comes (lines_from task i s shown) (ended kept Done)
 unfolding play_lines
 at_end task lines i s shown kept body over k =
     let past = subst (λ (ls : List Line). length ls ≤ i) body over in
-    subst (λ (ls : List Line). Comes (play_lines ls s shown) (ended kept Done)) (sym (drop_of_length-le task.body past)) (ap (λ (x : List Shown). ended x Done) k)
+    subst (λ (ls : List Line). Comes (play_lines task.head ls s shown) (ended kept Done)) (sym (drop_of_length-le task.body past)) (ap (λ (x : List Shown). ended x Done) k)

@@ -1,6 +1,6 @@
 -- What an outcome tells stays so, whatever good events others make.
-use Rattle.std.proofs.Common.{inl, inr, sym, subst, List, ◌∷◌, [], ◌++◌}
-use Rattle.std.specs.Prelude.{Err}
+use Rattle.std.proofs.Common.{ℕ, inl, inr, sym, subst, List, ◌∷◌, [], ◌++◌}
+use Rattle.std.specs.Prelude.{◌⊎◌, Ok, Err}
 use Rattle.ice_ids.specs.declared.drawing.AnyIds.{AnyIds}
 use Rattle.store_api.specs.declared.events.Event.{Event}
 use Rattle.store_api.specs.declared.machines.Refusal.{Refusal}
@@ -9,19 +9,24 @@ use Rattle.store_api.specs.Callers.{Caller, IsOther}
 use Rattle.store_api.proofs.Programs.{good-waits}
 use Rattle.store_api.proofs.PlayLaws.{IsKeptByOthers}
 use Rattle.session.specs.Sessions.{SessionState}
+use Rattle.commit_path.specs.declared.commit.Tried.TheVariants.{Done as Was_done, Lost}
 use Rattle.commit_path.specs.Laws.{SessionLaw, AnswersLaw}
+use Rattle.commit_path.proofs.Singling.{HasPutAlike-others}
+use Rattle.rebase.proofs.Kept.{rebase-kept}
 use Rattle.store_api.proofs.Happening.{ChangedNothing-others}
 use Rattle.chunk_calls.specs.Laws.{TellsLaw}
+use Rattle.play_script.specs.declared.scripts.Head.{Head}
 use Rattle.play_script.specs.declared.scripts.Line.{Line}
 use Rattle.play_script.specs.declared.scripts.Task.{Task}
 use Rattle.play_outcome.specs.declared.outcome.End.{End}
 use Rattle.play_outcome.specs.declared.outcome.Outcome.{Outcome}
 use Rattle.play_tasks.specs.Lines.{Deed, Goes, Sets, Reads, Commits, deed}
-use Rattle.play_tasks.specs.Playing.{asked_by}
-use Rattle.play_tasks.specs.Telling.{Refuses, EndsAt, TellsOutcome}
+use Rattle.play_tasks.specs.Playing.{asked_by, policy_of}
+use Rattle.play_tasks.specs.Telling.{Refuses, HasCommitted, WasCommitRefused, WasLostAtLast, WasNotRebased, EndsAt, TellsOutcome}
 use Rattle.play_tasks.specs.Laws.{OutcomeLaw}
 use Rattle.play_tasks.proofs.Early.{WasBegun-more}
-use Rattle.play_tasks.proofs.Playing.{PlaysAll-append}
+use Rattle.play_tasks.proofs.Going.{PlaysAll-append}
+use Rattle.play_tasks.proofs.Tried.{WasCarried-append}
 
 -- the laws of what answers tell
 pub record Lasting : Type 0 where
@@ -36,11 +41,43 @@ module _ (L : Lasting) (by : Caller) (start journal more : List Event) (others :
   refuses-others (Reads path index show) s why r = L.chunks.gets by s path index (Err why) start journal more others r
   refuses-others (Commits message) s why r = r
 
-  ends-others : (ls : List Line) (s : SessionState) (end : End) → EndsAt by.number ls s start end journal → EndsAt by.number ls s start end (journal ++ more)
-  ends-others [] s end e = (e.0, ChangedNothing-others by start journal more others e.1)
-  ends-others (l ∷ ls) s end (inl r) = inl (record { why = r.why; refuses = refuses-others (deed l.number l.call s) s r.why r.refuses; end_is = r.end_is })
-  ends-others (l ∷ ls) s end (inr (inl w)) = inr (inl (record { end_is = w.end_is; nothing = ChangedNothing-others by start journal more others w.nothing }))
-  ends-others (l ∷ ls) s end (inr (inr a)) = inr (inr (record { message = a.message; commits = a.commits; answer = a.answer; end_is = a.end_is; tells = L.answers.commit by s a.message a.answer start journal more others a.tells }))
+  -- how its last commit ended
+  module _ (head : Head) (line : ℕ) (message : List ℕ) (count : ℕ) (t : SessionState) (end : End) where
+    abbrev Ends : List Event → Type 0
+    Ends h =
+        HasCommitted by.number t message start end h ⊎ (WasCommitRefused by.number line t message start end h ⊎ (WasLostAtLast by.number head line count t start end h ⊎ WasNotRebased by.number head line count t start end h))
+
+    last-others : Ends journal → Ends (journal ++ more)
+    last-others (inl w) = inl (record { made = w.made; took = L.answers.commit by t message (Ok (Was_done w.made)) start journal more others w.took; end_is = w.end_is })
+    last-others (inr (inl w)) = inr (inl (record { why = w.why; tells = L.answers.commit by t message (Err w.why) start journal more others w.tells; end_is = w.end_is }))
+    last-others (inr (inr (inl w))) =
+        inr (inr (inl (record { spent = w.spent; old = w.old; found = w.found; next = w.next; moved = L.answers.commit by t message (Ok (Lost w.old w.found w.next)) start journal more others w.moved; end_is = w.end_is })))
+    last-others (inr (inr (inr w))) =
+        inr (inr (inr (record {
+          left = w.left;
+          lost = w.lost;
+          since = w.since;
+          was_lost = w.was_lost;
+          alike = HasPutAlike-others by w.lost start journal more others w.alike;
+          why = w.why;
+          tells = rebase-kept by (policy_of head) w.lost (start ++ w.since) journal more others (Err w.why) w.tells;
+          nothing = ChangedNothing-others by start journal more others w.nothing;
+          end_is = w.end_is;
+        })))
+
+  ends-others : (head : Head) (ls : List Line) (s : SessionState) (end : End) → EndsAt by.number head ls s start end journal → EndsAt by.number head ls s start end (journal ++ more)
+  ends-others head [] s end e = (e.0, ChangedNothing-others by start journal more others e.1)
+  ends-others head (l ∷ ls) s end (inl r) = inl (record { why = r.why; refuses = refuses-others (deed l.number l.call s) s r.why r.refuses; end_is = r.end_is })
+  ends-others head (l ∷ ls) s end (inr (inl w)) = inr (inl (record { end_is = w.end_is; nothing = ChangedNothing-others by start journal more others w.nothing }))
+  ends-others head (l ∷ ls) s end (inr (inr a)) = inr (inr (record {
+    message = a.message;
+    commits = a.commits;
+    count = a.count;
+    few = a.few;
+    at_last = a.at_last;
+    carried = WasCarried-append by.number (policy_of head) a.count s a.at_last start journal more a.carried;
+    ends = last-others head l.number a.message a.count a.at_last end a.ends;
+  }))
 
   pub TellsOutcome-others : (ids : AnyIds) (task : Task) (outcome : Outcome) → TellsOutcome ids task by.number start outcome journal → TellsOutcome ids task by.number start outcome (journal ++ more)
   TellsOutcome-others ids task outcome (inl r) = inl (record { why = r.why; shown_is = r.shown_is; end_is = r.end_is; tells = L.answers.opening by (asked_by task.head ids) (Err r.why) start journal more others r.tells })
@@ -54,7 +91,7 @@ module _ (L : Lasting) (by : Caller) (start journal more : List Event) (others :
     body = p.body;
     session = p.session;
     plays = PlaysAll-append by.number p.played p.opened start outcome.shown p.session journal more (good-waits by journal more others) p.plays;
-    ends = ends-others p.left p.session outcome.end p.ends;
+    ends = ends-others task.head p.left p.session outcome.end p.ends;
   })
 
 -- so it stays through a wait

@@ -36,7 +36,7 @@ use Rattle.play_script.specs.declared.scripts.ReadCall.{ReadCall}
 use Rattle.play_script.specs.declared.scripts.ReadCall.TheVariants as read
 use Rattle.play_script.specs.Well.{IsWellPath, IsWellEdit, IsWellCall}
 use Rattle.play_outcome.specs.declared.outcome.Shown.{Shown}
-use Rattle.play_tasks.specs.Lines.{Deed, Goes, deed, edit_deed, read_deed, read_by, key_shown, key_set_deed, key_get_deed, silent, still}
+use Rattle.play_tasks.specs.Lines.{Goes, deed, edit_deed, read_deed, read_by, key_shown, key_set_deed, key_get_deed, silent, still}
 use Rattle.play_tasks.proofs.Keys.{key-path}
 
 -- ---- the ids behind an edit

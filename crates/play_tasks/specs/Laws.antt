@@ -7,7 +7,6 @@ use Rattle.store_api.specs.Callers.{Caller, IsOther}
 use Rattle.store_api.specs.Plays.{PlayKeeps, PlayLeads}
 use Rattle.commit_path.specs.Owed.{IsCareful}
 use Rattle.store_api.specs.Telling.{ChangedNothing}
-use Rattle.commit_path.specs.Single.{IsSingle}
 use Rattle.play_script.specs.declared.scripts.Task.{Task}
 use Rattle.play_script.specs.Well.{IsWellTask}
 use Rattle.play_outcome.specs.declared.outcome.Outcome.{Outcome}
@@ -16,12 +15,11 @@ use Rattle.play_tasks.specs.Solving.{IsOfTask}
 use Rattle.play_tasks.specs.Telling.{TellsOutcome}
 
 -- Whatever others do, each operation of a well task is polite, and what the task owes; each comes before the client
--- changed a branch; one that puts a snapshot comes before the client put any; and the outcome tells the journal, where the
--- task began at `start`.
+-- changed a branch; and the outcome tells the journal, where the task began at `start`.
 abbrev pub TaskLaw : Type 0
 TaskLaw = (by : Caller) (ids : AnyIds) (task : Task) (start : List Event) → IsWellTask task
-    → PlayKeeps (IsCareful ids (IsOfTask ids task)) by (task_play ids task) start × PlayKeeps (λ journal client op. ChangedNothing client start journal) by (task_play ids task) start
-    × PlayKeeps (IsSingle start) by (task_play ids task) start × PlayLeads (TellsOutcome ids task by.number start) by (task_play ids task) start
+    → PlayKeeps (IsCareful ids (IsOfTask ids task by.number start)) by (task_play ids task) start × PlayKeeps (λ journal client op. ChangedNothing client start journal) by (task_play ids task) start
+    × PlayLeads (TellsOutcome ids task by.number start) by (task_play ids task) start
 
 -- what an outcome tells stays so, whatever good events others make
 abbrev pub OutcomeLaw : Type 0

@@ -1,16 +1,23 @@
 -- The play of a task: it opens a session, plays the body's lines on it, and commits. Where memory is wanting, it ends there, and still shows what its
 -- lines showed before.
-use Rattle.std.specs.Prelude.{ℕ, List, [], ◌∷◌, ◌++◌, true, false, Result, Ok, Err}
+use Rattle.std.specs.Prelude.{ℕ, zero, suc, List, [], ◌∷◌, ◌++◌, true, false, Option, Result, Ok, Err}
 use Rattle.ice_ids.specs.declared.drawing.AnyIds.{AnyIds}
 use Rattle.store_api.specs.declared.machines.Refusal.{Refusal}
-use Rattle.store_api.specs.declared.machines.Refusal.TheVariants.{NoMemory}
+use Rattle.store_api.specs.declared.machines.Refusal.TheVariants.{NoMemory, Conflict}
 use Rattle.store_api.specs.Plays.{Play, Ended, Or, call}
 use Rattle.session.specs.Sessions.{SessionState}
 use Rattle.session.specs.declared.chunks.Value.{Value}
 use Rattle.session.specs.Opening.{Asked, open_program}
 use Rattle.session.specs.Chunks.{set_program, get_program}
-use Rattle.commit_path.specs.declared.commit.Committed.{Committed as Made}
+use Rattle.conflicts.specs.declared.solving.Policy.{Policy}
+use Rattle.conflicts.specs.declared.solving.Pick.TheVariants.{Fail}
+use Rattle.store_api.specs.declared.events.Version.{Version}
+use Rattle.commit_path.specs.declared.commit.Tried.{Tried}
+use Rattle.commit_path.specs.declared.commit.Tried.TheVariants.{Done as Was_done, Lost}
 use Rattle.commit_path.specs.Committing.{commit_program}
+use Rattle.rebase.specs.declared.machine.Rebased.{Rebased}
+use Rattle.rebase.specs.declared.machine.Rebased.TheVariants.{Moved, UpToDate}
+use Rattle.rebase.specs.Rebasing.{rebase_program}
 use Rattle.play_script.specs.declared.scripts.Head.{Head}
 use Rattle.play_script.specs.declared.scripts.Head.TheVariants.{Write, Read}
 use Rattle.play_script.specs.declared.scripts.Line.{Line}
@@ -38,10 +45,35 @@ abbrev pub after_line : ℕ → List Shown → Result (List Shown × SessionStat
 after_line line shown (Ok went) rest = rest went.1 (shown ++ went.0)
 after_line line shown (Err why) rest = refused line shown why
 
--- a commit ends the task
-abbrev pub after_commit : ℕ → List Shown → Result Made Refusal → Play Outcome
-after_commit line shown (Ok made) = ended shown (Committed made.id)
-after_commit line shown (Err why) = refused line shown why
+-- ---- commits
+-- a commit ends the task, unless it was lost
+abbrev pub after_commit : ℕ → List Shown → (lost : Version → Option Version → AnyIds → Play Outcome) → Result Tried Refusal → Play Outcome
+after_commit line shown lost (Ok (Was_done made)) = ended shown (Committed made.id)
+after_commit line shown lost (Ok (Lost old found next)) = lost old found next
+after_commit line shown lost (Err why) = refused line shown why
+
+-- the session that was rebased commits again; where there is no memory to begin that, the task ends here
+abbrev pub after_rebase : ℕ → List Shown → (again : SessionState → Play Outcome) → Result Rebased Refusal → Play Outcome
+after_rebase line shown again (Ok (Moved s count)) = Or (again s) (refused line shown NoMemory)
+after_rebase line shown again (Ok (UpToDate s)) = Or (again s) (refused line shown NoMemory)
+after_rebase line shown again (Err why) = refused line shown why
+
+-- A commit in this line. Where it was lost, the session is rebased and commits again, as often as it may.
+unfoldable pub commit_play : (tries : ℕ) → Policy → (line : ℕ) → List Shown → (message : List ℕ) → SessionState → Play Outcome
+commit_play zero policy line shown message s = call (commit_program s message) (after_commit line shown (λ old found next. refused line shown (Conflict old found)))
+commit_play (suc tries) policy line shown message s =
+    call (commit_program s message) (after_commit line shown (λ old found next. call (rebase_program policy (record s { ids = next })) (after_rebase line shown (commit_play tries policy line shown message))))
+
+-- how often a task's commit is tried again, and how conflicts are solved then
+abbrev pub tries_of : Head → ℕ
+tries_of (Write branch tries policy) = tries
+tries_of (Read branch) = 0
+
+abbrev pub policy_of : Head → Policy
+policy_of (Write branch tries policy) = policy
+policy_of (Read branch) = record { chunks = Fail; drop_arrays = false; drop_groups = false }
+
+-- ---- lines
 
 -- a chunk that was read is shown, and the session stays
 abbrev pub shown_by : SessionState → (Value → Shown) → Result Value Refusal → Result (List Shown × SessionState) Refusal
@@ -49,25 +81,25 @@ shown_by s show (Ok value) = Ok (show value ∷ [], s)
 shown_by s show (Err why) = Err why
 
 -- what a line comes to that does this, and what is played behind it
-abbrev pub play_deed : ℕ → List Shown → SessionState → Deed → Rest → Play Outcome
-play_deed line shown s (Goes went) rest = after_line line shown went rest
-play_deed line shown s (Sets path index bytes) rest = call (set_program s path index bytes) (λ answer. after_line line shown (silent answer) rest)
-play_deed line shown s (Reads path index show) rest = call (get_program s path index) (λ answer. after_line line shown (shown_by s show answer) rest)
-play_deed line shown s (Commits message) rest = call (commit_program s message) (after_commit line shown)
+abbrev pub play_deed : Head → ℕ → List Shown → SessionState → Deed → Rest → Play Outcome
+play_deed head line shown s (Goes went) rest = after_line line shown went rest
+play_deed head line shown s (Sets path index bytes) rest = call (set_program s path index bytes) (λ answer. after_line line shown (silent answer) rest)
+play_deed head line shown s (Reads path index show) rest = call (get_program s path index) (λ answer. after_line line shown (shown_by s show answer) rest)
+play_deed head line shown s (Commits message) rest = commit_play (tries_of head) (policy_of head) line shown message s
 
 -- the lines in their order, the first that is refused being the last; where memory is wanting, the task ends in this line
-unfoldable pub play_lines : List Line → SessionState → List Shown → Play Outcome
-play_lines [] s shown = ended shown Done
-play_lines (l ∷ ls) s shown = Or (play_deed l.number shown s (deed l.number l.call s) (play_lines ls)) (refused l.number shown NoMemory)
+unfoldable pub play_lines : Head → List Line → SessionState → List Shown → Play Outcome
+play_lines head [] s shown = ended shown Done
+play_lines head (l ∷ ls) s shown = Or (play_deed head l.number shown s (deed l.number l.call s) (play_lines head ls)) (refused l.number shown NoMemory)
 
 -- a task's session was opened, or not
 abbrev pub after_open : Task → Result SessionState Refusal → Play Outcome
-after_open t (Ok s) = play_lines t.body s []
+after_open t (Ok s) = play_lines t.head t.body s []
 after_open t (Err why) = refused t.line [] why
 
 -- a head asks for a session to write on a branch, or to read it
 abbrev pub asked_by : Head → AnyIds → Asked
-asked_by (Write branch) ids = record { branch = branch; writes = true; ids = ids }
+asked_by (Write branch tries policy) ids = record { branch = branch; writes = true; ids = ids }
 asked_by (Read branch) ids = record { branch = branch; writes = false; ids = ids }
 
 -- the play of a task whose session draws these ids

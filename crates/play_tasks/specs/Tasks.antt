@@ -9,7 +9,6 @@ use Rattle.store_api.specs.Callers.{only}
 use Rattle.store_api.specs.Plays.{Play, HasEnded, PlayKeeps, PlayLeads}
 use Rattle.commit_path.specs.Owed.{IsCareful, IsCarefulEvent}
 use Rattle.store_api.specs.Telling.{ChangedNothing}
-use Rattle.commit_path.specs.Single.{IsSingle}
 use Rattle.play_script.specs.declared.scripts.Task.{Task}
 use Rattle.play_outcome.specs.declared.outcome.Outcome.{Outcome}
 use Rattle.play_outcome.specs.Ending.{is_failed}
@@ -31,28 +30,24 @@ abbrev pub TellsAt : Draw → ℕ → Task → List Event → Outcome → List E
 TellsAt draw place task start outcome journal = TellsOutcome (ids_at draw place) task (place + 1) start outcome journal
 
 -- Whatever others do, each operation that the worker at this place comes to is polite, and what its task owes, and comes before its client
--- changed a branch; one that puts a snapshot is the first that its client puts; and its outcome will tell the journal, where the tasks
--- began at `start`.
+-- changed a branch; and its outcome will tell the journal, where the tasks began at `start`.
 pub record Stands (draw : Draw) (tasks : List Task) (start : List Event) (tells : Bool) (place : ℕ) (p : Play Outcome) (journal : List Event) : Type 0 where
   pub task : Task
   pub at : slice_get tasks place ≡ Some task
-  pub careful : PlayKeeps (IsCareful (ids_at draw place) (IsOfTask (ids_at draw place) task)) (only tells (place + 1)) p journal
+  pub careful : PlayKeeps (IsCareful (ids_at draw place) (IsOfTask (ids_at draw place) task (place + 1) start)) (only tells (place + 1)) p journal
   pub before : PlayKeeps (λ h client op. ChangedNothing client start h) (only tells (place + 1)) p journal
-  pub single : PlayKeeps (IsSingle start) (only tells (place + 1)) p journal
   pub leads : PlayLeads (TellsAt draw place task start) (only tells (place + 1)) p journal
 
 abbrev pub AllStand : Draw → List Task → List Event → Bool → List (Play Outcome) → List Event → Type 0
 AllStand draw tasks start tells ps journal = (place : ℕ) (p : Play Outcome) → slice_get ps place ≡ Some p → Stands draw tasks start tells place p journal
 
--- The event is good, its client's, and what the task of that client owes; and where it puts a snapshot, it is the first that its client puts
--- since the tasks began at `start`.
+-- The event is good, its client's, and what the task of that client owes, where the tasks began at `start`.
 pub record IsOfClient (draw : Draw) (tasks : List Task) (start journal : List Event) (event : Event) : Type 0 where
   pub place : ℕ
   pub task : Task
   pub client : event.client ≡ place + 1
   pub at : slice_get tasks place ≡ Some task
-  pub careful : IsCarefulEvent (ids_at draw place) (IsOfTask (ids_at draw place) task) journal event
-  pub single : IsSingle start journal event.client event.op
+  pub careful : IsCarefulEvent (ids_at draw place) (IsOfTask (ids_at draw place) task (place + 1) start) journal event
 
 -- the worker at this place, if there is one, has ended
 abbrev pub HasEndedAt : ℕ → List (Play Outcome) → Type 0

@@ -1,15 +1,16 @@
 -- What the outcome of a task says of the journal, in words that name no machine and no program. (Own.)
-use Rattle.std.specs.Prelude.{◌≡◌, ◌⊎◌, ℕ, List, [], ◌∷◌, ◌++◌, Result, Ok, Err}
+use Rattle.std.specs.Prelude.{◌≡◌, ◌⊎◌, ℕ, ◌<◌, ◌≤◌, List, [], ◌∷◌, ◌++◌, Option, Ok, Err}
 use Rattle.ice_ids.specs.declared.drawing.AnyIds.{AnyIds}
 use Rattle.store_api.specs.declared.events.Event.{Event}
 use Rattle.store_api.specs.declared.machines.Refusal.{Refusal}
-use Rattle.store_api.specs.declared.machines.Refusal.TheVariants.{NoMemory}
+use Rattle.store_api.specs.declared.machines.Refusal.TheVariants.{NoMemory, Conflict}
+use Rattle.store_api.specs.declared.events.Version.{Version}
 use Rattle.session.specs.Sessions.{SessionState}
 use Rattle.commit_path.specs.declared.commit.Committed.{Committed as Made}
-use Rattle.commit_path.specs.Answered.{CommitTells}
+use Rattle.commit_path.specs.Answered.{TookEffect, WasMoved, CommitTells}
 use Rattle.store_api.specs.Telling.{ChangedNothing}
 use Rattle.commit_path.specs.Opened.{IsOpened, WasBegun, RefusalTells}
-use Rattle.commit_path.specs.Single.{HasPutNone}
+use Rattle.commit_path.specs.Single.{HasPutNone, HasPutAlike}
 use Rattle.play_script.specs.declared.scripts.Line.{Line}
 use Rattle.play_script.specs.declared.scripts.Task.{Task}
 use Rattle.play_outcome.specs.declared.outcome.Shown.{Shown}
@@ -19,7 +20,10 @@ use Rattle.play_outcome.specs.declared.outcome.Outcome.{Outcome}
 use Rattle.session.specs.declared.chunks.Value.{Value}
 use Rattle.chunk_calls.specs.Told.{WasSet, IsChunk, SetTells, GetTells}
 use Rattle.play_tasks.specs.Lines.{Deed, Goes, Sets, Reads, Commits, deed}
-use Rattle.play_tasks.specs.Playing.{asked_by}
+use Rattle.rebase.specs.Telling.{RebaseTells}
+use Rattle.play_script.specs.declared.scripts.Head.{Head}
+use Rattle.play_tasks.specs.Playing.{asked_by, tries_of, policy_of}
+use Rattle.play_tasks.specs.Solving.{WasLost, WasCarried}
 
 -- ---- the lines
 -- a line that does this was played on a session: what it showed, and the session that it led to
@@ -54,23 +58,57 @@ pub record WasStarvedAt (client : ℕ) (l : Line) (start : List Event) (end : En
   pub end_is : end ≡ Refused l.number NoMemory
   pub nothing : ChangedNothing client start journal
 
--- how a commit in this line ends a task
-abbrev pub end_of : ℕ → Result Made Refusal → End
-end_of line (Ok made) = Committed made.id
-end_of line (Err why) = Refused line why
+-- ---- a commit
+-- the commit of the session took effect
+pub record HasCommitted (client : ℕ) (s : SessionState) (message : List ℕ) (start : List Event) (end : End) (journal : List Event) : Type 0 where
+  pub made : Made
+  pub took : TookEffect client s message made start journal
+  pub end_is : end ≡ Committed made.id
 
--- The line is a commit. Its answer is the end, and tells the journal what answers of commits tell.
-pub record WasAnsweredAt (client : ℕ) (l : Line) (s : SessionState) (start : List Event) (end : End) (journal : List Event) : Type 0 where
+-- it was refused before its branch was asked for, or the store failed it
+pub record WasCommitRefused (client : ℕ) (line : ℕ) (s : SessionState) (message : List ℕ) (start : List Event) (end : End) (journal : List Event) : Type 0 where
+  pub why : Refusal
+  pub tells : CommitTells client s message start (Err why) journal
+  pub end_is : end ≡ Refused line why
+
+-- it was lost, and the task may not try again
+pub record WasLostAtLast (client : ℕ) (head : Head) (line : ℕ) (count : ℕ) (s : SessionState) (start : List Event) (end : End) (journal : List Event) : Type 0 where
+  pub spent : count ≡ tries_of head
+  pub old : Version
+  pub found : Option Version
+  pub next : AnyIds
+  pub moved : WasMoved client s old found next start journal
+  pub end_is : end ≡ Refused line (Conflict old found)
+
+-- It was lost, and the session wasn't rebased, for this reason; the client changed no branch. All snapshots that it has put are of sessions that added
+-- and dropped the same nodes.
+pub record WasNotRebased (client : ℕ) (head : Head) (line : ℕ) (count : ℕ) (s : SessionState) (start : List Event) (end : End) (journal : List Event) : Type 0 where
+  pub left : count < tries_of head
+  pub lost : SessionState
+  pub since : List Event
+  pub was_lost : WasLost client s lost start (start ++ since)
+  pub alike : HasPutAlike client lost start journal
+  pub why : Refusal
+  pub tells : RebaseTells client (policy_of head) lost (start ++ since) (Err why) journal
+  pub nothing : ChangedNothing client start journal
+  pub end_is : end ≡ Refused line why
+
+-- The line is a commit. Its session was carried over the commits of others, no more often than the task may try, and then committed, or was refused.
+pub record WasTriedAt (client : ℕ) (head : Head) (l : Line) (s : SessionState) (start : List Event) (end : End) (journal : List Event) : Type 0 where
   pub message : List ℕ
   pub commits : deed l.number l.call s ≡ Commits message
-  pub answer : Result Made Refusal
-  pub end_is : end ≡ end_of l.number answer
-  pub tells : CommitTells client s message start answer journal
+  pub count : ℕ
+  pub few : count ≤ tries_of head
+  pub at_last : SessionState
+  pub carried : WasCarried client (policy_of head) count s at_last start journal
+  pub ends : HasCommitted client at_last message start end journal
+      ⊎ (WasCommitRefused client l.number at_last message start end journal
+      ⊎ (WasLostAtLast client head l.number count at_last start end journal ⊎ WasNotRebased client head l.number count at_last start end journal))
 
 -- how a task ends, where these lines are left: at their end, or at the first of them
-abbrev pub EndsAt : ℕ → List Line → SessionState → List Event → End → List Event → Type 0
-EndsAt client [] s start end journal = (end ≡ Done) × ChangedNothing client start journal
-EndsAt client (l ∷ ls) s start end journal = WasRefusedAt client l s start end journal ⊎ (WasStarvedAt client l start end journal ⊎ WasAnsweredAt client l s start end journal)
+abbrev pub EndsAt : ℕ → Head → List Line → SessionState → List Event → End → List Event → Type 0
+EndsAt client head [] s start end journal = (end ≡ Done) × ChangedNothing client start journal
+EndsAt client head (l ∷ ls) s start end journal = WasRefusedAt client l s start end journal ⊎ (WasStarvedAt client l start end journal ⊎ WasTriedAt client head l s start end journal)
 
 -- ---- the outcome
 -- The opening was refused: nothing was shown, and the refusal is told at the task's line.
@@ -92,7 +130,7 @@ pub record WasOpened (ids : AnyIds) (task : Task) (client : ℕ) (start : List E
   pub body : task.body ≡ played ++ left
   pub session : SessionState
   pub plays : PlaysAll client played opened start outcome.shown session journal
-  pub ends : EndsAt client left session start outcome.end journal
+  pub ends : EndsAt client task.head left session start outcome.end journal
 
 -- What the outcome of a task whose session draws these ids says of the journal, where the task began at
 -- `start` and its client made no other events from there on.

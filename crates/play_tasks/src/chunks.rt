@@ -8,7 +8,7 @@ ghost use Rattle.store_api.specs.Running.{Program};
 ghost use Rattle.session.specs.Sessions.{SessionState, nodes_seen};
 ghost use Rattle.session.specs.Setting.{Sets as CameTo};
 ghost use Rattle.play_tasks.specs.Lines.{value_shown, key_shown, length_at, filled, key_set_deed, key_get_deed, Sets, Reads};
-ghost use Rattle.play_tasks.specs.inside.Working.{after_set, shown_for, is_clean, PlayComes, LineComes, IsBounded, EndsCalmly};
+ghost use Rattle.play_tasks.specs.inside.Working.{after_set, shown_for, is_clean, PlayComes, CallComes, IsBounded, EndsCalmly};
 
 use crate::lines::refuse;
 use crate::working::{AskedFor, Step, Working};
@@ -56,7 +56,7 @@ pub(crate) fn play_set(
     session: Session,
     shown: Vec<Shown>,
 ) -> Step
-    ensures comes { LineComes line at shown.items session (Sets path.now index.now bytes.now) result }
+    ensures comes { CallComes line at shown.items session (Sets path.now index.now bytes.now) result }
     ensures clean { is_clean result ≡ true }
     ensures bounded { IsBounded at result }
 {
@@ -73,7 +73,7 @@ pub(crate) fn play_key_set(
     session: Session,
     shown: Vec<Shown>,
 ) -> Step
-    ensures comes { LineComes line at shown.items session (key_set_deed bytes.now (key_of key.now) session) result }
+    ensures comes { CallComes line at shown.items session (key_set_deed bytes.now (key_of key.now) session) result }
     ensures clean { is_clean result ≡ true }
     ensures bounded { IsBounded at result }
 {
@@ -118,7 +118,7 @@ pub(crate) fn play_fill(
     session: Session,
     shown: Vec<Shown>,
 ) -> Step
-    ensures comes { LineComes line at shown.items session (Sets path.now index.now (filled session path.now byte)) result }
+    ensures comes { CallComes line at shown.items session (Sets path.now index.now (filled session path.now byte)) result }
     ensures clean { is_clean result ≡ true }
     ensures bounded { IsBounded at result }
 {
@@ -188,7 +188,7 @@ pub(crate) fn play_get(
     session: Session,
     mut shown: Vec<Shown>,
 ) -> Step
-    ensures comes { LineComes line at shown.items session (Reads path.now index.now (value_shown line)) result }
+    ensures comes { CallComes line at shown.items session (Reads path.now index.now (value_shown line)) result }
     ensures clean { is_clean result ≡ true }
     ensures bounded { IsBounded at result }
 {
@@ -219,7 +219,7 @@ pub(crate) fn play_key_get(
     session: Session,
     mut shown: Vec<Shown>,
 ) -> Step
-    ensures comes { LineComes line at shown.items session (key_get_deed line (key_of key.now) session) result }
+    ensures comes { CallComes line at shown.items session (key_get_deed line (key_of key.now) session) result }
     ensures clean { is_clean result ≡ true }
     ensures bounded { IsBounded at result }
 {

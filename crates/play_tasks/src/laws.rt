@@ -4,10 +4,11 @@ ghost use Rattle.play_tasks.specs.Laws.{OutcomeLaw, TaskLaw};
 
 use chunk_calls::{get_law, set_law, tells_law};
 use commit_path::{answers_law, commit_law, opening_law, session_law, single_law};
+use rebase::rebase_law;
 
 /// Whatever others do, each operation of a task is polite, and what the task owes, and comes before
 /// the task's client changed a branch; and its outcome tells the journal: which session was opened,
-/// what each of its lines set and showed, and what became of its commit.
+/// what each of its lines set and showed, over which commits of others it was carried, and what became of its commit.
 pub fn task_law()
     ensures { TaskLaw }
 {
@@ -15,6 +16,7 @@ pub fn task_law()
     session_law();
     commit_law();
     single_law();
+    rebase_law();
     set_law();
     get_law();
 }

@@ -2,6 +2,7 @@
 #![tactic(auto)]
 
 mod chunks;
+mod commits;
 mod laws;
 mod lines;
 mod steps;

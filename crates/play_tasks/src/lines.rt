@@ -4,15 +4,15 @@ ghost use Rattle.std.specs.Prelude.{ℕ, ◌≡◌, ◌≤◌, ◌+◌, ◌-◌,
 ghost use Rattle.store_api.specs.Plays.{Comes};
 ghost use Rattle.session.specs.Editing.{listed, text_at};
 ghost use Rattle.play_tasks.specs.Lines.{node_shown, nodes_shown, meta_shown, deed, edit_deed, read_deed, Goes, Commits, edited, silent, still, read_by};
-ghost use Rattle.play_tasks.specs.inside.Working.{is_clean, is_well, is_local, without_id, working_rest, working_left, most_steps, lines_from, Edits, Looks, LineComes, IsBounded};
+ghost use Rattle.play_tasks.specs.inside.Working.{is_clean, is_well, is_local, without_id, working_rest, working_left, most_steps, lines_from, Edits, Looks, LineComes, CallComes, IsBounded};
 
 use crate::chunks::{play_fill, play_get, play_key_get, play_key_set, play_set};
+use crate::commits::{begin_commit, tries_for};
 use crate::working::{Step, Working};
-use commit_path::Commit;
 use ice_base::Text;
 use ice_ids::Id8;
 use play_outcome::{End, Outcome, Shown, Shows};
-use play_script::{Call, EditCall, Line, ReadCall, Task};
+use play_script::{Call, EditCall, Head, Line, ReadCall, Task};
 use session::{Listing, Session};
 use std::alloc::{AllocError, Global};
 use store_api::Refusal;
@@ -126,7 +126,7 @@ fn play_change(
     mut session: Session,
     shown: Vec<Shown>,
 ) -> Step
-    ensures comes { (at : ℕ) → LineComes line at shown.items session (Goes (silent (edited edit.now session))) result }
+    ensures comes { (at : ℕ) → CallComes line at shown.items session (Goes (silent (edited edit.now session))) result }
     ensures clean { is_clean result ≡ true }
     ensures bounded { (at : ℕ) → IsBounded at result }
 {
@@ -144,7 +144,7 @@ fn play_edit(
     session: Session,
     shown: Vec<Shown>,
 ) -> Step
-    ensures comes { LineComes line at shown.items session (edit_deed edit.now session) result }
+    ensures comes { CallComes line at shown.items session (edit_deed edit.now session) result }
     ensures clean { is_clean result ≡ true }
     ensures bounded { IsBounded at result }
 {
@@ -193,7 +193,7 @@ fn play_look(
     session: Session,
     mut shown: Vec<Shown>,
 ) -> Step
-    ensures comes { (at : ℕ) → LineComes line at shown.items session (Goes (still session (read_by line read.now session))) result }
+    ensures comes { (at : ℕ) → CallComes line at shown.items session (Goes (still session (read_by line read.now session))) result }
     ensures clean { is_clean result ≡ true }
     ensures bounded { (at : ℕ) → IsBounded at result }
 {
@@ -211,7 +211,7 @@ fn play_read(
     session: Session,
     shown: Vec<Shown>,
 ) -> Step
-    ensures comes { LineComes line at shown.items session (read_deed line read.now session) result }
+    ensures comes { CallComes line at shown.items session (read_deed line read.now session) result }
     ensures clean { is_clean result ≡ true }
     ensures bounded { IsBounded at result }
 {
@@ -226,38 +226,41 @@ fn play_read(
 
 fn play_commit(
     alloc: Global,
+    head: &Head,
     line: u32,
     message: &Text,
     session: Session,
     shown: Vec<Shown>,
 ) -> Step
-    ensures comes { (at : ℕ) → LineComes line at shown.items session (Commits message.now) result }
+    ensures comes { (at : ℕ) → LineComes head.now line at shown.items session (Commits message.now) result }
     ensures clean { is_clean result ≡ true }
     ensures bounded { (at : ℕ) → IsBounded at result }
 {
     let Ok(message) = message.copy(alloc) else {
         return Step::Stop(refuse(line, shown, Refusal::NoMemory));
     };
-    match Commit::start(alloc, session, message) {
-        Ok(commit) => Step::Stop(Working::Committing {
-            line,
-            shown: Shows::from_vec(shown),
-            commit,
-        }),
-        Err((_, why)) => Step::Stop(refuse(line, shown, why)),
-    }
+    let tries = tries_for(head);
+    let shown = Shows::from_vec(shown);
+    Step::Stop(begin_commit(alloc, line, tries, shown, message, session))
 }
 
-/// Plays a line on a session; the line behind it has the number `at`.
-fn play_line(alloc: Global, line: &Line, at: usize, session: Session, shown: Vec<Shown>) -> Step
-    ensures comes { LineComes line.now.number at shown.items session (deed line.now.number line.now.call session) result }
+/// Plays a line of a task with this head on a session; the line behind it has the number `at`.
+fn play_line(
+    alloc: Global,
+    head: &Head,
+    line: &Line,
+    at: usize,
+    session: Session,
+    shown: Vec<Shown>,
+) -> Step
+    ensures comes { LineComes head.now line.now.number at shown.items session (deed line.now.number line.now.call session) result }
     ensures clean { is_clean result ≡ true }
     ensures bounded { IsBounded at result }
 {
     match &line.call {
         Call::Edit(edit) => play_edit(alloc, line.number, at, edit, session, shown),
         Call::Read(read) => play_read(alloc, line.number, at, read, session, shown),
-        Call::Commit { message } => play_commit(alloc, line.number, message, session, shown),
+        Call::Commit { message } => play_commit(alloc, head, line.number, message, session, shown),
     }
 }
 
@@ -278,7 +281,7 @@ pub(crate) fn play_lines(
     let mut session = session;
     let mut shown = shown;
     for at in from..lines.len() {
-        match play_line(alloc, &lines[at], at + 1, session, shown) {
+        match play_line(alloc, &task.head, &lines[at], at + 1, session, shown) {
             Step::On {
                 session: next,
                 shown: more,

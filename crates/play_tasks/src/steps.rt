@@ -1,22 +1,20 @@
 //! The steps of a worker's machines, and what follows them.
 
-ghost use Rattle.std.specs.Prelude.{ℕ, ◌≡◌, ◌<◌, ◌≤◌, ◌+◌, ◌-◌, ◌*◌, true, length, IsTrue};
+ghost use Rattle.std.specs.Prelude.{◌≡◌, ◌<◌, ◌≤◌, ◌+◌, ◌-◌, ◌*◌, true, length, IsTrue};
 ghost use Rattle.store_api.specs.Program.{is_ask, NextIsPolite};
 ghost use Rattle.store_api.specs.Plays.{call, Acts, Comes, IsLive, PlayIsPolite};
 ghost use Rattle.session.specs.Opening.{open_rest, open_left};
 ghost use Rattle.session.specs.Setting.{set_rest, set_left};
 ghost use Rattle.session.specs.Getting.{get_rest, get_left, get_session};
-ghost use Rattle.commit_path.specs.Committing.{commit_rest, commit_left};
-ghost use Rattle.play_script.specs.declared.scripts.Task.{Task as TheTask};
 ghost use Rattle.play_outcome.specs.Ending.{is_failed};
-ghost use Rattle.play_tasks.specs.Playing.{after_open, after_commit};
+ghost use Rattle.play_tasks.specs.Playing.{after_open};
 ghost use Rattle.play_tasks.specs.inside.Working.{after_set, shown_for, after_get, is_working, lines_from, working_rest, working_left, most_steps, settled, answers_well, ComesOrStarves, Faults};
 
 use crate::chunks::show_value;
+use crate::commits::{step_committing, step_rebasing};
 use crate::lines::{play_lines, refuse};
 use crate::working::{AskedFor, Working};
-use commit_path::{Commit, Committed};
-use play_outcome::{End, Outcome, Shown, Shows};
+use play_outcome::Shown;
 use play_script::Task;
 use session::{GetChunk, Open, Session, SetChunk, Value};
 use std::alloc::Global;
@@ -107,40 +105,6 @@ fn after_getting(
     }
 }
 
-/// Where a worker stands after a step of the machine that commits its session.
-fn after_committing(
-    line: u32,
-    shown: Shows,
-    commit: Commit,
-    answer: Result<Next<Committed>, Refusal>,
-) -> Working
-    requires { answers_well (is_ask (commit_rest commit)) answer ≡ true }
-    ensures goes { (task : TheTask) → Comes (settled (after_commit line shown) (commit_rest commit) answer) (working_rest task result) }
-    ensures works { is_working result ≡ true }
-    ensures falls { (lines : ℕ) → working_left lines result ≤ commit_left commit }
-    ensures blames { (task : TheTask) → Faults answer (working_rest task result) }
-{
-    match answer {
-        Ok(Next::Again) => Working::Committing {
-            line,
-            shown,
-            commit,
-        },
-        Ok(Next::Ready(committed)) => Working::Ended {
-            outcome: Outcome {
-                shown,
-                end: End::Committed(committed.id),
-            },
-        },
-        Err(why) => Working::Ended {
-            outcome: Outcome {
-                shown,
-                end: End::Refused { line, why },
-            },
-        },
-    }
-}
-
 /// One step of the machine that opens the session.
 fn step_opening<S: Store>(alloc: Global, task: &Task, mut opener: Open, store: &mut S) -> Working
     requires live { is_ask (open_rest opener) ≡ true }
@@ -192,24 +156,6 @@ fn step_getting<S: Store>(
     after_getting(alloc, task, line, at, asked, shown, get, answer)
 }
 
-/// One step of the machine that commits the session.
-fn step_committing<S: Store>(
-    task: &Task,
-    line: u32,
-    shown: Shows,
-    mut commit: Commit,
-    store: &mut S,
-) -> Working
-    requires live { is_ask (commit_rest commit) ≡ true }
-    requires polite { IsTrue (S.view store.old).caller.tells → NextIsPolite (commit_rest commit) (S.view store.old).seen }
-    ensures acts { Acts is_failed (S.view store.old) (S.view store.new) (call (commit_rest commit) (after_commit line shown)) (working_rest task.now result) }
-    ensures works { is_working result ≡ true }
-    ensures falls { working_left (length task.now.body) result < commit_left commit }
-{
-    let answer = commit.step(store);
-    after_committing(line, shown, commit, answer)
-}
-
 /// One step of a worker that stands here.
 pub(crate) fn step_on<S: Store>(
     alloc: Global,
@@ -241,9 +187,17 @@ pub(crate) fn step_on<S: Store>(
         } => step_getting(alloc, task, line, at, asked, shown, get, store),
         Working::Committing {
             line,
+            tries,
             shown,
             commit,
-        } => step_committing(task, line, shown, commit, store),
+        } => step_committing(alloc, task, line, tries, shown, commit, store),
+        Working::Rebasing {
+            line,
+            tries,
+            shown,
+            message,
+            rebase,
+        } => step_rebasing(alloc, task, line, tries, shown, message, rebase, store),
         Working::Ended { .. } => unreachable!(),
     }
 }

@@ -35,7 +35,7 @@ impl<'a> Worker<'a> {
         ensures { IfOk result (λ worker. worker_rest worker ≡ task_play ids task.now) }
     {
         let opener = match &task.head {
-            Head::Write { branch } => Open::write(alloc, branch.copy(alloc)?, ids),
+            Head::Write { branch, .. } => Open::write(alloc, branch.copy(alloc)?, ids),
             Head::Read { branch } => Open::read(alloc, branch.copy(alloc)?, ids),
         };
         Ok(Worker {

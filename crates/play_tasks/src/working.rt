@@ -1,7 +1,10 @@
 //! Where a worker stands.
 
 use commit_path::Commit;
+use conflicts::Policy;
+use ice_base::Text;
 use play_outcome::{Outcome, Shown, Shows};
+use rebase::Rebase;
 use session::{GetChunk, Open, Session, SetChunk};
 
 /// What a line asked for that reads a chunk.
@@ -11,6 +14,15 @@ pub enum AskedFor {
     Chunk,
     /// What the chunk's key has.
     Key,
+}
+
+/// How often a commit that is lost is tried again, and how conflicts are solved then.
+#[derive(Clone, Copy, Debug, PartialEq, Eq)]
+pub struct Tries {
+    /// How often it is tried again, at most.
+    pub left: u8,
+    /// How conflicts are solved.
+    pub policy: Policy,
 }
 
 /// The machine that a worker steps.
@@ -38,8 +50,18 @@ pub enum Working {
     /// The session is being committed, by this line of the script.
     Committing {
         line: u32,
+        tries: Tries,
         shown: Shows,
         commit: Commit,
+    },
+    /// The session's commit, by this line of the script, was lost, and the session is being rebased; it commits again behind that,
+    /// with this message, and may be rebased as often as `tries` has left.
+    Rebasing {
+        line: u32,
+        tries: Tries,
+        shown: Shows,
+        message: Text,
+        rebase: Rebase,
     },
     /// The task has ended.
     Ended {

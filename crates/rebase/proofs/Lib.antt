@@ -1,6 +1,7 @@
 pub mod Own
 pub mod Gets
 pub mod Quiet
+pub mod Alike
 pub mod Kept
 pub mod Walking
 pub mod Logs
@@ -11,6 +12,11 @@ pub mod Unhidden
 pub mod Following
 pub mod Meaning
 pub mod Only
+pub mod OwnCommits
+pub mod OverNothing
+pub mod Owned
+pub mod Made
+pub mod AsPut
 mod Keeping
 mod Solved
 mod Rebases

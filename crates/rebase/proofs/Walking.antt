@@ -70,7 +70,7 @@ IsHead-append id f journal more g k = record {
   proper = k.proper;
 }
 
-got-head : SnapshotLaw → (id : Id12) (bytes : List ℕ) (version : ℕ) (f : SnapshotFile) (h : List Event) → Had h (Snapshot id) bytes version → read_snapshot id bytes ≡ Ok f → IsHead id f h
+pub got-head : SnapshotLaw → (id : Id12) (bytes : List ℕ) (version : ℕ) (f : SnapshotFile) (h : List Event) → Had h (Snapshot id) bytes version → read_snapshot id bytes ≡ Ok f → IsHead id f h
 got-head law id bytes version f h k e = record {
   put = k.put;
   had = record { version = version; bytes = bytes; stood = k.stood; snap = f; read = ap result_ok e; rows_are = refl };

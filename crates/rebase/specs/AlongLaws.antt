@@ -1,7 +1,7 @@
 -- Laws of what becomes of changes along commits.
-use Rattle.std.specs.Prelude.{◌≡◌, ◌≢◌, ◌↔◌, ◌⊎◌, ℕ, Bool, true, false, List, [], ◌∷◌, Option, Some, Contains}
+use Rattle.std.specs.Prelude.{◌≡◌, ◌≢◌, ◌↔◌, ◌⊎◌, ℕ, Bool, true, false, List, [], ◌∷◌, Option, Some, None, Contains}
 use Rattle.std.specs.List.{All}
-use Rattle.std.specs.FinMap.{FinMap}
+use Rattle.std.specs.FinMap.{FinMap, get}
 use Rattle.ice_ids.specs.declared.Id8.{Id8}
 use Rattle.ice_ids.specs.declared.Id12.{Id12}
 use Rattle.zarr_path.specs.Paths.{path_cmp}
@@ -10,8 +10,8 @@ use Rattle.repo_objects.specs.Trees.{nodes_in}
 use Rattle.zarr_tree.specs.declared.cases.Case.{Case}
 use Rattle.zarr_tree.specs.declared.cases.Conflict.{Conflict}
 use Rattle.zarr_tree.specs.Nodes.{Node}
-use Rattle.zarr_tree.specs.Trees.{Tree, IsWellFormed}
-use Rattle.zarr_tree.specs.Changes.{Changes, apply, IsNormal}
+use Rattle.zarr_tree.specs.Trees.{Tree, node_at, IsWellFormed}
+use Rattle.zarr_tree.specs.Changes.{Changes, apply, nodes_under, IsNormal}
 use Rattle.zarr_tree.specs.Touched.{Touches, IsOrdered}
 use Rattle.zarr_tree.specs.Held.{Held, meta_in, changes_of}
 use Rattle.zarr_tree.specs.Conflicts.{IsConflict, IsApart, without}
@@ -127,3 +127,52 @@ pub record OnlyLaw (policy : Policy) (c : Changes) (t : Tree) (links : List Link
   pub passed_or_stays : (e : Changes) (at : Id12) (xs : List Conflict) → PassesAll policy c t links e → ¬ StaysAt policy c t links at xs
   pub passed_or_hides : (e : Changes) (at : Id12) (node : Id8) → PassesAll policy c t links e → ¬ HidesAt policy c t links at node
   pub stays_or_hides : (at other : Id12) (xs : List Conflict) (node : Id8) → StaysAt policy c t links at xs → ¬ HidesAt policy c t links other node
+
+-- ---- along commits of the session itself, or over no node
+-- The commit's snapshot has the nodes of a tree under changes that add and drop what c does, and c adds a node: a snapshot is so that the session itself
+-- put before.
+pub record IsOwn (c : Changes) (l : Link) : Type 0 where
+  pub path : List ℕ
+  pub node : Node
+  pub adds : get c.added path ≡ Some node
+  pub other : Changes
+  pub added : other.added ≡ c.added
+  pub dropped : other.dropped ≡ c.dropped
+  pub nodes : FinMap path_cmp Node
+  pub is : nodes_in l.file.nodes ≡ nodes_under other nodes
+
+-- The commits follow as in `Follows`, up to the first one that is the session's own, or to the last one. Nothing is said of those behind an own one.
+unfoldable pub FollowsToOwn : (c : Changes) → (t : Tree) → List Link → (u : Tree) → Type 0
+FollowsToOwn c t [] u = t ≡ u
+FollowsToOwn c t (l ∷ ls) u =
+    IsOwn c l
+    ⊎ ((d : Changes) × IsNormal d t × Touches d t l.lists × ((apply d t).nodes ≡ nodes_in l.file.nodes) × IsApart c d × IsApart d c × FollowsToOwn c (apply d t) ls u)
+
+-- The base has no node, and c drops none. Nothing is said of the first commit's log; its tree is well formed, and the later ones follow it so.
+pub record FollowsNothing (c : Changes) (t : Tree) (links : List Link) (u : Tree) : Type 0 where
+  pub nothing : (p : List ℕ) → node_at t p ≡ None
+  pub none_dropped : (id : Id8) → c.dropped id ≡ false
+  pub first : Link
+  pub later : List Link
+  pub is : links ≡ first ∷ later
+  pub tree : Tree
+  pub nodes : HasNodes first tree
+  pub well_formed : IsWellFormed tree
+  pub follows : FollowsToOwn c tree later u
+
+-- the commits follow in one of these ways
+abbrev pub FollowsFrom : (c : Changes) → (t : Tree) → List Link → (u : Tree) → Type 0
+FollowsFrom c t links u = FollowsToOwn c t links u ⊎ FollowsNothing c t links u
+
+-- A commit of the session itself ends the way: its conflicts stay by each policy, so none was met where all is solved. What is still held then is
+-- normal for the last tree, and has lost no more than entries of chunks; and no log hides a node on the way to the first own commit.
+pub record OwnLaw (bytes_at : Place → Option (List ℕ)) : Type 0 where
+  pub stops : (policy : Policy) (held : Held Place) (t : Tree) (l : Link) (ls : List Link) → IsNormal (changes_of bytes_at held) t → IsOwn (changes_of bytes_at held) l
+      → (xs : List Conflict) × (along policy held t.nodes (l ∷ ls) ≡ Stays l.file.id xs)
+  pub none_own : (policy : Policy) (held left : Held Place) (t : Tree) (links : List Link) → IsNormal (changes_of bytes_at held) t → along policy held t.nodes links ≡ Solves left
+      → All (λ (l : Link). ¬ IsOwn (changes_of bytes_at held) l) links
+  pub chunks_alone : (policy : Policy) (held left : Held Place) (t : Tree) (links : List Link) → along policy held t.nodes links ≡ Solves left → left ≡ record held { chunks = left.chunks }
+  pub normal : (policy : Policy) (held left : Held Place) (t u : Tree) (links : List Link) → IsWellFormed t → IsNormal (changes_of bytes_at held) t → FollowsFrom (changes_of bytes_at held) t links u
+      → along policy held t.nodes links ≡ Solves left → IsNormal (changes_of bytes_at left) u × IsWellFormed u
+  pub honest : (policy : Policy) (held : Held Place) (t u : Tree) (links : List Link) (at : Id12) (node : Id8) → HasOneTextEach held → IsWellFormed t → IsNormal (changes_of bytes_at held) t
+      → FollowsFrom (changes_of bytes_at held) t links u → ¬ (along policy held t.nodes links ≡ Hides at node)

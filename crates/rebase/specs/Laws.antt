@@ -9,7 +9,7 @@ use Rattle.store_api.specs.Program.{Keeps, Leads}
 use Rattle.store_api.specs.Telling.{ChangedNothing, IsGet, IsTold, MadeGets}
 use Rattle.session.specs.Sessions.{SessionState}
 use Rattle.commit_path.specs.Opened.{IsOpened}
-use Rattle.commit_path.specs.Single.{HasPutNone}
+use Rattle.commit_path.specs.Single.{HasPutNone, HasPutAlike}
 use Rattle.commit_path.specs.Spelled.{IsSpelled}
 use Rattle.rebase.specs.declared.machine.Rebased.{Rebased}
 use Rattle.rebase.specs.declared.machine.Rebased.TheVariants.{Moved, UpToDate}
@@ -24,12 +24,13 @@ GoesOn (Ok (UpToDate t)) journal = IsSpelled t × IsOpened t journal
 GoesOn (Err why) journal = Unit {0}
 
 -- Whatever others do: each operation of a rebase is polite, and its answer tells the journal. Each is a get, and a client that makes gets alone
--- changes no branch and puts no snapshot; nor has it where a rebase may find no memory. And where the session knew its base and could be written,
--- so does the session that is answered, and can be.
+-- changes no branch and puts no snapshot, so that those that it put are still like those of a session; nor has it changed a branch where a rebase
+-- may find no memory. And where the session knew its base and could be written, so does the session that is answered, and can be.
 pub record RebaseLaw (by : Caller) (policy : Policy) (s : SessionState) : Type 0 where
   pub told : IsTold by (rebase_program policy s) (RebaseTells by.number policy s)
   pub gets : (journal : List Event) → Keeps (λ known client op. IsGet op) by (rebase_program policy s) journal
   pub quiet : (start middle journal : List Event) → MadeGets by.number middle journal
       → (ChangedNothing by.number start middle → ChangedNothing by.number start journal) × (HasPutNone by.number start middle → HasPutNone by.number start journal)
+  pub alike : (t : SessionState) (start middle journal : List Event) → MadeGets by.number middle journal → HasPutAlike by.number t start middle → HasPutAlike by.number t start journal
   pub stays : (start journal : List Event) → ChangedNothing by.number start journal → HoldsThroughout (ChangedNothing by.number start) by (rebase_program policy s) journal
   pub goes_on : (journal : List Event) → IsSpelled s → IsOpened s journal → Leads GoesOn by (rebase_program policy s) journal

@@ -6,7 +6,7 @@ ghost use Rattle.zarr_tree.specs.Trees.{Tree};
 ghost use Rattle.zarr_tree.specs.Changes.{Changes};
 ghost use Rattle.conflicts.specs.declared.solving.Policy.{Policy};
 ghost use Rattle.rebase.specs.Along.{Link};
-ghost use Rattle.rebase.specs.AlongLaws.{NormalLaw, QuietLaw, MeansLaw, OnlyLaw};
+ghost use Rattle.rebase.specs.AlongLaws.{NormalLaw, QuietLaw, MeansLaw, OnlyLaw, OwnLaw};
 
 /// Along commits whose logs are right no log hides a node, and what is still held stays normal.
 pub fn normal_law()
@@ -26,4 +26,9 @@ pub fn means_law()
 /// Of what becomes of changes one thing alone can be said.
 pub fn only_law()
     ensures { (policy : Policy) (c : Changes) (t : Tree) (links : List Link) → OnlyLaw policy c t links }
+{}
+
+/// A commit of the session itself stops it; and up to such a one, or from a base without nodes on, what is still held stays normal.
+pub fn own_law()
+    ensures { (bytes_at : Place → Option (List ℕ)) → OwnLaw bytes_at }
 {}

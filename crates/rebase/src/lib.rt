@@ -11,7 +11,7 @@ mod machine;
 mod rebasing;
 mod solving;
 
-pub use along_laws::{means_law, normal_law, only_law, quiet_law};
+pub use along_laws::{means_law, normal_law, only_law, own_law, quiet_law};
 pub use laws::rebase_law;
 pub use machine::{Rebase, Rebased};
 pub use rebasing::{Rebasing, Solving, Walk};

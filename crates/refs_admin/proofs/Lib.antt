@@ -13,3 +13,4 @@ pub mod NewRepository
 pub mod Lines
 pub mod Kept
 pub mod Lawful
+pub mod TagStates

@@ -1,5 +1,5 @@
 -- Laws of refs: tags and `main` stay; and whatever others do, each operation of a call is polite, and the answer tells the journal.
-use Rattle.std.specs.Prelude.{◌≡◌, ℕ, List, ◌++◌, Some, Result}
+use Rattle.std.specs.Prelude.{◌≡◌, ℕ, List, ◌++◌, Some}
 use Rattle.ice_base.specs.Names.{main_name}
 use Rattle.store_api.specs.declared.keys.Key.TheVariants.{Branch, Tag, TagGone}
 use Rattle.store_api.specs.declared.events.Event.{Event}

@@ -8,5 +8,6 @@ pub mod BranchTelling
 pub mod TagTelling
 pub mod InitTelling
 pub mod LogTelling
+pub mod TagStates
 pub mod Laws
 pub mod inside

@@ -1,6 +1,6 @@
 -- What the answers of calls on refs say of the journal, in words that name no machine and no program: what was named, and whether it is there.
 -- `start` is the journal at the call. (Icechunk specification version 1, "Reference Files", "Tags".)
-use Rattle.std.specs.Prelude.{◌≡◌, ◌⊎◌, ℕ, Bool, List, [], ◌∷◌, ◌++◌, Some, Result, Ok, Err}
+use Rattle.std.specs.Prelude.{◌≡◌, ◌⊎◌, ℕ, List, Some, Result, Ok, Err}
 use Rattle.ice_ids.specs.declared.Id12.{Id12}
 use Rattle.repo_objects.specs.declared.bad.Bad.{Bad}
 use Rattle.repo_objects.specs.Readings.{ref_of}

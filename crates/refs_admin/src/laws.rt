@@ -2,6 +2,7 @@
 
 ghost use Rattle.store_api.specs.Callers.{Caller as TheCaller};
 ghost use Rattle.refs_admin.specs.Laws.{MainStays, RefsLaw, TagsStay};
+ghost use Rattle.refs_admin.specs.TagStates.{TagStatesLaw};
 
 use repo_objects::{initial_law, ref_law, snapshot_law};
 
@@ -19,4 +20,10 @@ pub fn refs_law()
 pub fn stays_law()
     ensures tags { TagsStay }
     ensures main { MainStays }
+{}
+
+/// In a legal polite journal what the answers of calls on tags tell is what the tag's state gives, at
+/// the client's own event that decided them.
+pub fn tag_states_law()
+    ensures { TagStatesLaw }
 {}

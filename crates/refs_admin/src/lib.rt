@@ -20,7 +20,7 @@ pub use calls::{
     drop_branch, drop_tag, make_branch, make_repository, make_tag, read_log, set_branch,
 };
 pub use init::Init;
-pub use laws::{refs_law, stays_law};
+pub use laws::{refs_law, stays_law, tag_states_law};
 pub use log::{Log, LogLine, LogLines};
 pub use resolving::{At, Named, ResolveAt};
 pub use tag_drop::TagDrop;

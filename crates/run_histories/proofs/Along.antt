@@ -34,9 +34,10 @@ use Rattle.play_tasks.specs.Tasks.{ids_at, IsOfClient}
 use Rattle.run_histories.specs.Sources.{ObjectsAreNew}
 use Rattle.run_histories.specs.Told.{IsOfSession, CommitsSession}
 use Rattle.run_histories.proofs.Sources.{object-not_initial}
-use Rattle.run_histories.proofs.Editing.{task-object}
+use Rattle.run_histories.proofs.Carrying.{task-object}
 use Rattle.run_histories.proofs.Drawing.{AreOf}
 use Rattle.run_histories.proofs.Programs.{IsPlain}
+use Rattle.run_histories.proofs.Origins.{PutsOverSnapshot}
 
 -- ---- a key from which nothing is removed
 abbrev Unused : Slot → Type 0
@@ -76,12 +77,13 @@ abbrev pub AllObjectsAreNew : Draw → List Task → List Event → Type 0
 AllObjectsAreNew draw tasks journal = (place : ℕ) → place < length tasks → ObjectsAreNew (ids_at draw place) journal
 
 -- ---- an event of a run
--- it is good, it removes nothing, it puts what wasn't put before, where its clients' objects are new, and its changes are known
-pub record Fits (draw : Draw) (tasks : List Task) (journal : List Event) (event : Event) : Type 0 where
+-- it is good, it removes nothing and puts no snapshot over, it puts what wasn't put before, where its clients' objects are new, and its changes are known
+pub record Fits (draw : Draw) (tasks : List Task) (start journal : List Event) (event : Event) : Type 0 where
   pub good : IsGood journal event
   pub keeps : ¬ Removes event.op
+  pub uncut : ¬ PutsOverSnapshot event.op
   pub first : AllObjectsAreNew draw tasks journal → IsOnce journal → IsFirst journal event
-  pub knows : IsOnce journal → Knows (λ h e c. CommitsSession draw tasks c h e.client e.op) journal event
+  pub knows : IsOnce journal → Knows (λ h e c. CommitsSession draw tasks start c h e.client e.op) journal event
 
 -- of the opening or the closing reading
 plain-keeps : (op : Op) → IsPlain op → ¬ Removes op
@@ -91,6 +93,14 @@ plain-keeps (PutOver key bytes old why) p r = r
 plain-keeps (Remove key why) p r = p
 plain-keeps (RemoveAt key old why) p r = p
 plain-keeps (ListPart part) p r = r
+
+plain-uncut : (op : Op) → IsPlain op → ¬ PutsOverSnapshot op
+plain-uncut (Get key) p c = c
+plain-uncut (PutNew key bytes why) p c = c
+plain-uncut (PutOver key bytes old why) p c = p
+plain-uncut (Remove key why) p c = c
+plain-uncut (RemoveAt key old why) p c = c
+plain-uncut (ListPart part) p c = c
 
 plain-once : (journal : List Event) (op : Op) → IsPlain op → PutsOnce journal op
 plain-once journal (Get key) p = tt
@@ -107,15 +117,16 @@ plain-once journal (RemoveAt key old why) p = absurd p
 plain-once journal (ListPart part) p = tt
 
 module _ (draw : Draw) (tasks : List Task) where
-  plain-none : (journal : List Event) (client : ℕ) (op : Op) → IsPlain op → CommitsSession draw tasks none journal client op
-  plain-none journal client op p branch bytes old id e names = absurd (subst IsPlain e p)
+  plain-none : (start journal : List Event) (client : ℕ) (op : Op) → IsPlain op → CommitsSession draw tasks start none journal client op
+  plain-none start journal client op p branch bytes old id e names = absurd (subst IsPlain e p)
 
-  pub plain-fits : (journal : List Event) (event : Event) → IsGood journal event → IsPlain event.op → Fits draw tasks journal event
-  plain-fits journal event good p = record {
+  pub plain-fits : (start journal : List Event) (event : Event) → IsGood journal event → IsPlain event.op → Fits draw tasks start journal event
+  plain-fits start journal event good p = record {
     good = good;
     keeps = plain-keeps event.op p;
+    uncut = plain-uncut event.op p;
     first = λ new once d. first-law journal event.op once good.polite (plain-once journal event.op p);
-    knows = λ once. (none, plain-none journal event.client event.op p);
+    knows = λ once. (none, plain-none start journal event.client event.op p);
   }
 
 -- of a task
@@ -127,31 +138,45 @@ owes-keeps ids mine journal (Remove key why) o r = o
 owes-keeps ids mine journal (RemoveAt key old why) o r = o
 owes-keeps ids mine journal (ListPart part) o r = r
 
-owes-once : (ids : AnyIds) (task : Task) (journal : List Event) (op : Op) → client_of ids < 2 ^ 32 → IsWellTask task → ObjectsAreNew ids journal → Owes ids (IsOfTask ids task) journal op → PutsOnce journal op
-owes-once ids task journal (Get key) small well new o = tt
-owes-once ids task journal (ListPart part) small well new o = tt
-owes-once ids task journal (PutNew (Snapshot id) bytes why) small well new o =
-    let drawn : MayDrawObject ids id = task-object ids task o.session id well o.is_mine in
-    (λ e. absurd (object-not_initial ids id small drawn e), λ differs. (new id drawn).snapshot)
-owes-once ids task journal (PutNew (Txn id) bytes why) small well new o = (new id o).log
-owes-once ids task journal (PutNew (Manifest id) bytes why) small well new o = (new id o).manifest
-owes-once ids task journal (PutNew (Chunk id) bytes why) small well new o = (new id o).chunk
-owes-once ids task journal (PutNew (Branch name) bytes why) small well new o = tt
-owes-once ids task journal (PutNew (Tag name) bytes why) small well new o = tt
-owes-once ids task journal (PutNew (TagGone name) bytes why) small well new o = tt
-owes-once ids task journal (PutOver (Snapshot id) bytes old why) small well new o = absurd o
-owes-once ids task journal (PutOver (Txn id) bytes old why) small well new o = tt
-owes-once ids task journal (PutOver (Manifest id) bytes old why) small well new o = tt
-owes-once ids task journal (PutOver (Chunk id) bytes old why) small well new o = tt
-owes-once ids task journal (PutOver (Branch name) bytes old why) small well new o = tt
-owes-once ids task journal (PutOver (Tag name) bytes old why) small well new o = tt
-owes-once ids task journal (PutOver (TagGone name) bytes old why) small well new o = tt
-owes-once ids task journal (Remove key why) small well new o = tt
-owes-once ids task journal (RemoveAt key old why) small well new o = tt
+owes-uncut : (ids : AnyIds) (mine : Sessions) (journal : List Event) (op : Op) → Owes ids mine journal op → ¬ PutsOverSnapshot op
+owes-uncut ids mine journal (Get key) o c = c
+owes-uncut ids mine journal (PutNew key bytes why) o c = c
+owes-uncut ids mine journal (PutOver (Snapshot id) bytes old why) o c = o
+owes-uncut ids mine journal (PutOver (Txn id) bytes old why) o c = c
+owes-uncut ids mine journal (PutOver (Manifest id) bytes old why) o c = c
+owes-uncut ids mine journal (PutOver (Chunk id) bytes old why) o c = c
+owes-uncut ids mine journal (PutOver (Branch name) bytes old why) o c = c
+owes-uncut ids mine journal (PutOver (Tag name) bytes old why) o c = c
+owes-uncut ids mine journal (PutOver (TagGone name) bytes old why) o c = c
+owes-uncut ids mine journal (Remove key why) o c = c
+owes-uncut ids mine journal (RemoveAt key old why) o c = c
+owes-uncut ids mine journal (ListPart part) o c = c
 
-module _ (draw : Draw) (tasks : List Task) (client place : ℕ) (task : Task) (client_is : client ≡ place + 1) (at : slice_get tasks place ≡ Some task) (journal : List Event) (once : IsOnce journal) where
+owes-once : (ids : AnyIds) (task : Task) (client : ℕ) (start journal : List Event) (op : Op) → client_of ids < 2 ^ 32 → IsWellTask task → ObjectsAreNew ids journal → Owes ids (IsOfTask ids task client start) journal op → PutsOnce journal op
+owes-once ids task client start journal (Get key) small well new o = tt
+owes-once ids task client start journal (ListPart part) small well new o = tt
+owes-once ids task client start journal (PutNew (Snapshot id) bytes why) small well new o =
+    let drawn : MayDrawObject ids id = task-object ids task client start journal o.session id well o.is_mine in
+    (λ e. absurd (object-not_initial ids id small drawn e), λ differs. (new id drawn).snapshot)
+owes-once ids task client start journal (PutNew (Txn id) bytes why) small well new o = (new id o).log
+owes-once ids task client start journal (PutNew (Manifest id) bytes why) small well new o = (new id o).manifest
+owes-once ids task client start journal (PutNew (Chunk id) bytes why) small well new o = (new id o).chunk
+owes-once ids task client start journal (PutNew (Branch name) bytes why) small well new o = tt
+owes-once ids task client start journal (PutNew (Tag name) bytes why) small well new o = tt
+owes-once ids task client start journal (PutNew (TagGone name) bytes why) small well new o = tt
+owes-once ids task client start journal (PutOver (Snapshot id) bytes old why) small well new o = absurd o
+owes-once ids task client start journal (PutOver (Txn id) bytes old why) small well new o = tt
+owes-once ids task client start journal (PutOver (Manifest id) bytes old why) small well new o = tt
+owes-once ids task client start journal (PutOver (Chunk id) bytes old why) small well new o = tt
+owes-once ids task client start journal (PutOver (Branch name) bytes old why) small well new o = tt
+owes-once ids task client start journal (PutOver (Tag name) bytes old why) small well new o = tt
+owes-once ids task client start journal (PutOver (TagGone name) bytes old why) small well new o = tt
+owes-once ids task client start journal (Remove key why) small well new o = tt
+owes-once ids task client start journal (RemoveAt key old why) small well new o = tt
+
+module _ (draw : Draw) (tasks : List Task) (start : List Event) (client place : ℕ) (task : Task) (client_is : client ≡ place + 1) (at : slice_get tasks place ≡ Some task) (journal : List Event) (once : IsOnce journal) where
   -- a branch that is put over
-  over-session : (name bytes : List ℕ) (old : ℕ) (why : Why) (branch : List ℕ) (id : Id12) → (o : OwesOver (IsOfTask (ids_at draw place) task) journal name bytes old why) → name ≡ branch → ref_of bytes ≡ Some id → IsOfSession draw tasks (changes_in (puts_of journal) o.session) journal client branch old id
+  over-session : (name bytes : List ℕ) (old : ℕ) (why : Why) (branch : List ℕ) (id : Id12) → (o : OwesOver (IsOfTask (ids_at draw place) task (place + 1) start) journal name bytes old why) → name ≡ branch → ref_of bytes ≡ Some id → IsOfSession draw tasks start (changes_in (puts_of journal) o.session) journal client branch old id
   over-session name bytes old why branch id o branch_is names =
       let same : o.id ≡ id = some_same (sym o.names ∙ names) in
       record {
@@ -160,7 +185,7 @@ module _ (draw : Draw) (tasks : List Task) (client place : ℕ) (task : Task) (c
         task = task;
         at = at;
         session = o.session;
-        of_task = subst (λ (i : Id12). IsOfTask (ids_at draw place) task o.session i) same o.is_mine;
+        of_task = subst (λ (i : Id12). IsOfTask (ids_at draw place) task (place + 1) start journal o.session i) same o.is_mine;
         branch_is = sym branch_is ∙ o.branch_is;
         version_is = o.version_is;
         changes_are = refl;
@@ -170,14 +195,14 @@ module _ (draw : Draw) (tasks : List Task) (client place : ℕ) (task : Task) (c
       some_same : Some o.id ≡ Some id → o.id ≡ id
       some_same e = cc
 
-  over-commits : (name bytes : List ℕ) (old : Version) (why : Why) → (o : OwesOver (IsOfTask (ids_at draw place) task) journal name bytes old.0 why) → CommitsSession draw tasks (changes_in (puts_of journal) o.session) journal client (PutOver (Branch name) bytes old why)
+  over-commits : (name bytes : List ℕ) (old : Version) (why : Why) → (o : OwesOver (IsOfTask (ids_at draw place) task (place + 1) start) journal name bytes old.0 why) → CommitsSession draw tasks start (changes_in (puts_of journal) o.session) journal client (PutOver (Branch name) bytes old why)
   over-commits name bytes old why o branch other version id e names =
       let branches : name ≡ branch = cc in
       let references : bytes ≡ other = cc in
       let versions : old ≡ version = cc in
-      subst (λ (v : Version). IsOfSession draw tasks (changes_in (puts_of journal) o.session) journal client branch v.0 id) versions (over-session name bytes old.0 why branch id o branches (ap ref_of references ∙ names))
+      subst (λ (v : Version). IsOfSession draw tasks start (changes_in (puts_of journal) o.session) journal client branch v.0 id) versions (over-session name bytes old.0 why branch id o branches (ap ref_of references ∙ names))
 
-  op-knows : (op : Op) → Owes (ids_at draw place) (IsOfTask (ids_at draw place) task) journal op → (c : Changes) × CommitsSession draw tasks c journal client op
+  op-knows : (op : Op) → Owes (ids_at draw place) (IsOfTask (ids_at draw place) task (place + 1) start) journal op → (c : Changes) × CommitsSession draw tasks start c journal client op
   op-knows (Get key) o = (none, λ branch bytes old id e names. absurd cc)
   op-knows (ListPart part) o = (none, λ branch bytes old id e names. absurd cc)
   op-knows (PutNew key bytes why) o = (none, λ branch other old id e names. absurd cc)
@@ -203,28 +228,29 @@ module _ (draw : Draw) (tasks : List Task) where
   pub small-at : length tasks < 2 ^ 32 - 1 → (place : ℕ) → place < length tasks → client_of (ids_at draw place) < 2 ^ 32
   small-at few place within = let client = (source-at few place within).1 in omega (arith, client, within, few)
 
-  pub client-fits : length tasks < 2 ^ 32 - 1 → All IsWellTask tasks → (start journal : List Event) (event : Event) → IsOfClient draw tasks start journal event → Fits draw tasks journal event
+  pub client-fits : length tasks < 2 ^ 32 - 1 → All IsWellTask tasks → (start journal : List Event) (event : Event) → IsOfClient draw tasks start journal event → Fits draw tasks start journal event
   client-fits few wells start journal event c =
-      let mine : Sessions = IsOfTask (ids_at draw c.place) c.task in
+      let mine : Sessions = IsOfTask (ids_at draw c.place) c.task (c.place + 1) start in
       let owes : Owes (ids_at draw c.place) mine journal event.op = c.careful.owes in
       record {
         good = c.careful.good;
         keeps = owes-keeps (ids_at draw c.place) mine journal event.op owes;
+        uncut = owes-uncut (ids_at draw c.place) mine journal event.op owes;
         first = λ new once d. first-law journal event.op once c.careful.good.polite
-            (owes-once (ids_at draw c.place) c.task journal event.op (small-at few c.place (slice_get_within tasks c.place c.task c.at)) (well-at wells c.place c.task c.at) (new c.place (slice_get_within tasks c.place c.task c.at)) owes);
-        knows = λ once. op-knows draw tasks event.client c.place c.task c.client c.at journal once event.op owes;
+            (owes-once (ids_at draw c.place) c.task (c.place + 1) start journal event.op (small-at few c.place (slice_get_within tasks c.place c.task c.at)) (well-at wells c.place c.task c.at) (new c.place (slice_get_within tasks c.place c.task c.at)) owes);
+        knows = λ once. op-knows draw tasks start event.client c.place c.task c.client c.at journal once event.op owes;
       }
 
   -- ---- along a run
   -- nothing is put again, and the changes are known
-  pub record Goes (old more : List Event) : Type 0 where
+  pub record Goes (start old more : List Event) : Type 0 where
     pub first : Each IsFirst old more
-    pub knows : Each (Knows (λ h e c. CommitsSession draw tasks c h e.client e.op)) old more
+    pub knows : Each (Knows (λ h e c. CommitsSession draw tasks start c h e.client e.op)) old more
 
-  pub goes : (old more : List Event) → IsOnce old → AllObjectsAreNew draw tasks old → Each (Fits draw tasks) old more → Goes old more
+  pub goes : (start old more : List Event) → IsOnce old → AllObjectsAreNew draw tasks old → Each (Fits draw tasks start) old more → Goes start old more
   unfolding Each
-  goes old [] once new fits = record { first = tt; knows = tt }
-  goes old (x ∷ xs) once new fits =
+  goes start old [] once new fits = record { first = tt; knows = tt }
+  goes start old (x ∷ xs) once new fits =
       let first : IsFirst old x = fits.0.first new once in
-      let next = goes (old ++ x ∷ []) xs (Each-append IsFirst [] old (x ∷ []) once (first, tt)) (λ place within. objects-one (ids_at draw place) old x fits.0.keeps (new place within)) fits.1 in
+      let next = goes start (old ++ x ∷ []) xs (Each-append IsFirst [] old (x ∷ []) once (first, tt)) (λ place within. objects-one (ids_at draw place) old x fits.0.keeps (new place within)) fits.1 in
       record { first = (first, next.first); knows = (fits.0.knows once, next.knows) }

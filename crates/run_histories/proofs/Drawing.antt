@@ -28,7 +28,7 @@ use Rattle.play_script.specs.declared.scripts.EditCall.TheVariants.{Group, Array
 use Rattle.play_script.specs.declared.scripts.Head.{Head}
 use Rattle.play_script.specs.declared.scripts.Head.TheVariants.{Write, Read}
 use Rattle.play_script.specs.declared.scripts.Task.{Task}
-use Rattle.zarr_keys.specs.Keys.{session_of, put_over, erased_at, key_erased}
+use Rattle.zarr_keys.specs.Keys.{session_of, erased_at, key_erased}
 use Rattle.play_tasks.specs.Lines.{edited}
 use Rattle.play_tasks.specs.Playing.{asked_by}
 use Rattle.play_tasks.specs.Tasks.{ids_at}
@@ -105,7 +105,7 @@ module _ (client : ℕ) where
   object-draws ids id known m = record { ids = m.later; known = object-known ids id (known-small ids known.0) m; client_is = m.is_later.client ∙ known.1; is = m.drawn }
 
 pub head-ids : (head : Head) (ids : AnyIds) → (asked_by head ids).ids ≡ ids
-head-ids (Write branch) ids = refl
+head-ids (Write branch tries policy) ids = refl
 head-ids (Read branch) ids = refl
 
 -- no id is drawn by two clients

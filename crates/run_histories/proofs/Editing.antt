@@ -2,9 +2,8 @@
 use Rattle.std.proofs.Common.{◌≡◌, ◌⊎◌, inl, inr, ℕ, true, false, List, [], ◌∷◌, refl, sym, ◌∙◌, ap, subst}
 use Rattle.std.specs.Prelude.{Option, Some, None, Result, Ok, Err, All}
 use Rattle.std.specs.FinMap.{get, get-empty}
-use Rattle.std.proofs.lemmas.List.Elements.{All-head, All-tail}
+use Rattle.std.proofs.lemmas.List.Elements.{All-nil, All-head, All-tail}
 use Rattle.ice_ids.specs.declared.Id8.{Id8}
-use Rattle.ice_ids.specs.declared.Id12.{Id12}
 use Rattle.ice_ids.specs.declared.drawing.AnyIds.{AnyIds}
 use Rattle.zarr_path.specs.Paths.{path_cmp, is_path}
 use Rattle.zarr_path.specs.declared.keys.ZarrKey.{ZarrKey}
@@ -15,25 +14,21 @@ use Rattle.zarr_meta.specs.declared.faults.MetaFault.{MetaFault}
 use Rattle.zarr_meta.specs.declared.views.View.{View}
 use Rattle.zarr_meta.specs.Plain.{group_text}
 use Rattle.zarr_tree.specs.Nodes.{Node}
-use Rattle.zarr_tree.specs.Trees.{IsWellFormed}
 use Rattle.zarr_tree.specs.Changes.{IsNormal}
 use Rattle.zarr_tree.specs.Touched.{lists}
 use Rattle.zarr_tree.specs.Held.{Held, changes_of}
 use Rattle.zarr_tree.proofs.Normal.{none-law}
 use Rattle.zarr_changes.specs.Edits.{nothing}
 use Rattle.manifest_file.specs.declared.manifest.Place.{Place}
-use Rattle.repo_objects.specs.Trees.{Puts}
 use Rattle.store_api.specs.declared.events.Event.{Event}
 use Rattle.store_api.specs.declared.machines.Refusal.{Refusal}
-use Rattle.session.specs.Sessions.{SessionState, base_tree, nodes_seen, changes_in}
-use Rattle.session.specs.Sources.{IsLater, MayDrawObject, MayDrawNode}
-use Rattle.session.specs.Opening.{begun}
+use Rattle.session.specs.Sessions.{SessionState, base_tree, nodes_seen}
+use Rattle.session.specs.Sources.{IsLater}
 use Rattle.session.specs.Editing.{group_fault, array_fault, node_fault, added, group_added, array_added, node_added, meta_set, node_dropped}
 use Rattle.session.specs.Chunks.{chunk_unset}
-use Rattle.commit_path.specs.Owed.{HasChunks}
 use Rattle.commit_path.specs.Laws.{TellsFaults}
 use Rattle.commit_path.proofs.Editing.{Added, node-added, text-set, node-dropped}
-use Rattle.commit_path.proofs.Sources.{later-same, object-later}
+use Rattle.commit_path.proofs.Sources.{later-same}
 use Rattle.zarr_keys.specs.Keys.{session_of, meta_value, put_over, erased_at, key_erased}
 use Rattle.play_script.specs.declared.scripts.Call.{Call}
 use Rattle.play_script.specs.declared.scripts.Call.TheVariants.{Edit, Read as Read_call, Commit}
@@ -42,17 +37,15 @@ use Rattle.play_script.specs.declared.scripts.EditCall.TheVariants.{Group, Array
 use Rattle.play_script.specs.declared.scripts.ReadCall.{ReadCall}
 use Rattle.play_script.specs.declared.scripts.ReadCall.TheVariants.{List as List_call, Get, Chunk, KeyGet}
 use Rattle.play_script.specs.declared.scripts.Line.{Line}
-use Rattle.play_script.specs.declared.scripts.Task.{Task}
-use Rattle.play_script.specs.Well.{IsWellEdit, IsWellCall, IsWellLine, IsWellTask}
+use Rattle.play_script.specs.Well.{IsWellEdit, IsWellCall, IsWellLine}
 use Rattle.play_outcome.specs.declared.outcome.Shown.{Shown}
 use Rattle.play_tasks.specs.Lines.{Deed, Goes, Sets, Reads, Commits, deed, edit_deed, read_deed, edited, read_by, key_shown, key_set_deed, key_get_deed, silent, still}
-use Rattle.play_tasks.specs.Playing.{asked_by}
-use Rattle.play_tasks.specs.Solving.{ReachesBy, Reaches, IsOfTask}
+use Rattle.play_tasks.specs.Solving.{ReachesBy, Reaches}
 use Rattle.play_tasks.specs.Telling.{DidPlay, PlaysAll}
-use Rattle.run_histories.proofs.Drawing.{IsDrawnBy, AreOf, object-draws, head-ids}
-use Rattle.run_histories.proofs.Sized.{sized, normal-in}
+use Rattle.run_histories.proofs.Sized.{sized}
+use Rattle.run_histories.proofs.Texts.{same-texts}
 use Rattle.run_histories.proofs.Setting.{chunk-set, set-told, unset-edits}
-use Rattle.run_histories.proofs.Edits.{SetsChunk, Edits, OwnAreNew, GoesOn, edit-base, edit-goes}
+use Rattle.run_histories.proofs.Edits.{SetsChunk, Edits, GoesOn, edit-at, edit-base, edit-goes}
 
 -- ---- the edits of a script
 added-edits : (fault : Result View MetaFault → Option MetaFault) → TellsFaults fault → (path text : List ℕ) (s t : SessionState) → is_path path ≡ true → (r : Result (Id8 × SessionState) Refusal) → added fault s path text ≡ r → session_of r ≡ Ok t → Edits s t
@@ -141,6 +134,10 @@ led-goes : (ids : AnyIds) (s t : SessionState) → (t ≡ s) ⊎ Edits s t → G
 led-goes ids s t (inl same) g = subst (GoesOn ids) (sym same) g
 led-goes ids s t (inr e) g = edit-goes ids s t e g
 
+led-at : (s t : SessionState) → (t ≡ s) ⊎ Edits s t → t.base ≡ s.base
+led-at s t (inl same) = ap (λ (x : SessionState). x.base) same
+led-at s t (inr e) = edit-at s t e
+
 led-base : (s t : SessionState) → (t ≡ s) ⊎ Edits s t → t.rows ≡ s.rows
 led-base s t (inl same) = ap (λ (x : SessionState). x.rows) same
 led-base s t (inr e) = edit-base s t e
@@ -148,30 +145,33 @@ led-base s t (inr e) = edit-base s t e
 abbrev sets : (s t : SessionState) → SetsChunk s t → (t ≡ s) ⊎ Edits s t
 sets s t a = inr (inr (inr (inr (inl a))))
 
--- the session at a commit
-pub record EndsSo (ids : AnyIds) (t : SessionState) (id : Id12) : Type 0 where
-  pub goes : GoesOn ids t
-  pub drawn : MayDrawObject t.ids id
-
-module _ (ids : AnyIds) (t : SessionState) (id : Id12) where
-  deed-ends : (s : SessionState) (next : SessionState → Type 0) → GoesOn ids s → ((mid : SessionState) → GoesOn ids mid → next mid → EndsSo ids t id) → (d : Deed) → Leads d s → ReachesBy d s t id next → EndsSo ids t id
-  deed-ends s next g go (Goes (Ok went)) leads r = go went.1 (led-goes ids s went.1 (leads went.0 went.1 refl) g) r
-  deed-ends s next g go (Goes (Err why)) leads r = absurd r
-  deed-ends s next g go (Sets path index bytes) leads r = go r.0 (led-goes ids s r.0 (sets s r.0 (chunk-set s r.0 path index bytes r.1)) g) r.2
-  deed-ends s next g go (Reads path index show) leads r = go s g r.2
-  deed-ends s next g go (Commits message) leads r = record { goes = subst (GoesOn ids) (sym r.0) g; drawn = subst (λ (x : SessionState). MayDrawObject x.ids id) (sym r.0) r.1 }
-
-  lines-end : (lines : List Line) (s : SessionState) → All IsWellLine lines → GoesOn ids s → Reaches lines s t id → EndsSo ids t id
-  unfolding Reaches
-  lines-end [] s well g r = absurd r
-  lines-end (l ∷ ls) s well g r =
-      deed-ends s (λ mid. Reaches ls mid t id) g (λ mid k n. lines-end ls mid (All-tail IsWellLine l ls well) k n) (deed l.number l.call s) (call-leads l.number l.call s (All-head IsWellLine l ls well).call) r
-
--- the session behind lines that were played
+-- the session behind lines
 pub record WentOn (ids : AnyIds) (s t : SessionState) : Type 0 where
   pub goes : GoesOn ids t
-  pub base : t.rows ≡ s.rows
+  pub base : t.base ≡ s.base
+  pub rows : t.rows ≡ s.rows
 
+module _ (ids : AnyIds) where
+  went-behind : (s mid t : SessionState) → (mid ≡ s) ⊎ Edits s mid → WentOn ids mid t → WentOn ids s t
+  went-behind s mid t led w = record { goes = w.goes; base = w.base ∙ led-at s mid led; rows = w.rows ∙ led-base s mid led }
+
+  went-nowhere : (s t : SessionState) → t ≡ s → GoesOn ids s → WentOn ids s t
+  went-nowhere s t same g = record { goes = subst (GoesOn ids) (sym same) g; base = ap (λ (x : SessionState). x.base) same; rows = ap (λ (x : SessionState). x.rows) same }
+
+  deed-ends : (s t : SessionState) (next : SessionState → Type 0) → GoesOn ids s → ((mid : SessionState) → GoesOn ids mid → next mid → WentOn ids mid t) → (d : Deed) → Leads d s → ReachesBy d s t next → WentOn ids s t
+  deed-ends s t next g go (Goes (Ok went)) leads r = let led = leads went.0 went.1 refl in went-behind s went.1 t led (go went.1 (led-goes ids s went.1 led g) r)
+  deed-ends s t next g go (Goes (Err why)) leads r = absurd r
+  deed-ends s t next g go (Sets path index bytes) leads r = let led = sets s r.0 (chunk-set s r.0 path index bytes r.1) in went-behind s r.0 t led (go r.0 (led-goes ids s r.0 led g) r.2)
+  deed-ends s t next g go (Reads path index show) leads r = go s g r.2
+  deed-ends s t next g go (Commits message) leads r = went-nowhere s t r g
+
+  pub lines-end : (lines : List Line) (s t : SessionState) → All IsWellLine lines → GoesOn ids s → Reaches lines s t → WentOn ids s t
+  unfolding Reaches
+  lines-end [] s t well g r = absurd r
+  lines-end (l ∷ ls) s t well g r =
+      deed-ends s t (λ mid. Reaches ls mid t) g (λ mid k n. lines-end ls mid t (All-tail IsWellLine l ls well) k n) (deed l.number l.call s) (call-leads l.number l.call s (All-head IsWellLine l ls well).call) r
+
+-- ---- lines that were played
 module _ (ids : AnyIds) (client : ℕ) (start journal : List Event) where
   deed-went : (s t : SessionState) (shown : List Shown) (d : Deed) → Leads d s → DidPlay client d s start shown t journal → (t ≡ s) ⊎ Edits s t
   deed-went s t shown (Goes r) leads p = leads shown t p
@@ -181,45 +181,21 @@ module _ (ids : AnyIds) (client : ℕ) (start journal : List Event) where
 
   pub lines-went : (lines : List Line) (s t : SessionState) (shown : List Shown) → All IsWellLine lines → GoesOn ids s → PlaysAll client lines s start shown t journal → WentOn ids s t
   unfolding PlaysAll
-  lines-went [] s t shown well g p = record { goes = subst (GoesOn ids) (sym p.1) g; base = ap (λ (x : SessionState). x.rows) p.1 }
+  lines-went [] s t shown well g p = went-nowhere ids s t p.1 g
   lines-went (l ∷ ls) s t shown well g p =
       let mid : SessionState = p.2 in
       let led = deed-went s mid p.0 (deed l.number l.call s) (call-leads l.number l.call s (All-head IsWellLine l ls well).call) p.4 in
-      let rest = lines-went ls mid t p.1 (All-tail IsWellLine l ls well) (led-goes ids s mid led g) p.5 in
-      record { goes = rest.goes; base = rest.base ∙ led-base s mid led }
+      went-behind ids s mid t led (lines-went ls mid t p.1 (All-tail IsWellLine l ls well) (led-goes ids s mid led g) p.5)
 
--- ---- a task
+-- ---- its beginning
 -- a session as it began
 pub begun-goes : (ids : AnyIds) (s : SessionState) → s.ids ≡ ids → s.held ≡ nothing → GoesOn ids s
 begun-goes ids s same none = record {
   later = subst (IsLater ids) (sym same) (later-same ids);
+  texts = same-texts s.held nothing (ap (λ (h : Held Place). h.metas) none) (All-nil _);
   kept = λ own. record {
     added = λ p n f. let no : None ≡ Some n = sym (get-empty path_cmp p) ∙ (ap (λ (h : Held Place). get h.added p) (sym none) ∙ f) in absurd cc;
     dropped = λ id l. let no : false ≡ true = ap (λ (h : Held Place). lists h.dropped id) (sym none) ∙ l in absurd cc;
     normal = λ puts well. subst (λ (h : Held Place). IsNormal (changes_of sized h) (base_tree puts s)) (sym none) ((none-law (base_tree puts s) well).1);
   };
 }
-
--- a session of a task at its commit
-pub task-ends : (ids : AnyIds) (task : Task) (t : SessionState) (id : Id12) → IsWellTask task → IsOfTask ids task t id → EndsSo ids t id
-task-ends ids task t id well o =
-    let s : SessionState = begun (asked_by task.head ids) o.base o.version o.snap in
-    lines-end ids t id task.body s well.body (begun-goes ids s (head-ids task.head ids) refl) o.reaches
-
--- the id of the commit is one that the task's source may draw
-pub task-object : (ids : AnyIds) (task : Task) (t : SessionState) (id : Id12) → IsWellTask task → IsOfTask ids task t id → MayDrawObject ids id
-task-object ids task t id well o = let e = task-ends ids task t id well o in object-later ids t.ids id e.goes.later e.drawn
-
--- so it was drawn by the task's client
-pub task-draws : (client : ℕ) (ids : AnyIds) (task : Task) (t : SessionState) (id : Id12) → AreOf client ids → IsWellTask task → IsOfTask ids task t id → IsDrawnBy client id
-task-draws client ids task t id known well o = object-draws client ids id known (task-object ids task t id well o)
-
--- its added ids are ones that the source may draw, and its changes are normal for its base, where the chunks that were set are there
-pub record IsNormalSession (ids : AnyIds) (s : SessionState) : Type 0 where
-  pub added : (p : List ℕ) (n : Node) → get s.held.added p ≡ Some n → MayDrawNode ids n.id
-  pub normal : (puts : Puts) → HasChunks puts s.held.chunks → IsWellFormed (base_tree puts s) → IsNormal (changes_in puts s) (base_tree puts s)
-
-pub task-kept : (ids : AnyIds) (task : Task) (t : SessionState) (id : Id12) → IsWellTask task → IsOfTask ids task t id → OwnAreNew ids t → IsNormalSession ids t
-task-kept ids task t id well o own =
-    let k = (task-ends ids task t id well o).goes.kept own in
-    record { added = λ p n f. (k.added p n f).before; normal = λ puts has base. normal-in puts t has (k.normal puts base) }

@@ -31,6 +31,8 @@ use Rattle.session.specs.Sessions.{SessionState, base_nodes, nodes_seen, base_tr
 use Rattle.session.specs.Sources.{IsLater, MayDrawNode}
 use Rattle.session.specs.Chunks.{with_chunk, without_chunk}
 use Rattle.commit_path.proofs.Sources.{later-same, later-later, later-drawn12}
+use Rattle.rebase.specs.AlongLaws.{HasOneTextEach}
+use Rattle.run_histories.proofs.Texts.{same-texts, set-texts, drop-texts}
 use Rattle.run_histories.proofs.Sources.{later-drawn8, node-now, node-later, node-spent}
 use Rattle.run_histories.proofs.Sized.{sized, sized-bytes, changes_sized}
 
@@ -241,6 +243,13 @@ module _ (ids : AnyIds) (s : SessionState) (later : IsLater ids s.ids) (own : Ow
   edit-keeps t (inr (inr (inr (inr a)))) = unset-keeps t a
 
 -- an edit leaves the base
+pub edit-at : (s t : SessionState) → Edits s t → t.base ≡ s.base
+edit-at s t (inl a) = ap (λ (x : SessionState). x.base) a.is
+edit-at s t (inr (inl a)) = ap (λ (x : SessionState). x.base) a.is
+edit-at s t (inr (inr (inl a))) = ap (λ (x : SessionState). x.base) a.is
+edit-at s t (inr (inr (inr (inl a)))) = ap (λ (x : SessionState). x.base) a.is
+edit-at s t (inr (inr (inr (inr a)))) = ap (λ (x : SessionState). x.base) a.is
+
 pub edit-base : (s t : SessionState) → Edits s t → t.rows ≡ s.rows
 edit-base s t (inl a) = ap (λ (x : SessionState). x.rows) a.is
 edit-base s t (inr (inl a)) = ap (λ (x : SessionState). x.rows) a.is
@@ -248,11 +257,32 @@ edit-base s t (inr (inr (inl a))) = ap (λ (x : SessionState). x.rows) a.is
 edit-base s t (inr (inr (inr (inl a)))) = ap (λ (x : SessionState). x.rows) a.is
 edit-base s t (inr (inr (inr (inr a)))) = ap (λ (x : SessionState). x.rows) a.is
 
+-- an edit leaves one text for each node
+set-metas : (h : Held Place) (index : List ℕ) (place : Place) (there : Option Node) → (held.with_chunk h index place there).metas ≡ h.metas
+set-metas h index place None = refl
+set-metas h index place (Some n) = refl
+
+unset-metas : (h : Held Place) (index : List ℕ) (added there : Option Node) → (held.without_chunk h index added there).metas ≡ h.metas
+unset-metas h index added None = refl
+unset-metas h index None (Some n) = refl
+unset-metas h index (Some m) (Some n) = refl
+
+edit-texts : (s t : SessionState) → Edits s t → HasOneTextEach s.held → HasOneTextEach t.held
+edit-texts s t (inl a) one = same-texts t.held s.held (ap (λ (x : SessionState). x.held.metas) a.is) one
+edit-texts s t (inr (inl a)) one =
+    subst (λ (x : SessionState). HasOneTextEach x.held) (sym a.is) (set-texts s.held a.path a.text (get s.held.added a.path) (get (nodes_over s.held (base_nodes s)) a.path) one)
+edit-texts s t (inr (inr (inl a))) one = subst (λ (x : SessionState). HasOneTextEach x.held) (sym a.is) (drop-texts s.held (base_nodes s) a.path one)
+edit-texts s t (inr (inr (inr (inl a)))) one =
+    same-texts t.held s.held (ap (λ (x : SessionState). x.held.metas) a.is ∙ set-metas s.held a.index a.place (get (nodes_over s.held (base_nodes s)) a.path)) one
+edit-texts s t (inr (inr (inr (inr a)))) one =
+    same-texts t.held s.held (ap (λ (x : SessionState). x.held.metas) a.is ∙ unset-metas s.held a.index (get s.held.added a.path) (get (nodes_over s.held (base_nodes s)) a.path)) one
+
 -- ---- along edits
--- What holds along the lines of a task: the session's source is a later one, and it is kept, where no node of its base has an id that
--- the first source may draw.
+-- What holds along the lines of a task: the session's source is a later one, it holds one text for each node, and it is kept, where no node
+-- of its base has an id that the first source may draw.
 pub record GoesOn (ids : AnyIds) (s : SessionState) : Type 0 where
   pub later : IsLater ids s.ids
+  pub texts : HasOneTextEach s.held
   pub kept : OwnAreNew ids s → IsKept ids s
 
 pub edit-later : (s t : SessionState) → Edits s t → IsLater s.ids t.ids
@@ -269,5 +299,6 @@ own-stay ids s t same own p n f = own p n (ap (λ (rows : List NodeRow). get (no
 pub edit-goes : (ids : AnyIds) (s t : SessionState) → Edits s t → GoesOn ids s → GoesOn ids t
 edit-goes ids s t e g = record {
   later = later-later ids s.ids t.ids g.later (edit-later s t e);
+  texts = edit-texts s t e g.texts;
   kept = λ own. let before : OwnAreNew ids s = own-stay ids s t (edit-base s t e) own in edit-keeps ids s g.later before (g.kept before) t e;
 }

@@ -8,7 +8,10 @@ use Rattle.zarr_tree.specs.Trees.{Tree}
 use Rattle.zarr_tree.specs.Changes.{Changes, apply, IsNormal}
 use Rattle.snapshot_file.specs.declared.snapshot.SnapshotFile.{SnapshotFile as Snap}
 use Rattle.repo_objects.specs.Trees.{Extends}
-use Rattle.store_api.specs.declared.keys.Key.TheVariants.{Snapshot}
+use Rattle.store_api.specs.declared.keys.Key.TheVariants.{Snapshot, Branch}
+use Rattle.store_api.specs.declared.keys.Why.TheVariants.{Commit}
+use Rattle.store_api.specs.declared.events.Version.{Version}
+use Rattle.store_api.specs.declared.events.Op.TheVariants.{PutOver}
 use Rattle.store_api.specs.declared.events.Event.{Event}
 use Rattle.store_api.specs.Journal.{Each, IsGood, IsGoodJournal, IsOnce, IsFirst, WasPut, puts_of, tree_of, snap_made}
 use Rattle.store_api.proofs.Journals.{Each-back, Each-both}
@@ -87,81 +90,82 @@ module _ (journal rest : List Event) (f : Follows journal rest) (session : Sessi
   grown : Extends (puts_of journal) (puts_of (journal ++ rest))
   grown = puts-stay journal rest f.once f.good f.first
 
-  abbrev NormalAtLast : Type 0
-  NormalAtLast = IsNormal (changes_in (puts_of (journal ++ rest)) session) (base_tree (puts_of (journal ++ rest)) session)
+  abbrev NormalThen : Type 0
+  NormalThen = IsNormal (changes_in (puts_of journal) session) (base_tree (puts_of journal) session)
 
-  normal-then : NormalAtLast → IsNormal (changes_in (puts_of journal) session) (base_tree (puts_of journal) session)
-  normal-then normal =
-      let same : base_tree (puts_of (journal ++ rest)) session ≡ base_tree (puts_of journal) session = tree_same (sym base-tree ∙ base-stands) in
-      subst (λ (c : Changes). IsNormal c (base_tree (puts_of journal) session)) (changes-stay (puts_of journal) (puts_of (journal ++ rest)) session grown m.chunks)
-      (subst (λ (t : Tree). IsNormal (changes_in (puts_of (journal ++ rest)) session) t) same normal)
+  normal-last : NormalThen → IsNormal (changes_in (puts_of (journal ++ rest)) session) (base_tree (puts_of (journal ++ rest)) session)
+  normal-last normal =
+      let same : base_tree (puts_of journal) session ≡ base_tree (puts_of (journal ++ rest)) session = tree_same (sym base-stands ∙ base-tree) in
+      subst (λ (c : Changes). IsNormal c (base_tree (puts_of (journal ++ rest)) session)) (sym (changes-stay (puts_of journal) (puts_of (journal ++ rest)) session grown m.chunks))
+      (subst (λ (t : Tree). IsNormal (changes_in (puts_of journal) session) t) same normal)
     where
-      tree_same : Some (base_tree (puts_of (journal ++ rest)) session) ≡ Some (base_tree (puts_of journal) session) → base_tree (puts_of (journal ++ rest)) session ≡ base_tree (puts_of journal) session
+      tree_same : Some (base_tree (puts_of journal) session) ≡ Some (base_tree (puts_of (journal ++ rest)) session) → base_tree (puts_of journal) session ≡ base_tree (puts_of (journal ++ rest)) session
       tree_same e = cc
 
   -- the commit's own, by what was put until then
-  made-stands : NormalAtLast → tree_of (journal ++ rest) id ≡ Some (overlay (puts_of journal) session)
+  made-stands : NormalThen → tree_of (journal ++ rest) id ≡ Some (overlay (puts_of journal) session)
   made-stands normal =
       standing id journal rest f.once (snap_made-put journal id m.snap m.made) f.good f.first
       ∙ tree-by_rows journal id m.snap.nodes m.rows
-      ∙ ap (λ (t : Tree). Some t) (m.tree (puts_of journal) (extends-same (puts_of journal)) (normal-then normal))
+      ∙ ap (λ (t : Tree). Some t) (m.tree (puts_of journal) (extends-same (puts_of journal)) normal)
 
   -- by what was put at last
-  made-tree : NormalAtLast → tree_of (journal ++ rest) id ≡ Some (overlay (puts_of (journal ++ rest)) session)
+  made-tree : NormalThen → tree_of (journal ++ rest) id ≡ Some (overlay (puts_of (journal ++ rest)) session)
   made-tree normal =
       tree-by_rows (journal ++ rest) id m.snap.nodes (rows-stay id journal rest f.once (snap_made-put journal id m.snap m.made) f.good f.first ∙ m.rows)
-      ∙ ap (λ (t : Tree). Some t) (m.tree (puts_of (journal ++ rest)) grown normal)
+      ∙ ap (λ (t : Tree). Some t) (m.tree (puts_of (journal ++ rest)) grown (normal-last normal))
 
-  made-leads : NormalAtLast → (c : Changes) → c ≡ changes_in (puts_of journal) session → LeadsFromParent (tree_of (journal ++ rest)) c journal id
+  made-leads : NormalThen → (c : Changes) → c ≡ changes_in (puts_of journal) session → LeadsFromParent (tree_of (journal ++ rest)) c journal id
   made-leads normal c changes base snap made parent =
       made-stands normal
       ∙ ap (λ (x : Changes). Some (apply x (base_tree (puts_of journal) session))) (sym changes)
       ∙ ap (option_map (apply c)) (sym base-stands)
       ∙ ap (λ (i : Id12). option_map (apply c) (tree_of (journal ++ rest) i)) (made-base base snap made parent)
 
-module _ (draw : Draw) (tasks : List Task) (changes : ℕ → Changes) (whole : List Event) (good : IsGoodJournal whole) (once : IsOnce whole) where
+-- where the event is a commit, the changes of a session that it may be of are normal for its base
+abbrev pub CommitsNormal : Draw → List Task → (start journal : List Event) → Event → Type 0
+CommitsNormal draw tasks start journal event = (c : Changes) (branch bytes : List ℕ) (old : Version) (id : Id12) → event.op ≡ PutOver (Branch branch) bytes old Commit → (s : IsOfSession draw tasks start c journal event.client branch old.0 id)
+    → IsNormal (changes_in (puts_of journal) s.session) (base_tree (puts_of journal) s.session)
+
+module _ (draw : Draw) (tasks : List Task) (start : List Event) (changes : ℕ → Changes) (whole : List Event) (good : IsGoodJournal whole) (once : IsOnce whole) where
   follows : (journal rest : List Event) → whole ≡ journal ++ rest → Follows journal rest
   follows journal rest w =
       let good' : IsGoodJournal (journal ++ rest) = subst (λ (h : List Event). IsGoodJournal h) w good in
       let once' : IsOnce (journal ++ rest) = subst (λ (h : List Event). IsOnce h) w once in
       record { once = once-front journal rest once'; good = (Each-back IsGood [] journal rest good').1; first = once-back journal rest once' }
 
-  -- the changes of each commit's session are normal for its base
-  abbrev pub AllNormal : Type 0
-  AllNormal = (journal rest : List Event) → whole ≡ journal ++ rest → (c : Changes) (client : ℕ) (branch : List ℕ) (version : ℕ) (id : Id12) (s : IsOfSession draw tasks c journal client branch version id)
-      → tree_of whole s.session.base ≡ Some (base_tree (puts_of whole) s.session) → IsNormal (changes_in (puts_of whole) s.session) (base_tree (puts_of whole) s.session)
-
   base-has : (journal rest : List Event) (w : whole ≡ journal ++ rest) (session : SessionState) (id : Id12) → IsMade session id journal → tree_of whole session.base ≡ Some (base_tree (puts_of whole) session)
   base-has journal rest w session id made = subst (λ (h : List Event). tree_of h session.base ≡ Some (base_tree (puts_of h) session)) (sym w) (base-tree journal rest (follows journal rest w) session id made)
 
-  session-normal : AllNormal → (journal rest : List Event) → whole ≡ journal ++ rest → (c : Changes) (client : ℕ) (branch : List ℕ) (version : ℕ) (id : Id12) (s : IsOfSession draw tasks c journal client branch version id)
-      → IsNormal (changes_in (puts_of (journal ++ rest)) s.session) (base_tree (puts_of (journal ++ rest)) s.session)
-  session-normal normal journal rest w c client branch version id s =
-      subst (λ (h : List Event). IsNormal (changes_in (puts_of h) s.session) (base_tree (puts_of h) s.session)) w (normal journal rest w c client branch version id s (base-has journal rest w s.session id s.made))
+  -- what is known of each event
+  abbrev Solved : List Event → Event → Type 0
+  Solved journal event = IsSolved draw tasks start changes journal event × CommitsNormal draw tasks start journal event
 
-  solved-one : AllNormal → (journal : List Event) (event : Event) (rest : List Event) → whole ≡ journal ++ event ∷ rest → IsSolved draw tasks changes journal event → IsGiven (tree_of whole) changes journal event
-  solved-one normal journal event rest w solved branch bytes old id op_is names =
+  abbrev Applied : List Event → Event → Type 0
+  Applied journal event = Solved journal event × CommitsApply (tree_of whole) changes journal event
+
+  solved-one : (journal : List Event) (event : Event) (rest : List Event) → whole ≡ journal ++ event ∷ rest → Solved journal event → IsGiven (tree_of whole) changes journal event
+  solved-one journal event rest w (solved, normal) branch bytes old id op_is names =
       let s = solved branch bytes old id op_is names in
       let f = follows journal (event ∷ rest) w in
-      let at_last = session-normal normal journal (event ∷ rest) w (changes (length journal)) event.client branch old.0 id s in
+      let then = normal (changes (length journal)) branch bytes old id op_is s in
       subst (λ (h : List Event). LeadsFromParent (tree_of h) (changes (length journal)) journal id) (sym w)
-      (made-leads journal (event ∷ rest) f s.session id s.made at_last (changes (length journal)) s.changes_are)
+      (made-leads journal (event ∷ rest) f s.session id s.made then (changes (length journal)) s.changes_are)
 
-  pub solved-given : AllNormal → (old more : List Event) → whole ≡ old ++ more → Each (IsSolved draw tasks changes) old more → Each (IsGiven (tree_of whole) changes) old more
-  solved-given normal old more w a = along-whole (IsSolved draw tasks changes) (IsGiven (tree_of whole) changes) whole old more w (solved-one normal) a
+  pub solved-given : (old more : List Event) → whole ≡ old ++ more → Each (IsSolved draw tasks start changes) old more → Each (CommitsNormal draw tasks start) old more → Each (IsGiven (tree_of whole) changes) old more
+  solved-given old more w a n =
+      along-whole Solved (IsGiven (tree_of whole) changes) whole old more w solved-one
+      (Each-both (IsSolved draw tasks start changes) (CommitsNormal draw tasks start) Solved (λ h e p q. (p, q)) old more a n)
 
   -- ---- the commits that took effect
-  abbrev Both : List Event → Event → Type 0
-  Both journal event = IsSolved draw tasks changes journal event × CommitsApply (tree_of whole) changes journal event
-
-  enters-one : AllNormal → (journal : List Event) (event : Event) (rest : List Event) → whole ≡ journal ++ event ∷ rest → Both journal event → CommitsEnter draw tasks (puts_of whole) (tree_of whole) changes journal event
-  enters-one normal journal event rest w both branch bytes old id stored op_is names done stands version =
-      let s = both.0 branch bytes old id op_is names in
-      let c = both.1 branch bytes old id stored op_is names done stands version in
+  enters-one : (journal : List Event) (event : Event) (rest : List Event) → whole ≡ journal ++ event ∷ rest → Applied journal event → CommitsEnter draw tasks start (puts_of whole) (tree_of whole) changes journal event
+  enters-one journal event rest w ((solved, normal), applied) branch bytes old id stored op_is names done stands version =
+      let s = solved branch bytes old id op_is names in
+      let c = applied branch bytes old id stored op_is names done stands version in
       let f = follows journal (event ∷ rest) w in
       let base : s.session.base ≡ c.before.id = made-base journal (event ∷ rest) f s.session id s.made c.before.id c.child.snap c.child.made c.child.parent_is in
       let base_has : tree_of whole s.session.base ≡ Some (base_tree (puts_of whole) s.session) = base-has journal (event ∷ rest) w s.session id s.made in
-      let at_last = session-normal normal journal (event ∷ rest) w (changes (length journal)) event.client branch old.0 id s in
+      let then = normal (changes (length journal)) branch bytes old id op_is s in
       record {
         of_session = s;
         before = c.before;
@@ -169,14 +173,16 @@ module _ (draw : Draw) (tasks : List Task) (changes : ℕ → Changes) (whole : 
         version = c.version;
         base = sym base;
         base_is = subst (λ (i : Id12). tree_of whole i ≡ Some (base_tree (puts_of whole) s.session)) base base_has;
-        tree = subst (λ (h : List Event). tree_of h id ≡ Some (overlay (puts_of h) s.session)) (sym w) (made-tree journal (event ∷ rest) f s.session id s.made at_last);
-        normal = normal journal (event ∷ rest) w (changes (length journal)) event.client branch old.0 id s base_has;
+        tree = subst (λ (h : List Event). tree_of h id ≡ Some (overlay (puts_of h) s.session)) (sym w) (made-tree journal (event ∷ rest) f s.session id s.made then);
+        normal = subst (λ (h : List Event). IsNormal (changes_in (puts_of h) s.session) (base_tree (puts_of h) s.session)) (sym w) (normal-last journal (event ∷ rest) f s.session id s.made then);
       }
 
-  pub solved-enter : AllNormal → (old more : List Event) → whole ≡ old ++ more → Each (IsSolved draw tasks changes) old more → Each (CommitsApply (tree_of whole) changes) old more → Each (CommitsEnter draw tasks (puts_of whole) (tree_of whole) changes) old more
-  solved-enter normal old more w a b =
-      along-whole Both (CommitsEnter draw tasks (puts_of whole) (tree_of whole) changes) whole old more w (enters-one normal)
-      (Each-both (IsSolved draw tasks changes) (CommitsApply (tree_of whole) changes) Both (λ h e p q. (p, q)) old more a b)
+  pub solved-enter : (old more : List Event) → whole ≡ old ++ more → Each (IsSolved draw tasks start changes) old more → Each (CommitsNormal draw tasks start) old more → Each (CommitsApply (tree_of whole) changes) old more
+      → Each (CommitsEnter draw tasks start (puts_of whole) (tree_of whole) changes) old more
+  solved-enter old more w a n b =
+      along-whole Applied (CommitsEnter draw tasks start (puts_of whole) (tree_of whole) changes) whole old more w enters-one
+      (Each-both Solved (CommitsApply (tree_of whole) changes) Applied (λ h e p q. (p, q)) old more
+      (Each-both (IsSolved draw tasks start changes) (CommitsNormal draw tasks start) Solved (λ h e p q. (p, q)) old more a n) b)
 
 -- ---- the commits before
 module _ (before after : ℕ → Changes) (old more : List Event) (good : IsGoodJournal old) (once : IsOnce old) (goes_on : Each IsGood old more) (first : Each IsFirst old more) (same : (n : ℕ) → n < length old → after n ≡ before n) where

@@ -1,76 +1,100 @@
 -- The law of runs.
-use Rattle.std.proofs.Common.{ℕ, List, [], ◌++◌, refl, sym, ◌∙◌, ap, subst}
-use Rattle.std.specs.Prelude.{◌<◌, ◌-◌, ◌^◌, length, All}
+use Rattle.std.proofs.Common.{◌≡◌, ℕ, List, [], ◌++◌, refl, sym, ◌∙◌, ap, subst}
 use Rattle.ice_ids.specs.declared.drawing.AnyIds.{AnyIds}
 use Rattle.ice_ids.specs.declared.drawing.Draw.{Draw}
-use Rattle.repo_objects.specs.Laws.{InitialLaw}
 use Rattle.zarr_tree.specs.Changes.{Changes, none}
-use Rattle.store_api.specs.declared.keys.Key.{Key}
-use Rattle.store_api.specs.declared.keys.Key.TheVariants.{Snapshot, Manifest, Txn, Chunk}
-use Rattle.store_api.specs.declared.events.Event.{Event}
+use Rattle.repo_objects.specs.Laws.{InitialLaw}
+use Rattle.store_api.specs.Journal.{Each, IsFirst, IsGood, IsGoodJournal, IsOnce, IsUnused, WasPut, tree_of}
 use Rattle.store_api.specs.Machine.{Slot}
-use Rattle.store_api.specs.Journal.{Each, IsGood, IsGoodJournal, IsFirst, IsOnce, IsUnused, WasPut, tree_of}
-use Rattle.store_api.proofs.Journals.{Each-append, Each-back, Each-weaker, Each-none}
+use Rattle.store_api.specs.declared.events.Event.{Event}
+use Rattle.store_api.specs.declared.keys.Key.{Key}
+use Rattle.store_api.specs.declared.keys.Key.TheVariants.{Chunk, Manifest, Snapshot, Txn}
+use Rattle.store_api.proofs.Journals.{Each-append, Each-back, Each-none, Each-weaker}
 use Rattle.store_api.proofs.Slots.{slot-none}
-use Rattle.histories.specs.Calls.{IsGiven, CommitsApply}
-use Rattle.histories.proofs.Linked.{history-law}
+use Rattle.store_api.proofs.Standing.{snap_made-put}
+use Rattle.histories.specs.Calls.{CommitsApply, IsGiven}
 use Rattle.histories.proofs.Choosing.{chosen}
+use Rattle.histories.proofs.Linked.{history-law}
 use Rattle.play_script.specs.declared.scripts.Task.{Task}
-use Rattle.play_script.specs.Well.{IsWellTask}
+use Rattle.repository.specs.Beginning.{begin_program}
 use Rattle.play_tasks.specs.Tasks.{ids_at}
-use Rattle.run_histories.specs.Sources.{IsNewSource, IsNewRun}
-use Rattle.run_histories.specs.Runs.{IsSound}
-use Rattle.run_histories.specs.Told.{AllKeepFrozen, CommitsSession, IsSolved, HasHistories, RunLaw, BegunLaw, NothingLaw}
-use Rattle.run_histories.proofs.Putting.{tree-put}
+use Rattle.run_histories.specs.Runs.{AllCaused, AllTrees, IsSound, RanAlone}
+use Rattle.run_histories.specs.Sources.{IsNewRun, IsNewSource, IsOfAnother}
+use Rattle.run_histories.specs.Told.{AllKeepFrozen, BegunLaw, CommitsSession, HasHistories, IsSolved, NoneHidden, NothingLaw, RunLaw}
 use Rattle.run_histories.proofs.Along.{Fits, goes}
-use Rattle.run_histories.proofs.Growing.{Holds, session-normal}
-use Rattle.run_histories.proofs.Running.{run-adds, run-begins, run-holds}
-use Rattle.run_histories.proofs.Played.{all-frozen}
 use Rattle.run_histories.proofs.Beginnings.{began-at-last}
-use Rattle.run_histories.proofs.Given.{joined, joined-before, joined-right, solved-given, solved-enter, before-given}
+use Rattle.run_histories.proofs.Given.{CommitsNormal, before-given, joined, joined-before, joined-right, solved-enter, solved-given}
+use Rattle.run_histories.proofs.Played.{all-frozen, none-hidden}
+use Rattle.run_histories.proofs.Putting.{tree-put}
+use Rattle.run_histories.proofs.Running.{HoldsOf, Known, NodesOf, known-is, run-begins, run-holds, run-known}
+
+-- What a run leaves that goes on a journal.
+record Leaves (draw : Draw) (tasks : List Task) (old start added : List Event) : Type 0 where
+  began : RanAlone begin_program old start
+  fits : Each (Fits draw tasks start) old added
+  normal : Each (CommitsNormal draw tasks start) old added
+  trees : AllTrees (old ++ added)
+  causes : AllCaused (old ++ added)
+  others : (ids : AnyIds) → IsOfAnother tasks ids → IsNewSource ids old → IsNewSource ids (old ++ added)
+  frozen : AllKeepFrozen draw tasks old (old ++ added)
+  unhidden : NoneHidden draw tasks old (old ++ added)
 
 module _ (draw : Draw) (tasks : List Task) where
   -- ---- the law, where the whole journal is what was added to the old one
-  whole-law : (initial : InitialLaw) (before : ℕ → Changes) (old added : List Event) (few : length tasks < 2 ^ 32 - 1) (wells : All IsWellTask tasks) → IsSound old before → IsNewRun draw tasks old → Each (Fits draw tasks) old added → Holds draw tasks few wells initial old (old ++ added) → AllKeepFrozen draw tasks old (old ++ added) → HasHistories draw tasks before old (old ++ added)
-  whole-law initial before old added few wells s new_run fits holds frozen =
+  whole-law : (before : ℕ → Changes) (old start added : List Event) → IsSound old before → IsNewRun draw tasks old → Leaves draw tasks old start added → HasHistories draw tasks before old (old ++ added)
+  whole-law before old start added s new_run l =
       let whole : List Event = old ++ added in
-      let Q : List Event → Event → Changes → Type 0 = λ h e c. CommitsSession draw tasks c h e.client e.op in
-      let g = goes draw tasks old added s.once (λ place within. (new_run place within).objects) fits in
-      let good : Each IsGood old added = Each-weaker (Fits draw tasks) IsGood (λ h e f. f.good) old added fits in
+      let Q : List Event → Event → Changes → Type 0 = λ h e c. CommitsSession draw tasks start c h e.client e.op in
+      let g = goes draw tasks start old added s.once (λ place within. (new_run place within).objects) l.fits in
+      let good : Each IsGood old added = Each-weaker (Fits draw tasks start) IsGood (λ h e f. f.good) old added l.fits in
       let all : IsGoodJournal whole = Each-append IsGood [] old added s.good good in
       let once : IsOnce whole = Each-append IsFirst [] old added s.once g.first in
       let after : ℕ → Changes = chosen Q old added g.knows in
       let changes : ℕ → Changes = joined before old after in
-      let solved : Each (IsSolved draw tasks changes) old added = joined-right Q before old added g.knows in
-      let normal = session-normal draw tasks few wells initial old whole holds in
+      let solved : Each (IsSolved draw tasks start changes) old added = joined-right Q before old added g.knows in
       let given : Each (IsGiven (tree_of whole) changes) [] whole =
       Each-append (IsGiven (tree_of whole) changes) [] old added
       (before-given before changes old added s.good s.once good g.first (joined-before before after old) s.given)
-      (solved-given draw tasks changes whole all once normal old added refl solved)
+      (solved-given draw tasks start changes whole all once old added refl solved l.normal)
       in
       let law = history-law whole changes all once given in
       record {
         added = added;
         is = refl;
+        start = start;
+        began = l.began;
         changes = changes;
         same = joined-before before after old;
         solved = solved;
-        commits = solved-enter draw tasks changes whole all once normal old added refl solved (Each-back (CommitsApply (tree_of whole) changes) [] old added law.0.commits).1;
+        commits = solved-enter draw tasks start changes whole all once old added refl solved l.normal (Each-back (CommitsApply (tree_of whole) changes) [] old added law.0.commits).1;
         opened = began-at-last whole changes once law.0;
-        frozen = frozen;
-        sound = record { good = all; once = once; given = given; trees = holds.trees };
-        others = holds.others;
+        frozen = l.frozen;
+        unhidden = l.unhidden;
+        sound = record { good = all; once = once; given = given; trees = l.trees; causes = l.causes };
+        others = l.others;
         history = law.0;
         stand = law.1;
       }
 
 pub run-law : InitialLaw → RunLaw
 run-law initial draw tasks before old new s new_run r =
-    let a = run-adds draw tasks old new r in
-    let holds = run-holds draw tasks initial old new r (run-begins draw tasks initial old new r before s new_run) (λ place within. (new_run place within).nodes) in
-    subst (λ (h : List Event). HasHistories draw tasks before old h) (sym a.is)
-    (whole-law draw tasks initial before old a.added r.few r.well s new_run a.fits (subst (λ (h : List Event). Holds draw tasks r.few r.well initial old h) a.is holds)
-    (subst (AllKeepFrozen draw tasks old) a.is (all-frozen initial draw tasks before old new s new_run r)))
+    let first = run-begins draw tasks initial old new r before s new_run in
+    let nodes : NodesOf draw tasks initial old new r old = λ place within. (new_run place within).nodes in
+    let added : List Event = r.opening.own ++ (r.playing.own ++ r.closing.own) in
+    let is : new ≡ old ++ added = known-is draw tasks initial old new r in
+    let known : Each (Known draw tasks initial old new r) old added = run-known draw tasks initial old new r first nodes in
+    let last : HoldsOf draw tasks initial old new r (old ++ added) = subst (HoldsOf draw tasks initial old new r) is (run-holds draw tasks initial old new r first nodes) in
+    subst (λ (h : List Event). HasHistories draw tasks before old h) (sym is)
+    (whole-law draw tasks before old r.begun added s new_run (record {
+      began = r.opening;
+      fits = Each-weaker (Known draw tasks initial old new r) (Fits draw tasks r.begun) (λ h e k. k.fits) old added known;
+      normal = Each-weaker (Known draw tasks initial old new r) (CommitsNormal draw tasks r.begun) (λ h e k. k.commits) old added known;
+      trees = last.trees;
+      causes = last.causes;
+      others = last.others;
+      frozen = subst (AllKeepFrozen draw tasks old) is (all-frozen initial draw tasks before old new s new_run r);
+      unhidden = subst (NoneHidden draw tasks old) is (none-hidden initial draw tasks before old new s new_run r);
+    }))
 
 -- ---- an empty store
 nothing-unused : (key : Key) → IsUnused [] key
@@ -85,6 +109,7 @@ nothing-sound before = record {
   once = Each-none IsFirst [];
   given = Each-none (IsGiven (tree_of []) before) [];
   trees = λ id w. absurd (nothing-put (Snapshot id) w);
+  causes = λ base id child. absurd (nothing-put (Snapshot id) (snap_made-put [] id child.snap child.made));
 }
 
 nothing-new : (ids : AnyIds) → IsNewSource ids []

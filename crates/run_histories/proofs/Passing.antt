@@ -1,20 +1,29 @@
 -- What holds along the events of a run.
-use Rattle.std.proofs.Common.{◌≡◌, ◌⊎◌, inl, inr, ℕ, ◌+◌, ◌-◌, ◌^◌, ◌<◌, List, [], ◌∷◌, ◌++◌, length, sym, subst, append_assoc, append-nil}
+use Rattle.std.proofs.Common.{◌≡◌, inl, inr, ◌⊎◌, ℕ, ◌+◌, ◌-◌, ◌^◌, ◌<◌, List, [], ◌∷◌, ◌++◌, length, refl, sym, subst, append_assoc, append-nil}
 use Rattle.std.specs.Prelude.{All}
 use Rattle.std.proofs.lemmas.Option.{slice_get_within}
-use Rattle.std.proofs.lemmas.List.{append_cancel_left}
+use Rattle.ice_ids.specs.declared.Id12.{Id12}
 use Rattle.ice_ids.specs.declared.drawing.Draw.{Draw}
 use Rattle.repo_objects.specs.Laws.{InitialLaw}
+use Rattle.store_api.specs.Journal.{Each, IsGood, puts_of}
 use Rattle.store_api.specs.declared.events.Event.{Event}
-use Rattle.store_api.specs.Journal.{Each, IsGood}
-use Rattle.store_api.proofs.Journals.{Each-back, Each-two}
-use Rattle.commit_path.specs.Single.{PutsSnapshot, PutsNone, HasPutNone}
-use Rattle.play_script.specs.declared.scripts.Task.{Task}
+use Rattle.store_api.specs.declared.keys.Key.TheVariants.{Snapshot}
+use Rattle.store_api.proofs.Journals.{Each-append, Each-back, Each-none, Each-one, Each-weaker}
+use Rattle.commit_path.specs.Single.{PutsNone, PutsSnapshot}
 use Rattle.play_script.specs.Well.{IsWellTask}
-use Rattle.play_tasks.specs.Tasks.{ids_at, IsOfClient}
+use Rattle.play_script.specs.declared.scripts.Task.{Task}
+use Rattle.play_tasks.specs.Tasks.{IsOfClient, ids_at}
 use Rattle.run_histories.specs.Sources.{NodesAreNew}
+use Rattle.run_histories.proofs.Along.{Fits, client-fits, plain-fits, well-at}
+use Rattle.run_histories.proofs.Ancestors.{Inherits}
+use Rattle.run_histories.proofs.Given.{CommitsNormal}
+use Rattle.run_histories.proofs.Grounds.{Grounds}
+use Rattle.run_histories.proofs.Growing.{AllNodesAreNew, Holds, client-comes, client-holds, nodes-stay, plain-holds, plain-inherits, plain-nodes}
+use Rattle.run_histories.proofs.Origins.{AllCome, PutsOverSnapshot, come-one, come-start}
 use Rattle.run_histories.proofs.Programs.{IsPlain}
-use Rattle.run_histories.proofs.Growing.{Holds, AllNodesAreNew, plain-holds, plain-nodes, client-holds, client-nodes}
+use Rattle.run_histories.proofs.Putting.{PutsFresh}
+use Rattle.run_histories.proofs.Sized.{normal-in}
+use Rattle.run_histories.proofs.Walked.{task-carried_on}
 
 module _ (draw : Draw) (tasks : List Task) (few : length tasks < 2 ^ 32 - 1) (wells : All IsWellTask tasks) (initial : InitialLaw) (old : List Event) where
   abbrev Hold : List Event → Type 0
@@ -29,24 +38,31 @@ module _ (draw : Draw) (tasks : List Task) (few : length tasks < 2 ^ 32 - 1) (we
     abbrev pub IsOfRun : List Event → Event → Type 0
     IsOfRun journal event = IsOfClient draw tasks start journal event ⊎ (IsGood journal event × IsPlain event.op)
 
-    -- what holds before the event is known, and no node has an id that its client may draw, where it puts a snapshot
-    abbrev pub IsKnown : List Event → Event → Type 0
-    IsKnown journal event = Hold journal × (((c : IsOfClient draw tasks start journal event) × (PutsSnapshot event.op → NodesAreNew (ids_at draw c.place) journal)) ⊎ (IsGood journal event × IsPlain event.op))
+    -- What is known of an event: what holds before it and behind it; a snapshot that it puts is of its own client, or inherits; and it puts none over.
+    pub record IsKnown (journal : List Event) (event : Event) : Type 0 where
+      pub holds : Hold journal
+      pub fits : Fits draw tasks start journal event
+      pub after : Hold (journal ++ event ∷ [])
+      pub comes : (place : ℕ) → place < length tasks → (id : Id12) → PutsFresh journal event (Snapshot id) → (event.client ≡ place + 1) ⊎ Inherits (ids_at draw place) (journal ++ event ∷ []) id
+      pub commits : CommitsNormal draw tasks start journal event
 
     pub known-holds : (journal : List Event) (event : Event) → IsKnown journal event → Hold (journal ++ event ∷ [])
-    known-holds journal event (h, inl c) = client-holds draw tasks few wells initial old start journal event c.0 h c.1
-    known-holds journal event (h, inr p) = plain-holds draw tasks few wells initial old journal event p.0 p.1 h
+    known-holds journal event known = known.after
 
     pub holds-along : (journal events : List Event) → Each IsKnown journal events → Hold journal → Hold (journal ++ events)
     unfolding Each
     holds-along journal [] known h = subst Hold (sym (append-nil journal)) h
-    holds-along journal (x ∷ xs) known h = subst Hold (append_assoc journal (x ∷ []) xs) (holds-along (journal ++ x ∷ []) xs known.1 (known-holds journal x known.0))
+    holds-along journal (x ∷ xs) known h = subst Hold (append_assoc journal (x ∷ []) xs) (holds-along (journal ++ x ∷ []) xs known.1 known.0.after)
 
     -- nodes stay new to the source of a client that puts no snapshot
     module _ (place : ℕ) (within : place < length tasks) where
       pub known-nodes : (journal : List Event) (event : Event) → IsKnown journal event → PutsNone (place + 1) journal event → NodesAreNew (ids_at draw place) journal → NodesAreNew (ids_at draw place) (journal ++ event ∷ [])
-      known-nodes journal event (h, inl c) none new = client-nodes draw tasks few wells initial old start journal event c.0 h c.1 place within none new
-      known-nodes journal event (h, inr p) none new = plain-nodes draw tasks few wells initial old journal event p.0 p.1 h place new
+      known-nodes journal event known none =
+          nodes-stay draw tasks few wells initial old start journal event known.fits known.holds (ids_at draw place)
+          (λ id now. elim (known.comes place within id now) [
+            | inl own ↦ absurd (none own (subst PutsSnapshot (sym now.op_is) tt))
+            | inr inherits ↦ inherits
+          ])
 
       pub nodes-along : (journal events : List Event) → Each IsKnown journal events → Each (PutsNone (place + 1)) journal events → NodesAreNew (ids_at draw place) journal → NodesAreNew (ids_at draw place) (journal ++ events)
       unfolding Each
@@ -54,12 +70,50 @@ module _ (draw : Draw) (tasks : List Task) (few : length tasks < 2 ^ 32 - 1) (we
       nodes-along journal (x ∷ xs) known none new =
           subst (NodesAreNew (ids_at draw place)) (append_assoc journal (x ∷ []) xs) (nodes-along (journal ++ x ∷ []) xs known.1 none.1 (known-nodes journal x known.0 none.0 new))
 
+      -- each snapshot is the client's own since a beginning, or inherits
+      come-along : (from done rest : List Event) → Each IsKnown (from ++ done) rest → AllCome (ids_at draw place) (place + 1) from (from ++ done) → AllCome (ids_at draw place) (place + 1) from (from ++ (done ++ rest))
+      unfolding Each
+      come-along from done [] known come = subst (λ (d : List Event). AllCome (ids_at draw place) (place + 1) from (from ++ d)) (sym (append-nil done)) come
+      come-along from done (x ∷ xs) known come =
+          let k : IsKnown (from ++ done) x = known.0 in
+          let join : (from ++ done) ++ x ∷ [] ≡ from ++ (done ++ x ∷ []) = append_assoc from done (x ∷ []) in
+          let one = come-one (from ++ done) x k.holds.good k.holds.once k.fits.good (k.fits.first k.holds.objects k.holds.once) (ids_at draw place) (place + 1) from done refl (k.comes place within) come in
+          subst (λ (d : List Event). AllCome (ids_at draw place) (place + 1) from (from ++ d)) (append_assoc done (x ∷ []) xs)
+          (come-along from (done ++ x ∷ []) xs (subst (λ (j : List Event). Each IsKnown j xs) join known.1) (subst (AllCome (ids_at draw place) (place + 1) from) join one))
+
+      -- so a journal that goes on from a beginning at which its nodes were new grounds the client's sessions
+      pub grounds : (from since : List Event) → Each IsKnown from since → Hold (from ++ since) → NodesAreNew (ids_at draw place) from → Grounds (ids_at draw place) (place + 1) from (from ++ since)
+      grounds from since known h new = record {
+        good = h.good;
+        once = h.once;
+        trees = h.trees;
+        causes = h.causes;
+        since = since;
+        is = refl;
+        new = new;
+        early = λ first rest parts none. nodes-along from first (Each-back IsKnown from first rest (subst (Each IsKnown from) parts known)).0 none new;
+        come =
+            let nil : from ≡ from ++ [] = sym (append-nil from) in
+            come-along from [] since (subst (λ (j : List Event). Each IsKnown j since) nil known)
+            (subst (AllCome (ids_at draw place) (place + 1) from) nil (come-start (ids_at draw place) (place + 1) from new));
+        uncut = Each-weaker IsKnown (λ j e. ¬ PutsOverSnapshot e.op) (λ j e k. k.fits.uncut) from since known;
+      }
+
     -- ---- the readings
+    plain-one : (journal : List Event) (event : Event) → IsGood journal event → IsPlain event.op → Hold journal → IsKnown journal event
+    plain-one journal event good plain h = record {
+      holds = h;
+      fits = plain-fits draw tasks start journal event good plain;
+      after = plain-holds draw tasks few wells initial old journal event good plain h;
+      comes = λ place within id now. inr (plain-inherits draw tasks few wells initial old journal event good plain h (ids_at draw place) id now);
+      commits = λ c branch bytes version id op_is s. absurd (subst IsPlain op_is plain);
+    }
+
     pub plain-known : (journal events : List Event) → Each IsGood journal events → Each (λ j e. IsPlain e.op) journal events → Hold journal → Each IsKnown journal events
     unfolding Each
     plain-known journal [] good plain h = tt
     plain-known journal (x ∷ xs) good plain h =
-        ((h, inr (good.0, plain.0)), plain-known (journal ++ x ∷ []) xs good.1 plain.1 (plain-holds draw tasks few wells initial old journal x good.0 plain.0 h))
+        (plain-one journal x good.0 plain.0 h, plain-known (journal ++ x ∷ []) xs good.1 plain.1 (plain-holds draw tasks few wells initial old journal x good.0 plain.0 h))
 
     pub plain-nodes-along : (journal events : List Event) → Each IsGood journal events → Each (λ j e. IsPlain e.op) journal events → Hold journal → AllNew journal → AllNew (journal ++ events)
     unfolding Each
@@ -70,35 +124,43 @@ module _ (draw : Draw) (tasks : List Task) (few : length tasks < 2 ^ 32 - 1) (we
         (λ place within. plain-nodes draw tasks few wells initial old journal x good.0 plain.0 h place (new place within)))
 
     -- ---- the run
-    -- the nodes are new to the source of each client that has put no snapshot since the start
-    abbrev AllNewYet : List Event → Type 0
-    AllNewYet since = (place : ℕ) → place < length tasks → Each (PutsNone (place + 1)) start since → NodesAreNew (ids_at draw place) (start ++ since)
+    module _ (new : AllNew start) (since : List Event) (known : Each IsKnown start since) (h : Hold (start ++ since)) where
+      abbrev here : List Event
+      here = start ++ since
 
-    none-since : (client : ℕ) (since : List Event) → HasPutNone client start (start ++ since) → Each (PutsNone client) start since
-    none-since client since p = subst (Each (PutsNone client) start) (append_cancel_left start p.more since (sym p.is)) p.each
+      grounds-at : (place : ℕ) → place < length tasks → Grounds (ids_at draw place) (place + 1) start here
+      grounds-at place within = grounds place within start since known h (new place within)
 
-    known-one : (since : List Event) (event : Event) → IsOfRun (start ++ since) event → Hold (start ++ since) → AllNewYet since → IsKnown (start ++ since) event
-    known-one since event (inl c) h yet =
-        (h, inl (c, λ puts. yet c.place (slice_get_within tasks c.place c.task c.at) (none-since (c.place + 1) since (subst (λ (k : ℕ). HasPutNone k start (start ++ since)) c.client (c.single puts)))))
-    known-one since event (inr p) h yet = (h, inr p)
+      -- the changes of a session at its commit
+      commit-normal : (event : Event) → CommitsNormal draw tasks start here event
+      commit-normal event c branch bytes old id op_is s =
+          let within : s.place < length tasks = slice_get_within tasks s.place s.task s.at in
+          let k = task-carried_on initial (ids_at draw s.place) s.task (s.place + 1) start here (grounds-at s.place within) (well-at draw tasks wells s.place s.task s.at) s.session id s.of_task in
+          normal-in (puts_of here) s.session s.made.chunks k.normal
 
-    new-yet : (since : List Event) (event : Event) → IsKnown (start ++ since) event → AllNewYet since → AllNewYet (since ++ event ∷ [])
-    new-yet since event known yet place within each =
-        let parts = Each-back (PutsNone (place + 1)) start since (event ∷ []) each in
-        let last = (Each-two (PutsNone (place + 1)) (start ++ since) event [] parts.1).0 in
-        subst (NodesAreNew (ids_at draw place)) (append_assoc start since (event ∷ [])) (known-nodes place within (start ++ since) event known last (yet place within parts.0))
+      known-one : (event : Event) → IsOfRun here event → IsKnown here event
+      known-one event (inl c) =
+          let g = grounds-at c.place (slice_get_within tasks c.place c.task c.at) in
+          record {
+            holds = h;
+            fits = client-fits draw tasks few wells start here event c;
+            after = client-holds draw tasks few wells initial old start here event c h g;
+            comes = client-comes draw tasks few wells initial old start here event c h g;
+            commits = commit-normal event;
+          }
+      known-one event (inr p) = plain-one here event p.0 p.1 h
 
-    run-known : (since events : List Event) → Each IsOfRun (start ++ since) events → Hold (start ++ since) → AllNewYet since → Each IsKnown (start ++ since) events
+    run-known : AllNew start → (since events : List Event) → Each IsKnown start since → Each IsOfRun (start ++ since) events → Hold (start ++ since) → Each IsKnown (start ++ since) events
     unfolding Each
-    run-known since [] each h yet = tt
-    run-known since (x ∷ xs) each h yet =
-        let known = known-one since x each.0 h yet in
+    run-known new since [] known each h = tt
+    run-known new since (x ∷ xs) known each h =
+        let one : IsKnown (start ++ since) x = known-one new since known h x each.0 in
         let join : (start ++ since) ++ x ∷ [] ≡ start ++ (since ++ x ∷ []) = append_assoc start since (x ∷ []) in
-        let rest = run-known (since ++ x ∷ []) xs (subst (λ (j : List Event). Each IsOfRun j xs) join each.1) (subst Hold join (known-holds (start ++ since) x known)) (new-yet since x known yet) in
-        (known, subst (λ (j : List Event). Each IsKnown j xs) (sym join) rest)
+        let rest = run-known new (since ++ x ∷ []) xs (Each-append IsKnown start since (x ∷ []) known (Each-one IsKnown (start ++ since) x one)) (subst (λ (j : List Event). Each IsOfRun j xs) join each.1) (subst Hold join one.after) in
+        (one, subst (λ (j : List Event). Each IsKnown j xs) (sym join) rest)
 
     pub run-knows : (events : List Event) → Each IsOfRun start events → Hold start → AllNew start → Each IsKnown start events
     run-knows events each h new =
         let nil : start ≡ start ++ [] = sym (append-nil start) in
         subst (λ (j : List Event). Each IsKnown j events) (sym nil)
-        (run-known [] events (subst (λ (j : List Event). Each IsOfRun j events) nil each) (subst Hold nil h) (λ place within none. subst (NodesAreNew (ids_at draw place)) nil (new place within)))
+        (run-known new [] events (Each-none IsKnown start) (subst (λ (j : List Event). Each IsOfRun j events) nil each) (subst Hold nil h))

@@ -7,6 +7,7 @@ use Rattle.ice_ids.specs.declared.drawing.AnyIds.{AnyIds}
 use Rattle.zarr_tree.specs.Nodes.{Node}
 use Rattle.zarr_tree.specs.Trees.{Tree, node_at, IsWellFormed}
 use Rattle.snapshot_file.specs.declared.snapshot.SnapshotFile.{SnapshotFile}
+use Rattle.repo_objects.specs.Readings.{snapshot_by}
 use Rattle.repo_objects.specs.Trees.{Extends, tree_under}
 use Rattle.store_api.specs.declared.keys.Key.{Key}
 use Rattle.store_api.specs.declared.keys.Key.TheVariants.{Snapshot}
@@ -15,12 +16,12 @@ use Rattle.store_api.specs.declared.events.Op.{Op}
 use Rattle.store_api.specs.declared.events.Op.TheVariants.{Get, PutNew, PutOver, Remove, RemoveAt, List as ListPart}
 use Rattle.store_api.specs.declared.events.Event.{Event}
 use Rattle.store_api.specs.Machine.{Slot, slot_of, fresh_slot, through, effect, leaves, put_at, is_on, first_put, last_put, was_done}
-use Rattle.store_api.specs.Journal.{IsGood, IsGoodJournal, IsFirst, IsOnce, WasPut, ParentPut, puts_of, rows_of, tree_of, snap_in, snap_made}
+use Rattle.store_api.specs.Journal.{IsGood, IsGoodJournal, IsFirst, IsOnce, IsPolite, MayPutNew, WasPut, ParentPut, puts_of, rows_of, tree_of, snap_in, snap_made}
 use Rattle.store_api.proofs.Journals.{Each-one}
-use Rattle.store_api.proofs.Slots.{same_key-true, effect-cases, free-cases, old-cases, slot-append_one, sound, first-append}
-use Rattle.store_api.proofs.Standing.{standing, rows-stay, puts-stay, snap_made-put}
+use Rattle.store_api.proofs.Slots.{same_key-true, effect-cases, free-cases, old-cases, slot-append_one, sound}
+use Rattle.store_api.proofs.Standing.{standing, rows-stay, puts-stay}
 use Rattle.store_api.proofs.Naming.{names-law}
-use Rattle.session.specs.Sources.{MayDrawObject, MayDrawNode}
+use Rattle.session.specs.Sources.{MayDrawNode}
 use Rattle.commit_path.proofs.Knowing.{tree-by_rows}
 use Rattle.commit_path.proofs.Readable.{readable-extend}
 use Rattle.run_histories.specs.Sources.{NodesAreNew}
@@ -109,19 +110,19 @@ module _ (journal : List Event) (event : Event) (key : Key) where
           inr (by_follow e put (subst (Follows event key old) (sym (slot-append_one journal event key)) (effect-cases (Follows event key old) key (length journal) old event (inl refl) (λ on d. leaves-follow event.op refl on d never))))
 
 -- ---- trees after it
--- no node of the parent of a snapshot that the source may draw has an id that it may draw
-abbrev pub ParentsAreNew : AnyIds → List Event → Type 0
-ParentsAreNew ids journal = (id base : Id12) (snap : SnapshotFile) (t : Tree) (p : List ℕ) (n : Node) → MayDrawObject ids id → snap_made journal id ≡ Some snap → snap.parent ≡ Some base → tree_of journal base ≡ Some t → node_at t p ≡ Some n → ¬ MayDrawNode ids n.id
-
 -- the parent of a snapshot was put
 pub parent-put : (journal : List Event) (id base : Id12) (snap : SnapshotFile) → IsGoodJournal journal → snap_made journal id ≡ Some snap → snap.parent ≡ Some base → WasPut journal (Snapshot base)
 parent-put journal id base snap g made parent =
     let p : ParentPut journal (Some snap) = subst (λ (o : Option SnapshotFile). ParentPut journal o) made ((names-law journal g).parents id) in
     p base parent
 
--- where no node of any tree may be drawn, none of a parent's may
-pub parents-begin : (ids : AnyIds) (journal : List Event) → NodesAreNew ids journal → ParentsAreNew ids journal
-parents-begin ids journal new id base snap t p n may made parent tree node = new base t p n tree node
+-- the parent of one that is put fresh was put before it
+pub fresh-parent : (journal : List Event) (event : Event) (id base : Id12) (snap : SnapshotFile) → IsGood journal event → PutsFresh journal event (Snapshot id) → snap_made (journal ++ event ∷ []) id ≡ Some snap → snap.parent ≡ Some base → WasPut journal (Snapshot base)
+fresh-parent journal event id base snap good n made parent =
+    let polite : MayPutNew journal n.bytes n.why (Snapshot id) = subst (IsPolite journal) n.op_is good.polite in
+    let read : snapshot_by id n.bytes ≡ Some snap = sym (ap (snap_in id) n.first) ∙ made in
+    let p : ParentPut journal (Some snap) = subst (λ (o : Option SnapshotFile). ParentPut journal o) read polite.1 in
+    p base parent
 
 some-same : {A : Type 0} (a b : A) → Some a ≡ Some b → a ≡ b
 some-same a b e = cc
@@ -159,16 +160,4 @@ module _ (journal : List Event) (event : Event) (once : IsOnce journal) (good : 
   nodes-one ids fresh new id t p n tree node = elim (put-now journal event (Snapshot id) (tree-put after id t tree)) [
     | inl before ↦ new id t p n (sym (tree-stays id before) ∙ tree) node
     | inr now ↦ fresh id t p n now tree node
-  ]
-
-  made-before : (id : Id12) → WasPut journal (Snapshot id) → snap_made (journal ++ event ∷ []) id ≡ snap_made journal id
-  made-before id w = ap (snap_in id) (first-append journal (event ∷ []) (Snapshot id) w.0 w.1 ∙ sym w.1)
-
-  pub parents-one : (ids : AnyIds) → IsGoodJournal journal → ((id base : Id12) (snap : SnapshotFile) (t : Tree) (p : List ℕ) (n : Node) → PutsFresh journal event (Snapshot id) → MayDrawObject ids id → snap_made (journal ++ event ∷ []) id ≡ Some snap → snap.parent ≡ Some base → tree_of (journal ++ event ∷ []) base ≡ Some t → node_at t p ≡ Some n → ¬ MayDrawNode ids n.id)
-      → ParentsAreNew ids journal → ParentsAreNew ids (journal ++ event ∷ [])
-  parents-one ids g fresh new id base snap t p n may made parent tree node = elim (put-now journal event (Snapshot id) (snap_made-put after id snap made)) [
-    | inl before ↦
-        let made' : snap_made journal id ≡ Some snap = sym (made-before id before) ∙ made in
-        new id base snap t p n may made' parent (sym (tree-stays base (parent-put journal id base snap g made' parent)) ∙ tree) node
-    | inr now ↦ fresh id base snap t p n now may made parent tree node
   ]

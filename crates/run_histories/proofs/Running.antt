@@ -1,52 +1,22 @@
--- What a run adds, and what holds along it.
+-- What holds along a run.
 use Rattle.std.proofs.Common.{◌≡◌, inl, inr, ℕ, List, ◌++◌, sym, ◌∙◌, ap, subst, append_assoc}
 use Rattle.ice_ids.specs.declared.drawing.Draw.{Draw}
-use Rattle.repo_objects.specs.Laws.{InitialLaw}
 use Rattle.zarr_tree.specs.Changes.{Changes}
-use Rattle.store_api.specs.declared.events.Event.{Event}
+use Rattle.repo_objects.specs.Laws.{InitialLaw}
 use Rattle.store_api.specs.Journal.{Each, IsGood}
-use Rattle.store_api.specs.Program.{Prog}
+use Rattle.store_api.specs.declared.events.Event.{Event}
 use Rattle.store_api.proofs.Journals.{Each-append, Each-both, Each-weaker}
 use Rattle.play_script.specs.declared.scripts.Task.{Task}
-use Rattle.play_tasks.specs.Tasks.{ids_at, IsOfClient}
 use Rattle.repository.specs.Beginning.{begin_program}
 use Rattle.repository.specs.Refs.{refs_program}
+use Rattle.play_tasks.specs.Tasks.{IsOfClient}
+use Rattle.run_histories.specs.Runs.{IsRun, IsSound, RanAlone}
 use Rattle.run_histories.specs.Sources.{IsNewRun}
-use Rattle.run_histories.specs.Runs.{IsSound, RanAlone, IsRun}
-use Rattle.run_histories.proofs.Programs.{IsPlain, AllPlain, path-plain, begin-plain, refs-plain}
-use Rattle.run_histories.proofs.Putting.{parents-begin}
-use Rattle.run_histories.proofs.Along.{Fits, plain-fits, client-fits}
-use Rattle.run_histories.proofs.Growing.{Holds, AllNodesAreNew}
-use Rattle.run_histories.proofs.Passing.{IsOfRun, IsKnown, holds-along, plain-nodes-along, plain-known, run-knows}
-
--- ---- what a run adds
-pub record Adds (draw : Draw) (tasks : List Task) (old new : List Event) : Type 0 where
-  pub added : List Event
-  pub is : new ≡ old ++ added
-  pub fits : Each (Fits draw tasks) old added
+use Rattle.run_histories.proofs.Growing.{AllNodesAreNew, Holds}
+use Rattle.run_histories.proofs.Passing.{IsKnown, IsOfRun, holds-along, plain-known, plain-nodes-along, run-knows}
+use Rattle.run_histories.proofs.Programs.{IsPlain, begin-plain, path-plain, refs-plain}
 
 module _ (draw : Draw) (tasks : List Task) where
-  Adds-then : (a b c : List Event) → Adds draw tasks a b → Adds draw tasks b c → Adds draw tasks a c
-  Adds-then a b c p q = record {
-    added = p.added ++ q.added;
-    is = q.is ∙ ap (λ (h : List Event). h ++ q.added) p.is ∙ append_assoc a p.added q.added;
-    fits = Each-append (Fits draw tasks) a p.added q.added p.fits (subst (λ (h : List Event). Each (Fits draw tasks) h q.added) p.is q.fits);
-  }
-
-  ran-adds : {A : Type 0} (p : Prog A) (old new : List Event) → AllPlain p → RanAlone p old new → Adds draw tasks old new
-  ran-adds p old new plain r = record {
-    added = r.own;
-    is = r.is;
-    fits = Each-both IsGood (λ h e. IsPlain e.op) (Fits draw tasks) (plain-fits draw tasks) old r.own r.good (path-plain p old r.own r.left plain r.path);
-  }
-
-  pub run-adds : (old new : List Event) → IsRun draw tasks old new → Adds draw tasks old new
-  run-adds old new r =
-      let first = ran-adds begin_program old r.begun begin-plain r.opening in
-      let middle : Adds draw tasks r.begun r.played = record { added = r.playing.own; is = r.playing.is; fits = Each-weaker (IsOfClient draw tasks r.begun) (Fits draw tasks) (client-fits draw tasks r.few r.well r.begun) r.begun r.playing.own r.playing.owed } in
-      let last = ran-adds refs_program r.played new refs-plain r.closing in
-      Adds-then old r.begun new first (Adds-then r.begun r.played new middle last)
-
   -- what holds at the end of a run
   module _ (initial : InitialLaw) (old new : List Event) (r : IsRun draw tasks old new) where
     abbrev pub HoldsOf : List Event → Type 0
@@ -58,7 +28,7 @@ module _ (draw : Draw) (tasks : List Task) where
       once = s.once;
       objects = λ place within. (new_run place within).objects;
       trees = s.trees;
-      parents = λ place within. parents-begin (ids_at draw place) old (new_run place within).nodes;
+      causes = s.causes;
       others = λ ids another is_new. is_new;
     }
 

@@ -5,7 +5,9 @@ use Rattle.ice_ids.specs.declared.drawing.AnyIds.{AnyIds}
 use Rattle.ice_ids.specs.declared.drawing.Draw.{Draw}
 use Rattle.zarr_tree.specs.Trees.{Tree}
 use Rattle.zarr_tree.specs.Changes.{Changes, none, IsNormal}
+use Rattle.repo_objects.specs.declared.bad.Bad.{Bad}
 use Rattle.repo_objects.specs.Readings.{ref_of}
+use Rattle.store_api.specs.declared.keys.Key.{Key}
 use Rattle.store_api.specs.declared.keys.Key.TheVariants.{Branch}
 use Rattle.store_api.specs.declared.keys.Why.TheVariants.{Commit}
 use Rattle.store_api.specs.declared.events.Version.{Version}
@@ -22,49 +24,50 @@ use Rattle.session.specs.Sessions.{SessionState, base_tree, changes_in, overlay}
 use Rattle.session.specs.Opening.{Asked}
 use Rattle.commit_path.specs.Owed.{IsMade}
 use Rattle.commit_path.specs.Opened.{IsOpened, WasNamed, WasBegun}
-use Rattle.commit_path.specs.Single.{HasPutNone}
+use Rattle.commit_path.specs.Single.{HasPutNone, HasPutAlike}
+use Rattle.rebase.specs.Telling.{WasHidden}
 use Rattle.repository.specs.Beginning.{begin_program}
 use Rattle.play_script.specs.declared.scripts.Line.{Line}
 use Rattle.play_script.specs.declared.scripts.Task.{Task}
 use Rattle.play_outcome.specs.declared.outcome.Shown.{Shown}
-use Rattle.play_tasks.specs.Playing.{asked_by}
-use Rattle.play_tasks.specs.Solving.{IsOfTask}
+use Rattle.play_tasks.specs.Playing.{asked_by, policy_of}
+use Rattle.play_tasks.specs.Solving.{WasLost, WasCarried, IsOfTask}
 use Rattle.play_tasks.specs.Telling.{PlaysAll}
 use Rattle.play_tasks.specs.Tasks.{ids_at}
 use Rattle.run_histories.specs.Sources.{IsNewSource, IsNewRun, IsOfAnother}
 use Rattle.run_histories.specs.Runs.{IsSound, RanAlone, IsRun}
 
--- A commit of a session of its client's task: the task's lines lead to the session and to an id that it may draw, the
--- branch is the session's, put over at the version that it had read, and the changes are the session's, by what was put
+-- A commit of a session of its client's task, where the tasks began at `start`: the task's lines lead to the session, carried over the commits of
+-- others as its client read them, and it may draw the id; the branch is the session's, put over at the version that it had read, and the changes are the session's, by what was put
 -- until then; and what was put under the id is the session's snapshot, with its base as parent, the base's tree under its
 -- changes as tree, and a log of all that they touch, while the chunks that it set are there.
-pub record IsOfSession (draw : Draw) (tasks : List Task) (changes : Changes) (journal : List Event) (client : ℕ) (branch : List ℕ) (old : ℕ) (id : Id12) : Type 0 where
+pub record IsOfSession (draw : Draw) (tasks : List Task) (start : List Event) (changes : Changes) (journal : List Event) (client : ℕ) (branch : List ℕ) (old : ℕ) (id : Id12) : Type 0 where
   pub place : ℕ
   pub client_is : client ≡ place + 1
   pub task : Task
   pub at : slice_get tasks place ≡ Some task
   pub session : SessionState
-  pub of_task : IsOfTask (ids_at draw place) task session id
+  pub of_task : IsOfTask (ids_at draw place) task (place + 1) start journal session id
   pub branch_is : branch ≡ session.branch
   pub version_is : old ≡ session.version
   pub changes_are : changes ≡ changes_in (puts_of journal) session
   pub made : IsMade session id journal
 
 -- where the client's operation commits a snapshot to a branch, the commit is of a session of its task, with these changes
-abbrev pub CommitsSession : Draw → List Task → Changes → List Event → ℕ → Op → Type 0
-CommitsSession draw tasks changes journal client op = (branch bytes : List ℕ) (old : Version) (id : Id12) → op ≡ PutOver (Branch branch) bytes old Commit → ref_of bytes ≡ Some id
-    → IsOfSession draw tasks changes journal client branch old.0 id
+abbrev pub CommitsSession : Draw → List Task → List Event → Changes → List Event → ℕ → Op → Type 0
+CommitsSession draw tasks start changes journal client op = (branch bytes : List ℕ) (old : Version) (id : Id12) → op ≡ PutOver (Branch branch) bytes old Commit → ref_of bytes ≡ Some id
+    → IsOfSession draw tasks start changes journal client branch old.0 id
 
 -- where the event is a commit, the changes at its position are those of its session
-abbrev pub IsSolved : Draw → List Task → (ℕ → Changes) → List Event → Event → Type 0
-IsSolved draw tasks changes journal event = CommitsSession draw tasks (changes (length journal)) journal event.client event.op
+abbrev pub IsSolved : Draw → List Task → List Event → (ℕ → Changes) → List Event → Event → Type 0
+IsSolved draw tasks start changes journal event = CommitsSession draw tasks start (changes (length journal)) journal event.client event.op
 
 -- A commit that took effect, of a session of its client's task. It follows directly on the last entry of its branch:
 -- the entry has the version that the session had read, its snapshot is the session's base, and its tree is the one of the
 -- session's rows, by what was put; the commit's tree is that one under exactly the session's changes, which are normal for
 -- it, so that no two nodes have one id.
-pub record IsEntered (draw : Draw) (tasks : List Task) (puts : Puts) (trees : Id12 → Option Tree) (changes : ℕ → Changes) (journal : List Event) (client : ℕ) (branch : List ℕ) (old : ℕ) (id : Id12) : Type 0 where
-  pub of_session : IsOfSession draw tasks (changes (length journal)) journal client branch old id
+pub record IsEntered (draw : Draw) (tasks : List Task) (start : List Event) (puts : Puts) (trees : Id12 → Option Tree) (changes : ℕ → Changes) (journal : List Event) (client : ℕ) (branch : List ℕ) (old : ℕ) (id : Id12) : Type 0 where
+  pub of_session : IsOfSession draw tasks start (changes (length journal)) journal client branch old id
   pub before : Entry
   pub is_last : last (history_of trees changes journal branch) ≡ Some before
   pub version : before.version ≡ old
@@ -74,9 +77,9 @@ pub record IsEntered (draw : Draw) (tasks : List Task) (puts : Puts) (trees : Id
   pub normal : IsNormal (changes_in puts of_session.session) (base_tree puts of_session.session)
 
 -- where the event is a commit that took effect, also by a lost answer
-abbrev pub CommitsEnter : Draw → List Task → Puts → (Id12 → Option Tree) → (ℕ → Changes) → List Event → Event → Type 0
-CommitsEnter draw tasks puts trees changes journal event = (branch bytes : List ℕ) (old : Version) (id : Id12) (s : Stored) → event.op ≡ PutOver (Branch branch) bytes old Commit → ref_of bytes ≡ Some id
-    → was_done event.reply ≡ true → found journal (Branch branch) ≡ Some s → s.version ≡ old.0 → IsEntered draw tasks puts trees changes journal event.client branch old.0 id
+abbrev pub CommitsEnter : Draw → List Task → List Event → Puts → (Id12 → Option Tree) → (ℕ → Changes) → List Event → Event → Type 0
+CommitsEnter draw tasks start puts trees changes journal event = (branch bytes : List ℕ) (old : Version) (id : Id12) (s : Stored) → event.op ≡ PutOver (Branch branch) bytes old Commit → ref_of bytes ≡ Some id
+    → was_done event.reply ≡ true → found journal (Branch branch) ≡ Some s → s.version ≡ old.0 → IsEntered draw tasks start puts trees changes journal event.client branch old.0 id
 
 -- The session began at the last entry of its branch's history, as that was where the client got the branch: it has the
 -- entry's version, snapshot and tree.
@@ -108,22 +111,42 @@ abbrev pub AllKeepFrozen : Draw → List Task → (old new : List Event) → Typ
 AllKeepFrozen draw tasks old new = (start : List Event) (place : ℕ) (task : Task) (s : SessionState) → RanAlone begin_program old start → slice_get tasks place ≡ Some task
     → WasPlayed (ids_at draw place) task (place + 1) start s new → KeepsFrozen s.held s.rows
 
+-- ---- sessions that are rebased
+-- A session of a task of this client, on which lines of the task were played: it was carried over the commits of others so often, and then its commit
+-- was lost. All snapshots that its client has put are of sessions that added and dropped the same nodes.
+pub record HasLost (ids : AnyIds) (task : Task) (client : ℕ) (start : List Event) (lost : SessionState) (since journal : List Event) : Type 0 where
+  pub session : SessionState
+  pub was_played : WasPlayed ids task client start session journal
+  pub count : ℕ
+  pub at_last : SessionState
+  pub carried : WasCarried client (policy_of task.head) count session at_last start journal
+  pub was_lost : WasLost client at_last lost start since
+  pub alike : HasPutAlike client lost start journal
+
+-- no rebase of such a session of the tasks, which began behind the opening, is refused because a log hides a node
+abbrev pub NoneHidden : Draw → List Task → (old new : List Event) → Type 0
+NoneHidden draw tasks old new = (start since : List Event) (place : ℕ) (task : Task) (lost : SessionState) (key : Key) (bad : Bad) → RanAlone begin_program old start → slice_get tasks place ≡ Some task
+    → HasLost (ids_at draw place) task (place + 1) start lost since new → ¬ WasHidden (place + 1) (policy_of task.head) lost key bad since new
+
 -- ---- a run
--- After a run: the changes for each position are those before it, and for each commit that it added those of a session
+-- After a run, whose tasks began at `start`: the changes for each position are those before it, and for each commit that it added those of a session
 -- of its client's task; each commit that took effect follows on the entry before it; each session that was opened began
--- at the last entry of its branch, and keeps through its lines what stays of its nodes' metadata. With these changes the
--- journal is sound, and what the source of another client may draw is new to it where it was before, so that a run of other
--- clients may go on; the histories run over its calls; and the branches stand as their histories say. Trees are by what was
--- put in the whole journal.
+-- at the last entry of its branch, and keeps through its lines what stays of its nodes' metadata; and no log hides a node from
+-- one that is rebased. With these changes the journal is sound, and what the source of another client may draw is new to it where
+-- it was before, so that a run of other clients may go on; the histories run over its calls; and the branches stand as their
+-- histories say. Trees are by what was put in the whole journal.
 pub record HasHistories (draw : Draw) (tasks : List Task) (before : ℕ → Changes) (old new : List Event) : Type 0 where
   pub added : List Event
   pub is : new ≡ old ++ added
+  pub start : List Event
+  pub began : RanAlone begin_program old start
   pub changes : ℕ → Changes
   pub same : (n : ℕ) → n < length old → changes n ≡ before n
-  pub solved : Each (IsSolved draw tasks changes) old added
-  pub commits : Each (CommitsEnter draw tasks (puts_of new) (tree_of new) changes) old added
+  pub solved : Each (IsSolved draw tasks start changes) old added
+  pub commits : Each (CommitsEnter draw tasks start (puts_of new) (tree_of new) changes) old added
   pub opened : (client : ℕ) (a : Asked) (s : SessionState) (start : List Event) → WasBegun client a s start new → IsOpened s new → BeganAtLast (puts_of new) (tree_of new) changes client a s start new
   pub frozen : AllKeepFrozen draw tasks old new
+  pub unhidden : NoneHidden draw tasks old new
   pub sound : IsSound new changes
   pub others : (ids : AnyIds) → IsOfAnother tasks ids → IsNewSource ids old → IsNewSource ids new
   pub history : IsHistory (tree_of new) changes new

@@ -111,4 +111,11 @@ impl Session {
     {
         self.writes
     }
+
+    /// The ids that it draws next.
+    pub fn ids(&self) -> AnyIds
+        ensures { result ≡ self.now.ids }
+    {
+        self.ids
+    }
 }

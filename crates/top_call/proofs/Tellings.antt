@@ -163,3 +163,7 @@ untold draw script s t x y opening outcomes refs (Err error) c kept out = record
 
 pub unplayed : (draw : Draw) (script : Script) (s t : View) (x : OutputAt) → OnlyBegan s t → KeepsBranches draw script s t → WasUntold draw script s t x x
 unplayed draw script s t x b kept = record { out = refl; came = inr b; histories = kept }
+
+pub unplayed-told : (draw : Draw) (script : Script) (s t : View) (x : OutputAt) (result : Result Status AllocError) → OnlyBegan s t → KeepsBranches draw script s t → IfErr result (λ error. WasUntold draw script s t x x)
+unplayed-told draw script s t x (Ok status) b kept = tt
+unplayed-told draw script s t x (Err error) b kept = unplayed draw script s t x b kept

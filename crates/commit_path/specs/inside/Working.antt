@@ -19,7 +19,7 @@ use Rattle.store_api.specs.declared.machines.Refusal.TheVariants.{IdsSpent, TooL
 use Rattle.store_api.specs.Program.{Done, Lands, IsSure, IsAsk, IsDone, is_fault, is_no_memory}
 use Rattle.store_api.specs.Running.{◌>>=◌}
 use Rattle.session.specs.Sessions.{SessionState}
-use Rattle.commit_path.specs.declared.commit.Committed.{Committed}
+use Rattle.commit_path.specs.declared.commit.Tried.{Tried}
 use Rattle.commit_path.specs.declared.commit.Commit.{Commit}
 use Rattle.commit_path.specs.declared.committing.Committing.TheVariants.{Ended}
 use Rattle.commit_path.specs.Committing.{Answer, Written, is_long, manifest_for, write_array, arrays_program, after_arrays}
@@ -65,15 +65,15 @@ MayRefuseOwn NoMemory = Unit {0}
 MayRefuseOwn _ = ⊥
 
 -- what was answered is no fault of the store
-abbrev pub IsCalm : Result (Next Committed) Refusal → Type 0
+abbrev pub IsCalm : Result (Next Tried) Refusal → Type 0
 IsCalm (Ok next) = Unit {0}
 IsCalm (Err why) = is_fault why ≡ false
 
 -- where a reply took the machine to which the store had answered: memory may be wanting, or nothing is free
-abbrev pub LandsCalmly : Answer → (rest : Answer) → Result (Next Committed) Refusal → Type 0
+abbrev pub LandsCalmly : Answer → (rest : Answer) → Result (Next Tried) Refusal → Type 0
 LandsCalmly next rest result = Lands next rest result × IsCalm result
 
-abbrev pub LandsSurely : Answer → (rest : Answer) → Result (Next Committed) Refusal → Type 0
+abbrev pub LandsSurely : Answer → (rest : Answer) → Result (Next Tried) Refusal → Type 0
 LandsSurely next rest result = Lands next rest result × IsCalm result × IsSure next result
 
 -- the refusal ends the program; want of memory is free

@@ -1,10 +1,13 @@
 -- What a worker has still to do.
-use Rattle.std.specs.Prelude.{◌≡◌, ◌⊎◌, ℕ, ◌+◌, ◌-◌, ◌*◌, ◌^◌, ◌≤◌, ◌++◌, List, drop, Bool, true, false, not, Result, Ok, Err}
+use Rattle.std.specs.Prelude.{◌≡◌, ◌⊎◌, ℕ, zero, suc, ◌+◌, ◌-◌, ◌*◌, ◌^◌, ◌≤◌, ◌++◌, List, drop, Bool, true, false, not, Option, Result, Ok, Err}
 use Rattle.ice_ids.specs.declared.Id8.{Id8}
+use Rattle.ice_ids.specs.declared.drawing.AnyIds.{AnyIds}
+use Rattle.conflicts.specs.declared.solving.Policy.{Policy}
+use Rattle.store_api.specs.declared.events.Version.{Version}
 use Rattle.store_api.specs.declared.machines.Next.{Next}
 use Rattle.store_api.specs.declared.machines.Next.TheVariants.{Again, Ready}
 use Rattle.store_api.specs.declared.machines.Refusal.{Refusal}
-use Rattle.store_api.specs.declared.machines.Refusal.TheVariants.{NoMemory}
+use Rattle.store_api.specs.declared.machines.Refusal.TheVariants.{NoMemory, Conflict}
 use Rattle.store_api.specs.Program.{Prog, Done, is_ask, is_fault}
 use Rattle.store_api.specs.Running.{Program}
 use Rattle.store_api.specs.Plays.{Play, Ended, Ask, Or, call, Comes}
@@ -13,7 +16,11 @@ use Rattle.session.specs.Sessions.{SessionState}
 use Rattle.session.specs.Opening.{open_rest, open_left}
 use Rattle.session.specs.Setting.{set_rest, set_left}
 use Rattle.session.specs.Getting.{get_rest, get_left, get_session}
-use Rattle.commit_path.specs.Committing.{commit_rest, commit_left}
+use Rattle.commit_path.specs.Committing.{session_in, message_in, commit_rest, commit_left}
+use Rattle.rebase.specs.declared.machine.Rebased.{Rebased}
+use Rattle.rebase.specs.declared.machine.Rebased.TheVariants.{Moved, UpToDate}
+use Rattle.rebase.specs.Rebasing.{rebase_program, rebase_rest, rebase_left}
+use Rattle.play_script.specs.declared.scripts.Head.{Head}
 use Rattle.play_script.specs.declared.scripts.Task.{Task}
 use Rattle.play_outcome.specs.declared.outcome.Shown.{Shown}
 use Rattle.play_outcome.specs.declared.outcome.Outcome.{Outcome}
@@ -25,12 +32,12 @@ use Rattle.play_tasks.specs.declared.working.AskedFor.TheVariants as asked
 use Rattle.play_tasks.specs.declared.working.Step.{Step}
 use Rattle.play_tasks.specs.declared.working.Step.TheVariants as step
 use Rattle.play_tasks.specs.Lines.{Deed, silent, value_shown, chunk_key_shown}
-use Rattle.play_tasks.specs.Playing.{Rest, refused, after_line, shown_by, after_open, after_commit, play_deed, play_lines}
+use Rattle.play_tasks.specs.Playing.{Rest, refused, after_line, shown_by, after_open, after_commit, after_rebase, commit_play, play_deed, play_lines}
 
 -- ---- where a worker stands
 -- the lines of a task from a number on, from 0
 abbrev pub lines_from : Task → ℕ → Rest
-lines_from task at = play_lines (drop at task.body)
+lines_from task at = play_lines task.head (drop at task.body)
 
 -- what is played behind the setting of a chunk in a line, and behind the reading of one
 abbrev pub after_set : ℕ → List Shown → Rest → Result SessionState Refusal → Play Outcome
@@ -44,11 +51,22 @@ shown_for asked.Key line = chunk_key_shown line
 abbrev pub after_get : (Value → Shown) → ℕ → List Shown → SessionState → Rest → Result Value Refusal → Play Outcome
 after_get show line shown s rest answer = after_line line shown (shown_by s show answer) rest
 
+-- A commit of this session was lost, and may be tried again so often: the session is rebased, with the ids that it draws next.
+abbrev pub after_lost : (left : ℕ) → Policy → (line : ℕ) → List Shown → (message : List ℕ) → SessionState → (old : Version) → (found : Option Version) → (next : AnyIds) → Play Outcome
+after_lost zero policy line shown message s old found next = refused line shown (Conflict old found)
+after_lost (suc left) policy line shown message s old found next = call (rebase_program policy (record s { ids = next })) (after_rebase line shown (commit_play left policy line shown message))
+
+-- the session that a rebase answered
+abbrev pub rebased_session : Rebased → SessionState
+rebased_session (Moved s count) = s
+rebased_session (UpToDate s) = s
+
 abbrev pub working_rest : Task → Working → Play Outcome
 working_rest task (w.Opening opener) = call (open_rest opener) (after_open task)
 working_rest task (w.Setting line at shown set) = call (set_rest set) (after_set line shown.items (lines_from task at))
 working_rest task (w.Getting line at for shown get) = call (get_rest get) (after_get (shown_for for line) line shown.items (get_session get) (lines_from task at))
-working_rest task (w.Committing line shown commit) = call (commit_rest commit) (after_commit line shown)
+working_rest task (w.Committing line tries shown commit) = call (commit_rest commit) (after_commit line shown (after_lost tries.left tries.policy line shown (message_in commit) (session_in commit)))
+working_rest task (w.Rebasing line tries shown message rebase) = call (rebase_rest rebase) (after_rebase line shown (commit_play tries.left tries.policy line shown message))
 working_rest task (w.Ended outcome) = Ended outcome
 
 -- the machine in it has something to do
@@ -56,20 +74,29 @@ abbrev pub is_working : Working → Bool
 is_working (w.Opening opener) = is_ask (open_rest opener)
 is_working (w.Setting line at shown set) = is_ask (set_rest set)
 is_working (w.Getting line at for shown get) = is_ask (get_rest get)
-is_working (w.Committing line shown commit) = is_ask (commit_rest commit)
+is_working (w.Committing line tries shown commit) = is_ask (commit_rest commit)
+is_working (w.Rebasing line tries shown message rebase) = is_ask (rebase_rest rebase)
 is_working (w.Ended outcome) = true
 
 -- ---- how many steps are left
--- no machine of a line takes more steps
-abbrev pub most_steps : ℕ
-most_steps = 2 ^ 200
+-- no commit takes more steps, and no rebase and the commit behind it
+abbrev pub commit_steps : ℕ
+commit_steps = 2 ^ 200
 
--- the steps of its machine, at most
+abbrev pub try_steps : ℕ
+try_steps = 2 ^ 201
+
+-- nor do the machines of a line
+abbrev pub most_steps : ℕ
+most_steps = 2 ^ 210
+
+-- the steps of its machine, at most, and of those that may come behind it in its line
 abbrev pub machine_left : Working → ℕ
 machine_left (w.Opening opener) = open_left opener
 machine_left (w.Setting line at shown set) = set_left set
 machine_left (w.Getting line at for shown get) = get_left get
-machine_left (w.Committing line shown commit) = commit_left commit
+machine_left (w.Committing line tries shown commit) = tries.left * try_steps + commit_left commit
+machine_left (w.Rebasing line tries shown message rebase) = tries.left * try_steps + commit_steps + rebase_left rebase
 machine_left (w.Ended outcome) = 0
 
 -- the lines behind it, of a body of so many
@@ -77,7 +104,8 @@ abbrev pub lines_left : ℕ → Working → ℕ
 lines_left lines (w.Opening opener) = lines
 lines_left lines (w.Setting line at shown set) = lines - at
 lines_left lines (w.Getting line at for shown get) = lines - at
-lines_left lines (w.Committing line shown commit) = 0
+lines_left lines (w.Committing line tries shown commit) = 0
+lines_left lines (w.Rebasing line tries shown message rebase) = 0
 lines_left lines (w.Ended outcome) = 0
 
 -- how many steps are left at most, of a body of so many lines
@@ -114,20 +142,25 @@ abbrev pub PlayComes : (line at : ℕ) → List Shown → (Rest → Play Outcome
 PlayComes line at shown play (step.On t more) = (rest : Rest) → play rest ≡ rest t more.items
 PlayComes line at shown play (step.Stop state) = (task : Task) → Comes (Or (play (lines_from task at)) (refused line shown NoMemory)) (working_rest task state)
 
--- one that does this on a session
-abbrev pub LineComes : (line at : ℕ) → List Shown → SessionState → Deed → Step → Type 0
-LineComes line at shown s d = PlayComes line at shown (λ rest. play_deed line shown s d rest)
+-- one that does this on a session, in a task with this head
+abbrev pub LineComes : Head → (line at : ℕ) → List Shown → SessionState → Deed → Step → Type 0
+LineComes head line at shown s d = PlayComes line at shown (λ rest. play_deed head line shown s d rest)
+
+-- ... or with whatever head
+abbrev pub CallComes : (line at : ℕ) → List Shown → SessionState → Deed → Step → Type 0
+CallComes line at shown s d x = (head : Head) → LineComes head line at shown s d x
 
 -- where a program ends at once, it tells no fault of the store
 abbrev pub EndsCalmly : {A : Type 0} → Program A → Type 0
 EndsCalmly p = (why : Refusal) → p ≡ Done (Err why) → is_fault why ≡ false
 
--- what lines came to: nothing of the store has failed, and a machine that began has something to do
+-- what lines came to, and what a commit that was lost did: nothing of the store has failed, and a machine that began has something to do
 abbrev pub is_well : Working → Bool
 is_well (w.Opening opener) = false
 is_well (w.Setting line at shown set) = is_ask (set_rest set)
 is_well (w.Getting line at for shown get) = is_ask (get_rest get)
-is_well (w.Committing line shown commit) = is_ask (commit_rest commit)
+is_well (w.Committing line tries shown commit) = is_ask (commit_rest commit)
+is_well (w.Rebasing line tries shown message rebase) = is_ask (rebase_rest rebase)
 is_well (w.Ended outcome) = not (is_failed outcome)
 
 abbrev pub is_clean : Step → Bool

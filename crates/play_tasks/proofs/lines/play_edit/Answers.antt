@@ -1,9 +1,10 @@
-use Rattle.std.proofs.Common.{◌≡◌, inl, inr, refl, sym, subst}
+use Rattle.std.proofs.Common.{◌≡◌, ℕ, List, inl, inr, refl, sym, subst}
+use Rattle.zarr_path.specs.Keys.{key_of}
 use Rattle.session.specs.Sessions.{SessionState}
 use Rattle.play_script.specs.declared.scripts.EditCall.{EditCall}
 use Rattle.play_script.specs.declared.scripts.EditCall.TheVariants.{Group, Array, Make, Meta, Drop, Unset, KeyErase}
-use Rattle.play_tasks.specs.Lines.{Deed, Goes, edit_deed, edited, silent}
-use Rattle.play_tasks.specs.inside.Working.{LineComes}
+use Rattle.play_tasks.specs.Lines.{Deed, Goes, Sets, edit_deed, key_set_deed, edited, silent}
+use Rattle.play_tasks.specs.inside.Working.{LineComes, CallComes}
 use Rattle.play_tasks.proofs.lines.play_edit.Goals as goal
 
 -- the edit is one that needs no operation
@@ -33,10 +34,22 @@ returns-in-Group-clause-comes c =
         ]
       ]
     ] in
-    subst (λ (d : Deed). LineComes c.args.line c.args.at c.args.shown.items s d c.play_change.result) (sym is) (c.play_change.ensures.comes c.args.at)
+    subst (λ (d : Deed). CallComes c.args.line c.args.at c.args.shown.items s d c.play_change.result) (sym is) (c.play_change.ensures.comes c.args.at)
 
 pub returns-in-Group-clause-bounded : goal.returns-in-Group-clause-bounded
 returns-in-Group-clause-bounded c = c.play_change.ensures.bounded c.args.at
 
 pub returns-in-Fill-clause-comes : goal.returns-in-Fill-clause-comes
-returns-in-Fill-clause-comes c = subst (λ (x : EditCall). LineComes c.args.line c.args.at c.args.shown.items c.args.session (edit_deed x c.args.session) c.play_fill.result) (sym c.in-Fill.is) c.play_fill.ensures.comes
+returns-in-Fill-clause-comes c = subst (λ (x : EditCall). CallComes c.args.line c.args.at c.args.shown.items c.args.session (edit_deed x c.args.session) c.play_fill.result) (sym c.in-Fill.is) c.play_fill.ensures.comes
+
+pub returns-in-Set-clause-comes : goal.returns-in-Set-clause-comes
+returns-in-Set-clause-comes c = λ head.
+    let s = c.args.session in
+    subst (λ (x : EditCall). LineComes head c.args.line c.args.at c.args.shown.items s (edit_deed x s) c.play_set.result) (sym c.in-Set.is)
+    (subst (λ (bytes : List ℕ). LineComes head c.args.line c.args.at c.args.shown.items s (Sets c.in-Set.path c.in-Set.index bytes) c.play_set.result) c.as_slice.ensures.value (c.play_set.ensures.comes head))
+
+pub returns-in-KeySet-clause-comes : goal.returns-in-KeySet-clause-comes
+returns-in-KeySet-clause-comes c = λ head.
+    let s = c.args.session in
+    subst (λ (x : EditCall). LineComes head c.args.line c.args.at c.args.shown.items s (edit_deed x s) c.play_key_set.result) (sym c.in-KeySet.is)
+    (subst (λ (bytes : List ℕ). LineComes head c.args.line c.args.at c.args.shown.items s (key_set_deed bytes (key_of c.in-KeySet.key) s) c.play_key_set.result) c.as_slice-in-KeySet.ensures.value (c.play_key_set.ensures.comes head))

@@ -3,14 +3,14 @@ use Rattle.session.specs.Sessions.{SessionState}
 use Rattle.play_script.specs.declared.scripts.ReadCall.{ReadCall}
 use Rattle.play_script.specs.declared.scripts.ReadCall.TheVariants.{List as List_call, Get}
 use Rattle.play_tasks.specs.Lines.{Deed, Goes, read_deed, read_by, still}
-use Rattle.play_tasks.specs.inside.Working.{LineComes}
+use Rattle.play_tasks.specs.inside.Working.{CallComes}
 use Rattle.play_tasks.proofs.lines.play_read.Goals as goal
 
 pub returns-in-Chunk-clause-comes : goal.returns-in-Chunk-clause-comes
-returns-in-Chunk-clause-comes c = subst (λ (x : ReadCall). LineComes c.args.line c.args.at c.args.shown.items c.args.session (read_deed c.args.line x c.args.session) c.play_get.result) (sym c.in-Chunk.is) c.play_get.ensures.comes
+returns-in-Chunk-clause-comes c = subst (λ (x : ReadCall). CallComes c.args.line c.args.at c.args.shown.items c.args.session (read_deed c.args.line x c.args.session) c.play_get.result) (sym c.in-Chunk.is) c.play_get.ensures.comes
 
 pub returns-in-KeyGet-clause-comes : goal.returns-in-KeyGet-clause-comes
-returns-in-KeyGet-clause-comes c = subst (λ (x : ReadCall). LineComes c.args.line c.args.at c.args.shown.items c.args.session (read_deed c.args.line x c.args.session) c.play_key_get.result) (sym c.in-KeyGet.is) c.play_key_get.ensures.comes
+returns-in-KeyGet-clause-comes c = subst (λ (x : ReadCall). CallComes c.args.line c.args.at c.args.shown.items c.args.session (read_deed c.args.line x c.args.session) c.play_key_get.result) (sym c.in-KeyGet.is) c.play_key_get.ensures.comes
 
 -- the read is one that needs no operation
 goes : (line : ℕ) (x y : ReadCall) (s : SessionState) → x ≡ y → read_deed line y s ≡ Goes (still s (read_by line y s)) → read_deed line x s ≡ Goes (still s (read_by line x s))
@@ -25,7 +25,7 @@ returns-in-List-clause-comes c =
       | inl w ↦ goes line x (List_call w.0) s w.1 refl
       | inr w ↦ goes line x (Get w.0) s w.1 refl
     ] in
-    subst (λ (d : Deed). LineComes line c.args.at c.args.shown.items s d c.play_look.result) (sym is) (c.play_look.ensures.comes c.args.at)
+    subst (λ (d : Deed). CallComes line c.args.at c.args.shown.items s d c.play_look.result) (sym is) (c.play_look.ensures.comes c.args.at)
 
 pub returns-in-List-clause-bounded : goal.returns-in-List-clause-bounded
 returns-in-List-clause-bounded c = c.play_look.ensures.bounded c.args.at

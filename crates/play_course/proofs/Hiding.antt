@@ -1,0 +1,209 @@
+-- No task of a run over an empty store ends by a log that hides a node: what its outcome tells of the journal says so.
+use Rattle.std.proofs.Common.{◌≡◌, inl, inr, ℕ, Bool, true, false, cond, List, [], ◌∷◌, ◌++◌, refl, sym, ◌∙◌, ap, subst}
+use Rattle.std.specs.Prelude.{Option, Some, None, Result, Ok, Err}
+use Rattle.std.specs.FinMap.{get}
+use Rattle.ice_ids.specs.declared.Id8.{Id8}
+use Rattle.ice_ids.specs.declared.Id12.{Id12}
+use Rattle.ice_ids.specs.declared.drawing.AnyIds.{AnyIds}
+use Rattle.ice_ids.specs.Text.{same_id12}
+use Rattle.zarr_path.specs.declared.keys.ZarrKey.{ZarrKey}
+use Rattle.zarr_path.specs.declared.keys.ZarrKey.TheVariants as zarr
+use Rattle.zarr_path.specs.Keys.{key_of}
+use Rattle.flat_tables.specs.declared.fault.FileFault.{FileFault}
+use Rattle.txn_file.specs.declared.log.TxnFile.{TxnFile}
+use Rattle.txn_file.specs.Logs.{txn_of}
+use Rattle.repo_objects.specs.declared.bad.Bad.{Bad}
+use Rattle.repo_objects.specs.declared.bad.Bad.TheVariants.{Unlisted, WrongId}
+use Rattle.repo_objects.specs.Readings.{◌>>=◌, in_file, under, read_log}
+use Rattle.conflicts.specs.declared.solving.Policy.{Policy}
+use Rattle.store_api.specs.declared.keys.Key.{Key}
+use Rattle.store_api.specs.declared.keys.Key.TheVariants.{Txn}
+use Rattle.store_api.specs.declared.events.Event.{Event}
+use Rattle.store_api.specs.declared.machines.Refusal.{Refusal}
+use Rattle.store_api.specs.declared.machines.Refusal.TheVariants as R
+use Rattle.session.specs.Sessions.{SessionState, nodes_seen}
+use Rattle.commit_path.specs.Answered.{CommitTells}
+use Rattle.commit_path.specs.Opened.{RefusalTells}
+use Rattle.rebase.specs.Telling.{RebaseSays, WasHidden}
+use Rattle.zarr_keys.specs.Keys.{put_over}
+use Rattle.chunk_calls.specs.Told.{SetTells, GetTells}
+use Rattle.play_script.specs.declared.scripts.Call.{Call}
+use Rattle.play_script.specs.declared.scripts.Call.TheVariants.{Edit, Read, Commit}
+use Rattle.play_script.specs.declared.scripts.EditCall.{EditCall}
+use Rattle.play_script.specs.declared.scripts.EditCall.TheVariants.{Group, Array, Make, Meta, Drop, Set as Set_call, Fill, Unset, KeySet, KeyErase}
+use Rattle.play_script.specs.declared.scripts.ReadCall.{ReadCall}
+use Rattle.play_script.specs.declared.scripts.ReadCall.TheVariants.{List as List_call, Get as Get_call, Chunk as Chunk_call, KeyGet}
+use Rattle.play_script.specs.declared.scripts.Line.{Line}
+use Rattle.play_script.specs.declared.scripts.Task.{Task}
+use Rattle.play_outcome.specs.declared.outcome.Shown.{Shown}
+use Rattle.play_outcome.specs.declared.outcome.End.{End}
+use Rattle.play_outcome.specs.declared.outcome.End.TheVariants as E
+use Rattle.play_outcome.specs.declared.outcome.Outcome.{Outcome}
+use Rattle.play_tasks.specs.Lines.{Deed, Goes, Sets, Reads, Commits, deed, edit_deed, read_deed, edited, read_by, silent, still, key_set_deed, key_get_deed}
+use Rattle.play_tasks.specs.Playing.{asked_by, policy_of}
+use Rattle.play_tasks.specs.Telling.{PlaysAll, Refuses, WasTriedAt, EndsAt, TellsOutcome}
+use Rattle.run_histories.specs.Told.{HasLost}
+use Rattle.play_course.specs.Refusing.{is_strange, strange_end}
+use Rattle.play_course.proofs.Reading.{edit-plain}
+use Rattle.play_course.proofs.Rebasing.{SaysHidden}
+use Rattle.play_course.proofs.Tasks.{IsPlain, EndsFine, refused_as, put-plain, edited-plain, read-plain}
+
+-- ---- lines that are refused without an operation
+silent-plain : (r : Result SessionState Refusal) → IsPlain r → IsPlain (silent r)
+silent-plain (Ok s) p why e = cc
+silent-plain (Err own) p why e = let same : own ≡ why = cc in subst (λ (w : Refusal). is_strange w ≡ false) same (p own refl)
+
+still-plain : (s : SessionState) (r : Result (List Shown) Refusal) → IsPlain r → IsPlain (still s r)
+still-plain s (Ok shown) p why e = cc
+still-plain s (Err own) p why e = let same : own ≡ why = cc in subst (λ (w : Refusal). is_strange w ≡ false) same (p own refl)
+
+-- no refusal of the line is strange
+abbrev DeedIsPlain : Deed → Type 0
+DeedIsPlain (Goes r) = IsPlain r
+DeedIsPlain (Sets path index bytes) = Unit {0}
+DeedIsPlain (Reads path index show) = Unit {0}
+DeedIsPlain (Commits message) = Unit {0}
+
+key-set-plain : (bytes : List ℕ) (o : Option ZarrKey) (s : SessionState) → DeedIsPlain (key_set_deed bytes o s)
+key-set-plain bytes None s = λ why e. refused_as why R.BadKey refl e
+key-set-plain bytes (Some (zarr.Meta path)) s = silent-plain (put_over (get (nodes_seen s) path) s path bytes) (put-plain (get (nodes_seen s) path) s path bytes)
+key-set-plain bytes (Some (zarr.Chunk path index)) s = tt
+
+key-get-plain : (line : ℕ) (o : Option ZarrKey) (s : SessionState) → DeedIsPlain (key_get_deed line o s)
+key-get-plain line None s = λ why e. refused_as why R.BadKey refl e
+key-get-plain line (Some (zarr.Meta path)) s = λ why e. cc
+key-get-plain line (Some (zarr.Chunk path index)) s = tt
+
+edit-deed-plain : (edit : EditCall) (s : SessionState) → DeedIsPlain (edit_deed edit s)
+edit-deed-plain (Group path) s = silent-plain (edited (Group path) s) (edited-plain (Group path) s)
+edit-deed-plain (Array path text) s = silent-plain (edited (Array path text) s) (edited-plain (Array path text) s)
+edit-deed-plain (Make path text) s = silent-plain (edited (Make path text) s) (edited-plain (Make path text) s)
+edit-deed-plain (Meta path text) s = silent-plain (edited (Meta path text) s) (edited-plain (Meta path text) s)
+edit-deed-plain (Drop path) s = silent-plain (edited (Drop path) s) (edited-plain (Drop path) s)
+edit-deed-plain (Unset path index) s = silent-plain (edited (Unset path index) s) (edited-plain (Unset path index) s)
+edit-deed-plain (KeyErase key) s = silent-plain (edited (KeyErase key) s) (edited-plain (KeyErase key) s)
+edit-deed-plain (KeySet key bytes) s = key-set-plain bytes (key_of key) s
+edit-deed-plain (Set_call path index bytes) s = tt
+edit-deed-plain (Fill path index byte) s = tt
+
+read-deed-plain : (line : ℕ) (look : ReadCall) (s : SessionState) → DeedIsPlain (read_deed line look s)
+read-deed-plain line (List_call path) s = still-plain s (read_by line (List_call path) s) (read-plain line (List_call path) s)
+read-deed-plain line (Get_call path) s = still-plain s (read_by line (Get_call path) s) (read-plain line (Get_call path) s)
+read-deed-plain line (Chunk_call path index) s = tt
+read-deed-plain line (KeyGet key) s = key-get-plain line (key_of key) s
+
+deed-plain : (line : ℕ) (made : Call) (s : SessionState) → DeedIsPlain (deed line made s)
+deed-plain line (Edit edit) s = edit-deed-plain edit s
+deed-plain line (Read look) s = read-deed-plain line look s
+deed-plain line (Commit message) s = tt
+
+-- ---- logs
+-- no reading of a log says that it hides a node
+log-listed : (id : Id12) (bytes : List ℕ) (node : Id8) → ◌≡◌ {A = Result TxnFile Bad} (read_log id bytes) (Err (Unlisted node)) → ⊥
+unfolding read_log
+log-listed id bytes node e = by_file (txn_of bytes) e
+  where
+    by_id : (log : TxnFile) (b : Bool) → ◌≡◌ {A = Result TxnFile Bad} (cond b (Ok log) (Err (WrongId log.id))) (Err (Unlisted node)) → ⊥
+    by_id log true f = absurd cc
+    by_id log false f = absurd cc
+
+    by_file : (r : Result TxnFile FileFault) → ◌≡◌ {A = Result TxnFile Bad} (in_file r >>= λ log. under id log.id log) (Err (Unlisted node)) → ⊥
+    by_file (Ok log) f = by_id log (same_id12 log.id id) f
+    by_file (Err fault) f = absurd cc
+
+-- ---- outcomes
+-- no log hides a node from a session of a task that lost a commit
+abbrev pub NeverHides : AnyIds → Task → ℕ → (start journal : List Event) → Type 0
+NeverHides ids task client start journal =
+    (lost : SessionState) (since : List Event) (key : Key) (bad : Bad) → HasLost ids task client start lost since journal → ¬ WasHidden client (policy_of task.head) lost key bad since journal
+
+same-why : (end : End) (line other : ℕ) (why own : Refusal) → end ≡ E.Refused line why → end ≡ E.Refused other own → own ≡ why
+same-why end line other why own e f = let both = sym e ∙ f in cc
+
+not-strange : (why : Refusal) → SaysHidden why → is_strange why ≡ false → ⊥
+not-strange why h p = let both = sym (ap is_strange h.is) ∙ p in absurd cc
+
+module _ (ids : AnyIds) (task : Task) (client : ℕ) (start journal : List Event) (never : NeverHides ids task client start journal) where
+  not-opened : (why : Refusal) → SaysHidden why → RefusalTells client (asked_by task.head ids) start why journal → ⊥
+  not-opened why h t = elim (subst (λ (w : Refusal). RefusalTells client (asked_by task.head ids) start w journal) h.is t).0 [
+    | inl w ↦ let k = w.key_is in absurd cc
+    | inr w ↦ let k = w.key_is in absurd cc
+  ]
+
+  not-refused : (d : Deed) (s : SessionState) (why : Refusal) → SaysHidden why → DeedIsPlain d → Refuses client d s start why journal → ⊥
+  not-refused (Goes r) s why h p t = not-strange why h (p why t.0)
+  not-refused (Sets path index bytes) s why h p t =
+      let f = (subst (λ (w : Refusal). SetTells client s path index bytes start (Err w) journal) h.is t).0 in
+      let both = ap is_strange f.2 ∙ edit-plain f.0 in
+      absurd cc
+  not-refused (Reads path index show) s why h p t = (subst (λ (w : Refusal). GetTells client s path index start (Err w) journal) h.is t).0.unfit
+  not-refused (Commits message) s why h p t = absurd t
+
+  not-committed : (s : SessionState) (message : List ℕ) (why : Refusal) → SaysHidden why → CommitTells client s message start (Err why) journal → ⊥
+  not-committed s message why h t = let w = (subst (λ (x : Refusal). CommitTells client s message start (Err x) journal) h.is t).0 in let k = w.key_is in absurd cc
+
+  -- a rebase is refused so by a log that hides a node alone
+  says-hidden : (policy : Policy) (lost : SessionState) (since : List Event) (why : Refusal) → (h : SaysHidden why) → RebaseSays client policy lost since (Err why) journal → WasHidden client policy lost (Txn h.at) (Unlisted h.node) since journal
+  says-hidden policy lost since why h t = elim (subst (λ (w : Refusal). RebaseSays client policy lost since (Err w) journal) h.is t) [
+    | inl w ↦ let k = w.key_is in absurd cc
+    | inr r ↦ elim r [
+      | inl w ↦ let k = w.cause.key_is in absurd cc
+      | inr q ↦ elim q [
+        | inl w ↦ absurd (log-listed w.next.id w.bytes h.node w.unread)
+        | inr w ↦ w
+      ]
+    ]
+  ]
+
+  module _ (outcome : Outcome) (line : ℕ) (why : Refusal) (end : outcome.end ≡ E.Refused line why) (h : SaysHidden why) where
+    abbrev says : (other : ℕ) (own : Refusal) → outcome.end ≡ E.Refused other own → SaysHidden own
+    says other own e = let same = same-why outcome.end line other why own end e in record { at = h.at; node = h.node; is = same ∙ h.is }
+
+    never-told : TellsOutcome ids task client start outcome journal → ⊥
+    never-told (inl t) = not-opened t.why (says task.line t.why t.end_is) t.tells
+    never-told (inr t) = by_left t.left refl t.ends
+      where
+        -- a commit that was tried
+        tried : (l : Line) (s : SessionState) → PlaysAll client t.played t.opened start outcome.shown s journal → WasTriedAt client task.head l s start outcome.end journal → ⊥
+        tried l s plays w = elim w.ends [
+          | inl c ↦ let both = sym end ∙ c.end_is in absurd cc
+          | inr a ↦ elim a [
+            | inl c ↦ not-committed w.at_last w.message c.why (says l.number c.why c.end_is) c.tells
+            | inr b ↦ elim b [
+              | inl c ↦ not-strange (R.Conflict c.old c.found) (says l.number (R.Conflict c.old c.found) c.end_is) refl
+              | inr n ↦
+                  let own = says l.number n.why n.end_is in
+                  never n.lost (start ++ n.since) (Txn own.at) (Unlisted own.node)
+                  (record {
+                    session = s;
+                    was_played = record { opened = t.opened; begun = t.begun; early = t.early; read = t.read; played = t.played; left = t.left; body = t.body; shown = outcome.shown; plays = plays };
+                    count = w.count;
+                    at_last = w.at_last;
+                    carried = w.carried;
+                    was_lost = n.was_lost;
+                    alike = n.alike;
+                  })
+                  (says-hidden (policy_of task.head) n.lost (start ++ n.since) n.why own n.tells.0)
+            ]
+          ]
+        ]
+
+        by_left : (left : List Line) → t.left ≡ left → EndsAt client task.head left t.session start outcome.end journal → ⊥
+        by_left [] e w = let both = sym end ∙ w.0 in absurd cc
+        by_left (l ∷ ls) e w = elim w [
+          | inl r ↦ not-refused (deed l.number l.call t.session) t.session r.why (says l.number r.why r.end_is) (deed-plain l.number l.call t.session) r.refuses
+          | inr a ↦ elim a [
+            | inl r ↦ not-strange R.NoMemory (says l.number R.NoMemory r.end_is) refl
+            | inr r ↦ tried l t.session t.plays r
+          ]
+        ]
+
+  -- so no refusal of it is strange
+  pub told-plain : (outcome : Outcome) → TellsOutcome ids task client start outcome journal → EndsFine outcome.end → strange_end outcome.end ≡ false
+  told-plain outcome t fine = by_end outcome.end refl fine
+    where
+      by_end : (end : End) → outcome.end ≡ end → EndsFine end → strange_end end ≡ false
+      by_end (E.Committed id) e f = refl
+      by_end E.Done e f = refl
+      by_end (E.Refused line why) e (inl plain) = plain
+      by_end (E.Refused line why) e (inr h) = absurd (never-told outcome line why e h t)

@@ -1,0 +1,198 @@
+//! The texts of refusals.
+#![tactic(auto, using(crate::proofs::Drafting::drafting))]
+
+ghost use Rattle.std.specs.Prelude.{◌≡◌, IfOk, OnOk, codes, decimal, length, vec_capacity};
+ghost use Rattle.ice_ids.specs.Text.{id12_text};
+ghost use Rattle.play_report.specs.Words.{◌space◌};
+ghost use Rattle.play_report.specs.Refusals.{case_number, conflict_text, conflicts_text, frozen_text, index_text, kind_text, more_numbers, place_text, refusal_text, version_text};
+ghost use Rattle.play_report.specs.inside.Drafts.{added};
+ghost use Rattle.store_api.specs.declared.machines.Refusal.TheVariants.{Conflict as Lost, Left, Moved};
+
+use crate::drafts::Draft;
+use flat_tables::Kind;
+use ice_ids::Id12;
+use std::alloc::{AllocError, Global};
+use store_api::{Refusal, Version};
+use zarr_path::Index;
+use zarr_tree::{Case, Conflict, Frozen};
+
+/// The version that stood at a ref, and `-` where none did.
+fn add_version(out: &mut Draft, found: Option<Version>) -> Result<(), AllocError>
+    ensures { OnOk result (out.new ≡ added out.old (version_text found)) }
+{
+    match found {
+        Some(version) => write!(out, "{}", version.0),
+        None => out.add(b"-"),
+    }
+}
+
+/// The name of a part of metadata that stays as it is.
+fn frozen_text(part: Frozen) -> &'static str
+    ensures { result.now ≡ frozen_text part }
+{
+    match part {
+        Frozen::NodeType => "node_type",
+        Frozen::Rank => "rank",
+        Frozen::DataType => "data_type",
+        Frozen::ChunkGrid => "chunk_grid",
+        Frozen::Codecs => "codecs",
+    }
+}
+
+/// The name of a kind of files.
+fn kind_text(kind: Kind) -> &'static str
+    ensures { result.now ≡ kind_text kind }
+{
+    match kind {
+        Kind::Snapshot => "snapshot",
+        Kind::Manifest => "manifest",
+        Kind::Log => "log",
+    }
+}
+
+/// The number of a kind of conflicts.
+fn case_number(case: Case) -> u8
+    ensures { result ≡ case_number case }
+{
+    match case {
+        Case::NewNodeConflictsWithExistingNode => 1,
+        Case::NewNodeInInvalidGroup => 2,
+        Case::ZarrMetadataDoubleUpdate => 3,
+        Case::ZarrMetadataUpdateOfDeletedArray => 4,
+        Case::ZarrMetadataUpdateOfDeletedGroup => 5,
+        Case::ChunkDoubleUpdate => 6,
+        Case::ChunksUpdatedInDeletedArray => 7,
+        Case::ChunksUpdatedInUpdatedArray => 8,
+        Case::DeleteOfUpdatedArray => 9,
+        Case::DeleteOfUpdatedGroup => 10,
+    }
+}
+
+/// Numbers, each behind a comma.
+fn add_more_numbers(out: &mut Draft, numbers: &[u32]) -> Result<(), AllocError>
+    ensures { OnOk result (out.new ≡ added out.old (more_numbers numbers.now)) }
+{
+    for number in numbers {
+        write!(out, ",{number}")?;
+    }
+    Ok(())
+}
+
+/// The numbers of an index, joined by commas, and `-` where there are none.
+fn add_index(out: &mut Draft, index: &[u32]) -> Result<(), AllocError>
+    ensures { OnOk result (out.new ≡ added out.old (index_text index.now)) }
+{
+    let Some((first, more)) = index.split_first() else {
+        return out.add(b"-");
+    };
+    write!(out, "{first}")?;
+    add_more_numbers(out, more)
+}
+
+/// The index of a chunk behind a colon, if there is one.
+fn add_place(out: &mut Draft, index: &Option<Index>) -> Result<(), AllocError>
+    ensures { OnOk result (out.new ≡ added out.old (place_text index.now)) }
+{
+    match index {
+        None => Ok(()),
+        Some(index) => {
+            out.add(b":")?;
+            add_index(out, index.parts())
+        }
+    }
+}
+
+/// A conflict.
+fn add_conflict(out: &mut Draft, conflict: &Conflict) -> Result<(), AllocError>
+    ensures { OnOk result (out.new ≡ added out.old (conflict_text conflict.now)) }
+{
+    write!(out, "{}:", case_number(conflict.case))?;
+    out.add(conflict.path.as_str().as_bytes())?;
+    add_place(out, &conflict.index)
+}
+
+/// Conflicts, each behind a space.
+fn add_conflicts(out: &mut Draft, conflicts: &[Conflict]) -> Result<(), AllocError>
+    ensures { OnOk result (out.new ≡ added out.old (conflicts_text conflicts.now)) }
+{
+    for conflict in conflicts {
+        out.add(b" ")?;
+        add_conflict(out, conflict)?;
+    }
+    Ok(())
+}
+
+/// The snapshot of a commit, and its conflicts that stay.
+fn add_left(out: &mut Draft, at: Id12, conflicts: &[Conflict]) -> Result<(), AllocError>
+    ensures { OnOk result (out.new ≡ added out.old (refusal_text (Left at conflicts.now))) }
+{
+    write!(out, "left {at}")?;
+    add_conflicts(out, conflicts)
+}
+
+/// The version that stood at a ref, behind a word.
+fn add_moved(out: &mut Draft, found: Option<Version>) -> Result<(), AllocError>
+    ensures { OnOk result (out.new ≡ added out.old (refusal_text (Moved found))) }
+{
+    out.add(b"moved ")?;
+    add_version(out, found)
+}
+
+/// The version that was read of a branch, and the one that stood there, behind a word.
+fn add_lost(out: &mut Draft, old: Version, found: Option<Version>) -> Result<(), AllocError>
+    ensures { OnOk result (out.new ≡ added out.old (refusal_text (Lost old found))) }
+{
+    write!(out, "conflict {} ", old.0)?;
+    add_version(out, found)
+}
+
+/// The text of a refusal: its word, and behind it, after spaces, what it tells. A ref that was found absent is told as `-`.
+pub fn add_refusal(out: &mut Draft, why: &Refusal) -> Result<(), AllocError>
+    ensures { OnOk result (out.new ≡ added out.old (refusal_text why.now)) }
+{
+    match why {
+        Refusal::NoRef => out.add(b"noref"),
+        Refusal::NoNode => out.add(b"nonode"),
+        Refusal::NodeExists => out.add(b"nodeexists"),
+        Refusal::NoParent => out.add(b"noparent"),
+        Refusal::BadMeta(fault) => write!(out, "badmeta {fault}"),
+        Refusal::FrozenField(part) => write!(out, "frozen {}", frozen_text(*part)),
+        Refusal::OutOfGrid => out.add(b"outofgrid"),
+        Refusal::ChunkLength { want, got } => write!(out, "chunklength {want} {got}"),
+        Refusal::NotArray => out.add(b"notarray"),
+        Refusal::ReadOnly => out.add(b"readonly"),
+        Refusal::Full => out.add(b"full"),
+        Refusal::Missing(key) => write!(out, "missing {key}"),
+        Refusal::BadFile(key, _) => write!(out, "badfile {key}"),
+        Refusal::TooDeep => out.add(b"toodeep"),
+        Refusal::StoreFault => out.add(b"storefault"),
+        Refusal::IdTaken(key) => write!(out, "idtaken {key}"),
+        Refusal::NoMemory => out.add(b"nomemory"),
+        Refusal::IdsSpent => out.add(b"idsspent"),
+        Refusal::BadKey => out.add(b"badkey"),
+        Refusal::Conflict { old, found } => add_lost(out, *old, *found),
+        Refusal::NothingToCommit => out.add(b"nothing"),
+        Refusal::TooLarge(kind) => write!(out, "toolarge {}", kind_text(*kind)),
+        Refusal::InDoubt { snapshot } => write!(out, "indoubt {snapshot}"),
+        Refusal::Left { at, conflicts } => add_left(out, *at, conflicts.as_slice()),
+        Refusal::NotAncestor { head } => write!(out, "notancestor {head}"),
+        Refusal::RefExists(version) => write!(out, "refexists {}", version.0),
+        Refusal::NoSnapshot => out.add(b"nosnapshot"),
+        Refusal::TagGone => out.add(b"taggone"),
+        Refusal::MainKept => out.add(b"mainkept"),
+        Refusal::Moved { found } => add_moved(out, *found),
+        Refusal::CutoffAhead { now } => write!(out, "cutoffahead {now}"),
+    }
+}
+
+/// The text of a refusal, in just as much memory as it has bytes.
+pub fn refusal_text(alloc: Global, why: &Refusal) -> Result<Vec<u8>, AllocError>
+    ensures text { IfOk result (λ text. text.items ≡ refusal_text why.now) }
+    ensures memory { IfOk result (λ text. vec_capacity text ≡ length text.items) }
+{
+    let mut counted = Draft::without_room(alloc);
+    add_refusal(&mut counted, why)?;
+    let mut out = Draft::with_room(alloc, counted.count())?;
+    add_refusal(&mut out, why)?;
+    Ok(out.into_kept())
+}

@@ -1,0 +1,122 @@
+-- What lines that are left come to.
+use Rattle.std.proofs.Common.{◌≡◌, ◌∙◌, inl, inr, ℕ, refl, sym, ap, List, [], ◌∷◌, ◌++◌, append_assoc, append-nil, Result, Err}
+use Rattle.ice_ids.specs.declared.drawing.AnyIds.{AnyIds}
+use Rattle.conflicts.specs.declared.solving.Policy.{Policy}
+use Rattle.store_api.specs.declared.events.Event.{Event}
+use Rattle.store_api.specs.declared.machines.Refusal.{Refusal}
+use Rattle.store_api.specs.declared.machines.Refusal.TheVariants.{NoMemory}
+use Rattle.store_api.specs.Journal.{Each, IsGood}
+use Rattle.store_api.specs.Callers.{Caller}
+use Rattle.store_api.specs.Program.{Prog, Keeps, Leads}
+use Rattle.store_api.specs.Plays.{Play, call, Stays, PlayKeeps, PlayLeads}
+use Rattle.store_api.specs.Telling.{ChangedNothing}
+use Rattle.store_api.proofs.Programs.{Keeps-weaker}
+use Rattle.store_api.proofs.PlayLaws.{PlayKeeps-call, PlayLeads-call}
+use Rattle.session.specs.Sessions.{SessionState}
+use Rattle.commit_path.specs.Owed.{Sessions, IsCareful}
+use Rattle.commit_path.specs.Laws.{OpeningLaw, SessionLaw, CommitLaw}
+use Rattle.commit_path.specs.Single.{HasPutNone, SingleLaw}
+use Rattle.chunk_calls.specs.Laws.{SetLaw, GetLaw}
+use Rattle.chunk_calls.proofs.Lasting.{WasSet-append, IsChunk-append}
+use Rattle.rebase.specs.Laws.{RebaseLaw}
+use Rattle.play_script.specs.declared.scripts.Head.{Head}
+use Rattle.play_script.specs.declared.scripts.Line.{Line}
+use Rattle.play_outcome.specs.declared.outcome.Shown.{Shown}
+use Rattle.play_outcome.specs.declared.outcome.End.{End}
+use Rattle.play_outcome.specs.declared.outcome.End.TheVariants.{Refused}
+use Rattle.play_outcome.specs.declared.outcome.Outcome.{Outcome}
+use Rattle.play_tasks.specs.Lines.{Deed, Goes, Sets, Reads, Commits, deed}
+use Rattle.play_tasks.specs.Playing.{ended}
+use Rattle.play_tasks.specs.Telling.{DidPlay, PlaysAll, Refuses, EndsAt}
+use Rattle.play_tasks.proofs.Carrying.{Minds, Keeps-minds, careful-more}
+
+-- the laws on which tasks stand
+pub record Laws : Type 0 where
+  pub opening : OpeningLaw
+  pub session : SessionLaw
+  pub commit : CommitLaw
+  pub single : SingleLaw
+  pub rebase : (by : Caller) (policy : Policy) (s : SessionState) → RebaseLaw by policy s
+  pub set : SetLaw
+  pub get : GetLaw
+
+-- ---- what was told of a line stays so, whatever good events come
+pub DidPlay-append : (client : ℕ) (d : Deed) (s : SessionState) (start : List Event) (shown : List Shown) (t : SessionState) (journal more : List Event) → Each IsGood journal more → DidPlay client d s start shown t journal → DidPlay client d s start shown t (journal ++ more)
+DidPlay-append client (Goes went) s start shown t journal more g x = x
+DidPlay-append client (Sets path index bytes) s start shown t journal more g x = (x.0, WasSet-append client s path index bytes start journal more t x.1)
+DidPlay-append client (Reads path index show) s start shown t journal more g x = (x.0, x.1, x.2, IsChunk-append s path index x.1 journal more g x.3)
+DidPlay-append client (Commits message) s start shown t journal more g x = x
+
+pub PlaysAll-append : (client : ℕ) (ls : List Line) (s : SessionState) (start : List Event) (shown : List Shown) (t : SessionState) (journal more : List Event) → Each IsGood journal more → PlaysAll client ls s start shown t journal → PlaysAll client ls s start shown t (journal ++ more)
+unfolding PlaysAll
+PlaysAll-append client [] s start shown t journal more g p = p
+PlaysAll-append client (l ∷ ls) s start shown t journal more g p = (p.0, p.1, p.2, p.3, DidPlay-append client (deed l.number l.call s) s start p.0 p.2 journal more g p.4, PlaysAll-append client ls p.2 start p.1 t journal more g p.5)
+
+-- ---- the lines that are left
+-- what these lines come to on a session, where this was shown before them
+pub record Ending (client : ℕ) (head : Head) (start : List Event) (ls : List Line) (s : SessionState) (before : List Shown) (outcome : Outcome) (journal : List Event) : Type 0 where
+  pub played : List Line
+  pub left : List Line
+  pub body : ls ≡ played ++ left
+  pub more : List Shown
+  pub shown_is : outcome.shown ≡ before ++ more
+  pub session : SessionState
+  pub plays : PlaysAll client played s start more session journal
+  pub ends : EndsAt client head left session start outcome.end journal
+
+plays-none : (client : ℕ) (s : SessionState) (start journal : List Event) → PlaysAll client [] s start [] s journal
+unfolding PlaysAll
+plays-none client s start journal = (refl, refl)
+
+plays-more : (client : ℕ) (l : Line) (ls : List Line) (s mid t : SessionState) (start : List Event) (first more : List Shown) (journal : List Event) → DidPlay client (deed l.number l.call s) s start first mid journal → PlaysAll client ls mid start more t journal → PlaysAll client (l ∷ ls) s start (first ++ more) t journal
+unfolding PlaysAll
+plays-more client l ls s mid t start first more journal d p = (first, more, mid, refl, d, p)
+
+-- after one more line
+pub one-more : (client : ℕ) (head : Head) (start : List Event) (l : Line) (ls : List Line) (s mid : SessionState) (before first : List Shown) (outcome : Outcome) (journal : List Event) → DidPlay client (deed l.number l.call s) s start first mid journal → Ending client head start ls mid (before ++ first) outcome journal
+    → Ending client head start (l ∷ ls) s before outcome journal
+one-more client head start l ls s mid before first outcome journal d e = record {
+  played = l ∷ e.played;
+  left = e.left;
+  body = ap (λ (x : List Line). l ∷ x) e.body;
+  more = first ++ e.more;
+  shown_is = e.shown_is ∙ append_assoc before first e.more;
+  session = e.session;
+  plays = plays-more client l e.played s mid e.session start first e.more journal d e.plays;
+  ends = e.ends;
+}
+
+module _ (by : Caller) (ids : AnyIds) (head : Head) (mine : Sessions) (start : List Event) where
+  abbrev pub Nothing : List Event → Type 0
+  Nothing = ChangedNothing by.number start
+
+  abbrev pub PutNone : List Event → Type 0
+  PutNone = HasPutNone by.number start
+
+  -- each operation of the play is minded, and it comes to what these lines come to
+  abbrev pub GoesWell : List Line → SessionState → List Shown → Play Outcome → List Event → Type 0
+  GoesWell ls s shown p journal = PlayKeeps (Minds ids mine start) by p journal × PlayLeads (Ending by.number head start ls s shown) by p journal
+
+  -- at the first of these lines
+  pub ends-well : (ls : List Line) (s : SessionState) (shown : List Shown) (end : End) (journal : List Event) → EndsAt by.number head ls s start end journal → GoesWell ls s shown (ended shown end) journal
+  unfolding PlayKeeps PlayLeads
+  ends-well ls s shown end journal e = (tt, record { played = []; left = ls; body = refl; more = []; shown_is = sym (append-nil shown); session = s; plays = plays-none by.number s start journal; ends = e })
+
+  pub refused-well : (l : Line) (ls : List Line) (s : SessionState) (shown : List Shown) (why : Refusal) (journal : List Event) → Refuses by.number (deed l.number l.call s) s start why journal → GoesWell (l ∷ ls) s shown (ended shown (Refused l.number why)) journal
+  refused-well l ls s shown why journal r = ends-well (l ∷ ls) s shown (Refused l.number why) journal (inl (record { why = why; refuses = r; end_is = refl }))
+
+  pub starved-well : (l : Line) (ls : List Line) (s : SessionState) (shown : List Shown) (journal : List Event) → Nothing journal → GoesWell (l ∷ ls) s shown (ended shown (Refused l.number NoMemory)) journal
+  starved-well l ls s shown journal c = ends-well (l ∷ ls) s shown (Refused l.number NoMemory) journal (inr (inl (record { end_is = refl; nothing = c })))
+
+  -- a call of a machine, and then what follows its answer
+  pub called-well : {A : Type 0} (ls : List Line) (s : SessionState) (shown : List Shown) (p : Prog (Result A Refusal)) (f : Result A Refusal → Play Outcome) (Q : Result A Refusal → List Event → Type 0) (journal : List Event)
+      → Keeps (IsCareful ids mine) by p journal → Stays Nothing by p journal → Leads Q by p journal
+      → ((answer : Result A Refusal) (h : List Event) → Q answer h → GoesWell ls s shown (f answer) h) → ((h : List Event) → Nothing h → GoesWell ls s shown (f (Err NoMemory)) h) → GoesWell ls s shown (call p f) journal
+  called-well ls s shown p f Q journal careful stays told answered starved = (
+    PlayKeeps-call (Minds ids mine start) Q Nothing by p f journal (Keeps-minds ids mine start by p journal careful stays) told stays (λ answer h q. (answered answer h q).0) (λ h c. (starved h c).0),
+    PlayLeads-call (Ending by.number head start ls s shown) Q Nothing by p f journal told stays (λ answer h q. (answered answer h q).1) (λ h c. (starved h c).1),
+  )
+
+-- what is owed for no session
+pub none-careful : {A : Type 0} (by : Caller) (ids : AnyIds) (mine : Sessions) (p : Prog A) (journal : List Event) → Keeps (IsCareful ids (λ h t id. ⊥)) by p journal → Keeps (IsCareful ids mine) by p journal
+none-careful by ids mine p journal k = Keeps-weaker (IsCareful ids (λ h t id. ⊥)) (IsCareful ids mine) (λ h client op c. careful-more ids (λ j t id. ⊥) mine h (λ t id none. absurd none) client op c) by p journal k

@@ -1,0 +1,231 @@
+-- A commit goes well, however often it is lost and tried again.
+use Rattle.std.proofs.Common.{◌≡◌, ◌⊎◌, ◌≤◌, ◌<◌, ◌+◌, inl, inr, ℕ, zero, suc, refl, sym, ap, subst, List, ◌∷◌, ◌++◌, Option, Result, Ok, Err, arith}
+use Rattle.std.specs.Str.{IsUtf8}
+use Rattle.ice_ids.specs.declared.drawing.AnyIds.{AnyIds}
+use Rattle.conflicts.specs.declared.solving.Policy.{Policy}
+use Rattle.store_api.specs.declared.events.Version.{Version}
+use Rattle.store_api.specs.declared.events.Op.{Op}
+use Rattle.store_api.specs.declared.events.Op.TheVariants.{Get}
+use Rattle.store_api.specs.declared.events.Event.{Event}
+use Rattle.store_api.specs.declared.machines.Refusal.{Refusal}
+use Rattle.store_api.specs.declared.machines.Refusal.TheVariants.{NoMemory, Conflict}
+use Rattle.store_api.specs.Journal.{IsPolite}
+use Rattle.store_api.specs.Callers.{Caller}
+use Rattle.store_api.specs.Plays.{Play, call, PlayKeeps, PlayLeads}
+use Rattle.store_api.specs.Telling.{ChangedNothing, IsGet, MadeGets}
+use Rattle.session.specs.Sessions.{SessionState}
+use Rattle.session.specs.Sources.{IsLater, MayDrawObject}
+use Rattle.commit_path.specs.declared.commit.Tried.{Tried}
+use Rattle.commit_path.specs.declared.commit.Tried.TheVariants.{Done as Was_done, Lost}
+use Rattle.commit_path.specs.Committing.{commit_program}
+use Rattle.commit_path.specs.Owed.{Sessions, Owes, IsCareful}
+use Rattle.commit_path.specs.Answered.{WasMoved, CommitTells}
+use Rattle.commit_path.specs.Opened.{IsOpened}
+use Rattle.commit_path.specs.Single.{HasPutAlike}
+use Rattle.commit_path.proofs.Singling.{HasPutAlike-same}
+use Rattle.commit_path.proofs.Sources.{later-later}
+use Rattle.rebase.proofs.Alike.{moved-alike, up_to_date-alike}
+use Rattle.rebase.specs.declared.machine.Rebased.{Rebased}
+use Rattle.rebase.specs.declared.machine.Rebased.TheVariants.{Moved, UpToDate}
+use Rattle.rebase.specs.Laws.{RebaseLaw, GoesOn}
+use Rattle.rebase.specs.Rebasing.{rebase_program}
+use Rattle.rebase.specs.Telling.{HasMoved, WasUpToDate, RebaseTells}
+use Rattle.play_script.specs.declared.scripts.Head.{Head}
+use Rattle.play_script.specs.declared.scripts.Line.{Line}
+use Rattle.play_outcome.specs.declared.outcome.Shown.{Shown}
+use Rattle.play_outcome.specs.declared.outcome.End.{End}
+use Rattle.play_outcome.specs.declared.outcome.End.TheVariants.{Committed, Refused}
+use Rattle.play_outcome.specs.declared.outcome.Outcome.{Outcome}
+use Rattle.play_tasks.specs.Lines.{Commits, deed}
+use Rattle.play_tasks.specs.Playing.{tries_of, policy_of, ended, refused, after_commit, after_rebase, commit_play}
+use Rattle.play_tasks.specs.Solving.{WasLost, WasCarried}
+use Rattle.play_tasks.specs.Telling.{HasCommitted, WasCommitRefused, WasLostAtLast, WasNotRebased}
+use Rattle.play_tasks.proofs.Carrying.{Keeps-own, Keeps-both, Keeps-with, Leads-with, Leads-good, Leads-both, careful-more}
+use Rattle.play_tasks.proofs.Going.{Laws, GoesWell, ends-well, starved-well, called-well}
+use Rattle.play_tasks.proofs.Ready.{IsReady}
+use Rattle.play_tasks.proofs.Tried.{IsTried, WasCarried-append, other-spelled, other-opened}
+
+-- a get owes nothing
+get-owes : (ids : AnyIds) (mine : Sessions) (journal : List Event) (op : Op) → IsGet op → Owes ids mine journal op
+get-owes ids mine journal (Get key) g = tt
+get-owes ids mine journal _ g = absurd g
+
+module _ (L : Laws) (by : Caller) (ids : AnyIds) (head : Head) (from : SessionState → Type 0) (start : List Event) where
+  abbrev Mine : Sessions
+  Mine = IsTried from by.number head start
+
+  abbrev Nothing : List Event → Type 0
+  Nothing = ChangedNothing by.number start
+
+  abbrev policy : Policy
+  policy = policy_of head
+
+  module _ (l : Line) (ls : List Line) (s : SessionState) (shown : List Shown) (message : List ℕ) (commits : deed l.number l.call s ≡ Commits message) (utf8 : IsUtf8 message) (is_from : from s) where
+    abbrev Well : Play Outcome → List Event → Type 0
+    Well p journal = GoesWell by ids head Mine start (l ∷ ls) s shown p journal
+
+    -- how often the session was carried until here, and that it may commit
+    pub record Stands (count : ℕ) (t : SessionState) (journal : List Event) : Type 0 where
+      pub few : count ≤ tries_of head
+      pub carried : WasCarried by.number policy count s t start journal
+      pub alike : HasPutAlike by.number t start journal
+      pub ready : IsReady ids t journal
+      pub nothing : Nothing journal
+
+    -- how its commit ends the task
+    abbrev Ends : ℕ → SessionState → End → List Event → Type 0
+    Ends count t end journal =
+        HasCommitted by.number t message start end journal
+        ⊎ (WasCommitRefused by.number l.number t message start end journal ⊎ (WasLostAtLast by.number head l.number count t start end journal ⊎ WasNotRebased by.number head l.number count t start end journal))
+
+    tried : (count : ℕ) (t : SessionState) (end : End) (journal : List Event) → count ≤ tries_of head → WasCarried by.number policy count s t start journal → Ends count t end journal → Well (ended shown end) journal
+    tried count t end journal few c e =
+        ends-well by ids head Mine start (l ∷ ls) s shown end journal
+        (inr (inr (record { message = message; commits = commits; count = count; few = few; at_last = t; carried = c; ends = e })))
+
+    starved : (journal : List Event) → Nothing journal → Well (refused l.number shown NoMemory) journal
+    starved journal c = starved-well by ids head Mine start l ls s shown journal c
+
+    -- ---- one commit
+    module _ (count : ℕ) (t : SessionState) where
+      abbrev Carried : List Event → Type 0
+      Carried journal = WasCarried by.number policy count s t start journal
+
+      abbrev Answers : Result Tried Refusal → List Event → Type 0
+      Answers answer journal = Carried journal × ((IsOpened t journal × CommitTells by.number t message start answer journal) × HasPutAlike by.number t start journal)
+
+      carried-append : (journal more : List Event) → Carried journal → Carried (journal ++ more)
+      carried-append journal more c = WasCarried-append by.number policy count s t start journal more c
+
+      -- what is owed for this session is owed for one of the task
+      owed : count ≤ tries_of head → (journal : List Event) (op : Op)
+          → Carried journal × (HasPutAlike by.number t start journal × IsCareful ids (λ h u id. (u ≡ t) × MayDrawObject t.ids id) journal by.number op) → IsCareful ids Mine journal by.number op
+      owed few journal op k =
+          careful-more ids (λ h u id. (u ≡ t) × MayDrawObject t.ids id) Mine journal
+          (λ u id is. subst (λ (x : SessionState). Mine journal x id) (sym is.0) (record { session = s; is_from = is_from; count = count; few = few; carried = k.0; alike = k.1.0; drawn = is.1 }))
+          by.number op k.1.1
+
+      answered : count ≤ tries_of head → (lost : Version → Option Version → AnyIds → Play Outcome)
+          → ((old : Version) (found : Option Version) (next : AnyIds) (h : List Event) → WasMoved by.number t old found next start h → Carried h → IsOpened t h → HasPutAlike by.number t start h → Well (lost old found next) h)
+          → (answer : Result Tried Refusal) (h : List Event) → Answers answer h → Well (after_commit l.number shown lost answer) h
+      answered few lost go (Ok (Was_done made)) h q = tried count t (Committed made.id) h few q.0 (inl (record { made = made; took = q.1.0.1; end_is = refl }))
+      answered few lost go (Ok (Lost old found next)) h q = go old found next h q.1.0.1 q.0 q.1.0.0 q.1.1
+      answered few lost go (Err why) h q = tried count t (Refused l.number why) h few q.0 (inr (inl (record { why = why; tells = q.1.0.1; end_is = refl })))
+
+      commit-called : (journal : List Event) → Stands count t journal → (lost : Version → Option Version → AnyIds → Play Outcome)
+          → ((old : Version) (found : Option Version) (next : AnyIds) (h : List Event) → WasMoved by.number t old found next start h → Carried h → IsOpened t h → HasPutAlike by.number t start h → Well (lost old found next) h)
+          → Well (call (commit_program t message) (after_commit l.number shown lost)) journal
+      commit-called journal x lost go =
+          let p = commit_program t message in
+          let law = L.commit by ids t message start journal x.ready.later utf8 x.ready.spelled x.ready.opened x.nothing in
+          let single = L.single.commit by t message start journal utf8 x.ready.spelled x.ready.opened x.alike in
+          let own : Sessions = λ h u id. (u ≡ t) × MayDrawObject t.ids id in
+          let put : List Event → ℕ → Op → Type 0 = λ h client op. HasPutAlike client t start h in
+          let keeps = Keeps-with Carried carried-append by (λ h client op. put h client op × IsCareful ids own h client op) p journal x.carried (Keeps-both put (IsCareful ids own) by p journal single.0 law.0) in
+          let knows = Leads-good (IsOpened t) (λ h more g o. L.session.kept t h more g o) ids own by (CommitTells by.number t message start) p journal law.0 x.ready.opened law.2 in
+          let tells = Leads-both (λ answer h. IsOpened t h × CommitTells by.number t message start answer h) (λ answer h. HasPutAlike by.number t start h) by p journal knows single.1 in
+          called-well by ids head Mine start (l ∷ ls) s shown p (after_commit l.number shown lost) Answers journal
+          (Keeps-own (λ h client op. Carried h × (put h client op × IsCareful ids own h client op)) (IsCareful ids Mine) by (owed x.few) p journal keeps)
+          law.1
+          (Leads-with Carried carried-append by (λ answer h. (IsOpened t h × CommitTells by.number t message start answer h) × HasPutAlike by.number t start h) p journal x.carried tells)
+          (answered x.few lost go)
+          starved
+
+    -- ---- it was lost, and isn't tried again
+    spent-well : (count : ℕ) (t : SessionState) → count ≡ tries_of head → (old : Version) (found : Option Version) (next : AnyIds) (h : List Event) → WasMoved by.number t old found next start h → WasCarried by.number policy count s t start h
+        → Well (refused l.number shown (Conflict old found)) h
+    spent-well count t spent old found next h moved c =
+        let few : count ≤ tries_of head = omega (arith, spent) in
+        tried count t (Refused l.number (Conflict old found)) h few c (inr (inr (inl (record { spent = spent; old = old; found = found; next = next; moved = moved; end_is = refl }))))
+
+    -- ---- it was lost, and is tried again
+    module _ (count : ℕ) (t : SessionState) (less : count < tries_of head) (old : Version) (found : Option Version) (next : AnyIds) (h : List Event) (moved : WasMoved by.number t old found next start h) (c : WasCarried by.number policy count s t start h)
+        (ready : IsReady ids t h) (alike : HasPutAlike by.number t start h) where
+      abbrev lost : SessionState
+      lost = record t { ids = next }
+
+      abbrev law : RebaseLaw by policy lost
+      law = L.rebase by policy lost
+
+      abbrev since : List Event
+      since = moved.nothing.more
+
+      abbrev there : h ≡ start ++ since
+      there = moved.nothing.is
+
+      was_lost : WasLost by.number t lost start (start ++ since)
+      was_lost = record { old = old; found = found; next = next; moved = subst (λ (x : List Event). WasMoved by.number t old found next start x) there moved; becomes = refl }
+
+      tells : (answer : Result Rebased Refusal) (journal : List Event) → RebaseTells by.number policy lost h answer journal → RebaseTells by.number policy lost (start ++ since) answer journal
+      tells answer journal w = subst (λ (x : List Event). RebaseTells by.number policy lost x answer journal) there w
+
+      nothing : (journal : List Event) → MadeGets by.number h journal → Nothing journal
+      nothing journal gets = (law.quiet start h journal gets).0 moved.nothing
+
+      -- the snapshots that the client put are still of sessions that added and dropped the same nodes
+      puts : (journal : List Event) → MadeGets by.number h journal → HasPutAlike by.number lost start journal
+      puts journal gets = law.alike lost start h journal gets (HasPutAlike-same by.number t lost start h refl refl alike)
+
+      -- the session that was rebased may commit
+      carried : (u : SessionState) (journal : List Event) → ((n : ℕ) × HasMoved by.number policy lost u n (start ++ since) journal) ⊎ WasUpToDate by.number lost u (start ++ since) journal → WasCarried by.number policy (suc count) s u start journal
+      unfolding WasCarried
+      carried u journal w = (t, lost, since, subst (λ (x : List Event). WasCarried by.number policy count s t start x) there c, was_lost, w)
+
+      stands : (u : SessionState) (journal : List Event) → MadeGets by.number h journal → ((n : ℕ) × HasMoved by.number policy lost u n (start ++ since) journal) ⊎ WasUpToDate by.number lost u (start ++ since) journal
+          → HasPutAlike by.number u start journal → u.ids ≡ next → GoesOn (Ok (UpToDate u)) journal → Stands (suc count) u journal
+      stands u journal gets w put drawn goes = record {
+        few = less;
+        carried = carried u journal w;
+        alike = put;
+        ready = record { opened = goes.1; spelled = goes.0; later = subst (IsLater ids) (sym drawn) (later-later ids t.ids next ready.later moved.next_is) };
+        nothing = nothing journal gets;
+      }
+
+      abbrev Rebases : Result Rebased Refusal → List Event → Type 0
+      Rebases answer journal = RebaseTells by.number policy lost h answer journal × GoesOn answer journal
+
+      rebased : (again : SessionState → Play Outcome) → ((u : SessionState) (journal : List Event) → Stands (suc count) u journal → Well (again u) journal)
+          → (answer : Result Rebased Refusal) (journal : List Event) → Rebases answer journal → Well (after_rebase l.number shown again answer) journal
+      unfolding PlayKeeps PlayLeads
+      rebased again go (Ok (Moved u n)) journal q =
+          let w = (tells (Ok (Moved u n)) journal q.0).0 in
+          let put = moved-alike by.number policy lost u n (start ++ since) journal start journal w (puts journal q.0.1) in
+          let on = go u journal (stands u journal q.0.1 (inl (n, w)) put (ap (λ (x : SessionState). x.ids) w.becomes) q.1) in
+          let off = starved journal (nothing journal q.0.1) in
+          ((on.0, off.0), (on.1, off.1))
+      rebased again go (Ok (UpToDate u)) journal q =
+          let w = (tells (Ok (UpToDate u)) journal q.0).0 in
+          let put = up_to_date-alike by.number lost u (start ++ since) journal start journal w (puts journal q.0.1) in
+          let on = go u journal (stands u journal q.0.1 (inr w) put (ap (λ (x : SessionState). x.ids) w.becomes) q.1) in
+          let off = starved journal (nothing journal q.0.1) in
+          ((on.0, off.0), (on.1, off.1))
+      rebased again go (Err why) journal q =
+          let few : count ≤ tries_of head = omega (arith, less) in
+          let c' = subst (λ (x : List Event). WasCarried by.number policy count s t start x) (sym q.0.1.is) (WasCarried-append by.number policy count s t start h q.0.1.more c) in
+          tried count t (Refused l.number why) journal few c'
+          (inr (inr (inr (record { left = less; lost = lost; since = since; was_lost = was_lost; alike = puts journal q.0.1; why = why; tells = tells (Err why) journal q.0; nothing = nothing journal q.0.1; end_is = refl }))))
+
+      rebase-called : (again : SessionState → Play Outcome) → ((u : SessionState) (journal : List Event) → Stands (suc count) u journal → Well (again u) journal) → Well (call (rebase_program policy lost) (after_rebase l.number shown again)) h
+      rebase-called again go =
+          let p = rebase_program policy lost in
+          let both = Keeps-both (λ j client op. IsPolite j op) (λ j client op. IsGet op) by p h (law.told.polite h) (law.gets h) in
+          called-well by ids head Mine start (l ∷ ls) s shown p (after_rebase l.number shown again) Rebases h
+          (Keeps-own (λ j client op. IsPolite j op × IsGet op) (IsCareful ids Mine) by (λ j op k. record { polite = k.0; owes = get-owes ids Mine j op k.1 }) p h both)
+          (law.stays start h moved.nothing)
+          (Leads-both (RebaseTells by.number policy lost h) GoesOn by p h (law.told.leads h) (law.goes_on h (other-spelled t next ready.spelled) (other-opened t next h ready.opened)))
+          (rebased again go)
+          starved
+
+    -- ---- as often as it may
+    pub tries-well : (left count : ℕ) → count + left ≡ tries_of head → (t : SessionState) (journal : List Event) → Stands count t journal → Well (commit_play left policy l.number shown message t) journal
+    unfolding commit_play
+    tries-well zero count all t journal x =
+        let spent : count ≡ tries_of head = omega (arith, all) in
+        commit-called count t journal x (λ old found next. refused l.number shown (Conflict old found)) (λ old found next h moved c opened alike. spent-well count t spent old found next h moved c)
+    tries-well (suc left) count all t journal x =
+        let more : suc count + left ≡ tries_of head = omega (arith, all) in
+        let less : count < tries_of head = omega (arith, all) in
+        commit-called count t journal x (λ old found next. call (rebase_program policy (record t { ids = next })) (after_rebase l.number shown (commit_play left policy l.number shown message)))
+        (λ old found next h moved c opened alike.
+        rebase-called count t less old found next h moved c (record { opened = opened; spelled = x.ready.spelled; later = x.ready.later }) alike (commit_play left policy l.number shown message)
+        (λ u j y. tries-well left (suc count) more u j y))
