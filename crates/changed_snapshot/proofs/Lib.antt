@@ -1,3 +1,4 @@
+pub mod Walks
 pub mod Found
 pub mod NodesHold
 pub mod Entered

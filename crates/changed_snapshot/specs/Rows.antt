@@ -11,7 +11,7 @@ use Rattle.ice_ids.specs.Text.{same_id8, same_id12, id12_cmp}
 use Rattle.zarr_path.specs.Paths.{same_path}
 use Rattle.zarr_meta.specs.declared.views.ArrayView.{ArrayView}
 use Rattle.zarr_tree.specs.Nodes.{Node, array_in}
-use Rattle.zarr_tree.specs.Held.{Held, nodes_over}
+use Rattle.zarr_tree.specs.Held.{Held, Rows, nodes_over}
 use Rattle.snapshot_file.specs.declared.nodes.ManifestRef.{ManifestRef}
 use Rattle.snapshot_file.specs.declared.nodes.NodeKind.{NodeKind}
 use Rattle.snapshot_file.specs.declared.nodes.NodeKind.TheVariants.{Group, Array}
@@ -76,9 +76,13 @@ abbrev pub row_over : (path : List ℕ) → Node → (old : Option NodeRow) → 
 row_over p n old None = row_from p n old
 row_over p n old (Some manifests) = row_of p n manifests
 
+-- the rows of nodes, over these rows and with the new lists
+abbrev pub rows_of : List NewList → List NodeRow → Rows → List NodeRow
+rows_of news rows nodes = map (λ node. row_over node.0 node.1 (row_at rows node.0) (new_list news node.0)) nodes
+
 -- the rows of a tree's nodes under what is held, with the new lists
 unfoldable pub rows_over : {P : Type 0} → Held P → List NewList → List NodeRow → List NodeRow
-rows_over h news rows = map (λ entry. row_over entry.0 entry.1 (row_at rows entry.0) (new_list news entry.0)) (entries (nodes_over h (nodes_in rows)))
+rows_over h news rows = rows_of news rows (entries (nodes_over h (nodes_in rows)))
 
 -- ---- files
 

@@ -6,11 +6,11 @@ ghost use Rattle.ice_ids.specs.declared.Id12.{Id12 as TheId};
 ghost use Rattle.changed_snapshot.specs.Rows.{infos_of, files_with, names_in, files_over};
 ghost use Rattle.changed_snapshot.specs.inside.Named.{has_id, have_id, files_by_id};
 
-use crate::rows::manifests_of;
+use crate::rows::{RowsOver, manifests_of};
 use crate::written::NewList;
 use ice_ids::Id12;
 use ice_items::Items;
-use snapshot_file::{ManifestInfo, ManifestRef, NodeRow};
+use snapshot_file::{ManifestInfo, ManifestRef, RowSource};
 use std::alloc::{AllocError, Global};
 use std::collections::{BTreeMap, BTreeSet};
 
@@ -68,11 +68,12 @@ fn enter(ids: &mut BTreeSet<Id12>, manifests: &[ManifestRef]) -> Result<(), Allo
 }
 
 /// The ids of the manifests that rows name.
-fn named(alloc: Global, rows: &[NodeRow]) -> Result<BTreeSet<Id12>, AllocError>
+fn named(alloc: Global, rows: &RowsOver) -> Result<BTreeSet<Id12>, AllocError>
     ensures { IfOk result (λ ids. (id : TheId) → has_id ids.keys id ≡ names_in rows.now id) }
 {
     let mut ids = BTreeSet::new(alloc);
-    for row in rows {
+    for at in 0..rows.len() {
+        let row = rows.row(alloc, at)?;
         enter(&mut ids, manifests_of(&row.kind))?;
     }
     Ok(ids)
@@ -82,12 +83,15 @@ fn named(alloc: Global, rows: &[NodeRow]) -> Result<BTreeSet<Id12>, AllocError>
 pub(crate) fn files_over(
     alloc: Global,
     files: &[ManifestInfo],
-    rows: &[NodeRow],
+    rows: &RowsOver,
 ) -> Result<Items<ManifestInfo>, AllocError>
     ensures { IfOk result (λ kept. kept ≡ files_over files.now rows.now) }
 {
-    let ids = named(alloc, rows)?;
     let mut kept = Vec::new(alloc);
+    if files.is_empty() {
+        return Ok(Items::from_vec(kept));
+    }
+    let ids = named(alloc, rows)?;
     for file in files {
         if ids.contains(&file.id) {
             kept.push(*file)?;

@@ -14,10 +14,11 @@ use crate::names::copy_names;
 use crate::written::{NewList, NewManifest};
 use ice_items::Items;
 use repo_objects::Loaded;
-use snapshot_file::{ManifestRef, NodeKind, NodeRow, Shape, copy_manifests};
+use snapshot_file::{ManifestRef, NodeKind, NodeRow, RowSource, Shape, copy_manifests};
 use std::alloc::{AllocError, Global};
 use std::cmp::Ordering;
-use zarr_changes::ChangeSet;
+use std::marker::Model;
+use zarr_changes::{ChangeSet, Row};
 use zarr_meta::{ArrayView, View};
 use zarr_path::Path;
 use zarr_tree::Found;
@@ -179,22 +180,58 @@ fn row_over(
     }
 }
 
+/// The rows of nodes over those of a base, with new lists, each made where it is asked for. Contracts see the rows.
+#[derive(Drop)]
+pub(crate) struct RowsOver<'a> {
+    old: &'a [NodeRow],
+    news: &'a [NewList],
+    nodes: Vec<Row<'a>>,
+}
+
+impl<'a> Model for RowsOver<'a> {
+    ghost use Rattle.std.specs.Prelude.{List, map, None};
+    ghost use Rattle.flat_tables.specs.Rows.{Ascends};
+    ghost use Rattle.snapshot_file.specs.declared.nodes.NodeRow.{NodeRow as TheRow};
+    ghost use Rattle.snapshot_file.specs.Snapshots.{node_key};
+    ghost use Rattle.zarr_changes.specs.Rows.{row_found, ArePaths};
+    ghost use Rattle.changed_snapshot.specs.Rows.{list_key, rows_of};
+
+    ghost Value = { List TheRow };
+
+    ghost view = { λ r. rows_of r.news.now r.old.now (map row_found r.nodes.items) };
+
+    ghost invariant = { λ r. Ascends node_key None r.old.now × Ascends list_key None r.news.now × ArePaths (map row_found r.nodes.items) };
+}
+
+impl<'a> RowSource for RowsOver<'a> {
+    ghost rows = { λ rows. rows };
+
+    fn len(&self) -> usize {
+        self.nodes.len()
+    }
+
+    fn row(&self, alloc: Global, at: usize) -> Result<NodeRow, AllocError> {
+        let (path, found) = self.nodes[at];
+        row_over(alloc, self.old, self.news, path, &found)
+    }
+}
+
 /// The rows of a base's nodes under changes, with these new lists.
 #[tactic(auto, unfolding(crate::specs::Rows::rows_over))]
-pub(crate) fn rows_over(
+pub(crate) fn rows_over<'a>(
     alloc: Global,
-    base: &Loaded,
-    changes: &ChangeSet,
-    news: &[NewList],
-) -> Result<Items<NodeRow>, AllocError>
+    base: &'a Loaded,
+    changes: &'a ChangeSet,
+    news: &'a [NewList],
+) -> Result<RowsOver<'a>, AllocError>
     requires { Ascends list_key None news.now }
     ensures { IfOk result (λ rows. rows ≡ rows_over changes.now news.now base.now.nodes) }
 {
     let old = base.file().nodes.as_slice();
     let mut left = changes.over(base);
-    let mut rows = Vec::with_capacity(alloc, old.len())?;
-    while let Some((path, found)) = left.next() {
-        rows.push(row_over(alloc, old, news, path, &found)?)?;
+    let mut nodes = Vec::with_capacity(alloc, old.len())?;
+    while let Some(row) = left.next() {
+        nodes.push(row)?;
     }
-    Ok(Items::from_vec(rows))
+    Ok(RowsOver { old, news, nodes })
 }

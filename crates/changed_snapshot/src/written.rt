@@ -17,7 +17,7 @@ use ice_base::{Bytes, Text};
 use ice_ids::Id12;
 use ice_items::Items;
 use repo_objects::Loaded;
-use snapshot_file::{Extents, SnapshotFile};
+use snapshot_file::{Extents, SnapshotHead, write_rows};
 use std::alloc::Global;
 use zarr_changes::ChangeSet;
 use zarr_path::Path;
@@ -77,16 +77,15 @@ pub fn write_over(
     requires lists { Ascends list_key None news.now }
     ensures { Writes result (snapshot_bytes (snapshot_over changes.now news.now base.now.nodes base.now.manifest_files stamp message.now)) }
 {
-    let nodes = rows_over(alloc, base, changes, news)?;
+    let rows = rows_over(alloc, base, changes, news)?;
     let files = files_with(alloc, base.file().manifest_files.as_slice(), news)?;
-    let manifest_files = files_over(alloc, files.as_slice(), nodes.as_slice())?;
-    let file = SnapshotFile {
+    let manifest_files = files_over(alloc, files.as_slice(), &rows)?;
+    let head = SnapshotHead {
         id: stamp.id,
         parent: Some(stamp.parent),
-        nodes,
         flushed_at: stamp.flushed_at,
-        message: message.copy(alloc)?,
-        manifest_files,
+        message,
+        manifest_files: &manifest_files,
     };
-    Ok(Bytes::from_vec(snapshot_file::write(alloc, &file)?))
+    Ok(Bytes::from_vec(write_rows(alloc, &head, &rows)?))
 }

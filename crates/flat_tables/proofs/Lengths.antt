@@ -168,9 +168,8 @@ exact told e len is fits = omega arith
 
 -- ---- a table is its head and what is beneath it
 
-pub head_length : (f : Flat) (e : ℕ) → e + length (table_head (map part_of f.slots.items) e) ≡ table_place (length f.slots.items) e + fields_end (map part_of f.slots.items) 4
-head_length f e =
-    let ps = map part_of f.slots.items in
+pub parts_head_length : (ps : List Part) (e : ℕ) → AllByRecursion IsSized ps → e + length (table_head ps e) ≡ table_place (length ps) e + fields_end ps 4
+parts_head_length ps e sized =
     let n = length ps in
     let m = fields_end ps 4 in
     let g = gap_to 8 (e + (4 + 2 * n)) in
@@ -181,7 +180,10 @@ head_length f e =
     let b = a ++ to_le_bytes w16 m in
     let c = b ++ es in
     let d = c ++ to_le_bytes w32 (4 + 2 * n) in
-    rw (← length-map f.slots.items part_of) (omega (arith, length-append d fs, length-append c (to_le_bytes w32 (4 + 2 * n)), length-append b es, length-append a (to_le_bytes w16 m), length-append (zeros g) (to_le_bytes w16 (4 + 2 * n)), length-replicate {A = ℕ} g 0, length_entries ps 4, length_fields ps t (parts_sized f.slots.items) 4 (t + m)))
+    omega (arith, length-append d fs, length-append c (to_le_bytes w32 (4 + 2 * n)), length-append b es, length-append a (to_le_bytes w16 m), length-append (zeros g) (to_le_bytes w16 (4 + 2 * n)), length-replicate {A = ℕ} g 0, length_entries ps 4, length_fields ps t sized 4 (t + m))
+
+pub head_length : (f : Flat) (e : ℕ) → e + length (table_head (map part_of f.slots.items) e) ≡ table_place (length f.slots.items) e + fields_end (map part_of f.slots.items) 4
+head_length f e = rw (← length-map f.slots.items part_of) (parts_head_length (map part_of f.slots.items) e (parts_sized f.slots.items))
 
 pub table_split : (f : Flat) (e : ℕ) → (layout f).bytes e ≡ table_head (map part_of f.slots.items) e ++ all_beneath (map part_of f.slots.items) (e + length (table_head (map part_of f.slots.items) e))
 unfolding table_block

@@ -8,3 +8,5 @@ pub mod Folds
 pub mod Lengths
 pub mod Again
 pub mod Building
+pub mod Sources
+pub mod Frames

@@ -4,4 +4,5 @@ pub mod Rows
 pub mod Header
 pub mod File
 pub mod Layout
+pub mod Frames
 pub mod Trees

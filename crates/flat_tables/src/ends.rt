@@ -1,5 +1,5 @@
 ghost use Rattle.std.specs.Prelude.{◌≡◌, ◌+◌, ◌*◌, ◌<◌, ◌≤◌, length, map, max, IsTrue, All};
-ghost use Rattle.flat_tables.specs.Layout.{gap_to, fields_end};
+ghost use Rattle.flat_tables.specs.Layout.{gap_to, fields_end, all_beneath};
 ghost use Rattle.flat_tables.specs.Trees.{layout, part_of, is_writable, is_writable_slot, capped, HasShape};
 
 use crate::flat::{Flat, Slot};
@@ -27,14 +27,14 @@ pub fn shape(slot: &Slot) -> Option<(usize, usize)>
     }
 }
 
-/// Where the fields of a table end, from its place.
-pub fn slots_end(slots: &[Slot]) -> usize
+/// Where fields end that stand from `from` on, both from their table's place.
+pub fn slots_end(slots: &[Slot], from: usize) -> usize
     requires writable { All (λ s. IsTrue (is_writable_slot s)) slots.now }
-    requires few { length slots.now ≤ 64 }
-    ensures end { result ≡ fields_end (map part_of slots.now) 4 }
-    ensures small { result < 20000 }
+    requires few { from + 262 * length slots.now < 20000 }
+    ensures end { result ≡ fields_end (map part_of slots.now) from }
+    ensures small { result ≤ from + 262 * length slots.now }
 {
-    let mut end = 4;
+    let mut end = from;
     for slot in slots {
         if let Some((align, size)) = shape(slot) {
             end = end + gap_to(align, end) + size;
@@ -68,7 +68,7 @@ pub fn table_end(flat: &Flat, from: usize) -> usize
     ensures { result ≡ capped (from + length ((layout flat.now).bytes from)) }
 {
     let head = 4 + 2 * flat.slots.len();
-    let mut end = block_end(from, 8, head, head + slots_end(&flat.slots));
+    let mut end = block_end(from, 8, head, head + slots_end(&flat.slots, 4));
     for slot in &flat.slots {
         end = beneath_end(slot, end);
     }
@@ -100,8 +100,31 @@ pub fn beneath_end(slot: &Slot, from: usize) -> usize
     }
 }
 
+/// Where all that is beneath fields ends, if it is appended at `from`.
+pub fn all_end(slots: &[Slot], from: usize) -> usize
+    requires { All (λ s. IsTrue (is_writable_slot s)) slots.now }
+    ensures { result ≡ capped (from + length (all_beneath (map part_of slots.now) from)) }
+{
+    let mut end = from;
+    for slot in slots {
+        end = beneath_end(slot, end);
+    }
+    end
+}
+
+/// The place of a table that is appended at `from`.
+pub fn place_of(flat: &Flat, from: usize) -> usize
+    requires { IsTrue (is_writable flat.now) }
+    ensures place { result ≡ capped ((layout flat.now).place from) }
+    ensures after { from ≤ result }
+    ensures small { result ≤ from + 200 }
+{
+    let head = 4 + 2 * flat.slots.len();
+    block_end(from, 8, head, head)
+}
+
 /// Where the offsets of a vector of so many tables end, if it is appended at `from`.
-fn offsets_end(count: usize, from: usize) -> usize
+pub fn offsets_end(count: usize, from: usize) -> usize
     ensures { result ≡ capped (from + gap_to 4 (from + 4) + 4 + 4 * count) }
 {
     block_end(from, 4, 4, count.saturating_mul(4).saturating_add(4))

@@ -1,5 +1,7 @@
-ghost use Rattle.std.specs.Prelude.{◌≡◌, ◌≤◌, OnOk, length};
+ghost use Rattle.std.specs.Prelude.{◌≡◌, ◌≤◌, ◌++◌, OnOk, IfOk, length};
 ghost use Rattle.flat_tables.specs.Header.{header, kind_of};
+
+use std::alloc::AllocError;
 
 /// What a file holds.
 #[derive(Clone, Copy, Debug, PartialEq, Eq)]
@@ -82,4 +84,15 @@ pub fn header_read(file: &[u8]) -> Result<Kind, HeaderFault>
         return Err(HeaderFault::Compression(file[38]));
     }
     Ok(kind)
+}
+
+/// The file of this kind with this payload, in place: no memory is taken where the payload has room for a header.
+pub fn with_header(kind: Kind, payload: Vec<u8>) -> Result<Vec<u8>, AllocError>
+    ensures { IfOk result (λ file. file.items ≡ header kind ++ payload.items) }
+{
+    let mut file = payload;
+    let len = file.len();
+    file.extend_from_slice(&header_write(kind))?;
+    file.rotate_left(len);
+    Ok(file)
 }

@@ -13,13 +13,17 @@
 mod ends;
 mod fault;
 mod flat;
+mod framing;
 mod header;
 mod place;
+mod source;
 mod table;
 mod writing;
 
 pub use fault::{FileFault, FlatFault, WriteFault};
 pub use flat::{Flat, Slot};
-pub use header::{FILE_LIMIT, HEADER, HeaderFault, Kind, header_read, header_write};
+pub use framing::framed_write;
+pub use header::{FILE_LIMIT, HEADER, HeaderFault, Kind, header_read, header_write, with_header};
+pub use source::TableSource;
 pub use table::{Table, Vector};
 pub use writing::flat_write;

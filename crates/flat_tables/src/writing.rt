@@ -4,14 +4,14 @@ ghost use Rattle.flat_tables.specs.Layout.{Part, payload, zeros, fields_end, ent
 ghost use Rattle.flat_tables.specs.Trees.{layout, part_of, is_writable, is_writable_slot, capped};
 ghost use Rattle.flat_tables.specs.File.{Writes};
 
-use crate::ends::{beneath_end, gap_to, shape, slots_end, table_end, vector_align};
+use crate::ends::{beneath_end, gap_to, place_of, shape, slots_end, table_end, vector_align};
 use crate::fault::WriteFault;
 use crate::flat::{Flat, Slot};
 use crate::header::{FILE_LIMIT, HEADER};
 use std::alloc::{AllocError, Global};
 
 /// Appends so many zero bytes.
-fn push_zeros(out: &mut Vec<u8>, count: usize) -> Result<(), AllocError>
+pub fn push_zeros(out: &mut Vec<u8>, count: usize) -> Result<(), AllocError>
     ensures { OnOk result (out.new.items ≡ out.old.items ++ zeros count) }
 {
     for _ in 0..count {
@@ -21,7 +21,7 @@ fn push_zeros(out: &mut Vec<u8>, count: usize) -> Result<(), AllocError>
 }
 
 /// Appends a little-endian number of 16 bits.
-fn push_u16(out: &mut Vec<u8>, n: usize) -> Result<(), AllocError>
+pub fn push_u16(out: &mut Vec<u8>, n: usize) -> Result<(), AllocError>
     requires { n < 2 ^ 16 }
     ensures { OnOk result (out.new.items ≡ out.old.items ++ to_le_bytes w16 n) }
 {
@@ -29,7 +29,7 @@ fn push_u16(out: &mut Vec<u8>, n: usize) -> Result<(), AllocError>
 }
 
 /// Appends a little-endian number of 32 bits.
-fn push_u32(out: &mut Vec<u8>, n: usize) -> Result<(), AllocError>
+pub fn push_u32(out: &mut Vec<u8>, n: usize) -> Result<(), AllocError>
     requires { n < 2 ^ 32 }
     ensures { OnOk result (out.new.items ≡ out.old.items ++ to_le_bytes w32 n) }
 {
@@ -45,13 +45,13 @@ fn push_scalar(out: &mut Vec<u8>, size: usize, value: u64) -> Result<(), AllocEr
     out.extend_from_slice(&bytes[..size])
 }
 
-/// The vtable's entries.
-fn put_entries(out: &mut Vec<u8>, slots: &[Slot]) -> Result<(), AllocError>
+/// The vtable's entries of fields that stand from `from` on.
+pub fn put_entries(out: &mut Vec<u8>, slots: &[Slot], from: usize) -> Result<(), AllocError>
     requires writable { All (λ s. IsTrue (is_writable_slot s)) slots.now }
-    requires few { length slots.now ≤ 64 }
-    ensures { OnOk result (out.new.items ≡ out.old.items ++ entries (map part_of slots.now) 4) }
+    requires few { from + 262 * length slots.now < 20000 }
+    ensures { OnOk result (out.new.items ≡ out.old.items ++ entries (map part_of slots.now) from) }
 {
-    let mut end = 4;
+    let mut end = from;
     for slot in slots {
         match shape(slot) {
             None => push_u16(out, 0)?,
@@ -116,20 +116,21 @@ fn put_part(
     }
 }
 
-/// The fields of the table at `place`, with all beneath them appended at `below`.
-fn put_fields(
+/// The fields of the table at `place` that stand from `from` on, with all beneath them appended at `below`.
+pub fn put_fields(
     out: &mut Vec<u8>,
     slots: &[Slot],
+    from: usize,
     place: usize,
     below: usize,
 ) -> Result<(), AllocError>
     requires writable { All (λ s. IsTrue (is_writable_slot s)) slots.now }
-    requires few { length slots.now ≤ 64 }
-    requires before { place + fields_end (map part_of slots.now) 4 ≤ below }
+    requires few { from + 262 * length slots.now < 20000 }
+    requires before { place + fields_end (map part_of slots.now) from ≤ below }
     requires fits { below + length (all_beneath (map part_of slots.now) below) ≤ 268435417 }
-    ensures { OnOk result (out.new.items ≡ out.old.items ++ fields (map part_of slots.now) 4 place below) }
+    ensures { OnOk result (out.new.items ≡ out.old.items ++ fields (map part_of slots.now) from place below) }
 {
-    let mut end = 4;
+    let mut end = from;
     let mut next = below;
     for slot in slots {
         end = put_part(out, slot, place, end, next)?;
@@ -148,19 +149,19 @@ fn put_head(out: &mut Vec<u8>, slots: &[Slot]) -> Result<(), AllocError>
     let from = out.len();
     let head = 4 + 2 * slots.len();
     let gap = gap_to(8, from + head);
-    let end = slots_end(slots);
+    let end = slots_end(slots, 4);
     push_zeros(out, gap)?;
     push_u16(out, head)?;
     push_u16(out, end)?;
-    put_entries(out, slots)?;
+    put_entries(out, slots, 4)?;
     push_u32(out, head)?;
     let place = from + gap + head;
-    put_fields(out, slots, place, place + end)
+    put_fields(out, slots, 4, place, place + end)
 }
 
 /// A table with all beneath it.
 #[cycle(put)]
-fn put_table(out: &mut Vec<u8>, flat: &Flat) -> Result<(), AllocError>
+pub fn put_table(out: &mut Vec<u8>, flat: &Flat) -> Result<(), AllocError>
     requires writable { IsTrue (is_writable flat.now) }
     requires fits { length out.old.items + length ((layout flat.now).bytes (length out.old.items)) ≤ 268435417 }
     ensures { OnOk result (out.new.items ≡ out.old.items ++ (layout flat.now).bytes (length out.old.items)) }
@@ -194,6 +195,18 @@ fn put_beneath(out: &mut Vec<u8>, slot: &Slot) -> Result<(), AllocError>
             Ok(())
         }
     }
+}
+
+/// All that is beneath fields.
+pub fn put_all(out: &mut Vec<u8>, slots: &[Slot]) -> Result<(), AllocError>
+    requires writable { All (λ s. IsTrue (is_writable_slot s)) slots.now }
+    requires fits { length out.old.items + length (all_beneath (map part_of slots.now) (length out.old.items)) ≤ 268435417 }
+    ensures { OnOk result (out.new.items ≡ out.old.items ++ all_beneath (map part_of slots.now) (length out.old.items)) }
+{
+    for slot in slots {
+        put_beneath(out, slot)?;
+    }
+    Ok(())
 }
 
 /// A string.
@@ -255,18 +268,6 @@ fn put_offsets_from(
     Ok(())
 }
 
-/// The place of a table that is appended at `from`.
-fn place_of(flat: &Flat, from: usize) -> usize
-    requires writable { IsTrue (is_writable flat.now) }
-    requires within { from ≤ 268435417 }
-    ensures place { result ≡ (layout flat.now).place from }
-    ensures after { from ≤ result }
-    ensures small { result ≤ from + 200 }
-{
-    let head = 4 + 2 * flat.slots.len();
-    from + gap_to(8, from + head) + head
-}
-
 /// The length of the file that has this payload.
 fn file_len(value: &Flat) -> usize
     requires { IsTrue (is_writable value.now) }
@@ -290,7 +291,7 @@ pub fn flat_write(alloc: Global, value: &Flat) -> Result<Vec<u8>, WriteFault>
     if len > FILE_LIMIT {
         return Err(WriteFault::TooLarge(len));
     }
-    let mut out = Vec::new(alloc);
+    let mut out = Vec::with_capacity(alloc, len)?;
     push_u32(&mut out, place_of(value, 4))?;
     put_table(&mut out, value)?;
     Ok(out)

@@ -1,3 +1,4 @@
+pub mod Told
 pub mod Infos
 pub mod NodesAgain
 pub mod Again

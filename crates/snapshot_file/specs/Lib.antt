@@ -1,5 +1,6 @@
 pub mod Nodes
 pub mod Snapshots
 pub mod Layout
+pub mod Heads
 pub mod Initial
 pub mod Laws

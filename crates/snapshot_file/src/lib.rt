@@ -16,6 +16,7 @@ mod nodes;
 mod numbers;
 mod reading;
 mod snapshot;
+mod sources;
 mod writing;
 
 pub use copies::{copy_manifests, copy_names};
@@ -24,5 +25,6 @@ pub use laws::read_law;
 pub use lists::{Extents, Names, Shape};
 pub use nodes::{ManifestRef, NodeKind, NodeRow};
 pub use reading::read;
-pub use snapshot::{ManifestInfo, NODE_LIMIT, SnapshotFile};
-pub use writing::write;
+pub use snapshot::{ManifestInfo, NODE_LIMIT, SnapshotFile, SnapshotHead};
+pub use sources::RowSource;
+pub use writing::{write, write_rows};

@@ -31,5 +31,20 @@ pub struct SnapshotFile {
     pub manifest_files: Items<ManifestInfo>,
 }
 
+/// What a snapshot says beside its nodes.
+#[derive(Clone, Copy, Debug)]
+pub struct SnapshotHead<'a> {
+    /// The snapshot's own id.
+    pub id: Id12,
+    /// The snapshot that it followed, and `None` of the first one.
+    pub parent: Option<Id12>,
+    /// When it was flushed, in microseconds.
+    pub flushed_at: u64,
+    /// The message of its commit.
+    pub message: &'a Text,
+    /// The manifests that its nodes name, in the strict order of their ids' bytes.
+    pub manifest_files: &'a Items<ManifestInfo>,
+}
+
 /// The most nodes of a snapshot.
 pub const NODE_LIMIT: usize = 65_536;

@@ -6,30 +6,17 @@ ghost use Rattle.flat_tables.specs.Trees.{layout, part_of, is_writable, is_writa
 ghost use Rattle.ice_ids.specs.Text.{IsId12};
 ghost use Rattle.file_fields.specs.Fields.{id12_part};
 ghost use Rattle.snapshot_file.specs.Snapshots.{snapshot_of};
-ghost use Rattle.snapshot_file.specs.Layout.{nodes_part, files_part, snapshot_block, snapshot_bytes, IsWritable, IsNode, IsInfo, IsSnapshot};
+ghost use Rattle.snapshot_file.specs.Layout.{files_part, snapshot_block, snapshot_bytes, IsWritable, IsInfo, IsSnapshot};
+ghost use Rattle.snapshot_file.specs.Heads.{with_nodes};
 
 use crate::fields::{info_head, info_tail, text_slot};
-use crate::node_writing::node_table;
-use crate::nodes::NodeRow;
-use crate::snapshot::{ManifestInfo, SnapshotFile};
+use crate::snapshot::{ManifestInfo, SnapshotFile, SnapshotHead};
+use crate::sources::{NodeTables, RowSource};
 use file_fields::{id12_slot, u64_slot};
-use flat_tables::{Flat, Kind, Slot, WriteFault, flat_write, header_write};
+use flat_tables::{Kind, Slot, WriteFault, framed_write, with_header};
 use ice_ids::Id12;
 use ice_items::Items;
 use std::alloc::{AllocError, Global};
-
-/// The nodes of a snapshot.
-fn nodes_slot(alloc: Global, nodes: &Items<NodeRow>) -> Result<Slot, AllocError>
-    ensures part { IfOk result (λ s. part_of s ≡ nodes_part nodes.now) }
-    ensures writable { IfOk result (λ s. IsTrue (is_writable_slot s)) }
-    ensures sized { OnOk result (AllByRecursion IsNode nodes.now) }
-{
-    let mut tables: Vec<Flat> = Vec::new(alloc);
-    for node in nodes.as_slice() {
-        tables.push(node_table(alloc, node)?)?;
-    }
-    Ok(Slot::Tables(tables))
-}
 
 /// The manifests of a snapshot.
 fn files_slot(alloc: Global, files: &Items<ManifestInfo>) -> Result<Slot, AllocError>
@@ -61,34 +48,42 @@ fn parent_slot(alloc: Global, parent: &Option<Id12>) -> Result<Slot, AllocError>
     }
 }
 
-/// The root table of a snapshot.
+/// The payload of a snapshot's file.
 #[tactic(auto, unfolding(crate::specs::Layout::snapshot_block))]
-fn snapshot_table(alloc: Global, snapshot: &SnapshotFile) -> Result<Flat, AllocError>
-    ensures block { IfOk result (λ f. layout f ≡ snapshot_block snapshot.now) }
-    ensures writable { IfOk result (λ f. IsTrue (is_writable f)) }
-    ensures sized { OnOk result (IsSnapshot snapshot.now) }
+fn rows_payload<S: RowSource>(
+    alloc: Global,
+    head: &SnapshotHead,
+    rows: &S,
+) -> Result<Vec<u8>, WriteFault>
+    ensures written { let bytes = payload (snapshot_block (with_nodes head.now (S.rows rows.now))) in Writes result bytes (39 + length bytes) }
+    ensures sized { OnOk result (IsSnapshot (with_nodes head.now (S.rows rows.now))) }
 {
-    let slots = [
-        id12_slot(alloc, &snapshot.id)?,
-        parent_slot(alloc, &snapshot.parent)?,
-        nodes_slot(alloc, &snapshot.nodes)?,
-        u64_slot(snapshot.flushed_at),
-        text_slot(alloc, snapshot.message.as_str())?,
-        Slot::Absent,
-        files_slot(alloc, &snapshot.manifest_files)?,
+    let before = [
+        id12_slot(alloc, &head.id)?,
+        parent_slot(alloc, &head.parent)?,
     ];
-    Ok(Flat {
-        slots: Vec::from_array(alloc, slots)?,
-    })
+    let after = [
+        u64_slot(head.flushed_at),
+        text_slot(alloc, head.message.as_str())?,
+        Slot::Absent,
+        files_slot(alloc, head.manifest_files)?,
+    ];
+    framed_write(alloc, &before, &NodeTables { rows }, &after)
 }
 
-/// The payload of a snapshot's file.
-fn snapshot_payload(alloc: Global, snapshot: &SnapshotFile) -> Result<Vec<u8>, WriteFault>
-    ensures written { let bytes = payload (snapshot_block snapshot.now) in Writes result bytes (39 + length bytes) }
-    ensures sized { OnOk result (IsSnapshot snapshot.now) }
+/// Writes the one file of the snapshot that has these nodes, as [`write`](crate::write) does. They are made one at a time,
+/// twice each.
+pub fn write_rows<S: RowSource>(
+    alloc: Global,
+    head: &SnapshotHead,
+    rows: &S,
+) -> Result<Vec<u8>, WriteFault>
+    requires { IsWritable (with_nodes head.now (S.rows rows.now)) }
+    ensures written { let file = snapshot_bytes (with_nodes head.now (S.rows rows.now)) in Writes result file (length file) }
+    ensures again { IfOk result (λ file. snapshot_of file.items ≡ Ok (with_nodes head.now (S.rows rows.now))) }
 {
-    let table = snapshot_table(alloc, snapshot)?;
-    flat_write(alloc, &table)
+    let payload = rows_payload(alloc, head, rows)?;
+    Ok(with_header(Kind::Snapshot, payload)?)
 }
 
 /// Writes the one file of a snapshot. It asks that the nodes strictly ascend by their paths' bytes and are at most
@@ -101,9 +96,12 @@ pub fn write(alloc: Global, snapshot: &SnapshotFile) -> Result<Vec<u8>, WriteFau
     ensures written { let file = snapshot_bytes snapshot.now in Writes result file (length file) }
     ensures again { IfOk result (λ file. snapshot_of file.items ≡ Ok snapshot.now) }
 {
-    let payload = snapshot_payload(alloc, snapshot)?;
-    let mut file = Vec::new(alloc);
-    file.extend_from_slice(&header_write(Kind::Snapshot))?;
-    file.extend_from_slice(&payload)?;
-    Ok(file)
+    let head = SnapshotHead {
+        id: snapshot.id,
+        parent: snapshot.parent,
+        flushed_at: snapshot.flushed_at,
+        message: &snapshot.message,
+        manifest_files: &snapshot.manifest_files,
+    };
+    write_rows(alloc, &head, &snapshot.nodes)
 }

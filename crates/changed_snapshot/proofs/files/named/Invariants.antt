@@ -5,5 +5,5 @@ use Rattle.changed_snapshot.specs.inside.Named.{has_id}
 use Rattle.changed_snapshot.proofs.files.named.Given as goal
 
 -- the ids entered so far, and those that are left
-abbrev pub invariant-loop-row : goal.invariant-loop-row
-invariant-loop-row l = (id : Id12) → (has_id l.ids.keys id || names_in (drop l.row-index l.rows) id) ≡ names_in l.rows id
+abbrev pub invariant-loop-at : goal.invariant-loop-at
+invariant-loop-at l = (id : Id12) → (has_id l.ids.keys id || names_in (drop l.at l.rows) id) ≡ names_in l.rows id

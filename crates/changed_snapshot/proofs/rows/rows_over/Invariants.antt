@@ -1,11 +1,16 @@
 use Rattle.std.proofs.Common.{◌≡◌, ◌++◌, map, length}
-use Rattle.changed_snapshot.specs.Rows.{rows_over}
-use Rattle.changed_snapshot.proofs.Found.{made}
+use Rattle.std.specs.FinMap.{entries}
+use Rattle.zarr_tree.specs.Held.{nodes_over}
+use Rattle.zarr_changes.specs.Rows.{row_found, ArePaths}
+use Rattle.repo_objects.specs.Trees.{nodes_in}
 use Rattle.changed_snapshot.proofs.rows.rows_over.Given as goal
 
--- the rows so far, and those of the nodes that are left
-abbrev pub invariant-loop-path : goal.invariant-loop-path
-invariant-loop-path l = l.rows.items ++ map (made l.news l.fn.base.nodes) l.left ≡ rows_over l.fn.changes l.news l.fn.base.nodes
+-- the nodes so far, and those that are left
+abbrev pub invariant-loop-row : goal.invariant-loop-row
+invariant-loop-row l = record {
+  nodes : map row_found l.nodes.items ++ l.left ≡ entries (nodes_over l.fn.changes (nodes_in l.fn.base.nodes));
+  paths : ArePaths (map row_found l.nodes.items);
+}
 
-abbrev pub decreases-loop-path : goal.decreases-loop-path
-decreases-loop-path l = length l.left
+abbrev pub decreases-loop-row : goal.decreases-loop-row
+decreases-loop-row l = length l.left

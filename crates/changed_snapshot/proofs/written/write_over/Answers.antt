@@ -8,26 +8,22 @@ use Rattle.changed_snapshot.proofs.Proper.{writable_over}
 use Rattle.changed_snapshot.proofs.written.write_over.Goals as goal
 
 -- what is written is the snapshot of the base under the changes
-pub write-requires : goal.write-requires
-write-requires c =
+pub write_rows-requires : goal.write_rows-requires
+write_rows-requires c =
     let base : SnapshotFile = c.args.base.now in
-    let rows : List NodeRow = rows_over c.args.changes.now c.args.news.now base.nodes in
     let all : List ManifestInfo = files_with base.manifest_files c.args.news.now in
     let file : List NodeRow → List ManifestInfo → SnapshotFile = λ nodes files. record {
       id = c.args.stamp.id;
       parent = Some c.args.stamp.parent;
       nodes = nodes;
       flushed_at = c.args.stamp.flushed_at;
-      message = c.in_ok-copy.field-0;
+      message = c.args.message.now;
       manifest_files = files;
     } in
-    let nodes : c.in_ok-nodes.nodes ≡ rows = c.in_ok-nodes.ensures in
+    let rows : c.in_ok-rows.rows ≡ rows_over c.args.changes.now c.args.news.now base.nodes = c.in_ok-rows.ensures in
     let old : c.as_slice.result.now ≡ base.manifest_files = c.as_slice.ensures ∙ ap (λ (s : SnapshotFile). s.manifest_files) c.file.ensures.value in
     let with : c.in_ok-files.files ≡ all = c.in_ok-files.ensures ∙ ap (λ (xs : List ManifestInfo). files_with xs c.args.news.now) old in
-    let files : c.in_ok-manifest_files.manifest_files ≡ files_over all rows =
-    c.in_ok-manifest_files.ensures ∙ (λ i. files_over ((c.as_slice-2.ensures ∙ with) i) ((c.as_slice-3.ensures ∙ nodes) i))
+    let files : c.in_ok-manifest_files.manifest_files ≡ files_over all (rows_over c.args.changes.now c.args.news.now base.nodes) =
+    c.in_ok-manifest_files.ensures ∙ (λ i. files_over ((c.as_slice-2.ensures ∙ with) i) (rows i))
     in
-    let is : file rows (files_over all rows) ≡ file c.nodes.inside.items.items c.in_ok-manifest_files.manifest_files =
-    λ i. file (sym (c.nodes.view_is ∙ nodes) i) (sym files i)
-    in
-    subst IsWritable is (writable_over base c.args.changes.now c.args.news.now c.args.stamp c.in_ok-copy.field-0 c.file.ensures.writable c.requires.few)
+    subst IsWritable (λ i. file (sym rows i) (sym files i)) (writable_over base c.args.changes.now c.args.news.now c.args.stamp c.args.message.now c.file.ensures.writable c.requires.few)

@@ -10,7 +10,7 @@ pub table_end-slots_end-requires-clause-writable : goal.table_end-slots_end-requ
 table_end-slots_end-requires-clause-writable t c = rw c.deref.ensures.value (slots_writable c.args.flat.now c.requires)
 
 pub table_end-slots_end-requires-clause-few : goal.table_end-slots_end-requires-clause-few
-table_end-slots_end-requires-clause-few t c = rw c.deref.ensures.value (slots_few c.args.flat.now c.requires)
+table_end-slots_end-requires-clause-few t c = rw c.deref.ensures.value (omega (arith, slots_few c.args.flat.now c.requires))
 
 pub table_end-loop-slot-init : goal.table_end-loop-slot-init
 table_end-loop-slot-init t c =
