@@ -1,5 +1,5 @@
 -- What an operation of a store in memory does is what the trait of a store asks.
-use Rattle.std.proofs.Common.{◌≡◌, ℕ, ◌≤◌, [], ◌∷◌, ◌++◌, length, Bool, refl, sym, ◌∙◌, ap, subst, arith}
+use Rattle.std.proofs.Common.{◌≡◌, ℕ, ◌≤◌, [], ◌∷◌, ◌++◌, length, Bool, sym, ◌∙◌, ap, subst, arith}
 use Rattle.std.specs.Prelude.{Result, Ok, Err, IfOk, IsOk}
 use Rattle.store_api.specs.declared.events.Op.{Op}
 use Rattle.store_api.specs.declared.events.Reply.{Reply}
@@ -10,9 +10,9 @@ use Rattle.store_api.specs.Machine.{found, last_time, IsHonest, UnlessFailed}
 use Rattle.store_api.specs.Callers.{Makes, Called, own_event}
 use Rattle.store_api.proofs.Programs.{Waits-same, Makes-alone}
 use Rattle.mem_store.specs.declared.mem.MemStore.{MemStore}
-use Rattle.mem_store.specs.Memory.{sole, journal_of, client_of, view_of, Adds, Answers, IsUnchanged, IsLogged, Exactly}
+use Rattle.mem_store.specs.Memory.{sole, journal_of, client_of, view_of, Adds, Answers, IsLogged, Exactly, Fails}
+use Rattle.mem_store.specs.Failing.{MadeFail}
 use Rattle.mem_store.specs.declared.logs.Answer.{Answer}
-use Rattle.mem_store.specs.declared.logs.Answer.TheVariants.{Failed as Kept_failed}
 use Rattle.mem_store.specs.Logs.{reply_in}
 
 pub unless-holds : (P : Reply → Type 0) (reply : Reply) → P reply → UnlessFailed P reply
@@ -45,11 +45,15 @@ Called-exactly gives reply op (Err NoMemory) old new x = record {
   counted = omega arith;
 }
 
-pub Called-fault : {C A : Type 0} (reply : A → Reply) (op : Op) (fault : StoreFault) (old new : MemStore C) → fault ≡ NoMemory → IsUnchanged old new → Called reply op (Err fault) (view_of old) (view_of new)
-Called-fault reply op Failed old new e x = cc
-Called-fault reply op NoMemory old new e x = record {
+pub MadeFail-fails : {C : Type 0} (gives : C → ℕ → C → Type 0) (done : Bool) (op : Op) (fault : StoreFault) (old new : MemStore C) → Fails gives done op fault old new → MadeFail done op fault (view_of old) (view_of new)
+MadeFail-fails gives done op Failed old new x = record {
+  same = same_caller (client_of new) (client_of old) x.same;
+  did = Makes-adds gives op (Reply_failed done) old new x tt;
+  counted = omega arith;
+}
+MadeFail-fails gives done op NoMemory old new x = record {
   same = same_caller (client_of new) (client_of old) x.client;
-  did = λ t. Waits-same (sole (client_of old)) (journal_of old) (journal_of new) x.journal;
+  did = Waits-same (sole (client_of old)) (journal_of old) (journal_of new) x.journal;
   counted = omega arith;
 }
 
@@ -71,10 +75,6 @@ Answers-logged gives op answer reply time old new l e honest = record { adds = A
 pub logged-op : {C E : Type 0} (gives : C → ℕ → C → Type 0) (asked : Op) (answer : Answer) (time : ℕ) (old new : MemStore C) (r : Result Op E) → IfOk r (λ op. IsLogged gives op answer time old new) → IsOk r → IfOk r (λ op. op ≡ asked) → IsLogged gives asked answer time old new
 logged-op gives asked answer time old new (Ok op) l made e = subst (λ (x : Op). IsLogged gives x answer time old new) e l
 logged-op gives asked answer time old new (Err x) l made e = cc
-
-pub adds_failed : {C E : Type 0} (gives : C → ℕ → C → Type 0) (done : Bool) (time : ℕ) (old new : MemStore C) (r : Result Op E) → IfOk r (λ op. IsLogged gives op (Kept_failed done) time old new) → IfOk r (λ op. Adds gives op (Reply_failed done) old new)
-adds_failed gives done time old new (Ok op) l = Adds-logged gives op (Kept_failed done) (Reply_failed done) time old new l refl
-adds_failed gives done time old new (Err e) l = tt
 
 -- what a fact of an `Ok` says where its value is known
 pub at-ok : {A E : Type 0} (P : A → Type 0) (r : Result A E) (a : A) → r ≡ Ok a → IfOk r P → P a

@@ -7,4 +7,3 @@ pub mod Indexed
 pub mod Shelved
 pub mod Times
 pub mod Calls
-pub mod Failures

@@ -1,17 +1,28 @@
--- A store in memory that fails the planned calls (own).
-use Rattle.std.specs.Prelude.{◌≡◌, ℕ, List, drop, length, count_by, Bool, true, false, Option, None, Some, Result, Ok, Err}
+-- Stores that fail the planned calls (own).
+use Rattle.std.specs.Prelude.{◌≡◌, ℕ, ◌≤◌, List, drop, length, count_by, Bool, true, false, Option, None, Some, Result, Ok, Err}
 use Rattle.store_api.specs.declared.events.Op.{Op}
 use Rattle.store_api.specs.declared.events.Reply.{Reply}
 use Rattle.store_api.specs.declared.events.Reply.TheVariants.{Failed as Reply_failed}
 use Rattle.store_api.specs.declared.events.Event.{Event}
 use Rattle.store_api.specs.declared.events.StoreFault.{StoreFault}
 use Rattle.store_api.specs.declared.events.StoreFault.TheVariants.{Failed, NoMemory}
-use Rattle.store_api.specs.Callers.{View}
-use Rattle.mem_store.specs.declared.mem.MemStore.{MemStore}
-use Rattle.mem_store.specs.declared.faults.FaultStore.{FaultStore}
+use Rattle.store_api.specs.Callers.{Caller, View, Makes, Waits, Called}
 use Rattle.mem_store.specs.Plans.{planned}
-use Rattle.mem_store.specs.Memory.{view_of, journal_of, Adds, Exactly, IsUnchanged}
 
+-- ---- a failure that is asked for
+-- The failure is one event of this caller; without memory there is none.
+abbrev pub FailedSo : Bool → Caller → Op → StoreFault → List Event → List Event → Type 0
+FailedSo done by op Failed old new = Makes by op (Reply_failed done) old new
+FailedSo done by op NoMemory old new = Waits by old new
+
+-- What an operation that is made to fail leaves: the caller stays, the journal goes on by the failure, and the count of
+-- faults doesn't fall.
+pub record MadeFail (done : Bool) (op : Op) (fault : StoreFault) (old new : View) : Type 0 where
+  pub same : new.caller ≡ old.caller
+  pub did : FailedSo done old.caller op fault old.seen new.seen
+  pub counted : old.faults ≤ new.faults
+
+-- ---- stores that fail by plan
 abbrev pub is_failure : Reply → Bool
 is_failure (Reply_failed done) = true
 is_failure _ = false
@@ -20,33 +31,55 @@ is_failure _ = false
 abbrev pub is_failed : Event → Bool
 is_failed event = is_failure event.reply
 
-abbrev pub plan_of : {C : Type 0} → FaultStore C → List (ℕ × Bool)
-plan_of s = s.plan.items
-
-abbrev pub inner_of : {C : Type 0} → FaultStore C → MemStore C
-inner_of s = s.inner
+-- A store that fails by plan: the store beneath, the plan, and how many events that store had at the making.
+pub record ByPlan (S : Type 0) : Type 0 where
+  pub inner : S
+  pub plan : List (ℕ × Bool)
+  pub made_at : ℕ
 
 -- the events since the store's making
-abbrev pub since_making : {C : Type 0} → FaultStore C → List Event
-since_making s = drop s.made_at (journal_of s.inner)
+abbrev pub since_making : {S : Type 0} → (S → View) → ByPlan S → List Event
+since_making view s = drop s.made_at (view s.inner).seen
 
 -- its count of faults is the number of failed events since its making
-abbrev pub faulty_view : {C : Type 0} → FaultStore C → View
-faulty_view s = record (view_of s.inner) { faults = count_by is_failed (since_making s) }
+abbrev pub faulty_view : {S : Type 0} → (S → View) → ByPlan S → View
+faulty_view view s = record (view s.inner) { faults = count_by is_failed (since_making view s) }
 
--- An operation fails as planned, and that is its one event. Without memory nothing has changed.
-abbrev pub Fails : {C A : Type 0} → (C → ℕ → C → Type 0) → Bool → Op → Result A StoreFault → MemStore C → MemStore C → Type 0
-Fails gives done op (Ok a) old new = ⊥
-Fails gives done op (Err Failed) old new = Adds gives op (Reply_failed done) old new
-Fails gives done op (Err NoMemory) old new = IsUnchanged old new
+-- what is planned for the next call, whose number is that of the events since the store's making
+abbrev pub planned_next : {S : Type 0} → (S → View) → ByPlan S → Option Bool
+planned_next view s = planned s.plan (length (since_making view s))
 
--- It fails where that is planned, and else answers as the store in memory.
-abbrev pub ByPlan : {C A : Type 0} → Option Bool → (C → ℕ → C → Type 0) → (A → Reply) → Op → Result A StoreFault → MemStore C → MemStore C → Type 0
-ByPlan None gives reply op result old new = Exactly gives reply op result old new
-ByPlan (Some done) gives reply op result old new = Fails gives done op result old new
+-- an answer as the reply that it is
+abbrev pub as_reply : {A : Type 0} → (A → Reply) → Result A StoreFault → Result Reply StoreFault
+as_reply reply (Ok a) = Ok (reply a)
+as_reply reply (Err fault) = Err fault
 
--- An operation goes by the plan at its number, that of the events since the store's making. The plan stays.
-pub record GoesByPlan {C A : Type 0} (gives : C → ℕ → C → Type 0) (reply : A → Reply) (op : Op) (result : Result A StoreFault) (old new : FaultStore C) : Type 0 where
-  pub does : ByPlan (planned (plan_of old) (length (since_making old))) gives reply op result (inner_of old) (inner_of new)
-  pub plan : plan_of new ≡ plan_of old
+-- It fails where that is planned, and else answers as the store beneath.
+abbrev pub Obeys : Option Bool → Op → Result Reply StoreFault → View → View → Type 0
+Obeys None op result old new = Called (λ reply. reply) op result old new
+Obeys (Some done) op (Ok reply) old new = ⊥
+Obeys (Some done) op (Err fault) old new = MadeFail done op fault old new
+
+-- ... exactly as the store beneath does, or fails
+abbrev pub ObeysExactly : {S : Type 0} → (Op → Result Reply StoreFault → S → S → Type 0) → (Bool → Op → StoreFault → S → S → Type 0) → Option Bool → Op → Result Reply StoreFault → S → S → Type 0
+ObeysExactly does fails None op result old new = does op result old new
+ObeysExactly does fails (Some done) op (Ok reply) old new = ⊥
+ObeysExactly does fails (Some done) op (Err fault) old new = fails done op fault old new
+
+-- An operation goes by the plan, which stays.
+pub record GoesByPlan {S : Type 0} (view : S → View) (does : Op → Result Reply StoreFault → S → S → Type 0) (fails : Bool → Op → StoreFault → S → S → Type 0) (op : Op) (result : Result Reply StoreFault) (old new : ByPlan S) : Type 0 where
+  pub obeys : Obeys (planned_next view old) op result (view old.inner) (view new.inner)
+  pub exactly : ObeysExactly does fails (planned_next view old) op result old.inner new.inner
+  pub plan : new.plan ≡ old.plan
+  pub made_at : new.made_at ≡ old.made_at
+
+-- ---- what else is asked of the store beneath, beside the plan
+pub record FailsBeneath {S : Type 0} (fails : Bool → Op → StoreFault → S → S → Type 0) (done : Bool) (op : Op) (fault : StoreFault) (old new : ByPlan S) : Type 0 where
+  pub exactly : fails done op fault old.inner new.inner
+  pub plan : new.plan ≡ old.plan
+  pub made_at : new.made_at ≡ old.made_at
+
+pub record ServesBeneath {S : Type 0} (serves : ℕ → S → S → Type 0) (client : ℕ) (old new : ByPlan S) : Type 0 where
+  pub exactly : serves client old.inner new.inner
+  pub plan : new.plan ≡ old.plan
   pub made_at : new.made_at ≡ old.made_at

@@ -1,4 +1,4 @@
--- Events that are lent, as the events that they are.
+-- Events and operations that are lent, as the events and operations that they are.
 use Rattle.store_api.specs.declared.events.Got.TheVariants.{Found as Got_found, Absent as Got_absent}
 use Rattle.store_api.specs.declared.events.Reply.{Reply}
 use Rattle.store_api.specs.declared.events.Reply.TheVariants.{Got as Is_got, New as Is_new, Over as Is_over, Gone as Is_gone, GoneAt as Is_gone_at, Listed as Is_listed, Failed as Is_failed}
@@ -6,6 +6,10 @@ use Rattle.store_api.specs.declared.events.Event.{Event}
 use Rattle.mem_store.specs.declared.events.ReplyRef.{ReplyRef}
 use Rattle.mem_store.specs.declared.events.ReplyRef.TheVariants.{Found, Absent, New, Over, Gone, GoneAt, Listed, Failed}
 use Rattle.mem_store.specs.declared.events.EventRef.{EventRef}
+use Rattle.store_api.specs.declared.events.Op.{Op}
+use Rattle.store_api.specs.declared.events.Op.TheVariants as Made
+use Rattle.mem_store.specs.declared.requests.OpRef.{OpRef}
+use Rattle.mem_store.specs.declared.requests.OpRef.TheVariants as Asked
 
 abbrev pub reply_lent : ReplyRef → Reply
 reply_lent (Found bytes version now) = Is_got (Got_found bytes.now version now)
@@ -19,3 +23,12 @@ reply_lent (Failed done) = Is_failed done
 
 abbrev pub event_lent : EventRef → Event
 event_lent event = record { client = event.client; op = event.op.now; reply = reply_lent event.reply; time = event.time }
+
+-- an operation that is asked for
+abbrev pub op_lent : OpRef → Op
+op_lent (Asked.Get key) = Made.Get key.now
+op_lent (Asked.PutNew key bytes why) = Made.PutNew key.now bytes.now why
+op_lent (Asked.PutOver key bytes old why) = Made.PutOver key.now bytes.now old why
+op_lent (Asked.Remove key why) = Made.Remove key.now why
+op_lent (Asked.RemoveAt key old why) = Made.RemoveAt key.now old why
+op_lent (Asked.List part) = Made.List part

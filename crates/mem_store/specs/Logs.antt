@@ -11,14 +11,14 @@ use Rattle.mem_store.specs.declared.logs.Answer.{Answer}
 use Rattle.mem_store.specs.declared.logs.Answer.TheVariants.{Stood, Listed, Failed}
 use Rattle.mem_store.specs.declared.logs.Logged.{Logged}
 
--- the key that an operation is on
-abbrev pub key_in : Op → Option Key
-key_in (Get k) = Some k
-key_in (PutNew k bytes why) = Some k
-key_in (PutOver k bytes old why) = Some k
-key_in (Remove k why) = Some k
-key_in (RemoveAt k old why) = Some k
-key_in (ListPart part) = None
+-- the key at which an operation may change what stands
+abbrev pub key_changed : Op → Option Key
+key_changed (Get k) = None
+key_changed (PutNew k bytes why) = Some k
+key_changed (PutOver k bytes old why) = Some k
+key_changed (Remove k why) = Some k
+key_changed (RemoveAt k old why) = Some k
+key_changed (ListPart part) = None
 
 -- the bytes that an operation puts
 abbrev pub bytes_put : Op → List ℕ

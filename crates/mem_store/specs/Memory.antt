@@ -1,12 +1,13 @@
 -- The store in memory, and what an operation of it does (own).
-use Rattle.std.specs.Prelude.{◌≡◌, ℕ, ◌<◌, ◌^◌, List, [], ◌∷◌, ◌++◌, length, true, None, Result, Ok, Err}
+use Rattle.std.specs.Prelude.{◌≡◌, ℕ, ◌<◌, ◌^◌, List, [], ◌∷◌, ◌++◌, length, Bool, true, None, Result, Ok, Err}
 use Rattle.store_api.specs.declared.events.Op.{Op}
 use Rattle.store_api.specs.declared.events.Reply.{Reply}
+use Rattle.store_api.specs.declared.events.Reply.TheVariants.{Failed as Reply_failed}
 use Rattle.store_api.specs.declared.events.Event.{Event}
 use Rattle.store_api.specs.declared.events.StoreFault.{StoreFault}
 use Rattle.store_api.specs.declared.events.StoreFault.TheVariants.{Failed, NoMemory}
 use Rattle.store_api.specs.Machine.{found, last_time, IsHonest}
-use Rattle.store_api.specs.Callers.{Caller, View, own_event}
+use Rattle.store_api.specs.Callers.{Caller, View, own_event, as_client}
 use Rattle.mem_store.specs.declared.mem.MemStore.{MemStore}
 use Rattle.mem_store.specs.declared.logs.Answer.{Answer}
 use Rattle.mem_store.specs.Times.{IsTime}
@@ -53,6 +54,16 @@ abbrev pub Exactly : {C A : Type 0} → (C → ℕ → C → Type 0) → (A → 
 Exactly gives reply op (Ok a) old new = Answers gives op (reply a) old new
 Exactly gives reply op (Err Failed) old new = ⊥
 Exactly gives reply op (Err NoMemory) old new = IsUnchanged old new
+
+-- An operation that is made to fail is one event that failed, done or not. Without memory nothing has changed.
+abbrev pub Fails : {C : Type 0} → (C → ℕ → C → Type 0) → Bool → Op → StoreFault → MemStore C → MemStore C → Type 0
+Fails gives done op Failed old new = Adds gives op (Reply_failed done) old new
+Fails gives done op NoMemory old new = IsUnchanged old new
+
+-- The next operations are this client's. The clock and the journal stay.
+pub record Serves {C : Type 0} (client : ℕ) (old new : MemStore C) : Type 0 where
+  pub view : view_of new ≡ as_client client (view_of old)
+  pub clock : clock_of new ≡ clock_of old
 
 -- Exactly one event has come, the client's own, and it is kept with this answer.
 pub record IsLogged {C : Type 0} (gives : C → ℕ → C → Type 0) (op : Op) (answer : Answer) (time : ℕ) (old new : MemStore C) : Type 0 where

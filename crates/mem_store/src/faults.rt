@@ -1,41 +1,48 @@
-//! A store in memory that fails planned calls.
+//! Stores that fail planned calls.
 
-ghost use Rattle.std.specs.Prelude.{◌≤◌, length};
-
-use crate::logs::Answer;
+use crate::faulty::Failing;
 use crate::plans::planned;
-use crate::{MemStore, requests};
-use ice_base::Clock;
-use std::alloc::AllocError;
+use crate::requests::OpRef;
+use std::marker::Model;
 use store_api::{
     Base, Gone, GoneAt, Got, Key, Listed, New, Op, Over, Part, Reply, Store, StoreFault, Version,
     Why,
 };
 
-/// A store in memory that fails the planned calls. A call's number is that of the events since the
-/// store's making, and its flag says whether the operation is done first. Where a number is planned
-/// twice, the first counts.
+/// A store that fails the planned calls of the one beneath. A call's number is that of the events since the store's
+/// making, and its flag says whether the operation is done first. Where a number is planned twice, the first counts.
 #[derive(Debug, Drop)]
-pub struct FaultStore<C> {
-    inner: MemStore<C>,
+pub struct FaultStore<S: Failing> {
+    inner: S,
     plan: Vec<(u64, bool)>,
     made_at: usize,
-    ghost within: { made_at ≤ length inner.journal },
 }
 
-impl<C: Clock> FaultStore<C> {
-    ghost use Rattle.std.specs.Prelude.{◌≡◌, [], IfOk, IsOk};
-    ghost use Rattle.mem_store.specs.Memory.{journal_of, Adds, IsUnchanged};
-    ghost use Rattle.mem_store.specs.Plans.{planned};
-    ghost use Rattle.mem_store.specs.Failing.{plan_of, inner_of, since_making};
+impl<S: Failing> Model for FaultStore<S> {
+    ghost use Rattle.std.specs.Prelude.{◌≤◌, length};
+    ghost use Rattle.mem_store.specs.Failing.{ByPlan};
+
+    ghost Value = { ByPlan S };
+
+    ghost view = { λ s. record { inner = s.inner; plan = s.plan.items; made_at = s.made_at } };
+
+    ghost invariant = { λ s. s.made_at ≤ length (S.view s.inner).seen };
+}
+
+impl<S: Failing> FaultStore<S> {
+    ghost use Rattle.std.specs.Prelude.{◌≡◌, [], false, length, IfOk};
+    ghost use Rattle.store_api.specs.Callers.{Called, Fits};
+    ghost use Rattle.store_api.specs.Driving.{has_failed};
+    ghost use Rattle.mem_store.specs.Lent.{op_lent};
+    ghost use Rattle.mem_store.specs.Failing.{since_making, faulty_view, planned_next, GoesByPlan};
 
     /// This store, with these calls to fail.
-    pub fn new(inner: MemStore<C>, plan: Vec<(u64, bool)>) -> FaultStore<C>
-        ensures inner { inner_of result ≡ inner }
-        ensures plan { plan_of result ≡ plan.items }
-        ensures since { since_making result ≡ [] }
+    pub fn new(inner: S, plan: Vec<(u64, bool)>) -> FaultStore<S>
+        ensures inner { result.inner ≡ inner }
+        ensures plan { result.plan ≡ plan.items }
+        ensures since { since_making S.view result ≡ [] }
     {
-        let made_at = inner.number_of_events();
+        let made_at = inner.events();
         FaultStore {
             inner,
             plan,
@@ -44,63 +51,58 @@ impl<C: Clock> FaultStore<C> {
     }
 
     /// The store beneath.
-    pub fn inner(&self) -> &MemStore<C>
-        ensures { result.now ≡ inner_of self.now }
+    pub fn inner(&self) -> &S
+        ensures { result.now ≡ self.now.inner }
     {
         &self.inner
     }
 
     /// What is planned for the next call.
     fn planned(&self) -> Option<bool>
-        ensures { result ≡ planned (plan_of self.now) (length (since_making self.now)) }
+        ensures { result ≡ planned_next S.view self.now }
     {
-        let number = self.inner.number_of_events() - self.made_at;
+        let number = self.inner.events() - self.made_at;
         planned(&self.plan, number as u64)
     }
 
-    /// The next operation fails as planned, where there was memory for it.
-    #[tactic(auto, using(crate::proofs::Calls::adds_failed))]
-    fn fail(&mut self, op: Result<Op, AllocError>, done: bool) -> StoreFault
-        ensures failed { result ≡ StoreFault.Failed → IfOk op (λ op. Adds C.gives op (Reply.Failed done) (inner_of self.old) (inner_of self.new)) }
-        ensures made { result ≡ StoreFault.Failed → IsOk op }
-        ensures unchanged { result ≡ StoreFault.NoMemory → IsUnchanged (inner_of self.old) (inner_of self.new) }
-        ensures plan { plan_of self.new ≡ plan_of self.old }
-        ensures made_at { self.new.made_at ≡ self.old.made_at }
+    /// The next operation, which fails where that is planned.
+    fn attempt(&mut self, op: &OpRef<'_>) -> Result<Reply, StoreFault>
+        ensures call { Called (λ reply. reply) (op_lent op.now) result (faulty_view S.view self.old) (faulty_view S.view self.new) }
+        ensures plan { GoesByPlan S.view S.does S.fails (op_lent op.now) result self.old self.new }
+        ensures fits { IfOk result (Fits (op_lent op.now)) }
+        ensures answered { IfOk result (λ reply. has_failed reply ≡ false) }
     {
-        match self.inner.log(op, Answer::Failed(done)) {
-            Ok(_) => StoreFault::Failed,
-            Err(fault) => fault,
+        match self.planned() {
+            None => self.inner.make(op),
+            Some(done) => Err(self.inner.fail(op, done)),
         }
     }
 }
 
-impl<C: Clock> Store for FaultStore<C> {
-    ghost use Rattle.std.specs.Prelude.{◌≡◌};
+impl<S: Failing> Store for FaultStore<S> {
     ghost use Rattle.store_api.specs.Callers.{Called};
-    ghost use Rattle.mem_store.specs.Failing.{faulty_view, GoesByPlan};
+    ghost use Rattle.mem_store.specs.Failing.{faulty_view, as_reply, GoesByPlan};
 
-    ghost view = { λ s. faulty_view s };
+    ghost view = { λ s. faulty_view S.view s };
 
     fn get(&mut self, key: &Key) -> Result<Got, StoreFault>
-        ensures call { Called (λ got. Reply.Got got) (Op.Get key.now) result (faulty_view self.old) (faulty_view self.new) }
-        ensures plan { GoesByPlan C.gives (λ got. Reply.Got got) (Op.Get key.now) result self.old self.new }
+        ensures call { Called (λ got. Reply.Got got) (Op.Get key.now) result (faulty_view S.view self.old) (faulty_view S.view self.new) }
+        ensures plan { GoesByPlan S.view S.does S.fails (Op.Get key.now) (as_reply (λ got. Reply.Got got) result) self.old self.new }
     {
-        let Some(done) = self.planned() else {
-            return self.inner.get(key);
-        };
-        let op = requests::get(self.inner.allocator(), key);
-        Err(self.fail(op, done))
+        match self.attempt(&OpRef::Get { key })? {
+            Reply::Got(got) => Ok(got),
+            _ => unreachable!(),
+        }
     }
 
     fn put_new(&mut self, key: &Key, bytes: &[u8], why: Why) -> Result<New, StoreFault>
-        ensures call { Called (λ new. Reply.New new) (Op.PutNew key.now bytes.now why) result (faulty_view self.old) (faulty_view self.new) }
-        ensures plan { GoesByPlan C.gives (λ new. Reply.New new) (Op.PutNew key.now bytes.now why) result self.old self.new }
+        ensures call { Called (λ new. Reply.New new) (Op.PutNew key.now bytes.now why) result (faulty_view S.view self.old) (faulty_view S.view self.new) }
+        ensures plan { GoesByPlan S.view S.does S.fails (Op.PutNew key.now bytes.now why) (as_reply (λ new. Reply.New new) result) self.old self.new }
     {
-        let Some(done) = self.planned() else {
-            return self.inner.put_new(key, bytes, why);
-        };
-        let op = requests::put_new(self.inner.allocator(), key, bytes, why);
-        Err(self.fail(op, done))
+        match self.attempt(&OpRef::PutNew { key, bytes, why })? {
+            Reply::New(new) => Ok(new),
+            _ => unreachable!(),
+        }
     }
 
     fn put_over(
@@ -110,67 +112,96 @@ impl<C: Clock> Store for FaultStore<C> {
         old: Version,
         why: Why,
     ) -> Result<Over, StoreFault>
-        ensures call { Called (λ over. Reply.Over over) (Op.PutOver key.now bytes.now old why) result (faulty_view self.old) (faulty_view self.new) }
-        ensures plan { GoesByPlan C.gives (λ over. Reply.Over over) (Op.PutOver key.now bytes.now old why) result self.old self.new }
+        ensures call { Called (λ over. Reply.Over over) (Op.PutOver key.now bytes.now old why) result (faulty_view S.view self.old) (faulty_view S.view self.new) }
+        ensures plan { GoesByPlan S.view S.does S.fails (Op.PutOver key.now bytes.now old why) (as_reply (λ over. Reply.Over over) result) self.old self.new }
     {
-        let Some(done) = self.planned() else {
-            return self.inner.put_over(key, bytes, old, why);
+        let op = OpRef::PutOver {
+            key,
+            bytes,
+            old,
+            why,
         };
-        let op = requests::put_over(self.inner.allocator(), key, bytes, old, why);
-        Err(self.fail(op, done))
+        match self.attempt(&op)? {
+            Reply::Over(over) => Ok(over),
+            _ => unreachable!(),
+        }
     }
 
     fn remove(&mut self, key: &Key, why: Why) -> Result<Gone, StoreFault>
-        ensures call { Called (λ gone. Reply.Gone gone) (Op.Remove key.now why) result (faulty_view self.old) (faulty_view self.new) }
-        ensures plan { GoesByPlan C.gives (λ gone. Reply.Gone gone) (Op.Remove key.now why) result self.old self.new }
+        ensures call { Called (λ gone. Reply.Gone gone) (Op.Remove key.now why) result (faulty_view S.view self.old) (faulty_view S.view self.new) }
+        ensures plan { GoesByPlan S.view S.does S.fails (Op.Remove key.now why) (as_reply (λ gone. Reply.Gone gone) result) self.old self.new }
     {
-        let Some(done) = self.planned() else {
-            return self.inner.remove(key, why);
-        };
-        let op = requests::remove(self.inner.allocator(), key, why);
-        Err(self.fail(op, done))
+        match self.attempt(&OpRef::Remove { key, why })? {
+            Reply::Gone(gone) => Ok(gone),
+            _ => unreachable!(),
+        }
     }
 
     fn remove_at(&mut self, key: &Key, old: Version, why: Why) -> Result<GoneAt, StoreFault>
-        ensures call { Called (λ gone. Reply.GoneAt gone) (Op.RemoveAt key.now old why) result (faulty_view self.old) (faulty_view self.new) }
-        ensures plan { GoesByPlan C.gives (λ gone. Reply.GoneAt gone) (Op.RemoveAt key.now old why) result self.old self.new }
+        ensures call { Called (λ gone. Reply.GoneAt gone) (Op.RemoveAt key.now old why) result (faulty_view S.view self.old) (faulty_view S.view self.new) }
+        ensures plan { GoesByPlan S.view S.does S.fails (Op.RemoveAt key.now old why) (as_reply (λ gone. Reply.GoneAt gone) result) self.old self.new }
     {
-        let Some(done) = self.planned() else {
-            return self.inner.remove_at(key, old, why);
-        };
-        let op = requests::remove_at(self.inner.allocator(), key, old, why);
-        Err(self.fail(op, done))
+        match self.attempt(&OpRef::RemoveAt { key, old, why })? {
+            Reply::GoneAt(gone) => Ok(gone),
+            _ => unreachable!(),
+        }
     }
 
     fn list(&mut self, part: Part) -> Result<Listed, StoreFault>
-        ensures call { Called (λ listed. Reply.Listed listed) (Op.List part) result (faulty_view self.old) (faulty_view self.new) }
-        ensures plan { GoesByPlan C.gives (λ listed. Reply.Listed listed) (Op.List part) result self.old self.new }
+        ensures call { Called (λ listed. Reply.Listed listed) (Op.List part) result (faulty_view S.view self.old) (faulty_view S.view self.new) }
+        ensures plan { GoesByPlan S.view S.does S.fails (Op.List part) (as_reply (λ listed. Reply.Listed listed) result) self.old self.new }
     {
-        let Some(done) = self.planned() else {
-            return self.inner.list(part);
-        };
-        Err(self.fail(Ok(Op::List { part }), done))
+        match self.attempt(&OpRef::List { part })? {
+            Reply::Listed(listed) => Ok(listed),
+            _ => unreachable!(),
+        }
     }
 }
 
-impl<C: Clock> Base for FaultStore<C> {
-    ghost use Rattle.std.specs.Prelude.{◌≡◌, refl, true};
+impl<S: Failing> Base for FaultStore<S> {
+    ghost use Rattle.std.specs.Prelude.{◌≡◌};
     ghost use Rattle.store_api.specs.Callers.{as_client};
-    ghost use Rattle.mem_store.specs.Memory.{clock_of};
-    ghost use Rattle.mem_store.specs.Failing.{faulty_view, plan_of, inner_of, since_making};
+    ghost use Rattle.mem_store.specs.Failing.{since_making, faulty_view, ServesBeneath};
 
-    ghost tells = { true };
+    ghost tells = { S.tells };
 
     fn set_client(&mut self, client: u32)
-        ensures view { faulty_view self.new ≡ as_client client (faulty_view self.old) }
-        ensures clock { clock_of (inner_of self.new) ≡ clock_of (inner_of self.old) }
-        ensures plan { plan_of self.new ≡ plan_of self.old }
-        ensures since { since_making self.new ≡ since_making self.old }
+        ensures view { faulty_view S.view self.new ≡ as_client client (faulty_view S.view self.old) }
+        ensures exact { ServesBeneath S.serves client self.old self.new }
+        ensures since { since_making S.view self.new ≡ since_making S.view self.old }
     {
-        self.inner.set_client(client);
+        self.inner.serve(client);
     }
 
-    ghost told = { λ s. refl };
+    ghost told = { λ s. S.told s.inner };
 
-    ghost alone = { λ s. record { low = refl; end = refl } };
+    ghost alone = { λ s. S.alone s.inner };
+}
+
+impl<S: Failing> Failing for FaultStore<S> {
+    ghost use Rattle.mem_store.specs.Failing.{GoesByPlan, FailsBeneath, ServesBeneath};
+
+    ghost does = { λ op result old new. GoesByPlan S.view S.does S.fails op result old new };
+
+    ghost fails = { λ done op fault old new. FailsBeneath S.fails done op fault old new };
+
+    ghost serves = { λ client old new. ServesBeneath S.serves client old new };
+
+    fn events(&self) -> usize {
+        self.inner.events()
+    }
+
+    fn serve(&mut self, client: u32) {
+        self.set_client(client);
+    }
+
+    fn make(&mut self, op: &OpRef<'_>) -> Result<Reply, StoreFault> {
+        self.attempt(op)
+    }
+
+    fn fail(&mut self, op: &OpRef<'_>, done: bool) -> StoreFault {
+        self.inner.fail(op, done)
+    }
+
+    ghost says = { S.says };
 }

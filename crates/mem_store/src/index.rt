@@ -2,7 +2,7 @@
 
 ghost use Rattle.mem_store.specs.Shelves.{IsSorted};
 
-use crate::logs::{key_of, left_by};
+use crate::logs::{changed_key, left_by};
 use std::alloc::{AllocError, Global};
 use std::collections::BTreeMap;
 use store_api::{Key, Op, Part};
@@ -77,7 +77,7 @@ impl Index {
         ensures ok { OnOk result ((q : Name) → place_in self.new q ≡ place_after place op.now done q (place_in self.old q)) }
         ensures err { OnErr result ((q : Name) → place_in self.new q ≡ place_in self.old q) }
     {
-        let Some(key) = key_of(op) else {
+        let Some(key) = changed_key(op) else {
             return Ok(());
         };
         let at = self.place(key);

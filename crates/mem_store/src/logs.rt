@@ -6,7 +6,7 @@ ghost use Rattle.store_api.specs.Machine.{last_time, got_of};
 ghost use Rattle.mem_store.specs.Held.{stored_of};
 ghost use Rattle.mem_store.specs.Lent.{reply_lent, event_lent};
 ghost use Rattle.mem_store.specs.Places.{place_left, where_at};
-ghost use Rattle.mem_store.specs.Logs.{key_in, is_done, bytes_put, put_in, puts_in, answered_by, reply_in, told};
+ghost use Rattle.mem_store.specs.Logs.{key_changed, is_done, bytes_put, put_in, puts_in, answered_by, reply_in, told};
 
 use crate::answers::{Held, gone_answer, gone_at_answer, new_answer, over_answer};
 use crate::events::{EventRef, ReplyRef};
@@ -45,17 +45,16 @@ impl Answer {
     }
 }
 
-/// The key that an operation is on.
-pub(crate) fn key_of(op: &Op) -> Option<&Key>
-    ensures { option_copied result ≡ key_in op.now }
+/// The key at which an operation may change what stands.
+pub(crate) fn changed_key(op: &Op) -> Option<&Key>
+    ensures { option_copied result ≡ key_changed op.now }
 {
     match op {
-        Op::Get { key }
-        | Op::PutNew { key, .. }
+        Op::PutNew { key, .. }
         | Op::PutOver { key, .. }
         | Op::Remove { key, .. }
         | Op::RemoveAt { key, .. } => Some(key),
-        Op::List { .. } => None,
+        Op::Get { .. } | Op::List { .. } => None,
     }
 }
 
