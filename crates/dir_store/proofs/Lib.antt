@@ -1,2 +1,4 @@
 pub mod Reading
 pub mod Apart
+pub mod Ties
+pub mod Listed

@@ -1,3 +1,5 @@
 pub mod Paths
 pub mod Store
 pub mod Versions
+pub mod Listings
+pub mod inside

@@ -3,6 +3,7 @@
 ghost use Rattle.std.specs.Prelude.{◌≡◌, refl, false, IfOk, IfErr};
 ghost use Rattle.store_api.specs.Callers.{Called, Counted, as_client};
 ghost use Rattle.dir_store.specs.Store.{view_of, client_of, faults_of, clock_of, IsOpened, IsRightGot, IsRightNew, IsRightOver, IsRightGoneAt, time_of_got, time_of_new, time_of_over, time_of_gone, time_of_gone_at};
+ghost use Rattle.dir_store.specs.Listings.{IsListed};
 
 use crate::files;
 use crate::files::{Change, or_no_memory};
@@ -184,6 +185,7 @@ impl<R: Files + AllocGlobal + Clone + Drop, C: Clock> Store for DirStore<R, C> {
 
     fn list(&mut self, part: Part) -> Result<Listed, StoreFault>
         ensures call { Called (λ listed. Reply.Listed listed) (Op.List part) result (view_of self.old) (view_of self.new) }
+        ensures content { IfOk result (λ listed. IsListed part listed.entries) }
         ensures time { IfOk result (λ listed. C.gives (clock_of self.old) listed.now (clock_of self.new)) }
     {
         let listing = list_files(&self.rt, self.root.as_str(), part);

@@ -1,0 +1,77 @@
+-- What the program says of itself (own): for each command what it reads and prints, the statuses, and an example.
+use Rattle.std.specs.Prelude.{ℕ, List, ◌++◌, codes}
+use Rattle.command_words.specs.declared.reading.Topic.{Topic}
+use Rattle.command_words.specs.declared.reading.Topic.TheVariants as T
+
+-- the line that `--version` prints
+abbrev pub version_line : List ℕ
+version_line = codes "icerepo 0.1.0\n"
+
+-- what the program is, and its commands
+abbrev pub program_text : List ℕ
+program_text =
+    codes "icerepo keeps versioned trees of Zarr groups and arrays in an object store.\n"
+    ++ codes "\n"
+    ++ codes "icerepo play [--dir PATH]     plays the script of standard input, and prints its report\n"
+    ++ codes "icerepo grow N [--dir PATH]   makes a script of N tasks and one before them, plays it, and prints one line\n"
+    ++ codes "icerepo COMMAND --help        says more of a command\n"
+    ++ codes "icerepo --version             prints the version\n"
+    ++ codes "\n"
+    ++ codes "Without --dir the repository is in memory, and is gone at the end. With it, it stays in that directory.\n"
+    ++ codes "\n"
+
+-- what `play` reads and prints
+abbrev pub play_text : List ℕ
+play_text =
+    codes "icerepo play [--dir PATH]\n"
+    ++ codes "\n"
+    ++ codes "Reads a script from standard input and plays it, over a repository in memory, or in the directory PATH.\n"
+    ++ codes "Prints what each task showed and how it ended, and then the snapshot at which each branch and tag stands.\n"
+    ++ codes "\n"
+
+-- what `grow` reads and prints
+abbrev pub grow_text : List ℕ
+grow_text =
+    codes "icerepo grow N [--dir PATH]\n"
+    ++ codes "\n"
+    ++ codes "Reads nothing. Makes a script of one task that lays out an array and N tasks, N from 1 to 60, that each fill\n"
+    ++ codes "50 of its chunks, and plays it, over a repository in memory, or in the directory PATH. The same N makes the\n"
+    ++ codes "same script. Prints one line: how many tasks there were, how many committed and were refused, and how many\n"
+    ++ codes "operations of the store were made.\n"
+    ++ codes "\n"
+
+-- what the exit statuses mean
+abbrev pub statuses_text : List ℕ
+statuses_text =
+    codes "Exit status:\n"
+    ++ codes "0  all went well, and all was written\n"
+    ++ codes "1  a task was refused; the report says which, at which line, and why\n"
+    ++ codes "2  wrong words; nothing was done\n"
+    ++ codes "3  a line of the script was refused; standard error names it, and nothing was done\n"
+    ++ codes "4  standard input failed; nothing was done\n"
+    ++ codes "5  standard output failed\n"
+    ++ codes "6  the store failed\n"
+    ++ codes "7  there was no memory\n"
+    ++ codes "8  the directory can't be used\n"
+    ++ codes "\n"
+
+-- a call of `play`
+abbrev pub play_example : List ℕ
+play_example =
+    codes "Example:\n"
+    ++ codes "$ printf 'task a write main 0 fail\\ngroup /\\ncommit first\\n' | icerepo play\n"
+    ++ codes "a committed 0000008000000000000G\n"
+    ++ codes "branch main 0000008000000000000G\n"
+
+-- a call of `grow`
+abbrev pub grow_example : List ℕ
+grow_example =
+    codes "Example:\n"
+    ++ codes "$ icerepo grow 1\n"
+    ++ codes "tasks 2 committed 2 refused 0 events 16\n"
+
+-- the help on a topic
+abbrev pub help_of : Topic → List ℕ
+help_of T.Program = program_text ++ statuses_text ++ play_example
+help_of T.Play = play_text ++ statuses_text ++ play_example
+help_of T.Grow = grow_text ++ statuses_text ++ grow_example

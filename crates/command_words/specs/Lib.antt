@@ -1,0 +1,4 @@
+pub mod Parsers
+pub mod Words
+pub mod Help
+pub mod inside

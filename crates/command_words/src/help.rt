@@ -1,0 +1,87 @@
+//! What the program says of itself.
+
+ghost use Rattle.std.specs.Prelude.{◌≡◌};
+ghost use Rattle.command_words.specs.Help.{version_line};
+
+use crate::reading::Topic;
+use std::fmt;
+
+/// The line that `--version` prints.
+pub fn version() -> &'static str
+    ensures { result.now ≡ version_line }
+{
+    "icerepo 0.1.0\n"
+}
+
+/// The help, with a line feed behind each line.
+impl fmt::Display for Topic {
+    ghost use Rattle.std.specs.Prelude.{Some};
+    ghost use Rattle.command_words.specs.Help.{help_of};
+
+    ghost output = { λ topic. Some (help_of topic) };
+
+    fn fmt<W: fmt::Write>(&self, f: &mut fmt::Formatter<W>) -> fmt::Result {
+        match self {
+            Topic::Program => write!(f, "{PROGRAM}{STATUSES}{PLAY_EXAMPLE}"),
+            Topic::Play => write!(f, "{PLAY}{STATUSES}{PLAY_EXAMPLE}"),
+            Topic::Grow => write!(f, "{GROW}{STATUSES}{GROW_EXAMPLE}"),
+        }
+    }
+}
+
+/// What the program is, and its commands.
+const PROGRAM: &str = "\
+icerepo keeps versioned trees of Zarr groups and arrays in an object store.\n\
+\n\
+icerepo play [--dir PATH]     plays the script of standard input, and prints its report\n\
+icerepo grow N [--dir PATH]   makes a script of N tasks and one before them, plays it, and prints one line\n\
+icerepo COMMAND --help        says more of a command\n\
+icerepo --version             prints the version\n\
+\n\
+Without --dir the repository is in memory, and is gone at the end. With it, it stays in that directory.\n\
+\n";
+
+/// What `play` reads and prints.
+const PLAY: &str = "\
+icerepo play [--dir PATH]\n\
+\n\
+Reads a script from standard input and plays it, over a repository in memory, or in the directory PATH.\n\
+Prints what each task showed and how it ended, and then the snapshot at which each branch and tag stands.\n\
+\n";
+
+/// What `grow` reads and prints.
+const GROW: &str = "\
+icerepo grow N [--dir PATH]\n\
+\n\
+Reads nothing. Makes a script of one task that lays out an array and N tasks, N from 1 to 60, that each fill\n\
+50 of its chunks, and plays it, over a repository in memory, or in the directory PATH. The same N makes the\n\
+same script. Prints one line: how many tasks there were, how many committed and were refused, and how many\n\
+operations of the store were made.\n\
+\n";
+
+/// What the exit statuses mean.
+const STATUSES: &str = "\
+Exit status:\n\
+0  all went well, and all was written\n\
+1  a task was refused; the report says which, at which line, and why\n\
+2  wrong words; nothing was done\n\
+3  a line of the script was refused; standard error names it, and nothing was done\n\
+4  standard input failed; nothing was done\n\
+5  standard output failed\n\
+6  the store failed\n\
+7  there was no memory\n\
+8  the directory can't be used\n\
+\n";
+
+/// A call of `play`.
+const PLAY_EXAMPLE: &str = "\
+Example:\n\
+$ printf 'task a write main 0 fail\\ngroup /\\ncommit first\\n' | icerepo play\n\
+a committed 0000008000000000000G\n\
+branch main 0000008000000000000G\n";
+
+/// A call of `grow`.
+const GROW_EXAMPLE: &str = "\
+Example:\n\
+$ icerepo grow 1\n\
+tasks 2 committed 2 refused 0 events 16\n";

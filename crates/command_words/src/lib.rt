@@ -1,0 +1,11 @@
+//! The words of the command line: what the program is told to do, and where its repository lies.
+#![tactic(auto)]
+
+mod help;
+mod parsers;
+mod reading;
+mod words;
+
+pub use help::version;
+pub use reading::{Command, Place, Topic, UsageFault, WordsFault, place_of, read_words};
+pub use words::{Word, words_of};

@@ -1,0 +1,105 @@
+-- The entries of objects that were found by their keys are a listing.
+use Rattle.std.proofs.Common.{◌≡◌, ℕ, zero, suc, ◌<◌, List, [], map, get_or, refl, sym, ◌∙◌, ap, Bool, true, false, subst}
+use Rattle.std.specs.Prelude.{Option, Some, None, option_map, slice_get, Result, Ok, Err, IfOk, MatchResult}
+use Rattle.std.specs.declared.cmp.Ordering.{Ordering}
+use Rattle.std.specs.declared.cmp.Ordering.TheVariants.{Less}
+use Rattle.std.specs.Ordering.{nat_cmp, ordering_then}
+use Rattle.std.specs.Map.{lookup}
+use Rattle.std.specs.BTreeMap.{BTreeMap, get, keys, is_at, IsOrdered, IsUnchanged, Updates}
+use Rattle.std.proofs.lemmas.Cmp.{nat_cmp_total, tied_itself}
+use Rattle.std.proofs.lemmas.Map.Entries.{btree_map_get_place}
+use Rattle.std.proofs.lemmas.Map.Keys.{Less-from_sorted}
+use Rattle.std.proofs.lemmas.Option.{slice_get-map, slice_get_within, get_or_from_slice_get}
+use Rattle.store_api.specs.declared.keys.Key.{Key}
+use Rattle.store_api.specs.declared.keys.Part.{Part}
+use Rattle.store_api.specs.declared.events.Entry.{Entry}
+use Rattle.store_api.specs.Machine.{part_of, listing_cmp}
+use Rattle.store_api.specs.Orders.{place_of, key_cmp, key_total}
+use Rattle.store_api.proofs.Slots.{same_key-true}
+use Rattle.dir_store.specs.declared.files.Measures.{Measures}
+use Rattle.dir_store.specs.Listings.{IsListed}
+use Rattle.dir_store.specs.inside.Finding.{IsOfPart, entry_of}
+use Rattle.dir_store.proofs.Ties.{same-tie}
+
+abbrev no_entries : List Entry
+no_entries = []
+
+slice_get-nil : (k : ℕ) → slice_get no_entries k ≡ None
+slice_get-nil zero = refl
+slice_get-nil (suc k) = refl
+
+pub empty_part : (part : Part) (m : BTreeMap Key Measures) → IsOrdered key_cmp m → m.entries ≡ [] → IsOfPart part m
+empty_part part m ordered empty = record {
+  ordered = ordered;
+  parts = λ q v e. let none : get key_cmp m q ≡ None = ap (lookup (is_at (key_cmp q))) empty in let bad : None ≡ Some v = sym none ∙ e in cc;
+}
+
+pub nothing_listed : (part : Part) → IsListed part []
+nothing_listed part = record {
+  parts = λ k e at. let bad : None ≡ Some e = sym (slice_get-nil k) ∙ at in cc;
+  ascending = λ j k d e l at-j at-k. let bad : None ≡ Some d = sym (slice_get-nil j) ∙ at-j in cc;
+}
+
+pub kept : (part : Part) (m n : BTreeMap Key Measures) → IsOfPart part m → IsOrdered key_cmp n → IsUnchanged m n → IsOfPart part n
+kept part m n is ordered same = record {
+  ordered = ordered;
+  parts = λ q v e. is.parts q v (ap (λ es. lookup (is_at (key_cmp q)) es) (sym same) ∙ e);
+}
+
+pub inserted : (part : Part) (m n : BTreeMap Key Measures) (key : Key) (v : Measures) → IsOfPart part m → IsOrdered key_cmp n → part_of key ≡ part → Updates key_cmp m n key (Some v)
+    → IsOfPart part n
+inserted part m n key v is ordered of updates = record { ordered = ordered; parts = λ q w e. decide q w (is_at (key_cmp key) q) refl e }
+  where
+    decide : (q : Key) (w : Measures) (b : Bool) → is_at (key_cmp key) q ≡ b → get key_cmp n q ≡ Some w → part_of q ≡ part
+    decide q w true same e = ap part_of (sym (same_key-true key q (sym (same-tie key q) ∙ same))) ∙ of
+    decide q w false other e = is.parts q w (sym (updates.2 q other) ∙ e)
+
+-- an element of a list of values, and what it is the value of
+mapped : {A B : Type 0} (f : A → B) (xs : List A) (k : ℕ) (y : B) → slice_get (map f xs) k ≡ Some y → (x : A) × (slice_get xs k ≡ Some x) × (y ≡ f x)
+mapped {A} {B} f xs k y e = decide (slice_get xs k) refl
+  where
+    decide : (o : Option A) → slice_get xs k ≡ o → (x : A) × (slice_get xs k ≡ Some x) × (y ≡ f x)
+    decide None is = let bad : None ≡ Some y = ap (λ (o : Option A). option_map f o) (sym is) ∙ (sym (slice_get-map f xs k) ∙ e) in cc
+    decide (Some x) is = let same : Some (f x) ≡ Some y = ap (λ (o : Option A). option_map f o) (sym is) ∙ (sym (slice_get-map f xs k) ∙ e) in (x, is, cc)
+
+-- what is told of a list is told of it behind a conversion
+pub told : {A E F : Type 0} (P : A → Type 0) (Q : F → Type 0) (made : Result A E) (r : Result A F) → MatchResult r (λ v. made ≡ Ok v) Q → IfOk made P → IfOk r P
+told P Q made (Ok v) is p = subst (λ m. IfOk m P) is p
+told P Q made (Err e) is p = tt
+
+module _ (part : Part) (found : BTreeMap Key Measures) (is : IsOfPart part found) where
+  parts : (k : ℕ) (e : Entry) → slice_get (map entry_of found.entries) k ≡ Some e → part_of e.key ≡ part
+  parts k e at =
+      let row = mapped entry_of found.entries k e at in
+      ap (λ (x : Entry). part_of x.key) row.2 ∙ is.parts row.0.0 row.0.1 (btree_map_get_place key_total found k row.0.0 row.0.1 is.ordered row.1)
+
+  within-part : (a b : Key) → part_of a ≡ part → part_of b ≡ part → key_cmp a b ≡ Less → listing_cmp a b ≡ Less
+  within-part a b p q less =
+      sym (ap (λ (o : Ordering). ordering_then o (listing_cmp a b)) (tied_itself nat_cmp_total (place_of part)))
+      ∙ (ap (λ (x : Part). ordering_then (nat_cmp (place_of x) (place_of part)) (listing_cmp a b)) (sym p)
+      ∙ (ap (λ (x : Part). ordering_then (nat_cmp (place_of (part_of a)) (place_of x)) (listing_cmp a b)) (sym q)
+      ∙ less))
+
+  ups : (j k : ℕ) (d e : Entry) → j < k → slice_get (map entry_of found.entries) j ≡ Some d → slice_get (map entry_of found.entries) k ≡ Some e → listing_cmp d.key e.key ≡ Less
+  ups j k d e l at-j at-k =
+      let first = mapped entry_of found.entries j d at-j in
+      let second = mapped entry_of found.entries k e at-k in
+      let a : Key = first.0.0 in
+      let b : Key = second.0.0 in
+      let key-j : slice_get (keys found) j ≡ Some a = slice_get-map (λ (x : Key × Measures). x.0) found.entries j ∙ ap (λ (o : Option (Key × Measures)). option_map (λ (x : Key × Measures). x.0) o) first.1 in
+      let key-k : slice_get (keys found) k ≡ Some b = slice_get-map (λ (x : Key × Measures). x.0) found.entries k ∙ ap (λ (o : Option (Key × Measures)). option_map (λ (x : Key × Measures). x.0) o) second.1 in
+      let less : key_cmp (get_or (keys found) j a) (get_or (keys found) k a) ≡ Less = Less-from_sorted key_cmp (keys found) j k a is.ordered l (slice_get_within (keys found) k b key-k) in
+      let less-keys : key_cmp a b ≡ Less =
+      ap (λ (x : Key). key_cmp x b) (sym (get_or_from_slice_get (keys found) j a a key-j))
+      ∙ (ap (λ (x : Key). key_cmp (get_or (keys found) j a) x) (sym (get_or_from_slice_get (keys found) k b a key-k)) ∙ less) in
+      let part-a : part_of a ≡ part = is.parts a first.0.1 (btree_map_get_place key_total found j a first.0.1 is.ordered first.1) in
+      let part-b : part_of b ≡ part = is.parts b second.0.1 (btree_map_get_place key_total found k b second.0.1 is.ordered second.1) in
+      ap (λ (x : Entry). listing_cmp x.key e.key) first.2
+      ∙ (ap (λ (x : Entry). listing_cmp a x.key) second.2
+      ∙ within-part a b part-a part-b less-keys)
+
+  pub listed : IsListed part (map entry_of found.entries)
+  listed = record { parts = parts; ascending = ups }
+
+  pub listed-as : (entries : List Entry) → entries ≡ map entry_of found.entries → IsListed part entries
+  listed-as entries is = subst (IsListed part) (sym is) listed

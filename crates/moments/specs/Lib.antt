@@ -1,0 +1,2 @@
+pub mod Cutoffs
+pub mod Clocks
