@@ -44,7 +44,7 @@ use Rattle.store_api.specs.Program.{Done, Ask, Keeps, Leads}
 use Rattle.store_api.specs.Plays.{Stays}
 use Rattle.store_api.specs.Running.{Program}
 use Rattle.store_api.proofs.Slots.{effect-cases, slot-append_one, found-stood}
-use Rattle.session.specs.Sessions.{SessionState, nodes_seen}
+use Rattle.session.specs.Sessions.{SessionState, writes, nodes_seen}
 use Rattle.session.specs.Sources.{IsLater}
 use Rattle.session.specs.Editing.{refusal_of_edit}
 use Rattle.session.specs.Chunks.{most_inline, with_chunk, after_draw, after_object, put_object, put_chunk, unless_fault, set_program}
@@ -79,9 +79,7 @@ entries-spelled s ids entries w sized = record {
 
 pub entries-opened : (s : SessionState) (ids : AnyIds) (entries : List (Entry Place)) (journal : List Event) → IsOpened s journal → ObjectsPut journal entries → (IsOnce journal → HasChunks (puts_of journal) entries) → IsOpened (with_entries s ids entries) journal
 entries-opened s ids entries journal o objects chunks = record {
-  named_by = o.named_by;
   named = o.named;
-  names = o.names;
   put = o.put;
   had = o.had;
   rows = o.rows;
@@ -165,7 +163,7 @@ module _ (s : SessionState) (path index bytes : List ℕ) where
 
   -- the object is put under this id
   pub record IsOut (id : Id12) : Type 0 where
-    pub writes : s.writes ≡ true
+    pub writes : writes s ≡ true
     pub fine : refused ≡ None
     pub long : nat_le (length bytes) most_inline ≡ false
     pub drawn : drawn12 s.ids ≡ Some id
@@ -176,26 +174,26 @@ module _ (s : SessionState) (path index bytes : List ℕ) where
   abbrev pub session_out : Id12 → SessionState
   session_out id = with_chunk (after_draw s) path index (Object id 0 (length bytes))
 
-  module _ (Q : Program SessionState → Type 0) (unwritten : s.writes ≡ false → Q (Done (Err R.ReadOnly))) (faulty : (fault : EditFault) → refused ≡ Some fault → Q (Done (Err (refusal_of_edit fault)))) (short : s.writes ≡ true → refused ≡ None → nat_le (length bytes) most_inline ≡ true → Q (Done (Ok (with_chunk s path index (Inline bytes))))) (spent : drawn12 s.ids ≡ None → Q (Done (Err R.IdsSpent))) (out : (id : Id12) → IsOut id → Q (Ask (object_put id) (after_object (session_out id) id))) where
-    by_draw : s.writes ≡ true → refused ≡ None → nat_le (length bytes) most_inline ≡ false → (o : Option Id12) → drawn12 s.ids ≡ o → Q (put_object s path index bytes o)
+  module _ (Q : Program SessionState → Type 0) (unwritten : writes s ≡ false → Q (Done (Err R.ReadOnly))) (faulty : (fault : EditFault) → refused ≡ Some fault → Q (Done (Err (refusal_of_edit fault)))) (short : writes s ≡ true → refused ≡ None → nat_le (length bytes) most_inline ≡ true → Q (Done (Ok (with_chunk s path index (Inline bytes))))) (spent : drawn12 s.ids ≡ None → Q (Done (Err R.IdsSpent))) (out : (id : Id12) → IsOut id → Q (Ask (object_put id) (after_object (session_out id) id))) where
+    by_draw : writes s ≡ true → refused ≡ None → nat_le (length bytes) most_inline ≡ false → (o : Option Id12) → drawn12 s.ids ≡ o → Q (put_object s path index bytes o)
     by_draw w f l None d = spent d
     by_draw w f l (Some id) d = out id (record { writes = w; fine = f; long = l; drawn = d })
 
-    by_length : s.writes ≡ true → refused ≡ None → (b : Bool) → nat_le (length bytes) most_inline ≡ b → Q (cond b (Done (Ok (with_chunk s path index (Inline bytes)))) (put_object s path index bytes (drawn12 s.ids)))
+    by_length : writes s ≡ true → refused ≡ None → (b : Bool) → nat_le (length bytes) most_inline ≡ b → Q (cond b (Done (Ok (with_chunk s path index (Inline bytes)))) (put_object s path index bytes (drawn12 s.ids)))
     by_length w f true l = short w f l
     by_length w f false l = by_draw w f l (drawn12 s.ids) refl
 
-    by_fault : s.writes ≡ true → (o : Option EditFault) → refused ≡ o → Q (unless_fault o (put_chunk s path index bytes))
+    by_fault : writes s ≡ true → (o : Option EditFault) → refused ≡ o → Q (unless_fault o (put_chunk s path index bytes))
     by_fault w None f = by_length w f (nat_le (length bytes) most_inline) refl
     by_fault w (Some fault) f = faulty fault f
 
-    by_writes : (b : Bool) → s.writes ≡ b → Q (cond b (unless_fault refused (put_chunk s path index bytes)) (Done (Err R.ReadOnly)))
+    by_writes : (b : Bool) → writes s ≡ b → Q (cond b (unless_fault refused (put_chunk s path index bytes)) (Done (Err R.ReadOnly)))
     by_writes true w = by_fault w refused refl
     by_writes false w = unwritten w
 
     pub set-cases : Q (set_program s path index bytes)
     unfolding set_program
-    set-cases = by_writes s.writes refl
+    set-cases = by_writes (writes s) refl
 
 -- ---- what it does
 object-keeps : (P : List Event → ℕ → Op → Type 0) (by : Caller) (t : SessionState) (id : Id12) (reply : Reply) (journal : List Event) → Keeps P by (after_object t id reply) journal
@@ -280,7 +278,7 @@ module _ (L : SessionLaw) (by : Caller) (ids : AnyIds) (s : SessionState) (path 
   inline-sized : IsPlace (Inline bytes)
   inline-sized = bytes_tested bytes small
 
-  short-told : s.writes ≡ true → set_refusal (nodes_seen s) path index (length bytes) ≡ None → nat_le (length bytes) most_inline ≡ true → Told (Ok (with_chunk s path index (Inline bytes))) journal
+  short-told : writes s ≡ true → set_refusal (nodes_seen s) path index (length bytes) ≡ None → nat_le (length bytes) most_inline ≡ true → Told (Ok (with_chunk s path index (Inline bytes))) journal
   short-told writes fine short =
       let t = taken (nodes_seen s) path index (length bytes) fine in (
         (record { writes = writes; taken = fine; is = inl (leb-true (length bytes) most_inline short, refl) }, c),

@@ -26,7 +26,7 @@ use Rattle.store_api.specs.declared.machines.Refusal.TheVariants.{ReadOnly, IdsS
 use Rattle.store_api.specs.Journal.{puts_of, IsOnce}
 use Rattle.session.specs.declared.chunks.Value.{Value}
 use Rattle.session.specs.declared.chunks.Value.TheVariants.{Held, Fill}
-use Rattle.session.specs.Sessions.{SessionState, nodes_seen, overlay}
+use Rattle.session.specs.Sessions.{SessionState, writes, nodes_seen, overlay}
 use Rattle.session.specs.Editing.{refusal_of_edit}
 use Rattle.session.specs.Chunks.{most_inline, with_chunk, after_draw}
 use Rattle.store_api.specs.Telling.{ChangedNothing, HasOwn, StandsAt, WasAbsent, WasFailed, WasGot}
@@ -49,7 +49,7 @@ pub record WasPutOut (client : ℕ) (s : SessionState) (path index bytes : List 
 -- The session may be written, its tree takes the chunk, and this is the session in which the chunk has these bytes: a short one stands in the
 -- session itself.
 pub record WasSet (client : ℕ) (s : SessionState) (path index bytes : List ℕ) (t : SessionState) (start journal : List Event) : Type 0 where
-  pub writes : s.writes ≡ true
+  pub writes : writes s ≡ true
   pub taken : set_refusal (nodes_seen s) path index (length bytes) ≡ None
   pub is : ((length bytes ≤ most_inline) × (t ≡ with_chunk s path index (Inline bytes))) ⊎ WasPutOut client s path index bytes t start journal
 
@@ -72,7 +72,7 @@ abbrev pub FaultIs : Option EditFault → Refusal → Type 0
 FaultIs refusal why = (fault : EditFault) × (refusal ≡ Some fault) × (why ≡ refusal_of_edit fault)
 
 abbrev pub SetRefused : ℕ → SessionState → (path index bytes : List ℕ) → List Event → Refusal → List Event → Type 0
-SetRefused client s path index bytes start ReadOnly journal = s.writes ≡ false
+SetRefused client s path index bytes start ReadOnly journal = writes s ≡ false
 SetRefused client s path index bytes start IdsSpent journal = drawn12 s.ids ≡ None
 SetRefused client s path index bytes start (IdTaken key) journal = WasObjectTaken client s key bytes start journal
 SetRefused client s path index bytes start NoMemory journal = Unit {0}

@@ -32,7 +32,7 @@ use Rattle.store_api.specs.Journal.{IsOnce, IsPolite}
 use Rattle.store_api.specs.Callers.{Caller, Makes}
 use Rattle.store_api.specs.Program.{Done, Ask}
 use Rattle.store_api.proofs.Programs.{good-waits}
-use Rattle.session.specs.Sessions.{SessionState, base_nodes}
+use Rattle.session.specs.Sessions.{SessionState, branch_of, version_of, writes, base_nodes}
 use Rattle.session.specs.Sources.{IsLater, MayDrawObject}
 use Rattle.commit_path.specs.declared.commit.Tried.{Tried}
 use Rattle.commit_path.specs.declared.commit.Tried.TheVariants.{Done as Was_done, Lost}
@@ -47,7 +47,7 @@ use Rattle.commit_path.proofs.Walks.{Walks, walks-done, walks-ask, walks-then}
 use Rattle.commit_path.proofs.Spelling.{Spellings}
 use Rattle.store_api.proofs.Telling.{put-did, put-time, makes-keeps}
 use Rattle.store_api.proofs.Happening.{ChangedNothing-makes, own-made, HasOwn-makes, log-leaves, snapshot-leaves, over-same, over-done, over-moved, moved-leaves, moved-later, stands-as, new-present, changed-once, failed-made}
-use Rattle.commit_path.proofs.Knowing.{IsOpened-append}
+use Rattle.commit_path.proofs.Knowing.{IsOpened-append, tip-named}
 use Rattle.commit_path.proofs.Having.{Wrote, Wrote-makes}
 use Rattle.commit_path.proofs.Writing.{arrays-walks}
 use Rattle.commit_path.proofs.Owing.{Logged, Snapped, Logged-append, log-logged, read, new-own, new-sized, snap-did, over-careful, snap-careful, log-careful, made-now, made-stable}
@@ -87,7 +87,7 @@ module _ (L : Spellings) (by : Caller) (ids : AnyIds) (mine : Sessions) (s : Ses
   abbrev Ready : Written → List Event → Type 0
   Ready x journal = Wrote s by.number start (changed_arrays s.held (base_nodes s)) x journal
 
-  module _ (x : Written) (id : Id12) (own : (journal : List Event) → mine journal s id) (is_id : IsId12 id) (drawn : MayDrawObject s.ids id) (logs : is_long (log_file (log_for s id)) ≡ false) where
+  module _ (x : Written) (id : Id12) (own : (journal : List Event) → mine journal s id) (is_id : IsId12 id) (drawn : MayDrawObject s.ids id) (logs : is_long (log_file (log_for s id)) ≡ false) (may_write : writes s ≡ true) where
     abbrev next : AnyIds
     next = after12 x.ids
 
@@ -129,15 +129,15 @@ module _ (L : Spellings) (by : Caller) (ids : AnyIds) (mine : Sessions) (s : Ses
     -- ---- the branch
     done-told : (flushed : ℕ) (version : Version) (now : ℕ) (old new : List Event) → AfterSnapshot flushed old → Makes by over_put (Is_over (Over_done version now)) old new → TookEffect by.number s message (record { id = id; version = version }) start new
     done-told flushed version now old new a n =
-        let polite = (over-careful L by ids mine s message start x id own is_id may w m logs flushed old a.ready a.logged a.snapped).polite in
-        let did = over-done (length n.middle) n.time s.version (found n.middle (Branch s.branch)) version now (over-same _ _ n.answered.answered) in
+        let polite = (over-careful L by ids mine s message start x id own is_id may w m logs may_write flushed old a.ready a.logged a.snapped).polite in
+        let did = over-done (length n.middle) n.time (version_of s) (found n.middle (Branch (branch_of s))) version now (over-same _ _ n.answered.answered) in
         record {
           bytes = ref_bytes id;
           names = L.reference.written id is_id;
           now = now;
           own = own-made by start over_put (Is_over (Over_done version now)) old new n a.ready.nothing;
           position = did.position;
-          read = stands-as n.middle (Branch s.branch) did.stored s.version did.stands did.old_is;
+          read = stands-as n.middle (Branch (branch_of s)) did.stored (version_of s) did.stands did.old_is;
           once = changed-once by start over_put (Is_over (Over_done version now)) old new n a.ready.nothing;
           drawn = drawn;
           written = record {
@@ -151,10 +151,11 @@ module _ (L : Spellings) (by : Caller) (ids : AnyIds) (mine : Sessions) (s : Ses
           is_made = makes-keeps (λ h. IsOnce h → IsMade s id h) (made-stable s id) by over_put (Is_over (Over_done version now)) old new polite n (made-now L s by.number start x message flushed id old a.ready a.logged a.snapped);
         }
 
-    moved-told : (there : Option Version) (now : ℕ) (old new : List Event) → Ready x old → Makes by over_put (Is_over (Moved there now)) old new → WasMoved by.number s (version_at s.version) there next start new
+    moved-told : (there : Option Version) (now : ℕ) (old new : List Event) → Ready x old → Makes by over_put (Is_over (Moved there now)) old new → WasMoved by.number s (version_at (version_of s)) there next start new
     moved-told there now old new k n =
-        let differs = over-moved (length n.middle) n.time s.version (found n.middle (Branch s.branch)) there now (over-same _ _ n.answered.answered) in
+        let differs = over-moved (length n.middle) n.time (version_of s) (found n.middle (Branch (branch_of s))) there now (over-same _ _ n.answered.answered) in
         let o' = subst (λ (h : List Event). IsOpened s h) (sym n.waits.is) (IsOpened-append s old n.waits.between (good-waits by old n.waits.between n.waits.others) k.opened) in
+        let tip = tip-named n.middle s.base s.tip may_write o'.named in
         record {
           old_is = refl;
           next_is = later-later s.ids x.ids (after12 x.ids) k.ids (later-drawn12 x.ids);
@@ -164,19 +165,19 @@ module _ (L : Spellings) (by : Caller) (ids : AnyIds) (mine : Sessions) (s : Ses
           names = L.reference.written id is_id;
           now = now;
           own = own-made by start over_put (Is_over (Moved there now)) old new n k.nothing;
-          later = moved-later n.middle s.branch s.version o'.named_by there o'.named differs;
-          nothing = ChangedNothing-makes by start over_put (Is_over (Moved there now)) old new n (moved-leaves by s.branch (ref_bytes id) (version_at s.version) Commit there now n.time n.middle differs) k.nothing;
+          later = moved-later n.middle (branch_of s) (version_of s) tip.bytes there tip.stood differs;
+          nothing = ChangedNothing-makes by start over_put (Is_over (Moved there now)) old new n (moved-leaves by (branch_of s) (ref_bytes id) (version_at (version_of s)) Commit there now n.time n.middle differs) k.nothing;
         }
 
     branch-told : (flushed : ℕ) (reply : Reply) (old new : List Event) → AfterSnapshot flushed old → Makes by over_put reply old new → Walks Careful Nothing Told by (after_branch s id next reply) new
     branch-told flushed (Is_over (Over_done v now)) old new a n = walks-done Careful Nothing Told by (Ok (Was_done (record { id = id; version = v }))) new (done-told flushed v now old new a n)
-    branch-told flushed (Is_over (Moved there now)) old new a n = walks-done Careful Nothing Told by (Ok (Lost (version_at s.version) there next)) new (moved-told there now old new a.ready n)
+    branch-told flushed (Is_over (Moved there now)) old new a n = walks-done Careful Nothing Told by (Ok (Lost (version_at (version_of s)) there next)) new (moved-told there now old new a.ready n)
     branch-told flushed (Failed d) old new a n = walks-done Careful Nothing Told by (Err R.StoreFault) new (failed-made by (IsOfCommit s) start over_put d old new (inr (id, ref_bytes id, drawn, inr (inr (inr (refl, L.reference.written id is_id))))) n a.ready.nothing)
     branch-told flushed _ old new a n = let e = n.answered.answered in absurd (cc)
 
     branch-walks : (flushed : ℕ) (journal : List Event) → AfterSnapshot flushed journal → Walks Careful Nothing Told by (put_branch s id next) journal
     branch-walks flushed journal a =
-        walks-ask Careful Nothing Told by over_put (after_branch s id next) journal (over-careful L by ids mine s message start x id own is_id may w m logs flushed journal a.ready a.logged a.snapped) a.ready.nothing
+        walks-ask Careful Nothing Told by over_put (after_branch s id next) journal (over-careful L by ids mine s message start x id own is_id may w m logs may_write flushed journal a.ready a.logged a.snapped) a.ready.nothing
         (λ reply new n. (λ off. absurd cc, branch-told flushed reply journal new a n))
 
     -- ---- the snapshot
@@ -272,11 +273,11 @@ module _ (L : Spellings) (by : Caller) (ids : AnyIds) (mine : Sessions) (s : Ses
         (λ reply new n. (λ off. log-nothing reply journal new k.nothing n, log-told reply journal new k n))
 
   -- ---- behind the arrays
-  module _ (draws : (h : List Event) (id : Id12) → MayDrawObject s.ids id → mine h s id) (x : Written) (journal : List Event) (k : Ready x journal) where
+  module _ (draws : (h : List Event) (id : Id12) → MayDrawObject s.ids id → mine h s id) (may_write : writes s ≡ true) (x : Written) (journal : List Event) (k : Ready x journal) where
     by_length : (id : Id12) → drawn12 x.ids ≡ Some id → (long : Bool) → is_long (log_file (log_for s id)) ≡ long
         → Walks Careful Nothing Told by (cond long (Done (Err (R.TooLarge kinds.Log))) (Ask (PutNew (Txn id) (log_file (log_for s id)) Set) (after_log s message x.news id (after12 x.ids)))) journal
     by_length id e true l = walks-done Careful Nothing Told by (Err (R.TooLarge kinds.Log)) journal (record { id = id; drawn = object-drawn s.ids x.ids id k.ids e; long = l }, k.nothing)
-    by_length id e false l = let drawn = object-drawn s.ids x.ids id k.ids e in log-walks x id (λ h. draws h id drawn) (drawn12-IsId12 x.ids id e) drawn l journal k
+    by_length id e false l = let drawn = object-drawn s.ids x.ids id k.ids e in log-walks x id (λ h. draws h id drawn) (drawn12-IsId12 x.ids id e) drawn l may_write journal k
 
     by_draw : (o : Option Id12) → drawn12 x.ids ≡ o → Walks Careful Nothing Told by (put_log s message x.news o (after12 x.ids)) journal
     by_draw None e = walks-done Careful Nothing Told by (Err R.IdsSpent) journal (record { later = x.ids; is_later = k.ids; spent = e }, k.nothing)
@@ -286,17 +287,17 @@ module _ (L : Spellings) (by : Caller) (ids : AnyIds) (mine : Sessions) (s : Ses
   -- and its answer tells the journal so.
   pub commit-walks : ((h : List Event) (id : Id12) → MayDrawObject s.ids id → mine h s id) → (journal : List Event) → IsOpened s journal → ChangedNothing by.number start journal → Walks (IsCareful ids mine) (ChangedNothing by.number start) (CommitTells by.number s message start) by (commit_program s message) journal
   unfolding commit_program
-  commit-walks draws journal o c = by_tests s.writes refl (is_untouched (touched s.held (base_nodes s))) refl
+  commit-walks draws journal o c = by_tests (writes s) refl (is_untouched (touched s.held (base_nodes s))) refl
     where
-      all : Walks Careful Nothing Told by (write_all s message) journal
-      all =
+      all : writes s ≡ true → Walks Careful Nothing Told by (write_all s message) journal
+      all may_write =
           walks-then Careful Nothing (Ready) (λ why h. Told (Err why) h) Told by (arrays_program s.rows s.held.chunks (changed_arrays s.held (base_nodes s)) (unwritten s)) (after_arrays s message) journal
           (arrays-walks L by ids mine s message later w start [] (changed_arrays s.held (base_nodes s)) (unwritten s) journal refl (record { opened = o; nothing = c; ids = later-same s.ids; lists = tt }))
-          (λ x h k. by_draw draws x h k (drawn12 x.ids) refl)
+          (λ x h k. by_draw draws may_write x h k (drawn12 x.ids) refl)
           (λ why h e. e)
 
-      by_tests : (writes : Bool) → s.writes ≡ writes → (untouched : Bool) → is_untouched (touched s.held (base_nodes s)) ≡ untouched
-          → Walks Careful Nothing Told by (cond writes (cond untouched (Done (Err R.NothingToCommit)) (write_all s message)) (Done (Err R.ReadOnly))) journal
+      by_tests : (may_write : Bool) → writes s ≡ may_write → (untouched : Bool) → is_untouched (touched s.held (base_nodes s)) ≡ untouched
+          → Walks Careful Nothing Told by (cond may_write (cond untouched (Done (Err R.NothingToCommit)) (write_all s message)) (Done (Err R.ReadOnly))) journal
       by_tests true e true u = walks-done Careful Nothing Told by (Err R.NothingToCommit) journal (u, c)
-      by_tests true e false u = all
+      by_tests true e false u = all e
       by_tests false e u v = walks-done Careful Nothing Told by (Err R.ReadOnly) journal (e, c)

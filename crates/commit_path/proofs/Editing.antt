@@ -37,7 +37,7 @@ use Rattle.changed_snapshot.specs.Laws.{IsFineNode}
 use Rattle.store_api.specs.declared.events.Event.{Event}
 use Rattle.store_api.specs.declared.machines.Refusal.{Refusal}
 use Rattle.store_api.specs.Journal.{puts_of, IsOnce}
-use Rattle.session.specs.Sessions.{SessionState, base_nodes, nodes_seen}
+use Rattle.session.specs.Sessions.{SessionState, writes, base_nodes, nodes_seen}
 use Rattle.session.specs.Editing.{if_writes, unless_bad, unless_refused, drawn_node, with_node, added, node_fault, meta_set, node_dropped}
 use Rattle.session.specs.Editing as session
 use Rattle.session.proofs.Adding.{few-after}
@@ -98,7 +98,7 @@ drew s t path text id (Some i) d e =
 pub node-added : (fault : Result View MetaFault → Option MetaFault) (s t : SessionState) (path text : List ℕ) (id : Id8) → TellsFaults fault → added fault s path text ≡ Ok (id, t) → Added s t path text id
 unfolding added
 node-added fault s t path text id tells e =
-    let by_text = good (fault (meta_of text)) _ (id, t) (written s.writes _ (id, t) e) in
+    let by_text = good (fault (meta_of text)) _ (id, t) (written (writes s) _ (id, t) e) in
     let by_tree = taken (add_refusal (nodes_seen s) path) _ (id, t) by_text.1 in
     let by_draw : Drew s t path text id = drew s t path text id (drawn8 s.ids) refl by_tree.1 in
     record { metadata = no_fault fault text tells by_text.0; allowed = by_tree.0; drawn = by_draw.drawn; is = by_draw.is }
@@ -111,7 +111,7 @@ pub record TextSet (s t : SessionState) (path text : List ℕ) : Type 0 where
 pub text-set : (s t : SessionState) (path text : List ℕ) → meta_set s path text ≡ Ok t → TextSet s t path text
 unfolding meta_set
 text-set s t path text e =
-    let by_text = good (node_fault (meta_of text)) _ t (written s.writes _ t e) in
+    let by_text = good (node_fault (meta_of text)) _ t (written (writes s) _ t e) in
     let by_tree = taken (text_refusal (nodes_seen s) path text) _ t by_text.1 in
     record { metadata = no_fault node_fault text (λ bad. refl) by_text.0; allowed = by_tree.0; is = sym (result_same _ t by_tree.1) }
 
@@ -122,7 +122,7 @@ pub record Dropped (s t : SessionState) (path : List ℕ) : Type 0 where
 pub node-dropped : (s t : SessionState) (path : List ℕ) → node_dropped s path ≡ Ok t → Dropped s t path
 unfolding node_dropped
 node-dropped s t path e =
-    let by_tree = taken (drop_refusal (nodes_seen s) path) _ t (written s.writes _ t e) in
+    let by_tree = taken (drop_refusal (nodes_seen s) path) _ t (written (writes s) _ t e) in
     record { allowed = by_tree.0; is = sym (result_same _ t by_tree.1) }
 
 -- ---- changes that can be written
@@ -246,7 +246,7 @@ spelled-by s h ids w f sized few = record {
 }
 
 pub opened-by : (s : SessionState) (h : Held Place) (ids : AnyIds) (journal : List Event) → IsOpened s journal → ObjectsPut journal h.chunks → (IsOnce journal → HasChunks (puts_of journal) h.chunks) → IsOpened (record s { held = h; ids = ids }) journal
-opened-by s h ids journal o objects chunks = record { named_by = o.named_by; named = o.named; names = o.names; put = o.put; had = o.had; rows = o.rows; objects = objects; chunks = chunks }
+opened-by s h ids journal o objects chunks = record { named = o.named; put = o.put; had = o.had; rows = o.rows; objects = objects; chunks = chunks }
 
 -- ---- fewer entries
 pub sized-fewer : (old new : List (Entry Place)) → AreFewer old new → AreSized old → AreSized new

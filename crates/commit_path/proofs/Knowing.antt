@@ -1,6 +1,6 @@
 -- What a session knows of the journal, whatever good events come.
-use Rattle.std.proofs.Common.{◌≡◌, List, [], ◌++◌, ◌∙◌, ap}
-use Rattle.std.specs.Prelude.{Some, option_map}
+use Rattle.std.proofs.Common.{◌≡◌, ℕ, true, List, [], ◌++◌, ◌∙◌, ap}
+use Rattle.std.specs.Prelude.{Option, Some, None, is_some, option_map}
 use Rattle.ice_ids.specs.declared.Id12.{Id12}
 use Rattle.snapshot_file.specs.declared.nodes.NodeRow.{NodeRow}
 use Rattle.repo_objects.specs.Trees.{tree_under}
@@ -11,8 +11,9 @@ use Rattle.store_api.specs.Journal.{Each, WasPut, puts_of, rows_of, tree_of, sna
 use Rattle.store_api.proofs.Journals.{Each-back}
 use Rattle.store_api.proofs.Slots.{WasPut-append, StoodAt-append}
 use Rattle.store_api.proofs.Standing.{by-rows, rows-stay, HadRows-append}
-use Rattle.session.specs.Sessions.{SessionState}
-use Rattle.commit_path.specs.Opened.{IsOpened}
+use Rattle.session.specs.declared.tip.Tip.{Tip}
+use Rattle.session.specs.Sessions.{SessionState, tip_branch, tip_version, tip_at}
+use Rattle.commit_path.specs.Opened.{BranchNamed, IsTip, IsOpened}
 use Rattle.commit_path.proofs.Putting.{puts-kept, chunks-extend}
 
 pub once-front : (old more : List Event) → IsOnce (old ++ more) → IsOnce old
@@ -29,11 +30,28 @@ tree-by_rows journal id rows e = by-rows (puts_of journal) (snap_in id (last_put
 pub rows-kept : (journal more : List Event) (id : Id12) (rows : List NodeRow) → WasPut journal (Snapshot id) → Each IsGood journal more → (IsOnce journal → rows_of journal id ≡ Some rows) → IsOnce (journal ++ more) → rows_of (journal ++ more) id ≡ Some rows
 rows-kept journal more id rows w g e once = rows-stay id journal more (once-front journal more once) w g (once-back journal more once) ∙ e (once-front journal more once)
 
+-- ---- the branch that a session writes to
+pub BranchNamed-append : (journal more : List Event) (branch : List ℕ) (version : ℕ) (base : Id12) → BranchNamed journal branch version base → BranchNamed (journal ++ more) branch version base
+BranchNamed-append journal more branch version base n = record { bytes = n.bytes; stood = StoodAt-append journal more (Branch branch) version n.bytes n.stood; names = n.names }
+
+pub IsTip-append : (journal more : List Event) (base : Id12) (tip : Option Tip) → IsTip journal base tip → IsTip (journal ++ more) base tip
+IsTip-append journal more base None n = tt
+IsTip-append journal more base (Some tip) n = BranchNamed-append journal more tip.branch tip.version.0 base n
+
+-- one that writes has it
+pub tip-named : (journal : List Event) (base : Id12) (tip : Option Tip) → is_some tip ≡ true → IsTip journal base tip → BranchNamed journal (tip_branch tip) (tip_version tip) base
+tip-named journal base None e n = cc
+tip-named journal base (Some tip) e n = n
+
+-- at another version
+pub tip-moved : (journal : List Event) (base : Id12) (version : ℕ) (tip : Option Tip) → BranchNamed journal (tip_branch tip) version base → IsTip journal base (tip_at version tip)
+tip-moved journal base version None n = tt
+tip-moved journal base version (Some tip) n = n
+
+-- ---- all that a session knows
 pub IsOpened-append : (s : SessionState) (journal more : List Event) → Each IsGood journal more → IsOpened s journal → IsOpened s (journal ++ more)
 IsOpened-append s journal more g o = record {
-  named_by = o.named_by;
-  named = StoodAt-append journal more (Branch s.branch) s.version o.named_by o.named;
-  names = o.names;
+  named = IsTip-append journal more s.base s.tip o.named;
   put = WasPut-append journal more (Snapshot s.base) o.put;
   had = HadRows-append journal more s.base s.rows o.had;
   rows = rows-kept journal more s.base s.rows o.put g o.rows;

@@ -26,15 +26,15 @@ use Rattle.commit_path.proofs.Lasting.{CommitTells-others}
 use Rattle.commit_path.proofs.Staying.{open-stays}
 use Rattle.commit_path.proofs.Reading.{GetsTell, Leads-both, WasBegun-append, RefusalTells-others, open-told}
 
-opened-both : (by : Caller) (a : Asked) (start : List Event) (answer : Result SessionState Refusal) (h : List Event) → GetsTell by.number a start answer h × Opens a answer h → OpeningTells by.number a start answer h × IfOk answer IsSpelled
+opened-both : (by : Caller) (a : Asked) (start : List Event) (answer : Result SessionState Refusal) (h : List Event) → GetsTell by.number a start answer h × Opens answer h → OpeningTells by.number a start answer h × IfOk answer IsSpelled
 opened-both by a start (Ok s) h q = ((q.0.0, q.1.opened, q.0.1), q.1.spelled)
 opened-both by a start (Err why) h q = (q.0, tt)
 
 -- what an opening answers tells the journal
 pub opening-told : (L : Spellings) (by : Caller) (a : Asked) (start journal : List Event) → ChangedNothing by.number start journal → Leads (λ answer h. OpeningTells by.number a start answer h × IfOk answer IsSpelled) by (open_program a) journal
 opening-told L by a start journal c =
-    Leads-weaker (λ answer h. GetsTell by.number a start answer h × Opens a answer h) (λ answer h. OpeningTells by.number a start answer h × IfOk answer IsSpelled) (λ answer h q. opened-both by a start answer h q) by (open_program a) journal
-    (Leads-both (GetsTell by.number a start) (Opens a) by (open_program a) journal (open-told by a start journal c) (open-leads L by a journal))
+    Leads-weaker (λ answer h. GetsTell by.number a start answer h × Opens answer h) (λ answer h. OpeningTells by.number a start answer h × IfOk answer IsSpelled) (λ answer h q. opened-both by a start answer h q) by (open_program a) journal
+    (Leads-both (GetsTell by.number a start) Opens by (open_program a) journal (open-told by a start journal c) (open-leads L by a journal))
 
 pub opening-law : Spellings → OpeningLaw
 opening-law L by ids a start journal c = (open-careful by ids (λ h t id. ⊥) a journal, open-stays by start a journal c, opening-told L by a start journal c)

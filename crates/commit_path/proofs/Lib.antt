@@ -16,6 +16,8 @@ pub mod Differing
 pub mod Owing
 pub mod Answering
 pub mod Lasting
+pub mod Gets
+pub mod Sooner
 pub mod Opened
 pub mod Reading
 pub mod Staying

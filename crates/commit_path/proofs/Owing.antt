@@ -1,5 +1,5 @@
 -- What a commit does is polite and owed, whatever others do.
-use Rattle.std.proofs.Common.{◌≡◌, ◌≢◌, inl, inr, ℕ, ◌<◌, ◌^◌, false, List, [], ◌∷◌, ◌++◌, refl, sym, ◌∙◌, ap, subst}
+use Rattle.std.proofs.Common.{◌≡◌, ◌≢◌, inl, inr, ℕ, ◌<◌, ◌^◌, true, false, List, [], ◌∷◌, ◌++◌, refl, sym, ◌∙◌, ap, subst}
 use Rattle.std.specs.Prelude.{Option, Some, None, option_map, IfSome}
 use Rattle.std.specs.List.{AllZip, AllByRecursion, Contains}
 use Rattle.std.proofs.lemmas.List.Elements.{All-contains, All-from_recursion}
@@ -39,7 +39,7 @@ use Rattle.store_api.specs.Journal.{Each, WasPut, puts_of, rows_of, tree_of, sna
 use Rattle.store_api.specs.Callers.{Caller, Makes}
 use Rattle.store_api.proofs.Slots.{WasPut-append}
 use Rattle.store_api.proofs.Standing.{snap_made-append, log_made-append, snap_made-put, IsPolite-append}
-use Rattle.session.specs.Sessions.{SessionState, base_nodes, base_tree}
+use Rattle.session.specs.Sessions.{SessionState, branch_of, version_of, writes, base_nodes, base_tree}
 use Rattle.session.specs.Sources.{MayDrawObject}
 use Rattle.commit_path.specs.Committing.{Written, log_for, snap_for, is_long}
 use Rattle.commit_path.specs.Opened.{IsOpened}
@@ -51,7 +51,7 @@ use Rattle.commit_path.proofs.Readable.{over-readable}
 use Rattle.commit_path.proofs.Spelling.{Spellings, tree-over, log-read, snap-read}
 use Rattle.commit_path.proofs.Differing.{snap_tree, differs-over}
 use Rattle.store_api.proofs.Telling.{DidPut, put-did}
-use Rattle.commit_path.proofs.Knowing.{once-front, tree-by_rows, rows-kept}
+use Rattle.commit_path.proofs.Knowing.{once-front, tree-by_rows, rows-kept, tip-named}
 use Rattle.commit_path.proofs.Having.{IsOwnNew, IsNewFor, AreNewFor, Wrote}
 
 -- ---- what a session knows
@@ -214,9 +214,10 @@ module _ (L : Spellings) where
     abbrev Kept : List Event → Type 0
     Kept journal = Wrote s by.number start (changed_arrays s.held (base_nodes s)) x journal
 
-    pub over-careful : (flushed : ℕ) (journal : List Event) → Wrote s by.number start (changed_arrays s.held (base_nodes s)) x journal → Logged s id journal → Snapped s message x.news flushed id journal → IsCareful ids mine journal by.number (PutOver (Branch s.branch) (ref_bytes id) (version_at s.version) Commit)
-    over-careful flushed journal k l p =
+    pub over-careful : writes s ≡ true → (flushed : ℕ) (journal : List Event) → Wrote s by.number start (changed_arrays s.held (base_nodes s)) x journal → Logged s id journal → Snapped s message x.news flushed id journal → IsCareful ids mine journal by.number (PutOver (Branch (branch_of s)) (ref_bytes id) (version_at (version_of s)) Commit)
+    over-careful may_write flushed journal k l p =
         let o = k.opened in
+        let tip = tip-named journal s.base s.tip may_write o.named in
         record {
           polite = record {
             names = record { id = id; reference = L.reference.written id is_id; put = p.put };
@@ -224,9 +225,9 @@ module _ (L : Spellings) where
               refl,
               λ once. record {
                 base = s.base;
-                named_by = o.named_by;
-                named = o.named;
-                names = o.names;
+                named_by = tip.bytes;
+                named = tip.stood;
+                names = tip.names;
                 base_put = o.put;
                 snap = snap_for s message x.news id flushed;
                 made = p.made once;

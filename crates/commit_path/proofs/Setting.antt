@@ -24,7 +24,7 @@ use Rattle.store_api.specs.declared.events.Event.{Event}
 use Rattle.store_api.specs.declared.machines.Refusal.TheVariants as R
 use Rattle.store_api.specs.Journal.{puts_of}
 use Rattle.store_api.specs.Program.{Done}
-use Rattle.session.specs.Sessions.{SessionState, nodes_seen}
+use Rattle.session.specs.Sessions.{SessionState, writes, nodes_seen}
 use Rattle.session.specs.Chunks.{most_inline, with_chunk, put_object, put_chunk, unless_fault, set_program, without_chunk, chunk_unset}
 use Rattle.commit_path.specs.Owed.{HasChunks}
 use Rattle.commit_path.specs.Opened.{ObjectsPut, IsOpened}
@@ -68,7 +68,7 @@ pub record ChunkSet (s t : SessionState) (path index bytes : List ℕ) : Type 0 
 
 pub chunk-set : (s t : SessionState) (path index bytes : List ℕ) → set_program s path index bytes ≡ Done (Ok t) → ChunkSet s t path index bytes
 unfolding set_program
-chunk-set s t path index bytes e = by_refusal (set_refusal (nodes_seen s) path index (length bytes)) refl (by_writes s.writes e)
+chunk-set s t path index bytes e = by_refusal (set_refusal (nodes_seen s) path index (length bytes)) refl (by_writes (writes s) e)
   where
     by_writes : (b : Bool) → cond b (unless_fault (set_refusal (nodes_seen s) path index (length bytes)) (put_chunk s path index bytes)) (Done (Err R.ReadOnly)) ≡ Done (Ok t) → unless_fault (set_refusal (nodes_seen s) path index (length bytes)) (put_chunk s path index bytes) ≡ Done (Ok t)
     by_writes true k = k
@@ -135,7 +135,7 @@ pub record ChunkUnset (s t : SessionState) (path index : List ℕ) : Type 0 wher
 pub chunk-unset : (s t : SessionState) (path index : List ℕ) → chunk_unset s path index ≡ Ok t → ChunkUnset s t path index
 unfolding chunk_unset
 chunk-unset s t path index e =
-    let by_tree = taken (unset_refusal (nodes_seen s) path index) _ t (written s.writes _ t e) in
+    let by_tree = taken (unset_refusal (nodes_seen s) path index) _ t (written (writes s) _ t e) in
     record { allowed = by_tree.0; is = sym (result_same _ t by_tree.1) }
 
 module _ (s : SessionState) (index : List ℕ) where

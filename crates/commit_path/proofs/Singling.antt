@@ -24,7 +24,6 @@ use Rattle.changed_snapshot.specs.declared.written.NewList.{NewList}
 use Rattle.changed_snapshot.specs.Rows.{own_manifests}
 use Rattle.changed_snapshot.specs.Laws.{AreSized}
 use Rattle.flat_tables.specs.declared.header.Kind.TheVariants as kinds
-use Rattle.snapshot_file.specs.declared.snapshot.SnapshotFile.{SnapshotFile}
 use Rattle.snapshot_file.specs.Layout.{snapshot_bytes}
 use Rattle.txn_file.specs.Layout.{log_file}
 use Rattle.ref_file.specs.Refs.{ref_bytes}
@@ -50,10 +49,9 @@ use Rattle.store_api.proofs.Programs.{Leads-weaker}
 use Rattle.store_api.proofs.Telling.{put-time}
 use Rattle.commit_path.proofs.Walks.{Walks, Ends, walks-done, walks-ask, walks-then}
 use Rattle.store_api.proofs.Journals.{Each-append, Each-weaker, Each-one, Each-none}
-use Rattle.repo_read.specs.declared.answers.Resolved.{Resolved}
-use Rattle.repo_read.specs.Answers.{ref_told, snapshot_told, manifest_told}
+use Rattle.repo_read.specs.Answers.{manifest_told}
 use Rattle.repo_read.specs.Programs.{manifest_program}
-use Rattle.session.specs.Sessions.{SessionState, base_nodes}
+use Rattle.session.specs.Sessions.{SessionState, branch_of, version_of, writes, base_nodes}
 use Rattle.session.specs.Opening.{Asked, open_program}
 use Rattle.commit_path.specs.Committing.{Written, manifest_for, with_list, with_manifest, after_manifest, put_manifest, write_array, old_program, array_program, arrays_program, unwritten, write_all, commit_program, after_arrays, put_log, after_log, after_snapshot, after_branch, log_for, snap_for, is_long}
 use Rattle.commit_path.specs.declared.commit.Tried.{Tried}
@@ -63,7 +61,8 @@ use Rattle.commit_path.specs.Opened.{IsOpened}
 use Rattle.commit_path.specs.Single.{PutsSnapshot, PutsNone, HasPutNone, IsAlike, PutsAlike, HasPutAlike, SingleLaw}
 use Rattle.commit_path.specs.Spelled.{IsSpelled}
 use Rattle.commit_path.proofs.Having.{Wrote}
-use Rattle.commit_path.proofs.Opened.{after_ref, after_base}
+use Rattle.commit_path.proofs.Gets.{gets-keep_each, gets-hold}
+use Rattle.commit_path.proofs.Opened.{open-gets}
 use Rattle.commit_path.proofs.Owing.{new-sized, read}
 use Rattle.commit_path.proofs.Reading.{Leads-both}
 use Rattle.commit_path.proofs.Sources.{later-same}
@@ -151,37 +150,11 @@ same-snapshot s id other bytes file why cause e a =
     subst (λ (x : Id12). IsAlike s x file) same_id (subst (IsAlike s id) same a)
 
 -- ---- an opening
-module _ (by : Caller) (start : List Event) where
-  abbrev PutNone : List Event → Type 0
-  PutNone = HasPutNone by.number start
+pub open-none : (by : Caller) (a : Asked) (journal : List Event) → Keeps (λ h client op. ¬ PutsSnapshot op) by (open_program a) journal
+open-none by a journal = gets-keep_each (λ h client op. ¬ PutsSnapshot op) by (λ h key p. p) (open_program a) journal (open-gets a)
 
-  base-none : (a : Asked) (named : Resolved) (snap : Result SnapshotFile Refusal) (journal : List Event) → Keeps (λ h client op. ¬ PutsSnapshot op) by (after_base a named snap) journal
-  unfolding Keeps
-  base-none a named (Ok x) journal = tt
-  base-none a named (Err why) journal = tt
-
-  ref-none : (a : Asked) (named : Result Resolved Refusal) (journal : List Event) → Keeps (λ h client op. ¬ PutsSnapshot op) by (after_ref a named) journal
-  unfolding Keeps
-  ref-none a (Ok named) journal = (λ p. p, λ reply new m. base-none a named (snapshot_told named.id reply) new)
-  ref-none a (Err why) journal = tt
-
-  pub open-none : (a : Asked) (journal : List Event) → Keeps (λ h client op. ¬ PutsSnapshot op) by (open_program a) journal
-  unfolding Keeps
-  open-none a journal = (λ p. p, λ reply new m. ref-none a (ref_told a.branch reply) new)
-
-  base-still : (a : Asked) (named : Resolved) (snap : Result SnapshotFile Refusal) (journal : List Event) → PutNone journal → Leads (λ answer h. PutNone h) by (after_base a named snap) journal
-  unfolding Leads
-  base-still a named (Ok x) journal c = c
-  base-still a named (Err why) journal c = c
-
-  ref-still : (a : Asked) (named : Result Resolved Refusal) (journal : List Event) → PutNone journal → Leads (λ answer h. PutNone h) by (after_ref a named) journal
-  unfolding Leads
-  ref-still a (Ok named) journal c = λ reply new m. base-still a named (snapshot_told named.id reply) new (HasPutNone-makes by start (Get (Snapshot named.id)) reply journal new m (λ p. p) c)
-  ref-still a (Err why) journal c = c
-
-  pub open-still : (a : Asked) (journal : List Event) → PutNone journal → Leads (λ answer h. PutNone h) by (open_program a) journal
-  unfolding Leads
-  open-still a journal c = λ reply new m. ref-still a (ref_told a.branch reply) new (HasPutNone-makes by start (Get (Branch a.branch)) reply journal new m (λ p. p) c)
+pub open-still : (by : Caller) (start : List Event) (a : Asked) (journal : List Event) → HasPutNone by.number start journal → Leads (λ answer h. HasPutNone by.number start h) by (open_program a) journal
+open-still by start a journal c = gets-hold (HasPutNone by.number start) by (λ key reply old new m. HasPutNone-makes by start (Get key) reply old new m (λ p. p)) (open_program a) journal (open-gets a) c
 
 -- ---- a commit
 module _ (by : Caller) (s : SessionState) (start : List Event) where
@@ -270,12 +243,12 @@ module _ (by : Caller) (s : SessionState) (start : List Event) where
     -- the branch
     over-still : (id : Id12) (next : AnyIds) (reply : Reply) (journal : List Event) → PutAlike journal → Walks Alike Anywhere Still by (after_branch s id next reply) journal
     over-still id next (Is_over (Over_done version now)) journal c = still-done (Ok (Was_done (record { id = id; version = version }))) journal c
-    over-still id next (Is_over (Moved there now)) journal c = still-done (Ok (Lost (version_at s.version) there next)) journal c
+    over-still id next (Is_over (Moved there now)) journal c = still-done (Ok (Lost (version_at (version_of s)) there next)) journal c
     over-still id next _ journal c = still-done (Err StoreFault) journal c
 
     snapshot-still : (id : Id12) (next : AnyIds) (reply : Reply) (journal : List Event) → PutAlike journal → Walks Alike Anywhere Still by (after_snapshot s id next reply) journal
     snapshot-still id next (Is_new (New_done version now)) journal c =
-        let op : Op = PutOver (Branch s.branch) (ref_bytes id) (version_at s.version) Commit in
+        let op : Op = PutOver (Branch (branch_of s)) (ref_bytes id) (version_at (version_of s)) Commit in
         walks-ask Alike Anywhere Still by op (after_branch s id next) journal c tt
         (λ reply new n. (λ off. tt, over-still id next reply new (still-makes op reply journal new n (λ p. p) c)))
     snapshot-still id next (Is_new (Present version now)) journal c = still-done (Err (IdTaken (Snapshot id))) journal c
@@ -328,14 +301,14 @@ module _ (by : Caller) (s : SessionState) (start : List Event) where
         (λ x h q. draw_log-still m x q.0 (drawn12 x.ids) refl h q.1)
         (λ why h q. q)
 
-    by_tests : IsUtf8 message → (journal : List Event) → IsOpened s journal → PutAlike journal → (writes untouched : Bool) → Walks Alike Anywhere Still by (cond writes (cond untouched (Done (Err NothingToCommit)) (write_all s message)) (Done (Err ReadOnly))) journal
+    by_tests : IsUtf8 message → (journal : List Event) → IsOpened s journal → PutAlike journal → (may_write untouched : Bool) → Walks Alike Anywhere Still by (cond may_write (cond untouched (Done (Err NothingToCommit)) (write_all s message)) (Done (Err ReadOnly))) journal
     by_tests m journal o c true true = still-done (Err NothingToCommit) journal c
     by_tests m journal o c true false = all-still m journal o c
     by_tests m journal o c false u = still-done (Err ReadOnly) journal c
 
     pub commit-alike : IsUtf8 message → (journal : List Event) → IsOpened s journal → HasPutAlike by.number s start journal → Walks (λ h client op. HasPutAlike client s start h) (λ h. Unit {0}) (Ends (λ (t : Tried) h. HasPutAlike by.number s start h) (λ why h. HasPutAlike by.number s start h)) by (commit_program s message) journal
     unfolding commit_program
-    commit-alike m journal o c = by_tests m journal o c s.writes (is_untouched (touched s.held (base_nodes s)))
+    commit-alike m journal o c = by_tests m journal o c (writes s) (is_untouched (touched s.held (base_nodes s)))
 
 either-alike : (by : Caller) (s : SessionState) (start : List Event) (answer : Result Tried Refusal) (h : List Event) → Ends (λ (t : Tried) j. HasPutAlike by.number s start j) (λ why j. HasPutAlike by.number s start j) answer h → HasPutAlike by.number s start h
 either-alike by s start (Ok t) h c = c
@@ -343,7 +316,7 @@ either-alike by s start (Err why) h c = c
 
 pub single-law : Spellings → SingleLaw
 single-law L = record {
-  opening = λ by a start journal c. (open-none by start a journal, open-still by start a journal c);
+  opening = λ by a start journal c. (open-none by a journal, open-still by start a journal c);
   commit = λ by s message start journal m w o c.
       let all = commit-alike by s start L message w m journal o c in
       (all.keeps, Leads-weaker _ (λ answer h. HasPutAlike by.number s start h) (either-alike by s start) by (commit_program s message) journal all.leads);

@@ -36,7 +36,7 @@ use Rattle.store_api.specs.Program.{Done, Ask, bind}
 use Rattle.store_api.specs.Running.{Program, on_answer, ◌>>=◌}
 use Rattle.repo_read.specs.Answers.{manifest_told}
 use Rattle.repo_read.specs.Programs.{manifest_program}
-use Rattle.session.specs.Sessions.{SessionState, base_nodes}
+use Rattle.session.specs.Sessions.{SessionState, writes, base_nodes}
 use Rattle.commit_path.specs.declared.commit.Commit.{Commit}
 use Rattle.commit_path.specs.declared.committing.Committing.TheVariants.{Ended}
 use Rattle.commit_path.specs.Arrays.{ArraysState}
@@ -172,25 +172,26 @@ own_start _ m = absurd m
 pub undrawn : (s : SessionState) → IsDrawn s s
 undrawn s = record { same = refl; later = record { client = refl; left = omega arith } }
 
-pub read-only : (s : SessionState) (message : List ℕ) → s.writes ≡ false → commit_program s message ≡ Done (Err ReadOnly)
+pub read-only : (s : SessionState) (message : List ℕ) → writes s ≡ false → commit_program s message ≡ Done (Err ReadOnly)
 unfolding commit_program
 read-only s message e = ap (λ (b : Bool). if b then (if is_untouched (touched s.held (base_nodes s)) then Done (Err NothingToCommit) else write_all s message) else Done (Err ReadOnly)) e
 
-pub nothing-changed : (s : SessionState) (message : List ℕ) → s.writes ≡ true → is_untouched (touched s.held (base_nodes s)) ≡ true → commit_program s message ≡ Done (Err NothingToCommit)
+pub nothing-changed : (s : SessionState) (message : List ℕ) → writes s ≡ true → is_untouched (touched s.held (base_nodes s)) ≡ true → commit_program s message ≡ Done (Err NothingToCommit)
 unfolding commit_program
 nothing-changed s message e u =
     ap (λ (b : Bool). if b then (if is_untouched (touched s.held (base_nodes s)) then Done (Err NothingToCommit) else write_all s message) else Done (Err ReadOnly)) e
     ∙ ap (λ (b : Bool). if b then Done (Err NothingToCommit) else write_all s message) u
 
-pub begins : (s : SessionState) (message : List ℕ) (arrays : ArraysState) (xs : List ChangedArray) → s.writes ≡ true → is_untouched (touched s.held (base_nodes s)) ≡ false → arrays.news ≡ [] → arrays.left ≡ xs → xs ≡ changed_arrays s.held (base_nodes s)
-    → commit_program s message ≡ arrays_behind s message (record { news = arrays.news; ids = s.ids }) arrays.left []
+pub begins : (s own : SessionState) (message : List ℕ) (arrays : ArraysState) (xs : List ChangedArray) → own ≡ s → writes s ≡ true → is_untouched (touched s.held (base_nodes s)) ≡ false → arrays.news ≡ [] → arrays.left ≡ xs → xs ≡ changed_arrays s.held (base_nodes s)
+    → commit_program s message ≡ arrays_behind own message (record { news = arrays.news; ids = own.ids }) arrays.left []
 unfolding commit_program
-begins s message arrays xs e u n l is =
+begins s own message arrays xs same e u n l is =
     ap (λ (b : Bool). if b then (if is_untouched (touched s.held (base_nodes s)) then Done (Err NothingToCommit) else write_all s message) else Done (Err ReadOnly)) e
     ∙ (ap (λ (b : Bool). if b then Done (Err NothingToCommit) else write_all s message) u
     ∙ (arrays-begin s message (unwritten s) (changed_arrays s.held (base_nodes s))
     ∙ (ap (λ (ys : List ChangedArray). arrays_behind s message (unwritten s) ys []) (sym (l ∙ is))
-    ∙ ap (λ (ns : List NewList). arrays_behind s message (record { news = ns; ids = s.ids }) arrays.left []) (sym n))))
+    ∙ (ap (λ (ns : List NewList). arrays_behind s message (record { news = ns; ids = s.ids }) arrays.left []) (sym n)
+    ∙ ap (λ (x : SessionState). arrays_behind x message (record { news = arrays.news; ids = x.ids }) arrays.left []) (sym same)))))
 
 -- the arrays so far were written without an operation
 pub record GoesOn (old now : Commit) : Type 0 where

@@ -42,7 +42,7 @@ use Rattle.store_api.specs.declared.machines.Refusal.TheVariants.{ReadOnly, Noth
 use Rattle.store_api.specs.Machine.{version_at}
 use Rattle.store_api.specs.Journal.{IsOnce}
 use Rattle.store_api.specs.Telling.{HasOwn, StandsAt, WasGot, WasAbsent, HasMovedOn, ChangedNothing, ChangedOnce, WasFailed}
-use Rattle.session.specs.Sessions.{SessionState, base_nodes}
+use Rattle.session.specs.Sessions.{SessionState, branch_of, version_of, writes, base_nodes}
 use Rattle.commit_path.specs.declared.commit.Committed.{Committed}
 use Rattle.commit_path.specs.declared.commit.Tried.{Tried}
 use Rattle.commit_path.specs.declared.commit.Tried.TheVariants.{Done as Was_done, Lost}
@@ -52,7 +52,7 @@ use Rattle.commit_path.specs.Owed.{IsMade}
 -- ---- the answers
 -- a put of the session's branch for a commit, over the version that the session had read
 abbrev pub commits_over : SessionState → List ℕ → Op
-commits_over s bytes = PutOver (Branch s.branch) bytes (version_at s.version) Commit
+commits_over s bytes = PutOver (Branch (branch_of s)) bytes (version_at (version_of s)) Commit
 
 -- the client's own put of the log under this id was done, and told this time
 pub record WasLogged (client : ℕ) (id : Id12) (time : ℕ) (start journal : List Event) : Type 0 where
@@ -102,7 +102,7 @@ pub record TookEffect (client : ℕ) (s : SessionState) (message : List ℕ) (ma
   pub now : ℕ
   pub own : HasOwn client (commits_over s bytes) (Is_over (Over_done made.version now)) start journal
   pub position : made.version ≡ version_at (length own.before)
-  pub read : StandsAt own.before (Branch s.branch) s.version
+  pub read : StandsAt own.before (Branch (branch_of s)) (version_of s)
   pub once : ChangedOnce client start own.before own.event journal
   pub drawn : MayDrawObject s.ids made.id
   pub written : WasWritten client s made.id message start journal
@@ -112,7 +112,7 @@ pub record TookEffect (client : ℕ) (s : SessionState) (message : List ℕ) (ma
 -- snapshot, found it at a later version than the one that the session had read, which is the answer's
 -- old one, or found it gone. No event of the client changed a branch. The ids that are drawn next come after those of the session.
 pub record WasMoved (client : ℕ) (s : SessionState) (old : Version) (there : Option Version) (next : AnyIds) (start journal : List Event) : Type 0 where
-  pub old_is : old ≡ version_at s.version
+  pub old_is : old ≡ version_at (version_of s)
   pub next_is : IsLater s.ids next
   pub id : Id12
   pub drawn : MayDrawObject s.ids id
@@ -120,7 +120,7 @@ pub record WasMoved (client : ℕ) (s : SessionState) (old : Version) (there : O
   pub names : ref_of bytes ≡ Some id
   pub now : ℕ
   pub own : HasOwn client (commits_over s bytes) (Is_over (Moved there now)) start journal
-  pub later : HasMovedOn own.before s.branch s.version there
+  pub later : HasMovedOn own.before (branch_of s) (version_of s) there
   pub nothing : ChangedNothing client start journal
 
 -- The key of a manifest, of the log or of the snapshot was taken, under an id that was drawn: the client's own put found an object there.
@@ -210,7 +210,7 @@ pub record HasNoId (s : SessionState) : Type 0 where
 
 -- why a commit of this session, with this message, was refused before its branch was asked for; no event of the client changed a branch
 abbrev pub CommitRefused : ℕ → SessionState → List ℕ → List Event → Refusal → List Event → Type 0
-CommitRefused client s message start ReadOnly journal = s.writes ≡ false
+CommitRefused client s message start ReadOnly journal = writes s ≡ false
 CommitRefused client s message start NothingToCommit journal = is_untouched (touched s.held (base_nodes s)) ≡ true
 CommitRefused client s message start IdsSpent journal = HasNoId s
 CommitRefused client s message start (TooLarge kind) journal = IsLong client s message kind start journal

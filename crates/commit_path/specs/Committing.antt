@@ -44,7 +44,7 @@ use Rattle.store_api.specs.Machine.{version_at}
 use Rattle.store_api.specs.Program.{Done, Ask, IsAsk, is_no_memory}
 use Rattle.store_api.specs.Running.{Program, ◌>>=◌}
 use Rattle.repo_read.specs.Programs.{manifest_program}
-use Rattle.session.specs.Sessions.{SessionState, base_nodes}
+use Rattle.session.specs.Sessions.{SessionState, branch_of, version_of, writes, base_nodes}
 use Rattle.session.specs.Sources.{IsLater}
 use Rattle.commit_path.specs.declared.commit.Tried.{Tried}
 use Rattle.commit_path.specs.declared.commit.Tried.TheVariants.{Done as Was_done, Lost}
@@ -121,12 +121,12 @@ snap_for s message news id flushed = snapshot_over s.held news s.rows s.files (r
 -- what was put over is the commit; or the branch had moved on, and these ids are the next to draw
 abbrev pub after_branch : SessionState → Id12 → (next : AnyIds) → Reply → Answer
 after_branch s id next (Is_over (Over_done version now)) = Done (Ok (Was_done (record { id = id; version = version })))
-after_branch s id next (Is_over (Moved found now)) = Done (Ok (Lost (version_at s.version) found next))
+after_branch s id next (Is_over (Moved found now)) = Done (Ok (Lost (version_at (version_of s)) found next))
 after_branch s id next _ = Done (Err StoreFault)
 
 -- the put over of the branch at the version that was read
 abbrev pub put_branch : SessionState → Id12 → (next : AnyIds) → Answer
-put_branch s id next = Ask (PutOver (Branch_key s.branch) (ref_bytes id) (version_at s.version) For_commit) (after_branch s id next)
+put_branch s id next = Ask (PutOver (Branch_key (branch_of s)) (ref_bytes id) (version_at (version_of s)) For_commit) (after_branch s id next)
 
 abbrev pub after_snapshot : SessionState → Id12 → (next : AnyIds) → Reply → Answer
 after_snapshot s id next (Is_new (New_done version now)) = put_branch s id next
@@ -162,7 +162,7 @@ write_all s message = arrays_program s.rows s.held.chunks (changed_arrays s.held
 
 -- ReadOnly and NothingToCommit come before
 unfoldable pub commit_program : SessionState → (message : List ℕ) → Answer
-commit_program s message = if s.writes then (if is_untouched (touched s.held (base_nodes s)) then Done (Err NothingToCommit) else write_all s message) else Done (Err ReadOnly)
+commit_program s message = if writes s then (if is_untouched (touched s.held (base_nodes s)) then Done (Err NothingToCommit) else write_all s message) else Done (Err ReadOnly)
 
 -- ---- the machine
 -- what is left of an array, where these manifests were got and these weren't; and the arrays behind it
@@ -198,7 +198,7 @@ committing_rest s message w arrays (Old m got) = old_rest s message w arrays m g
 committing_rest s message w arrays (New manifest file) = Ask (PutNew (Manifest_key manifest.id) file Set) (new_behind s message w arrays manifest)
 committing_rest s message w arrays (Log id file) = Ask (PutNew (Txn id) file Set) (after_log s message w.news id w.ids)
 committing_rest s message w arrays (Snapshot id file) = Ask (PutNew (Snapshot_key id) file Set) (after_snapshot s id w.ids)
-committing_rest s message w arrays (Branch id file) = Ask (PutOver (Branch_key s.branch) file (version_at s.version) For_commit) (after_branch s id w.ids)
+committing_rest s message w arrays (Branch id file) = Ask (PutOver (Branch_key (branch_of s)) file (version_at (version_of s)) For_commit) (after_branch s id w.ids)
 committing_rest s message w arrays Ended = Done (Err NoMemory)
 
 -- the session and the message in the machine

@@ -1,11 +1,14 @@
 -- What the answer of an opening says of the journal, in words that name no machine and no program. (Icechunk
 -- specification version 1, "Read from Repository".)
-use Rattle.std.specs.Prelude.{◌≡◌, ◌⊎◌, ℕ, List, Some, Result, Ok, Err}
+use Rattle.std.specs.Prelude.{◌≡◌, ◌⊎◌, ℕ, List, Option, Some, None, Result, Ok, Err}
 use Rattle.ice_ids.specs.declared.Id8.{Id8}
 use Rattle.ice_ids.specs.declared.Id12.{Id12}
+use Rattle.zarr_tree.specs.Held.{Entry, entry_in}
+use Rattle.manifest_file.specs.declared.manifest.Place.{Place}
+use Rattle.manifest_file.specs.declared.manifest.Place.TheVariants.{Object}
 use Rattle.snapshot_file.specs.declared.snapshot.SnapshotFile.{SnapshotFile}
 use Rattle.repo_objects.specs.declared.bad.Bad.{Bad}
-use Rattle.repo_objects.specs.Readings.{read_snapshot, read_ref, snapshot_by, ref_of}
+use Rattle.repo_objects.specs.Readings.{snapshot_by, ref_of}
 use Rattle.store_api.specs.declared.keys.Key.{Key}
 use Rattle.store_api.specs.declared.keys.Key.TheVariants.{Snapshot, Chunk, Branch}
 use Rattle.store_api.specs.declared.events.Op.{Op}
@@ -14,85 +17,88 @@ use Rattle.store_api.specs.declared.events.Event.{Event}
 use Rattle.store_api.specs.declared.machines.Refusal.{Refusal}
 use Rattle.store_api.specs.declared.machines.Refusal.TheVariants.{NoRef, Missing, BadFile, StoreFault, NoMemory}
 use Rattle.store_api.specs.Journal.{WasPut, StoodAt, HadRows, puts_of, rows_of, IsOnce}
+use Rattle.store_api.specs.Telling.{ChangedNothing, WasAbsent, WasFailed, WasGot, SnapshotWasBad, GetsOf}
+use Rattle.repo_read.specs.declared.resolving.At.{At}
+use Rattle.repo_read.specs.declared.resolving.Named.{Named}
+use Rattle.repo_read.specs.Naming.{WasResolved, WasNothing, WasUnnamed, IsNaming}
+use Rattle.session.specs.declared.tip.Tip.{Tip}
 use Rattle.session.specs.Sessions.{SessionState}
 use Rattle.session.specs.Opening.{Asked, begun}
-use Rattle.zarr_tree.specs.Held.{Entry, entry_in}
-use Rattle.manifest_file.specs.declared.manifest.Place.{Place}
-use Rattle.manifest_file.specs.declared.manifest.Place.TheVariants.{Object}
 use Rattle.commit_path.specs.Owed.{HasChunks}
-use Rattle.store_api.specs.Telling.{ChangedNothing, WasAbsent, WasFailed, WasGot}
 
 -- ---- what a session knows
 -- the objects of the chunks that were set were put
 abbrev pub ObjectsPut : List Event → List (Entry Place) → Type 0
 ObjectsPut journal entries = (node : Id8) (i : List ℕ) (id : Id12) (offset size : ℕ) → entry_in entries node i ≡ Some (Some (Object id offset size)) → WasPut journal (Chunk id)
 
--- The branch stood at the session's version, with a reference to its base; a put of the base had the session's rows; and the objects of
--- its long chunks were put. Where nothing is put again, the rows are the base's, and the bytes of its chunks are there.
+-- the branch stood at this version, with a reference to this snapshot
+pub record BranchNamed (journal : List Event) (branch : List ℕ) (version : ℕ) (base : Id12) : Type 0 where
+  pub bytes : List ℕ
+  pub stood : StoodAt journal (Branch branch) version bytes
+  pub names : ref_of bytes ≡ Some base
+
+-- so it was of the branch that a session writes to; one that only reads has none
+abbrev pub IsTip : List Event → (base : Id12) → Option Tip → Type 0
+IsTip journal base None = Unit {0}
+IsTip journal base (Some tip) = BranchNamed journal tip.branch tip.version.0 base
+
+-- A session's branch, if it writes, stood at its version, with a reference to its base; a put of the base had the session's rows; and the
+-- objects of its long chunks were put. Where nothing is put again, the rows are the base's, and the bytes of its chunks are there.
 pub record IsOpened (s : SessionState) (journal : List Event) : Type 0 where
-  pub named_by : List ℕ
-  pub named : StoodAt journal (Branch s.branch) s.version named_by
-  pub names : ref_of named_by ≡ Some s.base
+  pub named : IsTip journal s.base s.tip
   pub put : WasPut journal (Snapshot s.base)
   pub had : HadRows journal s.base s.rows
   pub rows : IsOnce journal → rows_of journal s.base ≡ Some s.rows
   pub objects : ObjectsPut journal s.held.chunks
   pub chunks : IsOnce journal → HasChunks (puts_of journal) s.held.chunks
 
--- ---- a client's own get of its branch
--- the client's own get of the branch that was asked for was answered with a reference to this snapshot
-pub record WasNamed (client : ℕ) (a : Asked) (version : ℕ) (base : Id12) (start journal : List Event) : Type 0 where
-  pub bytes : List ℕ
-  pub got : WasGot client (Branch a.branch) bytes version start journal
-  pub names : ref_of bytes ≡ Some base
-
 -- ---- the answers
--- The session begins at the snapshot that the client got at the branch, with that snapshot's rows and no changes.
+-- The session begins at the snapshot that was named, by a branch, by a tag or by itself, as the client's own gets were answered; with that
+-- snapshot's rows, as the client got it, and no changes.
 pub record WasBegun (client : ℕ) (a : Asked) (s : SessionState) (start journal : List Event) : Type 0 where
-  pub named : WasNamed client a s.version s.base start journal
+  pub named : Named
+  pub resolved : WasResolved client a.at named start journal
+  pub base : s.base ≡ named.id
   pub bytes : List ℕ
   pub version : ℕ
   pub got : WasGot client (Snapshot s.base) bytes version start journal
   pub snap : SnapshotFile
   pub read : snapshot_by s.base bytes ≡ Some snap
-  pub begins : s ≡ begun a s.base s.version snap
+  pub begins : s ≡ begun a named snap
 
--- the branch names a snapshot that isn't there
-pub record WasMissing (client : ℕ) (a : Asked) (key : Key) (start journal : List Event) : Type 0 where
-  pub version : ℕ
-  pub base : Id12
-  pub named : WasNamed client a version base start journal
-  pub key_is : key ≡ Snapshot base
-  pub absent : WasAbsent client (Snapshot base) start journal
+-- a snapshot that was asked for by its id isn't there
+abbrev pub BaseWasAbsent : ℕ → At → List Event → List Event → Type 0
+BaseWasAbsent client (At.Snapshot id) start journal = WasAbsent client (Snapshot id) start journal
+BaseWasAbsent client _ start journal = ⊥
 
--- the branch isn't a reference, for this cause
-pub record WasNoReference (client : ℕ) (a : Asked) (key : Key) (bad : Bad) (start journal : List Event) : Type 0 where
-  pub key_is : key ≡ Branch a.branch
-  pub bytes : List ℕ
-  pub version : ℕ
-  pub got : WasGot client (Branch a.branch) bytes version start journal
-  pub unread : read_ref bytes ≡ Err bad
+-- it was asked for what a ref names
+abbrev pub IsByRef : At → Type 0
+IsByRef (At.Snapshot id) = ⊥
+IsByRef _ = Unit {0}
 
--- the branch names a snapshot that isn't readable, for this cause
-pub record WasNoSnapshot (client : ℕ) (a : Asked) (key : Key) (bad : Bad) (start journal : List Event) : Type 0 where
-  pub version : ℕ
-  pub base : Id12
-  pub named : WasNamed client a version base start journal
-  pub key_is : key ≡ Snapshot base
-  pub bytes : List ℕ
-  pub put : ℕ
-  pub got : WasGot client (Snapshot base) bytes put start journal
-  pub unread : read_snapshot base bytes ≡ Err bad
+-- the ref names a snapshot that isn't there
+pub record WasMissing (client : ℕ) (at : At) (key : Key) (start journal : List Event) : Type 0 where
+  pub by_ref : IsByRef at
+  pub named : Named
+  pub resolved : WasResolved client at named start journal
+  pub key_is : key ≡ Snapshot named.id
+  pub absent : WasAbsent client (Snapshot named.id) start journal
 
--- an operation of an opening: the get of the branch that was asked for, or that of a snapshot
+-- what was named is a snapshot that isn't readable, for this cause
+pub record WasUnread (client : ℕ) (at : At) (key : Key) (bad : Bad) (start journal : List Event) : Type 0 where
+  pub named : Named
+  pub resolved : WasResolved client at named start journal
+  pub unread : SnapshotWasBad client named.id key bad start journal
+
+-- an operation of an opening: a get of what names the snapshot that was asked for, or that of a snapshot
 abbrev pub IsOfOpening : Asked → Op → Type 0
-IsOfOpening a op = (op ≡ Get (Branch a.branch)) ⊎ ((id : Id12) × (op ≡ Get (Snapshot id)))
+IsOfOpening a op = GetsOf (IsNaming a.at) op ⊎ ((id : Id12) × (op ≡ Get (Snapshot id)))
 
 -- why an opening was refused
 abbrev pub RefusalTells : ℕ → Asked → List Event → Refusal → List Event → Type 0
-RefusalTells client a start NoRef journal = WasAbsent client (Branch a.branch) start journal × ChangedNothing client start journal
-RefusalTells client a start (Missing key) journal = WasMissing client a key start journal × ChangedNothing client start journal
-RefusalTells client a start (BadFile key bad) journal = (WasNoReference client a key bad start journal ⊎ WasNoSnapshot client a key bad start journal) × ChangedNothing client start journal
+RefusalTells client a start NoRef journal = (WasNothing client a.at start journal ⊎ BaseWasAbsent client a.at start journal) × ChangedNothing client start journal
+RefusalTells client a start (Missing key) journal = WasMissing client a.at key start journal × ChangedNothing client start journal
+RefusalTells client a start (BadFile key bad) journal = (WasUnnamed client a.at key bad start journal ⊎ WasUnread client a.at key bad start journal) × ChangedNothing client start journal
 RefusalTells client a start StoreFault journal = WasFailed client (IsOfOpening a) start journal
 RefusalTells client a start NoMemory journal = ChangedNothing client start journal
 RefusalTells client a start _ journal = ⊥

@@ -20,7 +20,7 @@ use Rattle.store_api.specs.declared.events.Op.{Op}
 use Rattle.store_api.specs.declared.events.Op.TheVariants.{Get, PutNew, PutOver, List as ListPart}
 use Rattle.store_api.specs.declared.events.Event.{Event}
 use Rattle.store_api.specs.Journal.{WasPut, puts_of, rows_of, snap_made, log_made, IsOnce, IsPolite, IsGood}
-use Rattle.session.specs.Sessions.{SessionState, base_nodes, base_tree, changes_in, overlay}
+use Rattle.session.specs.Sessions.{SessionState, branch_of, version_of, base_nodes, base_tree, changes_in, overlay}
 
 -- The client's sessions at their commits, by the journal until then, each with an object id that its commit may draw.
 abbrev pub Sessions : Type 1
@@ -64,8 +64,8 @@ pub record OwesOver (mine : Sessions) (journal : List Event) (branch bytes : Lis
   pub session : SessionState
   pub id : Id12
   pub is_mine : mine journal session id
-  pub branch_is : branch ≡ session.branch
-  pub version_is : old ≡ session.version
+  pub branch_is : branch ≡ branch_of session
+  pub version_is : old ≡ version_of session
   pub names : ref_of bytes ≡ Some id
   pub why_is : why ≡ Commit
   pub made : IsOnce journal → IsMade session id journal

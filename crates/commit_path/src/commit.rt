@@ -7,15 +7,18 @@ ghost use Rattle.manifest_index.specs.Extents.{are_low};
 ghost use Rattle.store_api.specs.Program.{IsAsk, IsDone, Steps, NextIsPolite};
 ghost use Rattle.store_api.specs.Driving.{Awaits, Took, op_of};
 ghost use Rattle.store_api.specs.declared.events.Op.TheVariants as Op;
+ghost use Rattle.snapshot_file.specs.Layout.{snapshot_bytes};
 ghost use Rattle.txn_file.specs.Layout.{log_file};
-ghost use Rattle.commit_path.specs.Committing.{log_for, old_rest, new_behind, arrays_behind, written_in, after_arrays, after_log, after_snapshot, after_branch, commit_rest, commit_left, manifests_left, session_in, message_in, IsDrawn, IsLeft, CommitStarts, MayRefuseStart, MayRefuseCommit};
+ghost use Rattle.changed_snapshot.specs.declared.written.NewList.{NewList as TheList};
+ghost use Rattle.commit_path.specs.Committing.{log_for, snap_for, old_rest, new_behind, arrays_behind, written_in, after_arrays, after_log, after_snapshot, after_branch, commit_rest, commit_left, manifests_left, session_in, message_in, IsDrawn, IsLeft, CommitStarts, MayRefuseStart, MayRefuseCommit};
 ghost use Rattle.commit_path.specs.inside.Lists.{IsRank};
 ghost use Rattle.commit_path.specs.inside.Working.{IsUnwritten, WritesFile, PassesUnless, got_behind, merged_behind, MayRefuseOwn, LandsCalmly, LandsSurely, Reaches, Turns};
 
 use crate::arrays::Arrays;
 use crate::committing::{Committing, Got};
 use crate::manifests::{made, merged};
-use changed_snapshot::NewManifest;
+use crate::writer::Writer;
+use changed_snapshot::{NewList, NewManifest};
 use flat_tables::{Kind, WriteFault};
 use ice_base::{Bytes, Text};
 use ice_ids::{AnyIds, Id12};
@@ -64,7 +67,7 @@ pub enum Tried {
 #[derive(Drop)]
 pub struct Commit {
     alloc: Global,
-    session: Session,
+    session: Writer,
     message: Text,
     arrays: Arrays,
     state: Committing,
@@ -81,15 +84,32 @@ pub(crate) fn unwritten(kind: Kind, fault: WriteFault) -> Refusal
 }
 
 /// The file of the transaction log.
-fn write_log(alloc: Global, session: &Session, id: Id12) -> Result<Bytes, Refusal>
+fn write_log(alloc: Global, session: &Writer, id: Id12) -> Result<Bytes, Refusal>
     ensures { WritesFile Kind.Log (log_file (log_for session.now id)) result }
 {
-    let Ok(lists) = session.net() else {
+    let Ok(lists) = session.as_session().net() else {
         return Err(Refusal::NoMemory);
     };
     match txn_file::write(alloc, &TxnFile { id, lists }) {
         Ok(file) => Ok(Bytes::from_vec(file)),
         Err(fault) => Err(unwritten(Kind::Log, fault)),
+    }
+}
+
+/// The file of the snapshot.
+fn write_snapshot(
+    session: &Writer,
+    id: Id12,
+    flushed_at: u64,
+    news: &[NewList],
+    message: &Text,
+) -> Result<Bytes, Refusal>
+    requires { Ascends (λ (l : TheList). l.path) None news.now }
+    ensures { WritesFile Kind.Snapshot (snapshot_bytes (snap_for session.now message.now news.now id flushed_at)) result }
+{
+    match session.as_session().write(id, flushed_at, news, message) {
+        Ok(file) => Ok(file),
+        Err(fault) => Err(unwritten(Kind::Snapshot, fault)),
     }
 }
 
@@ -254,7 +274,8 @@ impl Commit {
         let Some(array) = self.arrays.first() else {
             return Ok(false);
         };
-        let manifests = self.session.manifests(&array.path, array.node);
+        let session = self.session.as_session();
+        let manifests = session.manifests(&array.path, array.node);
         if got.len() < manifests.len() {
             let Ok(manifest) = manifests[got.len()].copy(self.alloc) else {
                 return Err(Refusal::NoMemory);
@@ -358,15 +379,12 @@ impl Commit {
                 return Err(Refusal::IdTaken(Key::Txn(id)));
             }
         };
-        match self
-            .session
-            .write(id, now, self.arrays.news(), &self.message)
-        {
+        match write_snapshot(&self.session, id, now, self.arrays.news(), &self.message) {
             Ok(file) => {
                 self.state = Committing::Snapshot { id, file };
                 Ok(Next::Again)
             }
-            Err(fault) => Err(unwritten(Kind::Snapshot, fault)),
+            Err(why) => Err(why),
         }
     }
 
@@ -410,7 +428,7 @@ impl Commit {
             Over::Moved { found, now: _ } => Ok(Next::Ready(Tried::Lost {
                 old: self.session.version(),
                 found,
-                next: self.session.ids(),
+                next: self.session.as_session().ids(),
             })),
         }
     }
@@ -438,6 +456,7 @@ impl Commit {
         let Ok(arrays) = session.changed_arrays() else {
             return Err((session, Refusal::NoMemory));
         };
+        let session = Writer::new(session);
         let mut commit = Commit {
             alloc,
             session,
@@ -447,7 +466,7 @@ impl Commit {
         };
         match commit.go_on() {
             Ok(()) => Ok(commit),
-            Err(why) => Err((commit.session, why)),
+            Err(why) => Err((commit.session.into_session(), why)),
         }
     }
 
@@ -456,7 +475,7 @@ impl Commit {
         ensures session { result.0 ≡ session_in self }
         ensures message { result.1 ≡ message_in self }
     {
-        (self.session, self.message)
+        (self.session.into_session(), self.message)
     }
 
     /// One operation of the store.

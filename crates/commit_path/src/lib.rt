@@ -7,7 +7,9 @@ mod committing;
 mod laws;
 mod manifests;
 mod single;
+mod writer;
 
 pub use commit::{Commit, Committed, Tried};
 pub use laws::{answers_law, commit_law, opening_law, session_law};
 pub use single::single_law;
+pub use writer::Writer;

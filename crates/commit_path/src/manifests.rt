@@ -12,6 +12,7 @@ ghost use Rattle.commit_path.specs.inside.Working.{MakesManifest};
 
 use crate::commit::unwritten;
 use crate::committing::Got;
+use crate::writer::Writer;
 use changed_snapshot::NewManifest;
 use flat_tables::Kind;
 use ice_base::Bytes;
@@ -19,7 +20,6 @@ use ice_ids::Id12;
 use ice_items::Items;
 use manifest_file::{ArrayRefs, ManifestFile, Place};
 use manifest_index::{extents_of, merge};
-use session::Session;
 use std::alloc::{AllocError, Global};
 use store_api::Refusal;
 use zarr_changes::ChangedArray;
@@ -42,7 +42,7 @@ fn all_low(change: &[(Index, Option<Place>)]) -> bool
 /// The chunks of an array after a session's changes, where these are its manifests.
 pub fn merged(
     alloc: Global,
-    session: &Session,
+    session: &Writer,
     array: &ChangedArray,
     got: &Got,
 ) -> Result<Option<ArrayRefs>, AllocError>
@@ -51,7 +51,7 @@ pub fn merged(
     ensures ranks { IfOk result (λ refs. IfSome refs (λ a. All (λ r. length r.index ≡ array.now.rank) a.refs)) }
     ensures low { IfOk result (λ refs. IfSome refs (λ a. All (λ r. IsTrue (are_low r.index)) a.refs)) }
 {
-    let change = session.chunk_changes(array.node)?;
+    let change = session.as_session().chunk_changes(array.node)?;
     // A session's entries lie in grids, so this never comes.
     if !all_low(&change) {
         return Err(AllocError);

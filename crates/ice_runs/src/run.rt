@@ -60,7 +60,7 @@ const SMALLEST_COMMIT: &str = "task a write main 0 fail\ngroup /\ncommit first\n
 
 /// An id is the number of the task's client and the number of ids that it drew before: one for each group, and then the
 /// snapshot's. A version is the number of operations before the one that put it.
-const ROWS: [Row; 21] = [
+const ROWS: [Row; 27] = [
     Row {
         script: "",
         report: "branch main 1CECHNKREP0F1RSTCMT0\n",
@@ -263,6 +263,76 @@ const ROWS: [Row; 21] = [
             task b read branch other\n# two\nlist /\n",
         report: "a refused 2 noref\nb refused 6 noref\nbranch main 1CECHNKREP0F1RSTCMT0\n",
         status: Status::Refused,
+    },
+    // Refs: a branch that is there, `main`, one that isn't there; a tag is made once and dropped for good, and has no line then.
+    Row {
+        script: "task a write main 0 fail\ngroup /\ncommit first\n\
+            task t0 refs\nbranch main id 1CECHNKREP0F1RSTCMT0\n\
+            task t1 refs\nunbranch main\ntask t2 refs\nunbranch x\n\
+            task t3 refs\ntag t branch main\ntask t4 refs\ntag t branch main\n\
+            task t5 refs\nuntag t\ntask t6 refs\nuntag t\ntask t7 refs\ntag t branch main\n\
+            task t8 refs\nlog branch main\nturns\n",
+        report: "a committed 0000008000000000000G\nt0 refused 5 refexists 6\n\
+            t1 refused 7 mainkept\nt2 refused 9 noref\nt3 done\nt4 refused 13 refexists 13\n\
+            t5 done\nt6 refused 17 noref\nt7 refused 19 taggone\n\
+            t8 21 log 0000008000000000000G 4 first\n\
+            t8 21 log 1CECHNKREP0F1RSTCMT0 0 Repository initialized\nt8 done\n\
+            branch main 0000008000000000000G\n",
+        status: Status::Refused,
+    },
+    // A tag and an id are read as they were, though `main` goes on; of an id or a tag that names nothing, there is no ref.
+    Row {
+        script: "task a write main 0 fail\ngroup /\ngroup /one\ncommit one\n\
+            task b refs\ntag t branch main\n\
+            task c write main 0 fail\ngroup /two\ncommit two\n\
+            task d read tag t\nlist /\ntask e read id 00000080000000000010\nlist /\n\
+            task f read id 1CECHNKREP0F1RSTCMT0\nlist /\n\
+            task g read id 00000000000000000000\nlist /\ntask h read tag u\nlist /\nturns\n",
+        report: "a committed 00000080000000000010\nb done\nc committed 000000R000000000000G\n\
+            d 11 list group /one\nd done\ne 13 list group /one\ne done\nf refused 15 nonode\n\
+            g refused 16 noref\nh refused 18 noref\n\
+            branch main 000000R000000000000G\ntag t 00000080000000000010\n",
+        status: Status::Refused,
+    },
+    // A branch is set back while a session is open: its base isn't below the branch any more.
+    Row {
+        script: "task a write main 0 fail\ngroup /\ncommit base\n\
+            task b write main 1 fail\ngroup /b\ncommit late\n\
+            task c refs\nreset main id 1CECHNKREP0F1RSTCMT0\nlog branch main\n\
+            turns a*9 b*2 c*9 b*9\n",
+        report: "a committed 0000008000000000000G\n\
+            b refused 6 notancestor 1CECHNKREP0F1RSTCMT0\n\
+            c 9 log 1CECHNKREP0F1RSTCMT0 0 Repository initialized\nc done\n\
+            branch main 1CECHNKREP0F1RSTCMT0\n",
+        status: Status::Refused,
+    },
+    // A branch is made and committed on; another one is dropped under a session.
+    Row {
+        script: "task a write main 0 fail\ngroup /\ncommit first\n\
+            task b refs\nbranch late branch main\nbranch next branch late\n\
+            task c write late 0 fail\ngroup /c\ncommit lost\n\
+            task d refs\nunbranch late\n\
+            task e write next 0 fail\ngroup /e\ncommit kept\n\
+            turns a*9 b*9 c*2 d*9 c*9\n",
+        report: "a committed 0000008000000000000G\nb done\nc refused 9 conflict 9 -\nd done\n\
+            e committed 0000018000000000000G\n\
+            branch main 0000008000000000000G\nbranch next 0000018000000000000G\n",
+        status: Status::Refused,
+    },
+    // A line that is refused is the task's last one.
+    Row {
+        script: "task a refs\nbranch b branch main\nbranch b branch main\nuntag t\n",
+        report: "a refused 3 refexists 4\n\
+            branch b 1CECHNKREP0F1RSTCMT0\nbranch main 1CECHNKREP0F1RSTCMT0\n",
+        status: Status::Refused,
+    },
+    Row {
+        script: "task a refs\n",
+        report: "",
+        status: Status::Script {
+            line: 1,
+            kind: ScriptKind::Place,
+        },
     },
     Row {
         script: "task a write main 0 fail\ngroup /\ngroop /b\ncommit x\n",

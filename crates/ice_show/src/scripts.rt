@@ -3,7 +3,11 @@
 use crate::told::{push_bytes, push_index};
 use crate::words::NoAnswer;
 use conflicts::{Pick, Policy};
-use play_script::{Call, EditCall, Head, Line, ReadCall, Script, ScriptFault, Task};
+use ice_base::RefName;
+use play_script::{
+    Access, Call, EditCall, Head, Line, ReadCall, RefCall, Script, ScriptFault, Task,
+};
+use repo_read::At;
 use std::alloc::{AllocError, Global};
 use zarr_path::{Index, Path};
 
@@ -48,12 +52,43 @@ fn push_read(told: &mut String, read: &ReadCall) -> Result<(), AllocError> {
     }
 }
 
+/// Appends what names a snapshot.
+fn push_named(told: &mut String, at: &At) -> Result<(), AllocError> {
+    match at {
+        At::Branch(name) => write!(told, "branch {name}"),
+        At::Tag(name) => write!(told, "tag {name}"),
+        At::Snapshot(id) => write!(told, "id {id}"),
+    }
+}
+
+/// Appends a call that lets a ref name a snapshot.
+fn push_ref_at(told: &mut String, call: &str, name: &RefName, at: &At) -> Result<(), AllocError> {
+    write!(told, "{call} {name} at ")?;
+    push_named(told, at)
+}
+
+/// Appends a call on refs.
+fn push_ref(told: &mut String, call: &RefCall) -> Result<(), AllocError> {
+    match call {
+        RefCall::Branch { name, at } => push_ref_at(told, "branch", name, at),
+        RefCall::Reset { name, at } => push_ref_at(told, "reset", name, at),
+        RefCall::Unbranch { name } => write!(told, "no branch {name}"),
+        RefCall::Tag { name, at } => push_ref_at(told, "tag", name, at),
+        RefCall::Untag { name } => write!(told, "no tag {name}"),
+        RefCall::Log { at } => {
+            told.push_str("log of ")?;
+            push_named(told, at)
+        }
+    }
+}
+
 /// Appends what a line calls.
 fn push_call(told: &mut String, call: &Call) -> Result<(), AllocError> {
     match call {
         Call::Edit(edit) => push_edit(told, edit),
         Call::Read(read) => push_read(told, read),
         Call::Commit { message } => write!(told, "commit '{}'", message.as_str()),
+        Call::Ref(call) => push_ref(told, call),
     }
 }
 
@@ -87,20 +122,31 @@ fn push_policy(told: &mut String, policy: &Policy) -> Result<(), AllocError> {
     Ok(())
 }
 
+/// Appends what a task opens a session for.
+fn push_access(told: &mut String, access: &Access) -> Result<(), AllocError> {
+    match access {
+        Access::Write {
+            branch,
+            tries,
+            policy,
+        } => {
+            write!(told, "writes {branch} {tries} ")?;
+            push_policy(told, policy)
+        }
+        Access::Read { at } => {
+            told.push_str("reads ")?;
+            push_named(told, at)
+        }
+    }
+}
+
 /// Appends tasks.
 fn push_tasks(told: &mut String, tasks: &[Task]) -> Result<(), AllocError> {
     for task in tasks {
         write!(told, "\n  {} {} ", task.line, task.name.as_str())?;
         match &task.head {
-            Head::Write {
-                branch,
-                tries,
-                policy,
-            } => {
-                write!(told, "writes {branch} {tries} ")?;
-                push_policy(told, policy)?;
-            }
-            Head::Read { branch } => write!(told, "reads {branch}")?,
+            Head::Session(access) => push_access(told, access)?,
+            Head::Refs => told.push_str("refs")?,
         }
         push_lines(told, task.body.as_slice())?;
     }

@@ -160,6 +160,37 @@ fn failures_by_plan(rt: HostRuntime) -> Result<(), Fail> {
     Ok(())
 }
 
+/// A plan over another plan: each counts the calls from its own making, and a call that both let pass is answered.
+#[test]
+fn plan_over_plan(rt: HostRuntime) -> Result<(), Fail> {
+    let key = branch(rt.alloc(), "main")?;
+    let below = Vec::from_slice(rt.alloc(), &[(0, true), (1, true)])?;
+    let mut inner = FaultStore::new(MemStore::new(rt.alloc(), TickClock::new()), below);
+    let new = inner.put_new(&key, b"one", Why::Init);
+    assert!(rt; matches!(new, Err(StoreFault::Failed)));
+    let above = Vec::from_slice(rt.alloc(), &[(1, false)])?;
+    let mut store = FaultStore::new(inner, above);
+    let over = store.put_over(&key, b"two", Version(0), Why::Reset);
+    assert!(rt; matches!(over, Err(StoreFault::Failed)));
+    let over = store.put_over(&key, b"three", Version(1), Why::Reset);
+    assert!(rt; matches!(over, Err(StoreFault::Failed)));
+    assert!(rt;
+        matches!(
+            store.get(&key)?,
+            Got::Found {
+                version: Version(1),
+                now: 3,
+                ..
+            }
+        )
+    );
+    let Some(failed) = store.inner().inner().event(2) else {
+        return Err("no event 2".into());
+    };
+    assert!(rt; matches!(failed.reply, ReplyRef::Failed { done: false }));
+    Ok(())
+}
+
 /// The journal tells the bytes that a get found, also after they were put over.
 #[test]
 fn bytes_that_were_found(rt: HostRuntime) -> Result<(), Fail> {

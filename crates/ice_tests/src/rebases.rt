@@ -72,7 +72,7 @@ impl Store for Untold {
 
 /// A session to write on `main`, which draws this client's ids, if it was opened.
 fn opened(alloc: Global, client: u32, store: &mut Untold) -> Result<Option<Session>, AllocError> {
-    let mut open = Open::write(alloc, RefName::main(alloc)?, Draw::Count.ids(client));
+    let mut open = Open::write(alloc, RefName::main(alloc)?, Draw::Count.ids(client))?;
     Ok(run_machine(&mut open, store).ok())
 }
 

@@ -4,8 +4,9 @@ use ice_base::{RefName, TickClock};
 use ice_ids::Id12;
 use mem_store::MemStore;
 use refs_admin::{
-    At, drop_branch, drop_tag, make_branch, make_repository, make_tag, read_log, set_branch,
+    drop_branch, drop_tag, make_branch, make_repository, make_tag, read_log, set_branch,
 };
+use repo_read::At;
 use std::alloc::Global;
 use std::test::Fail;
 use store_api::{Refusal, Version};

@@ -18,7 +18,7 @@ fn opened(alloc: Global, ids: AnyIds) -> Result<Option<Session>, Fail> {
     if begin(alloc, &mut store).is_err() {
         return Ok(None);
     }
-    let mut open = Open::write(alloc, RefName::main(alloc)?, ids);
+    let mut open = Open::write(alloc, RefName::main(alloc)?, ids)?;
     let Ok(Next::Again) = open.step(&mut store) else {
         return Ok(None);
     };

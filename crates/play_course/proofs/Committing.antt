@@ -39,7 +39,7 @@ use Rattle.store_api.specs.Program.{Done, Ask}
 use Rattle.store_api.specs.Running.{on_answer}
 use Rattle.store_api.proofs.Journals.{Each-one, Each-weaker}
 use Rattle.repo_read.specs.Answers.{at_key, manifest_told}
-use Rattle.session.specs.Sessions.{SessionState, base_nodes}
+use Rattle.session.specs.Sessions.{SessionState, base_nodes, branch_of, version_of, writes}
 use Rattle.session.specs.Sources.{MayDrawObject}
 use Rattle.commit_path.specs.declared.commit.Tried.{Tried}
 use Rattle.commit_path.specs.declared.commit.Tried.TheVariants.{Done as Was_done, Lost}
@@ -147,12 +147,12 @@ module _ (client : ℕ) (ids : AnyIds) (s : SessionState) where
 
   -- the session that draws other ids
   left-opened : (next : AnyIds) (journal : List Event) → IsOpened s journal → IsOpened (record s { ids = next }) journal
-  left-opened next journal o = record { named_by = o.named_by; named = o.named; names = o.names; put = o.put; had = o.had; rows = o.rows; objects = o.objects; chunks = o.chunks }
+  left-opened next journal o = record { named = o.named; put = o.put; had = o.had; rows = o.rows; objects = o.objects; chunks = o.chunks }
 
   branch-meets : (id : Id12) (next : AnyIds) (reply : Reply) (journal : List Event) → Writes next journal → Meets CommitsWell (beside client ids) (after_branch s id next reply) journal
   branch-meets id next (Is_over (Over_done version now)) journal k = done-meets CommitsWell (beside client ids) (Ok (Was_done (record { id = id; version = version }))) journal tt
   branch-meets id next (Is_over (Moved there now)) journal k =
-      done-meets CommitsWell (beside client ids) (Ok (Lost (version_at s.version) there next)) journal (record { before = k.before; known = k.known; opened = left-opened next journal k.opened })
+      done-meets CommitsWell (beside client ids) (Ok (Lost (version_at (version_of s)) there next)) journal (record { before = k.before; known = k.known; opened = left-opened next journal k.opened })
   branch-meets id next (Is_got x) journal k = done-meets CommitsWell (beside client ids) (Err R.StoreFault) journal refl
   branch-meets id next (Is_new x) journal k = done-meets CommitsWell (beside client ids) (Err R.StoreFault) journal refl
   branch-meets id next (Is_gone x) journal k = done-meets CommitsWell (beside client ids) (Err R.StoreFault) journal refl
@@ -161,10 +161,10 @@ module _ (client : ℕ) (ids : AnyIds) (s : SessionState) where
   branch-meets id next (Failed done) journal k = done-meets CommitsWell (beside client ids) (Err R.StoreFault) journal refl
 
   over-meets : (id : Id12) (next : AnyIds) (journal : List Event) → Writes next journal → Meets CommitsWell (beside client ids) (put_branch s id next) journal
-  over-meets id next journal k = ask-meets CommitsWell (beside client ids) (PutOver (Branch s.branch) (ref_bytes id) (version_at s.version) For_commit) (after_branch s id next) journal (λ more event others own is.
+  over-meets id next journal k = ask-meets CommitsWell (beside client ids) (PutOver (Branch (branch_of s)) (ref_bytes id) (version_at (version_of s)) For_commit) (after_branch s id next) journal (λ more event others own is.
       let mid = writes-others next journal more others k in
       branch-meets id next event.reply ((journal ++ more) ++ event ∷ []) (record {
-        before = before-over ids next (journal ++ more) event s.branch (ref_bytes id) (version_at s.version) For_commit own is mid.before;
+        before = before-over ids next (journal ++ more) event (branch_of s) (ref_bytes id) (version_at (version_of s)) For_commit own is mid.before;
         known = k.known;
         opened = opened-own (journal ++ more) event own mid.opened;
       }))
@@ -224,4 +224,4 @@ module _ (client : ℕ) (ids : AnyIds) (s : SessionState) where
   -- a commit is never refused so
   pub commit-meets : (message : List ℕ) (journal : List Event) → MayCommit client s journal → Meets CommitsWell (beside client ids) (commit_program s message) journal
   unfolding commit_program
-  commit-meets message journal m = tests-meets message journal s.writes (is_untouched (touched s.held (base_nodes s))) m
+  commit-meets message journal m = tests-meets message journal (writes s) (is_untouched (touched s.held (base_nodes s))) m

@@ -31,8 +31,8 @@ use Rattle.play_course.specs.Refusing.{is_strange, strange_answer}
 use Rattle.play_course.proofs.Tidy.{tidy-more, IsTidy, IsAny, Puts, all-named}
 use Rattle.play_course.proofs.Meeting.{Watch, drawing, was-read, Plain, Meets, done-meets, ask-meets, then-meets, meets-weaker, got-meets, replied}
 
--- ---- the events of the opening and the closing reading
-plain-puts : InitialLaw → (op : Op) → IsPlain op → Puts (λ id. ⊥) op
+-- ---- the events of the opening, of tasks on refs and of the closing reading
+pub plain-puts : InitialLaw → (op : Op) → IsPlain op → Puts (λ id. ⊥) op
 plain-puts initial (Get key) p = tt
 plain-puts initial (ListPart part) p = tt
 plain-puts initial (PutNew (Snapshot id) bytes why) p = ((initial_snapshot, ap (λ (i : Id12). snapshot_by i bytes) p.0 ∙ (ap (snapshot_by initial_id) p.1 ∙ initial)), inl p.0)
@@ -40,11 +40,17 @@ plain-puts initial (PutNew (Branch name) bytes why) p = tt
 plain-puts initial (PutNew (Manifest id) bytes why) p = absurd p
 plain-puts initial (PutNew (Txn id) bytes why) p = absurd p
 plain-puts initial (PutNew (Chunk id) bytes why) p = absurd p
-plain-puts initial (PutNew (Tag name) bytes why) p = absurd p
-plain-puts initial (PutNew (TagGone name) bytes why) p = absurd p
-plain-puts initial (PutOver key bytes old why) p = absurd p
+plain-puts initial (PutNew (Tag name) bytes why) p = tt
+plain-puts initial (PutNew (TagGone name) bytes why) p = tt
+plain-puts initial (PutOver (Branch name) bytes old why) p = tt
+plain-puts initial (PutOver (Snapshot id) bytes old why) p = absurd p.0
+plain-puts initial (PutOver (Manifest id) bytes old why) p = absurd p.0
+plain-puts initial (PutOver (Txn id) bytes old why) p = absurd p.0
+plain-puts initial (PutOver (Chunk id) bytes old why) p = absurd p.0
+plain-puts initial (PutOver (Tag name) bytes old why) p = absurd p.0
+plain-puts initial (PutOver (TagGone name) bytes old why) p = absurd p.0
 plain-puts initial (Remove key why) p = absurd p
-plain-puts initial (RemoveAt key old why) p = absurd p
+plain-puts initial (RemoveAt key old why) p = p
 
 -- they put nothing under any client's ids
 pub plain-tidy : InitialLaw → (old own : List Event) → Each IsGood old own → Each (λ journal event. IsPlain event.op) old own → Each (IsTidy (λ id. ⊥)) old own

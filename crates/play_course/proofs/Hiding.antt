@@ -1,5 +1,5 @@
 -- No task of a run over an empty store ends by a log that hides a node: what its outcome tells of the journal says so.
-use Rattle.std.proofs.Common.{◌≡◌, inl, inr, ℕ, Bool, true, false, cond, List, [], ◌∷◌, ◌++◌, refl, sym, ◌∙◌, ap, subst}
+use Rattle.std.proofs.Common.{◌≡◌, ◌⊎◌, inl, inr, ℕ, Bool, true, false, cond, List, [], ◌∷◌, ◌++◌, refl, sym, ◌∙◌, ap, subst}
 use Rattle.std.specs.Prelude.{Option, Some, None, Result, Ok, Err}
 use Rattle.std.specs.FinMap.{get}
 use Rattle.ice_ids.specs.declared.Id8.{Id8}
@@ -21,6 +21,8 @@ use Rattle.store_api.specs.declared.keys.Key.TheVariants.{Txn}
 use Rattle.store_api.specs.declared.events.Event.{Event}
 use Rattle.store_api.specs.declared.machines.Refusal.{Refusal}
 use Rattle.store_api.specs.declared.machines.Refusal.TheVariants as R
+use Rattle.repo_read.specs.declared.resolving.At.{At}
+use Rattle.repo_read.specs.Naming as named
 use Rattle.session.specs.Sessions.{SessionState, nodes_seen}
 use Rattle.commit_path.specs.Answered.{CommitTells}
 use Rattle.commit_path.specs.Opened.{RefusalTells}
@@ -28,11 +30,13 @@ use Rattle.rebase.specs.Telling.{RebaseSays, WasHidden}
 use Rattle.zarr_keys.specs.Keys.{put_over}
 use Rattle.chunk_calls.specs.Told.{SetTells, GetTells}
 use Rattle.play_script.specs.declared.scripts.Call.{Call}
-use Rattle.play_script.specs.declared.scripts.Call.TheVariants.{Edit, Read, Commit}
+use Rattle.play_script.specs.declared.scripts.Call.TheVariants.{Edit, Read, Commit, Ref}
 use Rattle.play_script.specs.declared.scripts.EditCall.{EditCall}
 use Rattle.play_script.specs.declared.scripts.EditCall.TheVariants.{Group, Array, Make, Meta, Drop, Set as Set_call, Fill, Unset, KeySet, KeyErase}
 use Rattle.play_script.specs.declared.scripts.ReadCall.{ReadCall}
 use Rattle.play_script.specs.declared.scripts.ReadCall.TheVariants.{List as List_call, Get as Get_call, Chunk as Chunk_call, KeyGet}
+use Rattle.play_script.specs.declared.scripts.Access.{Access}
+use Rattle.play_script.specs.declared.scripts.Head.TheVariants.{Session}
 use Rattle.play_script.specs.declared.scripts.Line.{Line}
 use Rattle.play_script.specs.declared.scripts.Task.{Task}
 use Rattle.play_outcome.specs.declared.outcome.Shown.{Shown}
@@ -41,7 +45,7 @@ use Rattle.play_outcome.specs.declared.outcome.End.TheVariants as E
 use Rattle.play_outcome.specs.declared.outcome.Outcome.{Outcome}
 use Rattle.play_tasks.specs.Lines.{Deed, Goes, Sets, Reads, Commits, deed, edit_deed, read_deed, edited, read_by, silent, still, key_set_deed, key_get_deed}
 use Rattle.play_tasks.specs.Playing.{asked_by, policy_of}
-use Rattle.play_tasks.specs.Telling.{PlaysAll, Refuses, WasTriedAt, EndsAt, TellsOutcome}
+use Rattle.play_tasks.specs.Telling.{PlaysAll, Refuses, WasTriedAt, EndsAt, WasNotOpened, WasOpened}
 use Rattle.run_histories.specs.Told.{HasLost}
 use Rattle.play_course.specs.Refusing.{is_strange, strange_end}
 use Rattle.play_course.proofs.Reading.{edit-plain}
@@ -96,6 +100,7 @@ deed-plain : (line : ℕ) (made : Call) (s : SessionState) → DeedIsPlain (deed
 deed-plain line (Edit edit) s = edit-deed-plain edit s
 deed-plain line (Read look) s = read-deed-plain line look s
 deed-plain line (Commit message) s = tt
+deed-plain line (Ref call) s = λ why e. cc
 
 -- ---- logs
 -- no reading of a log says that it hides a node
@@ -115,7 +120,7 @@ log-listed id bytes node e = by_file (txn_of bytes) e
 -- no log hides a node from a session of a task that lost a commit
 abbrev pub NeverHides : AnyIds → Task → ℕ → (start journal : List Event) → Type 0
 NeverHides ids task client start journal =
-    (lost : SessionState) (since : List Event) (key : Key) (bad : Bad) → HasLost ids task client start lost since journal → ¬ WasHidden client (policy_of task.head) lost key bad since journal
+    (lost : SessionState) (since : List Event) (key : Key) (bad : Bad) (l : HasLost ids task client start lost since journal) → ¬ WasHidden client (policy_of l.was_played.access) lost key bad since journal
 
 same-why : (end : End) (line other : ℕ) (why own : Refusal) → end ≡ E.Refused line why → end ≡ E.Refused other own → own ≡ why
 same-why end line other why own e f = let both = sym e ∙ f in cc
@@ -123,11 +128,17 @@ same-why end line other why own e f = let both = sym e ∙ f in cc
 not-strange : (why : Refusal) → SaysHidden why → is_strange why ≡ false → ⊥
 not-strange why h p = let both = sym (ap is_strange h.is) ∙ p in absurd cc
 
-module _ (ids : AnyIds) (task : Task) (client : ℕ) (start journal : List Event) (never : NeverHides ids task client start journal) where
-  not-opened : (why : Refusal) → SaysHidden why → RefusalTells client (asked_by task.head ids) start why journal → ⊥
-  not-opened why h t = elim (subst (λ (w : Refusal). RefusalTells client (asked_by task.head ids) start w journal) h.is t).0 [
-    | inl w ↦ let k = w.key_is in absurd cc
-    | inr w ↦ let k = w.key_is in absurd cc
+-- no ref is a log
+log-no-ref : (at : At) (id : Id12) → Txn id ≡ named.key_of at → ⊥
+log-no-ref (At.Branch name) id e = cc
+log-no-ref (At.Tag name) id e = cc
+log-no-ref (At.Snapshot own) id e = cc
+
+module _ (ids : AnyIds) (task : Task) (client : ℕ) (start journal : List Event) (never : NeverHides ids task client start journal) (access : Access) (head_is : task.head ≡ Session access) where
+  not-opened : (why : Refusal) → SaysHidden why → RefusalTells client (asked_by access ids) start why journal → ⊥
+  not-opened why h t = elim (subst (λ (w : Refusal). RefusalTells client (asked_by access ids) start w journal) h.is t).0 [
+    | inl w ↦ log-no-ref (asked_by access ids).at h.at w.key_is
+    | inr w ↦ let k = w.unread.key_is in absurd cc
   ]
 
   not-refused : (d : Deed) (s : SessionState) (why : Refusal) → SaysHidden why → DeedIsPlain d → Refuses client d s start why journal → ⊥
@@ -159,12 +170,12 @@ module _ (ids : AnyIds) (task : Task) (client : ℕ) (start journal : List Event
     abbrev says : (other : ℕ) (own : Refusal) → outcome.end ≡ E.Refused other own → SaysHidden own
     says other own e = let same = same-why outcome.end line other why own end e in record { at = h.at; node = h.node; is = same ∙ h.is }
 
-    never-told : TellsOutcome ids task client start outcome journal → ⊥
+    never-told : WasNotOpened ids access task client start outcome journal ⊎ WasOpened ids access task client start outcome journal → ⊥
     never-told (inl t) = not-opened t.why (says task.line t.why t.end_is) t.tells
     never-told (inr t) = by_left t.left refl t.ends
       where
         -- a commit that was tried
-        tried : (l : Line) (s : SessionState) → PlaysAll client t.played t.opened start outcome.shown s journal → WasTriedAt client task.head l s start outcome.end journal → ⊥
+        tried : (l : Line) (s : SessionState) → PlaysAll client t.played t.opened start outcome.shown s journal → WasTriedAt client access l s start outcome.end journal → ⊥
         tried l s plays w = elim w.ends [
           | inl c ↦ let both = sym end ∙ c.end_is in absurd cc
           | inr a ↦ elim a [
@@ -176,19 +187,19 @@ module _ (ids : AnyIds) (task : Task) (client : ℕ) (start journal : List Event
                   never n.lost (start ++ n.since) (Txn own.at) (Unlisted own.node)
                   (record {
                     session = s;
-                    was_played = record { opened = t.opened; begun = t.begun; early = t.early; read = t.read; played = t.played; left = t.left; body = t.body; shown = outcome.shown; plays = plays };
+                    was_played = record { access = access; head_is = head_is; opened = t.opened; begun = t.begun; early = t.early; read = t.read; played = t.played; left = t.left; body = t.body; shown = outcome.shown; plays = plays };
                     count = w.count;
                     at_last = w.at_last;
                     carried = w.carried;
                     was_lost = n.was_lost;
                     alike = n.alike;
                   })
-                  (says-hidden (policy_of task.head) n.lost (start ++ n.since) n.why own n.tells.0)
+                  (says-hidden (policy_of access) n.lost (start ++ n.since) n.why own n.tells.0)
             ]
           ]
         ]
 
-        by_left : (left : List Line) → t.left ≡ left → EndsAt client task.head left t.session start outcome.end journal → ⊥
+        by_left : (left : List Line) → t.left ≡ left → EndsAt client access left t.session start outcome.end journal → ⊥
         by_left [] e w = let both = sym end ∙ w.0 in absurd cc
         by_left (l ∷ ls) e w = elim w [
           | inl r ↦ not-refused (deed l.number l.call t.session) t.session r.why (says l.number r.why r.end_is) (deed-plain l.number l.call t.session) r.refuses
@@ -199,7 +210,7 @@ module _ (ids : AnyIds) (task : Task) (client : ℕ) (start journal : List Event
         ]
 
   -- so no refusal of it is strange
-  pub told-plain : (outcome : Outcome) → TellsOutcome ids task client start outcome journal → EndsFine outcome.end → strange_end outcome.end ≡ false
+  pub told-plain : (outcome : Outcome) → WasNotOpened ids access task client start outcome journal ⊎ WasOpened ids access task client start outcome journal → EndsFine outcome.end → strange_end outcome.end ≡ false
   told-plain outcome t fine = by_end outcome.end refl fine
     where
       by_end : (end : End) → outcome.end ≡ end → EndsFine end → strange_end end ≡ false

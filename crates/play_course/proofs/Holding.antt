@@ -33,6 +33,7 @@ use Rattle.commit_path.specs.Opened.{IsOpened}
 use Rattle.commit_path.proofs.Knowing.{IsOpened-append}
 use Rattle.commit_path.proofs.Readable.{some_of, own-chunk}
 use Rattle.commit_path.proofs.Having.{here, there}
+use Rattle.run_histories.proofs.Along.{IsObject}
 use Rattle.run_histories.proofs.Drawing.{AreOf}
 use Rattle.run_histories.proofs.Edits.{OwnAreNew, IsKept, GoesOn}
 use Rattle.run_histories.proofs.Sized.{normal-in, sized-keeps}
@@ -49,11 +50,11 @@ pub record StandsWith (journal : List Event) (key : Key) (bytes : List ℕ) : Ty
   pub found_is : found journal key ≡ Some stored
   pub bytes_are : stored.bytes ≡ bytes
 
-pub last-stands : (journal : List Event) (key : Key) (bytes : List ℕ) → Each IsAny [] journal → last_put journal key ≡ Some bytes → StandsWith journal key bytes
-last-stands journal key bytes tidy last = by_found (found journal key) refl
+pub last-stands : (journal : List Event) (key : Key) (bytes : List ℕ) → IsObject key → Each IsAny [] journal → last_put journal key ≡ Some bytes → StandsWith journal key bytes
+last-stands journal key bytes object tidy last = by_found (found journal key) refl
   where
     by_found : (o : Option Stored) → found journal key ≡ o → StandsWith journal key bytes
-    by_found None e = absurd (put-stands key journal tidy ((sound journal key).begun bytes last) e)
+    by_found None e = absurd (put-stands key object journal tidy ((sound journal key).begun bytes last) e)
     by_found (Some s) e = record { stored = s; found_is = e; bytes_are = some-same s.bytes bytes (sym ((sound journal key).last s e) ∙ last) }
 
 -- ---- a session
@@ -165,7 +166,7 @@ pub manifest-stands : (s : SessionState) (journal : List Event) → Each IsAny [
 manifest-stands s journal tidy so_far opened m o =
     let file = some_of (manifest_put (puts_of journal) m.id) ((base-of s journal so_far opened).readable.manifests o.path o.row m o.there o.named) in
     let bytes = and-then (manifest_by m.id) (last_put journal (Manifest m.id)) file.0 file.1 in
-    let stands = last-stands journal (Manifest m.id) bytes.0 tidy bytes.1 in
+    let stands = last-stands journal (Manifest m.id) bytes.0 tt tidy bytes.1 in
     record { file = file.0; put = file.1; stored = stands.stored; found_is = stands.found_is; read = ap (manifest_by m.id) stands.bytes_are ∙ bytes.2 }
 
 module _ (client : ℕ) (ids : AnyIds) (s : SessionState) (journal : List Event) (h : Held client ids s journal) where

@@ -1,13 +1,13 @@
 -- The histories of a course.
 use Rattle.std.proofs.Common.{◌≡◌, ℕ, ◌<◌, ◌-◌, ◌^◌, inl, inr, List, [], length, refl, sym, ◌∙◌, ap, subst, append-nil, arith}
-use Rattle.std.specs.Prelude.{Option, Some, None, Result, Ok, Err, IsTrue, IfOk, IfErr, All}
+use Rattle.std.specs.Prelude.{◌↔◌, Option, Some, None, Result, Ok, Err, IsTrue, IfOk, IfErr, All}
 use Rattle.std.specs.declared.alloc.AllocError.{AllocError}
 use Rattle.ice_ids.specs.declared.Id12.{Id12}
 use Rattle.ice_ids.specs.declared.drawing.Draw.{Draw}
 use Rattle.zarr_tree.specs.Changes.{Changes}
 use Rattle.repo_objects.specs.Readings.{ref_of}
 use Rattle.store_api.specs.declared.events.Event.{Event}
-use Rattle.store_api.specs.declared.keys.Key.TheVariants.{Branch}
+use Rattle.store_api.specs.declared.keys.Key.TheVariants.{Branch, Tag, TagGone}
 use Rattle.store_api.specs.declared.machines.Refusal.{Refusal}
 use Rattle.store_api.specs.Machine.{Stored, found}
 use Rattle.store_api.specs.Journal.{IsGood, tree_of}
@@ -17,10 +17,12 @@ use Rattle.store_api.proofs.Journals.{Each-none}
 use Rattle.store_api.proofs.Programs.{Path-none}
 use Rattle.histories.specs.Repository.{Entry, last}
 use Rattle.histories.specs.Calls.{history_of, StandsAs}
+use Rattle.histories.specs.Tags.{TagState, Absent, Stands, Gone, made_as}
+use Rattle.histories.specs.TagCalls.{tag_of, IsBuriedAs, StandsByState}
 use Rattle.store_api.specs.Running.{Program, Runs}
 use Rattle.repository.specs.Beginning.{begin_program}
 use Rattle.repository.specs.Refs.{refs_program}
-use Rattle.repository.specs.Closing.{NamesAt, TellsRefs, RefsLaw}
+use Rattle.repository.specs.Closing.{HasLine, tag_line, NamesAt, TellsRefs, RefsLaw}
 use Rattle.play_script.specs.declared.scripts.Script.{Script}
 use Rattle.play_script.specs.Well.{IsWell, IsWellTask}
 use Rattle.play_outcome.specs.declared.outcome.Outcome.{Outcome}
@@ -31,7 +33,7 @@ use Rattle.run_histories.specs.Runs.{RanAlone, PlayedAlone, IsSound, IsRun}
 use Rattle.run_histories.specs.Told.{HasHistories, RunLaw}
 use Rattle.play_course.specs.declared.course.Played.{Played}
 use Rattle.play_course.specs.Course.{Course, OnlyBegan, Plays}
-use Rattle.play_course.specs.Leaving.{TellsEnds, LeavesBranches}
+use Rattle.play_course.specs.Leaving.{TagEndsAt, TellsEnds, LeavesBranches}
 use Rattle.play_course.proofs.Playing.{tells-on}
 
 -- ---- the parts of a run
@@ -47,11 +49,11 @@ plays-alone draw script old new (Err why) outcomes t p = record { own = []; is =
 
 -- ---- the refs that are told
 -- what stands at a branch is its history's last entry
-names-ends : (journal : List Event) (name : List ℕ) (id : Id12) (stands : Option Stored) (end : Option Entry) → StandsAs stands end → (s : Stored) → stands ≡ Some s → ref_of s.bytes ≡ Some id → (e : Entry) × (end ≡ Some e) × (e.id ≡ id)
-names-ends journal name id None None k s at names = cc
-names-ends journal name id None (Some e) k s at names = cc
-names-ends journal name id (Some x) None k s at names = absurd k
-names-ends journal name id (Some x) (Some e) k s at names = (e, refl, same (sym k.1 ∙ ap (λ (b : List ℕ). ref_of b) (bytes at) ∙ names))
+names-ends : (id : Id12) (stands : Option Stored) (end : Option Entry) → StandsAs stands end → (s : Stored) → stands ≡ Some s → ref_of s.bytes ≡ Some id → (e : Entry) × (end ≡ Some e) × (e.id ≡ id)
+names-ends id None None k s at names = cc
+names-ends id None (Some e) k s at names = cc
+names-ends id (Some x) None k s at names = absurd k
+names-ends id (Some x) (Some e) k s at names = (e, refl, same (sym k.1 ∙ ap (λ (b : List ℕ). ref_of b) (bytes at) ∙ names))
   where
     bytes : Some x ≡ Some s → x.bytes ≡ s.bytes
     bytes h = cc
@@ -68,14 +70,44 @@ ends-names id (Some s) (Some x) k e at names = (s, refl, k.1 ∙ ap (λ (i : Id1
     same : Some x ≡ Some e → x.id ≡ e.id
     same h = cc
 
+-- a tag that has no tombstone stands as its state says
+tag-stands : (id : Id12) (state : TagState) (at tombstone : Option Stored) → StandsAs at (made_as state) → IsBuriedAs state tombstone → tombstone ≡ None → (s : Stored) → at ≡ Some s → ref_of s.bytes ≡ Some id → (e : Entry) × (state ≡ Stands e) × (e.id ≡ id)
+tag-stands id Absent None tombstone k b none s e names = cc
+tag-stands id Absent (Some x) tombstone k b none s e names = absurd k
+tag-stands id (Stands x) at tombstone k b none s e names = let end = names-ends id at (Some x) k s e names in (x, refl, ap (λ (y : Entry). y.id) (entry_same x end.0 end.1) ∙ end.2)
+  where
+    entry_same : (a c : Entry) → Some a ≡ Some c → a ≡ c
+    entry_same a c h = cc
+tag-stands id (Gone x) at tombstone k b none s e names = let there = sym b.1 ∙ none in absurd cc
+
+-- and one that stands has none
+tag-unburied : (state : TagState) (tombstone : Option Stored) (e : Entry) → state ≡ Stands e → IsBuriedAs state tombstone → tombstone ≡ None
+tag-unburied state tombstone e is b = subst (λ (s : TagState). IsBuriedAs s tombstone) is b
+
 module _ (changes : ℕ → Changes) (journal : List Event) where
-  told-ends : (lines : List RefLine) → ((branch : List ℕ) → StandsAs (found journal (Branch branch)) (last (history_of (tree_of journal) changes journal branch))) → TellsRefs journal lines → TellsEnds changes journal lines
-  told-ends lines stand t = record {
+  -- the state of a tag
+  abbrev state : List ℕ → TagState
+  state name = tag_of (tree_of journal) journal name
+
+  told-tags : (lines : List RefLine) → ((tag : List ℕ) → StandsByState (tree_of journal) journal tag) → TellsRefs journal lines → (name : List ℕ) (id : Id12) → (HasLine lines (tag_line name id) ↔ TagEndsAt journal name id)
+  told-tags lines stand t name id = (
+    λ line.
+        let n = (t.tags name id).0 line in
+        let e = tag-stands id (state name) (found journal (Tag name)) (found journal (TagGone name)) (stand name).tag (stand name).tombstone n.1 n.0.stored n.0.stands n.0.names in
+        record { entry = e.0; stands = e.1; names = e.2 },
+    λ end.
+        let s = ends-names id (found journal (Tag name)) (made_as (state name)) (stand name).tag end.entry (ap made_as end.stands) end.names in
+        (t.tags name id).1 (record { stored = s.0; stands = s.1; names = s.2 }, tag-unburied (state name) (found journal (TagGone name)) end.entry end.stands (stand name).tombstone),
+  )
+
+  told-ends : (lines : List RefLine) → ((branch : List ℕ) → StandsAs (found journal (Branch branch)) (last (history_of (tree_of journal) changes journal branch))) → ((tag : List ℕ) → StandsByState (tree_of journal) journal tag) → TellsRefs journal lines → TellsEnds changes journal lines
+  told-ends lines stand tags t = record {
     stand = t;
+    tags = told-tags lines tags t;
     ends = λ name id. (
       λ line.
           let n : NamesAt journal (Branch name) id = (t.branches name id).0 line in
-          let e = names-ends journal name id (found journal (Branch name)) (last (history_of (tree_of journal) changes journal name)) (stand name) n.stored n.stands n.names in
+          let e = names-ends id (found journal (Branch name)) (last (history_of (tree_of journal) changes journal name)) (stand name) n.stored n.stands n.names in
           record { entry = e.0; is_last = e.1; names = e.2 },
       λ end.
           let s = ends-names id (found journal (Branch name)) (last (history_of (tree_of journal) changes journal name)) (stand name) end.entry end.is_last end.names in
@@ -120,7 +152,7 @@ course-leaves run closing draw script old new opening outcomes refs few wells c 
     let h = run draw script.tasks before old.seen new.seen sound new_run (course-run draw script old new opening outcomes refs few wells c t) in
     record {
       histories = h;
-      told = λ lines e. told-ends h.changes new.seen lines h.stand (ran-told refs (as_client 0 c.played) new closing played_tells last_all c.reads lines e);
+      told = λ lines e. told-ends h.changes new.seen lines h.stand h.tags_stand (ran-told refs (as_client 0 c.played) new closing played_tells last_all c.reads lines e);
     }
 
 -- a script has few tasks

@@ -8,6 +8,9 @@ mod Reading
 mod Placing
 mod Committing
 mod Rebasing
+mod Naming
+mod Opening
+mod Calling
 mod Tasks
 mod Edges
 mod Hiding

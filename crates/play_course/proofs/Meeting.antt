@@ -91,6 +91,13 @@ PlayMeets Q watch (Ask_play op starved next) journal =
     PlayMeets Q watch starved journal × ((more : List Event) (event : Event) → Each watch.others journal more → watch.own (journal ++ more) event → event.op ≡ op → PlayMeets Q watch (next event.reply) ((journal ++ more) ++ event ∷ []))
 PlayMeets Q watch (Or p q) journal = PlayMeets Q watch p journal × PlayMeets Q watch q journal
 
+-- where R follows from Q
+pub play-weaker : {A : Type 0} (Q R : A → Type 0) → ((a : A) → Q a → R a) → (watch : Watch) (p : Play A) (journal : List Event) → PlayMeets Q watch p journal → PlayMeets R watch p journal
+unfolding PlayMeets
+play-weaker Q R f watch (Ended a) journal m = f a m
+play-weaker Q R f watch (Ask_play op starved next) journal m = (play-weaker Q R f watch starved journal m.0, λ more event others own is. play-weaker Q R f watch (next event.reply) ((journal ++ more) ++ event ∷ []) (m.1 more event others own is))
+play-weaker Q R f watch (Or p q) journal m = (play-weaker Q R f watch p journal m.0, play-weaker Q R f watch q journal m.1)
+
 module _ {A : Type 0} (Q : A → Type 0) (watch : Watch) where
   pub ended-meets : (a : A) (journal : List Event) → Q a → PlayMeets Q watch (Ended a) journal
   unfolding PlayMeets

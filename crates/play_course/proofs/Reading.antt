@@ -124,7 +124,7 @@ module _ (client : ℕ) (ids : AnyIds) (s : SessionState) where
       let after = held-got (journal ++ more) event (Chunk id) own is mid in
       let b = has (journal ++ more) mid (grown journal more others h) in
       let object = and-then (part_of offset size) (last_put (journal ++ more) (Chunk id)) b.0 b.1 in
-      let stands = last-stands (journal ++ more) (Chunk id) object.0 mid.before.tidy object.1 in
+      let stands = last-stands (journal ++ more) (Chunk id) object.0 tt mid.before.tidy object.1 in
       got-meets ReadWell (beside client ids) (λ reply. on_answer (λ bytes. Done (Ok (Is_held bytes))) (object_told want id offset size reply)) (journal ++ more) event own.tidy.good ((journal ++ more) ++ event ∷ []) (Chunk id) is
       (λ st e.
       let same : st.bytes ≡ object.0 = ap (λ (x : Stored). x.bytes) (some-same st stands.stored (sym e ∙ stands.found_is)) ∙ stands.bytes_are in

@@ -39,7 +39,7 @@ use Rattle.store_api.proofs.Telling.{Had}
 use Rattle.repo_read.specs.declared.answers.Resolved.{Resolved}
 use Rattle.repo_read.specs.Answers.{at_key, resolved_at, ref_told, snapshot_told, log_told}
 use Rattle.repo_read.specs.Chains.{most_snapshots}
-use Rattle.session.specs.Sessions.{SessionState, base_nodes, moved_to}
+use Rattle.session.specs.Sessions.{SessionState, base_nodes, branch_of, moved_to, tip_at, writes}
 use Rattle.commit_path.proofs.Entries.{filter-fewer}
 use Rattle.rebase.specs.declared.machine.Rebased.{Rebased}
 use Rattle.rebase.specs.declared.machine.Rebased.TheVariants.{Moved, UpToDate}
@@ -116,9 +116,9 @@ log-stands journal f tidy causes p = by_found (found journal (Txn f.id)) refl
     was = was-log f.id (first_put journal (Txn f.id)) cause.lists cause.logged
 
     by_found : (o : Option Stored) → found journal (Txn f.id) ≡ o → LogStands journal f.id
-    by_found None e = absurd (put-stands (Txn f.id) journal tidy (was.bytes, was.put_is) e)
+    by_found None e = absurd (put-stands (Txn f.id) tt journal tidy (was.bytes, was.put_is) e)
     by_found (Some s) e =
-        let same : was.bytes ≡ s.bytes = some-same was.bytes s.bytes (sym was.put_is ∙ stands-first (Txn f.id) (λ p. p) journal s tidy e) in
+        let same : was.bytes ≡ s.bytes = some-same was.bytes s.bytes (sym was.put_is ∙ stands-first (Txn f.id) tt journal s tidy e) in
         record { log = was.log; stored = s; found_is = e; read = ap (log_by f.id) (sym same) ∙ was.read }
 
 -- ---- the walk
@@ -153,7 +153,7 @@ module _ (client : ℕ) (ids : AnyIds) (law : SnapshotLaw) (policy : Policy) (s 
     -- the walk has come to a snapshot that was put
     record Walks (above : List SnapshotFile) (next : Id12) (journal : List Event) : Type 0 where
       may : MayCommit client s journal
-      branch : HasNamed s.branch named.version.0 named.id journal
+      branch : HasNamed (branch_of s) named.version.0 named.id journal
       put : WasPut journal (Snapshot next)
       parents : AllParents journal above
       top : Top named.id above next journal
@@ -161,7 +161,7 @@ module _ (client : ℕ) (ids : AnyIds) (law : SnapshotLaw) (policy : Policy) (s 
     walks-more : (above : List SnapshotFile) (next : Id12) (journal more : List Event) → Each IsGood journal more → MayCommit client s (journal ++ more) → Walks above next journal → Walks above next (journal ++ more)
     walks-more above next journal more good may w = record {
       may = may;
-      branch = HasNamed-append s.branch named.version.0 named.id journal more good w.branch;
+      branch = HasNamed-append (branch_of s) named.version.0 named.id journal more good w.branch;
       put = WasPut-append journal more (Snapshot next) w.put;
       parents = parents-more journal more above w.parents;
       top = top-more named.id above next journal more good w.top;
@@ -170,14 +170,14 @@ module _ (client : ℕ) (ids : AnyIds) (law : SnapshotLaw) (policy : Policy) (s 
     -- the commits down to the base
     record Chain (c : Commits) (journal : List Event) : Type 0 where
       may : MayCommit client s journal
-      branch : HasNamed s.branch named.version.0 named.id journal
+      branch : HasNamed (branch_of s) named.version.0 named.id journal
       parents : AllParents journal (c.oldest ∷ c.later)
       top : IsHead named.id (head_of c.oldest c.later) journal
 
     chain-more : (c : Commits) (journal more : List Event) → Each IsGood journal more → MayCommit client s (journal ++ more) → Chain c journal → Chain c (journal ++ more)
     chain-more c journal more good may k = record {
       may = may;
-      branch = HasNamed-append s.branch named.version.0 named.id journal more good k.branch;
+      branch = HasNamed-append (branch_of s) named.version.0 named.id journal more good k.branch;
       parents = parents-more journal more (c.oldest ∷ c.later) k.parents;
       top = IsHead-append named.id (head_of c.oldest c.later) journal more good k.top;
     }
@@ -199,7 +199,7 @@ module _ (client : ℕ) (ids : AnyIds) (law : SnapshotLaw) (policy : Policy) (s 
         record {
           head = got-head law next st.bytes st.version f journal had (was-read (read_snapshot next st.bytes) f read);
           own = law.own next st.bytes f read;
-          made = ap (snap_in next) (stands-first (Snapshot next) (λ p. p) journal st tidy at) ∙ read;
+          made = ap (snap_in next) (stands-first (Snapshot next) tt journal st tidy at) ∙ read;
         }
 
     read-more : (next : Id12) (f : SnapshotFile) (journal more : List Event) → Each IsGood journal more → WasRead next f journal → WasRead next f (journal ++ more)
@@ -237,7 +237,7 @@ module _ (client : ℕ) (ids : AnyIds) (law : SnapshotLaw) (policy : Policy) (s 
         let read = read-more next can.0 (journal ++ more) (event ∷ []) (own-good (journal ++ more) event own) (read-here next st can.0 (journal ++ more) mid.may.before.tidy at can.1) in
         subst (λ (r : Result SnapshotFile Bad). Meets WalksWell (beside client ids) (rest (at_key (Snapshot next) r)) ((journal ++ more) ++ event ∷ [])) (sym (was-read (read_snapshot next st.bytes) can.0 can.1))
         (parent-meets left above next can.0 ((journal ++ more) ++ event ∷ []) after read (walk-meets left (can.0 ∷ above)) can.0.parent refl))
-        (λ gone. absurd (put-stands (Snapshot next) (journal ++ more) mid.may.before.tidy mid.put gone))
+        (λ gone. absurd (put-stands (Snapshot next) tt (journal ++ more) mid.may.before.tidy mid.put gone))
         (λ done. done-meets WalksWell (beside client ids) (Err R.StoreFault) ((journal ++ more) ++ event ∷ []) refl))
 
     -- ---- the logs
@@ -305,31 +305,31 @@ module _ (client : ℕ) (ids : AnyIds) (law : SnapshotLaw) (policy : Policy) (s 
       (solve-meets named c (c.oldest ∷ c.later) s.held (base_nodes s) h k k.parents (record { rows = s.held.chunks; is = refl; fewer = λ node i x e. e }))
       (λ held j q. head-meets named (length c.later + 1) c held j q.0 q.1) (λ why j p. p)
 
-  named-meets : (named : Resolved) (h : List Event) → MayCommit client s h → HasNamed s.branch named.version.0 named.id h → WasPut h (Snapshot named.id) → Meets RebasesWell (beside client ids) (after_ref policy s named) h
+  named-meets : (named : Resolved) (h : List Event) → MayCommit client s h → HasNamed (branch_of s) named.version.0 named.id h → WasPut h (Snapshot named.id) → Meets RebasesWell (beside client ids) (after_ref policy s named) h
   named-meets named h may branch put = by_base (same_id12 named.id s.base) refl
     where
-      by_base : (b : Bool) → same_id12 named.id s.base ≡ b → Meets RebasesWell (beside client ids) (cond b (Done (Ok (UpToDate (record s { version = named.version.0 })))) (walk_down s.base named.id most_snapshots [] named.id >>= over_commits policy s named)) h
-      by_base true t = done-meets RebasesWell (beside client ids) (Ok (UpToDate (record s { version = named.version.0 }))) h (record {
+      by_base : (b : Bool) → same_id12 named.id s.base ≡ b → Meets RebasesWell (beside client ids) (cond b (Done (Ok (UpToDate (record s { tip = tip_at named.version.0 s.tip })))) (walk_down s.base named.id most_snapshots [] named.id >>= over_commits policy s named)) h
+      by_base true t = done-meets RebasesWell (beside client ids) (Ok (UpToDate (record s { tip = tip_at named.version.0 s.tip }))) h (record {
         before = may.before;
         known = may.known;
-        opened = same-opened s named.version.0 h (subst (λ (id : Id12). HasNamed s.branch named.version.0 id h) (same_id12-true named.id s.base t) branch) may.opened;
+        opened = same-opened s named.version.0 h (subst (λ (id : Id12). HasNamed (branch_of s) named.version.0 id h) (same_id12-true named.id s.base t) branch) may.opened;
       })
       by_base false t =
           then-meets (WalksWell named) RebasesWell (beside client ids) (walk_down s.base named.id most_snapshots [] named.id) (over_commits policy s named) h
           (walk-meets named most_snapshots [] named.id h (record { may = may; branch = branch; put = put; parents = tt; top = refl }))
           (λ c j k. commits-meet named c j k) (λ why j p. inl p)
 
-  ref-meets : (journal : List Event) → MayCommit client s journal → Meets RebasesWell (beside client ids) (Ask (Get (Branch s.branch)) (λ reply. on_answer (after_ref policy s) (ref_told s.branch reply))) journal
-  ref-meets journal may = ask-meets RebasesWell (beside client ids) (Get (Branch s.branch)) (λ reply. on_answer (after_ref policy s) (ref_told s.branch reply)) journal (λ more event others own is.
+  ref-meets : (journal : List Event) → MayCommit client s journal → Meets RebasesWell (beside client ids) (Ask (Get (Branch (branch_of s))) (λ reply. on_answer (after_ref policy s) (ref_told (branch_of s) reply))) journal
+  ref-meets journal may = ask-meets RebasesWell (beside client ids) (Get (Branch (branch_of s))) (λ reply. on_answer (after_ref policy s) (ref_told (branch_of s) reply)) journal (λ more event others own is.
       let mid = may-others client ids s journal more others may in
-      let after = may-got client ids s (journal ++ more) event (Branch s.branch) own is mid in
-      got-meets RebasesWell (beside client ids) (λ reply. on_answer (after_ref policy s) (ref_told s.branch reply)) (journal ++ more) event own.tidy.good ((journal ++ more) ++ event ∷ []) (Branch s.branch) is
+      let after = may-got client ids s (journal ++ more) event (Branch (branch_of s)) own is mid in
+      got-meets RebasesWell (beside client ids) (λ reply. on_answer (after_ref policy s) (ref_told (branch_of s) reply)) (journal ++ more) event own.tidy.good ((journal ++ more) ++ event ∷ []) (Branch (branch_of s)) is
       (λ st at.
-      let n = (all-named (journal ++ more) mid.before.tidy).branches s.branch st at in
+      let n = (all-named (journal ++ more) mid.before.tidy).branches (branch_of s) st at in
       let named : Resolved = record { id = n.id; version = version_at st.version } in
-      subst (λ (r : Result Id12 Bad). Meets RebasesWell (beside client ids) (on_answer (after_ref policy s) (resolved_at (version_at st.version) (at_key (Branch s.branch) r))) ((journal ++ more) ++ event ∷ [])) (sym (was-read (read_ref st.bytes) n.id n.reference))
+      subst (λ (r : Result Id12 Bad). Meets RebasesWell (beside client ids) (on_answer (after_ref policy s) (resolved_at (version_at st.version) (at_key (Branch (branch_of s)) r))) ((journal ++ more) ++ event ∷ [])) (sym (was-read (read_ref st.bytes) n.id n.reference))
       (named-meets named ((journal ++ more) ++ event ∷ []) after
-      (HasNamed-append s.branch st.version n.id (journal ++ more) (event ∷ []) (own-good (journal ++ more) event own) (record { bytes = st.bytes; stood = found-stood (journal ++ more) (Branch s.branch) st at; names = n.reference }))
+      (HasNamed-append (branch_of s) st.version n.id (journal ++ more) (event ∷ []) (own-good (journal ++ more) event own) (record { bytes = st.bytes; stood = found-stood (journal ++ more) (Branch (branch_of s)) st at; names = n.reference }))
       (WasPut-append (journal ++ more) (event ∷ []) (Snapshot n.id) n.put)))
       (λ gone. done-meets RebasesWell (beside client ids) (Err R.NoRef) ((journal ++ more) ++ event ∷ []) (inl refl))
       (λ done. done-meets RebasesWell (beside client ids) (Err R.StoreFault) ((journal ++ more) ++ event ∷ []) (inl refl)))
@@ -337,8 +337,8 @@ module _ (client : ℕ) (ids : AnyIds) (law : SnapshotLaw) (policy : Policy) (s 
   -- a rebase is refused as it may be, or by a log that hides a node
   pub rebase-meets : (journal : List Event) → MayCommit client s journal → Meets RebasesWell (beside client ids) (rebase_program policy s) journal
   unfolding rebase_program
-  rebase-meets journal may = by_writes s.writes
+  rebase-meets journal may = by_writes (writes s)
     where
-      by_writes : (b : Bool) → Meets RebasesWell (beside client ids) (cond b (Ask (Get (Branch s.branch)) (λ reply. on_answer (after_ref policy s) (ref_told s.branch reply))) (Done (Err R.ReadOnly))) journal
+      by_writes : (b : Bool) → Meets RebasesWell (beside client ids) (cond b (Ask (Get (Branch (branch_of s))) (λ reply. on_answer (after_ref policy s) (ref_told (branch_of s) reply))) (Done (Err R.ReadOnly))) journal
       by_writes true = ref-meets journal may
       by_writes false = done-meets RebasesWell (beside client ids) (Err R.ReadOnly) journal (inl refl)

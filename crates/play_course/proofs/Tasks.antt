@@ -1,9 +1,8 @@
 -- What tasks answer in a run over an empty store.
-use Rattle.std.proofs.Common.{◌≡◌, ◌⊎◌, inl, inr, ℕ, zero, suc, Bool, true, false, List, [], ◌∷◌, ◌++◌, refl, sym, ◌∙◌, ap, subst}
+use Rattle.std.proofs.Common.{◌≡◌, ◌⊎◌, inl, inr, ℕ, zero, suc, Bool, true, false, List, [], ◌∷◌, ◌++◌, refl, sym, ap, subst}
 use Rattle.std.specs.Prelude.{Option, Some, None, option_map, ok_or, Result, Ok, Err}
 use Rattle.std.specs.FinMap.{get}
 use Rattle.ice_ids.specs.declared.Id8.{Id8}
-use Rattle.ice_ids.specs.declared.Id12.{Id12}
 use Rattle.ice_ids.specs.declared.drawing.AnyIds.{AnyIds}
 use Rattle.ice_ids.specs.Drawing.{drawn8}
 use Rattle.zarr_path.specs.declared.keys.ZarrKey.{ZarrKey}
@@ -15,55 +14,35 @@ use Rattle.zarr_meta.specs.Meta.{meta_of}
 use Rattle.zarr_meta.specs.Plain.{group_text}
 use Rattle.zarr_tree.specs.Nodes.{Node}
 use Rattle.zarr_tree.specs.declared.edit.EditFault.{EditFault}
-use Rattle.snapshot_file.specs.declared.snapshot.SnapshotFile.{SnapshotFile}
-use Rattle.repo_objects.specs.declared.bad.Bad.{Bad}
 use Rattle.repo_objects.specs.Laws.{SnapshotLaw}
-use Rattle.repo_objects.specs.Readings.{read_snapshot, read_ref}
-use Rattle.store_api.specs.declared.keys.Key.{Key}
-use Rattle.store_api.specs.declared.keys.Key.TheVariants.{Snapshot, Branch}
-use Rattle.store_api.specs.declared.events.Op.TheVariants.{Get}
 use Rattle.store_api.specs.declared.events.Event.{Event}
 use Rattle.store_api.specs.declared.events.Version.{Version}
 use Rattle.store_api.specs.declared.machines.Refusal.{Refusal}
 use Rattle.store_api.specs.declared.machines.Refusal.TheVariants as R
-use Rattle.store_api.specs.Machine.{found, version_at}
-use Rattle.store_api.specs.Journal.{Each, WasPut}
-use Rattle.store_api.specs.Program.{Done}
 use Rattle.store_api.specs.Plays.{Play, call}
-use Rattle.store_api.proofs.Journals.{Each-one}
-use Rattle.store_api.proofs.Slots.{WasPut-append}
 use Rattle.session.specs.declared.session.Listing.{Listing}
-use Rattle.store_api.specs.Running.{Program, on_answer}
-use Rattle.repo_read.specs.declared.answers.Resolved.{Resolved}
-use Rattle.repo_read.specs.Answers.{at_key, resolved_at, ref_told, snapshot_told}
-use Rattle.session.specs.Sessions.{SessionState, nodes_seen}
-use Rattle.session.specs.Opening.{Asked, open_program, base_program, begun}
+use Rattle.session.specs.Sessions.{SessionState, nodes_seen, writes}
+use Rattle.session.specs.Opening.{open_program}
 use Rattle.session.specs.Editing as session
 use Rattle.play_script.specs.declared.scripts.Call.{Call}
-use Rattle.play_script.specs.declared.scripts.Call.TheVariants.{Edit, Read, Commit}
+use Rattle.play_script.specs.declared.scripts.Call.TheVariants.{Edit, Read, Commit, Ref}
 use Rattle.play_script.specs.declared.scripts.EditCall.{EditCall}
 use Rattle.play_script.specs.declared.scripts.ReadCall.{ReadCall}
-use Rattle.play_script.specs.declared.scripts.Head.{Head}
+use Rattle.play_script.specs.declared.scripts.Access.{Access}
 use Rattle.play_script.specs.declared.scripts.Line.{Line}
-use Rattle.play_script.specs.declared.scripts.Task.{Task}
 use Rattle.play_outcome.specs.declared.outcome.Shown.{Shown}
 use Rattle.play_outcome.specs.declared.outcome.End.{End}
 use Rattle.play_outcome.specs.declared.outcome.End.TheVariants as E
 use Rattle.play_outcome.specs.declared.outcome.Outcome.{Outcome}
+use Rattle.play_outcome.specs.Playing.{refused}
 use Rattle.std.specs.Prelude.{All}
 use Rattle.std.proofs.lemmas.List.Elements.{All-head, All-tail}
 use Rattle.zarr_changes.specs.Sets.{add_refusal, text_refusal, drop_refusal, unset_refusal}
-use Rattle.repo_objects.specs.Trees.{tree_under}
-use Rattle.store_api.specs.Machine.{Stored, last_put}
-use Rattle.store_api.specs.Journal.{StoodAt, IsGood, rows_of, snap_in, puts_of}
-use Rattle.store_api.proofs.Slots.{StoodAt-append, found-stood, sound}
-use Rattle.repo_objects.specs.Readings.{snapshot_by, ref_of}
 use Rattle.session.specs.declared.chunks.Value.{Value}
 use Rattle.session.specs.Editing.{group_fault, array_fault, node_fault, added, entered, group_added, array_added, node_added, meta_set, node_dropped, if_writes, unless_bad, unless_refused, refusal_of_edit, drawn_node, if_there, listed}
 use Rattle.session.specs.Chunks.{set_program, get_program, chunk_unset, without_chunk}
 use Rattle.commit_path.specs.Laws.{TellsFaults}
 use Rattle.commit_path.specs.Opened.{IsOpened}
-use Rattle.commit_path.specs.Single.{PutsSnapshot}
 use Rattle.commit_path.specs.declared.commit.Tried.{Tried}
 use Rattle.commit_path.specs.declared.commit.Tried.TheVariants.{Done as Was_done, Lost}
 use Rattle.commit_path.specs.Committing.{commit_program}
@@ -71,25 +50,24 @@ use Rattle.conflicts.specs.declared.solving.Policy.{Policy}
 use Rattle.rebase.specs.declared.machine.Rebased.{Rebased}
 use Rattle.rebase.specs.declared.machine.Rebased.TheVariants.{Moved, UpToDate}
 use Rattle.rebase.specs.Rebasing.{rebase_program}
-use Rattle.commit_path.proofs.Knowing.{tree-by_rows, rows-kept}
 use Rattle.commit_path.proofs.Editing.{node-added, text-set, node-dropped, added-opened, set-opened, dropped-opened}
 use Rattle.commit_path.proofs.Setting.{chunk-unset, without-opened}
 use Rattle.play_script.specs.declared.scripts.EditCall.TheVariants.{Group, Array, Make, Meta, Drop, Set as Set_call, Fill, Unset, KeySet, KeyErase}
 use Rattle.play_script.specs.declared.scripts.ReadCall.TheVariants.{List as List_call, Get as Get_call, Chunk as Chunk_call, KeyGet}
-use Rattle.play_script.specs.Well.{IsWellLine, IsWellTask}
+use Rattle.play_script.specs.Well.{IsWellLine}
 use Rattle.zarr_keys.specs.Keys.{session_of, meta_value, put_over, erased_at, key_erased}
 use Rattle.play_tasks.specs.Lines.{deed, edit_deed, read_deed, edited, read_by, silent, still, nodes_shown, meta_shown, value_shown, key_shown, chunk_key_shown, key_set_deed, key_get_deed, filled, Goes}
-use Rattle.play_tasks.specs.Playing.{Rest, after_line, after_commit, after_rebase, after_open, shown_by, commit_play, tries_of, policy_of, play_deed, play_lines, refused, asked_by, task_play}
+use Rattle.play_tasks.specs.Playing.{Rest, after_line, after_commit, after_rebase, after_open, shown_by, commit_play, tries_of, policy_of, play_deed, play_lines, asked_by, session_play}
 use Rattle.run_histories.specs.Sources.{NodesAreNew}
-use Rattle.run_histories.proofs.Drawing.{AreOf, edited-draws, text-draws, taken-draws, head-ids}
+use Rattle.run_histories.proofs.Drawing.{AreOf, edited-draws, text-draws, taken-draws, access-ids}
 use Rattle.run_histories.proofs.Edits.{Edits, edit-later, edit-goes, edit-base, own-stay}
-use Rattle.run_histories.proofs.Editing.{Leads, call-leads, begun-goes}
+use Rattle.run_histories.proofs.Editing.{Leads, call-leads}
 use Rattle.play_course.specs.Refusing.{is_strange}
-use Rattle.play_course.proofs.Tidy.{stands-readable, put-stands, all-named}
-use Rattle.play_course.proofs.Meeting.{was-read, Meets, PlayMeets, done-meets, ask-meets, ended-meets, or-meets, call-meets, got-meets}
-use Rattle.play_course.proofs.Knowing.{OfOthers, OfOwn, Before, beside, before-others, before-got, before-later, nodes-others}
+use Rattle.play_course.proofs.Meeting.{PlayMeets, ended-meets, or-meets, call-meets}
+use Rattle.play_course.proofs.Knowing.{Before, beside, before-later}
 use Rattle.play_course.proofs.Holding.{Held, MayCommit, held-may}
 use Rattle.play_course.proofs.Reading.{edit-plain, ReadWell, get-meets}
+use Rattle.play_course.proofs.Opening.{Opens, open-meets}
 use Rattle.play_course.proofs.Placing.{SetWell, set-meets}
 use Rattle.play_course.proofs.Committing.{CommitsWell, commit-meets}
 use Rattle.play_course.proofs.Rebasing.{IsFine, RebasesWell, rebase-meets}
@@ -125,8 +103,8 @@ without-id (Err own) p why e = let same : own ≡ why = cc in subst (λ (w : Ref
 added-plain : (fault : Result View MetaFault → Option MetaFault) (s : SessionState) (path text : List ℕ) → IsPlain (session_of (added fault s path text))
 unfolding added
 added-plain fault s path text =
-    without-id (if_writes s.writes (unless_bad (fault (meta_of text)) (entered s path text)))
-    (writes-plain s.writes (unless_bad (fault (meta_of text)) (entered s path text)) (text-plain (fault (meta_of text)) (entered s path text)
+    without-id (if_writes (writes s) (unless_bad (fault (meta_of text)) (entered s path text)))
+    (writes-plain (writes s) (unless_bad (fault (meta_of text)) (entered s path text)) (text-plain (fault (meta_of text)) (entered s path text)
     (unless-plain (add_refusal (nodes_seen s) path) (drawn_node s path text (drawn8 s.ids)) (drawn-plain s path text (drawn8 s.ids)))))
 
 done-plain : (s : SessionState) → IsPlain {A = SessionState} (Ok s)
@@ -136,19 +114,19 @@ set-plain : (s : SessionState) (path text : List ℕ) → IsPlain (meta_set s pa
 unfolding meta_set
 set-plain s path text =
     let r : Result SessionState Refusal = unless_refused (text_refusal (nodes_seen s) path text) (Ok (session.with_text s path text)) in
-    writes-plain s.writes (unless_bad (node_fault (meta_of text)) r) (text-plain (node_fault (meta_of text)) r (unless-plain (text_refusal (nodes_seen s) path text) (Ok (session.with_text s path text)) (done-plain (session.with_text s path text))))
+    writes-plain (writes s) (unless_bad (node_fault (meta_of text)) r) (text-plain (node_fault (meta_of text)) r (unless-plain (text_refusal (nodes_seen s) path text) (Ok (session.with_text s path text)) (done-plain (session.with_text s path text))))
 
 drop-plain : (s : SessionState) (path : List ℕ) → IsPlain (node_dropped s path)
 unfolding node_dropped
 drop-plain s path =
     let r : Result SessionState Refusal = unless_refused (drop_refusal (nodes_seen s) path) (Ok (session.without s path)) in
-    writes-plain s.writes r (unless-plain (drop_refusal (nodes_seen s) path) (Ok (session.without s path)) (done-plain (session.without s path)))
+    writes-plain (writes s) r (unless-plain (drop_refusal (nodes_seen s) path) (Ok (session.without s path)) (done-plain (session.without s path)))
 
 unset-plain : (s : SessionState) (path index : List ℕ) → IsPlain (chunk_unset s path index)
 unfolding chunk_unset
 unset-plain s path index =
     let r : Result SessionState Refusal = unless_refused (unset_refusal (nodes_seen s) path index) (Ok (without_chunk s path index)) in
-    writes-plain s.writes r (unless-plain (unset_refusal (nodes_seen s) path index) (Ok (without_chunk s path index)) (done-plain (without_chunk s path index)))
+    writes-plain (writes s) r (unless-plain (unset_refusal (nodes_seen s) path index) (Ok (without_chunk s path index)) (done-plain (without_chunk s path index)))
 
 pub put-plain : (o : Option Node) (s : SessionState) (path text : List ℕ) → IsPlain (put_over o s path text)
 put-plain (Some node) s path text = set-plain s path text
@@ -250,100 +228,6 @@ module _ (client : ℕ) (ids : AnyIds) where
     opened = opened;
   }
 
-  -- ---- an opening
-  -- the journal is known, and no node has an id that the client may draw
-  pub record Begins (journal : List Event) : Type 0 where
-    pub before : Before ids journal
-    pub nodes : NodesAreNew ids journal
-
-  module _ (known : AreOf client ids) (a : Asked) (a_ids : a.ids ≡ ids) where
-    begins-others : (journal more : List Event) → Each (OfOthers client ids) journal more → Begins journal → Begins (journal ++ more)
-    begins-others journal more others b = record { before = before-others client ids ids known journal more others b.before; nodes = nodes-others client ids journal more others b.nodes }
-
-    gets-no-snapshot : (key : Key) → ¬ PutsSnapshot (Get key)
-    gets-no-snapshot key p = p
-
-    begins-got : (journal : List Event) (event : Event) (key : Key) → OfOwn ids journal event → event.op ≡ Get key → Begins journal → Begins (journal ++ event ∷ [])
-    begins-got journal event key own is b = record { before = before-got client ids ids known journal event key own is b.before; nodes = own.nodes (λ p. gets-no-snapshot key (subst PutsSnapshot is p)) b.nodes }
-
-    abbrev Opens : Result SessionState Refusal → List Event → Type 0
-    Opens (Ok s) h = Held client ids s h
-    Opens (Err why) h = is_strange why ≡ false
-
-    -- the branch stood with a reference to the snapshot
-    record Names (named : Resolved) (journal : List Event) : Type 0 where
-      pub bytes : List ℕ
-      pub stood : StoodAt journal (Branch a.branch) named.version.0 bytes
-      pub reference : ref_of bytes ≡ Some named.id
-      pub put : WasPut journal (Snapshot named.id)
-
-    -- the session that begins at this snapshot, got in this journal
-    begun-held : (named : Resolved) (journal : List Event) (event : Event) (st : Stored) (snap : SnapshotFile) → Names named journal → Begins journal → OfOwn ids journal event → event.op ≡ Get (Snapshot named.id) → found journal (Snapshot named.id) ≡ Some st → snapshot_by named.id st.bytes ≡ Some snap
-        → Held client ids (begun a named.id named.version.0 snap) (journal ++ event ∷ [])
-    begun-held named journal event st snap n b own is at read =
-        let s : SessionState = begun a named.id named.version.0 snap in
-        let good = Each-one IsGood journal event own.tidy.good in
-        let last : last_put journal (Snapshot named.id) ≡ Some st.bytes = (sound journal (Snapshot named.id)).last st at in
-        let rows : rows_of journal named.id ≡ Some snap.nodes = ap (λ (o : Option (List ℕ)). option_map (λ (x : SnapshotFile). x.nodes) (snap_in named.id o)) last ∙ ap (option_map (λ (x : SnapshotFile). x.nodes)) read in
-        record {
-          before = subst (λ (x : AnyIds). Before x (journal ++ event ∷ [])) (sym a_ids) (begins-got journal event (Snapshot named.id) own is b).before;
-          known = subst (AreOf client) (sym a_ids) known;
-          goes = begun-goes ids s a_ids refl;
-          own = λ p m f. b.nodes named.id (tree_under (puts_of journal) snap.nodes) p m (tree-by_rows journal named.id snap.nodes rows) f;
-          opened = record {
-            named_by = n.bytes;
-            named = StoodAt-append journal (event ∷ []) (Branch a.branch) named.version.0 n.bytes n.stood;
-            names = n.reference;
-            put = WasPut-append journal (event ∷ []) (Snapshot named.id) n.put;
-            had = record { version = st.version; bytes = st.bytes; stood = StoodAt-append journal (event ∷ []) (Snapshot named.id) st.version st.bytes (found-stood journal (Snapshot named.id) st at); snap = snap; read = read; rows_are = refl };
-            rows = λ once. rows-kept journal (event ∷ []) named.id snap.nodes n.put good (λ before. rows) once;
-            objects = λ node i id offset size e. absurd cc;
-            chunks = λ once node i place e. absurd cc;
-          };
-        }
-
-    -- what follows the reply to the get of the branch, and what follows the one to the get of the snapshot
-    abbrev after_ref : Result Resolved Refusal → Program SessionState
-    after_ref = on_answer (base_program a)
-
-    abbrev after_base : Resolved → Result SnapshotFile Refusal → Program SessionState
-    after_base named = on_answer (λ snap. Done (Ok (begun a named.id named.version.0 snap)))
-
-    names-more : (named : Resolved) (journal more : List Event) → Names named journal → Names named (journal ++ more)
-    names-more named journal more n = record {
-      bytes = n.bytes;
-      stood = StoodAt-append journal more (Branch a.branch) named.version.0 n.bytes n.stood;
-      reference = n.reference;
-      put = WasPut-append journal more (Snapshot named.id) n.put;
-    }
-
-    base-meets : (named : Resolved) (journal : List Event) → Begins journal → Names named journal → Meets Opens (beside client ids) (base_program a named) journal
-    base-meets named journal b n = ask-meets Opens (beside client ids) (Get (Snapshot named.id)) (λ reply. after_base named (snapshot_told named.id reply)) journal (λ more event others own is.
-        let mid = begins-others journal more others b in
-        let there = names-more named journal more n in
-        got-meets Opens (beside client ids) (λ reply. after_base named (snapshot_told named.id reply)) (journal ++ more) event own.tidy.good ((journal ++ more) ++ event ∷ []) (Snapshot named.id) is
-        (λ s at. let can = stands-readable named.id (journal ++ more) s mid.before.tidy at in
-        subst (λ (r : Result SnapshotFile Bad). Meets Opens (beside client ids) (after_base named (at_key (Snapshot named.id) r)) ((journal ++ more) ++ event ∷ [])) (sym (was-read (read_snapshot named.id s.bytes) can.0 can.1))
-        (done-meets Opens (beside client ids) (Ok (begun a named.id named.version.0 can.0)) ((journal ++ more) ++ event ∷ []) (begun-held named (journal ++ more) event s can.0 there mid own is at can.1)))
-        (λ gone. absurd (put-stands (Snapshot named.id) (journal ++ more) mid.before.tidy there.put gone))
-        (λ done. done-meets Opens (beside client ids) (Err R.StoreFault) ((journal ++ more) ++ event ∷ []) refl))
-
-    open-meets : (journal : List Event) → Begins journal → Meets Opens (beside client ids) (open_program a) journal
-    open-meets journal b = ask-meets Opens (beside client ids) (Get (Branch a.branch)) (λ reply. after_ref (ref_told a.branch reply)) journal (λ more event others own is.
-        let mid = begins-others journal more others b in
-        let after = begins-got (journal ++ more) event (Branch a.branch) own is mid in
-        got-meets Opens (beside client ids) (λ reply. after_ref (ref_told a.branch reply)) (journal ++ more) event own.tidy.good ((journal ++ more) ++ event ∷ []) (Branch a.branch) is
-        (λ s at. let n = (all-named (journal ++ more) mid.before.tidy).branches a.branch s at in
-        subst (λ (r : Result Id12 Bad). Meets Opens (beside client ids) (after_ref (resolved_at (version_at s.version) (at_key (Branch a.branch) r))) ((journal ++ more) ++ event ∷ [])) (sym (was-read (read_ref s.bytes) n.id n.reference))
-        (base-meets (record { id = n.id; version = version_at s.version }) ((journal ++ more) ++ event ∷ []) after (record {
-          bytes = s.bytes;
-          stood = StoodAt-append (journal ++ more) (event ∷ []) (Branch a.branch) s.version s.bytes (found-stood (journal ++ more) (Branch a.branch) s at);
-          reference = n.reference;
-          put = WasPut-append (journal ++ more) (event ∷ []) (Snapshot n.id) n.put;
-        })))
-        (λ gone. done-meets Opens (beside client ids) (Err R.NoRef) ((journal ++ more) ++ event ∷ []) refl)
-        (λ done. done-meets Opens (beside client ids) (Err R.StoreFault) ((journal ++ more) ++ event ∷ []) refl))
-
   -- ---- the lines of a task
   abbrev Ends : Outcome → Type 0
   Ends o = EndsFine o.end
@@ -427,59 +311,60 @@ module _ (client : ℕ) (ids : AnyIds) where
       call-meets Ends (beside client ids) (SetWell client ids s path index bytes) (set_program s path index bytes) (λ answer. after_line line shown (silent answer) rest) journal (set-meets client ids s path index bytes journal h)
       (λ r j w. set-goes line shown s path index bytes rest go r j w) (λ j. refused-meets line shown R.NoMemory j refl)
 
-  key-set-meets : (head : Head) (line : ℕ) (bytes : List ℕ) (o : Option ZarrKey) (shown : List Shown) (s : SessionState) (rest : Rest) (journal : List Event) → Held client ids s journal → GoesOn rest → Leads (key_set_deed bytes o s) s → PlayMeets Ends (beside client ids) (play_deed head line shown s (key_set_deed bytes o s) rest) journal
-  key-set-meets head line bytes None shown s rest journal h go leads = refused-meets line shown R.BadKey journal refl
-  key-set-meets head line bytes (Some (zarr.Meta path)) shown s rest journal h go leads = put-meets line shown (get (nodes_seen s) path) path bytes s rest journal h go leads (put_over (get (nodes_seen s) path) s path bytes) refl
-  key-set-meets head line bytes (Some (zarr.Chunk path index)) shown s rest journal h go leads = sets-meets line shown s path index bytes rest journal h go
+  key-set-meets : (access : Access) (line : ℕ) (bytes : List ℕ) (o : Option ZarrKey) (shown : List Shown) (s : SessionState) (rest : Rest) (journal : List Event) → Held client ids s journal → GoesOn rest → Leads (key_set_deed bytes o s) s → PlayMeets Ends (beside client ids) (play_deed access line shown s (key_set_deed bytes o s) rest) journal
+  key-set-meets access line bytes None shown s rest journal h go leads = refused-meets line shown R.BadKey journal refl
+  key-set-meets access line bytes (Some (zarr.Meta path)) shown s rest journal h go leads = put-meets line shown (get (nodes_seen s) path) path bytes s rest journal h go leads (put_over (get (nodes_seen s) path) s path bytes) refl
+  key-set-meets access line bytes (Some (zarr.Chunk path index)) shown s rest journal h go leads = sets-meets line shown s path index bytes rest journal h go
 
-  edit-deed-meets : (head : Head) (line : ℕ) (edit : EditCall) (shown : List Shown) (s : SessionState) (rest : Rest) (journal : List Event) → Held client ids s journal → GoesOn rest → Leads (edit_deed edit s) s → PlayMeets Ends (beside client ids) (play_deed head line shown s (edit_deed edit s) rest) journal
-  edit-deed-meets head line (Group path) shown s rest journal h go leads = edit-meets line shown (Group path) s rest journal h go leads (edited (Group path) s) refl
-  edit-deed-meets head line (Array path text) shown s rest journal h go leads = edit-meets line shown (Array path text) s rest journal h go leads (edited (Array path text) s) refl
-  edit-deed-meets head line (Make path text) shown s rest journal h go leads = edit-meets line shown (Make path text) s rest journal h go leads (edited (Make path text) s) refl
-  edit-deed-meets head line (Meta path text) shown s rest journal h go leads = edit-meets line shown (Meta path text) s rest journal h go leads (edited (Meta path text) s) refl
-  edit-deed-meets head line (Drop path) shown s rest journal h go leads = edit-meets line shown (Drop path) s rest journal h go leads (edited (Drop path) s) refl
-  edit-deed-meets head line (Unset path index) shown s rest journal h go leads = edit-meets line shown (Unset path index) s rest journal h go leads (edited (Unset path index) s) refl
-  edit-deed-meets head line (KeyErase key) shown s rest journal h go leads = edit-meets line shown (KeyErase key) s rest journal h go leads (edited (KeyErase key) s) refl
-  edit-deed-meets head line (KeySet key bytes) shown s rest journal h go leads = key-set-meets head line bytes (key_of key) shown s rest journal h go leads
-  edit-deed-meets head line (Set_call path index bytes) shown s rest journal h go leads = sets-meets line shown s path index bytes rest journal h go
-  edit-deed-meets head line (Fill path index byte) shown s rest journal h go leads = sets-meets line shown s path index (filled s path byte) rest journal h go
+  edit-deed-meets : (access : Access) (line : ℕ) (edit : EditCall) (shown : List Shown) (s : SessionState) (rest : Rest) (journal : List Event) → Held client ids s journal → GoesOn rest → Leads (edit_deed edit s) s → PlayMeets Ends (beside client ids) (play_deed access line shown s (edit_deed edit s) rest) journal
+  edit-deed-meets access line (Group path) shown s rest journal h go leads = edit-meets line shown (Group path) s rest journal h go leads (edited (Group path) s) refl
+  edit-deed-meets access line (Array path text) shown s rest journal h go leads = edit-meets line shown (Array path text) s rest journal h go leads (edited (Array path text) s) refl
+  edit-deed-meets access line (Make path text) shown s rest journal h go leads = edit-meets line shown (Make path text) s rest journal h go leads (edited (Make path text) s) refl
+  edit-deed-meets access line (Meta path text) shown s rest journal h go leads = edit-meets line shown (Meta path text) s rest journal h go leads (edited (Meta path text) s) refl
+  edit-deed-meets access line (Drop path) shown s rest journal h go leads = edit-meets line shown (Drop path) s rest journal h go leads (edited (Drop path) s) refl
+  edit-deed-meets access line (Unset path index) shown s rest journal h go leads = edit-meets line shown (Unset path index) s rest journal h go leads (edited (Unset path index) s) refl
+  edit-deed-meets access line (KeyErase key) shown s rest journal h go leads = edit-meets line shown (KeyErase key) s rest journal h go leads (edited (KeyErase key) s) refl
+  edit-deed-meets access line (KeySet key bytes) shown s rest journal h go leads = key-set-meets access line bytes (key_of key) shown s rest journal h go leads
+  edit-deed-meets access line (Set_call path index bytes) shown s rest journal h go leads = sets-meets line shown s path index bytes rest journal h go
+  edit-deed-meets access line (Fill path index byte) shown s rest journal h go leads = sets-meets line shown s path index (filled s path byte) rest journal h go
 
   reads-meets : (line : ℕ) (show : Value → Shown) (path index : List ℕ) (shown : List Shown) (s : SessionState) (rest : Rest) (journal : List Event) → Held client ids s journal → GoesOn rest → PlayMeets Ends (beside client ids) (call (get_program s path index) (λ answer. after_line line shown (shown_by s show answer) rest)) journal
   reads-meets line show path index shown s rest journal h go =
       call-meets Ends (beside client ids) (ReadWell client ids s) (get_program s path index) (λ answer. after_line line shown (shown_by s show answer) rest) journal (get-meets client ids s path index journal h)
       (λ r j w. get-goes line shown s show rest go r j w) (λ j. refused-meets line shown R.NoMemory j refl)
 
-  key-get-meets : (head : Head) (line : ℕ) (o : Option ZarrKey) (shown : List Shown) (s : SessionState) (rest : Rest) (journal : List Event) → Held client ids s journal → GoesOn rest → PlayMeets Ends (beside client ids) (play_deed head line shown s (key_get_deed line o s) rest) journal
-  key-get-meets head line None shown s rest journal h go = refused-meets line shown R.BadKey journal refl
-  key-get-meets head line (Some (zarr.Meta path)) shown s rest journal h go = go s (shown ++ key_shown line (meta_value s path) ∷ []) journal h
-  key-get-meets head line (Some (zarr.Chunk path index)) shown s rest journal h go = reads-meets line (chunk_key_shown line) path index shown s rest journal h go
+  key-get-meets : (access : Access) (line : ℕ) (o : Option ZarrKey) (shown : List Shown) (s : SessionState) (rest : Rest) (journal : List Event) → Held client ids s journal → GoesOn rest → PlayMeets Ends (beside client ids) (play_deed access line shown s (key_get_deed line o s) rest) journal
+  key-get-meets access line None shown s rest journal h go = refused-meets line shown R.BadKey journal refl
+  key-get-meets access line (Some (zarr.Meta path)) shown s rest journal h go = go s (shown ++ key_shown line (meta_value s path) ∷ []) journal h
+  key-get-meets access line (Some (zarr.Chunk path index)) shown s rest journal h go = reads-meets line (chunk_key_shown line) path index shown s rest journal h go
 
-  read-deed-meets : (head : Head) (line : ℕ) (look : ReadCall) (shown : List Shown) (s : SessionState) (rest : Rest) (journal : List Event) → Held client ids s journal → GoesOn rest → PlayMeets Ends (beside client ids) (play_deed head line shown s (read_deed line look s) rest) journal
-  read-deed-meets head line (List_call path) shown s rest journal h go = look-meets line shown s rest journal h go (read_by line (List_call path) s) (read-plain line (List_call path) s)
-  read-deed-meets head line (Get_call path) shown s rest journal h go = look-meets line shown s rest journal h go (read_by line (Get_call path) s) (read-plain line (Get_call path) s)
-  read-deed-meets head line (Chunk_call path index) shown s rest journal h go = reads-meets line (value_shown line) path index shown s rest journal h go
-  read-deed-meets head line (KeyGet key) shown s rest journal h go = key-get-meets head line (key_of key) shown s rest journal h go
+  read-deed-meets : (access : Access) (line : ℕ) (look : ReadCall) (shown : List Shown) (s : SessionState) (rest : Rest) (journal : List Event) → Held client ids s journal → GoesOn rest → PlayMeets Ends (beside client ids) (play_deed access line shown s (read_deed line look s) rest) journal
+  read-deed-meets access line (List_call path) shown s rest journal h go = look-meets line shown s rest journal h go (read_by line (List_call path) s) (read-plain line (List_call path) s)
+  read-deed-meets access line (Get_call path) shown s rest journal h go = look-meets line shown s rest journal h go (read_by line (Get_call path) s) (read-plain line (Get_call path) s)
+  read-deed-meets access line (Chunk_call path index) shown s rest journal h go = reads-meets line (value_shown line) path index shown s rest journal h go
+  read-deed-meets access line (KeyGet key) shown s rest journal h go = key-get-meets access line (key_of key) shown s rest journal h go
 
-  deed-meets : (law : SnapshotLaw) (head : Head) (line : ℕ) (made : Call) (shown : List Shown) (s : SessionState) (rest : Rest) (journal : List Event) → Held client ids s journal → GoesOn rest → Leads (deed line made s) s → PlayMeets Ends (beside client ids) (play_deed head line shown s (deed line made s) rest) journal
-  deed-meets law head line (Edit edit) shown s rest journal h go leads = edit-deed-meets head line edit shown s rest journal h go leads
-  deed-meets law head line (Read look) shown s rest journal h go leads = read-deed-meets head line look shown s rest journal h go
-  deed-meets law head line (Commit message) shown s rest journal h go leads = tries-meet law (tries_of head) (policy_of head) line shown message s journal (held-may client ids s journal h)
+  deed-meets : (law : SnapshotLaw) (access : Access) (line : ℕ) (made : Call) (shown : List Shown) (s : SessionState) (rest : Rest) (journal : List Event) → Held client ids s journal → GoesOn rest → Leads (deed line made s) s → PlayMeets Ends (beside client ids) (play_deed access line shown s (deed line made s) rest) journal
+  deed-meets law access line (Edit edit) shown s rest journal h go leads = edit-deed-meets access line edit shown s rest journal h go leads
+  deed-meets law access line (Read look) shown s rest journal h go leads = read-deed-meets access line look shown s rest journal h go
+  deed-meets law access line (Ref call) shown s rest journal h go leads = go s (shown ++ []) journal h
+  deed-meets law access line (Commit message) shown s rest journal h go leads = tries-meet law (tries_of access) (policy_of access) line shown message s journal (held-may client ids s journal h)
 
-  lines-meets : (law : SnapshotLaw) (head : Head) (lines : List Line) → All IsWellLine lines → (s : SessionState) (shown : List Shown) (journal : List Event) → Held client ids s journal → PlayMeets Ends (beside client ids) (play_lines head lines s shown) journal
+  lines-meets : (law : SnapshotLaw) (access : Access) (lines : List Line) → All IsWellLine lines → (s : SessionState) (shown : List Shown) (journal : List Event) → Held client ids s journal → PlayMeets Ends (beside client ids) (play_lines access lines s shown) journal
   unfolding play_lines
-  lines-meets law head [] well s shown journal h = ended-meets Ends (beside client ids) (record { shown = shown; end = E.Done }) journal tt
-  lines-meets law head (l ∷ ls) well s shown journal h =
-      or-meets Ends (beside client ids) (play_deed head l.number shown s (deed l.number l.call s) (play_lines head ls)) (refused l.number shown R.NoMemory) journal
-      (deed-meets law head l.number l.call shown s (play_lines head ls) journal h (λ t more j k. lines-meets law head ls (All-tail IsWellLine l ls well) t more j k) (call-leads l.number l.call s (All-head IsWellLine l ls well).call))
+  lines-meets law access [] well s shown journal h = ended-meets Ends (beside client ids) (record { shown = shown; end = E.Done }) journal tt
+  lines-meets law access (l ∷ ls) well s shown journal h =
+      or-meets Ends (beside client ids) (play_deed access l.number shown s (deed l.number l.call s) (play_lines access ls)) (refused l.number shown R.NoMemory) journal
+      (deed-meets law access l.number l.call shown s (play_lines access ls) journal h (λ t more j k. lines-meets law access ls (All-tail IsWellLine l ls well) t more j k) (call-leads l.number l.call s (All-head IsWellLine l ls well).call))
       (refused-meets l.number shown R.NoMemory journal refl)
 
-  opened-meets : (law : SnapshotLaw) (task : Task) → IsWellTask task → (known : AreOf client ids) (r : Result SessionState Refusal) (journal : List Event) → Opens known (asked_by task.head ids) (head-ids task.head ids) r journal → PlayMeets Ends (beside client ids) (after_open task r) journal
-  opened-meets law task well known (Ok s) journal h = lines-meets law task.head task.body well.body s [] journal h
-  opened-meets law task well known (Err why) journal p = refused-meets task.line [] why journal p
+  opened-meets : (law : SnapshotLaw) (access : Access) (line : ℕ) (body : List Line) → All IsWellLine body → (known : AreOf client ids) (r : Result SessionState Refusal) (journal : List Event) → Opens client ids known (asked_by access ids) (access-ids access ids) r journal → PlayMeets Ends (beside client ids) (after_open access line body r) journal
+  opened-meets law access line body well known (Ok s) journal h = lines-meets law access body well s [] journal h
+  opened-meets law access line body well known (Err why) journal p = refused-meets line [] why journal p
 
-  -- a task of this client is refused as it may be, or by a log that hides a node
-  pub task-meets : (law : SnapshotLaw) (task : Task) → IsWellTask task → (journal : List Event) → AreOf client ids → Before ids journal → NodesAreNew ids journal → PlayMeets (λ o. EndsFine o.end) (beside client ids) (task_play ids task) journal
-  task-meets law task well journal known before nodes =
-      call-meets Ends (beside client ids) (Opens known (asked_by task.head ids) (head-ids task.head ids)) (open_program (asked_by task.head ids)) (after_open task) journal
-      (open-meets known (asked_by task.head ids) (head-ids task.head ids) journal (record { before = before; nodes = nodes }))
-      (λ r j o. opened-meets law task well known r j o) (λ j. refused-meets task.line [] R.NoMemory j refl)
+  -- a session of this client is refused as it may be, or by a log that hides a node
+  pub session-meets : (law : SnapshotLaw) (access : Access) (line : ℕ) (body : List Line) → All IsWellLine body → (journal : List Event) → AreOf client ids → Before ids journal → NodesAreNew ids journal → PlayMeets (λ o. EndsFine o.end) (beside client ids) (session_play ids access line body) journal
+  session-meets law access line body well journal known before nodes =
+      call-meets Ends (beside client ids) (Opens client ids known (asked_by access ids) (access-ids access ids)) (open_program (asked_by access ids)) (after_open access line body) journal
+      (open-meets client ids known (asked_by access ids) (access-ids access ids) journal (record { before = before; nodes = nodes }))
+      (λ r j o. opened-meets law access line body well known r j o) (λ j. refused-meets line [] R.NoMemory j refl)

@@ -1,5 +1,5 @@
 -- What stands in the journal of a run over an empty store.
-use Rattle.std.proofs.Common.{◌≡◌, ◌≢◌, ℕ, ◌⊎◌, inl, inr, true, false, List, [], ◌∷◌, ◌++◌, length, sym, ◌∙◌, ap, subst, append_assoc, append-nil}
+use Rattle.std.proofs.Common.{◌≡◌, ◌≢◌, ℕ, ◌⊎◌, inl, inr, true, false, List, [], ◌∷◌, ◌++◌, length, refl, sym, ◌∙◌, ap, subst, append_assoc, append-nil}
 use Rattle.std.specs.Prelude.{Option, Some, None}
 use Rattle.std.specs.Option.{option_or}
 use Rattle.ice_ids.specs.declared.Id12.{Id12}
@@ -16,9 +16,10 @@ use Rattle.store_api.specs.Journal.{Each, IsGood, IsUnused, WasPut}
 use Rattle.store_api.specs.Laws.{AllNamed}
 use Rattle.store_api.proofs.Journals.{Each-append, Each-weaker}
 use Rattle.store_api.proofs.Naming.{names-law}
-use Rattle.store_api.proofs.Slots.{effect-cases, free-cases, slot-append_one, slot-none, same_key-true}
-use Rattle.run_histories.proofs.Along.{Removes, unused-one}
+use Rattle.store_api.proofs.Slots.{effect-cases, free-cases, old-cases, slot-append_one, slot-none, same_key-true}
+use Rattle.run_histories.proofs.Along.{IsObject, Removes, no-object, unused-one}
 use Rattle.run_histories.proofs.Drawing.{IsDrawnBy, drawn-not_initial}
+use Rattle.run_histories.proofs.Programs.{IsBranch}
 
 -- ---- events
 -- bytes that are read as a snapshot under this id
@@ -45,14 +46,14 @@ PutsOver (Branch name) = Unit {0}
 PutsOver (Tag name) = Unit {0}
 PutsOver (TagGone name) = Unit {0}
 
--- ... and nothing is removed
+-- ... and nothing is removed but branches
 abbrev pub Puts : (Id12 → Type 0) → Op → Type 0
 Puts who (Get key) = Unit {0}
 Puts who (ListPart part) = Unit {0}
 Puts who (PutNew key bytes why) = PutsNew who bytes key
 Puts who (PutOver key bytes old why) = PutsOver key
 Puts who (Remove key why) = ⊥
-Puts who (RemoveAt key old why) = ⊥
+Puts who (RemoveAt key old why) = IsBranch key
 
 -- an event of a client that draws these ids
 pub record IsTidy (who : Id12 → Type 0) (journal : List Event) (event : Event) : Type 0 where
@@ -74,7 +75,7 @@ puts-weaker who more f (ListPart part) p = tt
 puts-weaker who more f (PutNew key bytes why) p = new-weaker who more f bytes key p
 puts-weaker who more f (PutOver key bytes old why) p = p
 puts-weaker who more f (Remove key why) p = absurd p
-puts-weaker who more f (RemoveAt key old why) p = absurd p
+puts-weaker who more f (RemoveAt key old why) p = p
 
 -- anybody's event
 abbrev pub IsAny : List Event → Event → Type 0
@@ -113,7 +114,7 @@ leaves-read who id n time (PutNew key bytes why) slot p on r =
     free-cases (ReadSlot id) slot.stands (put_at n time bytes slot) slot r (λ free. stands-read id n time bytes slot at.0)
 leaves-read who id n time (PutOver key bytes old why) slot p on r = absurd (subst PutsOver (same_key-true key (Snapshot id) on) p)
 leaves-read who id n time (Remove key why) slot p on r = absurd p
-leaves-read who id n time (RemoveAt key old why) slot p on r = absurd p
+leaves-read who id n time (RemoveAt key old why) slot p on r = absurd (subst IsBranch (same_key-true key (Snapshot id) on) p)
 
 abbrev AllRead : Id12 → List Event → Type 0
 AllRead id journal = ReadSlot id (slot_of journal (Snapshot id))
@@ -137,13 +138,23 @@ puts-keep who (ListPart part) p r = r
 puts-keep who (PutNew key bytes why) p r = r
 puts-keep who (PutOver key bytes old why) p r = r
 puts-keep who (Remove key why) p r = p
-puts-keep who (RemoveAt key old why) p r = p
+puts-keep who (RemoveAt key old why) p r = no-object key p r
 
 unused-none : (key : Key) → IsUnused [] key
 unused-none key e = ap (λ (s : Slot). s.first) (slot-none key)
 
-all-unused : (key : Key) (journal : List Event) → Each IsAny [] journal → IsUnused journal key
-all-unused key journal tidy = along IsAny (λ h. IsUnused h key) (λ h event t u. unused-one h event key (puts-keep (λ i. Unit {0}) event.op t.puts) u) [] journal tidy (unused-none key)
+all-unused : (key : Key) → IsObject key → (journal : List Event) → Each IsAny [] journal → IsUnused journal key
+all-unused key object journal tidy = along IsAny (λ h. IsUnused h key) (λ h event t u. unused-one h event key object (puts-keep (λ i. Unit {0}) event.op t.puts) u) [] journal tidy (unused-none key)
+
+-- no object is put over
+over-no-object : (key : Key) → IsObject key → ¬ PutsOver key
+over-no-object (Snapshot id) o p = p
+over-no-object (Manifest id) o p = p
+over-no-object (Txn id) o p = p
+over-no-object (Chunk id) o p = p
+over-no-object (Branch name) o p = o
+over-no-object (Tag name) o p = o
+over-no-object (TagGone name) o p = o
 
 -- what stands was put first, where it isn't put over
 abbrev IsFirstPut : Slot → Type 0
@@ -152,33 +163,33 @@ IsFirstPut slot = (s : Stored) → slot.stands ≡ Some s → slot.first ≡ Som
 put-first : (n time : ℕ) (bytes : List ℕ) (slot : Slot) → slot.first ≡ None → IsFirstPut (put_at n time bytes slot)
 put-first n time bytes slot none s e = let same : bytes ≡ s.bytes = cc in ap (λ (o : Option (List ℕ)). option_or o (Some bytes)) none ∙ ap (λ (b : List ℕ). Some b) same
 
-leaves-first : (key : Key) → ¬ PutsOver key → (n time : ℕ) (op : Op) (slot : Slot) → (slot.stands ≡ None → slot.first ≡ None) → Puts (λ i. Unit {0}) op → is_on key op ≡ true → IsFirstPut slot → IsFirstPut (leaves n time op slot)
-leaves-first key never n time (Get k) slot unused p on f = f
-leaves-first key never n time (ListPart part) slot unused p on f = f
-leaves-first key never n time (PutNew k bytes why) slot unused p on f = free-cases IsFirstPut slot.stands (put_at n time bytes slot) slot f (λ free. put-first n time bytes slot (unused free))
-leaves-first key never n time (PutOver k bytes old why) slot unused p on f = absurd (never (subst PutsOver (same_key-true k key on) p))
-leaves-first key never n time (Remove k why) slot unused p on f = absurd p
-leaves-first key never n time (RemoveAt k old why) slot unused p on f = absurd p
+leaves-first : (key : Key) → IsObject key → (n time : ℕ) (op : Op) (slot : Slot) → (slot.stands ≡ None → slot.first ≡ None) → Puts (λ i. Unit {0}) op → is_on key op ≡ true → IsFirstPut slot → IsFirstPut (leaves n time op slot)
+leaves-first key object n time (Get k) slot unused p on f = f
+leaves-first key object n time (ListPart part) slot unused p on f = f
+leaves-first key object n time (PutNew k bytes why) slot unused p on f = free-cases IsFirstPut slot.stands (put_at n time bytes slot) slot f (λ free. put-first n time bytes slot (unused free))
+leaves-first key object n time (PutOver k bytes old why) slot unused p on f = absurd (over-no-object key object (subst PutsOver (same_key-true k key on) p))
+leaves-first key object n time (Remove k why) slot unused p on f = absurd p
+leaves-first key object n time (RemoveAt k old why) slot unused p on f = absurd (no-object key (subst IsBranch (same_key-true k key on) p) object)
 
 record WasPutFirst (key : Key) (journal : List Event) : Type 0 where
   unused : IsUnused journal key
   first : IsFirstPut (slot_of journal key)
 
-first-one : (key : Key) → ¬ PutsOver key → (journal : List Event) (event : Event) → IsAny journal event → WasPutFirst key journal → WasPutFirst key (journal ++ event ∷ [])
-first-one key never journal event t w = record {
-  unused = unused-one journal event key (puts-keep (λ i. Unit {0}) event.op t.puts) w.unused;
+first-one : (key : Key) → IsObject key → (journal : List Event) (event : Event) → IsAny journal event → WasPutFirst key journal → WasPutFirst key (journal ++ event ∷ [])
+first-one key object journal event t w = record {
+  unused = unused-one journal event key object (puts-keep (λ i. Unit {0}) event.op t.puts) w.unused;
   first = subst IsFirstPut (sym (slot-append_one journal event key))
-      (effect-cases IsFirstPut key (length journal) (slot_of journal key) event w.first (λ on done. leaves-first key never (length journal) event.time event.op (slot_of journal key) w.unused t.puts on w.first));
+      (effect-cases IsFirstPut key (length journal) (slot_of journal key) event w.first (λ on done. leaves-first key object (length journal) event.time event.op (slot_of journal key) w.unused t.puts on w.first));
 }
 
 first-none : (key : Key) → WasPutFirst key []
 first-none key = record { unused = unused-none key; first = subst IsFirstPut (sym (slot-none key)) (λ s e. absurd cc) }
 
-pub stands-first : (key : Key) → ¬ PutsOver key → (journal : List Event) (s : Stored) → Each IsAny [] journal → found journal key ≡ Some s → first_put journal key ≡ Some s.bytes
-stands-first key never journal s tidy e = (along IsAny (WasPutFirst key) (first-one key never) [] journal tidy (first-none key)).first s e
+pub stands-first : (key : Key) → IsObject key → (journal : List Event) (s : Stored) → Each IsAny [] journal → found journal key ≡ Some s → first_put journal key ≡ Some s.bytes
+stands-first key object journal s tidy e = (along IsAny (WasPutFirst key) (first-one key object) [] journal tidy (first-none key)).first s e
 
-pub put-stands : (key : Key) (journal : List Event) → Each IsAny [] journal → WasPut journal key → found journal key ≢ None
-put-stands key journal tidy put none = let first : first_put journal key ≡ None = all-unused key journal tidy none in let was = put.1 in absurd cc
+pub put-stands : (key : Key) → IsObject key → (journal : List Event) → Each IsAny [] journal → WasPut journal key → found journal key ≢ None
+put-stands key object journal tidy put none = let first : first_put journal key ≡ None = all-unused key object journal tidy none in let was = put.1 in absurd cc
 
 -- a branch that stands names a snapshot that was put, and so does a tag
 pub all-named : (journal : List Event) → Each IsAny [] journal → AllNamed journal
@@ -211,7 +222,7 @@ leaves-free who key n time (ListPart part) slot spared p on f = f
 leaves-free who key n time (PutNew k bytes why) slot spared p on f = absurd (spared.new bytes (subst (λ (x : Key). PutsNew who bytes x) (same_key-true k key on) p))
 leaves-free who key n time (PutOver k bytes old why) slot spared p on f = absurd (spared.over (subst PutsOver (same_key-true k key on) p))
 leaves-free who key n time (Remove k why) slot spared p on f = absurd p
-leaves-free who key n time (RemoveAt k old why) slot spared p on f = absurd p
+leaves-free who key n time (RemoveAt k old why) slot spared p on f = old-cases Free old.0 slot.stands (record slot { stands = None }) slot f (λ s e v. refl)
 
 free-one : (who : Id12 → Type 0) (key : Key) → IsSpared who key → (journal : List Event) (event : Event) → IsTidy who journal event → found journal key ≡ None → found (journal ++ event ∷ []) key ≡ None
 free-one who key spared journal event t f =

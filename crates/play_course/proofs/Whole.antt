@@ -15,7 +15,7 @@ use Rattle.store_api.specs.declared.machines.Refusal.TheVariants as R
 use Rattle.store_api.specs.Journal.{Each, IsGood}
 use Rattle.store_api.specs.Callers.{Caller, View, HasAll, as_client}
 use Rattle.store_api.specs.Program.{Done, Path}
-use Rattle.store_api.specs.Plays.{Play, Ended, Ask}
+use Rattle.store_api.specs.Plays.{Play, Ended, Ask, Comes as ComesTo}
 use Rattle.store_api.proofs.Journals.{Each-append, Each-weaker, Each-both, Each-one, Each-two, Each-back}
 use Rattle.session.specs.Sessions.{SessionState}
 use Rattle.commit_path.specs.Owed.{Sessions, OwesNew, Owes}
@@ -23,21 +23,25 @@ use Rattle.store_api.specs.Running.{Program, Runs}
 use Rattle.repo_objects.specs.Laws.{InitialLaw, SnapshotLaw}
 use Rattle.repository.specs.Beginning.{begin_program}
 use Rattle.repository.specs.Refs.{refs_program}
+use Rattle.play_script.specs.declared.scripts.Head.{Head}
+use Rattle.play_script.specs.declared.scripts.Head.TheVariants.{Session, Refs}
 use Rattle.play_script.specs.declared.scripts.Script.{Script}
 use Rattle.play_script.specs.declared.scripts.Task.{Task}
 use Rattle.play_script.specs.Well.{IsWell, IsWellTask}
+use Rattle.play_outcome.specs.declared.outcome.End.{End}
 use Rattle.play_outcome.specs.declared.outcome.Outcome.{Outcome}
 use Rattle.play_outcome.specs.declared.outcome.RefLine.{RefLine}
-use Rattle.play_tasks.specs.Playing.{task_play}
+use Rattle.play_tasks.specs.Playing.{headed_play, task_play}
+use Rattle.play_tasks.specs.Telling.{TellsBy}
 use Rattle.play_tasks.specs.Solving.{IsOfTask}
-use Rattle.play_tasks.specs.Tasks.{ids_at, plays_from, IsOfClient}
-use Rattle.play_run.specs.Order.{WentOn, FellShort, Turned, InTurns}
+use Rattle.play_tasks.specs.Tasks.{ids_at, IsOfClient}
+use Rattle.play_run.specs.Order.{WentOn, FellShort, Turned, InTurns, Begin}
 use Rattle.play_run.proofs.Places.{at_set}
 use Rattle.play_run.proofs.Rounds.{play_at, ends_of, ends_at}
 use Rattle.run_histories.proofs.Programs.{IsPlain, AllPlain, path-plain, begin-plain, refs-plain}
 use Rattle.run_histories.proofs.Drawing.{IsDrawnBy, AreOf, object-draws, drawn-apart, ids_at-of}
 use Rattle.run_histories.proofs.Carrying.{task-draws}
-use Rattle.run_histories.proofs.Along.{well-at}
+use Rattle.run_histories.proofs.Along.{IsOfOpener, by-head, well-at}
 use Rattle.run_histories.specs.Sources.{NodesAreNew, IsNewRun}
 use Rattle.run_histories.specs.Runs.{IsSound, RanAlone}
 use Rattle.run_histories.specs.Told.{NoneHidden, RunLaw}
@@ -50,15 +54,27 @@ use Rattle.commit_path.specs.Single.{PutsNone}
 use Rattle.std.proofs.lemmas.Option.{slice_get_cases, slice_get_within}
 use Rattle.play_course.specs.declared.course.Played.{Played}
 use Rattle.play_course.specs.Course.{Course, Plays}
-use Rattle.play_course.specs.Refusing.{strange_answer, NothingStrange}
+use Rattle.play_course.specs.Refusing.{strange_answer, strange_end, NothingStrange}
 use Rattle.play_course.proofs.Tidy.{IsTidy, IsAny, IsOthers, Puts, PutsNew, puts-weaker, any-of, free-others, spared-snapshot, spared-log, spared-manifest, spared-chunk, nothing-stands}
-use Rattle.play_course.proofs.Meeting.{drawing, Meets, PlayMeets, meets-ended, meets-others, meets-acted, meets-starved, meets-path}
-use Rattle.play_course.proofs.Tasks.{EndsFine, task-meets}
-use Rattle.play_course.proofs.Hiding.{told-plain}
+use Rattle.play_course.proofs.Meeting.{drawing, Meets, PlayMeets, play-weaker, meets-ended, meets-comes, meets-others, meets-acted, meets-starved, meets-path}
+use Rattle.play_course.proofs.Calling.{calls-meet}
+use Rattle.play_course.proofs.Tasks.{EndsFine, session-meets}
+use Rattle.play_course.proofs.Hiding.{NeverHides, told-plain}
 use Rattle.play_course.proofs.Knowing.{IsSoFar, IsFreeId, OfOthers, OfOwn, Before, beside}
 use Rattle.play_course.proofs.Playing.{tells-on}
 use Rattle.play_course.proofs.Leaving.{few-tasks, ran-alone, course-run}
-use Rattle.play_course.proofs.Edges.{plain-tidy, begin-meets, refs-meets}
+use Rattle.play_course.proofs.Edges.{plain-puts, plain-tidy, begin-meets, refs-meets}
+
+-- ---- the ends of tasks
+-- a task on refs ends by no strange refusal; one that opens a session by none but one that says that a log hides a node
+abbrev EndsBy : Head → End → Type 0
+EndsBy (Session access) end = EndsFine end
+EndsBy Refs end = strange_end end ≡ false
+
+-- what is told of a task says that it isn't by that either
+told-by_head : (ids : AnyIds) (task : Task) (client : ℕ) (start journal : List Event) → NeverHides ids task client start journal → (outcome : Outcome) → (head : Head) → task.head ≡ head → TellsBy head ids task client start outcome journal → EndsBy head outcome.end → strange_end outcome.end ≡ false
+told-by_head ids task client start journal never outcome (Session access) is told ends = told-plain ids task client start journal never access is outcome told ends
+told-by_head ids task client start journal never outcome Refs is told ends = ends
 
 -- ---- the events of tasks
 -- an id of a client's is one that it drew
@@ -86,23 +102,30 @@ owes-puts ids mine who f g journal (Remove key why) o = absurd o
 owes-puts ids mine who f g journal (RemoveAt key old why) o = absurd o
 
 module _ (initial : InitialLaw) (draw : Draw) (tasks : List Task) (few : length tasks < 2 ^ 32 - 1) (wells : All IsWellTask tasks) where
-  -- a client's puts are under ids that it drew
-  owned : (start journal : List Event) (event : Event) → (c : IsOfClient draw tasks start journal event) → IsTidy (IsDrawnBy (c.place + 1)) journal event
-  owned start journal event c = record {
+  -- the puts of a client that opens a session are under ids that it drew
+  opener-tidy : (start journal : List Event) (event : Event) → (c : IsOfOpener draw tasks start journal event) → IsTidy (IsDrawnBy (c.place + 1)) journal event
+  opener-tidy start journal event c = record {
     good = c.careful.good;
     puts = owes-puts (ids_at draw c.place) (IsOfTask (ids_at draw c.place) c.task (c.place + 1) start) (IsDrawnBy (c.place + 1))
         (λ h s id m. task-draws (ids_at draw c.place) c.task (c.place + 1) start h s id (well-at draw tasks wells c.place c.task c.at) m (c.place + 1) (ids_at-of draw tasks c.place c.task few c.at))
         (λ id m. object-draws (c.place + 1) (ids_at draw c.place) id (ids_at-of draw tasks c.place c.task few c.at) m) journal event.op c.careful.owes;
   }
 
+  -- and those of a client that calls on refs are under none
   anybody : (start journal : List Event) (event : Event) → IsOfClient draw tasks start journal event → IsAny journal event
-  anybody start journal event c = any-of (IsDrawnBy (c.place + 1)) journal event (owned start journal event c)
+  anybody start journal event c = elim (by-head draw tasks start journal event c) [
+    | inl o ↦ any-of (IsDrawnBy (o.place + 1)) journal event (opener-tidy start journal event o)
+    | inr p ↦ record { good = p.0; puts = puts-weaker (λ id. ⊥) (λ id. Unit {0}) (λ id d. tt) event.op (plain-puts initial event.op p.1) }
+  ]
 
   another : (k : ℕ) (start journal : List Event) (event : Event) → event.client ≢ k + 1 → IsOfClient draw tasks start journal event → IsOthers (k + 1) journal event
-  another k start journal event n c = let o = owned start journal event c in record {
-    good = o.good;
-    puts = puts-weaker (IsDrawnBy (c.place + 1)) (λ id. ¬ IsDrawnBy (k + 1) id) (λ id d e. n (c.client ∙ drawn-apart (c.place + 1) (k + 1) id d e)) event.op o.puts;
-  }
+  another k start journal event n c = elim (by-head draw tasks start journal event c) [
+    | inl o ↦ let t = opener-tidy start journal event o in record {
+      good = t.good;
+      puts = puts-weaker (IsDrawnBy (o.place + 1)) (λ id. ¬ IsDrawnBy (k + 1) id) (λ id d e. n (o.client ∙ drawn-apart (o.place + 1) (k + 1) id d e)) event.op t.puts;
+    }
+    | inr p ↦ record { good = p.0; puts = puts-weaker (λ id. ⊥) (λ id. ¬ IsDrawnBy (k + 1) id) (λ id d e. d) event.op (plain-puts initial event.op p.1) }
+  ]
 
   -- ---- what is known of each event
   abbrev Hold : List Event → Type 0
@@ -133,15 +156,19 @@ module _ (initial : InitialLaw) (draw : Draw) (tasks : List Task) (few : length 
   }
 
   -- ---- turns
+  -- how the task at a place ends
+  abbrev EndsAt : ℕ → Outcome → Type 0
+  EndsAt k o = (task : Task) → slice_get tasks k ≡ Some task → EndsBy task.head o.end
+
   -- the worker at a place won't be refused so
   abbrev GoesWell : ℕ → Play Outcome → List Event → Type 0
-  GoesWell k p journal = PlayMeets (λ o. EndsFine o.end) (beside (k + 1) (ids_at draw k)) p journal
+  GoesWell k p journal = PlayMeets (EndsAt k) (beside (k + 1) (ids_at draw k)) p journal
 
   abbrev AllWell : List (Play Outcome) → List Event → Type 0
   AllWell ps journal = (k : ℕ) (p : Play Outcome) → slice_get ps k ≡ Some p → (k < length tasks) × GoesWell k p journal
 
   well-others : (k : ℕ) (p : Play Outcome) (old : List Event) (event : Event) → OfOthers (k + 1) (ids_at draw k) old event → GoesWell k p old → GoesWell k p (old ++ event ∷ [])
-  well-others k p old event o m = meets-others (λ x. EndsFine x.end) (beside (k + 1) (ids_at draw k)) p old (event ∷ []) (Each-one (OfOthers (k + 1) (ids_at draw k)) old event o) m
+  well-others k p old event o m = meets-others (EndsAt k) (beside (k + 1) (ids_at draw k)) p old (event ∷ []) (Each-one (OfOthers (k + 1) (ids_at draw k)) old event o) m
 
   well-nothing : (ps : List (Play Outcome)) (old events : List Event) → events ≡ [] → AllWell ps old → AllWell ps (old ++ events)
   well-nothing ps old events e all = subst (λ (xs : List Event). AllWell ps (old ++ xs)) (sym e) (subst (λ (h : List Event). AllWell ps h) (sym (append-nil old)) all)
@@ -151,7 +178,7 @@ module _ (initial : InitialLaw) (draw : Draw) (tasks : List Task) (few : length 
       let p : Play Outcome = Ask a.event.op a.starved a.next in
       let c : Comes start old a.event = (Each-two (Comes start) old a.event [] (subst (λ (xs : List Event). Each (Comes start) old xs) a.one each)).0 in
       let here = all t p a.at in
-      let mine : (t < length tasks) × GoesWell t a.q (old ++ a.event ∷ []) = (here.0, meets-acted (λ o. EndsFine o.end) (beside (t + 1) (ids_at draw t)) a.event.op a.starved a.next a.q old a.event (by-itself t here.0 start old a.event c) refl a.comes here.1) in
+      let mine : (t < length tasks) × GoesWell t a.q (old ++ a.event ∷ []) = (here.0, meets-acted (EndsAt t) (beside (t + 1) (ids_at draw t)) a.event.op a.starved a.next a.q old a.event (by-itself t here.0 start old a.event c) refl a.comes here.1) in
       let set_all : AllWell (set ps t a.q) (old ++ a.event ∷ []) = at_set (λ k p. (k < length tasks) × GoesWell k p (old ++ a.event ∷ [])) ps t p a.q a.at mine
       (λ k p differs at. let there = all k p at in (there.0, well-others k p old a.event (by-other k there.0 start old a.event (λ e. differs (next_same k t (sym a.client ∙ e))) c) there.1)) in
       subst (λ (xs : List Event). AllWell qs (old ++ xs)) (sym a.one) (subst (λ (xs : List (Play Outcome)). AllWell xs (old ++ a.event ∷ [])) (sym a.rest) set_all)
@@ -163,7 +190,7 @@ module _ (initial : InitialLaw) (draw : Draw) (tasks : List Task) (few : length 
   well-starved t ps qs old events s all =
       let p : Play Outcome = Ask s.op s.starved s.next in
       let here = all t p s.at in
-      let mine : (t < length tasks) × GoesWell t s.q old = (here.0, meets-starved (λ o. EndsFine o.end) (beside (t + 1) (ids_at draw t)) s.op s.starved s.next s.q old s.comes here.1) in
+      let mine : (t < length tasks) × GoesWell t s.q old = (here.0, meets-starved (EndsAt t) (beside (t + 1) (ids_at draw t)) s.op s.starved s.next s.q old s.comes here.1) in
       let set_all : AllWell (set ps t s.q) old = at_set (λ k p. (k < length tasks) × GoesWell k p old) ps t p s.q s.at mine (λ k p differs at. all k p at) in
       well-nothing qs old events s.nothing (subst (λ (xs : List (Play Outcome)). AllWell xs old) (sym s.rest) set_all)
 
@@ -185,15 +212,27 @@ module _ (initial : InitialLaw) (draw : Draw) (tasks : List Task) (few : length 
       let rest : AllWell qs ((old ++ i.0) ++ i.1) = well-turns ts i.2 qs start (old ++ i.0) i.1 parts.1 i.5 first in
       subst (λ (xs : List Event). AllWell qs (old ++ xs)) (sym i.3) (subst (λ (h : List Event). AllWell qs h) (append_assoc old i.0 i.1) rest)
 
-  well-begun : SnapshotLaw → (journal : List Event) → ((client : ℕ) (ids : AnyIds) → AreOf client ids → Before ids journal) → AllNodesAreNew draw tasks few wells initial [] journal → AllWell (plays_from draw 0 tasks) journal
-  well-begun law journal before nodes k p at =
-      let r = play_at draw 0 tasks k p at in
-      let is : p ≡ task_play (ids_at draw k) r.task = r.is ∙ ap (λ (n : ℕ). task_play (ids_at draw n) r.task) (zero-add k) in
-      let within : k < length tasks = slice_get_within tasks k r.task r.at in
-      (within, subst (λ (x : Play Outcome). GoesWell k x journal) (sym is) (task-meets (k + 1) (ids_at draw k) law r.task (well-at draw tasks wells k r.task r.at) journal (ids_at-of draw tasks k r.task few r.at) (before (k + 1) (ids_at draw k) (ids_at-of draw tasks k r.task few r.at)) (nodes k within)))
+  -- of a task that opens a session, or calls on refs
+  headed-well : SnapshotLaw → (k : ℕ) (task : Task) (journal : List Event) → IsWellTask task → AreOf (k + 1) (ids_at draw k) → Before (ids_at draw k) journal → NodesAreNew (ids_at draw k) journal → (head : Head) → PlayMeets (λ o. EndsBy head o.end) (beside (k + 1) (ids_at draw k)) (headed_play head (ids_at draw k) task) journal
+  headed-well law k task journal well known before nodes (Session access) = session-meets (k + 1) (ids_at draw k) law access task.line task.body well.body journal known before nodes
+  headed-well law k task journal well known before nodes Refs = calls-meet (k + 1) (ids_at draw k) task.body [] journal before.tidy
 
-  well-ended : (outcomes : List Outcome) (journal : List Event) → AllWell (ends_of outcomes) journal → (place : ℕ) (outcome : Outcome) → slice_get outcomes place ≡ Some outcome → EndsFine outcome.end
-  well-ended outcomes journal all place outcome at = meets-ended (λ o. EndsFine o.end) (beside (place + 1) (ids_at draw place)) outcome journal (all place (Ended outcome) (ends_at outcomes place outcome at)).1
+  task-same : (k : ℕ) (a b : Task) → slice_get tasks k ≡ Some a → slice_get tasks k ≡ Some b → a ≡ b
+  task-same k a b e f = let both = sym e ∙ f in cc
+
+  well-begun : SnapshotLaw → (journal : List Event) → ((client : ℕ) (ids : AnyIds) → AreOf client ids → Before ids journal) → AllNodesAreNew draw tasks few wells initial [] journal → (ps : List (Play Outcome)) → Begin draw tasks ps → AllWell ps journal
+  well-begun law journal before nodes ps begins k q at =
+      let r = play_at draw 0 tasks ps k q begins at in
+      let p : Play Outcome = task_play (ids_at draw k) r.task in
+      let comes : ComesTo p q = subst (λ (n : ℕ). ComesTo (task_play (ids_at draw n) r.task) q) (zero-add k) r.comes in
+      let within : k < length tasks = slice_get_within tasks k r.task r.at in
+      let known : AreOf (k + 1) (ids_at draw k) = ids_at-of draw tasks k r.task few r.at in
+      let meets = headed-well law k r.task journal (well-at draw tasks wells k r.task r.at) known (before (k + 1) (ids_at draw k) known) (nodes k within) r.task.head in
+      let here : GoesWell k p journal = play-weaker (λ o. EndsBy r.task.head o.end) (EndsAt k) (λ o e task there. subst (λ (t : Task). EndsBy t.head o.end) (task-same k r.task task r.at there) e) (beside (k + 1) (ids_at draw k)) p journal meets in
+      (within, meets-comes (EndsAt k) (beside (k + 1) (ids_at draw k)) p q journal comes here)
+
+  well-ended : (outcomes : List Outcome) (journal : List Event) → AllWell (ends_of outcomes) journal → (place : ℕ) (outcome : Outcome) → slice_get outcomes place ≡ Some outcome → EndsAt place outcome
+  well-ended outcomes journal all place outcome at = meets-ended (EndsAt place) (beside (place + 1) (ids_at draw place)) outcome journal (all place (Ended outcome) (ends_at outcomes place outcome at)).1
 
 -- ---- the opening and the closing reading
 -- a program that was run alone: its events put nothing under drawn ids, and it came to its end or wanted memory
@@ -268,15 +307,15 @@ module _ (initial : InitialLaw) (draw : Draw) (script : Script) (few : length sc
       subst (λ (h : List Event). Each IsAny [] h) (sym (r.is told)) (Each-append IsAny [] old.seen r.own tidy (Each-weaker (IsOfClient draw script.tasks old.seen) IsAny (anybody initial draw script.tasks few wells old.seen) old.seen r.own (r.careful told)))
   plays-tidy old new (Err why) outcomes told p tidy = subst (λ (v : View). Each IsAny [] v.seen) (sym p.0) tidy
 
-  -- each task ends by no strange refusal but one that says that a log hides a node
+  -- each task ends so
   plays-fine : SnapshotLaw → (old new : View) (opening : Result (Unit {0}) Refusal) (outcomes : List Outcome) → IsTrue old.caller.tells → Plays draw script old new opening outcomes → ((client : ℕ) (ids : AnyIds) → AreOf client ids → Before ids old.seen)
-      → Holds draw script.tasks few wells initial [] old.seen → AllNodesAreNew draw script.tasks few wells initial [] old.seen → (place : ℕ) (outcome : Outcome) → slice_get outcomes place ≡ Some outcome → EndsFine outcome.end
+      → Holds draw script.tasks few wells initial [] old.seen → AllNodesAreNew draw script.tasks few wells initial [] old.seen → (place : ℕ) (outcome : Outcome) → slice_get outcomes place ≡ Some outcome → (task : Task) → slice_get script.tasks place ≡ Some task → EndsBy task.head outcome.end
   plays-fine law old new (Ok done) outcomes told p before holds nodes place outcome at =
       let r = p.ran.ran in
-      let known = run-knows draw script.tasks few wells initial [] old.seen r.own (Each-weaker (IsOfClient draw script.tasks old.seen) (IsOfRun draw script.tasks few wells initial [] old.seen) (λ h event c. inl c) old.seen r.own (r.careful told)) holds nodes in
+      let known = run-knows draw script.tasks few wells initial [] old.seen r.own (Each-weaker (IsOfClient draw script.tasks old.seen) (IsOfRun draw script.tasks few wells initial [] old.seen) (λ h event c. by-head draw script.tasks old.seen h event c) old.seen r.own (r.careful told)) holds nodes in
       let comes = Each-both (IsOfClient draw script.tasks old.seen) (IsKnown draw script.tasks few wells initial [] old.seen) (Comes initial draw script.tasks few wells old.seen) (λ h event c k. (c, k)) old.seen r.own (r.careful told) known in
-      well-ended initial draw script.tasks few wells outcomes (old.seen ++ r.own) (well-turns initial draw script.tasks few wells _ (plays_from draw 0 script.tasks) (ends_of outcomes) old.seen old.seen r.own comes r.order (well-begun initial draw script.tasks few wells law old.seen before nodes)) place outcome at
-  plays-fine law old new (Err why) outcomes told p before holds nodes place outcome at = let no = sym (ap (λ (os : List Outcome). slice_get os place) p.1) ∙ at in absurd cc
+      well-ended initial draw script.tasks few wells outcomes (old.seen ++ r.own) (well-turns initial draw script.tasks few wells _ p.ran.begun (ends_of outcomes) old.seen old.seen r.own comes r.order (well-begun initial draw script.tasks few wells law old.seen before nodes p.ran.begun p.ran.begins)) place outcome at
+  plays-fine law old new (Err why) outcomes told p before holds nodes place outcome at = λ task there. let no = sym (ap (λ (os : List Outcome). slice_get os place) p.1) ∙ at in absurd cc
 
   -- there is a task for each outcome
   task-of : (old new : View) (opening : Result (Unit {0}) Refusal) (outcomes : List Outcome) → Plays draw script old new opening outcomes → (place : ℕ) (outcome : Outcome) → slice_get outcomes place ≡ Some outcome → (task : Task) × (slice_get script.tasks place ≡ Some task)
@@ -306,7 +345,7 @@ module _ (initial : InitialLaw) (draw : Draw) (script : Script) (few : length sc
         opened = answers-plain begin_program opening [] c.begun.seen first (begin-meets (λ id. ⊥) []);
         tasks = λ place outcome at.
             let task = task-of c.begun c.played opening outcomes c.plays place outcome at in
-            told-plain (ids_at draw place) task.0 (place + 1) c.begun.seen new.seen (λ lost since key bad. none c.begun.seen since place task.0 lost key bad opened task.1) outcome (c.told told place task.0 outcome task.1 at) (fine place outcome at);
+            told-by_head (ids_at draw place) task.0 (place + 1) c.begun.seen new.seen (λ lost since key bad. none c.begun.seen since place task.0 lost key bad opened task.1) outcome task.0.head refl (c.told told place task.0 outcome task.1 at) (fine place outcome at task.0 task.1);
         closed = answers-plain refs_program refs c.played.seen new.seen last (refs-meets (λ id. ⊥) c.played.seen (plays-tidy c.begun c.played opening outcomes begun_tells c.plays tidy));
       }
 

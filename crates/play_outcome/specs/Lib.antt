@@ -1,1 +1,3 @@
 pub mod Ending
+pub mod Playing
+pub mod Settling

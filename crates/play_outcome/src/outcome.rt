@@ -1,6 +1,6 @@
 //! Outcomes of tasks.
 
-use ice_base::{Bytes, RefName};
+use ice_base::{Bytes, RefName, Text};
 use ice_ids::Id12;
 use ice_items::Items;
 use store_api::Refusal;
@@ -10,15 +10,38 @@ use zarr_path::Path;
 #[derive(Debug, Drop)]
 pub enum Shown {
     /// A node of a listing that was asked for in this line of the script.
-    Node { line: u32, array: bool, path: Path },
+    Node {
+        line: u32,
+        array: bool,
+        path: Path,
+    },
     /// The metadata of a node that was asked for in this line of the script.
-    Meta { line: u32, text: Bytes },
+    Meta {
+        line: u32,
+        text: Bytes,
+    },
     /// The bytes of a chunk that was asked for in this line of the script.
-    Chunk { line: u32, bytes: Bytes },
+    Chunk {
+        line: u32,
+        bytes: Bytes,
+    },
     /// A chunk that was asked for in this line of the script and isn't written: all its elements are the fill value.
-    Fill { line: u32 },
+    Fill {
+        line: u32,
+    },
     /// The value of a key of the Zarr store that was asked for in this line of the script, if the key has one.
-    Key { line: u32, bytes: Option<Bytes> },
+    Key {
+        line: u32,
+        bytes: Option<Bytes>,
+    },
+    /// A snapshot of a log that was asked for in this line of the script: when it was flushed, in microseconds, and the message of
+    /// its commit.
+    Log {
+        line: u32,
+        id: Id12,
+        flushed_at: u64,
+        message: Text,
+    },
 }
 
 /// Lines that a task showed, in order.

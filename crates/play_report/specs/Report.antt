@@ -5,7 +5,7 @@ use Rattle.std.specs.Char.{digit_char}
 use Rattle.ice_ids.specs.Text.{id12_text}
 use Rattle.store_api.specs.declared.machines.Refusal.{Refusal}
 use Rattle.play_outcome.specs.declared.outcome.Shown.{Shown}
-use Rattle.play_outcome.specs.declared.outcome.Shown.TheVariants.{Node, Meta, Chunk, Fill, Key}
+use Rattle.play_outcome.specs.declared.outcome.Shown.TheVariants.{Node, Meta, Chunk, Fill, Key, Log}
 use Rattle.play_outcome.specs.declared.outcome.End.{End}
 use Rattle.play_outcome.specs.declared.outcome.End.TheVariants.{Committed, Done, Refused}
 use Rattle.play_outcome.specs.declared.outcome.Outcome.{Outcome}
@@ -23,7 +23,7 @@ node_kind array = if array then codes "array" else codes "group"
 abbrev pub ref_kind : Bool → List ℕ
 ref_kind tag = if tag then codes "tag" else codes "branch"
 
--- a byte of metadata: a control byte is printed as a space
+-- a byte of metadata or of a message: a control byte is printed as a space
 abbrev pub printed : ℕ → ℕ
 printed b = if nat_lt b 32 || (b == 127) then 32 else b
 
@@ -48,6 +48,8 @@ shown_text (Meta line text) = decimal line space codes "meta" space map printed 
 shown_text (Chunk line bytes) = decimal line space codes "chunk" space bytes_text bytes
 shown_text (Fill line) = decimal line space codes "fill"
 shown_text (Key line bytes) = decimal line space codes "zget" space value_text bytes
+shown_text (Log line snapshot flushed_at message) =
+    decimal line space codes "log" space id12_text snapshot space decimal flushed_at space map printed message
 
 abbrev pub shown_line : List ℕ → Shown → List ℕ
 shown_line name shown = line_of name (shown_text shown)

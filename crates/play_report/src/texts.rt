@@ -25,7 +25,7 @@ fn printed(byte: u8) -> u8
     if byte < 32 || byte == 127 { b' ' } else { byte }
 }
 
-/// Metadata.
+/// Metadata, or a message.
 fn add_printed(out: &mut Draft, text: &[u8]) -> Result<(), AllocError>
     ensures { OnOk result (out.new ≡ added out.old (map printed text.now)) }
 {
@@ -104,6 +104,15 @@ pub fn add_shown(out: &mut Draft, shown: &Shown) -> Result<(), AllocError>
         Shown::Key { line, bytes } => {
             write!(out, "{line} zget ")?;
             add_value(out, bytes)
+        }
+        Shown::Log {
+            line,
+            id,
+            flushed_at,
+            message,
+        } => {
+            write!(out, "{line} log {id} {flushed_at} ")?;
+            add_printed(out, message.as_str().as_bytes())
         }
     }
 }

@@ -1,12 +1,13 @@
 -- What each worker played by turns.
 use Rattle.std.proofs.Common.{◌≡◌, ◌≢◌, ℕ, zero, suc, ◌+◌, ◌≤◌, inl, inr, Bool, true, false, List, [], ◌∷◌, ◌++◌, refl, sym, ◌∙◌, ap, subst, length, arith, add-zero, zero-add, ne_eqb, eq-eqb, eqb-true, length-set}
 use Rattle.std.specs.Prelude.{◌==◌, All, Some, slice_get}
+use Rattle.std.specs.List.{AllZip}
 use Rattle.std.proofs.lemmas.Option.{slice_get_within}
 use Rattle.std.proofs.lemmas.List.Elements.{All-nil, All-cons, All-append, filter-append}
 use Rattle.ice_ids.specs.declared.drawing.Draw.{Draw}
 use Rattle.store_api.specs.declared.events.Event.{Event}
 use Rattle.store_api.specs.Program.{events_of}
-use Rattle.store_api.specs.Plays.{Play, Ended}
+use Rattle.store_api.specs.Plays.{Play, Ended, Comes}
 use Rattle.store_api.proofs.Programs.{own-one}
 use Rattle.play_script.specs.declared.scripts.Task.{Task}
 use Rattle.play_outcome.specs.declared.outcome.Outcome.{Outcome}
@@ -14,7 +15,7 @@ use Rattle.play_tasks.specs.Playing.{task_play}
 use Rattle.play_tasks.specs.Tasks.{ids_at, plays_from}
 use Rattle.play_tasks.specs.Played.{PlaysTo, IsByTask, AllPlayed}
 use Rattle.play_tasks.proofs.Paths.{PlaysTo-ended, PlaysTo-comes, PlaysTo-asked, PlaysTo-starved}
-use Rattle.play_run.specs.Order.{Passed, WentOn, FellShort, Turned, InTurns}
+use Rattle.play_run.specs.Order.{Passed, WentOn, FellShort, Turned, InTurns, Begin}
 use Rattle.play_run.proofs.Places.{slice_get-set_same, slice_get-set_other}
 
 some_same : {X : Type 0} (x y : X) → Some x ≡ Some y → x ≡ y
@@ -112,19 +113,29 @@ owned_turns tasks (t ∷ ts) ps events qs size r =
     subst (All (IsByTask tasks)) (sym r.3) (All-append (IsByTask tasks) r.0 r.1 (turned_owned tasks t ps r.0 r.2 size r.4) (owned_turns tasks ts r.2 r.1 qs (turned_size t ps r.0 r.2 r.4 ∙ size) r.5))
 
 -- ---- the tasks
-place_at : (draw : Draw) (place : ℕ) (tasks : List Task) (k : ℕ) (task : Task) → slice_get tasks k ≡ Some task → slice_get (plays_from draw place tasks) k ≡ Some (task_play (ids_at draw (place + k)) task)
-place_at draw place [] k task e = absurd (cc)
-place_at draw place (t ∷ ts) zero task e = ap (λ (x : Task). Some (task_play (ids_at draw place) x)) (some_same t task e) ∙ ap (λ (n : ℕ). Some (task_play (ids_at draw n) task)) (sym (add-zero place))
-place_at draw place (t ∷ ts) (suc k) task e =
+-- the worker of the task at a place begins with what its play has come to
+record Begun (draw : Draw) (place : ℕ) (task : Task) (k : ℕ) (ps : List (Play Outcome)) : Type 0 where
+  pub q : Play Outcome
+  pub at : slice_get ps k ≡ Some q
+  pub comes : Comes (task_play (ids_at draw (place + k)) task) q
+
+begun_at : (draw : Draw) (place : ℕ) (tasks : List Task) (ps : List (Play Outcome)) (k : ℕ) (task : Task) → AllZip (λ (p q : Play Outcome). Comes p q) (plays_from draw place tasks) ps → slice_get tasks k ≡ Some task → Begun draw place task k ps
+begun_at draw place [] ps k task z e = absurd (cc)
+begun_at draw place (t ∷ ts) [] k task z e = absurd z
+begun_at draw place (t ∷ ts) (p ∷ ps) zero task z e =
+    record { q = p; at = refl; comes = subst (λ (x : Task). Comes (task_play (ids_at draw (place + 0)) x) p) (some_same t task e) (subst (λ (n : ℕ). Comes (task_play (ids_at draw n) t) p) (sym (add-zero place)) z.0) }
+begun_at draw place (t ∷ ts) (p ∷ ps) (suc k) task z e =
+    let r = begun_at draw (place + 1) ts ps k task z.1 e in
     let next : (place + 1) + k ≡ place + suc k = omega arith in
-    place_at draw (place + 1) ts k task e ∙ ap (λ (n : ℕ). Some (task_play (ids_at draw n) task)) next
+    record { q = r.q; at = r.at; comes = subst (λ (n : ℕ). Comes (task_play (ids_at draw n) task) r.q) next r.comes }
 
 -- tasks whose workers came by turns to these outcomes were played, whatever the turns
-pub played_turns : (draw : Draw) (tasks : List Task) (ts : List ℕ) (events : List Event) (outcomes : List Outcome) (qs : List (Play Outcome)) → length (plays_from draw 0 tasks) ≡ length tasks → ((k : ℕ) (outcome : Outcome) → slice_get outcomes k ≡ Some outcome → slice_get qs k ≡ Some (Ended outcome))
-    → InTurns ts (plays_from draw 0 tasks) events qs → AllPlayed draw tasks outcomes events
-played_turns draw tasks ts events outcomes qs size ends order = record {
-  owned = owned_turns tasks ts (plays_from draw 0 tasks) events qs size order;
+pub played_turns : (draw : Draw) (tasks : List Task) (ts : List ℕ) (ps : List (Play Outcome)) (events : List Event) (outcomes : List Outcome) (qs : List (Play Outcome)) → length ps ≡ length tasks → ((k : ℕ) (outcome : Outcome) → slice_get outcomes k ≡ Some outcome → slice_get qs k ≡ Some (Ended outcome))
+    → Begin draw tasks ps → InTurns ts ps events qs → AllPlayed draw tasks outcomes events
+played_turns draw tasks ts ps events outcomes qs size ends begins order = record {
+  owned = owned_turns tasks ts ps events qs size order;
   plays = λ place task outcome at_task at.
-      let first = place_at draw 0 tasks place task at_task ∙ ap (λ (n : ℕ). Some (task_play (ids_at draw n) task)) (zero-add place) in
-      plays_turns ts place (plays_from draw 0 tasks) events qs (task_play (ids_at draw place) task) outcome order first (ends place outcome at);
+      let r = begun_at draw 0 tasks ps place task begins at_task in
+      let comes = subst (λ (n : ℕ). Comes (task_play (ids_at draw n) task) r.q) (zero-add place) r.comes in
+      PlaysTo-comes (task_play (ids_at draw place) task) r.q (events_of (place + 1) events) outcome comes (plays_turns ts place ps events qs r.q outcome order r.at (ends place outcome at));
 }

@@ -4,12 +4,13 @@ use Rattle.std.proofs.Common.{◌≢◌, ◌≤◌, ◌⊎◌, inl, inr, true, f
 use Rattle.std.specs.Prelude.{◌==◌, slice_get, All, IsTrue}
 use Rattle.std.proofs.Math.Seq.{take-length, drop-length}
 use Rattle.std.proofs.lemmas.Option.{slice_get_cases, slice_get_within, get_or_from_slice_get}
+use Rattle.std.specs.List.{AllZip}
+use Rattle.std.proofs.lemmas.List.Elements.{AllZip-push, length_all_zip}
 use Rattle.std.proofs.lemmas.List.{replicate_more, take_more, length-take-le, map-append}
 use Rattle.store_api.specs.declared.events.Event.{Event}
 use Rattle.store_api.specs.Callers.{View, only}
-use Rattle.store_api.specs.Plays.{Play, Ended, HasEnded, PlayKeeps, PlayLeads}
-use Rattle.commit_path.specs.Owed.{IsCareful}
-use Rattle.store_api.specs.Telling.{ChangedNothing}
+use Rattle.store_api.specs.Plays.{Play, Ended, HasEnded, Comes, PlayKeeps, PlayLeads}
+use Rattle.store_api.proofs.PlayLaws.{PlayKeeps-comes, PlayLeads-comes}
 use Rattle.ice_ids.specs.declared.drawing.Draw.{Draw}
 use Rattle.play_script.specs.declared.scripts.Task.{Task}
 use Rattle.play_script.specs.declared.scripts.Turn.{Turn}
@@ -18,10 +19,11 @@ use Rattle.play_outcome.specs.declared.outcome.Outcome.{Outcome}
 use Rattle.play_tasks.specs.declared.worker.Worker.{Worker}
 use Rattle.play_tasks.specs.Workers.{worker_rest}
 use Rattle.play_tasks.specs.Playing.{task_play}
-use Rattle.play_tasks.specs.Solving.{IsOfTask}
+use Rattle.play_tasks.specs.Owing.{IsDue, BeforeChange}
 use Rattle.play_tasks.specs.Laws.{TaskLaw}
 use Rattle.play_tasks.specs.Tasks.{ids_at, TellsAt, plays_from, AllStand, HasEndedAt, AllBlame, AllTold}
-use Rattle.play_run.specs.Order.{places_of, turns_of, InTurns, RanTasks}
+use Rattle.play_tasks.proofs.Begun.{begun-calm}
+use Rattle.play_run.specs.Order.{places_of, turns_of, Begin, RanTasks}
 use Rattle.play_run.specs.inside.Taking.{TookTurn}
 use Rattle.play_run.specs.inside.Going.{CanGo, Blame, Went}
 use Rattle.play_run.proofs.Turning.{Went-trans, Went-took}
@@ -71,39 +73,42 @@ Below-more t ps qs others below last k less = decide (k == t) refl
         others k (below k (omega (arith, differs, less)))
 
 -- ---- the workers of tasks
-pub worker_more : (draw : Draw) (tasks : List Task) (place : ℕ) (task : Task) (ws : List Worker) (x : Worker) → place < length tasks → task ≡ get_or tasks place task → map worker_rest ws ≡ plays_from draw 0 (take place tasks)
-    → worker_rest x ≡ task_play (ids_at draw place) task → map worker_rest (ws ++ x ∷ []) ≡ plays_from draw 0 (take (place + 1) tasks)
+abbrev came : Play Outcome → Play Outcome → Type 0
+came p q = Comes p q
+
+pub worker_more : (draw : Draw) (tasks : List Task) (place : ℕ) (task : Task) (ws : List Worker) (x : Worker) → place < length tasks → task ≡ get_or tasks place task → Begin draw (take place tasks) (map worker_rest ws)
+    → Comes (task_play (ids_at draw place) task) (worker_rest x) → Begin draw (take (place + 1) tasks) (map worker_rest (ws ++ x ∷ []))
 worker_more draw tasks place task ws x within is before own =
     let size : length (take place tasks) ≡ place = length-take-le place tasks (omega (arith, within)) in
     let last : plays_from draw 0 (take place tasks ++ task ∷ []) ≡ plays_from draw 0 (take place tasks) ++ task_play (ids_at draw place) task ∷ [] = plays-more draw 0 (take place tasks) task ∙ ap (λ (n : ℕ). plays_from draw 0 (take place tasks) ++ task_play (ids_at draw n) task ∷ []) (zero-add (length (take place tasks)) ∙ size) in
-    map-append worker_rest ws (x ∷ [])
-    ∙ ap (λ (l : List (Play Outcome)). l ++ worker_rest x ∷ []) before
-    ∙ ap (λ (p : Play Outcome). plays_from draw 0 (take place tasks) ++ p ∷ []) own
-    ∙ sym last
-    ∙ ap (λ (y : Task). plays_from draw 0 (take place tasks ++ y ∷ [])) is
-    ∙ ap (plays_from draw 0) (sym (take_more tasks place task within))
+    let plays : plays_from draw 0 (take place tasks) ++ task_play (ids_at draw place) task ∷ [] ≡ plays_from draw 0 (take (place + 1) tasks) =
+    sym last ∙ ap (λ (y : Task). plays_from draw 0 (take place tasks ++ y ∷ [])) is ∙ ap (plays_from draw 0) (sym (take_more tasks place task within)) in
+    let both = AllZip-push came (plays_from draw 0 (take place tasks)) (map worker_rest ws) (task_play (ids_at draw place) task) (worker_rest x) before own in
+    subst (λ (ps : List (Play Outcome)). AllZip came ps (map worker_rest (ws ++ x ∷ []))) plays
+    (subst (λ (qs : List (Play Outcome)). AllZip came (plays_from draw 0 (take place tasks) ++ task_play (ids_at draw place) task ∷ []) qs) (sym (map-append worker_rest ws (x ∷ []))) both)
 
-pub all_workers : (draw : Draw) (tasks : List Task) (place : ℕ) (ps : List (Play Outcome)) → length tasks ≤ place → place ≤ length tasks → ps ≡ plays_from draw 0 (take place tasks) → ps ≡ plays_from draw 0 tasks
-all_workers draw tasks place ps over under e =
+pub all_workers : (draw : Draw) (tasks : List Task) (place : ℕ) (ps : List (Play Outcome)) → length tasks ≤ place → place ≤ length tasks → Begin draw (take place tasks) ps → Begin draw tasks ps
+all_workers draw tasks place ps over under b =
     let same : place ≡ length tasks = omega (arith, over, under) in
-    e ∙ ap (λ (n : ℕ). plays_from draw 0 (take n tasks)) same ∙ ap (plays_from draw 0) (take-length tasks)
+    subst (λ (ts : List Task). Begin draw ts ps) (ap (λ (n : ℕ). take n tasks) same ∙ take-length tasks) b
 
--- the play at a place is its task's
-pub record IsPlay (draw : Draw) (place : ℕ) (tasks : List Task) (k : ℕ) (p : Play Outcome) : Type 0 where
+-- what the worker at a place begins with is what its task's play has come to
+pub record IsPlay (draw : Draw) (place : ℕ) (tasks : List Task) (k : ℕ) (q : Play Outcome) : Type 0 where
   pub task : Task
   pub at : slice_get tasks k ≡ Some task
-  pub is : p ≡ task_play (ids_at draw (place + k)) task
+  pub comes : Comes (task_play (ids_at draw (place + k)) task) q
 
-pub play_at : (draw : Draw) (place : ℕ) (tasks : List Task) (k : ℕ) (p : Play Outcome) → slice_get (plays_from draw place tasks) k ≡ Some p → IsPlay draw place tasks k p
-play_at draw place [] k p e = cc
-play_at draw place (t ∷ ts) zero p e = record { task = t; at = refl; is = sym (some_same e) ∙ ap (λ (n : ℕ). task_play (ids_at draw n) t) (sym (add-zero place)) }
-  where
-    some_same : Some (task_play (ids_at draw place) t) ≡ Some p → task_play (ids_at draw place) t ≡ p
-    some_same h = cc
-play_at draw place (t ∷ ts) (suc k) p e =
-    let r = play_at draw (place + 1) ts k p e in
+pub play_at : (draw : Draw) (place : ℕ) (tasks : List Task) (ps : List (Play Outcome)) (k : ℕ) (q : Play Outcome) → AllZip came (plays_from draw place tasks) ps → slice_get ps k ≡ Some q → IsPlay draw place tasks k q
+play_at draw place [] [] k q z e = absurd (cc)
+play_at draw place [] (p ∷ ps) k q z e = absurd z
+play_at draw place (t ∷ ts) [] k q z e = absurd z
+play_at draw place (t ∷ ts) (p ∷ ps) zero q z e =
+    let same : p ≡ q = cc in
+    record { task = t; at = refl; comes = subst (λ (x : Play Outcome). Comes (task_play (ids_at draw (place + 0)) t) x) same (subst (λ (n : ℕ). Comes (task_play (ids_at draw n) t) p) (sym (add-zero place)) z.0) }
+play_at draw place (t ∷ ts) (p ∷ ps) (suc k) q z e =
+    let r = play_at draw (place + 1) ts ps k q z.1 e in
     let next : (place + 1) + k ≡ place + suc k = omega arith in
-    record { task = r.task; at = r.at; is = r.is ∙ ap (λ (n : ℕ). task_play (ids_at draw n) r.task) next }
+    record { task = r.task; at = r.at; comes = subst (λ (n : ℕ). Comes (task_play (ids_at draw n) r.task) q) next r.comes }
 
 well_at : (tasks : List Task) (k : ℕ) (task : Task) → All IsWellTask tasks → slice_get tasks k ≡ Some task → IsWellTask task
 well_at tasks k task wells e = by_cases (slice_get_cases tasks k).1
@@ -113,18 +118,19 @@ well_at tasks k task wells e = by_cases (slice_get_cases tasks k).1
     by_cases (inr c) = absurd (cc)
 
 -- tasks that are well begin so that each operation of theirs is polite and owed
-AllStand-begin : TaskLaw → (draw : Draw) (tasks : List Task) (tells : Bool) (journal : List Event) → All IsWellTask tasks → AllStand draw tasks journal tells (plays_from draw 0 tasks) journal
-AllStand-begin law draw tasks tells journal wells k p e =
-    let r = play_at draw 0 tasks k p e in
-    let place : 0 + k ≡ k = zero-add k in
-    let is : p ≡ task_play (ids_at draw k) r.task = r.is ∙ ap (λ (n : ℕ). task_play (ids_at draw n) r.task) place in
-    let well = law (only tells (k + 1)) (ids_at draw k) r.task journal (well_at tasks k r.task wells r.at) in
+AllStand-begin : TaskLaw → (draw : Draw) (tasks : List Task) (tells : Bool) (journal : List Event) (ps : List (Play Outcome)) → All IsWellTask tasks → Begin draw tasks ps → AllStand draw tasks journal tells ps journal
+AllStand-begin law draw tasks tells journal ps wells b k q e =
+    let r = play_at draw 0 tasks ps k q b e in
+    let by = only tells (k + 1) in
+    let comes : Comes (task_play (ids_at draw k) r.task) q = subst (λ (n : ℕ). Comes (task_play (ids_at draw n) r.task) q) (zero-add k) r.comes in
+    let p = task_play (ids_at draw k) r.task in
+    let well = law by (ids_at draw k) r.task journal (well_at tasks k r.task wells r.at) in
     record {
       task = r.task;
       at = r.at;
-      careful = subst (λ (x : Play Outcome). PlayKeeps (IsCareful (ids_at draw k) (IsOfTask (ids_at draw k) r.task (k + 1) journal)) (only tells (k + 1)) x journal) (sym is) well.0;
-      before = subst (λ (x : Play Outcome). PlayKeeps (λ h client op. ChangedNothing client journal h) (only tells (k + 1)) x journal) (sym is) well.1;
-      leads = subst (λ (x : Play Outcome). PlayLeads (TellsAt draw k r.task journal) (only tells (k + 1)) x journal) (sym is) well.2;
+      careful = PlayKeeps-comes (IsDue (ids_at draw k) r.task (k + 1) journal) by p q journal comes well.0;
+      before = PlayKeeps-comes (λ h client op. BeforeChange r.task client journal h) by p q journal comes well.1;
+      leads = PlayLeads-comes (TellsAt draw k r.task journal) by p q journal comes well.2;
     }
 
 pub plays_size : (draw : Draw) (place : ℕ) (tasks : List Task) → length (plays_from draw place tasks) ≡ length tasks
@@ -135,20 +141,21 @@ pub size_map : (ws : List Worker) → length (map worker_rest ws) ≡ length ws
 size_map [] = refl
 size_map (x ∷ xs) = ap suc (size_map xs)
 
-pub workers_size : (draw : Draw) (tasks : List Task) (ws : List Worker) → map worker_rest ws ≡ plays_from draw 0 tasks → length ws ≡ length tasks
-workers_size draw tasks ws e = sym (size_map ws) ∙ ap length e ∙ plays_size draw 0 tasks
+begun_size : (draw : Draw) (tasks : List Task) (ps : List (Play Outcome)) → Begin draw tasks ps → length ps ≡ length tasks
+begun_size draw tasks ps b = sym (length_all_zip came (plays_from draw 0 tasks) ps b) ∙ plays_size draw 0 tasks
+
+pub workers_size : (draw : Draw) (tasks : List Task) (ws : List Worker) → Begin draw tasks (map worker_rest ws) → length ws ≡ length tasks
+workers_size draw tasks ws b = sym (size_map ws) ∙ begun_size draw tasks (map worker_rest ws) b
 
 pub went_size : (ts : List ℕ) (a b : View) (old new : List Worker) → Went ts a b (map worker_rest old) (map worker_rest new) → length new ≡ length old
 went_size ts a b old new w = sym (size_map new) ∙ w.size ∙ size_map old
 
--- none of the plays has ended
-none_blamed : (draw : Draw) (tasks : List Task) (m n : ℕ) → Blame (plays_from draw 0 tasks) m n
-none_blamed draw tasks m n k outcome at failed =
-    let r = play_at draw 0 tasks k (Ended outcome) at in
-    absurd (not_ended r.task r.is)
-  where
-    not_ended : (task : Task) → Ended outcome ≡ task_play (ids_at draw (0 + k)) task → ⊥
-    not_ended task e = cc
+-- where a play has ended at once, it tells no fault of the store
+none_blamed : (draw : Draw) (tasks : List Task) (ps : List (Play Outcome)) (m n : ℕ) → Begin draw tasks ps → Blame ps m n
+none_blamed draw tasks ps m n b k outcome at failed =
+    let r = play_at draw 0 tasks ps k (Ended outcome) b at in
+    let calm = begun-calm (ids_at draw (0 + k)) r.task outcome r.comes in
+    absurd (cc)
 
 -- ---- workers that have ended
 middle_at : {X : Type 0} (xs ys : List X) (x : X) → slice_get (xs ++ x ∷ ys) (length xs) ≡ Some x
@@ -166,8 +173,8 @@ pub ended_all : (ws : List Worker) → ((place : ℕ) → place < length ws → 
 ended_all ws ended place p at = ended place (omega (arith, slice_get_within (map worker_rest ws) place p at, size_map ws)) p at
 
 -- ---- the whole run
-pub begins : TaskLaw → (draw : Draw) (tasks : List Task) (view : View) (ps : List (Play Outcome)) → All IsWellTask tasks → ps ≡ plays_from draw 0 tasks → CanGo view ps
-begins law draw tasks view ps wells e told = record { draw = draw; tasks = tasks; start = view.seen; stand = subst (λ (xs : List (Play Outcome)). AllStand draw tasks view.seen view.caller.tells xs view.seen) (sym e) (AllStand-begin law draw tasks view.caller.tells view.seen wells) }
+pub begins : TaskLaw → (draw : Draw) (tasks : List Task) (view : View) (ps : List (Play Outcome)) → All IsWellTask tasks → Begin draw tasks ps → CanGo view ps
+begins law draw tasks view ps wells b told = record { draw = draw; tasks = tasks; start = view.seen; stand = AllStand-begin law draw tasks view.caller.tells view.seen ps wells b }
 
 abbrev pub ends_of : List Outcome → List (Play Outcome)
 ends_of outcomes = map (λ (o : Outcome). Ended o) outcomes
@@ -186,25 +193,26 @@ unfolding PlayLeads
 ended_told Q tells k outcome journal l = l
 
 -- where the workers of these tasks went to these ends
-module _ (law : TaskLaw) (draw : Draw) (tasks : List Task) (turns : List ℕ) (a c : View) (ps : List (Play Outcome)) (outcomes : List Outcome) (wells : All IsWellTask tasks) (first : ps ≡ plays_from draw 0 tasks) where
+module _ (law : TaskLaw) (draw : Draw) (tasks : List Task) (turns : List ℕ) (a c : View) (ps : List (Play Outcome)) (outcomes : List Outcome) (wells : All IsWellTask tasks) (first : Begin draw tasks ps) where
   abbrev pub Whole : Type 0
   Whole = (counts : List ℕ) × Went (turns ++ turns_of 0 counts) a c ps (ends_of outcomes)
 
   stand : AllStand draw tasks a.seen a.caller.tells ps a.seen
-  stand = subst (λ (xs : List (Play Outcome)). AllStand draw tasks a.seen a.caller.tells xs a.seen) (sym first) (AllStand-begin law draw tasks a.caller.tells a.seen wells)
+  stand = AllStand-begin law draw tasks a.caller.tells a.seen ps wells first
 
   pub ran_all : Whole → RanTasks draw tasks a.caller.tells turns outcomes a.seen c.seen
   ran_all w =
-      let order = subst (λ (xs : List (Play Outcome)). InTurns (turns ++ turns_of 0 w.0) xs w.1.own (ends_of outcomes)) first w.1.order in
       record {
+        begun = ps;
+        begins = first;
         counts = w.0;
         ran = record {
           own = w.1.own;
-          order = order;
+          order = w.1.order;
           is = λ told. (w.1.kept draw tasks a.seen told stand).is;
           careful = λ told. (w.1.kept draw tasks a.seen told stand).careful;
         };
-        played = played_turns draw tasks (turns ++ turns_of 0 w.0) w.1.own outcomes (ends_of outcomes) (plays_size draw 0 tasks) (ends_at outcomes) order;
+        played = played_turns draw tasks (turns ++ turns_of 0 w.0) ps w.1.own outcomes (ends_of outcomes) (begun_size draw tasks ps first) (ends_at outcomes) first w.1.order;
       }
 
   pub told_all : Whole → IsTrue a.caller.tells → AllTold draw tasks outcomes a.seen c.seen
@@ -218,10 +226,10 @@ module _ (law : TaskLaw) (draw : Draw) (tasks : List Task) (turns : List ℕ) (a
 
   pub blamed_all : Whole → AllBlame outcomes a.faults c.faults
   blamed_all w place outcome at failed =
-      w.1.blames a.faults (omega arith) (subst (λ (xs : List (Play Outcome)). Blame xs a.faults a.faults) (sym first) (none_blamed draw tasks a.faults a.faults)) place outcome (ends_at outcomes place outcome at) failed
+      w.1.blames a.faults (omega arith) (none_blamed draw tasks ps a.faults a.faults first) place outcome (ends_at outcomes place outcome at) failed
 
   pub size_all : Whole → length outcomes ≡ length tasks
-  size_all w = sym (ends_size outcomes) ∙ w.1.size ∙ ap length first ∙ plays_size draw 0 tasks
+  size_all w = sym (ends_size outcomes) ∙ w.1.size ∙ begun_size draw tasks ps first
 
 -- a vector whose items were written in place
 pub written_back : (len : ℕ) (new old : List Worker) → length new ≡ length old → len ≡ length old → take len (new ++ drop (length new) old) ≡ new

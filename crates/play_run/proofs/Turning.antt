@@ -9,25 +9,28 @@ use Rattle.store_api.specs.declared.events.Op.{Op}
 use Rattle.store_api.specs.declared.events.Reply.{Reply}
 use Rattle.store_api.specs.declared.events.Event.{Event}
 use Rattle.store_api.specs.Machine.{IsAnswered}
-use Rattle.store_api.specs.Journal.{Each, IsGood}
+use Rattle.store_api.specs.Journal.{Each, IsGood, IsPolite}
 use Rattle.store_api.specs.Callers.{Caller, View, Waits, Makes, IsOther, HasAll, own_event, owns, only, as_client}
 use Rattle.store_api.specs.Plays.{Play, Ended, Ask, Or, IsLive, HasEnded, PlayKeeps, PlayIsPolite, Acts, Acted, Starved, BlamesEnd}
 use Rattle.ice_ids.specs.declared.drawing.AnyIds.{AnyIds}
 use Rattle.store_api.proofs.Journals.{Each-one, Each-none, Each-append}
 use Rattle.store_api.proofs.Programs.{alone, has-all, good-waits, Waits-same, Waits-fewer, Makes-fewer, Fewer}
 use Rattle.store_api.proofs.PlayLaws.{PlayKeeps-waits, PlayKeeps-acts, PlayLeads-waits, PlayLeads-acts}
-use Rattle.commit_path.specs.Owed.{Sessions, IsCareful}
-use Rattle.store_api.specs.Telling.{ChangedNothing}
 use Rattle.commit_path.proofs.Owing.{KeepsMine, IsCareful-append}
 use Rattle.commit_path.proofs.Lawful.{session-law, answers-law}
 use Rattle.chunk_calls.proofs.Lasting.{tells-law}
 use Rattle.store_api.proofs.Happening.{ChangedNothing-others}
+use Rattle.store_api.proofs.Standing.{IsPolite-append}
 use Rattle.commit_path.proofs.Singling.{HasPutAlike-others}
+use Rattle.play_script.specs.declared.scripts.Head.{Head}
+use Rattle.play_script.specs.declared.scripts.Head.TheVariants.{Session, Refs}
 use Rattle.play_script.specs.declared.scripts.Task.{Task}
+use Rattle.play_refs.proofs.Playing.{RefsTells-others}
 use Rattle.play_outcome.specs.declared.outcome.Outcome.{Outcome}
 use Rattle.play_outcome.specs.Ending.{is_failed}
 use Rattle.play_tasks.specs.Playing.{asked_by, policy_of}
 use Rattle.play_tasks.specs.Solving.{IsOfTask}
+use Rattle.play_tasks.specs.Owing.{OwesBy, IsDue, ComesBefore, BeforeChange}
 use Rattle.play_tasks.specs.Tasks.{ids_at, TellsAt, Stands, AllStand, IsOfClient, HasEndedAt}
 use Rattle.play_tasks.specs.Laws.{OutcomeLaw}
 use Rattle.play_tasks.proofs.Early.{WasBegun-more}
@@ -111,15 +114,15 @@ PlayKeeps-now P by op starved next (Ask o s f) journal e k = let same : o ≡ op
 PlayKeeps-now P by op starved next (Or p r) journal e k = absurd (cc)
 
 -- what the next operation owes
-Keeps-polite : (ids : AnyIds) (mine : Sessions) (by : Caller) (p : Play Outcome) (journal : List Event) → PlayKeeps (IsCareful ids mine) by p journal → PlayIsPolite p journal
+Keeps-polite : (ids : AnyIds) (task : Task) (number : ℕ) (start : List Event) (by : Caller) (p : Play Outcome) (journal : List Event) → PlayKeeps (IsDue ids task number start) by p journal → PlayIsPolite p journal
 unfolding PlayKeeps
-Keeps-polite ids mine by (Ended a) journal k = tt
-Keeps-polite ids mine by (Ask op starved next) journal k = k.0.polite
-Keeps-polite ids mine by (Or p r) journal k = tt
+Keeps-polite ids task number start by (Ended a) journal k = tt
+Keeps-polite ids task number start by (Ask op starved next) journal k = k.0.polite
+Keeps-polite ids task number start by (Or p r) journal k = tt
 
 -- what an outcome tells lasts
 outcomes : OutcomeLaw
-outcomes by ids task outcome start journal more others = TellsOutcome-others (record { session = session-law; answers = answers-law; chunks = tells-law }) by start journal more others ids task outcome
+outcomes by ids task outcome start journal more others = TellsOutcome-others (record { session = session-law; answers = answers-law; chunks = tells-law; refs = λ by body outcome start journal more others. RefsTells-others by journal more others body start outcome }) by start journal more others ids task outcome
 
 next_same : (k t : ℕ) → t + 1 ≡ k + 1 → k ≡ t
 next_same k t e = omega (arith, e)
@@ -127,24 +130,31 @@ next_same k t e = omega (arith, e)
 -- a session of a task stays one, whatever others do
 of-task-others : (by : Caller) (ids : AnyIds) (task : Task) (start journal more : List Event) → Each (IsOther by) journal more → KeepsMine (IsOfTask ids task by.number start) journal more
 of-task-others by ids task start journal more others t id o = record {
+  access = o.access;
+  head_is = o.head_is;
   opened = o.opened;
-  begun = WasBegun-more by.number (asked_by task.head ids) o.opened start journal more o.begun;
+  begun = WasBegun-more by.number (asked_by o.access ids) o.opened start journal more o.begun;
   early = o.early;
   session = o.session;
   reaches = o.reaches;
   count = o.count;
   few = o.few;
-  carried = WasCarried-append by.number (policy_of task.head) o.count o.session t start journal more o.carried;
+  carried = WasCarried-append by.number (policy_of o.access) o.count o.session t start journal more o.carried;
   alike = HasPutAlike-others by t start journal more others o.alike;
   drawn = o.drawn;
 }
 
 -- what the client of a task owes of an operation, whichever client it is
 abbrev Owing : AnyIds → Task → List Event → List Event → ℕ → Op → Type 0
-Owing ids task start journal client op = IsCareful ids (IsOfTask ids task client start) journal client op
+Owing ids task start journal client op = IsDue ids task client start journal client op
+
+owes-others : (by : Caller) (ids : AnyIds) (task : Task) (start journal more : List Event) (op : Op) → Each (IsOther by) journal more → IsPolite journal op → (head : Head) → OwesBy head ids task by.number start journal op → OwesBy head ids task by.number start (journal ++ more) op
+owes-others by ids task start journal more op o polite (Session access) owes =
+    (IsCareful-append ids (IsOfTask ids task by.number start) journal more by.number op (of-task-others by ids task start journal more o) (good-waits by journal more o) (record { polite = polite; owes = owes })).owes
+owes-others by ids task start journal more op o polite Refs owes = owes
 
 stable : (ids : AnyIds) (task : Task) (start : List Event) (by : Caller) (journal more : List Event) (op : Op) → Each (IsOther by) journal more → Owing ids task start journal by.number op → Owing ids task start (journal ++ more) by.number op
-stable ids task start by journal more op o c = IsCareful-append ids (IsOfTask ids task by.number start) journal more by.number op (of-task-others by ids task start journal more o) (good-waits by journal more o) c
+stable ids task start by journal more op o c = record { polite = IsPolite-append journal more op (good-waits by journal more o) c.polite; owes = owes-others by ids task start journal more op o c.polite task.head c.owes }
 
 -- where Q follows from P of the caller's own operations
 keeps-own : (P Q : List Event → ℕ → Op → Type 0) (by : Caller) → ((journal : List Event) (op : Op) → P journal by.number op → Q journal by.number op) → (p : Play Outcome) (journal : List Event) → PlayKeeps P by p journal → PlayKeeps Q by p journal
@@ -155,7 +165,7 @@ keeps-own P Q by f (Or p q) journal k = (keeps-own P Q by f p journal k.0, keeps
 
 module _ (ids : AnyIds) (task : Task) (start : List Event) (tells : Bool) (k : ℕ) where
   abbrev Owed : List Event → ℕ → Op → Type 0
-  Owed = IsCareful ids (IsOfTask ids task (k + 1) start)
+  Owed = IsDue ids task (k + 1) start
 
   -- it stays careful while it waits, and by a step of its own
   careful-waits : (p : Play Outcome) (old new : List Event) → Waits (only tells (k + 1)) old new → PlayKeeps Owed (only tells (k + 1)) p old → PlayKeeps Owed (only tells (k + 1)) p new
@@ -170,12 +180,16 @@ module _ (ids : AnyIds) (task : Task) (start : List Event) (tells : Bool) (k : �
       (PlayKeeps-acts (Owing ids task start) (stable ids task start) is_failed old new p q told acts
       (subst (λ (by : Caller). PlayKeeps (Owing ids task start) by p old.seen) (sym same) (keeps-own Owed (Owing ids task start) (only tells (k + 1)) (λ h op x. x) p old.seen c))))
 
--- the client has changed no branch before an operation
-abbrev Before : List Event → List Event → ℕ → Op → Type 0
-Before start journal client op = ChangedNothing client start journal
+-- the client of a task that opens a session has changed no branch before an operation
+abbrev Before : Task → List Event → List Event → ℕ → Op → Type 0
+Before task start journal client op = BeforeChange task client start journal
 
-stable-before : (start : List Event) (by : Caller) (journal more : List Event) (op : Op) → Each (IsOther by) journal more → Before start journal by.number op → Before start (journal ++ more) by.number op
-stable-before start by journal more op others c = ChangedNothing-others by start journal more others c
+before-others : (by : Caller) (start journal more : List Event) → Each (IsOther by) journal more → (head : Head) → ComesBefore head by.number start journal → ComesBefore head by.number start (journal ++ more)
+before-others by start journal more others (Session access) c = ChangedNothing-others by start journal more others c
+before-others by start journal more others Refs c = c
+
+stable-before : (task : Task) (start : List Event) (by : Caller) (journal more : List Event) (op : Op) → Each (IsOther by) journal more → Before task start journal by.number op → Before task start (journal ++ more) by.number op
+stable-before task start by journal more op others c = before-others by start journal more others task.head c
 
 -- what holds of each worker, where one of them went on
 AllStand-set : (draw : Draw) (tasks : List Task) (start : List Event) (tells : Bool) (ps : List (Play Outcome)) (t : ℕ) (p q : Play Outcome) (old new : List Event) → slice_get ps t ≡ Some p → AllStand draw tasks start tells ps old → Stands draw tasks start tells t q new → ((k : ℕ) → k ≢ t → Waits (only tells (k + 1)) old new) → AllStand draw tasks start tells (set ps t q) new
@@ -186,7 +200,7 @@ AllStand-set draw tasks start tells ps t p q old new at all mine others =
       task = s.task;
       at = s.at;
       careful = careful-waits (ids_at draw k) s.task start tells k r old new (others k differs) s.careful;
-      before = PlayKeeps-waits (Before start) (stable-before start) (only tells (k + 1)) r old new (others k differs) s.before;
+      before = PlayKeeps-waits (Before s.task start) (stable-before s.task start) (only tells (k + 1)) r old new (others k differs) s.before;
       leads = PlayLeads-waits (TellsAt draw k s.task start) (only tells (k + 1)) (TellsOutcome-waits outcomes (only tells (k + 1)) (ids_at draw k) s.task start) r old new (others k differs) s.leads;
     })
 
@@ -221,7 +235,7 @@ module _ (draw : Draw) (tasks : List Task) (start : List Event) (t : ℕ) (old n
         task = mine.task;
         at = mine.at;
         careful = careful-acts (ids_at draw t) mine.task start tells t (seen_by to (as_client (t + 1) old)) (seen_by to new) s.p s.q refl told acts mine.careful;
-        before = PlayKeeps-acts (Before start) (stable-before start) is_failed (seen_by to (as_client (t + 1) old)) (seen_by to new) s.p s.q told acts mine.before;
+        before = PlayKeeps-acts (Before mine.task start) (stable-before mine.task start) is_failed (seen_by to (as_client (t + 1) old)) (seen_by to new) s.p s.q told acts mine.before;
         leads = PlayLeads-acts (TellsAt draw t mine.task start) is_failed (seen_by to (as_client (t + 1) old)) (seen_by to new) s.p s.q (TellsOutcome-waits outcomes to (ids_at draw t) mine.task start) told acts mine.leads;
       }
 
@@ -240,7 +254,7 @@ module _ (draw : Draw) (tasks : List Task) (start : List Event) (t : ℕ) (old n
       let owner : HasAll by = record { low = s.alone.low; end = s.alone.end } in
       let event : Event = made_event t old new s.p s.q a in
       let added = Adds-makes tells by a.op a.reply old.seen new.seen a.made owner told in
-      let owed : IsCareful (ids_at draw t) (IsOfTask (ids_at draw t) mine.task (t + 1) start) old.seen (t + 1) a.op = PlayKeeps-now (IsCareful (ids_at draw t) (IsOfTask (ids_at draw t) mine.task (t + 1) start)) (only tells (t + 1)) a.op a.starved a.next s.p old.seen a.asks mine.careful in
+      let owed : IsDue (ids_at draw t) mine.task (t + 1) start old.seen (t + 1) a.op = PlayKeeps-now (IsDue (ids_at draw t) mine.task (t + 1) start) (only tells (t + 1)) a.op a.starved a.next s.p old.seen a.asks mine.careful in
       let good : IsGood old.seen event = record { legal = added.answered; polite = owed.polite } in
       record {
         stand = all_stand s (λ k n. record {
@@ -397,7 +411,7 @@ polite_at view now t ps p e go at told =
     let told' : IsTrue view.caller.tells = subst (λ (v : View). IsTrue v.caller.tells) e told in
     let r = go told' in
     let s = r.stand t p at in
-    subst (λ (v : View). PlayIsPolite p v.seen) (sym e) (Keeps-polite (ids_at r.draw t) (IsOfTask (ids_at r.draw t) s.task (t + 1) r.start) (only view.caller.tells (t + 1)) p view.seen s.careful)
+    subst (λ (v : View). PlayIsPolite p v.seen) (sym e) (Keeps-polite (ids_at r.draw t) s.task (t + 1) r.start (only view.caller.tells (t + 1)) p view.seen s.careful)
 
 pub stepped_at : (view now new : View) (t : ℕ) (ps : List (Play Outcome)) (p q : Play Outcome) → now ≡ as_client (t + 1) view → HasAll view.caller → slice_get ps t ≡ Some p → IsLive p → Acts is_failed now new p q → (qs : List (Play Outcome)) → qs ≡ set ps t q → Stepped t view new ps qs
 stepped_at view now new t ps p q e all at live acts qs rest = record { p = p; at = at; live = live; alone = all; q = q; acts = subst (λ (v : View). Acts is_failed v new p q) e acts; rest = rest }

@@ -1,5 +1,6 @@
 -- The order in which workers take turns over one store.
 use Rattle.std.specs.Prelude.{◌≡◌, ◌⊎◌, ℕ, ◌+◌, ◌-◌, Bool, IsTrue, List, [], ◌∷◌, ◌++◌, Some, slice_get, slice_set, replicate, map}
+use Rattle.std.specs.List.{AllZip}
 use Rattle.ice_ids.specs.declared.drawing.Draw.{Draw}
 use Rattle.store_api.specs.declared.events.Op.{Op}
 use Rattle.store_api.specs.declared.events.Reply.{Reply}
@@ -72,9 +73,15 @@ abbrev pub turns_of : ℕ → List ℕ → List ℕ
 turns_of k [] = []
 turns_of k (n ∷ ns) = replicate n k ++ turns_of (k + 1) ns
 
+-- The workers of these tasks begin so: each play has come there, with memory or without.
+abbrev pub Begin : Draw → List Task → List (Play Outcome) → Type 0
+Begin draw tasks ps = AllZip (λ (p q : Play Outcome). Comes p q) (plays_from draw 0 tasks) ps
+
 -- The tasks were run by the list of turns, and then each to its end, in order. They ended with these outcomes, and whatever the order, each
 -- played to its outcome.
 pub record RanTasks (draw : Draw) (tasks : List Task) (tells : Bool) (turns : List ℕ) (outcomes : List Outcome) (old new : List Event) : Type 0 where
+  pub begun : List (Play Outcome)
+  pub begins : Begin draw tasks begun
   pub counts : List ℕ
-  pub ran : Ran draw tasks tells (turns ++ turns_of 0 counts) (plays_from draw 0 tasks) (map (λ (o : Outcome). Ended o) outcomes) old new
+  pub ran : Ran draw tasks tells (turns ++ turns_of 0 counts) begun (map (λ (o : Outcome). Ended o) outcomes) old new
   pub played : AllPlayed draw tasks outcomes ran.own

@@ -3,7 +3,8 @@
 ghost use Rattle.std.specs.Prelude.{◌≡◌, ◌<◌, ◌≤◌, ◌-◌, ◌^◌, ℕ, [], map, length, vec_capacity, IfOk};
 ghost use Rattle.store_api.specs.Plays.{Ended};
 ghost use Rattle.play_tasks.specs.Workers.{worker_rest};
-ghost use Rattle.play_tasks.specs.Tasks.{HasEndedAt, plays_from};
+ghost use Rattle.play_tasks.specs.Tasks.{HasEndedAt};
+ghost use Rattle.play_run.specs.Order.{Begin};
 
 use ice_ids::Draw;
 use play_outcome::Outcome;
@@ -19,7 +20,7 @@ pub fn workers_for<'a>(
     draw: Draw,
 ) -> Result<Vec<Worker<'a>>, AllocError>
     requires { length tasks.now < 2 ^ 32 - 1 }
-    ensures { IfOk result (λ workers. map worker_rest workers.items ≡ plays_from draw 0 tasks.now) }
+    ensures { IfOk result (λ workers. Begin draw tasks.now (map worker_rest workers.items)) }
 {
     let mut workers = Vec::new(alloc);
     for place in 0..tasks.len() {

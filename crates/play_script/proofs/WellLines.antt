@@ -1,19 +1,23 @@
 -- What heads, body lines and turns are where they are read.
 use Rattle.std.proofs.Common.{◌≡◌, ℕ, ◌+◌, ◌<◌, ◌≤◌, Bool, true, false, cond, List, [], ◌∷◌, length, Option, None, Some, Result, Ok, Err, refl, subst, arith}
-use Rattle.std.specs.Prelude.{ℤ, ◌==◌, IfSome, is_some, unwrap_or, codes}
-use Rattle.std.specs.Option.{option_or, is_none}
+use Rattle.std.specs.Prelude.{ℤ, ◌==◌, IfSome, unwrap_or, codes}
+use Rattle.std.specs.Option.{option_or}
 use Rattle.std.proofs.lemmas.Bool.{cond_both}
 use Rattle.ice_base.specs.Names.{IsRefName}
 use Rattle.ice_base.specs.Lists.{IsBytes}
+use Rattle.ice_ids.specs.declared.Id12.{Id12}
 use Rattle.conflicts.specs.declared.solving.Policy.{Policy}
+use Rattle.repo_read.specs.declared.resolving.At.{At}
+use Rattle.repo_read.specs.declared.resolving.At.TheVariants as at
 use Rattle.play_script.specs.declared.faults.ScriptKind.{ScriptKind}
 use Rattle.play_script.specs.declared.scripts.Call.{Call}
 use Rattle.play_script.specs.declared.scripts.Call.TheVariants as call
 use Rattle.play_script.specs.declared.scripts.EditCall.TheVariants as edit
 use Rattle.play_script.specs.declared.scripts.ReadCall.TheVariants as read
 use Rattle.play_script.specs.declared.faults.ScriptKind.TheVariants as k
-use Rattle.play_script.specs.declared.scripts.At.{At}
-use Rattle.play_script.specs.declared.scripts.At.TheVariants as look
+use Rattle.play_script.specs.declared.scripts.RefCall.TheVariants as ref
+use Rattle.play_script.specs.declared.scripts.Access.{Access}
+use Rattle.play_script.specs.declared.scripts.Access.TheVariants as access
 use Rattle.play_script.specs.declared.scripts.Head.{Head}
 use Rattle.play_script.specs.declared.scripts.Head.TheVariants as head
 use Rattle.play_script.specs.declared.scripts.Task.{Task}
@@ -25,9 +29,9 @@ use Rattle.play_script.specs.Words.{Text, cut_of, next, one, two, three, five}
 use Rattle.play_script.specs.Parts.{◌&◌, made}
 use Rattle.play_script.specs.Values.{◌reads◌, path_of, text_of, ref_name_of, id_of, tries_in, policy_in, numbers_of, fill_of, count_of, index_of, bytes_of, byte_of}
 use Rattle.play_script.specs.Arrays.{array_line_text}
-use Rattle.play_script.specs.Forms.{taken, lone_path, path_and_text, array_of, path_and_array, path_and_index, chunk_and_bytes, chunk_and_byte, lone_key, key_and_bytes, node_edit_of, chunk_edit_of, key_edit_of, edit_of, read_of, commit_of, form, no_form, form_of, at_of, lone_at, built_at, unbuilt_where, write_head_of, read_head_of, head_of}
+use Rattle.play_script.specs.Forms.{taken, lone_path, path_and_text, array_of, path_and_array, path_and_index, chunk_and_bytes, chunk_and_byte, lone_key, key_and_bytes, node_edit_of, chunk_edit_of, key_edit_of, edit_of, read_of, commit_of, at_of, lone_at, lone_name, name_and_at, ref_of, form, no_form, form_of, write_of, refs_of, head_of}
 use Rattle.play_script.specs.Places.{class_of, client_from, turn, turn_of}
-use Rattle.play_script.specs.Well.{IsWellPath, IsWellText, IsWellIndex, IsWellEdit, IsWellRead, IsWellCall, head_branch, HasFewTries, IsWellTurn}
+use Rattle.play_script.specs.Well.{IsWellPath, IsWellText, IsWellIndex, IsWellEdit, IsWellRead, IsWellAt, IsWellRef, IsWellCall, IsWellAccess, IsWellHead, IsWellTurn}
 use Rattle.play_script.proofs.Inversions.{made_ok, both_ok, taken_ok, path_ok, text_ok, ref_name_ok, numbers_ok, fill_ok, count_ok, index_ok, byte_ok, bytes_ok, tries_ok}
 use Rattle.play_script.proofs.ArrayUtf8.{array_utf8}
 
@@ -168,6 +172,48 @@ commit_ok : (first : Text) (rest : Option Text) → IsRight IsWellText (commit_o
 unfolding commit_of
 commit_ok first rest = form_right IsWellText (first reads codes "commit") _ _ (rest_ok rest) tt
 
+-- what names a snapshot, where it is read
+abbrev AreWellAts : Result At ScriptKind → Type 0
+AreWellAts r = (v : At) → r ≡ Ok v → IsWellAt v
+
+abbrev IsAnyId : Id12 → Type 0
+IsAnyId own = Unit {0}
+
+at_ok : (word w : Text) → AreWellAts (at_of word w)
+unfolding at_of
+at_ok word w =
+    cond_both (word reads codes "branch") _ _ AreWellAts (λ _. made_right IsRefName IsWellAt at.Branch (ref_name_of w) (λ x n. n) (ref_name_ok w)) (λ _.
+    cond_both (word reads codes "tag") _ _ AreWellAts (λ _. made_right IsRefName IsWellAt at.Tag (ref_name_of w) (λ x n. n) (ref_name_ok w)) (λ _.
+    cond_both (word reads codes "id") _ _ AreWellAts (λ _. made_right IsAnyId IsWellAt at.Snapshot (id_of w) (λ x n. n) (λ x h. tt)) (λ _ v h. absurd (cc))))
+
+lone_at_ok : (rest : Option Text) → AreWellAts (lone_at rest)
+unfolding lone_at
+lone_at_ok rest v h = let t = taken_ok (two rest) (λ w. at_of w.0 w.1) v h in at_ok t.0.0 t.0.1 v t.2
+
+lone_name_ok : (rest : Option Text) (name : Text) → lone_name rest ≡ Ok name → IsRefName name
+unfolding lone_name
+lone_name_ok rest name h = let t = taken_ok (one rest) ref_name_of name h in ref_name_ok t.0 name t.2
+
+abbrev IsWellNamed : Text × At → Type 0
+IsWellNamed v = IsRefName v.0 × IsWellAt v.1
+
+name_and_at_ok : (rest : Option Text) (v : Text × At) → name_and_at rest ≡ Ok v → IsWellNamed v
+unfolding name_and_at
+name_and_at_ok rest v h =
+    let t = taken_ok (three rest) (λ w. ref_name_of w.0 & at_of w.1 w.2) v h in
+    let b = both_ok (ref_name_of t.0.0) (at_of t.0.1 t.0.2) v t.2 in
+    (ref_name_ok t.0.0 v.0 b.0, at_ok t.0.1 t.0.2 v.1 b.1)
+
+ref_ok : (first : Text) (rest : Option Text) → IsRight IsWellRef (ref_of first rest)
+unfolding ref_of
+ref_ok first rest =
+    form_right IsWellRef (first reads codes "branch") _ _ (made_right IsWellNamed IsWellRef (λ v. ref.Branch v.0 v.1) (name_and_at rest) (λ x w. w) (name_and_at_ok rest))
+    (form_right IsWellRef (first reads codes "reset") _ _ (made_right IsWellNamed IsWellRef (λ v. ref.Reset v.0 v.1) (name_and_at rest) (λ x w. w) (name_and_at_ok rest))
+    (form_right IsWellRef (first reads codes "unbranch") _ _ (made_right IsRefName IsWellRef ref.Unbranch (lone_name rest) (λ x w. w) (lone_name_ok rest))
+    (form_right IsWellRef (first reads codes "tag") _ _ (made_right IsWellNamed IsWellRef (λ v. ref.Tag v.0 v.1) (name_and_at rest) (λ x w. w) (name_and_at_ok rest))
+    (form_right IsWellRef (first reads codes "untag") _ _ (made_right IsRefName IsWellRef ref.Untag (lone_name rest) (λ x w. w) (lone_name_ok rest))
+    (form_right IsWellRef (first reads codes "log") _ _ (made_right IsWellAt IsWellRef ref.Log (lone_at rest) (λ x w. w) (lone_at_ok rest)) tt)))))
+
 -- a call is well, and of this class
 abbrev pub IsOf : Class → Call → Type 0
 IsOf class v = IsWellCall v × (class_of v ≡ class)
@@ -185,74 +231,56 @@ unfolding form_of
 form_ok first rest =
     class_ok IsWellEdit c.Edit call.Edit (edit_of first rest) _ (λ x w. (w, refl)) (edit_ok first rest)
     (class_ok IsWellRead c.Read call.Read (read_of first rest) _ (λ x w. (w, refl)) (read_ok first rest)
-    (class_ok IsWellText c.Commit call.Commit (commit_of first rest) no_form (λ x w. (w, refl)) (commit_ok first rest) (λ v h. absurd (cc))))
+    (class_ok IsWellText c.Commit call.Commit (commit_of first rest) _ (λ x w. (w, refl)) (commit_ok first rest)
+    (class_ok IsWellRef c.Ref call.Ref (ref_of first rest) no_form (λ x w. (w, refl)) (ref_ok first rest) (λ v h. absurd (cc)))))
 
--- a head names a branch, and has few tries
-abbrev pub IsWellHead : Head → Type 0
-IsWellHead h = IsRefName (head_branch h) × HasFewTries h
+-- what a task opens, where it is read
+written : (branch : Text) (tries : ℕ) (policy : Policy) (opened : Access) → access.Write branch tries policy ≡ opened → IsRefName branch → tries ≤ 9 → IsWellAccess opened
+written branch tries policy opened same name few = subst IsWellAccess same (name, few)
 
-abbrev pub AreWellHeads : Result Head ScriptKind → Type 0
-AreWellHeads r = (v : Head) → r ≡ Ok v → IsWellHead v
-
-written_head : (branch : Text) (tries : ℕ) (policy : Policy) (h : Head) → head.Write branch tries policy ≡ h → IsRefName branch → tries ≤ 9 → IsWellHead h
-written_head branch tries policy h same name few = subst IsWellHead same (name, few)
-
-write_head_ok : (rest : Option Text) → AreWellHeads (write_head_of rest)
-unfolding write_head_of
-write_head_ok rest v h =
-    let t = taken_ok (three rest) (λ w. made (λ v. head.Write v.0.0 v.0.1 v.1) (ref_name_of w.0 & tries_in w.1 & policy_in w.2)) v h in
-    let m = made_ok (λ (v : (Text × ℕ) × Policy). head.Write v.0.0 v.0.1 v.1) (ref_name_of t.0.0 & tries_in t.0.1 & policy_in t.0.2) v t.2 in
+write_ok : (rest : Option Text) (v : Access) → write_of rest ≡ Ok v → IsWellAccess v
+unfolding write_of
+write_ok rest v h =
+    let t = taken_ok (three rest) (λ w. made (λ v. access.Write v.0.0 v.0.1 v.1) (ref_name_of w.0 & tries_in w.1 & policy_in w.2)) v h in
+    let m = made_ok (λ (v : (Text × ℕ) × Policy). access.Write v.0.0 v.0.1 v.1) (ref_name_of t.0.0 & tries_in t.0.1 & policy_in t.0.2) v t.2 in
     let b = both_ok (ref_name_of t.0.0 & tries_in t.0.1) (policy_in t.0.2) m.0 m.1 in
     let a = both_ok (ref_name_of t.0.0) (tries_in t.0.1) m.0.0 b.0 in
-    written_head m.0.0.0 m.0.0.1 m.0.1 v m.2 (ref_name_ok t.0.0 m.0.0.0 a.0) (tries_ok t.0.1 m.0.0.1 a.1)
+    written m.0.0.0 m.0.0.1 m.0.1 v m.2 (ref_name_ok t.0.0 m.0.0.0 a.0) (tries_ok t.0.1 m.0.0.1 a.1)
 
--- a place in the history that is built
-built_ok : (r : Result At ScriptKind) (v : Head) → built_at r ≡ Ok v → (name : Text) × (r ≡ Ok (look.Branch name)) × (head.Read name ≡ v)
-built_ok (Ok (look.Branch name)) v h = (name, refl, cc)
-built_ok (Ok (look.Tag name)) v h = absurd (cc)
-built_ok (Ok (look.Id id)) v h = absurd (cc)
-built_ok (Err kind) v h = absurd (cc)
+abbrev AreWellHeads : Result Head ScriptKind → Type 0
+AreWellHeads r = (v : Head) → r ≡ Ok v → IsWellHead v
 
--- a branch that is told is one by its name
-abbrev NamesRef : Result At ScriptKind → Type 0
-NamesRef r = (name : Text) → r ≡ Ok (look.Branch name) → IsRefName name
-
-branch_at_ok : (w : Text) → NamesRef (made look.Branch (ref_name_of w))
-branch_at_ok w name h =
-    let m = made_ok look.Branch (ref_name_of w) (look.Branch name) h in
-    let same : m.0 ≡ name = cc in
-    subst IsRefName same (ref_name_ok w m.0 m.1)
-
-other_at_ok : {A : Type 0} (f : A → At) (r : Result A ScriptKind) → ((x : A) (name : Text) → f x ≡ look.Branch name → ⊥) → NamesRef (made f r)
-other_at_ok f r differs name h = let m = made_ok f r (look.Branch name) h in absurd (differs m.0 name m.2)
-
-at_ok : (word w : Text) → NamesRef (at_of word w)
-unfolding at_of
-at_ok word w =
-    cond_both (word reads codes "branch") _ _ NamesRef (λ _. branch_at_ok w) (λ _.
-    cond_both (word reads codes "tag") _ _ NamesRef (λ _. other_at_ok look.Tag (ref_name_of w) (λ x name e. cc)) (λ _.
-    cond_both (word reads codes "id") _ _ NamesRef (λ _. other_at_ok look.Id (id_of w) (λ x name e. cc)) (λ _ name h. absurd (cc))))
-
-read_head_ok : (rest : Option Text) → AreWellHeads (read_head_of rest)
-unfolding read_head_of lone_at
-read_head_ok rest v h =
-    let b = built_ok (taken (two rest) (λ w. at_of w.0 w.1)) v h in
-    let t = taken_ok (two rest) (λ w. at_of w.0 w.1) (look.Branch b.0) b.1 in
-    subst IsWellHead b.2 (at_ok t.0.0 t.0.1 b.0 t.2, tt)
-
--- no head is made of one that isn't built
-unbuilt_ok : (fits : Bool) → AreWellHeads (unbuilt_where fits)
-unbuilt_ok true v h = absurd (cc)
-unbuilt_ok false v h = absurd (cc)
+refs_ok : (rest : Option Text) → AreWellHeads (refs_of rest)
+refs_ok None v h = let same : head.Refs ≡ v = cc in subst IsWellHead same tt
+refs_ok (Some rest) v h = absurd (cc)
 
 pub head_ok : (word : Text) (rest : Option Text) → AreWellHeads (head_of word rest)
 unfolding head_of
 head_ok word rest =
-    cond_both (word reads codes "write") _ _ AreWellHeads (λ _. write_head_ok rest) (λ _.
-    cond_both (word reads codes "read") _ _ AreWellHeads (λ _. read_head_ok rest) (λ _.
-    cond_both (word reads codes "refs") _ _ AreWellHeads (λ _. unbuilt_ok (is_none rest)) (λ _.
-    cond_both (word reads codes "collect") _ _ AreWellHeads (λ _. unbuilt_ok (is_some (one rest))) (λ _.
-    cond_both (word reads codes "expire") _ _ AreWellHeads (λ _. unbuilt_ok (is_some (two rest))) (λ _ v h. absurd (cc))))))
+    cond_both (word reads codes "write") _ _ AreWellHeads (λ _. made_right IsWellAccess IsWellHead head.Session (write_of rest) (λ x w. w) (write_ok rest)) (λ _.
+    cond_both (word reads codes "read") _ _ AreWellHeads (λ _. made_right IsWellAccess IsWellHead head.Session (made access.Read (lone_at rest)) (λ x w. w) (made_right IsWellAt IsWellAccess access.Read (lone_at rest) (λ x w. w) (lone_at_ok rest))) (λ _.
+    cond_both (word reads codes "refs") _ _ AreWellHeads (λ _. refs_ok rest) (λ _.
+    cond_both (word reads codes "collect") _ _ AreWellHeads (λ _ v h. absurd (cc)) (λ _.
+    cond_both (word reads codes "expire") _ _ AreWellHeads (λ _ v h. absurd (cc)) (λ _ v h. absurd (cc))))))
+
+-- a task of refs has the word `refs`
+abbrev IsNoRefs : Result Head ScriptKind → Type 0
+IsNoRefs r = r ≡ Ok head.Refs → ⊥
+
+opens : (r : Result Access ScriptKind) → IsNoRefs (made head.Session r)
+opens r h = let m = made_ok head.Session r head.Refs h in let e : head.Session m.0 ≡ head.Refs = m.2 in absurd (cc)
+
+abbrev ReadsRefs : Text → Result Head ScriptKind → Type 0
+ReadsRefs word r = r ≡ Ok head.Refs → (word reads codes "refs") ≡ true
+
+pub refs_word : (word : Text) (rest : Option Text) → head_of word rest ≡ Ok head.Refs → (word reads codes "refs") ≡ true
+unfolding head_of
+refs_word word rest =
+    cond_both (word reads codes "write") _ _ (ReadsRefs word) (λ _ h. absurd (opens _ h)) (λ _.
+    cond_both (word reads codes "read") _ _ (ReadsRefs word) (λ _ h. absurd (opens _ h)) (λ _.
+    cond_both (word reads codes "refs") _ _ (ReadsRefs word) (λ e _. e) (λ _.
+    cond_both (word reads codes "collect") _ _ (ReadsRefs word) (λ _ h. absurd (cc)) (λ _.
+    cond_both (word reads codes "expire") _ _ (ReadsRefs word) (λ _ h. absurd (cc)) (λ _ h. absurd (cc))))))
 
 -- a client is the number of a task
 abbrev IsFrom : ℕ → ℕ → Result ℕ ScriptKind → Type 0

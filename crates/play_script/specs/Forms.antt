@@ -1,6 +1,8 @@
 -- Own: the forms of heads and body lines, each by its words.
-use Rattle.std.specs.Prelude.{ℕ, List, if◌then◌else◌, Option, Some, None, is_some, option_map, unwrap_or, Result, Ok, Err, Bool, codes}
-use Rattle.std.specs.Option.{option_or, is_none}
+use Rattle.std.specs.Prelude.{ℕ, List, if◌then◌else◌, Option, Some, None, option_map, unwrap_or, Result, Ok, Err, codes}
+use Rattle.std.specs.Option.{option_or}
+use Rattle.repo_read.specs.declared.resolving.At.{At}
+use Rattle.repo_read.specs.declared.resolving.At.TheVariants as at
 use Rattle.play_script.specs.declared.faults.ScriptKind.{ScriptKind}
 use Rattle.play_script.specs.declared.faults.ScriptKind.TheVariants as k
 use Rattle.play_script.specs.declared.scripts.Call.{Call}
@@ -9,8 +11,10 @@ use Rattle.play_script.specs.declared.scripts.EditCall.{EditCall}
 use Rattle.play_script.specs.declared.scripts.EditCall.TheVariants as edit
 use Rattle.play_script.specs.declared.scripts.ReadCall.{ReadCall}
 use Rattle.play_script.specs.declared.scripts.ReadCall.TheVariants as read
-use Rattle.play_script.specs.declared.scripts.At.{At}
-use Rattle.play_script.specs.declared.scripts.At.TheVariants as look
+use Rattle.play_script.specs.declared.scripts.RefCall.{RefCall}
+use Rattle.play_script.specs.declared.scripts.RefCall.TheVariants as ref
+use Rattle.play_script.specs.declared.scripts.Access.{Access}
+use Rattle.play_script.specs.declared.scripts.Access.TheVariants as access
 use Rattle.play_script.specs.declared.scripts.Head.{Head}
 use Rattle.play_script.specs.declared.scripts.Head.TheVariants as head
 use Rattle.play_script.specs.declared.scripts.Class.{Class}
@@ -103,6 +107,37 @@ unfoldable pub commit_of : Text → Option Text → Option (Result Text ScriptKi
 commit_of first rest =
     if first reads codes "commit" then Some (taken rest text_of) else None
 
+-- Names of snapshots, and calls on refs.
+
+-- `branch NAME`, `tag NAME` or `id ID`
+unfoldable pub at_of : Text → Text → Result At ScriptKind
+at_of word w =
+    if word reads codes "branch" then made at.Branch (ref_name_of w) else
+    (if word reads codes "tag" then made at.Tag (ref_name_of w) else
+    (if word reads codes "id" then made at.Snapshot (id_of w) else Err k.Word))
+
+-- what names a snapshot, and nothing else
+unfoldable pub lone_at : Option Text → Result At ScriptKind
+lone_at rest = taken (two rest) (λ w. at_of w.0 w.1)
+
+-- the name of a ref, and nothing else
+unfoldable pub lone_name : Option Text → Result Text ScriptKind
+lone_name rest = taken (one rest) ref_name_of
+
+-- the name of a ref, and what names a snapshot
+unfoldable pub name_and_at : Option Text → Result (Text × At) ScriptKind
+name_and_at rest = taken (three rest) (λ w. ref_name_of w.0 & at_of w.1 w.2)
+
+-- `branch NAME AT`, `reset NAME AT`, `unbranch NAME`, `tag NAME AT`, `untag NAME`, `log AT`
+unfoldable pub ref_of : Text → Option Text → Option (Result RefCall ScriptKind)
+ref_of first rest =
+    if first reads codes "branch" then Some (made (λ v. ref.Branch v.0 v.1) (name_and_at rest)) else
+    (if first reads codes "reset" then Some (made (λ v. ref.Reset v.0 v.1) (name_and_at rest)) else
+    (if first reads codes "unbranch" then Some (made ref.Unbranch (lone_name rest)) else
+    (if first reads codes "tag" then Some (made (λ v. ref.Tag v.0 v.1) (name_and_at rest)) else
+    (if first reads codes "untag" then Some (made ref.Untag (lone_name rest)) else
+    (if first reads codes "log" then Some (made ref.Log (lone_at rest)) else None)))))
+
 -- lines of a class
 abbrev pub form : {A : Type 0} → Class → (A → Call) → Option (Result A ScriptKind) → Option Form
 form class call words = option_map (λ words. record { class = class; call = made call words }) words
@@ -116,69 +151,25 @@ unfoldable pub form_of : Text → Option Text → Form
 form_of first rest =
     unwrap_or (form c.Edit call.Edit (edit_of first rest))
     (unwrap_or (form c.Read call.Read (read_of first rest))
-    (unwrap_or (form c.Commit call.Commit (commit_of first rest)) no_form))
-
--- Places in the history, and lines of refs.
-
--- `branch NAME`, `tag NAME` or `id ID`
-unfoldable pub at_of : Text → Text → Result At ScriptKind
-at_of word w =
-    if word reads codes "branch" then made look.Branch (ref_name_of w) else
-    (if word reads codes "tag" then made look.Tag (ref_name_of w) else
-    (if word reads codes "id" then made look.Id (id_of w) else Err k.Word))
-
--- a place in the history, and nothing else
-unfoldable pub lone_at : Option Text → Result At ScriptKind
-lone_at rest = taken (two rest) (λ w. at_of w.0 w.1)
-
--- the name of a ref, and nothing else
-unfoldable pub lone_name : Option Text → Result Text ScriptKind
-lone_name rest = taken (one rest) ref_name_of
-
--- the name of a ref, and a place in the history
-unfoldable pub name_and_at : Option Text → Result (Text × At) ScriptKind
-name_and_at rest = taken (three rest) (λ w. ref_name_of w.0 & at_of w.1 w.2)
-
--- words of which nothing is made yet
-abbrev pub seen_only : {A : Type 0} → Result A ScriptKind → Result (Unit {0}) ScriptKind
-seen_only words = made (λ _. tt) words
-
--- `branch NAME AT`, `reset NAME AT`, `tag NAME AT`, `unbranch NAME`, `untag NAME`, `log AT`
-unfoldable pub ref_of : Text → Option Text → Option (Result (Unit {0}) ScriptKind)
-ref_of first rest =
-    if first reads codes "branch" then Some (seen_only (name_and_at rest)) else
-    (if first reads codes "reset" then Some (seen_only (name_and_at rest)) else
-    (if first reads codes "tag" then Some (seen_only (name_and_at rest)) else
-    (if first reads codes "unbranch" then Some (seen_only (lone_name rest)) else
-    (if first reads codes "untag" then Some (seen_only (lone_name rest)) else
-    (if first reads codes "log" then Some (seen_only (lone_at rest)) else None)))))
+    (unwrap_or (form c.Commit call.Commit (commit_of first rest))
+    (unwrap_or (form c.Ref call.Ref (ref_of first rest)) no_form)))
 
 -- Heads.
 
 -- `write BRANCH TRIES POLICY`
-unfoldable pub write_head_of : Option Text → Result Head ScriptKind
-write_head_of rest = taken (three rest) (λ w. made (λ v. head.Write v.0.0 v.0.1 v.1) (ref_name_of w.0 & tries_in w.1 & policy_in w.2))
+unfoldable pub write_of : Option Text → Result Access ScriptKind
+write_of rest = taken (three rest) (λ w. made (λ v. access.Write v.0.0 v.0.1 v.1) (ref_name_of w.0 & tries_in w.1 & policy_in w.2))
 
--- a task that reads, of whose places a branch alone is built
-abbrev pub built_at : Result At ScriptKind → Result Head ScriptKind
-built_at (Ok (look.Branch name)) = Ok (head.Read name)
-built_at (Ok (look.Tag name)) = Err k.Unbuilt
-built_at (Ok (look.Id id)) = Err k.Unbuilt
-built_at (Err kind) = Err kind
+-- `refs`, and nothing else
+abbrev pub refs_of : Option Text → Result Head ScriptKind
+refs_of None = Ok head.Refs
+refs_of (Some rest) = Err k.Word
 
--- `read AT`
-unfoldable pub read_head_of : Option Text → Result Head ScriptKind
-read_head_of rest = built_at (lone_at rest)
-
--- a head that isn't built, with as many words as it has
-abbrev pub unbuilt_where : Bool → Result Head ScriptKind
-unbuilt_where fits = if fits then Err k.Unbuilt else Err k.Word
-
--- a head by its word; `refs`, `collect CUTOFF` and `expire CUTOFF FLAGS` aren't built
+-- a head by its word; `collect` and `expire` aren't built, whatever stands behind them
 unfoldable pub head_of : Text → Option Text → Result Head ScriptKind
 head_of word rest =
-    if word reads codes "write" then write_head_of rest else
-    (if word reads codes "read" then read_head_of rest else
-    (if word reads codes "refs" then unbuilt_where (is_none rest) else
-    (if word reads codes "collect" then unbuilt_where (is_some (one rest)) else
-    (if word reads codes "expire" then unbuilt_where (is_some (two rest)) else Err k.Word))))
+    if word reads codes "write" then made head.Session (write_of rest) else
+    (if word reads codes "read" then made head.Session (made access.Read (lone_at rest)) else
+    (if word reads codes "refs" then refs_of rest else
+    (if word reads codes "collect" then Err k.Unbuilt else
+    (if word reads codes "expire" then Err k.Unbuilt else Err k.Word))))

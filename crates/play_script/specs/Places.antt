@@ -1,11 +1,13 @@
 -- Own: where a line may stand, in view of the script before it and nothing else.
-use Rattle.std.specs.Prelude.{ℕ, ◌+◌, ◌-◌, List, [], ◌∷◌, ◌++◌, ◌==◌, nat_lt, if◌then◌else◌, Option, Some, None, is_some, option_map, unwrap_or, Result, Ok, Err, Bool, true, false, not, ◌&&◌, ◌||◌, length, slice_get, codes}
+use Rattle.std.specs.Prelude.{ℕ, ◌+◌, ◌-◌, List, [], ◌∷◌, ◌++◌, ◌==◌, nat_lt, if◌then◌else◌, Option, Some, None, is_some, Result, Ok, Err, Bool, true, false, not, ◌&&◌, ◌||◌, length, slice_get, codes}
 use Rattle.std.specs.List.{list_any}
 use Rattle.std.specs.Str.{is_utf8}
 use Rattle.play_script.specs.declared.faults.ScriptKind.{ScriptKind}
 use Rattle.play_script.specs.declared.faults.ScriptKind.TheVariants as k
 use Rattle.play_script.specs.declared.scripts.Call.{Call}
 use Rattle.play_script.specs.declared.scripts.Call.TheVariants as call
+use Rattle.play_script.specs.declared.scripts.Access.{Access}
+use Rattle.play_script.specs.declared.scripts.Access.TheVariants as access
 use Rattle.play_script.specs.declared.scripts.Head.{Head}
 use Rattle.play_script.specs.declared.scripts.Head.TheVariants as head
 use Rattle.play_script.specs.declared.scripts.Line.{Line}
@@ -17,7 +19,7 @@ use Rattle.play_script.specs.declared.scripts.Class.TheVariants as c
 use Rattle.play_script.specs.Words.{Text, cut_of, pieces, next}
 use Rattle.play_script.specs.Parts.{◌&◌, made, each, only_if}
 use Rattle.play_script.specs.Values.{◌reads◌, task_name_of, count_of}
-use Rattle.play_script.specs.Forms.{taken, form_of, ref_of, head_of}
+use Rattle.play_script.specs.Forms.{taken, form_of, head_of}
 
 -- how many tasks a script may have
 abbrev pub most_tasks : ℕ
@@ -36,17 +38,24 @@ abbrev pub class_of : Call → Class
 class_of (call.Edit change) = c.Edit
 class_of (call.Read look) = c.Read
 class_of (call.Commit message) = c.Commit
+class_of (call.Ref r) = c.Ref
+
+abbrev pub access_takes : Access → Class → Bool
+access_takes (access.Write branch tries policy) c.Ref = false
+access_takes (access.Write branch tries policy) _ = true
+access_takes (access.Read at) c.Read = true
+access_takes (access.Read at) _ = false
 
 abbrev pub head_takes : Head → Class → Bool
-head_takes (head.Write branch tries policy) class = true
-head_takes (head.Read branch) c.Edit = false
-head_takes (head.Read branch) c.Read = true
-head_takes (head.Read branch) c.Commit = false
+head_takes (head.Session opened) class = access_takes opened class
+head_takes head.Refs c.Ref = true
+head_takes head.Refs _ = false
 
 abbrev pub is_commit_call : Call → Bool
 is_commit_call (call.Edit change) = false
 is_commit_call (call.Read look) = false
 is_commit_call (call.Commit message) = true
+is_commit_call (call.Ref r) = false
 
 abbrev pub is_commit : Option Line → Bool
 is_commit None = false
@@ -70,10 +79,6 @@ unfoldable pub body_line : Script → ℕ → Text → Option Text → Result Sc
 body_line s n first rest =
     let f = form_of first rest in
     made (λ v. with_line s n v.1) (only_if (is_open s && takes (last s.tasks) f.class) k.Place & f.call)
-
--- a line of refs stands in a task of refs alone, and no such task is built
-abbrev pub ref_line : Script → Result (Unit {0}) ScriptKind → Result Script ScriptKind
-ref_line s words = made (λ _. s) (only_if false k.Place & words)
 
 -- which lines are passed over: empty ones and comments
 abbrev pub is_passed : Text → Bool
@@ -138,8 +143,7 @@ turns_line s rest = made (λ v. record s { turns = Some v.1 }) (only_if (is_open
 unfoldable pub words_line : Script → ℕ → List Text → Text → Option Text → Result Script ScriptKind
 words_line s n after first rest =
     if first reads codes "task" then head_line s n after rest else
-    (if first reads codes "turns" then turns_line s rest else
-    unwrap_or (option_map (ref_line s) (ref_of first rest)) (body_line s n first rest))
+    (if first reads codes "turns" then turns_line s rest else body_line s n first rest)
 
 -- line n, behind the lines of s and before those after it
 unfoldable pub line_at : Script → ℕ → List Text → Text → Result Script ScriptKind

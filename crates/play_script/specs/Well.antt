@@ -5,12 +5,18 @@ use Rattle.ice_base.specs.Lists.{IsBytes}
 use Rattle.std.specs.Str.{is_utf8}
 use Rattle.zarr_path.specs.Paths.{is_path}
 use Rattle.zarr_path.specs.Indices.{is_index}
+use Rattle.repo_read.specs.declared.resolving.At.{At}
+use Rattle.repo_read.specs.declared.resolving.At.TheVariants as at
 use Rattle.play_script.specs.declared.scripts.Call.{Call}
 use Rattle.play_script.specs.declared.scripts.Call.TheVariants as call
 use Rattle.play_script.specs.declared.scripts.EditCall.{EditCall}
 use Rattle.play_script.specs.declared.scripts.EditCall.TheVariants as edit
 use Rattle.play_script.specs.declared.scripts.ReadCall.{ReadCall}
 use Rattle.play_script.specs.declared.scripts.ReadCall.TheVariants as read
+use Rattle.play_script.specs.declared.scripts.RefCall.{RefCall}
+use Rattle.play_script.specs.declared.scripts.RefCall.TheVariants as ref
+use Rattle.play_script.specs.declared.scripts.Access.{Access}
+use Rattle.play_script.specs.declared.scripts.Access.TheVariants as access
 use Rattle.play_script.specs.declared.scripts.Head.{Head}
 use Rattle.play_script.specs.declared.scripts.Head.TheVariants as head
 use Rattle.play_script.specs.declared.scripts.Line.{Line}
@@ -52,10 +58,25 @@ IsWellRead (read.Get path) = IsWellPath path
 IsWellRead (read.Chunk path index) = IsWellPath path × IsWellIndex index
 IsWellRead (read.KeyGet key) = IsWellText key
 
+-- refs go by their names
+abbrev pub IsWellAt : At → Type 0
+IsWellAt (at.Branch name) = IsRefName name
+IsWellAt (at.Tag name) = IsRefName name
+IsWellAt (at.Snapshot own) = Unit {0}
+
+abbrev pub IsWellRef : RefCall → Type 0
+IsWellRef (ref.Branch name at) = IsRefName name × IsWellAt at
+IsWellRef (ref.Reset name at) = IsRefName name × IsWellAt at
+IsWellRef (ref.Unbranch name) = IsRefName name
+IsWellRef (ref.Tag name at) = IsRefName name × IsWellAt at
+IsWellRef (ref.Untag name) = IsRefName name
+IsWellRef (ref.Log at) = IsWellAt at
+
 abbrev pub IsWellCall : Call → Type 0
 IsWellCall (call.Edit change) = IsWellEdit change
 IsWellCall (call.Read look) = IsWellRead look
 IsWellCall (call.Commit message) = IsWellText message
+IsWellCall (call.Ref r) = IsWellRef r
 
 -- a number of a line, which is at most that of the first byte too many
 abbrev pub IsLineNumber : ℕ → Type 0
@@ -70,14 +91,19 @@ abbrev pub EndsAtCommit : List Line → Type 0
 EndsAtCommit [] = Unit {0}
 EndsAtCommit (l ∷ ls) = (IsTrue (is_commit_call l.call) → ls ≡ []) × EndsAtCommit ls
 
-abbrev pub head_branch : Head → Text
-head_branch (head.Write branch tries policy) = branch
-head_branch (head.Read branch) = branch
-
 -- a commit is carried over those of others at most 9 times
-abbrev pub HasFewTries : Head → Type 0
-HasFewTries (head.Write branch tries policy) = tries ≤ 9
-HasFewTries (head.Read branch) = Unit {0}
+abbrev pub IsWellAccess : Access → Type 0
+IsWellAccess (access.Write branch tries policy) = IsRefName branch × (tries ≤ 9)
+IsWellAccess (access.Read at) = IsWellAt at
+
+abbrev pub IsWellHead : Head → Type 0
+IsWellHead (head.Session opened) = IsWellAccess opened
+IsWellHead head.Refs = Unit {0}
+
+-- a task of refs has a line
+abbrev pub HasItsLine : Head → List Line → Type 0
+HasItsLine (head.Session opened) body = Unit {0}
+HasItsLine head.Refs body = body ≢ []
 
 -- the lines are of classes that the head takes
 abbrev pub AreTaken : Head → List Line → Type 0
@@ -86,11 +112,11 @@ AreTaken h body = All (λ l. IsTrue (head_takes h (class_of l.call))) body
 pub record IsWellTask (t : Task) : Type 0 where
   pub name : IsTrue (is_task_name t.name)
   pub line : IsLineNumber t.line
-  pub branch : IsRefName (head_branch t.head)
-  pub tries : HasFewTries t.head
+  pub head : IsWellHead t.head
   pub body : All IsWellLine t.body
   pub taken : AreTaken t.head t.body
   pub commit : EndsAtCommit t.body
+  pub some : HasItsLine t.head t.body
 
 -- a turn of one of so many clients
 pub record IsWellTurn (clients : ℕ) (t : Turn) : Type 0 where

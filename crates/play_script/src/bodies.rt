@@ -1,20 +1,29 @@
 //! Body lines, each in view of the script before it.
 
-ghost use Rattle.std.specs.Prelude.{◌≡◌, IfOk, length, option_map};
+ghost use Rattle.std.specs.Prelude.{◌≡◌, ◌++◌, ◌∷◌, [], IfOk, length, option_map};
 ghost use Rattle.play_script.specs.Words.{seen};
-ghost use Rattle.play_script.specs.Places.{head_takes, is_commit, takes, is_open, with_line, body_line, ref_line};
+ghost use Rattle.play_script.specs.Places.{access_takes, head_takes, is_commit, takes, is_open, onto_last, with_line, body_line};
 
 use crate::faults::{ScriptKind, both, only_if};
 use crate::forms::form_in;
-use crate::scripts::{Call, Class, Head, Line, Lines, Script, Task, Tasks};
+use crate::scripts::{Access, Call, Class, Head, Line, Lines, Script, Task, Tasks};
 use std::alloc::{AllocError, Global};
+
+fn access_takes(access: &Access, class: Class) -> bool
+    ensures { result ≡ access_takes access.now class }
+{
+    match access {
+        Access::Write { .. } => class != Class::Ref,
+        Access::Read { .. } => class == Class::Read,
+    }
+}
 
 fn head_takes(head: &Head, class: Class) -> bool
     ensures { result ≡ head_takes head.now class }
 {
     match head {
-        Head::Write { .. } => true,
-        Head::Read { .. } => class == Class::Read,
+        Head::Session(access) => access_takes(access, class),
+        Head::Refs => class == Class::Ref,
     }
 }
 
@@ -43,30 +52,50 @@ pub fn is_open(script: &Script) -> bool
     script.turns.is_none()
 }
 
-/// The script with one more line in its last task.
+/// The task with one more line.
+fn with_more(task: Task, more: Line) -> Result<Task, AllocError>
+    ensures { IfOk result (λ t. t ≡ record task { body = task.body ++ more ∷ [] }) }
+{
+    let Task {
+        name,
+        line,
+        head,
+        body,
+    } = task;
+    let mut body = body.into_vec();
+    body.push(more)?;
+    Ok(Task {
+        name,
+        line,
+        head,
+        body: Lines::from_vec(body),
+    })
+}
+
+/// The tasks with one more line in the last one.
 #[tactic(auto, using(crate::proofs::LastTask::onto_last_append))]
+fn onto_last(tasks: Vec<Task>, more: Line) -> Result<Vec<Task>, AllocError>
+    ensures value { IfOk result (λ ts. ts.items ≡ onto_last more tasks.items) }
+    ensures few { IfOk result (λ ts. length ts.items ≡ length tasks.items) }
+{
+    let mut tasks = tasks;
+    match tasks.pop() {
+        Some(task) => {
+            let task = with_more(task, more)?;
+            tasks.push(task)?;
+            Ok(tasks)
+        }
+        None => Ok(tasks),
+    }
+}
+
+/// The script with one more line in its last task.
 fn with_line(script: Script, number: u32, call: Call) -> Result<Script, AllocError>
     ensures value { IfOk result (λ s. s ≡ with_line script number call) }
     ensures few { IfOk result (λ s. length s.tasks ≡ length script.tasks) }
 {
     let Script { tasks, turns } = script;
-    let mut tasks = tasks.into_vec();
-    if let Some(task) = tasks.pop() {
-        let Task {
-            name,
-            line,
-            head,
-            body,
-        } = task;
-        let mut body = body.into_vec();
-        body.push(Line { number, call })?;
-        tasks.push(Task {
-            name,
-            line,
-            head,
-            body: Lines::from_vec(body),
-        })?;
-    }
+    let tasks = onto_last(tasks.into_vec(), Line { number, call })?;
     Ok(Script {
         tasks: Tasks::from_vec(tasks),
         turns,
@@ -93,16 +122,5 @@ pub fn body_line(
             Ok(Ok(script))
         }
         Err(kind) => Ok(Err(kind)),
-    }
-}
-
-/// The script with a line of refs, whose words are these: no task that is built takes it.
-pub fn ref_line(script: Script, words: Result<(), ScriptKind>) -> Result<Script, ScriptKind>
-    ensures value { result ≡ ref_line script words }
-    ensures few { IfOk result (λ s. length s.tasks ≡ length script.tasks) }
-{
-    match both(only_if(false, ScriptKind::Place), words) {
-        Ok(_) => Ok(script),
-        Err(kind) => Err(kind),
     }
 }

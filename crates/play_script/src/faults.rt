@@ -14,6 +14,8 @@ pub enum ScriptKind {
     Long,
     /// The line isn't UTF-8.
     Text,
+    /// It begins a collection or an expiry, which aren't built so far.
+    Unbuilt,
     /// A word of it is unknown where it stands, it has too few or too many words, or an empty one.
     Word,
     /// It doesn't stand at its place.
@@ -32,8 +34,6 @@ pub enum ScriptKind {
     Id,
     /// A turn is of a task that the script doesn't have.
     Turn,
-    /// The line is of the grammar, and what it asks for isn't built so far.
-    Unbuilt,
 }
 
 impl fmt::Display for ScriptKind {
@@ -46,6 +46,7 @@ impl fmt::Display for ScriptKind {
         match *self {
             ScriptKind::Long => f.write_str("long"),
             ScriptKind::Text => f.write_str("text"),
+            ScriptKind::Unbuilt => f.write_str("unbuilt"),
             ScriptKind::Word => f.write_str("word"),
             ScriptKind::Place => f.write_str("place"),
             ScriptKind::Many => f.write_str("many"),
@@ -55,7 +56,6 @@ impl fmt::Display for ScriptKind {
             ScriptKind::Hex => f.write_str("hex"),
             ScriptKind::Id => f.write_str("id"),
             ScriptKind::Turn => f.write_str("turn"),
-            ScriptKind::Unbuilt => f.write_str("unbuilt"),
         }
     }
 }

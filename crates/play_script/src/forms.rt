@@ -5,10 +5,11 @@ ghost use Rattle.play_script.specs.Words.{seen};
 ghost use Rattle.play_script.specs.declared.scripts.Call.TheVariants as Call;
 ghost use Rattle.play_script.specs.declared.scripts.Class.TheVariants as Class;
 ghost use Rattle.play_script.specs.Values.{text_of};
-ghost use Rattle.play_script.specs.Forms.{taken, lone_path, path_and_text, array_of, path_and_array, path_and_index, chunk_and_bytes, chunk_and_byte, lone_key, key_and_bytes, node_edit_of, chunk_edit_of, key_edit_of, edit_of, read_of, commit_of, form, form_of};
+ghost use Rattle.play_script.specs.Forms.{taken, lone_path, path_and_text, array_of, path_and_array, path_and_index, chunk_and_bytes, chunk_and_byte, lone_key, key_and_bytes, node_edit_of, chunk_edit_of, key_edit_of, edit_of, read_of, commit_of, ref_of, form, form_of};
 
 use crate::arrays::array_text;
 use crate::faults::{ScriptKind, both};
+use crate::refs::ref_call;
 use crate::scripts::{Call, Class, EditCall, ReadCall};
 use crate::values::{byte_in, bytes_in, fill_in, index_in, numbers_in, path_in, text_in};
 use crate::words::{five, next, one, three, two};
@@ -316,6 +317,19 @@ fn commit_in(alloc: Global, first: &str, rest: Option<&str>) -> Result<Option<Fo
     }))
 }
 
+/// A line that is about refs.
+fn refs_in(alloc: Global, first: &str, rest: Option<&str>) -> Result<Option<Form>, AllocError>
+    ensures { IfOk result (λ f. f ≡ form Class.Ref Call.Ref (ref_of first.now (seen rest.entry))) }
+{
+    match ref_call(alloc, first, rest)? {
+        Some(call) => Ok(Some(Form {
+            class: Class::Ref,
+            call: call.map(Call::Ref),
+        })),
+        None => Ok(None),
+    }
+}
+
 /// A body line by its first word.
 #[tactic(auto, unfolding(crate::specs::Forms::form_of))]
 pub fn form_in(alloc: Global, first: &str, rest: Option<&str>) -> Result<Form, AllocError>
@@ -328,6 +342,9 @@ pub fn form_in(alloc: Global, first: &str, rest: Option<&str>) -> Result<Form, A
         return Ok(form);
     }
     if let Some(form) = commit_in(alloc, first, rest)? {
+        return Ok(form);
+    }
+    if let Some(form) = refs_in(alloc, first, rest)? {
         return Ok(form);
     }
     Ok(Form {

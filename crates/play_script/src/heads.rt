@@ -32,7 +32,7 @@ fn ends_task(line: &[u8]) -> bool
     first == b"task".as_slice() || first == b"turns".as_slice()
 }
 
-/// Whether the first line that isn't passed over is a body line.
+/// Whether the first line that isn't passed over is one of a body.
 #[tactic(auto, unfolding(crate::specs::Places::has_line))]
 fn has_line(text: &[u8]) -> bool
     ensures { result ≡ has_line (lines_of text.now) }

@@ -9,14 +9,15 @@
 //!   `zset KEY HEX`, `zdel KEY`, and those of a task that reads, then at most one `commit MESSAGE`; JSON and MESSAGE are the
 //!   rest of the line and may be empty;
 //! - `task NAME read AT`, a task that reads: lines `list PATH`, `get PATH`, `chunk PATH INDEX` and `zget KEY`;
-//! - heads `task NAME refs`, `task NAME collect CUTOFF`, `task NAME expire CUTOFF FLAGS`, and lines of refs, none of them built;
+//! - `task NAME refs`, a task about refs: lines `branch REF AT`, `reset REF AT`, `unbranch REF`, `tag REF AT`, `untag REF` and
+//!   `log AT`, one at least;
+//! - heads `task NAME collect CUTOFF` and `task NAME expire CUTOFF FLAGS`, which aren't built;
 //! - `turns WORDS`, each word a task's `NAME`, or `NAME*COUNT` with a count of 1 to 9,999; perhaps no word.
 //!
 //! Names are 1 to 16 bytes of `a` to `z`, `0` to `9` and `_`, and distinct. TRIES is one digit.
-//! POLICY is `fail`, `ours` or `theirs`, alone or followed by `+a`, `+g` or `+ag`. AT is `branch REF`, `tag REF` or `id ID`, of
-//! which a branch is built. SHAPE, CHUNKS and INDEX are numbers of up to 128 bits joined by commas, or `-` for none; FILL is a
-//! number of 128 bits with a sign. HEX is pairs of lower-case digits of base 16, or `-` for no bytes; BYTE is one such pair. A
-//! KEY is any word.
+//! POLICY is `fail`, `ours` or `theirs`, alone or followed by `+a`, `+g` or `+ag`. AT is `branch REF`, `tag REF` or `id ID`.
+//! SHAPE, CHUNKS and INDEX are numbers of up to 128 bits joined by commas, or `-` for none; FILL is a number of 128 bits with
+//! a sign. HEX is pairs of lower-case digits of base 16, or `-` for no bytes; BYTE is one such pair. A KEY is any word.
 #![tactic(auto)]
 
 mod arrays;
@@ -37,5 +38,7 @@ pub use faults::{ScriptFault, ScriptKind};
 pub use heads::MOST_TASKS;
 pub use laws::{hex_law, plain_law};
 pub use reading::MOST_BYTES;
-pub use scripts::{Call, EditCall, Head, Line, Lines, ReadCall, Script, Task, Tasks, Turn, Turns};
+pub use scripts::{
+    Access, Call, EditCall, Head, Line, Lines, ReadCall, RefCall, Script, Task, Tasks, Turn, Turns,
+};
 pub use values::TaskName;

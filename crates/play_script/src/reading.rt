@@ -7,10 +7,9 @@ ghost use Rattle.play_script.specs.Places.{most_tasks, words_line, line_at};
 ghost use Rattle.play_script.specs.Reading.{most_bytes, feeds, lines_from, empty, script_of, IsReading};
 ghost use Rattle.play_script.specs.Well.{IsWell};
 
-use crate::bodies::{body_line, ref_line};
+use crate::bodies::body_line;
 use crate::faults::{ScriptFault, ScriptKind};
 use crate::heads::{head_line, is_passed};
-use crate::refs::ref_in;
 use crate::scripts::{Script, Tasks};
 use crate::turning::turns_line;
 use crate::words::{cut, cut_line};
@@ -38,9 +37,6 @@ fn words_line(
     }
     if first == "turns" {
         return turns_line(alloc, script, rest);
-    }
-    if let Some(words) = ref_in(alloc, first, rest)? {
-        return Ok(ref_line(script, words));
     }
     body_line(alloc, script, number, first, rest)
 }
@@ -119,7 +115,7 @@ fn lines_in(alloc: Global, text: &[u8]) -> Result<Script, ScriptFault>
 }
 
 impl Script {
-    /// Reads a text as a script. It is refused at its first line that isn't of the grammar, at its place, or that isn't
+    /// Reads a text as a script. It is refused at its first line that isn't of the grammar, isn't at its place, or isn't
     /// built so far; of what is wrong with that line the first kind in the order of `ScriptKind` is told. A text of too
     /// many bytes is refused before all that, at the line of the first byte too many. A script that was read is well, as
     /// the workers above take it to be.

@@ -1,17 +1,18 @@
-//! The forms of places in the history, and of lines of refs.
+//! The forms of what names a snapshot, and of lines of refs.
 
 ghost use Rattle.std.specs.Prelude.{◌≡◌, IfOk};
 ghost use Rattle.play_script.specs.Words.{seen};
-ghost use Rattle.play_script.specs.Forms.{at_of, lone_at, lone_name, name_and_at, seen_only, ref_of};
+ghost use Rattle.play_script.specs.Forms.{at_of, lone_at, lone_name, name_and_at, ref_of};
 
 use crate::faults::{ScriptKind, both};
-use crate::scripts::At;
+use crate::scripts::RefCall;
 use crate::values::{id_in, ref_name_in};
 use crate::words::{one, three, two};
 use ice_base::RefName;
+use repo_read::At;
 use std::alloc::{AllocError, Global};
 
-/// The place in the history that two words tell.
+/// What names a snapshot, by two words.
 #[tactic(auto, unfolding(crate::specs::Forms::at_of))]
 fn at_in(alloc: Global, word: &str, name: &str) -> Result<Result<At, ScriptKind>, AllocError>
     ensures { IfOk result (λ r. r ≡ at_of word.now name.now) }
@@ -19,12 +20,12 @@ fn at_in(alloc: Global, word: &str, name: &str) -> Result<Result<At, ScriptKind>
     Ok(match word {
         "branch" => ref_name_in(alloc, name)?.map(At::Branch),
         "tag" => ref_name_in(alloc, name)?.map(At::Tag),
-        "id" => id_in(name).map(At::Id),
+        "id" => id_in(name).map(At::Snapshot),
         _ => Err(ScriptKind::Word),
     })
 }
 
-/// The place in the history that is left of a line.
+/// What names a snapshot, and nothing else, is left of a line.
 #[tactic(auto, unfolding(crate::specs::Forms::lone_at))]
 pub fn lone_at(alloc: Global, rest: Option<&str>) -> Result<Result<At, ScriptKind>, AllocError>
     ensures { IfOk result (λ r. r ≡ lone_at (seen rest.entry)) }
@@ -46,7 +47,7 @@ fn lone_name(alloc: Global, rest: Option<&str>) -> Result<Result<RefName, Script
     }
 }
 
-/// The name of a ref, and a place in the history.
+/// The name of a ref, and what names a snapshot.
 #[tactic(auto, unfolding(crate::specs::Forms::name_and_at))]
 fn name_and_at(
     alloc: Global,
@@ -62,32 +63,22 @@ fn name_and_at(
     Ok(both(name, at))
 }
 
-/// Words of which nothing is made yet.
-fn seen_only<A: Drop>(words: Result<A, ScriptKind>) -> Result<(), ScriptKind>
-    ensures { result ≡ seen_only words }
-{
-    match words {
-        Ok(_) => Ok(()),
-        Err(kind) => Err(kind),
-    }
-}
-
-/// What is wrong with the words of a line of refs, if it is one.
+/// What a line calls that is about refs.
 #[tactic(auto, unfolding(crate::specs::Forms::ref_of))]
-pub fn ref_in(
+pub fn ref_call(
     alloc: Global,
     first: &str,
     rest: Option<&str>,
-) -> Result<Option<Result<(), ScriptKind>>, AllocError>
-    ensures { IfOk result (λ words. words ≡ ref_of first.now (seen rest.entry)) }
+) -> Result<Option<Result<RefCall, ScriptKind>>, AllocError>
+    ensures { IfOk result (λ call. call ≡ ref_of first.now (seen rest.entry)) }
 {
     Ok(Some(match first {
-        "branch" => seen_only(name_and_at(alloc, rest)?),
-        "reset" => seen_only(name_and_at(alloc, rest)?),
-        "tag" => seen_only(name_and_at(alloc, rest)?),
-        "unbranch" => seen_only(lone_name(alloc, rest)?),
-        "untag" => seen_only(lone_name(alloc, rest)?),
-        "log" => seen_only(lone_at(alloc, rest)?),
+        "branch" => name_and_at(alloc, rest)?.map(|(name, at)| RefCall::Branch { name, at }),
+        "reset" => name_and_at(alloc, rest)?.map(|(name, at)| RefCall::Reset { name, at }),
+        "unbranch" => lone_name(alloc, rest)?.map(|name| RefCall::Unbranch { name }),
+        "tag" => name_and_at(alloc, rest)?.map(|(name, at)| RefCall::Tag { name, at }),
+        "untag" => lone_name(alloc, rest)?.map(|name| RefCall::Untag { name }),
+        "log" => lone_at(alloc, rest)?.map(|at| RefCall::Log { at }),
         _ => return Ok(None),
     }))
 }

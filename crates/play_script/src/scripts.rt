@@ -3,8 +3,8 @@
 use crate::values::TaskName;
 use conflicts::Policy;
 use ice_base::{Bytes, RefName, Text};
-use ice_ids::Id12;
 use ice_items::Items;
+use repo_read::At;
 use zarr_path::{Index, Path};
 
 /// What a line calls that changes the tree of its task's session.
@@ -107,6 +107,47 @@ pub enum ReadCall {
     },
 }
 
+/// What a line calls that makes, moves or drops a ref, or reads a log. It needs no session.
+#[derive(Debug, Drop)]
+pub enum RefCall {
+    /// Makes a branch.
+    Branch {
+        /// Its name.
+        name: RefName,
+        /// What it is to name.
+        at: At,
+    },
+    /// Sets a branch to another snapshot.
+    Reset {
+        /// The branch.
+        name: RefName,
+        /// What it is to name.
+        at: At,
+    },
+    /// Drops a branch.
+    Unbranch {
+        /// The branch.
+        name: RefName,
+    },
+    /// Makes a tag.
+    Tag {
+        /// Its name.
+        name: RefName,
+        /// What it is to name.
+        at: At,
+    },
+    /// Drops a tag.
+    Untag {
+        /// The tag.
+        name: RefName,
+    },
+    /// Shows a snapshot and those before it.
+    Log {
+        /// Where it begins.
+        at: At,
+    },
+}
+
 /// What a body line calls.
 #[derive(Debug, Drop)]
 pub enum Call {
@@ -119,6 +160,8 @@ pub enum Call {
         /// The commit's message, any UTF-8.
         message: Text,
     },
+    /// A call on refs.
+    Ref(RefCall),
 }
 
 /// The classes of calls: a head takes all lines of a class, or none.
@@ -130,6 +173,8 @@ pub enum Class {
     Read,
     /// Commits.
     Commit,
+    /// Calls on refs.
+    Ref,
 }
 
 /// A body line.
@@ -144,21 +189,10 @@ pub struct Line {
 /// The body lines of a task, in their order.
 pub type Lines = Items<Line>;
 
-/// Where one looks in the history.
+/// What a task opens a session for.
 #[derive(Debug, Drop)]
-pub enum At {
-    /// Where a branch stands.
-    Branch(RefName),
-    /// Where a tag stands.
-    Tag(RefName),
-    /// At a snapshot.
-    Id(Id12),
-}
-
-/// How a task begins.
-#[derive(Debug, Drop)]
-pub enum Head {
-    /// The task opens a branch, edits, and commits on it.
+pub enum Access {
+    /// To edit a branch, and to commit on it.
     Write {
         /// The branch.
         branch: RefName,
@@ -167,11 +201,20 @@ pub enum Head {
         /// How conflicts with them are solved.
         policy: Policy,
     },
-    /// The task reads the tree at a branch.
+    /// To read the tree at a branch, a tag or a snapshot.
     Read {
-        /// The branch.
-        branch: RefName,
+        /// What names the snapshot.
+        at: At,
     },
+}
+
+/// How a task begins.
+#[derive(Debug, Drop)]
+pub enum Head {
+    /// The task opens a session.
+    Session(Access),
+    /// The task calls on refs, and opens no session.
+    Refs,
 }
 
 /// What one client does.

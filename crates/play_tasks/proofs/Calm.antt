@@ -29,7 +29,7 @@ use Rattle.store_api.specs.declared.machines.Refusal.{Refusal}
 use Rattle.store_api.specs.declared.machines.Refusal.TheVariants as R
 use Rattle.store_api.specs.Program.{Done, Ask, is_fault}
 use Rattle.store_api.specs.Running.{Program, ◌>>=◌}
-use Rattle.session.specs.Sessions.{SessionState, base_nodes, nodes_seen}
+use Rattle.session.specs.Sessions.{SessionState, writes, base_nodes, nodes_seen}
 use Rattle.session.specs.Editing.{refusal_of_edit}
 use Rattle.session.specs.Chunks.{set_program, put_chunk, put_object, unless_fault, most_inline, get_program, read_listed, read_own, read_at, read_found}
 use Rattle.commit_path.specs.Committing.{Written, manifest_for, is_long, put_manifest, write_array, old_program, array_program, arrays_program, put_log, after_arrays, log_for, unwritten, commit_program}
@@ -72,7 +72,7 @@ fault-calm (Some fault) p c = ends-refused (refusal_of_edit fault) (edit_fault f
 
 pub set-calm : (s : SessionState) (path index bytes : List ℕ) → EndsCalmly (set_program s path index bytes)
 unfolding set_program
-set-calm s path index bytes = either s.writes _ _ (fault-calm (set_refusal (nodes_seen s) path index (length bytes)) _ (chunk-calm s path index bytes)) (ends-refused R.ReadOnly refl)
+set-calm s path index bytes = either (writes s) _ _ (fault-calm (set_refusal (nodes_seen s) path index (length bytes)) _ (chunk-calm s path index bytes)) (ends-refused R.ReadOnly refl)
 
 -- ---- a chunk that is read
 listed-calm : (want : ℕ) (node : Id8) (index : List ℕ) (ids : List Id12) → EndsCalmly (read_listed want node index ids)
@@ -126,7 +126,7 @@ log-calm s message news (Some id) next = either (is_long (log_file (log_for s id
 pub commit-calm : (s : SessionState) (message : List ℕ) → EndsCalmly (commit_program s message)
 unfolding commit_program
 commit-calm s message =
-    either s.writes _ _
+    either (writes s) _ _
     (either (is_untouched (touched s.held (base_nodes s))) _ _ (ends-refused R.NothingToCommit refl)
     (ends-behind (arrays_program s.rows s.held.chunks (changed_arrays s.held (base_nodes s)) (unwritten s)) (after_arrays s message) (arrays-calm s.rows s.held.chunks (changed_arrays s.held (base_nodes s)) (unwritten s)) (λ w. log-calm s message w.news (drawn12 w.ids) (after12 w.ids))))
     (ends-refused R.ReadOnly refl)

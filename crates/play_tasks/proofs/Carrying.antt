@@ -21,7 +21,7 @@ use Rattle.store_api.specs.Telling.{ChangedNothing}
 use Rattle.commit_path.specs.Single.{PutsSnapshot, PutsNone, HasPutNone}
 use Rattle.commit_path.proofs.Singling.{HasPutNone-others}
 use Rattle.store_api.proofs.Telling.{makes-keeps}
-use Rattle.rebase.proofs.Own.{stays-makes}
+use Rattle.rebase.proofs.Kept.{stays-makes}
 use Rattle.play_tasks.specs.Solving.{MayEnd}
 
 -- an operation is polite and owed, and comes before its client changed a branch
@@ -39,24 +39,11 @@ unfolding Keeps
 Keeps-own P Q by f (Done a) journal k = tt
 Keeps-own P Q by f (Ask_next op g) journal k = (f journal op k.0, λ reply new m. Keeps-own P Q by f (g reply) new (k.1 reply new m))
 
--- two facts of each operation
-pub Keeps-both : {A : Type 0} (P Q : List Event → ℕ → Op → Type 0) (by : Caller) (p : Prog A) (journal : List Event) → Keeps P by p journal → Keeps Q by p journal → Keeps (λ h client op. P h client op × Q h client op) by p journal
-unfolding Keeps
-Keeps-both P Q by (Done a) journal k o = tt
-Keeps-both P Q by (Ask_next op next) journal k o = ((k.0, o.0), λ reply new m. Keeps-both P Q by (next reply) new (k.1 reply new m) (o.1 reply new m))
-
 -- two facts of each answer
 pub Leads-both : {A : Type 0} (Q R : A → List Event → Type 0) (by : Caller) (p : Prog A) (journal : List Event) → Leads Q by p journal → Leads R by p journal → Leads (λ a h. Q a h × R a h) by p journal
 unfolding Leads
 Leads-both Q R by (Done a) journal q r = (q, r)
 Leads-both Q R by (Ask_next op next) journal q r = λ reply new m. Leads-both Q R by (next reply) new (q reply new m) (r reply new m)
-
--- where R follows from Q
-pub PlayLeads-weaker : {A : Type 0} (Q R : A → List Event → Type 0) → ((a : A) (h : List Event) → Q a h → R a h) → (by : Caller) (p : Play A) (journal : List Event) → PlayLeads Q by p journal → PlayLeads R by p journal
-unfolding PlayLeads
-PlayLeads-weaker Q R f by (Ended a) journal l = f a journal l
-PlayLeads-weaker Q R f by (Ask op s g) journal l = (PlayLeads-weaker Q R f by s journal l.0, λ reply new m. PlayLeads-weaker Q R f by (g reply) new (l.1 reply new m))
-PlayLeads-weaker Q R f by (Or p q) journal l = (PlayLeads-weaker Q R f by p journal l.0, PlayLeads-weaker Q R f by q journal l.1)
 
 -- what holds of the journal, and is kept by good events, holds at the end of a minded play
 pub PlayLeads-carry : {A : Type 0} (P : List Event → Type 0) → ((journal more : List Event) → Each IsGood journal more → P journal → P (journal ++ more)) → (ids : AnyIds) (mine : Sessions) (start : List Event) (by : Caller) (p : Play A) (journal : List Event) → (Q : A → List Event → Type 0)

@@ -13,7 +13,7 @@ use Rattle.session.specs.Opening.{Asked}
 use Rattle.commit_path.specs.Opened.{WasBegun}
 use Rattle.commit_path.specs.Single.{PutsNone, HasPutNone}
 use Rattle.store_api.proofs.Happening.{HasOwn-append}
-use Rattle.commit_path.proofs.Reading.{WasBegun-append}
+use Rattle.repo_read.proofs.Namings.{WasResolved-append}
 
 each-front : (P : List Event → Event → Type 0) (old xs ys : List Event) → Each P old (xs ++ ys) → Each P old xs
 unfolding Each
@@ -29,7 +29,9 @@ put-none-before client start journal before since after event b is n =
 -- the same get, of the same journal before it, whatever comes
 abbrev pub WasBegun-more : (client : ℕ) (a : Asked) (s : SessionState) (start journal more : List Event) → WasBegun client a s start journal → WasBegun client a s start (journal ++ more)
 WasBegun-more client a s start journal more b = record {
-  named = (WasBegun-append client a s start journal more b).named;
+  named = b.named;
+  resolved = WasResolved-append client a.at b.named start journal more b.resolved;
+  base = b.base;
   bytes = b.bytes;
   version = b.version;
   got = record { now = b.got.now; own = HasOwn-append client (Get (Snapshot s.base)) (Is_got (Found b.bytes (version_at b.version) b.got.now)) start journal more b.got.own };

@@ -19,14 +19,15 @@ use Rattle.commit_path.specs.Single.{HasPutNone, SingleLaw}
 use Rattle.chunk_calls.specs.Laws.{SetLaw, GetLaw}
 use Rattle.chunk_calls.proofs.Lasting.{WasSet-append, IsChunk-append}
 use Rattle.rebase.specs.Laws.{RebaseLaw}
-use Rattle.play_script.specs.declared.scripts.Head.{Head}
+use Rattle.play_refs.specs.Laws.{RefsTaskLaw}
+use Rattle.play_script.specs.declared.scripts.Access.{Access}
 use Rattle.play_script.specs.declared.scripts.Line.{Line}
 use Rattle.play_outcome.specs.declared.outcome.Shown.{Shown}
 use Rattle.play_outcome.specs.declared.outcome.End.{End}
 use Rattle.play_outcome.specs.declared.outcome.End.TheVariants.{Refused}
 use Rattle.play_outcome.specs.declared.outcome.Outcome.{Outcome}
 use Rattle.play_tasks.specs.Lines.{Deed, Goes, Sets, Reads, Commits, deed}
-use Rattle.play_tasks.specs.Playing.{ended}
+use Rattle.play_outcome.specs.Playing.{ended}
 use Rattle.play_tasks.specs.Telling.{DidPlay, PlaysAll, Refuses, EndsAt}
 use Rattle.play_tasks.proofs.Carrying.{Minds, Keeps-minds, careful-more}
 
@@ -39,6 +40,7 @@ pub record Laws : Type 0 where
   pub rebase : (by : Caller) (policy : Policy) (s : SessionState) → RebaseLaw by policy s
   pub set : SetLaw
   pub get : GetLaw
+  pub refs : RefsTaskLaw
 
 -- ---- what was told of a line stays so, whatever good events come
 pub DidPlay-append : (client : ℕ) (d : Deed) (s : SessionState) (start : List Event) (shown : List Shown) (t : SessionState) (journal more : List Event) → Each IsGood journal more → DidPlay client d s start shown t journal → DidPlay client d s start shown t (journal ++ more)
@@ -54,7 +56,7 @@ PlaysAll-append client (l ∷ ls) s start shown t journal more g p = (p.0, p.1, 
 
 -- ---- the lines that are left
 -- what these lines come to on a session, where this was shown before them
-pub record Ending (client : ℕ) (head : Head) (start : List Event) (ls : List Line) (s : SessionState) (before : List Shown) (outcome : Outcome) (journal : List Event) : Type 0 where
+pub record Ending (client : ℕ) (access : Access) (start : List Event) (ls : List Line) (s : SessionState) (before : List Shown) (outcome : Outcome) (journal : List Event) : Type 0 where
   pub played : List Line
   pub left : List Line
   pub body : ls ≡ played ++ left
@@ -62,7 +64,7 @@ pub record Ending (client : ℕ) (head : Head) (start : List Event) (ls : List L
   pub shown_is : outcome.shown ≡ before ++ more
   pub session : SessionState
   pub plays : PlaysAll client played s start more session journal
-  pub ends : EndsAt client head left session start outcome.end journal
+  pub ends : EndsAt client access left session start outcome.end journal
 
 plays-none : (client : ℕ) (s : SessionState) (start journal : List Event) → PlaysAll client [] s start [] s journal
 unfolding PlaysAll
@@ -73,9 +75,9 @@ unfolding PlaysAll
 plays-more client l ls s mid t start first more journal d p = (first, more, mid, refl, d, p)
 
 -- after one more line
-pub one-more : (client : ℕ) (head : Head) (start : List Event) (l : Line) (ls : List Line) (s mid : SessionState) (before first : List Shown) (outcome : Outcome) (journal : List Event) → DidPlay client (deed l.number l.call s) s start first mid journal → Ending client head start ls mid (before ++ first) outcome journal
-    → Ending client head start (l ∷ ls) s before outcome journal
-one-more client head start l ls s mid before first outcome journal d e = record {
+pub one-more : (client : ℕ) (access : Access) (start : List Event) (l : Line) (ls : List Line) (s mid : SessionState) (before first : List Shown) (outcome : Outcome) (journal : List Event) → DidPlay client (deed l.number l.call s) s start first mid journal → Ending client access start ls mid (before ++ first) outcome journal
+    → Ending client access start (l ∷ ls) s before outcome journal
+one-more client access start l ls s mid before first outcome journal d e = record {
   played = l ∷ e.played;
   left = e.left;
   body = ap (λ (x : List Line). l ∷ x) e.body;
@@ -86,7 +88,7 @@ one-more client head start l ls s mid before first outcome journal d e = record 
   ends = e.ends;
 }
 
-module _ (by : Caller) (ids : AnyIds) (head : Head) (mine : Sessions) (start : List Event) where
+module _ (by : Caller) (ids : AnyIds) (access : Access) (mine : Sessions) (start : List Event) where
   abbrev pub Nothing : List Event → Type 0
   Nothing = ChangedNothing by.number start
 
@@ -95,10 +97,10 @@ module _ (by : Caller) (ids : AnyIds) (head : Head) (mine : Sessions) (start : L
 
   -- each operation of the play is minded, and it comes to what these lines come to
   abbrev pub GoesWell : List Line → SessionState → List Shown → Play Outcome → List Event → Type 0
-  GoesWell ls s shown p journal = PlayKeeps (Minds ids mine start) by p journal × PlayLeads (Ending by.number head start ls s shown) by p journal
+  GoesWell ls s shown p journal = PlayKeeps (Minds ids mine start) by p journal × PlayLeads (Ending by.number access start ls s shown) by p journal
 
   -- at the first of these lines
-  pub ends-well : (ls : List Line) (s : SessionState) (shown : List Shown) (end : End) (journal : List Event) → EndsAt by.number head ls s start end journal → GoesWell ls s shown (ended shown end) journal
+  pub ends-well : (ls : List Line) (s : SessionState) (shown : List Shown) (end : End) (journal : List Event) → EndsAt by.number access ls s start end journal → GoesWell ls s shown (ended shown end) journal
   unfolding PlayKeeps PlayLeads
   ends-well ls s shown end journal e = (tt, record { played = []; left = ls; body = refl; more = []; shown_is = sym (append-nil shown); session = s; plays = plays-none by.number s start journal; ends = e })
 
@@ -114,7 +116,7 @@ module _ (by : Caller) (ids : AnyIds) (head : Head) (mine : Sessions) (start : L
       → ((answer : Result A Refusal) (h : List Event) → Q answer h → GoesWell ls s shown (f answer) h) → ((h : List Event) → Nothing h → GoesWell ls s shown (f (Err NoMemory)) h) → GoesWell ls s shown (call p f) journal
   called-well ls s shown p f Q journal careful stays told answered starved = (
     PlayKeeps-call (Minds ids mine start) Q Nothing by p f journal (Keeps-minds ids mine start by p journal careful stays) told stays (λ answer h q. (answered answer h q).0) (λ h c. (starved h c).0),
-    PlayLeads-call (Ending by.number head start ls s shown) Q Nothing by p f journal told stays (λ answer h q. (answered answer h q).1) (λ h c. (starved h c).1),
+    PlayLeads-call (Ending by.number access start ls s shown) Q Nothing by p f journal told stays (λ answer h q. (answered answer h q).1) (λ h c. (starved h c).1),
   )
 
 -- what is owed for no session

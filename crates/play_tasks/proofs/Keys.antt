@@ -28,19 +28,20 @@ use Rattle.session.specs.declared.chunks.Value.{Value}
 use Rattle.session.specs.Sessions.{SessionState, nodes_seen}
 use Rattle.session.specs.Editing.{Leaves, node_fault, node_added}
 use Rattle.session.specs.Chunks.{get_program}
-use Rattle.play_script.specs.declared.scripts.Head.{Head}
+use Rattle.play_script.specs.declared.scripts.Access.{Access}
 use Rattle.play_script.specs.Well.{IsWellPath}
 use Rattle.play_outcome.specs.declared.outcome.Shown.{Shown}
 use Rattle.play_outcome.specs.declared.outcome.Outcome.{Outcome}
 use Rattle.play_tasks.specs.declared.working.Step.{Step}
 use Rattle.play_tasks.specs.declared.working.Step.TheVariants as step
 use Rattle.play_tasks.specs.Lines.{key_shown, chunk_key_shown, key_set_deed, key_get_deed}
-use Rattle.play_tasks.specs.Playing.{Rest, after_line, refused, play_deed}
+use Rattle.play_outcome.specs.Playing.{refused}
+use Rattle.play_tasks.specs.Playing.{Rest, after_line, play_deed}
 use Rattle.play_tasks.specs.inside.Working.{after_set, after_get, lines_from, working_rest, is_local, PlayComes, EndsCalmly}
 use Rattle.play_tasks.proofs.Calm.{ends-refused, ends-behind, set-calm, get-calm}
 use Rattle.play_tasks.proofs.Locals.{IsLocal, added_local, set_local, drop_local, unset_local, leaves-local}
 use Rattle.play_tasks.proofs.Machines.{began}
-use Rattle.play_tasks.proofs.Stepping.{is_memory}
+use Rattle.play_outcome.proofs.Stepping.{is_memory}
 
 -- ---- what a key of a UTF-8 text names
 low_utf8 : (b : ℕ) (bs : List ℕ) → b < 128 → IsUtf8 bs → IsUtf8 (b ∷ bs)
@@ -120,14 +121,14 @@ key-get-why p s back R.NoMemory c e = absurd (cc)
 key-get-why p s back why c e = c.0
 
 -- ---- a key that is set
-set_plays : (head : Head) (line : ℕ) (shown : List Shown) (s : SessionState) (bytes : List ℕ) (rest : Rest) (o : Option ZarrKey) → play_deed head line shown s (key_set_deed bytes o s) rest ≡ call (set_at s bytes o) (after_set line shown rest)
-set_plays head line shown s bytes rest None = refl
-set_plays head line shown s bytes rest (Some (k.Meta path)) = refl
-set_plays head line shown s bytes rest (Some (k.Chunk path index)) = refl
+set_plays : (access : Access) (line : ℕ) (shown : List Shown) (s : SessionState) (bytes : List ℕ) (rest : Rest) (o : Option ZarrKey) → play_deed access line shown s (key_set_deed bytes o s) rest ≡ call (set_at s bytes o) (after_set line shown rest)
+set_plays access line shown s bytes rest None = refl
+set_plays access line shown s bytes rest (Some (k.Meta path)) = refl
+set_plays access line shown s bytes rest (Some (k.Chunk path index)) = refl
 
-pub key-set-plays : (head : Head) (line : ℕ) (shown : List Shown) (s : SessionState) (key bytes : List ℕ) (rest : Rest) → play_deed head line shown s (key_set_deed bytes (key_of key) s) rest ≡ call (key_set_program s key bytes) (after_set line shown rest)
+pub key-set-plays : (access : Access) (line : ℕ) (shown : List Shown) (s : SessionState) (key bytes : List ℕ) (rest : Rest) → play_deed access line shown s (key_set_deed bytes (key_of key) s) rest ≡ call (key_set_program s key bytes) (after_set line shown rest)
 unfolding key_set_program
-key-set-plays head line shown s key bytes rest = set_plays head line shown s bytes rest (key_of key)
+key-set-plays access line shown s key bytes rest = set_plays access line shown s bytes rest (key_of key)
 
 -- what is played the same comes to the same
 pub plays-comes : (line at : ℕ) (shown : List Shown) (f g : Rest → Play Outcome) (x : Step) → ((rest : Rest) → f rest ≡ g rest) → PlayComes line at shown g x → PlayComes line at shown f x
@@ -156,36 +157,36 @@ keyed_same line shown s rest (Err why) = refl
 get_keyed : (line : ℕ) (shown : List Shown) (s : SessionState) (rest : Rest) (p : Program Value) → call (p >>= answered) (after_key line shown s rest) ≡ call p (after_get (chunk_key_shown line) line shown s rest)
 get_keyed line shown s rest p = called-keyed p (after_key line shown s rest) ∙ ap (call p) (λ i r. keyed_same line shown s rest r i)
 
-get_plays : (head : Head) (line : ℕ) (shown : List Shown) (s : SessionState) (rest : Rest) (o : Option ZarrKey) → play_deed head line shown s (key_get_deed line o s) rest ≡ call (get_at s o) (after_key line shown s rest)
-get_plays head line shown s rest None = refl
-get_plays head line shown s rest (Some (k.Meta path)) = refl
-get_plays head line shown s rest (Some (k.Chunk path index)) = sym (get_keyed line shown s rest (get_program s path index))
+get_plays : (access : Access) (line : ℕ) (shown : List Shown) (s : SessionState) (rest : Rest) (o : Option ZarrKey) → play_deed access line shown s (key_get_deed line o s) rest ≡ call (get_at s o) (after_key line shown s rest)
+get_plays access line shown s rest None = refl
+get_plays access line shown s rest (Some (k.Meta path)) = refl
+get_plays access line shown s rest (Some (k.Chunk path index)) = sym (get_keyed line shown s rest (get_program s path index))
 
-key_get_plays : (head : Head) (line : ℕ) (shown : List Shown) (s : SessionState) (key : List ℕ) (rest : Rest) → play_deed head line shown s (key_get_deed line (key_of key) s) rest ≡ call (key_get_program s key) (after_key line shown s rest)
+key_get_plays : (access : Access) (line : ℕ) (shown : List Shown) (s : SessionState) (key : List ℕ) (rest : Rest) → play_deed access line shown s (key_get_deed line (key_of key) s) rest ≡ call (key_get_program s key) (after_key line shown s rest)
 unfolding key_get_program
-key_get_plays head line shown s key rest = get_plays head line shown s rest (key_of key)
+key_get_plays access line shown s key rest = get_plays access line shown s rest (key_of key)
 
 -- it was told at once
-pub key-got : (head : Head) (line : ℕ) (shown more : List Shown) (s t : SessionState) (key : List ℕ) (value : KeyValue) (rest : Rest) → key_get_program s key ≡ Done (Ok value) → t ≡ s → more ≡ shown ++ key_shown line value ∷ []
-    → play_deed head line shown s (key_get_deed line (key_of key) s) rest ≡ rest t more
-key-got head line shown more s t key value rest is same shows =
-    key_get_plays head line shown s key rest ∙ ap (λ (p : Program KeyValue). call p (after_key line shown s rest)) is ∙ (λ i. rest (sym same i) (sym shows i))
+pub key-got : (access : Access) (line : ℕ) (shown more : List Shown) (s t : SessionState) (key : List ℕ) (value : KeyValue) (rest : Rest) → key_get_program s key ≡ Done (Ok value) → t ≡ s → more ≡ shown ++ key_shown line value ∷ []
+    → play_deed access line shown s (key_get_deed line (key_of key) s) rest ≡ rest t more
+key-got access line shown more s t key value rest is same shows =
+    key_get_plays access line shown s key rest ∙ ap (λ (p : Program KeyValue). call p (after_key line shown s rest)) is ∙ (λ i. rest (sym same i) (sym shows i))
 
 -- a machine has it to do
-pub key-asks : (head : Head) (line : ℕ) (shown : List Shown) (s t : SessionState) (key : List ℕ) (q : Program Value) (rest : Rest) → key_get_program s key ≡ (q >>= answered) → IsAsk q → t ≡ s
-    → Comes (play_deed head line shown s (key_get_deed line (key_of key) s) rest) (call q (after_get (chunk_key_shown line) line shown t rest))
-key-asks head line shown s t key q rest is asking same =
-    let to : play_deed head line shown s (key_get_deed line (key_of key) s) rest ≡ call q (after_get (chunk_key_shown line) line shown t rest) =
-    key_get_plays head line shown s key rest ∙ ap (λ (p : Program KeyValue). call p (after_key line shown s rest)) is ∙ get_keyed line shown s rest q ∙ ap (λ (x : SessionState). call q (after_get (chunk_key_shown line) line shown x rest)) (sym same) in
+pub key-asks : (access : Access) (line : ℕ) (shown : List Shown) (s t : SessionState) (key : List ℕ) (q : Program Value) (rest : Rest) → key_get_program s key ≡ (q >>= answered) → IsAsk q → t ≡ s
+    → Comes (play_deed access line shown s (key_get_deed line (key_of key) s) rest) (call q (after_get (chunk_key_shown line) line shown t rest))
+key-asks access line shown s t key q rest is asking same =
+    let to : play_deed access line shown s (key_get_deed line (key_of key) s) rest ≡ call q (after_get (chunk_key_shown line) line shown t rest) =
+    key_get_plays access line shown s key rest ∙ ap (λ (p : Program KeyValue). call p (after_key line shown s rest)) is ∙ get_keyed line shown s rest q ∙ ap (λ (x : SessionState). call q (after_get (chunk_key_shown line) line shown x rest)) (sym same) in
     subst (λ (p : Play Outcome). Comes p (call q (after_get (chunk_key_shown line) line shown t rest))) (sym to) (began q q (after_get (chunk_key_shown line) line shown t rest) refl asking)
 
 -- it was refused
-pub key-refused : (head : Head) (line : ℕ) (shown : List Shown) (s back : SessionState) (key : List ℕ) (why : Refusal) (rest : Rest) → GetRefused (key_get_program s key) s back why
-    → Comes (Or (play_deed head line shown s (key_get_deed line (key_of key) s) rest) (refused line shown R.NoMemory)) (refused line shown why)
-key-refused head line shown s back key why rest c = by_memory (is_no_memory why) refl
+pub key-refused : (access : Access) (line : ℕ) (shown : List Shown) (s back : SessionState) (key : List ℕ) (why : Refusal) (rest : Rest) → GetRefused (key_get_program s key) s back why
+    → Comes (Or (play_deed access line shown s (key_get_deed line (key_of key) s) rest) (refused line shown R.NoMemory)) (refused line shown why)
+key-refused access line shown s back key why rest c = by_memory (is_no_memory why) refl
   where
-    by_memory : (b : Bool) → is_no_memory why ≡ b → Comes (Or (play_deed head line shown s (key_get_deed line (key_of key) s) rest) (refused line shown R.NoMemory)) (refused line shown why)
+    by_memory : (b : Bool) → is_no_memory why ≡ b → Comes (Or (play_deed access line shown s (key_get_deed line (key_of key) s) rest) (refused line shown R.NoMemory)) (refused line shown why)
     by_memory true e = inr (ap (refused line shown) (is_memory why e))
     by_memory false e =
-        let to = key_get_plays head line shown s key rest ∙ ap (λ (p : Program KeyValue). call p (after_key line shown s rest)) (key-get-why (key_get_program s key) s back why c e) in
+        let to = key_get_plays access line shown s key rest ∙ ap (λ (p : Program KeyValue). call p (after_key line shown s rest)) (key-get-why (key_get_program s key) s back why c e) in
         inl (subst (λ (p : Play Outcome). Comes p (refused line shown why)) (sym to) refl)

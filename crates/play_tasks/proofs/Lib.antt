@@ -12,3 +12,4 @@ pub mod Trying
 pub mod Playing
 pub mod Others
 pub mod Paths
+pub mod Begun

@@ -15,21 +15,22 @@ use Rattle.store_api.specs.declared.machines.Refusal.{Refusal}
 use Rattle.store_api.specs.declared.machines.Refusal.TheVariants as R
 use Rattle.store_api.specs.Program.{is_fault}
 use Rattle.store_api.specs.Plays.{Play, Or, Comes}
-use Rattle.session.specs.Sessions.{SessionState, nodes_seen}
+use Rattle.session.specs.Sessions.{SessionState, writes, nodes_seen}
 use Rattle.session.specs.Editing.{Adds, Leaves, refusal_of_edit, node_fault, added, meta_set, node_dropped, if_writes, unless_bad, unless_refused, drawn_node}
 use Rattle.session.specs.Chunks.{chunk_unset}
 use Rattle.zarr_keys.specs.Keys.{session_of}
-use Rattle.play_script.specs.declared.scripts.Head.{Head}
+use Rattle.play_script.specs.declared.scripts.Access.{Access}
 use Rattle.play_script.specs.declared.scripts.Line.{Line}
-use Rattle.play_script.specs.declared.scripts.Task.{Task}
 use Rattle.play_outcome.specs.declared.outcome.Shown.{Shown}
 use Rattle.play_outcome.specs.declared.outcome.End.TheVariants.{Refused, Done}
 use Rattle.play_outcome.specs.declared.outcome.Outcome.{Outcome}
+use Rattle.play_tasks.specs.declared.working.SessionTask.{SessionTask}
 use Rattle.play_tasks.specs.declared.working.Working.{Working}
 use Rattle.play_tasks.specs.declared.working.Working.TheVariants as w
 use Rattle.play_tasks.specs.declared.working.Step.TheVariants as step
 use Rattle.play_tasks.specs.Lines.{deed}
-use Rattle.play_tasks.specs.Playing.{Rest, play_deed, play_lines, ended, refused}
+use Rattle.play_outcome.specs.Playing.{ended, refused}
+use Rattle.play_tasks.specs.Playing.{Rest, play_deed, play_lines}
 use Rattle.play_tasks.specs.inside.Working.{is_well, is_local, without_id, Edits, LineComes, lines_from, working_rest}
 use Rattle.play_tasks.proofs.Calm.{edit_fault}
 
@@ -59,19 +60,19 @@ by_id8 s p text (Some id) why e = absurd (cc)
 
 pub added_local : (fault : Result View MetaFault → Option MetaFault) (s : SessionState) (p text : List ℕ) → IsLocal (added fault s p text)
 unfolding added
-added_local fault s p text = by_writes s.writes _ (by_text (fault (meta_of text)) _ (by_edit (add_refusal (nodes_seen s) p) _ (by_id8 s p text (drawn8 s.ids))))
+added_local fault s p text = by_writes (writes s) _ (by_text (fault (meta_of text)) _ (by_edit (add_refusal (nodes_seen s) p) _ (by_id8 s p text (drawn8 s.ids))))
 
 pub set_local : (s : SessionState) (p text : List ℕ) → IsLocal (meta_set s p text)
 unfolding meta_set
-set_local s p text = by_writes s.writes _ (by_text (node_fault (meta_of text)) _ (by_edit (text_refusal (nodes_seen s) p text) _ (λ why e. absurd (cc))))
+set_local s p text = by_writes (writes s) _ (by_text (node_fault (meta_of text)) _ (by_edit (text_refusal (nodes_seen s) p text) _ (λ why e. absurd (cc))))
 
 pub drop_local : (s : SessionState) (p : List ℕ) → IsLocal (node_dropped s p)
 unfolding node_dropped
-drop_local s p = by_writes s.writes _ (by_edit (drop_refusal (nodes_seen s) p) _ (λ why e. absurd (cc)))
+drop_local s p = by_writes (writes s) _ (by_edit (drop_refusal (nodes_seen s) p) _ (λ why e. absurd (cc)))
 
 pub unset_local : (s : SessionState) (p i : List ℕ) → IsLocal (chunk_unset s p i)
 unfolding chunk_unset
-unset_local s p i = by_writes s.writes _ (by_edit (unset_refusal (nodes_seen s) p i) _ (λ why e. absurd (cc)))
+unset_local s p i = by_writes (writes s) _ (by_edit (unset_refusal (nodes_seen s) p i) _ (λ why e. absurd (cc)))
 
 adds-local : (expected : Result (Id8 × SessionState) Refusal) (s t : SessionState) (r : Result Id8 Refusal) → IsLocal expected → Adds expected s r t → is_local (without_id r) ≡ true
 adds-local expected s t (Ok id) l a = refl
@@ -106,25 +107,25 @@ drop_at : (lines : List Line) (i : ℕ) (l : Line) → i < length lines → drop
 drop_at lines i l within = let next : suc i ≡ i + 1 = omega arith in drop-cons lines i l within ∙ ap (λ (n : ℕ). slice_index_or lines i l ∷ drop n lines) next
 
 -- the first of the lines of a body that are left
-one_left : (head : Head) (body lines : List Line) (i : ℕ) (l : Line) (s : SessionState) (shown : List Shown) → lines ≡ body → i < length lines → l ≡ slice_index_or lines i l
-    → play_lines head (drop i body) s shown ≡ Or (play_deed head l.number shown s (deed l.number l.call s) (play_lines head (drop (i + 1) body))) (refused l.number shown R.NoMemory)
+one_left : (access : Access) (body lines : List Line) (i : ℕ) (l : Line) (s : SessionState) (shown : List Shown) → lines ≡ body → i < length lines → l ≡ slice_index_or lines i l
+    → play_lines access (drop i body) s shown ≡ Or (play_deed access l.number shown s (deed l.number l.call s) (play_lines access (drop (i + 1) body))) (refused l.number shown R.NoMemory)
 unfolding play_lines
-one_left head body lines i l s shown same within is =
+one_left access body lines i l s shown same within is =
     let there = subst (λ (ls : List Line). i < length ls) same within in
     let own = subst (λ (ls : List Line). l ≡ slice_index_or ls i l) same is in
-    ap (λ (ls : List Line). play_lines head ls s shown) (drop_at body i l there ∙ ap (λ (x : Line). x ∷ drop (i + 1) body) (sym own))
+    ap (λ (ls : List Line). play_lines access ls s shown) (drop_at body i l there ∙ ap (λ (x : Line). x ∷ drop (i + 1) body) (sym own))
 
-pub one_stop : (task : Task) (lines : List Line) (i : ℕ) (l : Line) (s : SessionState) (shown : List Shown) (state : Working) → lines ≡ task.body → i < length lines → l ≡ slice_index_or lines i l
-    → LineComes task.head l.number (i + 1) shown s (deed l.number l.call s) (step.Stop state) → Comes (lines_from task i s shown) (working_rest task state)
-one_stop task lines i l s shown state body within is c = subst (λ (p : Play Outcome). Comes p (working_rest task state)) (sym (one_left task.head task.body lines i l s shown body within is)) (c task)
+pub one_stop : (task : SessionTask) (lines : List Line) (i : ℕ) (l : Line) (s : SessionState) (shown : List Shown) (state : Working) → lines ≡ task.body.now → i < length lines → l ≡ slice_index_or lines i l
+    → LineComes task.access.now l.number (i + 1) shown s (deed l.number l.call s) (step.Stop state) → Comes (lines_from task i s shown) (working_rest task state)
+one_stop task lines i l s shown state body within is c = subst (λ (p : Play Outcome). Comes p (working_rest task state)) (sym (one_left task.access.now task.body.now lines i l s shown body within is)) (c task)
 
-pub one_on : (task : Task) (lines : List Line) (i : ℕ) (l : Line) (s t : SessionState) (shown more : List Shown) (q : Play Outcome) → lines ≡ task.body → i < length lines → l ≡ slice_index_or lines i l
-    → ((rest : Rest) → play_deed task.head l.number shown s (deed l.number l.call s) rest ≡ rest t more) → Comes (lines_from task (i + 1) t more) q → Comes (lines_from task i s shown) q
+pub one_on : (task : SessionTask) (lines : List Line) (i : ℕ) (l : Line) (s t : SessionState) (shown more : List Shown) (q : Play Outcome) → lines ≡ task.body.now → i < length lines → l ≡ slice_index_or lines i l
+    → ((rest : Rest) → play_deed task.access.now l.number shown s (deed l.number l.call s) rest ≡ rest t more) → Comes (lines_from task (i + 1) t more) q → Comes (lines_from task i s shown) q
 one_on task lines i l s t shown more q body within is d c =
-    subst (λ (p : Play Outcome). Comes p q) (sym (one_left task.head task.body lines i l s shown body within is)) (inl (subst (λ (p : Play Outcome). Comes p q) (sym (d (lines_from task (i + 1)))) c))
+    subst (λ (p : Play Outcome). Comes p q) (sym (one_left task.access.now task.body.now lines i l s shown body within is)) (inl (subst (λ (p : Play Outcome). Comes p q) (sym (d (lines_from task (i + 1)))) c))
 
-pub at_end : (task : Task) (lines : List Line) (i : ℕ) (s : SessionState) (shown kept : List Shown) → lines ≡ task.body → length lines ≤ i → kept ≡ shown → Comes (lines_from task i s shown) (ended kept Done)
+pub at_end : (task : SessionTask) (lines : List Line) (i : ℕ) (s : SessionState) (shown kept : List Shown) → lines ≡ task.body.now → length lines ≤ i → kept ≡ shown → Comes (lines_from task i s shown) (ended kept Done)
 unfolding play_lines
 at_end task lines i s shown kept body over k =
     let past = subst (λ (ls : List Line). length ls ≤ i) body over in
-    subst (λ (ls : List Line). Comes (play_lines task.head ls s shown) (ended kept Done)) (sym (drop_of_length-le task.body past)) (ap (λ (x : List Shown). ended x Done) k)
+    subst (λ (ls : List Line). Comes (play_lines task.access.now ls s shown) (ended kept Done)) (sym (drop_of_length-le task.body.now past)) (ap (λ (x : List Shown). ended x Done) k)

@@ -19,17 +19,19 @@ use Rattle.commit_path.specs.Committing.{commit_program, IsDrawn}
 use Rattle.rebase.specs.declared.machine.Rebased.{Rebased}
 use Rattle.rebase.specs.declared.machine.Rebased.TheVariants.{Moved, UpToDate}
 use Rattle.rebase.specs.Rebasing.{rebase_program, MayRefuseStart}
-use Rattle.play_script.specs.declared.scripts.Task.{Task}
 use Rattle.play_outcome.specs.declared.outcome.Shown.{Shown}
 use Rattle.play_outcome.specs.declared.outcome.End.TheVariants.{Refused}
 use Rattle.play_outcome.specs.declared.outcome.Outcome.{Outcome}
+use Rattle.play_tasks.specs.declared.working.SessionTask.{SessionTask}
 use Rattle.play_tasks.specs.declared.working.Working.{Working}
 use Rattle.play_tasks.specs.declared.working.Working.TheVariants as w
 use Rattle.play_tasks.specs.Lines.{value_shown}
-use Rattle.play_tasks.specs.Playing.{Rest, refused, after_commit, after_rebase, commit_play}
+use Rattle.play_outcome.specs.Playing.{refused}
+use Rattle.play_tasks.specs.Playing.{Rest, after_commit, after_rebase, commit_play}
 use Rattle.play_outcome.specs.Ending.{is_failed}
-use Rattle.play_tasks.proofs.Stepping.{is_memory}
-use Rattle.play_tasks.specs.inside.Working.{after_get, after_lost, rebased_session, working_rest, is_well, tells_fault, Faults}
+use Rattle.play_outcome.proofs.Stepping.{is_memory}
+use Rattle.play_outcome.specs.Settling.{tells_fault, Faults}
+use Rattle.play_tasks.specs.inside.Working.{after_get, after_lost, rebased_session, working_rest, is_working, is_well}
 
 -- ---- a machine begins
 asks : {A : Type 0} (p : Prog (Result A Refusal)) (f : Result A Refusal → Play Outcome) → is_ask p ≡ true → Comes (call p f) (call p f)
@@ -72,7 +74,7 @@ commit-began left policy line shown message kept s t q e i drawn k =
     subst (λ (p : Play Outcome). Comes p (call q (after_commit line shown (after_lost left policy line shown kept t)))) (sym to) (began (commit_program s message) q (after_commit line shown (after_lost left policy line shown kept t)) e (subst IsAsk e i))
 
 -- or it was refused at once
-pub commit-refused : (left : ℕ) (policy : Policy) (line : ℕ) (shown : List Shown) (message : List ℕ) (s : SessionState) (why : Refusal) (task : Task) (x : Working) → (is_no_memory why ≡ false → commit_program s message ≡ Done (Err why))
+pub commit-refused : (left : ℕ) (policy : Policy) (line : ℕ) (shown : List Shown) (message : List ℕ) (s : SessionState) (why : Refusal) (task : SessionTask) (x : Working) → (is_no_memory why ≡ false → commit_program s message ≡ Done (Err why))
     → x ≡ w.Ended (record { shown = shown; end = Refused line why }) → Comes (Or (commit_play left policy line shown message s) (refused line shown R.NoMemory)) (working_rest task x)
 commit-refused left policy line shown message s why task x c is = subst (λ (y : Working). Comes (Or (commit_play left policy line shown message s) (refused line shown R.NoMemory)) (working_rest task y)) (sym is) (by_memory (is_no_memory why) refl)
   where
@@ -94,7 +96,7 @@ lost-began (suc left) policy line shown message kept s t old found q some same k
     (began (rebase_program policy s) q (after_rebase line shown (commit_play left policy line shown message)) (e ∙ ap (rebase_program policy) same) (subst IsAsk (e ∙ ap (rebase_program policy) same) i))
 
 -- or the rebase was refused
-pub lost-refused : (left : ℕ) (policy : Policy) (line : ℕ) (shown : List Shown) (message : List ℕ) (s t : SessionState) (old : Version) (found : Option Version) (why : Refusal) (task : Task) (x : Working) → ¬ (left ≡ 0) → t ≡ s → rebase_program policy t ≡ Done (Err why)
+pub lost-refused : (left : ℕ) (policy : Policy) (line : ℕ) (shown : List Shown) (message : List ℕ) (s t : SessionState) (old : Version) (found : Option Version) (why : Refusal) (task : SessionTask) (x : Working) → ¬ (left ≡ 0) → t ≡ s → rebase_program policy t ≡ Done (Err why)
     → x ≡ w.Ended (record { shown = shown; end = Refused line why }) → Comes (after_lost left policy line shown message s old found s.ids) (working_rest task x)
 lost-refused zero policy line shown message s t old found why task x some same e is = absurd (some refl)
 lost-refused (suc left) policy line shown message s t old found why task x some same e is =
@@ -132,10 +134,10 @@ ask-faults answer (Done a) f e = absurd (cc)
 ask-faults answer (Ask op k) f e = tt
 
 -- a machine's refusal ended the task
-pub stop-faults : {T : Type 0} (answer : Result (Next T) Refusal) (why : Refusal) (line : ℕ) (shown : List Shown) (task : Task) (x : Working) → answer ≡ Err why → x ≡ w.Ended (record { shown = shown; end = Refused line why }) → Faults answer (working_rest task x)
+pub stop-faults : {T : Type 0} (answer : Result (Next T) Refusal) (why : Refusal) (line : ℕ) (shown : List Shown) (task : SessionTask) (x : Working) → answer ≡ Err why → x ≡ w.Ended (record { shown = shown; end = Refused line why }) → Faults answer (working_rest task x)
 stop-faults answer why line shown task x is e = subst (λ (y : Working). Faults answer (working_rest task y)) (sym e) (λ failed. ap tells_fault is ∙ failed)
 
-pub well-faults : {T : Type 0} (answer : Result (Next T) Refusal) (task : Task) (x : Working) → is_well x ≡ true → Faults answer (working_rest task x)
+pub well-faults : {T : Type 0} (answer : Result (Next T) Refusal) (task : SessionTask) (x : Working) → is_well x ≡ true → Faults answer (working_rest task x)
 well-faults answer task (w.Opening opener) e = absurd (cc)
 well-faults answer task (w.Setting line at shown set) e = ask-faults answer _ _ e
 well-faults answer task (w.Getting line at for shown get) e = ask-faults answer _ _ e
@@ -146,3 +148,12 @@ well-faults answer task (w.Ended outcome) e = λ failed. absurd (by_end (is_fail
     by_end : (b : Bool) → not b ≡ true → b ≡ true → ⊥
     by_end true e f = cc
     by_end false e f = cc
+
+-- a machine that lines began has something to do
+pub well-works : (x : Working) → is_well x ≡ true → is_working x ≡ true
+well-works (w.Opening opener) e = absurd (cc)
+well-works (w.Setting line at shown set) e = e
+well-works (w.Getting line at for shown get) e = e
+well-works (w.Committing line tries shown commit) e = e
+well-works (w.Rebasing line tries shown message rebase) e = e
+well-works (w.Ended outcome) e = refl

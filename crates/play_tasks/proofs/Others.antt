@@ -15,14 +15,17 @@ use Rattle.commit_path.proofs.Singling.{HasPutAlike-others}
 use Rattle.rebase.proofs.Kept.{rebase-kept}
 use Rattle.store_api.proofs.Happening.{ChangedNothing-others}
 use Rattle.chunk_calls.specs.Laws.{TellsLaw}
+use Rattle.play_refs.specs.Laws.{RefsOutcomeLaw}
+use Rattle.play_script.specs.declared.scripts.Access.{Access}
 use Rattle.play_script.specs.declared.scripts.Head.{Head}
+use Rattle.play_script.specs.declared.scripts.Head.TheVariants.{Session, Refs}
 use Rattle.play_script.specs.declared.scripts.Line.{Line}
 use Rattle.play_script.specs.declared.scripts.Task.{Task}
 use Rattle.play_outcome.specs.declared.outcome.End.{End}
 use Rattle.play_outcome.specs.declared.outcome.Outcome.{Outcome}
 use Rattle.play_tasks.specs.Lines.{Deed, Goes, Sets, Reads, Commits, deed}
 use Rattle.play_tasks.specs.Playing.{asked_by, policy_of}
-use Rattle.play_tasks.specs.Telling.{Refuses, HasCommitted, WasCommitRefused, WasLostAtLast, WasNotRebased, EndsAt, TellsOutcome}
+use Rattle.play_tasks.specs.Telling.{Refuses, HasCommitted, WasCommitRefused, WasLostAtLast, WasNotRebased, EndsAt, TellsBy, TellsOutcome}
 use Rattle.play_tasks.specs.Laws.{OutcomeLaw}
 use Rattle.play_tasks.proofs.Early.{WasBegun-more}
 use Rattle.play_tasks.proofs.Going.{PlaysAll-append}
@@ -33,6 +36,7 @@ pub record Lasting : Type 0 where
   pub session : SessionLaw
   pub answers : AnswersLaw
   pub chunks : TellsLaw
+  pub refs : RefsOutcomeLaw
 
 module _ (L : Lasting) (by : Caller) (start journal more : List Event) (others : Each (IsOther by) journal more) where
   refuses-others : (d : Deed) (s : SessionState) (why : Refusal) → Refuses by.number d s start why journal → Refuses by.number d s start why (journal ++ more)
@@ -42,10 +46,10 @@ module _ (L : Lasting) (by : Caller) (start journal more : List Event) (others :
   refuses-others (Commits message) s why r = r
 
   -- how its last commit ended
-  module _ (head : Head) (line : ℕ) (message : List ℕ) (count : ℕ) (t : SessionState) (end : End) where
+  module _ (access : Access) (line : ℕ) (message : List ℕ) (count : ℕ) (t : SessionState) (end : End) where
     abbrev Ends : List Event → Type 0
     Ends h =
-        HasCommitted by.number t message start end h ⊎ (WasCommitRefused by.number line t message start end h ⊎ (WasLostAtLast by.number head line count t start end h ⊎ WasNotRebased by.number head line count t start end h))
+        HasCommitted by.number t message start end h ⊎ (WasCommitRefused by.number line t message start end h ⊎ (WasLostAtLast by.number access line count t start end h ⊎ WasNotRebased by.number access line count t start end h))
 
     last-others : Ends journal → Ends (journal ++ more)
     last-others (inl w) = inl (record { made = w.made; took = L.answers.commit by t message (Ok (Was_done w.made)) start journal more others w.took; end_is = w.end_is })
@@ -60,30 +64,31 @@ module _ (L : Lasting) (by : Caller) (start journal more : List Event) (others :
           was_lost = w.was_lost;
           alike = HasPutAlike-others by w.lost start journal more others w.alike;
           why = w.why;
-          tells = rebase-kept by (policy_of head) w.lost (start ++ w.since) journal more others (Err w.why) w.tells;
+          tells = rebase-kept by (policy_of access) w.lost (start ++ w.since) journal more others (Err w.why) w.tells;
           nothing = ChangedNothing-others by start journal more others w.nothing;
           end_is = w.end_is;
         })))
 
-  ends-others : (head : Head) (ls : List Line) (s : SessionState) (end : End) → EndsAt by.number head ls s start end journal → EndsAt by.number head ls s start end (journal ++ more)
-  ends-others head [] s end e = (e.0, ChangedNothing-others by start journal more others e.1)
-  ends-others head (l ∷ ls) s end (inl r) = inl (record { why = r.why; refuses = refuses-others (deed l.number l.call s) s r.why r.refuses; end_is = r.end_is })
-  ends-others head (l ∷ ls) s end (inr (inl w)) = inr (inl (record { end_is = w.end_is; nothing = ChangedNothing-others by start journal more others w.nothing }))
-  ends-others head (l ∷ ls) s end (inr (inr a)) = inr (inr (record {
+  ends-others : (access : Access) (ls : List Line) (s : SessionState) (end : End) → EndsAt by.number access ls s start end journal → EndsAt by.number access ls s start end (journal ++ more)
+  ends-others access [] s end e = (e.0, ChangedNothing-others by start journal more others e.1)
+  ends-others access (l ∷ ls) s end (inl r) = inl (record { why = r.why; refuses = refuses-others (deed l.number l.call s) s r.why r.refuses; end_is = r.end_is })
+  ends-others access (l ∷ ls) s end (inr (inl w)) = inr (inl (record { end_is = w.end_is; nothing = ChangedNothing-others by start journal more others w.nothing }))
+  ends-others access (l ∷ ls) s end (inr (inr a)) = inr (inr (record {
     message = a.message;
     commits = a.commits;
     count = a.count;
     few = a.few;
     at_last = a.at_last;
-    carried = WasCarried-append by.number (policy_of head) a.count s a.at_last start journal more a.carried;
-    ends = last-others head l.number a.message a.count a.at_last end a.ends;
+    carried = WasCarried-append by.number (policy_of access) a.count s a.at_last start journal more a.carried;
+    ends = last-others access l.number a.message a.count a.at_last end a.ends;
   }))
 
-  pub TellsOutcome-others : (ids : AnyIds) (task : Task) (outcome : Outcome) → TellsOutcome ids task by.number start outcome journal → TellsOutcome ids task by.number start outcome (journal ++ more)
-  TellsOutcome-others ids task outcome (inl r) = inl (record { why = r.why; shown_is = r.shown_is; end_is = r.end_is; tells = L.answers.opening by (asked_by task.head ids) (Err r.why) start journal more others r.tells })
-  TellsOutcome-others ids task outcome (inr p) = inr (record {
+  -- what a session's outcome tells
+  session-others : (ids : AnyIds) (access : Access) (task : Task) (outcome : Outcome) → TellsBy (Session access) ids task by.number start outcome journal → TellsBy (Session access) ids task by.number start outcome (journal ++ more)
+  session-others ids access task outcome (inl r) = inl (record { why = r.why; shown_is = r.shown_is; end_is = r.end_is; tells = L.answers.opening by (asked_by access ids) (Err r.why) start journal more others r.tells })
+  session-others ids access task outcome (inr p) = inr (record {
     opened = p.opened;
-    begun = WasBegun-more by.number (asked_by task.head ids) p.opened start journal more p.begun;
+    begun = WasBegun-more by.number (asked_by access ids) p.opened start journal more p.begun;
     early = p.early;
     read = L.session.kept p.opened journal more (good-waits by journal more others) p.read;
     played = p.played;
@@ -91,8 +96,15 @@ module _ (L : Lasting) (by : Caller) (start journal more : List Event) (others :
     body = p.body;
     session = p.session;
     plays = PlaysAll-append by.number p.played p.opened start outcome.shown p.session journal more (good-waits by journal more others) p.plays;
-    ends = ends-others task.head p.left p.session outcome.end p.ends;
+    ends = ends-others access p.left p.session outcome.end p.ends;
   })
+
+  headed-others : (head : Head) (ids : AnyIds) (task : Task) (outcome : Outcome) → TellsBy head ids task by.number start outcome journal → TellsBy head ids task by.number start outcome (journal ++ more)
+  headed-others (Session access) ids task outcome t = session-others ids access task outcome t
+  headed-others Refs ids task outcome t = L.refs by task.body outcome start journal more others t
+
+  pub TellsOutcome-others : (ids : AnyIds) (task : Task) (outcome : Outcome) → TellsOutcome ids task by.number start outcome journal → TellsOutcome ids task by.number start outcome (journal ++ more)
+  TellsOutcome-others ids task outcome t = headed-others task.head ids task outcome t
 
 -- so it stays through a wait
 pub TellsOutcome-waits : OutcomeLaw → (by : Caller) (ids : AnyIds) (task : Task) (start : List Event) → IsKeptByOthers (TellsOutcome ids task by.number start) by

@@ -13,9 +13,11 @@ use Rattle.zarr_path.specs.declared.keys.ZarrKey.TheVariants as zarr
 use Rattle.zarr_path.specs.Keys.{key_of}
 use Rattle.file_fields.proofs.Bytes.{bytes_pass}
 use Rattle.store_api.specs.declared.events.Event.{Event}
+use Rattle.store_api.specs.declared.events.Op.{Op}
 use Rattle.store_api.specs.declared.machines.Refusal.{Refusal}
 use Rattle.store_api.specs.declared.machines.Refusal.TheVariants.{NoMemory}
 use Rattle.store_api.specs.Callers.{Caller}
+use Rattle.store_api.specs.Journal.{IsPolite}
 use Rattle.store_api.specs.Plays.{Play, PlayKeeps, PlayLeads}
 use Rattle.store_api.proofs.PlayLaws.{PlayKeeps-call, PlayKeeps-weaker, PlayLeads-call}
 use Rattle.session.specs.declared.chunks.Value.{Value}
@@ -38,8 +40,10 @@ use Rattle.play_script.specs.declared.scripts.EditCall.{EditCall}
 use Rattle.play_script.specs.declared.scripts.EditCall.TheVariants as edit
 use Rattle.play_script.specs.declared.scripts.ReadCall.{ReadCall}
 use Rattle.play_script.specs.declared.scripts.ReadCall.TheVariants as read
+use Rattle.play_script.specs.declared.scripts.Access.{Access}
+use Rattle.play_script.specs.declared.scripts.Access.TheVariants as access
 use Rattle.play_script.specs.declared.scripts.Head.{Head}
-use Rattle.play_script.specs.declared.scripts.Head.TheVariants as head
+use Rattle.play_script.specs.declared.scripts.Head.TheVariants.{Session, Refs}
 use Rattle.play_script.specs.declared.scripts.Line.{Line}
 use Rattle.play_script.specs.declared.scripts.Task.{Task}
 use Rattle.play_script.specs.Well.{IsWellEdit, IsWellCall, IsWellLine, IsWellTask}
@@ -47,10 +51,14 @@ use Rattle.play_outcome.specs.declared.outcome.Shown.{Shown}
 use Rattle.play_outcome.specs.declared.outcome.End.TheVariants.{Done, Refused}
 use Rattle.play_outcome.specs.declared.outcome.Outcome.{Outcome}
 use Rattle.play_tasks.specs.Lines.{Deed, Goes, Sets, Reads, Commits, deed, edit_deed, read_deed, key_set_deed, key_get_deed, silent, filled}
-use Rattle.play_tasks.specs.Playing.{tries_of, policy_of, commit_play, play_deed, play_lines, ended, after_line, after_open, shown_by, asked_by, task_play}
+use Rattle.play_outcome.specs.Playing.{ended}
+use Rattle.play_tasks.specs.Playing.{tries_of, policy_of, commit_play, play_deed, play_lines, after_line, after_open, shown_by, asked_by, session_play, headed_play, task_play}
 use Rattle.play_tasks.specs.Solving.{MayEnd, ReachesBy, Reaches, WasCarried, IsOfTask}
-use Rattle.play_tasks.specs.Telling.{DidPlay, PlaysAll, Refuses, TellsOutcome}
-use Rattle.play_tasks.proofs.Carrying.{Minds, Keeps-minds, Leads-both, PlayLeads-weaker, PlayLeads-carry, PlayKeeps-with, careful-more, puts-none, may-end}
+use Rattle.play_refs.specs.Playing.{refs_play}
+use Rattle.play_tasks.specs.Owing.{OwesBy, IsDue, ComesBefore, BeforeChange}
+use Rattle.play_tasks.specs.Telling.{DidPlay, PlaysAll, Refuses, TellsBy, TellsOutcome}
+use Rattle.play_outcome.proofs.Plays.{PlayLeads-weaker}
+use Rattle.play_tasks.proofs.Carrying.{Minds, Keeps-minds, Leads-both, PlayLeads-carry, PlayKeeps-with, careful-more, puts-none, may-end}
 use Rattle.play_tasks.proofs.Early.{put-none-before, WasBegun-more}
 use Rattle.play_tasks.proofs.Going.{Laws, Ending, one-more, DidPlay-append, GoesWell, ends-well, refused-well, starved-well, called-well, none-careful}
 use Rattle.play_tasks.proofs.Ready.{IsReady, deed-ready}
@@ -91,6 +99,7 @@ deed-bytes : (line : ℕ) (x : Call) (s : SessionState) (path index bytes : List
 deed-bytes line (call.Edit change) s path index bytes well d = edit-bytes change s path index bytes well d
 deed-bytes line (call.Read look) s path index bytes well d = absurd (reads-no-bytes line look s path index bytes d)
 deed-bytes line (call.Commit message) s path index bytes well d = absurd cc
+deed-bytes line (call.Ref own) s path index bytes well d = absurd cc
 
 key-set-no-message : (held : List ℕ) (o : Option ZarrKey) (s : SessionState) (message : List ℕ) → key_set_deed held o s ≡ Commits message → ⊥
 key-set-no-message held None s message d = cc
@@ -123,11 +132,12 @@ reads-no-message line (read.KeyGet key) s message d = key-get-no-message line (k
 deed-utf8 : (line : ℕ) (x : Call) (s : SessionState) (message : List ℕ) → IsWellCall x → deed line x s ≡ Commits message → IsUtf8 message
 deed-utf8 line (call.Edit change) s message well d = absurd (edits-no-message change s message d)
 deed-utf8 line (call.Read look) s message well d = absurd (reads-no-message line look s message d)
+deed-utf8 line (call.Ref own) s message well d = absurd cc
 deed-utf8 line (call.Commit own) s message well d = let is : own ≡ message = cc in subst IsUtf8 is (IsUtf8-from_is_utf8 own well)
 
-module _ (L : Laws) (by : Caller) (ids : AnyIds) (head : Head) (from : SessionState → Type 0) (start : List Event) where
+module _ (L : Laws) (by : Caller) (ids : AnyIds) (access : Access) (from : SessionState → Type 0) (start : List Event) where
   abbrev Tried : Sessions
-  Tried = IsTried from by.number head start
+  Tried = IsTried from by.number access start
 
   abbrev Nothing : List Event → Type 0
   Nothing = ChangedNothing by.number start
@@ -136,28 +146,28 @@ module _ (L : Laws) (by : Caller) (ids : AnyIds) (head : Head) (from : SessionSt
   PutNone = HasPutNone by.number start
 
   abbrev Well : List Line → SessionState → List Shown → Play Outcome → List Event → Type 0
-  Well ls s shown p journal = GoesWell by ids head Tried start ls s shown p journal
+  Well ls s shown p journal = GoesWell by ids access Tried start ls s shown p journal
 
   refused : (l : Line) (ls : List Line) (s : SessionState) (shown : List Shown) (why : Refusal) (journal : List Event) → Refuses by.number (deed l.number l.call s) s start why journal → Well (l ∷ ls) s shown (ended shown (Refused l.number why)) journal
-  refused l ls s shown why journal r = refused-well by ids head Tried start l ls s shown why journal r
+  refused l ls s shown why journal r = refused-well by ids access Tried start l ls s shown why journal r
 
   starved : (l : Line) (ls : List Line) (s : SessionState) (shown : List Shown) (journal : List Event) → Nothing journal → Well (l ∷ ls) s shown (ended shown (Refused l.number NoMemory)) journal
-  starved l ls s shown journal c = starved-well by ids head Tried start l ls s shown journal c
+  starved l ls s shown journal c = starved-well by ids access Tried start l ls s shown journal c
 
   -- ---- the lines
   -- the lines that are left go well on any session that is ready, wherever the client has changed no branch and put no snapshot
   abbrev AllGoWell : List Line → Type 0
-  AllGoWell ls = (journal : List Event) → Nothing journal → PutNone journal → (s : SessionState) (shown : List Shown) → IsReady ids s journal → ((t : SessionState) → Reaches ls s t → from t) → Well ls s shown (play_lines head ls s shown) journal
+  AllGoWell ls = (journal : List Event) → Nothing journal → PutNone journal → (s : SessionState) (shown : List Shown) → IsReady ids s journal → ((t : SessionState) → Reaches ls s t → from t) → Well ls s shown (play_lines access ls s shown) journal
 
   -- a line was played, and the others behind it go well
-  went-well : (l : Line) (ls : List Line) (s : SessionState) (shown first : List Shown) (mid : SessionState) (journal : List Event) → DidPlay by.number (deed l.number l.call s) s start first mid journal → Well ls mid (shown ++ first) (play_lines head ls mid (shown ++ first)) journal
-      → Well (l ∷ ls) s shown (play_lines head ls mid (shown ++ first)) journal
+  went-well : (l : Line) (ls : List Line) (s : SessionState) (shown first : List Shown) (mid : SessionState) (journal : List Event) → DidPlay by.number (deed l.number l.call s) s start first mid journal → Well ls mid (shown ++ first) (play_lines access ls mid (shown ++ first)) journal
+      → Well (l ∷ ls) s shown (play_lines access ls mid (shown ++ first)) journal
   went-well l ls s shown first mid journal did rest =
       let Did : List Event → Type 0 = λ h. DidPlay by.number (deed l.number l.call s) s start first mid h in
-      let p = play_lines head ls mid (shown ++ first) in (
+      let p = play_lines access ls mid (shown ++ first) in (
         rest.0,
-        PlayLeads-weaker (λ outcome h. Did h × Ending by.number head start ls mid (shown ++ first) outcome h) (Ending by.number head start (l ∷ ls) s shown) (λ outcome h x. one-more by.number head start l ls s mid shown first outcome h x.0 x.1) by p journal
-            (PlayLeads-carry Did (λ h more g d. DidPlay-append by.number (deed l.number l.call s) s start first mid h more g d) ids Tried start by p journal (Ending by.number head start ls mid (shown ++ first)) rest.0 did rest.1),
+        PlayLeads-weaker (λ outcome h. Did h × Ending by.number access start ls mid (shown ++ first) outcome h) (Ending by.number access start (l ∷ ls) s shown) (λ outcome h x. one-more by.number access start l ls s mid shown first outcome h x.0 x.1) by p journal
+            (PlayLeads-carry Did (λ h more g d. DidPlay-append by.number (deed l.number l.call s) s start first mid h more g d) ids Tried start by p journal (Ending by.number access start ls mid (shown ++ first)) rest.0 did rest.1),
       )
 
   -- ---- a line that sets a chunk
@@ -166,20 +176,20 @@ module _ (L : Laws) (by : Caller) (ids : AnyIds) (head : Head) (from : SessionSt
     abbrev SetAnswers : Result SessionState Refusal → List Event → Type 0
     SetAnswers answer h = (SetTells by.number s path index bytes start answer h × IfOk answer (λ t. IsSpelled t × IsOpened t h × IsLater ids t.ids)) × (PutNone h × MayEnd (set_program s path index bytes) answer)
 
-    set-answered : (answer : Result SessionState Refusal) (h : List Event) → SetAnswers answer h → Well (l ∷ ls) s shown (after_line l.number shown (silent answer) (play_lines head ls)) h
+    set-answered : (answer : Result SessionState Refusal) (h : List Event) → SetAnswers answer h → Well (l ∷ ls) s shown (after_line l.number shown (silent answer) (play_lines access ls)) h
     set-answered (Ok t) h q =
         let did = subst (λ (d : Deed). DidPlay by.number d s start [] t h) (sym sets) (refl, q.0.0.0) in
         went-well l ls s shown [] t h did
         (go h q.0.0.1 q.1.0 t (shown ++ []) (record { opened = q.0.1.1; spelled = q.0.1.0; later = q.0.1.2 }) (λ u reaches. own u (t, q.1.1, reaches)))
     set-answered (Err why) h q = refused l ls s shown why h (subst (λ (d : Deed). Refuses by.number d s start why h) (sym sets) q.0.0)
 
-    set-well : (journal : List Event) → list_all (λ n. nat_lt n 256) bytes ≡ true → IsReady ids s journal → Nothing journal → PutNone journal → Well (l ∷ ls) s shown (play_deed head l.number shown s (Sets path index bytes) (play_lines head ls)) journal
+    set-well : (journal : List Event) → list_all (λ n. nat_lt n 256) bytes ≡ true → IsReady ids s journal → Nothing journal → PutNone journal → Well (l ∷ ls) s shown (play_deed access l.number shown s (Sets path index bytes) (play_lines access ls)) journal
     set-well journal are ready c f =
         let law = L.set by ids s path index bytes start journal ready.later are ready.spelled ready.opened c in
         let p = set_program s path index bytes in
         let told = Leads-both (λ answer h. SetTells by.number s path index bytes start answer h × IfOk answer (λ t. IsSpelled t × IsOpened t h × IsLater ids t.ids)) (λ answer h. PutNone h × MayEnd p answer) by p journal law.3
         (Leads-both (λ answer h. PutNone h) (λ answer h. MayEnd p answer) by p journal (puts-none by start p journal law.1 f) (may-end by p journal)) in
-        called-well by ids head Tried start (l ∷ ls) s shown p (λ answer. after_line l.number shown (silent answer) (play_lines head ls)) SetAnswers journal (none-careful by ids Tried p journal law.0) law.2 told set-answered (λ h n. starved l ls s shown h n)
+        called-well by ids access Tried start (l ∷ ls) s shown p (λ answer. after_line l.number shown (silent answer) (play_lines access ls)) SetAnswers journal (none-careful by ids Tried p journal law.0) law.2 told set-answered (λ h n. starved l ls s shown h n)
 
   -- ---- a line that reads a chunk
   module _ (l : Line) (ls : List Line) (s : SessionState) (shown : List Shown) (path index : List ℕ) (show : Value → Shown) (reads : deed l.number l.call s ≡ Reads path index show) (go : AllGoWell ls)
@@ -187,26 +197,26 @@ module _ (L : Laws) (by : Caller) (ids : AnyIds) (head : Head) (from : SessionSt
     abbrev GetAnswers : Result Value Refusal → List Event → Type 0
     GetAnswers answer h = (GetTells by.number s path index start answer h × IsOpened s h) × (PutNone h × MayEnd (get_program s path index) answer)
 
-    get-answered : (answer : Result Value Refusal) (h : List Event) → GetAnswers answer h → Well (l ∷ ls) s shown (after_line l.number shown (shown_by s show answer) (play_lines head ls)) h
+    get-answered : (answer : Result Value Refusal) (h : List Event) → GetAnswers answer h → Well (l ∷ ls) s shown (after_line l.number shown (shown_by s show answer) (play_lines access ls)) h
     get-answered (Ok value) h q =
         let did = subst (λ (d : Deed). DidPlay by.number d s start (show value ∷ []) s h) (sym reads) (refl, value, refl, q.0.0.0) in
         went-well l ls s shown (show value ∷ []) s h did (go h q.0.0.1 q.1.0 s (shown ++ show value ∷ []) (record { opened = q.0.1; spelled = spelled; later = later }) (λ u reaches. own u (value, q.1.1, reaches)))
     get-answered (Err why) h q = refused l ls s shown why h (subst (λ (d : Deed). Refuses by.number d s start why h) (sym reads) q.0.0)
 
-    get-well : (journal : List Event) → IsOpened s journal → Nothing journal → PutNone journal → Well (l ∷ ls) s shown (play_deed head l.number shown s (Reads path index show) (play_lines head ls)) journal
+    get-well : (journal : List Event) → IsOpened s journal → Nothing journal → PutNone journal → Well (l ∷ ls) s shown (play_deed access l.number shown s (Reads path index show) (play_lines access ls)) journal
     get-well journal opened c f =
         let law = L.get by ids s path index start journal spelled opened c in
         let p = get_program s path index in
         let told = Leads-both (λ answer h. GetTells by.number s path index start answer h × IsOpened s h) (λ answer h. PutNone h × MayEnd p answer) by p journal law.3
         (Leads-both (λ answer h. PutNone h) (λ answer h. MayEnd p answer) by p journal (puts-none by start p journal law.1 f) (may-end by p journal)) in
-        called-well by ids head Tried start (l ∷ ls) s shown p (λ answer. after_line l.number shown (shown_by s show answer) (play_lines head ls)) GetAnswers journal (none-careful by ids Tried p journal law.0) law.2 told get-answered (λ h n. starved l ls s shown h n)
+        called-well by ids access Tried start (l ∷ ls) s shown p (λ answer. after_line l.number shown (shown_by s show answer) (play_lines access ls)) GetAnswers journal (none-careful by ids Tried p journal law.0) law.2 told get-answered (λ h n. starved l ls s shown h n)
 
   -- ---- a line that commits
   commit-well : (l : Line) (ls : List Line) (s : SessionState) (shown : List Shown) (message : List ℕ) → deed l.number l.call s ≡ Commits message → (journal : List Event) → IsUtf8 message → IsReady ids s journal → Nothing journal → PutNone journal → from s
-      → Well (l ∷ ls) s shown (commit_play (tries_of head) (policy_of head) l.number shown message s) journal
+      → Well (l ∷ ls) s shown (commit_play (tries_of access) (policy_of access) l.number shown message s) journal
   unfolding WasCarried
   commit-well l ls s shown message commits journal utf8 ready c f is_from =
-      tries-well L by ids head from start l ls s shown message commits utf8 is_from (tries_of head) 0 (zero-add (tries_of head)) s journal
+      tries-well L by ids access from start l ls s shown message commits utf8 is_from (tries_of access) 0 (zero-add (tries_of access)) s journal
       (record { few = omega arith; carried = refl; alike = none-alike by.number s start journal f; ready = ready; nothing = c })
 
   -- ---- any line
@@ -216,7 +226,7 @@ module _ (L : Laws) (by : Caller) (ids : AnyIds) (head : Head) (from : SessionSt
   leads-to l ls s d e own t reaches = own t (subst (λ (x : Deed). ReachesBy x s t (λ mid. Reaches ls mid t)) (sym e) reaches)
 
   deed-well : (l : Line) (ls : List Line) (s : SessionState) (shown : List Shown) (journal : List Event) → IsWellCall l.call → IsReady ids s journal → Nothing journal → PutNone journal → ((t : SessionState) → ReachesBy (deed l.number l.call s) s t (λ mid. Reaches ls mid t) → from t) → AllGoWell ls
-      → (d : Deed) → deed l.number l.call s ≡ d → Well (l ∷ ls) s shown (play_deed head l.number shown s d (play_lines head ls)) journal
+      → (d : Deed) → deed l.number l.call s ≡ d → Well (l ∷ ls) s shown (play_deed access l.number shown s d (play_lines access ls)) journal
   deed-well l ls s shown journal well ready c f own go (Goes (Err why)) e = refused l ls s shown why journal (subst (λ (d : Deed). Refuses by.number d s start why journal) (sym e) (refl, c))
   deed-well l ls s shown journal well ready c f own go (Goes (Ok went)) e =
       went-well l ls s shown went.0 went.1 journal (subst (λ (d : Deed). DidPlay by.number d s start went.0 went.1 journal) (sym e) refl)
@@ -227,34 +237,34 @@ module _ (L : Laws) (by : Caller) (ids : AnyIds) (head : Head) (from : SessionSt
 
   lines-well : (ls : List Line) → All IsWellLine ls → AllGoWell ls
   unfolding PlayKeeps PlayLeads play_lines Reaches
-  lines-well [] well journal c f s shown ready own = ends-well by ids head Tried start [] s shown Done journal (refl, c)
+  lines-well [] well journal c f s shown ready own = ends-well by ids access Tried start [] s shown Done journal (refl, c)
   lines-well (l ∷ ls) well journal c f s shown ready own =
       let played = deed-well l ls s shown journal (All-head IsWellLine l ls well).call ready c f own (lines-well ls (All-tail IsWellLine l ls well)) (deed l.number l.call s) refl in
       let off = starved l ls s shown journal c in
       ((played.0, off.0), (played.1, off.1))
 
--- ---- the task
-asked-ids : (h : Head) (ids : AnyIds) → (asked_by h ids).ids ≡ ids
-asked-ids (head.Write branch tries policy) ids = refl
-asked-ids (head.Read branch) ids = refl
+-- ---- a task that opens a session
+asked-ids : (a : Access) (ids : AnyIds) → (asked_by a ids).ids ≡ ids
+asked-ids (access.Write branch tries policy) ids = refl
+asked-ids (access.Read at) ids = refl
 
-module _ (L : Laws) (by : Caller) (ids : AnyIds) (task : Task) (start : List Event) where
+module _ (L : Laws) (by : Caller) (ids : AnyIds) (access : Access) (task : Task) (start : List Event) (head_is : task.head ≡ Session access) where
   abbrev Mine : Sessions
   Mine = IsOfTask ids task by.number start
 
   abbrev Outcomes : Outcome → List Event → Type 0
-  Outcomes = TellsOutcome ids task by.number start
+  Outcomes = TellsBy (Session access) ids task by.number start
 
   abbrev TaskGoesWell : Play Outcome → List Event → Type 0
   TaskGoesWell p journal = PlayKeeps (Minds ids Mine start) by p journal × PlayLeads Outcomes by p journal
 
   -- the session was begun before the client put a snapshot
   record Begun (s : SessionState) (h : List Event) : Type 0 where
-    pub begun : WasBegun by.number (asked_by task.head ids) s start h
+    pub begun : WasBegun by.number (asked_by access ids) s start h
     pub early : HasPutNone by.number start begun.got.own.before
     pub opened : IsOpened s h
 
-  played : (s : SessionState) (outcome : Outcome) (journal : List Event) → Begun s journal → Ending by.number task.head start task.body s [] outcome journal → Outcomes outcome journal
+  played : (s : SessionState) (outcome : Outcome) (journal : List Event) → Begun s journal → Ending by.number access start task.body s [] outcome journal → Outcomes outcome journal
   played s outcome journal b e = inr (record {
     opened = s;
     begun = b.begun;
@@ -269,48 +279,77 @@ module _ (L : Laws) (by : Caller) (ids : AnyIds) (task : Task) (start : List Eve
   })
 
   abbrev Answers : Result SessionState Refusal → List Event → Type 0
-  Answers r h = (OpeningTells by.number (asked_by task.head ids) start r h × IfOk r IsSpelled) × HasPutNone by.number start h
+  Answers r h = (OpeningTells by.number (asked_by access ids) start r h × IfOk r IsSpelled) × HasPutNone by.number start h
 
-  refused-task : (why : Refusal) (journal : List Event) → OpeningTells by.number (asked_by task.head ids) start (Err why) journal → TaskGoesWell (after_open task (Err why)) journal
+  refused-task : (why : Refusal) (journal : List Event) → OpeningTells by.number (asked_by access ids) start (Err why) journal → TaskGoesWell (after_open access task.line task.body (Err why)) journal
   unfolding PlayKeeps PlayLeads
   refused-task why journal q = (tt, inl (record { why = why; shown_is = refl; end_is = refl; tells = q }))
 
   -- the session was begun so, whatever comes
   abbrev Starts : SessionState → List Event → Type 0
-  Starts s h = (begun : WasBegun by.number (asked_by task.head ids) s start h) × HasPutNone by.number start begun.got.own.before
+  Starts s h = (begun : WasBegun by.number (asked_by access ids) s start h) × HasPutNone by.number start begun.got.own.before
 
-  opened-task : IsWellTask task → (r : Result SessionState Refusal) (journal : List Event) → Answers r journal → TaskGoesWell (after_open task r) journal
+  opened-task : IsWellTask task → (r : Result SessionState Refusal) (journal : List Event) → Answers r journal → TaskGoesWell (after_open access task.line task.body r) journal
   opened-task well (Err why) journal q = refused-task why journal q.0.0
   opened-task well (Ok s) journal q =
       let begun = q.0.0.0 in
-      let drawing : s.ids ≡ ids = ap (λ (x : SessionState). x.ids) begun.begins ∙ asked-ids task.head ids in
+      let drawing : s.ids ≡ ids = ap (λ (x : SessionState). x.ids) begun.begins ∙ asked-ids access ids in
       let ready : IsReady ids s journal = record { opened = q.0.0.1; spelled = q.0.1; later = subst (IsLater ids) (sym drawing) (later-same ids) } in
       let from : SessionState → Type 0 = λ t. Reaches task.body s t in
-      let tried : Sessions = IsTried from by.number task.head start in
-      let lines = lines-well L by ids task.head from start task.body well.body journal q.0.0.2 q.1 s [] ready (λ t reaches. reaches) in
-      let p = play_lines task.head task.body s [] in
+      let tried : Sessions = IsTried from by.number access start in
+      let lines = lines-well L by ids access from start task.body well.body journal q.0.0.2 q.1 s [] ready (λ t reaches. reaches) in
+      let p = play_lines access task.body s [] in
       let own = begun.got.own in
       let early : HasPutNone by.number start own.before = put-none-before by.number start journal own.before own.since own.after own.event own.before_is own.is q.1 in
       let keeps = PlayKeeps-weaker (λ h client op. Starts s h × Minds ids tried start h client op) (Minds ids Mine start)
       (λ h client op k. (careful-more ids tried Mine h (λ t id x. of-task s h t id k.0 x) client op k.1.0, k.1.1)) by p journal
-      (PlayKeeps-with (Starts s) (λ h more b. (WasBegun-more by.number (asked_by task.head ids) s start h more b.0, b.1)) by (Minds ids tried start) p journal (begun, early) lines.0) in
+      (PlayKeeps-with (Starts s) (λ h more b. (WasBegun-more by.number (asked_by access ids) s start h more b.0, b.1)) by (Minds ids tried start) p journal (begun, early) lines.0) in
       let first : Begun s journal = record { begun = begun; early = early; opened = q.0.0.1 } in
-      let carried = PlayLeads-carry (Begun s) (λ h more g b. record { begun = WasBegun-more by.number (asked_by task.head ids) s start h more b.begun; early = b.early; opened = L.session.kept s h more g b.opened }) ids tried start by p journal (Ending by.number task.head start task.body s []) lines.0 first lines.1 in
-      (keeps, PlayLeads-weaker (λ outcome h. Begun s h × Ending by.number task.head start task.body s [] outcome h) Outcomes (λ outcome h x. played s outcome h x.0 x.1) by p journal carried)
+      let carried = PlayLeads-carry (Begun s) (λ h more g b. record { begun = WasBegun-more by.number (asked_by access ids) s start h more b.begun; early = b.early; opened = L.session.kept s h more g b.opened }) ids tried start by p journal (Ending by.number access start task.body s []) lines.0 first lines.1 in
+      (keeps, PlayLeads-weaker (λ outcome h. Begun s h × Ending by.number access start task.body s [] outcome h) Outcomes (λ outcome h x. played s outcome h x.0 x.1) by p journal carried)
     where
-      of-task : (s : SessionState) (h : List Event) (t : SessionState) (id : Id12) → Starts s h → IsTried (λ u. Reaches task.body s u) by.number task.head start h t id → Mine h t id
-      of-task s h t id b x = record { opened = s; begun = b.0; early = b.1; session = x.session; reaches = x.is_from; count = x.count; few = x.few; carried = x.carried; alike = x.alike; drawn = x.drawn }
+      of-task : (s : SessionState) (h : List Event) (t : SessionState) (id : Id12) → Starts s h → IsTried (λ u. Reaches task.body s u) by.number access start h t id → Mine h t id
+      of-task s h t id b x = record { access = access; head_is = head_is; opened = s; begun = b.0; early = b.1; session = x.session; reaches = x.is_from; count = x.count; few = x.few; carried = x.carried; alike = x.alike; drawn = x.drawn }
 
-  pub task-well : IsWellTask task → PlayKeeps (IsCareful ids Mine) by (task_play ids task) start × PlayKeeps (λ journal client op. ChangedNothing client start journal) by (task_play ids task) start × PlayLeads Outcomes by (task_play ids task) start
-  task-well well =
-      let a = asked_by task.head ids in
+  session-well : IsWellTask task → PlayKeeps (IsCareful ids Mine) by (session_play ids access task.line task.body) start × PlayKeeps (λ journal client op. ChangedNothing client start journal) by (session_play ids access task.line task.body) start × PlayLeads Outcomes by (session_play ids access task.line task.body) start
+  session-well well =
+      let a = asked_by access ids in
       let p = open_program a in
       let law = L.opening by ids a start start (ChangedNothing-none by.number start) in
       let single = L.single.opening by a start start (HasPutNone-none by.number start) in
       let told = Leads-both (λ r h. OpeningTells by.number a start r h × IfOk r IsSpelled) (λ r h. HasPutNone by.number start h) by p start law.2 single.1 in
-      let keeps = PlayKeeps-call (Minds ids Mine start) Answers (ChangedNothing by.number start) by p (after_open task) start
+      let keeps = PlayKeeps-call (Minds ids Mine start) Answers (ChangedNothing by.number start) by p (after_open access task.line task.body) start
       (Keeps-minds ids Mine start by p start (none-careful by ids Mine p start law.0) law.1) told law.1 (λ r h q. (opened-task well r h q).0) (λ h q. (refused-task NoMemory h q).0) in (
-        PlayKeeps-weaker (Minds ids Mine start) (IsCareful ids Mine) (λ h client op x. x.0) by (task_play ids task) start keeps,
-        PlayKeeps-weaker (Minds ids Mine start) (λ h client op. ChangedNothing client start h) (λ h client op x. x.1) by (task_play ids task) start keeps,
-        PlayLeads-call Outcomes Answers (ChangedNothing by.number start) by p (after_open task) start told law.1 (λ r h q. (opened-task well r h q).1) (λ h q. (refused-task NoMemory h q).1),
+        PlayKeeps-weaker (Minds ids Mine start) (IsCareful ids Mine) (λ h client op x. x.0) by (session_play ids access task.line task.body) start keeps,
+        PlayKeeps-weaker (Minds ids Mine start) (λ h client op. ChangedNothing client start h) (λ h client op x. x.1) by (session_play ids access task.line task.body) start keeps,
+        PlayLeads-call Outcomes Answers (ChangedNothing by.number start) by p (after_open access task.line task.body) start told law.1 (λ r h q. (opened-task well r h q).1) (λ h q. (refused-task NoMemory h q).1),
       )
+
+-- ---- any task
+-- what holds of each operation of a play that is owed so, whatever it is
+all-before : (P : List Event → ℕ → Op → Type 0) (by : Caller) (p : Play Outcome) (journal : List Event) → PlayKeeps P by p journal → PlayKeeps (λ h client op. Unit {0}) by p journal
+all-before P by p journal k = PlayKeeps-weaker P (λ h client op. Unit {0}) (λ h client op x. tt) by p journal k
+
+module _ (L : Laws) (by : Caller) (ids : AnyIds) (task : Task) (start : List Event) (well : IsWellTask task) where
+  -- the operation is polite, and what a task owes that begins so
+  abbrev Pays : Head → List Event → ℕ → Op → Type 0
+  Pays head h client op = IsPolite h op × OwesBy head ids task by.number start h op
+
+  abbrev GoesBy : Head → Type 0
+  GoesBy head =
+      let p = headed_play head ids task in
+      PlayKeeps (Pays head) by p start × PlayKeeps (λ h client op. ComesBefore head client start h) by p start × PlayLeads (TellsBy head ids task by.number start) by p start
+
+  by_head : (head : Head) → task.head ≡ head → GoesBy head
+  by_head (Session access) is =
+      let told = session-well L by ids access task start is well in
+      (PlayKeeps-weaker (IsCareful ids (IsOfTask ids task by.number start)) (Pays (Session access)) (λ h client op c. (c.polite, c.owes)) by (headed_play (Session access) ids task) start told.0, told.1, told.2)
+  by_head Refs is =
+      let told = L.refs by task.body start in
+      (told.0, all-before (Pays Refs) by (refs_play task.body []) start told.0, told.1)
+
+  pub task-well : PlayKeeps (IsDue ids task by.number start) by (task_play ids task) start × PlayKeeps (λ journal client op. BeforeChange task client start journal) by (task_play ids task) start
+      × PlayLeads (TellsOutcome ids task by.number start) by (task_play ids task) start
+  task-well =
+      let told = by_head task.head refl in
+      (PlayKeeps-weaker (Pays task.head) (IsDue ids task by.number start) (λ h client op x. record { polite = x.0; owes = x.1 }) by (task_play ids task) start told.0, told.1, told.2)

@@ -19,7 +19,7 @@ use Rattle.zarr_tree.specs.Nodes.{Node}
 use Rattle.zarr_changes.specs.Sets.{add_refusal, text_refusal, drop_refusal, unset_refusal}
 use Rattle.store_api.specs.declared.events.Event.{Event}
 use Rattle.store_api.specs.declared.machines.Refusal.{Refusal}
-use Rattle.session.specs.Sessions.{SessionState, nodes_seen}
+use Rattle.session.specs.Sessions.{SessionState, writes, nodes_seen}
 use Rattle.session.specs.Sources.{IsLater}
 use Rattle.session.specs.Chunks.{chunk_unset}
 use Rattle.session.specs.Editing.{group_fault, array_fault, node_fault, added, group_added, array_added, node_added, meta_set, node_dropped, if_writes, unless_bad, unless_refused, drawn_node}
@@ -66,19 +66,19 @@ by_id s path text (Some id) = later-drawn8 s.ids
 
 added-later : (fault : Result View MetaFault → Option MetaFault) (s : SessionState) (path text : List ℕ) → IfOk (added fault s path text) (λ a. IsLater s.ids a.1.ids)
 unfolding added
-added-later fault s path text = by_writes _ s.writes _ (by_text _ (fault (meta_of text)) _ (by_edit _ (add_refusal (nodes_seen s) path) _ (by_id s path text (drawn8 s.ids))))
+added-later fault s path text = by_writes _ (writes s) _ (by_text _ (fault (meta_of text)) _ (by_edit _ (add_refusal (nodes_seen s) path) _ (by_id s path text (drawn8 s.ids))))
 
 text-later : (s : SessionState) (path text : List ℕ) → DrawsOn s.ids (meta_set s path text)
 unfolding meta_set
-text-later s path text = by_writes _ s.writes _ (by_text _ (node_fault (meta_of text)) _ (by_edit _ (text_refusal (nodes_seen s) path text) _ (later-same s.ids)))
+text-later s path text = by_writes _ (writes s) _ (by_text _ (node_fault (meta_of text)) _ (by_edit _ (text_refusal (nodes_seen s) path text) _ (later-same s.ids)))
 
 drop-later : (s : SessionState) (path : List ℕ) → DrawsOn s.ids (node_dropped s path)
 unfolding node_dropped
-drop-later s path = by_writes _ s.writes _ (by_edit _ (drop_refusal (nodes_seen s) path) _ (later-same s.ids))
+drop-later s path = by_writes _ (writes s) _ (by_edit _ (drop_refusal (nodes_seen s) path) _ (later-same s.ids))
 
 unset-later : (s : SessionState) (path index : List ℕ) → DrawsOn s.ids (chunk_unset s path index)
 unfolding chunk_unset
-unset-later s path index = by_writes _ s.writes _ (by_edit _ (unset_refusal (nodes_seen s) path index) _ (later-same s.ids))
+unset-later s path index = by_writes _ (writes s) _ (by_edit _ (unset_refusal (nodes_seen s) path index) _ (later-same s.ids))
 
 put-later : (o : Option Node) (s : SessionState) (path text : List ℕ) → DrawsOn s.ids (put_over o s path text)
 put-later (Some node) s path text = text-later s path text
@@ -169,3 +169,4 @@ module _ (L : SessionLaw) (ids : AnyIds) where
   deed-ready line (call.Edit change) s went journal well ready d = edits-ready change s went journal well ready d
   deed-ready line (call.Read look) s went journal well ready d = reads-ready line look s went journal ready d
   deed-ready line (call.Commit message) s went journal well ready d = absurd cc
+  deed-ready line (call.Ref own) s went journal well ready d = let is : ([], s) ≡ went = cc in subst (λ (x : List Shown × SessionState). IsReady ids x.1 journal) is ready

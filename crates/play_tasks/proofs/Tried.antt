@@ -5,25 +5,25 @@ use Rattle.ice_ids.specs.declared.drawing.AnyIds.{AnyIds}
 use Rattle.conflicts.specs.declared.solving.Policy.{Policy}
 use Rattle.store_api.specs.declared.keys.Key.TheVariants.{Branch}
 use Rattle.store_api.specs.declared.events.Event.{Event}
-use Rattle.session.specs.Sessions.{SessionState}
+use Rattle.session.specs.Sessions.{SessionState, branch_of}
 use Rattle.session.specs.Sources.{MayDrawObject}
 use Rattle.commit_path.specs.Opened.{IsOpened}
 use Rattle.commit_path.specs.Single.{HasPutAlike}
 use Rattle.commit_path.specs.Spelled.{IsSpelled}
 use Rattle.rebase.specs.Telling.{HasMoved, WasUpToDate}
 use Rattle.rebase.proofs.Kept.{ref-append, met-append}
-use Rattle.play_script.specs.declared.scripts.Head.{Head}
+use Rattle.play_script.specs.declared.scripts.Access.{Access}
 use Rattle.play_tasks.specs.Playing.{tries_of, policy_of}
 use Rattle.play_tasks.specs.Solving.{WasRebased, WasCarried}
 
 -- A session at its commit, with an object id that it draws: it was carried over the commits of others from one of these, no more often than the
 -- task may try; and the client put snapshots of sessions alone that added and dropped the same nodes.
-pub record IsTried (from : SessionState → Type 0) (client : ℕ) (head : Head) (start journal : List Event) (t : SessionState) (id : Id12) : Type 0 where
+pub record IsTried (from : SessionState → Type 0) (client : ℕ) (access : Access) (start journal : List Event) (t : SessionState) (id : Id12) : Type 0 where
   pub session : SessionState
   pub is_from : from session
   pub count : ℕ
-  pub few : count ≤ tries_of head
-  pub carried : WasCarried client (policy_of head) count session t start journal
+  pub few : count ≤ tries_of access
+  pub carried : WasCarried client (policy_of access) count session t start journal
   pub alike : HasPutAlike client t start journal
   pub drawn : MayDrawObject t.ids id
 
@@ -49,7 +49,7 @@ module _ (client : ℕ) (policy : Policy) (s t : SessionState) (start journal mo
   }
 
   same-append : WasUpToDate client s t start journal → WasUpToDate client s t start (journal ++ more)
-  same-append w = record { version = w.version; ref = ref-append client start journal more (Branch s.branch) w.version s.base w.ref; becomes = w.becomes }
+  same-append w = record { version = w.version; ref = ref-append client start journal more (Branch (branch_of s)) w.version s.base w.ref; becomes = w.becomes }
 
   rebased-append : WasRebased client policy s t start journal → WasRebased client policy s t start (journal ++ more)
   rebased-append (inl w) = inl (w.0, moved-append w.0 w.1)
@@ -75,4 +75,4 @@ other-spelled s ids w = record {
 }
 
 pub other-opened : (s : SessionState) (ids : AnyIds) (journal : List Event) → IsOpened s journal → IsOpened (record s { ids = ids }) journal
-other-opened s ids journal o = record { named_by = o.named_by; named = o.named; names = o.names; put = o.put; had = o.had; rows = o.rows; objects = o.objects; chunks = o.chunks }
+other-opened s ids journal o = record { named = o.named; put = o.put; had = o.had; rows = o.rows; objects = o.objects; chunks = o.chunks }

@@ -30,17 +30,19 @@ use Rattle.rebase.specs.declared.machine.Rebased.TheVariants.{Moved, UpToDate}
 use Rattle.rebase.specs.Laws.{RebaseLaw, GoesOn}
 use Rattle.rebase.specs.Rebasing.{rebase_program}
 use Rattle.rebase.specs.Telling.{HasMoved, WasUpToDate, RebaseTells}
-use Rattle.play_script.specs.declared.scripts.Head.{Head}
+use Rattle.play_script.specs.declared.scripts.Access.{Access}
 use Rattle.play_script.specs.declared.scripts.Line.{Line}
 use Rattle.play_outcome.specs.declared.outcome.Shown.{Shown}
 use Rattle.play_outcome.specs.declared.outcome.End.{End}
 use Rattle.play_outcome.specs.declared.outcome.End.TheVariants.{Committed, Refused}
 use Rattle.play_outcome.specs.declared.outcome.Outcome.{Outcome}
 use Rattle.play_tasks.specs.Lines.{Commits, deed}
-use Rattle.play_tasks.specs.Playing.{tries_of, policy_of, ended, refused, after_commit, after_rebase, commit_play}
+use Rattle.play_outcome.specs.Playing.{ended, refused}
+use Rattle.play_tasks.specs.Playing.{tries_of, policy_of, after_commit, after_rebase, commit_play}
 use Rattle.play_tasks.specs.Solving.{WasLost, WasCarried}
 use Rattle.play_tasks.specs.Telling.{HasCommitted, WasCommitRefused, WasLostAtLast, WasNotRebased}
-use Rattle.play_tasks.proofs.Carrying.{Keeps-own, Keeps-both, Keeps-with, Leads-with, Leads-good, Leads-both, careful-more}
+use Rattle.play_outcome.proofs.Plays.{Keeps-both}
+use Rattle.play_tasks.proofs.Carrying.{Keeps-own, Keeps-with, Leads-with, Leads-good, Leads-both, careful-more}
 use Rattle.play_tasks.proofs.Going.{Laws, GoesWell, ends-well, starved-well, called-well}
 use Rattle.play_tasks.proofs.Ready.{IsReady}
 use Rattle.play_tasks.proofs.Tried.{IsTried, WasCarried-append, other-spelled, other-opened}
@@ -50,23 +52,23 @@ get-owes : (ids : AnyIds) (mine : Sessions) (journal : List Event) (op : Op) →
 get-owes ids mine journal (Get key) g = tt
 get-owes ids mine journal _ g = absurd g
 
-module _ (L : Laws) (by : Caller) (ids : AnyIds) (head : Head) (from : SessionState → Type 0) (start : List Event) where
+module _ (L : Laws) (by : Caller) (ids : AnyIds) (access : Access) (from : SessionState → Type 0) (start : List Event) where
   abbrev Mine : Sessions
-  Mine = IsTried from by.number head start
+  Mine = IsTried from by.number access start
 
   abbrev Nothing : List Event → Type 0
   Nothing = ChangedNothing by.number start
 
   abbrev policy : Policy
-  policy = policy_of head
+  policy = policy_of access
 
   module _ (l : Line) (ls : List Line) (s : SessionState) (shown : List Shown) (message : List ℕ) (commits : deed l.number l.call s ≡ Commits message) (utf8 : IsUtf8 message) (is_from : from s) where
     abbrev Well : Play Outcome → List Event → Type 0
-    Well p journal = GoesWell by ids head Mine start (l ∷ ls) s shown p journal
+    Well p journal = GoesWell by ids access Mine start (l ∷ ls) s shown p journal
 
     -- how often the session was carried until here, and that it may commit
     pub record Stands (count : ℕ) (t : SessionState) (journal : List Event) : Type 0 where
-      pub few : count ≤ tries_of head
+      pub few : count ≤ tries_of access
       pub carried : WasCarried by.number policy count s t start journal
       pub alike : HasPutAlike by.number t start journal
       pub ready : IsReady ids t journal
@@ -76,15 +78,15 @@ module _ (L : Laws) (by : Caller) (ids : AnyIds) (head : Head) (from : SessionSt
     abbrev Ends : ℕ → SessionState → End → List Event → Type 0
     Ends count t end journal =
         HasCommitted by.number t message start end journal
-        ⊎ (WasCommitRefused by.number l.number t message start end journal ⊎ (WasLostAtLast by.number head l.number count t start end journal ⊎ WasNotRebased by.number head l.number count t start end journal))
+        ⊎ (WasCommitRefused by.number l.number t message start end journal ⊎ (WasLostAtLast by.number access l.number count t start end journal ⊎ WasNotRebased by.number access l.number count t start end journal))
 
-    tried : (count : ℕ) (t : SessionState) (end : End) (journal : List Event) → count ≤ tries_of head → WasCarried by.number policy count s t start journal → Ends count t end journal → Well (ended shown end) journal
+    tried : (count : ℕ) (t : SessionState) (end : End) (journal : List Event) → count ≤ tries_of access → WasCarried by.number policy count s t start journal → Ends count t end journal → Well (ended shown end) journal
     tried count t end journal few c e =
-        ends-well by ids head Mine start (l ∷ ls) s shown end journal
+        ends-well by ids access Mine start (l ∷ ls) s shown end journal
         (inr (inr (record { message = message; commits = commits; count = count; few = few; at_last = t; carried = c; ends = e })))
 
     starved : (journal : List Event) → Nothing journal → Well (refused l.number shown NoMemory) journal
-    starved journal c = starved-well by ids head Mine start l ls s shown journal c
+    starved journal c = starved-well by ids access Mine start l ls s shown journal c
 
     -- ---- one commit
     module _ (count : ℕ) (t : SessionState) where
@@ -98,14 +100,14 @@ module _ (L : Laws) (by : Caller) (ids : AnyIds) (head : Head) (from : SessionSt
       carried-append journal more c = WasCarried-append by.number policy count s t start journal more c
 
       -- what is owed for this session is owed for one of the task
-      owed : count ≤ tries_of head → (journal : List Event) (op : Op)
+      owed : count ≤ tries_of access → (journal : List Event) (op : Op)
           → Carried journal × (HasPutAlike by.number t start journal × IsCareful ids (λ h u id. (u ≡ t) × MayDrawObject t.ids id) journal by.number op) → IsCareful ids Mine journal by.number op
       owed few journal op k =
           careful-more ids (λ h u id. (u ≡ t) × MayDrawObject t.ids id) Mine journal
           (λ u id is. subst (λ (x : SessionState). Mine journal x id) (sym is.0) (record { session = s; is_from = is_from; count = count; few = few; carried = k.0; alike = k.1.0; drawn = is.1 }))
           by.number op k.1.1
 
-      answered : count ≤ tries_of head → (lost : Version → Option Version → AnyIds → Play Outcome)
+      answered : count ≤ tries_of access → (lost : Version → Option Version → AnyIds → Play Outcome)
           → ((old : Version) (found : Option Version) (next : AnyIds) (h : List Event) → WasMoved by.number t old found next start h → Carried h → IsOpened t h → HasPutAlike by.number t start h → Well (lost old found next) h)
           → (answer : Result Tried Refusal) (h : List Event) → Answers answer h → Well (after_commit l.number shown lost answer) h
       answered few lost go (Ok (Was_done made)) h q = tried count t (Committed made.id) h few q.0 (inl (record { made = made; took = q.1.0.1; end_is = refl }))
@@ -124,7 +126,7 @@ module _ (L : Laws) (by : Caller) (ids : AnyIds) (head : Head) (from : SessionSt
           let keeps = Keeps-with Carried carried-append by (λ h client op. put h client op × IsCareful ids own h client op) p journal x.carried (Keeps-both put (IsCareful ids own) by p journal single.0 law.0) in
           let knows = Leads-good (IsOpened t) (λ h more g o. L.session.kept t h more g o) ids own by (CommitTells by.number t message start) p journal law.0 x.ready.opened law.2 in
           let tells = Leads-both (λ answer h. IsOpened t h × CommitTells by.number t message start answer h) (λ answer h. HasPutAlike by.number t start h) by p journal knows single.1 in
-          called-well by ids head Mine start (l ∷ ls) s shown p (after_commit l.number shown lost) Answers journal
+          called-well by ids access Mine start (l ∷ ls) s shown p (after_commit l.number shown lost) Answers journal
           (Keeps-own (λ h client op. Carried h × (put h client op × IsCareful ids own h client op)) (IsCareful ids Mine) by (owed x.few) p journal keeps)
           law.1
           (Leads-with Carried carried-append by (λ answer h. (IsOpened t h × CommitTells by.number t message start answer h) × HasPutAlike by.number t start h) p journal x.carried tells)
@@ -132,14 +134,14 @@ module _ (L : Laws) (by : Caller) (ids : AnyIds) (head : Head) (from : SessionSt
           starved
 
     -- ---- it was lost, and isn't tried again
-    spent-well : (count : ℕ) (t : SessionState) → count ≡ tries_of head → (old : Version) (found : Option Version) (next : AnyIds) (h : List Event) → WasMoved by.number t old found next start h → WasCarried by.number policy count s t start h
+    spent-well : (count : ℕ) (t : SessionState) → count ≡ tries_of access → (old : Version) (found : Option Version) (next : AnyIds) (h : List Event) → WasMoved by.number t old found next start h → WasCarried by.number policy count s t start h
         → Well (refused l.number shown (Conflict old found)) h
     spent-well count t spent old found next h moved c =
-        let few : count ≤ tries_of head = omega (arith, spent) in
+        let few : count ≤ tries_of access = omega (arith, spent) in
         tried count t (Refused l.number (Conflict old found)) h few c (inr (inr (inl (record { spent = spent; old = old; found = found; next = next; moved = moved; end_is = refl }))))
 
     -- ---- it was lost, and is tried again
-    module _ (count : ℕ) (t : SessionState) (less : count < tries_of head) (old : Version) (found : Option Version) (next : AnyIds) (h : List Event) (moved : WasMoved by.number t old found next start h) (c : WasCarried by.number policy count s t start h)
+    module _ (count : ℕ) (t : SessionState) (less : count < tries_of access) (old : Version) (found : Option Version) (next : AnyIds) (h : List Event) (moved : WasMoved by.number t old found next start h) (c : WasCarried by.number policy count s t start h)
         (ready : IsReady ids t h) (alike : HasPutAlike by.number t start h) where
       abbrev lost : SessionState
       lost = record t { ids = next }
@@ -200,7 +202,7 @@ module _ (L : Laws) (by : Caller) (ids : AnyIds) (head : Head) (from : SessionSt
           let off = starved journal (nothing journal q.0.1) in
           ((on.0, off.0), (on.1, off.1))
       rebased again go (Err why) journal q =
-          let few : count ≤ tries_of head = omega (arith, less) in
+          let few : count ≤ tries_of access = omega (arith, less) in
           let c' = subst (λ (x : List Event). WasCarried by.number policy count s t start x) (sym q.0.1.is) (WasCarried-append by.number policy count s t start h q.0.1.more c) in
           tried count t (Refused l.number why) journal few c'
           (inr (inr (inr (record { left = less; lost = lost; since = since; was_lost = was_lost; alike = puts journal q.0.1; why = why; tells = tells (Err why) journal q.0; nothing = nothing journal q.0.1; end_is = refl }))))
@@ -209,7 +211,7 @@ module _ (L : Laws) (by : Caller) (ids : AnyIds) (head : Head) (from : SessionSt
       rebase-called again go =
           let p = rebase_program policy lost in
           let both = Keeps-both (λ j client op. IsPolite j op) (λ j client op. IsGet op) by p h (law.told.polite h) (law.gets h) in
-          called-well by ids head Mine start (l ∷ ls) s shown p (after_rebase l.number shown again) Rebases h
+          called-well by ids access Mine start (l ∷ ls) s shown p (after_rebase l.number shown again) Rebases h
           (Keeps-own (λ j client op. IsPolite j op × IsGet op) (IsCareful ids Mine) by (λ j op k. record { polite = k.0; owes = get-owes ids Mine j op k.1 }) p h both)
           (law.stays start h moved.nothing)
           (Leads-both (RebaseTells by.number policy lost h) GoesOn by p h (law.told.leads h) (law.goes_on h (other-spelled t next ready.spelled) (other-opened t next h ready.opened)))
@@ -217,14 +219,14 @@ module _ (L : Laws) (by : Caller) (ids : AnyIds) (head : Head) (from : SessionSt
           starved
 
     -- ---- as often as it may
-    pub tries-well : (left count : ℕ) → count + left ≡ tries_of head → (t : SessionState) (journal : List Event) → Stands count t journal → Well (commit_play left policy l.number shown message t) journal
+    pub tries-well : (left count : ℕ) → count + left ≡ tries_of access → (t : SessionState) (journal : List Event) → Stands count t journal → Well (commit_play left policy l.number shown message t) journal
     unfolding commit_play
     tries-well zero count all t journal x =
-        let spent : count ≡ tries_of head = omega (arith, all) in
+        let spent : count ≡ tries_of access = omega (arith, all) in
         commit-called count t journal x (λ old found next. refused l.number shown (Conflict old found)) (λ old found next h moved c opened alike. spent-well count t spent old found next h moved c)
     tries-well (suc left) count all t journal x =
-        let more : suc count + left ≡ tries_of head = omega (arith, all) in
-        let less : count < tries_of head = omega (arith, all) in
+        let more : suc count + left ≡ tries_of access = omega (arith, all) in
+        let less : count < tries_of access = omega (arith, all) in
         commit-called count t journal x (λ old found next. call (rebase_program policy (record t { ids = next })) (after_rebase l.number shown (commit_play left policy l.number shown message)))
         (λ old found next h moved c opened alike.
         rebase-called count t less old found next h moved c (record { opened = opened; spelled = x.ready.spelled; later = x.ready.later }) alike (commit_play left policy l.number shown message)

@@ -5,20 +5,18 @@ use Rattle.store_api.specs.declared.events.Event.{Event}
 use Rattle.store_api.specs.Journal.{Each}
 use Rattle.store_api.specs.Callers.{Caller, IsOther}
 use Rattle.store_api.specs.Plays.{PlayKeeps, PlayLeads}
-use Rattle.commit_path.specs.Owed.{IsCareful}
-use Rattle.store_api.specs.Telling.{ChangedNothing}
 use Rattle.play_script.specs.declared.scripts.Task.{Task}
 use Rattle.play_script.specs.Well.{IsWellTask}
 use Rattle.play_outcome.specs.declared.outcome.Outcome.{Outcome}
 use Rattle.play_tasks.specs.Playing.{task_play}
-use Rattle.play_tasks.specs.Solving.{IsOfTask}
+use Rattle.play_tasks.specs.Owing.{IsDue, BeforeChange}
 use Rattle.play_tasks.specs.Telling.{TellsOutcome}
 
--- Whatever others do, each operation of a well task is polite, and what the task owes; each comes before the client
+-- Whatever others do, each operation of a well task is polite, and what the task owes; if it opens a session, each comes before the client
 -- changed a branch; and the outcome tells the journal, where the task began at `start`.
 abbrev pub TaskLaw : Type 0
 TaskLaw = (by : Caller) (ids : AnyIds) (task : Task) (start : List Event) → IsWellTask task
-    → PlayKeeps (IsCareful ids (IsOfTask ids task by.number start)) by (task_play ids task) start × PlayKeeps (λ journal client op. ChangedNothing client start journal) by (task_play ids task) start
+    → PlayKeeps (IsDue ids task by.number start) by (task_play ids task) start × PlayKeeps (λ journal client op. BeforeChange task client start journal) by (task_play ids task) start
     × PlayLeads (TellsOutcome ids task by.number start) by (task_play ids task) start
 
 -- what an outcome tells stays so, whatever good events others make

@@ -19,7 +19,7 @@ use Rattle.zarr_keys.specs.declared.values.KeyValue.{KeyValue}
 use Rattle.zarr_keys.specs.declared.values.KeyValue.TheVariants.{Bytes, Absent}
 use Rattle.zarr_keys.specs.Keys.{meta_value, chunk_value, session_of, meta_put, key_erased}
 use Rattle.play_script.specs.declared.scripts.Call.{Call}
-use Rattle.play_script.specs.declared.scripts.Call.TheVariants.{Edit, Read, Commit}
+use Rattle.play_script.specs.declared.scripts.Call.TheVariants.{Edit, Read, Commit, Ref}
 use Rattle.play_script.specs.declared.scripts.EditCall.{EditCall}
 use Rattle.play_script.specs.declared.scripts.EditCall.TheVariants.{Group, Array, Make, Meta, Drop, Set, Fill as Fill_call, Unset, KeySet, KeyErase}
 use Rattle.play_script.specs.declared.scripts.ReadCall.{ReadCall}
@@ -130,8 +130,9 @@ read_deed line (Chunk path index) s = Reads path index (value_shown line)
 read_deed line (KeyGet key) s = key_get_deed line (key_of key) s
 read_deed line read s = Goes (still s (read_by line read s))
 
--- what a call in this line of the script does to a session
+-- what a call in this line of the script does to a session; one on refs, which the grammar keeps out of sessions, does nothing
 abbrev pub deed : ℕ → Call → SessionState → Deed
 deed line (Edit edit) s = edit_deed edit s
 deed line (Read read) s = read_deed line read s
 deed line (Commit message) s = Commits message
+deed line (Ref call) s = Goes (Ok ([], s))

@@ -1,10 +1,10 @@
--- The play of a task: it opens a session, plays the body's lines on it, and commits. Where memory is wanting, it ends there, and still shows what its
--- lines showed before.
+-- The play of a task: it opens a session, plays the body's lines on it, and commits, or it calls on refs. Where memory is wanting, it ends there, and
+-- still shows what its lines showed before. (Own.)
 use Rattle.std.specs.Prelude.{ℕ, zero, suc, List, [], ◌∷◌, ◌++◌, true, false, Option, Result, Ok, Err}
 use Rattle.ice_ids.specs.declared.drawing.AnyIds.{AnyIds}
 use Rattle.store_api.specs.declared.machines.Refusal.{Refusal}
 use Rattle.store_api.specs.declared.machines.Refusal.TheVariants.{NoMemory, Conflict}
-use Rattle.store_api.specs.Plays.{Play, Ended, Or, call}
+use Rattle.store_api.specs.Plays.{Play, Or, call}
 use Rattle.session.specs.Sessions.{SessionState}
 use Rattle.session.specs.declared.chunks.Value.{Value}
 use Rattle.session.specs.Opening.{Asked, open_program}
@@ -18,27 +18,23 @@ use Rattle.commit_path.specs.Committing.{commit_program}
 use Rattle.rebase.specs.declared.machine.Rebased.{Rebased}
 use Rattle.rebase.specs.declared.machine.Rebased.TheVariants.{Moved, UpToDate}
 use Rattle.rebase.specs.Rebasing.{rebase_program}
+use Rattle.repo_read.specs.declared.resolving.At.{At}
+use Rattle.play_script.specs.declared.scripts.Access.{Access}
+use Rattle.play_script.specs.declared.scripts.Access.TheVariants.{Write, Read}
 use Rattle.play_script.specs.declared.scripts.Head.{Head}
-use Rattle.play_script.specs.declared.scripts.Head.TheVariants.{Write, Read}
+use Rattle.play_script.specs.declared.scripts.Head.TheVariants.{Session, Refs}
 use Rattle.play_script.specs.declared.scripts.Line.{Line}
 use Rattle.play_script.specs.declared.scripts.Task.{Task}
+use Rattle.play_refs.specs.Playing.{refs_play}
 use Rattle.play_outcome.specs.declared.outcome.Shown.{Shown}
-use Rattle.play_outcome.specs.declared.outcome.End.{End}
-use Rattle.play_outcome.specs.declared.outcome.End.TheVariants.{Committed, Done, Refused}
+use Rattle.play_outcome.specs.declared.outcome.End.TheVariants.{Committed, Done}
 use Rattle.play_outcome.specs.declared.outcome.Outcome.{Outcome}
+use Rattle.play_outcome.specs.Playing.{ended, refused}
 use Rattle.play_tasks.specs.Lines.{Deed, Goes, Sets, Reads, Commits, silent, deed}
 
 -- what is played on a session once these lines were shown
 abbrev pub Rest : Type 0
 Rest = SessionState → List Shown → Play Outcome
-
--- the task has ended
-abbrev pub ended : List Shown → End → Play Outcome
-ended shown end = Ended (record { shown = shown; end = end })
-
--- it was refused at this line
-abbrev pub refused : ℕ → List Shown → Refusal → Play Outcome
-refused line shown why = ended shown (Refused line why)
 
 -- an edit or a read, and what is played behind it
 abbrev pub after_line : ℕ → List Shown → Result (List Shown × SessionState) Refusal → Rest → Play Outcome
@@ -64,14 +60,14 @@ commit_play zero policy line shown message s = call (commit_program s message) (
 commit_play (suc tries) policy line shown message s =
     call (commit_program s message) (after_commit line shown (λ old found next. call (rebase_program policy (record s { ids = next })) (after_rebase line shown (commit_play tries policy line shown message))))
 
--- how often a task's commit is tried again, and how conflicts are solved then
-abbrev pub tries_of : Head → ℕ
+-- how often the commit of a session that was opened so is tried again, and how conflicts are solved then
+abbrev pub tries_of : Access → ℕ
 tries_of (Write branch tries policy) = tries
-tries_of (Read branch) = 0
+tries_of (Read at) = 0
 
-abbrev pub policy_of : Head → Policy
+abbrev pub policy_of : Access → Policy
 policy_of (Write branch tries policy) = policy
-policy_of (Read branch) = record { chunks = Fail; drop_arrays = false; drop_groups = false }
+policy_of (Read at) = record { chunks = Fail; drop_arrays = false; drop_groups = false }
 
 -- ---- lines
 
@@ -81,27 +77,35 @@ shown_by s show (Ok value) = Ok (show value ∷ [], s)
 shown_by s show (Err why) = Err why
 
 -- what a line comes to that does this, and what is played behind it
-abbrev pub play_deed : Head → ℕ → List Shown → SessionState → Deed → Rest → Play Outcome
-play_deed head line shown s (Goes went) rest = after_line line shown went rest
-play_deed head line shown s (Sets path index bytes) rest = call (set_program s path index bytes) (λ answer. after_line line shown (silent answer) rest)
-play_deed head line shown s (Reads path index show) rest = call (get_program s path index) (λ answer. after_line line shown (shown_by s show answer) rest)
-play_deed head line shown s (Commits message) rest = commit_play (tries_of head) (policy_of head) line shown message s
+abbrev pub play_deed : Access → ℕ → List Shown → SessionState → Deed → Rest → Play Outcome
+play_deed access line shown s (Goes went) rest = after_line line shown went rest
+play_deed access line shown s (Sets path index bytes) rest = call (set_program s path index bytes) (λ answer. after_line line shown (silent answer) rest)
+play_deed access line shown s (Reads path index show) rest = call (get_program s path index) (λ answer. after_line line shown (shown_by s show answer) rest)
+play_deed access line shown s (Commits message) rest = commit_play (tries_of access) (policy_of access) line shown message s
 
 -- the lines in their order, the first that is refused being the last; where memory is wanting, the task ends in this line
-unfoldable pub play_lines : Head → List Line → SessionState → List Shown → Play Outcome
-play_lines head [] s shown = ended shown Done
-play_lines head (l ∷ ls) s shown = Or (play_deed head l.number shown s (deed l.number l.call s) (play_lines head ls)) (refused l.number shown NoMemory)
+unfoldable pub play_lines : Access → List Line → SessionState → List Shown → Play Outcome
+play_lines access [] s shown = ended shown Done
+play_lines access (l ∷ ls) s shown = Or (play_deed access l.number shown s (deed l.number l.call s) (play_lines access ls)) (refused l.number shown NoMemory)
 
--- a task's session was opened, or not
-abbrev pub after_open : Task → Result SessionState Refusal → Play Outcome
-after_open t (Ok s) = play_lines t.head t.body s []
-after_open t (Err why) = refused t.line [] why
+-- the session of the task on this line, with this body, was opened, or not
+abbrev pub after_open : Access → (line : ℕ) → (body : List Line) → Result SessionState Refusal → Play Outcome
+after_open access line body (Ok s) = play_lines access body s []
+after_open access line body (Err why) = refused line [] why
 
--- a head asks for a session to write on a branch, or to read it
-abbrev pub asked_by : Head → AnyIds → Asked
-asked_by (Write branch tries policy) ids = record { branch = branch; writes = true; ids = ids }
-asked_by (Read branch) ids = record { branch = branch; writes = false; ids = ids }
+-- what is asked for: a session to write on a branch, or one to read what names a snapshot
+abbrev pub asked_by : Access → AnyIds → Asked
+asked_by (Write branch tries policy) ids = record { at = At.Branch branch; writes = true; ids = ids }
+asked_by (Read at) ids = record { at = at; writes = false; ids = ids }
 
--- the play of a task whose session draws these ids
+abbrev pub session_play : AnyIds → Access → (line : ℕ) → (body : List Line) → Play Outcome
+session_play ids access line body = call (open_program (asked_by access ids)) (after_open access line body)
+
+-- ---- tasks
+abbrev pub headed_play : Head → AnyIds → Task → Play Outcome
+headed_play (Session access) ids t = session_play ids access t.line t.body
+headed_play Refs ids t = refs_play t.body []
+
+-- the play of a task; if it opens a session, that draws these ids
 abbrev pub task_play : AnyIds → Task → Play Outcome
-task_play ids t = call (open_program (asked_by t.head ids)) (after_open t)
+task_play ids t = headed_play t.head ids t

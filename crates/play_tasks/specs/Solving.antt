@@ -15,6 +15,8 @@ use Rattle.commit_path.specs.Answered.{WasMoved}
 use Rattle.commit_path.specs.Opened.{WasBegun}
 use Rattle.commit_path.specs.Single.{HasPutNone, HasPutAlike}
 use Rattle.rebase.specs.Telling.{HasMoved, WasUpToDate}
+use Rattle.play_script.specs.declared.scripts.Access.{Access}
+use Rattle.play_script.specs.declared.scripts.Head.TheVariants.{Session}
 use Rattle.play_script.specs.declared.scripts.Line.{Line}
 use Rattle.play_script.specs.declared.scripts.Task.{Task}
 use Rattle.play_tasks.specs.Lines.{Deed, Goes, Sets, Reads, Commits, deed}
@@ -60,17 +62,19 @@ WasCarried client policy (suc count) s t start journal =
     × WasRebased client policy lost t (start ++ since) journal
 
 -- ---- of a task
--- A session of a task at its commit, with an object id that it draws. It was opened at what the client got, before the client put a snapshot; the
+-- A session of a task at its commit, with an object id that it draws. The task opens one, and it was opened at what the client got, before the client put a snapshot; the
 -- task's lines lead to it, and it was carried over the commits of others as often as the task may try, as its client's own gets read them. All
 -- snapshots that the client has put are of sessions that added and dropped the same nodes.
 pub record IsOfTask (ids : AnyIds) (task : Task) (client : ℕ) (start journal : List Event) (t : SessionState) (id : Id12) : Type 0 where
+  pub access : Access
+  pub head_is : task.head ≡ Session access
   pub opened : SessionState
-  pub begun : WasBegun client (asked_by task.head ids) opened start journal
+  pub begun : WasBegun client (asked_by access ids) opened start journal
   pub early : HasPutNone client start begun.got.own.before
   pub session : SessionState
   pub reaches : Reaches task.body opened session
   pub count : ℕ
-  pub few : count ≤ tries_of task.head
-  pub carried : WasCarried client (policy_of task.head) count session t start journal
+  pub few : count ≤ tries_of access
+  pub carried : WasCarried client (policy_of access) count session t start journal
   pub alike : HasPutAlike client t start journal
   pub drawn : MayDrawObject t.ids id

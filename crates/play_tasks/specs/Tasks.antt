@@ -7,13 +7,11 @@ use Rattle.ice_ids.specs.Drawing.{ids_of}
 use Rattle.store_api.specs.declared.events.Event.{Event}
 use Rattle.store_api.specs.Callers.{only}
 use Rattle.store_api.specs.Plays.{Play, HasEnded, PlayKeeps, PlayLeads}
-use Rattle.commit_path.specs.Owed.{IsCareful, IsCarefulEvent}
-use Rattle.store_api.specs.Telling.{ChangedNothing}
 use Rattle.play_script.specs.declared.scripts.Task.{Task}
 use Rattle.play_outcome.specs.declared.outcome.Outcome.{Outcome}
 use Rattle.play_outcome.specs.Ending.{is_failed}
 use Rattle.play_tasks.specs.Playing.{task_play}
-use Rattle.play_tasks.specs.Solving.{IsOfTask}
+use Rattle.play_tasks.specs.Owing.{IsDue, IsDueEvent, BeforeChange}
 use Rattle.play_tasks.specs.Telling.{TellsOutcome}
 
 -- the ids of the client of the task at a place, whose number is one more
@@ -30,12 +28,12 @@ abbrev pub TellsAt : Draw → ℕ → Task → List Event → Outcome → List E
 TellsAt draw place task start outcome journal = TellsOutcome (ids_at draw place) task (place + 1) start outcome journal
 
 -- Whatever others do, each operation that the worker at this place comes to is polite, and what its task owes, and comes before its client
--- changed a branch; and its outcome will tell the journal, where the tasks began at `start`.
+-- changed a branch if the task opens a session; and its outcome will tell the journal, where the tasks began at `start`.
 pub record Stands (draw : Draw) (tasks : List Task) (start : List Event) (tells : Bool) (place : ℕ) (p : Play Outcome) (journal : List Event) : Type 0 where
   pub task : Task
   pub at : slice_get tasks place ≡ Some task
-  pub careful : PlayKeeps (IsCareful (ids_at draw place) (IsOfTask (ids_at draw place) task (place + 1) start)) (only tells (place + 1)) p journal
-  pub before : PlayKeeps (λ h client op. ChangedNothing client start h) (only tells (place + 1)) p journal
+  pub careful : PlayKeeps (IsDue (ids_at draw place) task (place + 1) start) (only tells (place + 1)) p journal
+  pub before : PlayKeeps (λ h client op. BeforeChange task client start h) (only tells (place + 1)) p journal
   pub leads : PlayLeads (TellsAt draw place task start) (only tells (place + 1)) p journal
 
 abbrev pub AllStand : Draw → List Task → List Event → Bool → List (Play Outcome) → List Event → Type 0
@@ -47,7 +45,7 @@ pub record IsOfClient (draw : Draw) (tasks : List Task) (start journal : List Ev
   pub task : Task
   pub client : event.client ≡ place + 1
   pub at : slice_get tasks place ≡ Some task
-  pub careful : IsCarefulEvent (ids_at draw place) (IsOfTask (ids_at draw place) task (place + 1) start) journal event
+  pub careful : IsDueEvent (ids_at draw place) task (place + 1) start journal event
 
 -- the worker at this place, if there is one, has ended
 abbrev pub HasEndedAt : ℕ → List (Play Outcome) → Type 0

@@ -21,7 +21,10 @@ use Rattle.session.specs.declared.chunks.Value.{Value}
 use Rattle.chunk_calls.specs.Told.{WasSet, IsChunk, SetTells, GetTells}
 use Rattle.play_tasks.specs.Lines.{Deed, Goes, Sets, Reads, Commits, deed}
 use Rattle.rebase.specs.Telling.{RebaseTells}
+use Rattle.play_script.specs.declared.scripts.Access.{Access}
 use Rattle.play_script.specs.declared.scripts.Head.{Head}
+use Rattle.play_script.specs.declared.scripts.Head.TheVariants.{Session, Refs}
+use Rattle.play_refs.specs.Telling.{RefsTells}
 use Rattle.play_tasks.specs.Playing.{asked_by, tries_of, policy_of}
 use Rattle.play_tasks.specs.Solving.{WasLost, WasCarried}
 
@@ -72,8 +75,8 @@ pub record WasCommitRefused (client : ℕ) (line : ℕ) (s : SessionState) (mess
   pub end_is : end ≡ Refused line why
 
 -- it was lost, and the task may not try again
-pub record WasLostAtLast (client : ℕ) (head : Head) (line : ℕ) (count : ℕ) (s : SessionState) (start : List Event) (end : End) (journal : List Event) : Type 0 where
-  pub spent : count ≡ tries_of head
+pub record WasLostAtLast (client : ℕ) (access : Access) (line : ℕ) (count : ℕ) (s : SessionState) (start : List Event) (end : End) (journal : List Event) : Type 0 where
+  pub spent : count ≡ tries_of access
   pub old : Version
   pub found : Option Version
   pub next : AnyIds
@@ -82,47 +85,47 @@ pub record WasLostAtLast (client : ℕ) (head : Head) (line : ℕ) (count : ℕ)
 
 -- It was lost, and the session wasn't rebased, for this reason; the client changed no branch. All snapshots that it has put are of sessions that added
 -- and dropped the same nodes.
-pub record WasNotRebased (client : ℕ) (head : Head) (line : ℕ) (count : ℕ) (s : SessionState) (start : List Event) (end : End) (journal : List Event) : Type 0 where
-  pub left : count < tries_of head
+pub record WasNotRebased (client : ℕ) (access : Access) (line : ℕ) (count : ℕ) (s : SessionState) (start : List Event) (end : End) (journal : List Event) : Type 0 where
+  pub left : count < tries_of access
   pub lost : SessionState
   pub since : List Event
   pub was_lost : WasLost client s lost start (start ++ since)
   pub alike : HasPutAlike client lost start journal
   pub why : Refusal
-  pub tells : RebaseTells client (policy_of head) lost (start ++ since) (Err why) journal
+  pub tells : RebaseTells client (policy_of access) lost (start ++ since) (Err why) journal
   pub nothing : ChangedNothing client start journal
   pub end_is : end ≡ Refused line why
 
 -- The line is a commit. Its session was carried over the commits of others, no more often than the task may try, and then committed, or was refused.
-pub record WasTriedAt (client : ℕ) (head : Head) (l : Line) (s : SessionState) (start : List Event) (end : End) (journal : List Event) : Type 0 where
+pub record WasTriedAt (client : ℕ) (access : Access) (l : Line) (s : SessionState) (start : List Event) (end : End) (journal : List Event) : Type 0 where
   pub message : List ℕ
   pub commits : deed l.number l.call s ≡ Commits message
   pub count : ℕ
-  pub few : count ≤ tries_of head
+  pub few : count ≤ tries_of access
   pub at_last : SessionState
-  pub carried : WasCarried client (policy_of head) count s at_last start journal
+  pub carried : WasCarried client (policy_of access) count s at_last start journal
   pub ends : HasCommitted client at_last message start end journal
       ⊎ (WasCommitRefused client l.number at_last message start end journal
-      ⊎ (WasLostAtLast client head l.number count at_last start end journal ⊎ WasNotRebased client head l.number count at_last start end journal))
+      ⊎ (WasLostAtLast client access l.number count at_last start end journal ⊎ WasNotRebased client access l.number count at_last start end journal))
 
 -- how a task ends, where these lines are left: at their end, or at the first of them
-abbrev pub EndsAt : ℕ → Head → List Line → SessionState → List Event → End → List Event → Type 0
-EndsAt client head [] s start end journal = (end ≡ Done) × ChangedNothing client start journal
-EndsAt client head (l ∷ ls) s start end journal = WasRefusedAt client l s start end journal ⊎ (WasStarvedAt client l start end journal ⊎ WasTriedAt client head l s start end journal)
+abbrev pub EndsAt : ℕ → Access → List Line → SessionState → List Event → End → List Event → Type 0
+EndsAt client access [] s start end journal = (end ≡ Done) × ChangedNothing client start journal
+EndsAt client access (l ∷ ls) s start end journal = WasRefusedAt client l s start end journal ⊎ (WasStarvedAt client l start end journal ⊎ WasTriedAt client access l s start end journal)
 
--- ---- the outcome
+-- ---- the outcome of a session
 -- The opening was refused: nothing was shown, and the refusal is told at the task's line.
-pub record WasNotOpened (ids : AnyIds) (task : Task) (client : ℕ) (start : List Event) (outcome : Outcome) (journal : List Event) : Type 0 where
+pub record WasNotOpened (ids : AnyIds) (access : Access) (task : Task) (client : ℕ) (start : List Event) (outcome : Outcome) (journal : List Event) : Type 0 where
   pub why : Refusal
   pub shown_is : outcome.shown ≡ []
   pub end_is : outcome.end ≡ Refused task.line why
-  pub tells : RefusalTells client (asked_by task.head ids) start why journal
+  pub tells : RefusalTells client (asked_by access ids) start why journal
 
 -- A session was opened at what the client got, before it put a snapshot. The first lines of the body were played on it one after
 -- another, and showed what the task showed. With the lines that are left it ended.
-pub record WasOpened (ids : AnyIds) (task : Task) (client : ℕ) (start : List Event) (outcome : Outcome) (journal : List Event) : Type 0 where
+pub record WasOpened (ids : AnyIds) (access : Access) (task : Task) (client : ℕ) (start : List Event) (outcome : Outcome) (journal : List Event) : Type 0 where
   pub opened : SessionState
-  pub begun : WasBegun client (asked_by task.head ids) opened start journal
+  pub begun : WasBegun client (asked_by access ids) opened start journal
   pub early : HasPutNone client start begun.got.own.before
   pub read : IsOpened opened journal
   pub played : List Line
@@ -130,9 +133,14 @@ pub record WasOpened (ids : AnyIds) (task : Task) (client : ℕ) (start : List E
   pub body : task.body ≡ played ++ left
   pub session : SessionState
   pub plays : PlaysAll client played opened start outcome.shown session journal
-  pub ends : EndsAt client task.head left session start outcome.end journal
+  pub ends : EndsAt client access left session start outcome.end journal
 
--- What the outcome of a task whose session draws these ids says of the journal, where the task began at
+-- ---- the outcome
+abbrev pub TellsBy : Head → AnyIds → Task → ℕ → List Event → Outcome → List Event → Type 0
+TellsBy (Session access) ids task client start outcome journal = WasNotOpened ids access task client start outcome journal ⊎ WasOpened ids access task client start outcome journal
+TellsBy Refs ids task client start outcome journal = RefsTells task.body client start outcome journal
+
+-- What the outcome of a task, whose session draws these ids if it opens one, says of the journal, where the task began at
 -- `start` and its client made no other events from there on.
 abbrev pub TellsOutcome : AnyIds → Task → ℕ → List Event → Outcome → List Event → Type 0
-TellsOutcome ids task client start outcome journal = WasNotOpened ids task client start outcome journal ⊎ WasOpened ids task client start outcome journal
+TellsOutcome ids task client start outcome journal = TellsBy task.head ids task client start outcome journal

@@ -6,33 +6,35 @@ ghost use Rattle.store_api.specs.Plays.{Or, call, Acts, Comes};
 ghost use Rattle.store_api.specs.declared.machines.Refusal.TheVariants.{NoMemory};
 ghost use Rattle.commit_path.specs.Committing.{session_in, message_in, commit_rest, commit_left, IsLeft};
 ghost use Rattle.rebase.specs.Rebasing.{rebase_rest, rebase_left};
-ghost use Rattle.play_script.specs.declared.scripts.Task.{Task as TheTask};
 ghost use Rattle.play_outcome.specs.Ending.{is_failed};
-ghost use Rattle.play_tasks.specs.Playing.{refused, after_commit, after_rebase, commit_play, tries_of, policy_of};
-ghost use Rattle.play_tasks.specs.inside.Working.{after_lost, rebased_session, is_well, is_working, working_rest, working_left, commit_steps, try_steps, settled, answers_well, Faults};
+ghost use Rattle.play_tasks.specs.declared.working.SessionTask.{SessionTask as TheTask};
+ghost use Rattle.play_outcome.specs.Playing.{refused};
+ghost use Rattle.play_tasks.specs.Playing.{after_commit, after_rebase, commit_play, tries_of, policy_of};
+ghost use Rattle.play_outcome.specs.Settling.{settled, answers_well, Faults};
+ghost use Rattle.play_tasks.specs.inside.Working.{after_lost, rebased_session, is_well, is_working, working_rest, working_left, commit_steps, try_steps};
 
-use crate::working::{Tries, Working};
+use crate::working::{SessionTask, Tries, Working};
 use commit_path::{Commit, Tried};
 use conflicts::{Pick, Policy};
 use ice_base::Text;
 use play_outcome::{End, Outcome, Shows};
-use play_script::{Head, Task};
+use play_script::Access;
 use rebase::{Rebase, Rebased};
 use session::Session;
 use std::alloc::Global;
 use store_api::{Next, Refusal, Store, Version};
 
-/// How often a task with this head tries its commit again. One that reads never commits.
-pub(crate) fn tries_for(head: &Head) -> Tries
-    ensures left { result.left ≡ tries_of head.now }
-    ensures policy { result.policy ≡ policy_of head.now }
+/// How often the commit of a session that was opened so is tried again. One that reads never commits.
+pub(crate) fn tries_for(access: &Access) -> Tries
+    ensures left { result.left ≡ tries_of access.now }
+    ensures policy { result.policy ≡ policy_of access.now }
 {
-    match head {
-        Head::Write { tries, policy, .. } => Tries {
+    match access {
+        Access::Write { tries, policy, .. } => Tries {
             left: *tries,
             policy: *policy,
         },
-        Head::Read { .. } => Tries {
+        Access::Read { .. } => Tries {
             left: 0,
             policy: Policy {
                 chunks: Pick::Fail,
@@ -194,7 +196,7 @@ fn after_rebasing(
 /// One step of the machine that commits the session.
 pub(crate) fn step_committing<S: Store>(
     alloc: Global,
-    task: &Task,
+    task: &SessionTask<'_>,
     line: u32,
     tries: Tries,
     shown: Shows,
@@ -205,7 +207,7 @@ pub(crate) fn step_committing<S: Store>(
     requires polite { IsTrue (S.view store.old).caller.tells → NextIsPolite (commit_rest commit) (S.view store.old).seen }
     ensures acts { Acts is_failed (S.view store.old) (S.view store.new) (call (commit_rest commit) (after_commit line shown (after_lost tries.left tries.policy line shown (message_in commit) (session_in commit)))) (working_rest task.now result) }
     ensures works { is_working result ≡ true }
-    ensures falls { working_left (length task.now.body) result < tries.left * try_steps + commit_left commit }
+    ensures falls { working_left (length task.now.body.now) result < tries.left * try_steps + commit_left commit }
 {
     let answer = commit.step(store);
     after_committing(alloc, line, tries, shown, commit, answer)
@@ -214,7 +216,7 @@ pub(crate) fn step_committing<S: Store>(
 /// One step of the machine that rebases the session.
 pub(crate) fn step_rebasing<S: Store>(
     alloc: Global,
-    task: &Task,
+    task: &SessionTask<'_>,
     line: u32,
     tries: Tries,
     shown: Shows,
@@ -225,7 +227,7 @@ pub(crate) fn step_rebasing<S: Store>(
     requires { is_ask (rebase_rest rebase) ≡ true }
     ensures acts { Acts is_failed (S.view store.old) (S.view store.new) (call (rebase_rest rebase) (after_rebase line shown (commit_play tries.left tries.policy line shown message))) (working_rest task.now result) }
     ensures works { is_working result ≡ true }
-    ensures falls { working_left (length task.now.body) result < tries.left * try_steps + commit_steps + rebase_left rebase }
+    ensures falls { working_left (length task.now.body.now) result < tries.left * try_steps + commit_steps + rebase_left rebase }
 {
     let answer = rebase.step(store);
     after_rebasing(alloc, line, tries, shown, message, rebase, answer)

@@ -4,11 +4,13 @@ ghost use Rattle.play_tasks.specs.Laws.{OutcomeLaw, TaskLaw};
 
 use chunk_calls::{get_law, set_law, tells_law};
 use commit_path::{answers_law, commit_law, opening_law, session_law, single_law};
+use play_refs::{refs_outcome_law, refs_task_law};
 use rebase::rebase_law;
 
-/// Whatever others do, each operation of a task is polite, and what the task owes, and comes before
+/// Whatever others do, each operation of a task is polite, and what the task owes; if it opens a session, each comes before
 /// the task's client changed a branch; and its outcome tells the journal: which session was opened,
-/// what each of its lines set and showed, over which commits of others it was carried, and what became of its commit.
+/// what each of its lines set and showed, over which commits of others it was carried, and what became of its commit; or
+/// what came of each of its calls on refs.
 pub fn task_law()
     ensures { TaskLaw }
 {
@@ -19,6 +21,7 @@ pub fn task_law()
     rebase_law();
     set_law();
     get_law();
+    refs_task_law();
 }
 
 /// What the outcome of a task tells stays so, whatever good events others make.
@@ -28,4 +31,5 @@ pub fn outcome_law()
     session_law();
     answers_law();
     tells_law();
+    refs_outcome_law();
 }

@@ -5,6 +5,7 @@ mod chunks;
 mod commits;
 mod laws;
 mod lines;
+mod session_worker;
 mod steps;
 mod worker;
 mod working;

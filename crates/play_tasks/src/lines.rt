@@ -8,11 +8,11 @@ ghost use Rattle.play_tasks.specs.inside.Working.{is_clean, is_well, is_local, w
 
 use crate::chunks::{play_fill, play_get, play_key_get, play_key_set, play_set};
 use crate::commits::{begin_commit, tries_for};
-use crate::working::{Step, Working};
+use crate::working::{SessionTask, Step, Working};
 use ice_base::Text;
 use ice_ids::Id8;
 use play_outcome::{End, Outcome, Shown, Shows};
-use play_script::{Call, EditCall, Head, Line, ReadCall, Task};
+use play_script::{Access, Call, EditCall, Line, ReadCall};
 use session::{Listing, Session};
 use std::alloc::{AllocError, Global};
 use store_api::Refusal;
@@ -226,41 +226,49 @@ fn play_read(
 
 fn play_commit(
     alloc: Global,
-    head: &Head,
+    access: &Access,
     line: u32,
     message: &Text,
     session: Session,
     shown: Vec<Shown>,
 ) -> Step
-    ensures comes { (at : ℕ) → LineComes head.now line at shown.items session (Commits message.now) result }
+    ensures comes { (at : ℕ) → LineComes access.now line at shown.items session (Commits message.now) result }
     ensures clean { is_clean result ≡ true }
     ensures bounded { (at : ℕ) → IsBounded at result }
 {
     let Ok(message) = message.copy(alloc) else {
         return Step::Stop(refuse(line, shown, Refusal::NoMemory));
     };
-    let tries = tries_for(head);
+    let tries = tries_for(access);
     let shown = Shows::from_vec(shown);
     Step::Stop(begin_commit(alloc, line, tries, shown, message, session))
 }
 
-/// Plays a line of a task with this head on a session; the line behind it has the number `at`.
+/// Plays a line on a session that was opened so; the line behind it has the number `at`.
 fn play_line(
     alloc: Global,
-    head: &Head,
+    access: &Access,
     line: &Line,
     at: usize,
     session: Session,
     shown: Vec<Shown>,
 ) -> Step
-    ensures comes { LineComes head.now line.now.number at shown.items session (deed line.now.number line.now.call session) result }
+    ensures comes { LineComes access.now line.now.number at shown.items session (deed line.now.number line.now.call session) result }
     ensures clean { is_clean result ≡ true }
     ensures bounded { IsBounded at result }
 {
     match &line.call {
         Call::Edit(edit) => play_edit(alloc, line.number, at, edit, session, shown),
         Call::Read(read) => play_read(alloc, line.number, at, read, session, shown),
-        Call::Commit { message } => play_commit(alloc, head, line.number, message, session, shown),
+        Call::Commit { message } => play_commit(
+            alloc,
+            access,
+            line.number,
+            message,
+            session,
+            shown,
+        ),
+        Call::Ref(_) => Step::On { session, shown },
     }
 }
 
@@ -268,20 +276,19 @@ fn play_line(
 /// that is refused, or to the first for which there is no memory.
 pub(crate) fn play_lines(
     alloc: Global,
-    task: &Task,
+    task: &SessionTask<'_>,
     from: usize,
     session: Session,
     shown: Vec<Shown>,
 ) -> Working
     ensures leaves { Comes (lines_from task.now from session shown.items) (working_rest task.now result) }
     ensures clean { is_well result ≡ true }
-    ensures bounded { working_left (length task.now.body) result ≤ (length task.now.body - from) * most_steps }
+    ensures bounded { working_left (length task.now.body.now) result ≤ (length task.now.body.now - from) * most_steps }
 {
-    let lines = task.body.as_slice();
     let mut session = session;
     let mut shown = shown;
-    for at in from..lines.len() {
-        match play_line(alloc, &task.head, &lines[at], at + 1, session, shown) {
+    for at in from..task.body.len() {
+        match play_line(alloc, task.access, &task.body[at], at + 1, session, shown) {
             Step::On {
                 session: next,
                 shown: more,

@@ -8,14 +8,14 @@ ghost use Rattle.session.specs.Setting.{set_rest, set_left};
 ghost use Rattle.session.specs.Getting.{get_rest, get_left, get_session};
 ghost use Rattle.play_outcome.specs.Ending.{is_failed};
 ghost use Rattle.play_tasks.specs.Playing.{after_open};
-ghost use Rattle.play_tasks.specs.inside.Working.{after_set, shown_for, after_get, is_working, lines_from, working_rest, working_left, most_steps, settled, answers_well, ComesOrStarves, Faults};
+ghost use Rattle.play_outcome.specs.Settling.{settled, answers_well, ComesOrStarves, Faults};
+ghost use Rattle.play_tasks.specs.inside.Working.{after_set, shown_for, after_get, is_working, lines_from, working_rest, working_left, most_steps};
 
 use crate::chunks::show_value;
 use crate::commits::{step_committing, step_rebasing};
 use crate::lines::{play_lines, refuse};
-use crate::working::{AskedFor, Working};
+use crate::working::{AskedFor, SessionTask, Working};
 use play_outcome::Shown;
-use play_script::Task;
 use session::{GetChunk, Open, Session, SetChunk, Value};
 use std::alloc::Global;
 use store_api::{Next, Refusal, Store};
@@ -23,14 +23,14 @@ use store_api::{Next, Refusal, Store};
 /// Where a worker stands after a step of the machine that opens its session.
 fn after_opening(
     alloc: Global,
-    task: &Task,
+    task: &SessionTask<'_>,
     opener: Open,
     answer: Result<Next<Session>, Refusal>,
 ) -> Working
     requires { answers_well (is_ask (open_rest opener)) answer ≡ true }
-    ensures comes { Comes (settled (after_open task.now) (open_rest opener) answer) (working_rest task.now result) }
+    ensures comes { Comes (settled (after_open task.now.access.now task.now.line task.now.body.now) (open_rest opener) answer) (working_rest task.now result) }
     ensures works { is_working result ≡ true }
-    ensures falls { working_left (length task.now.body) result ≤ length task.now.body * most_steps + open_left opener }
+    ensures falls { working_left (length task.now.body.now) result ≤ length task.now.body.now * most_steps + open_left opener }
     ensures blames { Faults answer (working_rest task.now result) }
 {
     match answer {
@@ -43,7 +43,7 @@ fn after_opening(
 /// Where a worker stands after a step of the machine that sets a chunk.
 fn after_setting(
     alloc: Global,
-    task: &Task,
+    task: &SessionTask<'_>,
     line: u32,
     at: usize,
     shown: Vec<Shown>,
@@ -53,7 +53,7 @@ fn after_setting(
     requires { answers_well (is_ask (set_rest set)) answer ≡ true }
     ensures comes { Comes (settled (after_set line shown.items (lines_from task.now at)) (set_rest set) answer) (working_rest task.now result) }
     ensures works { is_working result ≡ true }
-    ensures falls { working_left (length task.now.body) result ≤ (length task.now.body - at) * most_steps + set_left set }
+    ensures falls { working_left (length task.now.body.now) result ≤ (length task.now.body.now - at) * most_steps + set_left set }
     ensures blames { Faults answer (working_rest task.now result) }
 {
     match answer {
@@ -72,7 +72,7 @@ fn after_setting(
 /// ends as if there had been none for the step.
 fn after_getting(
     alloc: Global,
-    task: &Task,
+    task: &SessionTask<'_>,
     line: u32,
     at: usize,
     asked: AskedFor,
@@ -83,7 +83,7 @@ fn after_getting(
     requires { answers_well (is_ask (get_rest get)) answer ≡ true }
     ensures comes { ComesOrStarves (after_get (shown_for asked line) line shown.items (get_session get) (lines_from task.now at)) (get_rest get) answer (working_rest task.now result) }
     ensures works { is_working result ≡ true }
-    ensures falls { working_left (length task.now.body) result ≤ (length task.now.body - at) * most_steps + get_left get }
+    ensures falls { working_left (length task.now.body.now) result ≤ (length task.now.body.now - at) * most_steps + get_left get }
     ensures blames { Faults answer (working_rest task.now result) }
 {
     let value = match answer {
@@ -106,11 +106,16 @@ fn after_getting(
 }
 
 /// One step of the machine that opens the session.
-fn step_opening<S: Store>(alloc: Global, task: &Task, mut opener: Open, store: &mut S) -> Working
+fn step_opening<S: Store>(
+    alloc: Global,
+    task: &SessionTask<'_>,
+    mut opener: Open,
+    store: &mut S,
+) -> Working
     requires live { is_ask (open_rest opener) ≡ true }
-    ensures acts { Acts is_failed (S.view store.old) (S.view store.new) (call (open_rest opener) (after_open task.now)) (working_rest task.now result) }
+    ensures acts { Acts is_failed (S.view store.old) (S.view store.new) (call (open_rest opener) (after_open task.now.access.now task.now.line task.now.body.now)) (working_rest task.now result) }
     ensures works { is_working result ≡ true }
-    ensures falls { working_left (length task.now.body) result < length task.now.body * most_steps + open_left opener }
+    ensures falls { working_left (length task.now.body.now) result < length task.now.body.now * most_steps + open_left opener }
 {
     let answer = opener.step(store);
     after_opening(alloc, task, opener, answer)
@@ -119,7 +124,7 @@ fn step_opening<S: Store>(alloc: Global, task: &Task, mut opener: Open, store: &
 /// One step of the machine that sets a chunk.
 fn step_setting<S: Store>(
     alloc: Global,
-    task: &Task,
+    task: &SessionTask<'_>,
     line: u32,
     at: usize,
     shown: Vec<Shown>,
@@ -130,7 +135,7 @@ fn step_setting<S: Store>(
     requires polite { IsTrue (S.view store.old).caller.tells → NextIsPolite (set_rest set) (S.view store.old).seen }
     ensures acts { Acts is_failed (S.view store.old) (S.view store.new) (call (set_rest set) (after_set line shown.items (lines_from task.now at))) (working_rest task.now result) }
     ensures works { is_working result ≡ true }
-    ensures falls { working_left (length task.now.body) result < (length task.now.body - at) * most_steps + set_left set }
+    ensures falls { working_left (length task.now.body.now) result < (length task.now.body.now - at) * most_steps + set_left set }
 {
     let answer = set.step(store);
     after_setting(alloc, task, line, at, shown, set, answer)
@@ -139,7 +144,7 @@ fn step_setting<S: Store>(
 /// One step of the machine that reads a chunk.
 fn step_getting<S: Store>(
     alloc: Global,
-    task: &Task,
+    task: &SessionTask<'_>,
     line: u32,
     at: usize,
     asked: AskedFor,
@@ -150,7 +155,7 @@ fn step_getting<S: Store>(
     requires live { is_ask (get_rest get) ≡ true }
     ensures acts { Acts is_failed (S.view store.old) (S.view store.new) (call (get_rest get) (after_get (shown_for asked line) line shown.items (get_session get) (lines_from task.now at))) (working_rest task.now result) }
     ensures works { is_working result ≡ true }
-    ensures falls { working_left (length task.now.body) result < (length task.now.body - at) * most_steps + get_left get }
+    ensures falls { working_left (length task.now.body.now) result < (length task.now.body.now - at) * most_steps + get_left get }
 {
     let answer = get.step(store);
     after_getting(alloc, task, line, at, asked, shown, get, answer)
@@ -159,7 +164,7 @@ fn step_getting<S: Store>(
 /// One step of a worker that stands here.
 pub(crate) fn step_on<S: Store>(
     alloc: Global,
-    task: &Task,
+    task: &SessionTask<'_>,
     state: Working,
     store: &mut S,
 ) -> Working
@@ -168,7 +173,7 @@ pub(crate) fn step_on<S: Store>(
     requires polite { IsTrue (S.view store.old).caller.tells → PlayIsPolite (working_rest task.now state) (S.view store.old).seen }
     ensures acts { Acts is_failed (S.view store.old) (S.view store.new) (working_rest task.now state) (working_rest task.now result) }
     ensures works { is_working result ≡ true }
-    ensures falls { working_left (length task.now.body) result < working_left (length task.now.body) state }
+    ensures falls { working_left (length task.now.body.now) result < working_left (length task.now.body.now) state }
 {
     match state {
         Working::Opening { opener } => step_opening(alloc, task, opener, store),

@@ -1,48 +1,56 @@
 //! Workers.
 
-ghost use Rattle.std.specs.Prelude.{◌≡◌, true};
-ghost use Rattle.play_tasks.specs.inside.Working.{is_working};
-
-use crate::steps::step_on;
-use crate::working::Working;
+use crate::session_worker::SessionWorker;
+use crate::working::SessionTask;
 use ice_ids::AnyIds;
-use play_outcome::{End, Outcome, Shows};
+use play_outcome::Outcome;
+use play_refs::RefsWorker;
 use play_script::{Head, Task};
-use session::Open;
 use std::alloc::{AllocError, Global};
-use std::mem;
 use store_api::Store;
 
-/// One task: it opens a session, plays the task's lines on it, and commits. Each step makes one
+/// A worker, by how its task begins.
+#[derive(Drop)]
+enum Player<'a> {
+    Session(SessionWorker<'a>),
+    Refs(RefsWorker<'a>),
+}
+
+/// One task: it opens a session, plays the task's lines on it, and commits, or it calls on refs. Each step makes one
 /// operation of the store, and the local work that follows from its answer.
 #[derive(Drop)]
 pub struct Worker<'a> {
-    alloc: Global,
-    task: &'a Task,
-    state: Working,
-    ghost works: { is_working state ≡ true },
+    player: Player<'a>,
 }
 
 impl<'a> Worker<'a> {
-    ghost use Rattle.std.specs.Prelude.{◌≡◌, ◌<◌, false, IsTrue, IfOk, MatchOption};
-    ghost use Rattle.store_api.specs.Plays.{Ended, IsLive, HasEnded, Acts, PlayIsPolite};
+    ghost use Rattle.std.specs.Prelude.{◌≡◌, ◌<◌, false, IsTrue, IfOk};
+    ghost use Rattle.store_api.specs.Plays.{Ended, IsLive, HasEnded, Comes, Acts, PlayIsPolite};
     ghost use Rattle.play_outcome.specs.Ending.{is_failed};
     ghost use Rattle.play_tasks.specs.Playing.{task_play};
     ghost use Rattle.play_tasks.specs.Workers.{worker_rest, worker_left};
 
-    /// A worker for a task whose session draws these ids.
+    /// A worker for a task. If it opens a session, that draws these ids.
     pub fn new(alloc: Global, task: &'a Task, ids: AnyIds) -> Result<Worker<'a>, AllocError>
-        ensures { IfOk result (λ worker. worker_rest worker ≡ task_play ids task.now) }
+        ensures { IfOk result (λ worker. Comes (task_play ids task.now) (worker_rest worker)) }
     {
-        let opener = match &task.head {
-            Head::Write { branch, .. } => Open::write(alloc, branch.copy(alloc)?, ids),
-            Head::Read { branch } => Open::read(alloc, branch.copy(alloc)?, ids),
-        };
-        Ok(Worker {
-            alloc,
-            task,
-            state: Working::Opening { opener },
-        })
+        let body = task.body.as_slice();
+        match &task.head {
+            Head::Session(access) => {
+                let task = SessionTask {
+                    access,
+                    line: task.line,
+                    body,
+                };
+                let worker = SessionWorker::new(alloc, task, ids)?;
+                Ok(Worker {
+                    player: Player::Session(worker),
+                })
+            }
+            Head::Refs => Ok(Worker {
+                player: Player::Refs(RefsWorker::new(alloc, body)),
+            }),
+        }
     }
 
     /// Whether the worker has ended.
@@ -50,9 +58,9 @@ impl<'a> Worker<'a> {
         ensures ended { IsTrue result → HasEnded (worker_rest self.now) }
         ensures live { result ≡ false → IsLive (worker_rest self.now) }
     {
-        match &self.state {
-            Working::Ended { .. } => true,
-            _ => false,
+        match &self.player {
+            Player::Session(worker) => worker.has_ended(),
+            Player::Refs(worker) => worker.has_ended(),
         }
     }
 
@@ -61,10 +69,9 @@ impl<'a> Worker<'a> {
         requires { HasEnded (worker_rest self) }
         ensures { worker_rest self.entry ≡ Ended result }
     {
-        let state = self.state;
-        match state {
-            Working::Ended { outcome } => outcome,
-            _ => unreachable!(),
+        match self.player {
+            Player::Session(worker) => worker.into_outcome(),
+            Player::Refs(worker) => worker.into_outcome(),
         }
     }
 
@@ -75,16 +82,9 @@ impl<'a> Worker<'a> {
         ensures acts { Acts is_failed (S.view store.old) (S.view store.new) (worker_rest self.old) (worker_rest self.new) }
         ensures falls { worker_left self.new < worker_left self.old }
     {
-        // The old state is taken out.
-        let state = mem::replace(
-            &mut self.state,
-            Working::Ended {
-                outcome: Outcome {
-                    shown: Shows::from_vec(Vec::new(self.alloc)),
-                    end: End::Done,
-                },
-            },
-        );
-        self.state = step_on(self.alloc, self.task, state, store);
+        match &mut self.player {
+            Player::Session(worker) => worker.step(store),
+            Player::Refs(worker) => worker.step(store),
+        }
     }
 }

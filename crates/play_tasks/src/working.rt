@@ -4,8 +4,20 @@ use commit_path::Commit;
 use conflicts::Policy;
 use ice_base::Text;
 use play_outcome::{Outcome, Shown, Shows};
+use play_script::{Access, Line};
 use rebase::Rebase;
 use session::{GetChunk, Open, Session, SetChunk};
+
+/// A task that opens a session.
+#[derive(Drop)]
+pub struct SessionTask<'a> {
+    /// What the session is opened for.
+    pub access: &'a Access,
+    /// The number of the task's line in the script.
+    pub line: u32,
+    /// The lines that are played on the session.
+    pub body: &'a [Line],
+}
 
 /// What a line asked for that reads a chunk.
 #[derive(Clone, Copy, Debug, PartialEq, Eq)]

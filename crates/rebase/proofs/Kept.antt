@@ -1,5 +1,5 @@
 -- What the answer of a rebase tells stays so, whatever others do.
-use Rattle.std.proofs.Common.{◌⊎◌, inl, inr, ℕ, List, [], ◌∷◌, ◌++◌}
+use Rattle.std.proofs.Common.{◌⊎◌, inl, inr, ℕ, List, [], ◌∷◌, ◌++◌, sym, subst}
 use Rattle.std.specs.Prelude.{Result, Ok, Err, map}
 use Rattle.std.proofs.lemmas.List.Elements.{All-weaker}
 use Rattle.ice_ids.specs.declared.Id12.{Id12}
@@ -13,20 +13,25 @@ use Rattle.store_api.specs.declared.keys.Key.{Key}
 use Rattle.store_api.specs.declared.keys.Key.TheVariants.{Snapshot, Txn, Branch}
 use Rattle.store_api.specs.declared.events.Version.{Version}
 use Rattle.store_api.specs.declared.events.Op.{Op}
+use Rattle.store_api.specs.declared.events.Reply.{Reply}
 use Rattle.store_api.specs.declared.events.Reply.TheVariants.{Failed}
 use Rattle.store_api.specs.declared.events.Event.{Event}
 use Rattle.store_api.specs.declared.machines.Refusal.{Refusal}
 use Rattle.store_api.specs.declared.machines.Refusal.TheVariants as R
 use Rattle.store_api.specs.Journal.{Each}
-use Rattle.store_api.specs.Callers.{Caller, IsOther}
+use Rattle.store_api.specs.Callers.{Caller, IsOther, Makes, own_event}
 use Rattle.store_api.specs.Telling.{GetsOf, RefWasBad, SnapshotWasBad, WasFailure, WasReadAs, WasRef}
 use Rattle.store_api.proofs.Happening.{WasGot-append, WasAbsent-append}
-use Rattle.session.specs.Sessions.{SessionState}
+use Rattle.session.specs.Sessions.{SessionState, branch_of}
 use Rattle.rebase.specs.declared.machine.Rebased.{Rebased}
 use Rattle.rebase.specs.declared.machine.Rebased.TheVariants.{Moved, UpToDate}
 use Rattle.rebase.specs.Along.{Link}
 use Rattle.rebase.specs.Telling.{CameTo, HasEnded, HasMoved, IsOfRebase, LogIsBad, LogIsMissing, LogWasReadAs, RebaseSays, RebaseTells, SnapshotIsBad, SnapshotIsMissing, WasFull, WasHidden, WasLeft, WasTooDeep, WasUpToDate, WasWalked, WereMet, WereSolved}
-use Rattle.rebase.proofs.Own.{MadeGets-append, MadeOne-append, others-get}
+use Rattle.repo_read.proofs.Own.{MadeGets-append, MadeOne-append, others-get, made-more}
+
+-- what stays so whatever comes stays so behind an own operation
+pub stays-makes : (P : List Event → Type 0) → ((journal more : List Event) → P journal → P (journal ++ more)) → (by : Caller) (op : Op) (reply : Reply) (old new : List Event) → Makes by op reply old new → P old → P new
+stays-makes P stays by op reply old new m p = subst (λ (h : List Event). P h) (sym (made-more by op reply old new m)) (stays old (m.waits.between ++ own_event by op reply m.time ∷ []) p)
 
 -- ---- what was met, whatever comes
 module _ (client : ℕ) (start journal more : List Event) where
@@ -54,7 +59,7 @@ module _ (client : ℕ) (start journal more : List Event) where
 
   pub met-append : (s : SessionState) (head : Id12) (version : Version) (links : List Link) (later : List SnapshotFile) → WereMet client s head version links later start journal → WereMet client s head version links later start (journal ++ more)
   met-append s head version links later m = record {
-    ref = ref-append (Branch s.branch) version head m.ref;
+    ref = ref-append (Branch (branch_of s)) version head m.ref;
     walked = walked-append s.base s.base head (map (λ (l : Link). l.file) links ++ later) m.walked;
     logs = All-weaker (λ (l : Link). LogWasReadAs client l start journal) (λ (l : Link). LogWasReadAs client l start (journal ++ more)) log-append links m.logs;
   }
@@ -71,14 +76,14 @@ module _ (client : ℕ) (start journal more : List Event) where
   }
 
   came-append : (s : SessionState) (head next : Id12) (seen : List SnapshotFile) → CameTo client s head next seen start journal → CameTo client s head next seen start (journal ++ more)
-  came-append s head next seen c = record { version = c.version; ref = ref-append (Branch s.branch) c.version head c.ref; walked = walked-append s.base next head seen c.walked; apart = c.apart }
+  came-append s head next seen c = record { version = c.version; ref = ref-append (Branch (branch_of s)) c.version head c.ref; walked = walked-append s.base next head seen c.walked; apart = c.apart }
 
   -- ---- the answers
   moved-append : (policy : Policy) (s t : SessionState) (count : ℕ) → HasMoved client policy s t count start journal → HasMoved client policy s t count start (journal ++ more)
   moved-append policy s t count w = record { head = w.head; version = w.version; snap = w.snap; held = w.held; solved = solved-append policy s w.head w.version count w.snap w.held w.solved; few = w.few; becomes = w.becomes }
 
   same-append : (s t : SessionState) → WasUpToDate client s t start journal → WasUpToDate client s t start (journal ++ more)
-  same-append s t w = record { version = w.version; ref = ref-append (Branch s.branch) w.version s.base w.ref; becomes = w.becomes }
+  same-append s t w = record { version = w.version; ref = ref-append (Branch (branch_of s)) w.version s.base w.ref; becomes = w.becomes }
 
   full-append : (policy : Policy) (s : SessionState) → WasFull client policy s start journal → WasFull client policy s start (journal ++ more)
   full-append policy s w = record { head = w.head; version = w.version; count = w.count; snap = w.snap; held = w.held; solved = solved-append policy s w.head w.version w.count w.snap w.held w.solved; many = w.many }
@@ -162,17 +167,17 @@ module _ (by : Caller) (policy : Policy) (s : SessionState) (start journal more 
   failure kind w = record { op = w.op; of_kind = w.of_kind; done = w.done; made = MadeOne-append by.number w.op (Failed w.done) start journal more (others-get by journal more others) w.made }
 
   bad-kept : (key : Key) (bad : Bad)
-      → RefWasBad by.number (Branch s.branch) key bad start journal ⊎ (SnapshotIsBad by.number s key bad start journal ⊎ (LogIsBad by.number policy s key bad start journal ⊎ WasHidden by.number policy s key bad start journal))
-      → RefWasBad by.number (Branch s.branch) key bad start (journal ++ more)
+      → RefWasBad by.number (Branch (branch_of s)) key bad start journal ⊎ (SnapshotIsBad by.number s key bad start journal ⊎ (LogIsBad by.number policy s key bad start journal ⊎ WasHidden by.number policy s key bad start journal))
+      → RefWasBad by.number (Branch (branch_of s)) key bad start (journal ++ more)
       ⊎ (SnapshotIsBad by.number s key bad start (journal ++ more) ⊎ (LogIsBad by.number policy s key bad start (journal ++ more) ⊎ WasHidden by.number policy s key bad start (journal ++ more)))
-  bad-kept key bad (inl w) = inl (ref_bad-append by.number start journal more (Branch s.branch) key bad w)
+  bad-kept key bad (inl w) = inl (ref_bad-append by.number start journal more (Branch (branch_of s)) key bad w)
   bad-kept key bad (inr (inl w)) = inr (inl (snapshot_bad-append by.number start journal more s key bad w))
   bad-kept key bad (inr (inr (inl w))) = inr (inr (inl (log_bad-append by.number start journal more policy s key bad w)))
   bad-kept key bad (inr (inr (inr w))) = inr (inr (inr (hidden-append by.number start journal more policy s key bad w)))
 
   refusal-kept : (why : Refusal) → RebaseSays by.number policy s start (Err why) journal → RebaseSays by.number policy s start (Err why) (journal ++ more)
   refusal-kept R.ReadOnly w = w
-  refusal-kept R.NoRef w = WasAbsent-append by.number (Branch s.branch) start journal more w
+  refusal-kept R.NoRef w = WasAbsent-append by.number (Branch (branch_of s)) start journal more w
   refusal-kept (R.Missing key) w = missing-append by.number start journal more policy s key w
   refusal-kept (R.BadFile key bad) w = bad-kept key bad w
   refusal-kept R.TooDeep w = deep-append by.number start journal more s w

@@ -4,13 +4,14 @@ use Rattle.conflicts.specs.declared.solving.Policy.{Policy}
 use Rattle.store_api.specs.Callers.{Caller}
 use Rattle.store_api.specs.Journal.{IsPolite}
 use Rattle.store_api.specs.Telling.{ChangedNothing, IsGet}
+use Rattle.store_api.proofs.Happening.{got-nothing}
 use Rattle.session.specs.Sessions.{SessionState}
 use Rattle.commit_path.proofs.Singling.{HasPutAlike-gets}
 use Rattle.rebase.specs.Laws.{RebaseLaw}
 use Rattle.rebase.specs.Rebasing.{rebase_program}
-use Rattle.rebase.proofs.Own.{MadeGets-none, MadeGets-makes}
-use Rattle.rebase.proofs.Gets.{gets-keep_each, gets-stay}
-use Rattle.rebase.proofs.Quiet.{gets-change_nothing, gets-put_none}
+use Rattle.commit_path.proofs.Gets.{gets-keep_each, gets-stay}
+use Rattle.commit_path.proofs.Sooner.{gets-change_nothing}
+use Rattle.rebase.proofs.Quiet.{gets-put_none}
 use Rattle.rebase.proofs.Kept.{rebase-kept}
 use Rattle.rebase.proofs.Saying.{rebase-gets, rebase-leads, rebase-goes_on}
 
@@ -24,7 +25,6 @@ rebase-law reference law by policy s = record {
   gets = λ journal. gets-keep_each (λ known client op. IsGet op) by (λ h key. tt) (rebase_program policy s) journal (rebase-gets policy s);
   quiet = λ start middle journal m. (gets-change_nothing by.number start middle journal m, gets-put_none by.number start middle journal m);
   alike = λ t start middle journal. HasPutAlike-gets by.number t start middle journal;
-  stays = λ start journal c.
-      gets-stay (ChangedNothing by.number start) by (λ op reply old new g m n. gets-change_nothing by.number start old new (MadeGets-makes by old op reply old new g m (MadeGets-none by.number old)) n) (rebase_program policy s) journal (rebase-gets policy s) c;
+  stays = λ start journal c. gets-stay (ChangedNothing by.number start) by (got-nothing by start) (rebase_program policy s) journal (rebase-gets policy s) c;
   goes_on = λ journal spelled opened. rebase-goes_on reference law by policy s journal spelled opened;
 }

@@ -1,5 +1,3 @@
-pub mod Own
-pub mod Gets
 pub mod Quiet
 pub mod Alike
 pub mod Kept

@@ -32,13 +32,15 @@ use Rattle.store_api.specs.Program.{Leads}
 use Rattle.store_api.specs.Running.{Program, on_answer}
 use Rattle.store_api.specs.Telling.{GetsOf, MadeGets, WasFailure, WasGot, WasRef}
 use Rattle.repo_read.specs.Answers.{at_key, log_told}
-use Rattle.session.specs.Sessions.{SessionState, base_nodes}
+use Rattle.session.specs.Sessions.{SessionState, branch_of, base_nodes}
 use Rattle.rebase.specs.Along.{Link, Solves, left_at, solved_at, first_hidden, past, along}
 use Rattle.rebase.specs.Rebasing.{if_solved, solve_link, solve_program}
 use Rattle.rebase.specs.Telling.{IsOfRebase, LogIsBad, LogIsMissing, LogWasReadAs, WasHidden, WasLeft, WasWalked, WereMet, way_of}
-use Rattle.rebase.proofs.Own.{MadeGets-makes, stays-makes, got-made, absent-made, failed-made, got-cases}
-use Rattle.rebase.proofs.Gets.{Gets, done-gets}
-use Rattle.rebase.proofs.Kept.{met-append}
+use Rattle.repo_read.proofs.Own.{MadeGets-get}
+use Rattle.repo_read.proofs.Replies.{got-cases}
+use Rattle.repo_read.proofs.Namings.{got-made, absent-made, failed-made}
+use Rattle.commit_path.proofs.Gets.{Gets, done-gets}
+use Rattle.rebase.proofs.Kept.{stays-makes, met-append}
 
 abbrev Nodes : Type 0
 Nodes = FinMap path_cmp Node
@@ -107,7 +109,7 @@ module _ (by : Caller) (policy : Policy) (s : SessionState) (head : Id12) (versi
   stands-get : (links : List Link) (rest : List SnapshotFile) (held : Held Place) (before : Nodes) (id : Id12) (reply : Reply) (old new : List Event) → Makes by (Get (Txn id)) reply old new → Stands links rest held before old → Stands links rest held before new
   stands-get links rest held before id reply old new m g = record {
     met = stays-makes (λ (h : List Event). WereMet by.number s head version links rest start h) (λ journal more. met-append by.number start journal more s head version links rest) by (Get (Txn id)) reply old new m g.met;
-    gets = MadeGets-makes by start (Get (Txn id)) reply old new tt m g.gets;
+    gets = MadeGets-get by start (Txn id) reply old new m g.gets;
     files = g.files;
     way = g.way;
   }
@@ -228,5 +230,5 @@ module _ (by : Caller) (policy : Policy) (s : SessionState) (head : Id12) (versi
   go-leads [] links held before h g = record { links = links; met = g.met; files = sym (append-nil (files_of links)) ∙ g.files; solved = so-far links [] held before h g }
   go-leads (f ∷ fs) links held before h g = λ reply new m. get-leads links f fs held before reply h new g (λ more left nodes j k. go-leads fs more left nodes j k) m
 
-  pub solve-leads : (h : List Event) → WasRef by.number (Branch s.branch) version head start h → WasWalked by.number s.base s.base head all start h → MadeGets by.number start h → Leads Told by (solve_program policy s.held (base_nodes s) all) h
+  pub solve-leads : (h : List Event) → WasRef by.number (Branch (branch_of s)) version head start h → WasWalked by.number s.base s.base head all start h → MadeGets by.number start h → Leads Told by (solve_program policy s.held (base_nodes s) all) h
   solve-leads h ref walked gets = go-leads all [] s.held (base_nodes s) h (record { met = record { ref = ref; walked = walked; logs = All-nil (λ (k : Link). LogWasReadAs by.number k start h) }; gets = gets; files = refl; way = λ more. refl })

@@ -10,7 +10,6 @@ use Rattle.manifest_file.specs.declared.manifest.Place.{Place}
 use Rattle.manifest_file.specs.declared.manifest.Place.TheVariants.{Object}
 use Rattle.snapshot_file.specs.declared.snapshot.SnapshotFile.{SnapshotFile}
 use Rattle.repo_objects.specs.Laws.{IsProper}
-use Rattle.repo_objects.specs.Readings.{ref_of}
 use Rattle.repo_objects.specs.Trees.{nodes_in}
 use Rattle.zarr_tree.specs.declared.cases.Case.TheVariants as case
 use Rattle.zarr_tree.specs.declared.cases.Conflict.{Conflict}
@@ -28,13 +27,12 @@ use Rattle.conflicts.specs.Solving.{case_stays}
 use Rattle.conflicts.proofs.Members.{In, any-in, contains-in, filter-in}
 use Rattle.conflicts.proofs.Facts.{in-row, none-of, turned}
 use Rattle.conflicts.proofs.Exactness.{exact-law, made}
-use Rattle.store_api.specs.declared.keys.Key.TheVariants.{Branch}
 use Rattle.store_api.specs.declared.events.Event.{Event}
-use Rattle.store_api.specs.Journal.{Each, IsGood, StoodAt}
-use Rattle.store_api.proofs.Slots.{StoodAt-append}
-use Rattle.session.specs.Sessions.{SessionState, moved_to}
-use Rattle.commit_path.specs.Opened.{IsOpened}
+use Rattle.store_api.specs.Journal.{Each, IsGood}
+use Rattle.session.specs.Sessions.{SessionState, branch_of, tip_at, moved_to}
+use Rattle.commit_path.specs.Opened.{BranchNamed, IsOpened}
 use Rattle.commit_path.specs.Spelled.{IsOtherText, IsSpelled}
+use Rattle.commit_path.proofs.Knowing.{BranchNamed-append, tip-moved}
 use Rattle.commit_path.proofs.Entries.{AreFewer, filter-fewer}
 use Rattle.commit_path.proofs.Editing.{sized-fewer}
 use Rattle.rebase.specs.Along.{Link, Way, Solves, sides_at, left_at, solved_at, is_kept, first_hidden, past, along}
@@ -149,16 +147,14 @@ none-hidden nodes (row ∷ rows) h id text e = by_kept (is_kept nodes row.0 row.
 
 -- ---- the branch
 -- it stood at this version, with a reference to this snapshot
-pub record HasNamed (branch : List ℕ) (version : ℕ) (id : Id12) (h : List Event) : Type 0 where
-  pub bytes : List ℕ
-  pub stood : StoodAt h (Branch branch) version bytes
-  pub names : ref_of bytes ≡ Some id
+abbrev pub HasNamed : (branch : List ℕ) → (version : ℕ) → Id12 → List Event → Type 0
+HasNamed branch version id h = BranchNamed h branch version id
 
 pub HasNamed-append : (branch : List ℕ) (version : ℕ) (id : Id12) (journal more : List Event) → Each IsGood journal more → HasNamed branch version id journal → HasNamed branch version id (journal ++ more)
-HasNamed-append branch version id journal more g n = record { bytes = n.bytes; stood = StoodAt-append journal more (Branch branch) version n.bytes n.stood; names = n.names }
+HasNamed-append branch version id journal more g n = BranchNamed-append journal more branch version id n
 
 -- ---- a session whose branch still names its base
-pub same-spelled : (s : SessionState) (version : ℕ) → IsSpelled s → IsSpelled (record s { version = version })
+pub same-spelled : (s : SessionState) (version : ℕ) → IsSpelled s → IsSpelled (record s { tip = tip_at version s.tip })
 same-spelled s version w = record {
   base = w.base;
   of_snapshot = record { file = w.of_snapshot.file; proper = w.of_snapshot.proper; rows = w.of_snapshot.rows; files = w.of_snapshot.files };
@@ -170,16 +166,14 @@ same-spelled s version w = record {
   few = w.few;
 }
 
-pub same-opened : (s : SessionState) (version : ℕ) (h : List Event) → HasNamed s.branch version s.base h → IsOpened s h → IsOpened (record s { version = version }) h
-same-opened s version h n o = record { named_by = n.bytes; named = n.stood; names = n.names; put = o.put; had = o.had; rows = o.rows; objects = o.objects; chunks = o.chunks }
+pub same-opened : (s : SessionState) (version : ℕ) (h : List Event) → HasNamed (branch_of s) version s.base h → IsOpened s h → IsOpened (record s { tip = tip_at version s.tip }) h
+same-opened s version h n o = record { named = tip-moved h s.base version s.tip n; put = o.put; had = o.had; rows = o.rows; objects = o.objects; chunks = o.chunks }
 
 -- ---- a session that moved on
 module _ (s : SessionState) (id : Id12) (version : ℕ) where
-  pub moved-opened : (f : SnapshotFile) (left : Held Place) (h : List Event) → HasNamed s.branch version id h → IsHead id f h → IsLess s.held left → IsOpened s h → IsOpened (moved_to s id version f left) h
+  pub moved-opened : (f : SnapshotFile) (left : Held Place) (h : List Event) → HasNamed (branch_of s) version id h → IsHead id f h → IsLess s.held left → IsOpened s h → IsOpened (moved_to s id version f left) h
   moved-opened f left h n k less o = subst (λ (held : Held Place). IsOpened (moved_to s id version f held) h) (sym less.is) (record {
-    named_by = n.bytes;
-    named = n.stood;
-    names = n.names;
+    named = tip-moved h id version s.tip n;
     put = k.put;
     had = k.had;
     rows = k.rows;

@@ -42,7 +42,7 @@ use Rattle.repo_read.specs.Answers.{at_key, ref_told, snapshot_told, log_told, A
 use Rattle.repo_read.specs.Chains.{most_snapshots}
 use Rattle.repo_read.specs.Programs.{resolve_program}
 use Rattle.repo_read.proofs.Told.{ref-refused, ref-went, snapshot-refused, snapshot-went, log-refused, log-went}
-use Rattle.session.specs.Sessions.{SessionState, base_nodes}
+use Rattle.session.specs.Sessions.{SessionState, branch_of, writes, tip_at, base_nodes}
 use Rattle.rebase.specs.declared.rebasing.Walk.{Walk}
 use Rattle.rebase.specs.declared.rebasing.Solving.{Solving}
 use Rattle.rebase.specs.declared.rebasing.Rebasing.{Rebasing}
@@ -207,32 +207,32 @@ state-polite policy (Some s) (state.Log l) journal = log-polite policy (unwrap_o
 state-polite policy (Some s) state.Ended journal = tt
 
 -- ---- the beginning
-pub read-only : (policy : Policy) (s : SessionState) → s.writes ≡ false → rebase_program policy s ≡ Done (Err R.ReadOnly)
+pub read-only : (policy : Policy) (s : SessionState) → writes s ≡ false → rebase_program policy s ≡ Done (Err R.ReadOnly)
 unfolding rebase_program
-read-only policy s e = ap (λ b. cond b (resolve_program s.branch >>= after_ref policy s) (Done (Err R.ReadOnly))) e
+read-only policy s e = ap (λ b. cond b (resolve_program (branch_of s) >>= after_ref policy s) (Done (Err R.ReadOnly))) e
 
-pub begins : (policy : Policy) (s : SessionState) → s.writes ≡ true → (resolve_program s.branch >>= after_ref policy s) ≡ rebase_program policy s
+pub begins : (policy : Policy) (s : SessionState) → writes s ≡ true → (resolve_program (branch_of s) >>= after_ref policy s) ≡ rebase_program policy s
 unfolding rebase_program
-begins policy s e = ap (λ b. cond b (resolve_program s.branch >>= after_ref policy s) (Done (Err R.ReadOnly))) (sym e)
+begins policy s e = ap (λ b. cond b (resolve_program (branch_of s) >>= after_ref policy s) (Done (Err R.ReadOnly))) (sym e)
 
 -- ---- the branch
 module _ (policy : Policy) where
-  pub state-ref-refused : (session : Option SessionState) (s : SessionState) (branch : List ℕ) (reply : Reply) (why : Refusal) → session ≡ Some s → branch ≡ s.branch → Awaits (state-rest policy session state.Ref) reply
+  pub state-ref-refused : (session : Option SessionState) (s : SessionState) (branch : List ℕ) (reply : Reply) (why : Refusal) → session ≡ Some s → branch ≡ branch_of s → Awaits (state-rest policy session state.Ref) reply
       → Answers {A = Resolved} (ref_told branch reply) (Err why) → (q : Program Rebased) → IsDone q → Took (state-rest policy session state.Ref) reply q (Err why)
   state-ref-refused None s branch reply why e b w t q d = absurd w
   state-ref-refused (Some own) s branch reply why e b w t q d =
       let same : own ≡ s = cc in
-      let branch_is : branch ≡ own.branch = b ∙ ap (λ (x : SessionState). x.branch) (sym same) in
-      ref-refused own.branch reply (after_ref policy own) w why (subst (λ (x : List ℕ). Answers {A = Resolved} (ref_told x reply) (Err why)) branch_is t) q d
+      let branch_is : branch ≡ branch_of own = b ∙ ap branch_of (sym same) in
+      ref-refused (branch_of own) reply (after_ref policy own) w why (subst (λ (x : List ℕ). Answers {A = Resolved} (ref_told x reply) (Err why)) branch_is t) q d
 
-  pub state-ref-went : (session : Option SessionState) (s : SessionState) (branch : List ℕ) (reply : Reply) (named : Resolved) → session ≡ Some s → branch ≡ s.branch → Awaits (state-rest policy session state.Ref) reply
+  pub state-ref-went : (session : Option SessionState) (s : SessionState) (branch : List ℕ) (reply : Reply) (named : Resolved) → session ≡ Some s → branch ≡ branch_of s → Awaits (state-rest policy session state.Ref) reply
       → Answers (ref_told branch reply) (Ok named) → (q : Program Rebased) (result : Result (Next Rebased) Refusal) → Lands (with_session session (λ s. after_ref policy s named)) q result → IfErr result (λ refusal. is_fault refusal ≡ false)
       → Took (state-rest policy session state.Ref) reply q result
   state-ref-went None s branch reply named e b w t q result l n = absurd w
   state-ref-went (Some own) s branch reply named e b w t q result l n =
       let same : own ≡ s = cc in
-      let branch_is : branch ≡ own.branch = b ∙ ap (λ (x : SessionState). x.branch) (sym same) in
-      ref-went own.branch reply (after_ref policy own) w named (subst (λ (x : List ℕ). Answers (ref_told x reply) (Ok named)) branch_is t) q result l n
+      let branch_is : branch ≡ branch_of own = b ∙ ap branch_of (sym same) in
+      ref-went (branch_of own) reply (after_ref policy own) w named (subst (λ (x : List ℕ). Answers (ref_told x reply) (Ok named)) branch_is t) q result l n
 
   -- the branch names another snapshot than the base
   pub named-walks : (session : Option SessionState) (s : SessionState) (named : Resolved) (above : List SnapshotFile) → session ≡ Some s → same_id12 named.id s.base ≡ false → above ≡ []
@@ -244,7 +244,7 @@ module _ (policy : Policy) where
       let other : same_id12 named.id own.base ≡ false = ap (λ (x : SessionState). same_id12 named.id x.base) same ∙ b in
       let empty : (walk_down own.base named.id most_snapshots [] named.id >>= over_commits policy own named) ≡ walk_rest policy own (record { named = named; above = above; next = named.id }) =
       ap (λ (xs : List SnapshotFile). walk_rest policy own (record { named = named; above = xs; next = named.id })) (sym a) in (
-        ap (λ t. cond t (Done (Ok (UpToDate (record own { version = named.version.0 })))) (walk_down own.base named.id most_snapshots [] named.id >>= over_commits policy own named)) other ∙ empty,
+        ap (λ t. cond t (Done (Ok (UpToDate (record own { tip = tip_at named.version.0 own.tip })))) (walk_down own.base named.id most_snapshots [] named.id >>= over_commits policy own named)) other ∙ empty,
         subst (λ (p : Program Rebased). IsAsk p) empty (walk-is-ask own.base named.id (over_commits policy own named) most_snapshots [] named.id (omega arith)),
       )
 

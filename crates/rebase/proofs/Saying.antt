@@ -37,7 +37,7 @@ use Rattle.store_api.proofs.Telling.{get-had}
 use Rattle.repo_read.specs.declared.answers.Resolved.{Resolved}
 use Rattle.repo_read.specs.Answers.{at_key, ref_told, resolved_at}
 use Rattle.repo_read.specs.Chains.{most_snapshots}
-use Rattle.session.specs.Sessions.{SessionState, base_nodes, moved_to}
+use Rattle.session.specs.Sessions.{SessionState, branch_of, writes, tip_at, base_nodes, moved_to}
 use Rattle.commit_path.specs.Opened.{IsOpened}
 use Rattle.commit_path.specs.Spelled.{IsSpelled}
 use Rattle.commit_path.proofs.Knowing.{IsOpened-append}
@@ -47,8 +47,11 @@ use Rattle.rebase.specs.Along.{Link}
 use Rattle.rebase.specs.Laws.{GoesOn}
 use Rattle.rebase.specs.Rebasing.{Commits, head_of, walk_down, solve_program, on_head, over_commits, after_ref, rebase_program}
 use Rattle.rebase.specs.Telling.{IsOfRebase, RebaseSays, RebaseTells, WereSolved, way_of}
-use Rattle.rebase.proofs.Own.{MadeGets-none, MadeGets-makes, got-made, absent-made, failed-made, got-cases}
-use Rattle.rebase.proofs.Gets.{Gets, done-gets, ask-gets, bind-gets, gets-leave, gets-alone}
+use Rattle.repo_read.proofs.Own.{MadeGets-none, MadeGets-get}
+use Rattle.repo_read.proofs.Replies.{got-cases}
+use Rattle.repo_read.proofs.Namings.{got-made, absent-made, failed-made}
+use Rattle.commit_path.proofs.Gets.{Gets, done-gets, ask-gets, bind-gets, gets-leave, gets-hold}
+use Rattle.commit_path.proofs.Reading.{Leads-both}
 use Rattle.rebase.proofs.Walking.{IsHead, IsHead-append, WalkTells, same_id12-false, walk-gets, walk-leads}
 use Rattle.rebase.proofs.Logs.{AreSolved, SolveTells, files_of, solve-gets, solve-leads}
 use Rattle.rebase.proofs.Moving.{HasNamed, HasNamed-append, way-ends, same-spelled, same-opened, moved-spelled, moved-opened}
@@ -74,17 +77,17 @@ ref-gets policy s (Ok named) = by_base (same_id12 named.id s.base)
     walked : Gets (walk_down s.base named.id most_snapshots [] named.id >>= over_commits policy s named)
     walked = bind-gets (walk_down s.base named.id most_snapshots [] named.id) (on_answer (over_commits policy s named)) (walk-gets s.base named.id most_snapshots [] named.id) (commits-gets policy s named)
 
-    by_base : (b : Bool) → Gets (cond b (Done (Ok (UpToDate (record s { version = named.version.0 })))) (walk_down s.base named.id most_snapshots [] named.id >>= over_commits policy s named))
-    by_base true = done-gets (Ok (UpToDate (record s { version = named.version.0 })))
+    by_base : (b : Bool) → Gets (cond b (Done (Ok (UpToDate (record s { tip = tip_at named.version.0 s.tip })))) (walk_down s.base named.id most_snapshots [] named.id >>= over_commits policy s named))
+    by_base true = done-gets (Ok (UpToDate (record s { tip = tip_at named.version.0 s.tip })))
     by_base false = walked
 ref-gets policy s (Err why) = done-gets (Err why)
 
 pub rebase-gets : (policy : Policy) (s : SessionState) → Gets (rebase_program policy s)
 unfolding rebase_program
-rebase-gets policy s = by_writes s.writes
+rebase-gets policy s = by_writes (writes s)
   where
-    by_writes : (b : Bool) → Gets (cond b (Ask (Get (Branch s.branch)) (λ reply. on_answer (after_ref policy s) (ref_told s.branch reply))) (Done (Err R.ReadOnly)))
-    by_writes true = ask-gets (Branch s.branch) (λ reply. on_answer (after_ref policy s) (ref_told s.branch reply)) (λ reply. ref-gets policy s (ref_told s.branch reply))
+    by_writes : (b : Bool) → Gets (cond b (Ask (Get (Branch (branch_of s))) (λ reply. on_answer (after_ref policy s) (ref_told (branch_of s) reply))) (Done (Err R.ReadOnly)))
+    by_writes true = ask-gets (Branch (branch_of s)) (λ reply. on_answer (after_ref policy s) (ref_told (branch_of s) reply)) (λ reply. ref-gets policy s (ref_told (branch_of s) reply))
     by_writes false = done-gets (Err R.ReadOnly)
 
 -- ---- the last commit
@@ -115,10 +118,10 @@ module _ (reference : RefLaw) (law : SnapshotLaw) (by : Caller) (policy : Policy
   module _ (named : Resolved) where
     -- where the branch's snapshot was read
     abbrev Knows : SnapshotFile → List Event → Type 0
-    Knows f h = HasNamed s.branch named.version.0 named.id h × IsHead named.id f h
+    Knows f h = HasNamed (branch_of s) named.version.0 named.id h × IsHead named.id f h
 
     Knows-append : (f : SnapshotFile) (journal more : List Event) → Each IsGood journal more → Knows f journal → Knows f (journal ++ more)
-    Knows-append f journal more g k = (HasNamed-append s.branch named.version.0 named.id journal more g k.0, IsHead-append named.id f journal more g k.1)
+    Knows-append f journal more g k = (HasNamed-append (branch_of s) named.version.0 named.id journal more g k.0, IsHead-append named.id f journal more g k.1)
 
     were-solved : (f : SnapshotFile) (fs : List SnapshotFile) (held : Held Place) (h : List Event) → AreSolved by policy s named.id named.version start (f ∷ fs) held h → WereSolved by.number policy s named.id named.version (length fs + 1) (head_of f fs) held start h
     were-solved f fs held h a =
@@ -163,7 +166,7 @@ module _ (reference : RefLaw) (law : SnapshotLaw) (by : Caller) (policy : Policy
         refused R.StoreFault t = (t, λ spelled opened. tt)
         refused _ t = absurd t
 
-    commits-end : (r : Result Commits Refusal) (h : List Event) → WalkTells by s named.id named.version start r h → HasNamed s.branch named.version.0 named.id h → Leads Ends by (on_answer (over_commits policy s named) r) h
+    commits-end : (r : Result Commits Refusal) (h : List Event) → WalkTells by s named.id named.version start r h → HasNamed (branch_of s) named.version.0 named.id h → Leads Ends by (on_answer (over_commits policy s named) r) h
     unfolding Leads
     commits-end (Ok c) h t n =
         Leads-bind (λ r j. SolveTells by policy s named.id named.version start (c.oldest ∷ c.later) r j × Knows (head_of c.oldest c.later) j) Ends by (solve_program policy s.held (base_nodes s) (c.oldest ∷ c.later)) (on_answer (on_head s named (length c.later + 1) (head_of c.oldest c.later))) h
@@ -180,52 +183,54 @@ module _ (reference : RefLaw) (law : SnapshotLaw) (by : Caller) (policy : Policy
         refused R.StoreFault t = (t, λ spelled opened. tt)
         refused _ t = absurd t
 
-    named-ends : (h : List Event) → WasRef by.number (Branch s.branch) named.version named.id start h → HasNamed s.branch named.version.0 named.id h → MadeGets by.number start h → Leads Ends by (after_ref policy s named) h
+    named-ends : (h : List Event) → WasRef by.number (Branch (branch_of s)) named.version named.id start h → HasNamed (branch_of s) named.version.0 named.id h → MadeGets by.number start h → Leads Ends by (after_ref policy s named) h
     unfolding Leads
     named-ends h ref n gets = by_base (same_id12 named.id s.base) refl
       where
-        by_base : (b : Bool) → same_id12 named.id s.base ≡ b → Leads Ends by (cond b (Done (Ok (UpToDate (record s { version = named.version.0 })))) (walk_down s.base named.id most_snapshots [] named.id >>= over_commits policy s named)) h
+        by_base : (b : Bool) → same_id12 named.id s.base ≡ b → Leads Ends by (cond b (Done (Ok (UpToDate (record s { tip = tip_at named.version.0 s.tip })))) (walk_down s.base named.id most_snapshots [] named.id >>= over_commits policy s named)) h
         by_base true t =
             let same : named.id ≡ s.base = same_id12-true named.id s.base t in (
-              record { version = named.version; ref = subst (λ (id : Id12). WasRef by.number (Branch s.branch) named.version id start h) same ref; becomes = refl },
-              λ spelled opened. (same-spelled s named.version.0 spelled, same-opened s named.version.0 h (subst (λ (id : Id12). HasNamed s.branch named.version.0 id h) same n) opened),
+              record { version = named.version; ref = subst (λ (id : Id12). WasRef by.number (Branch (branch_of s)) named.version id start h) same ref; becomes = refl },
+              λ spelled opened. (same-spelled s named.version.0 spelled, same-opened s named.version.0 h (subst (λ (id : Id12). HasNamed (branch_of s) named.version.0 id h) same n) opened),
             )
         by_base false t =
-            Leads-bind (λ r j. WalkTells by s named.id named.version start r j × HasNamed s.branch named.version.0 named.id j) Ends by (walk_down s.base named.id most_snapshots [] named.id) (on_answer (over_commits policy s named)) h
-            (gets-leave (HasNamed s.branch named.version.0 named.id) (HasNamed-append s.branch named.version.0 named.id) (WalkTells by s named.id named.version start) by (walk_down s.base named.id most_snapshots [] named.id) h (walk-gets s.base named.id most_snapshots [] named.id) n
+            Leads-bind (λ r j. WalkTells by s named.id named.version start r j × HasNamed (branch_of s) named.version.0 named.id j) Ends by (walk_down s.base named.id most_snapshots [] named.id) (on_answer (over_commits policy s named)) h
+            (gets-leave (HasNamed (branch_of s) named.version.0 named.id) (HasNamed-append (branch_of s) named.version.0 named.id) (WalkTells by s named.id named.version start) by (walk_down s.base named.id most_snapshots [] named.id) h (walk-gets s.base named.id most_snapshots [] named.id) n
             (walk-leads law by s named.id named.version start h ref gets (same_id12-false named.id s.base t)))
             (λ r j q. commits-end r j q.0 q.1)
 
   -- ---- from the branch on
-  bytes-end : (bytes : List ℕ) (version : Version) (h : List Event) → WasGot by.number (Branch s.branch) bytes version.0 start h → StoodAt h (Branch s.branch) version.0 bytes → MadeGets by.number start h
-      → (r : Result Id12 Bad) → read_ref bytes ≡ r → Leads Ends by (on_answer (after_ref policy s) (resolved_at version (at_key (Branch s.branch) r))) h
+  bytes-end : (bytes : List ℕ) (version : Version) (h : List Event) → WasGot by.number (Branch (branch_of s)) bytes version.0 start h → StoodAt h (Branch (branch_of s)) version.0 bytes → MadeGets by.number start h
+      → (r : Result Id12 Bad) → read_ref bytes ≡ r → Leads Ends by (on_answer (after_ref policy s) (resolved_at version (at_key (Branch (branch_of s)) r))) h
   unfolding Leads
   bytes-end bytes version h got stood gets (Ok id) e =
       let names : ref_of bytes ≡ Some id = ap result_ok e in
       named-ends (record { id = id; version = version }) h (record { bytes = bytes; got = got; names = names }) (record { bytes = bytes; stood = stood; names = names }) gets
   bytes-end bytes version h got stood gets (Err bad) e = (inl (record { key_is = refl; bytes = bytes; version = version.0; got = got; unread = e }), λ spelled opened. tt)
 
-  ref-ends : (reply : Reply) (old new : List Event) → MadeGets by.number start old → Makes by (Get (Branch s.branch)) reply old new → Leads Ends by (on_answer (after_ref policy s) (ref_told s.branch reply)) new
+  ref-ends : (reply : Reply) (old new : List Event) → MadeGets by.number start old → Makes by (Get (Branch (branch_of s))) reply old new → Leads Ends by (on_answer (after_ref policy s) (ref_told (branch_of s) reply)) new
   unfolding Leads
   ref-ends reply old new c m =
-      got-cases by old new (λ r. Leads Ends by (on_answer (after_ref policy s) (ref_told s.branch r)) new) (Branch s.branch)
+      got-cases by old new (λ r. Leads Ends by (on_answer (after_ref policy s) (ref_told (branch_of s) r)) new) (Branch (branch_of s))
       (λ bytes version now n.
-      bytes-end bytes version new (got-made by start (Branch s.branch) bytes version now old new n c) (get-had by (Branch s.branch) bytes version now old new n).stood (MadeGets-makes by start (Get (Branch s.branch)) (Got (Found bytes version now)) old new tt n c) (read_ref bytes) refl)
-      (λ now n. (absent-made by start (Branch s.branch) now old new n c, λ spelled opened. tt))
-      (λ done n. (failed-made by start (GetsOf (IsOfRebase s)) (Get (Branch s.branch)) done old new (Branch s.branch, inl refl, refl) n c, λ spelled opened. tt))
+      bytes-end bytes version new (got-made by start (Branch (branch_of s)) bytes version now old new n c) (get-had by (Branch (branch_of s)) bytes version now old new n).stood (MadeGets-get by start (Branch (branch_of s)) (Got (Found bytes version now)) old new n c) (read_ref bytes) refl)
+      (λ now n. (absent-made by start (Branch (branch_of s)) now old new n c, λ spelled opened. tt))
+      (λ done n. (failed-made by start (GetsOf (IsOfRebase s)) (Get (Branch (branch_of s))) done old new (Branch (branch_of s), inl refl, refl) n c, λ spelled opened. tt))
       reply m
 
   rebase-ends : Leads Ends by (rebase_program policy s) start
   unfolding Leads rebase_program
-  rebase-ends = by_writes s.writes refl
+  rebase-ends = by_writes (writes s) refl
     where
-      by_writes : (b : Bool) → s.writes ≡ b → Leads Ends by (cond b (Ask (Get (Branch s.branch)) (λ reply. on_answer (after_ref policy s) (ref_told s.branch reply))) (Done (Err R.ReadOnly))) start
+      by_writes : (b : Bool) → writes s ≡ b → Leads Ends by (cond b (Ask (Get (Branch (branch_of s))) (λ reply. on_answer (after_ref policy s) (ref_told (branch_of s) reply))) (Done (Err R.ReadOnly))) start
       by_writes true e = λ reply new m. ref-ends reply start new (MadeGets-none by.number start) m
       by_writes false e = (e, λ spelled opened. tt)
 
   pub rebase-leads : Leads (RebaseTells by.number policy s start) by (rebase_program policy s) start
   rebase-leads =
-      gets-alone (RebaseSays by.number policy s start) by start (rebase_program policy s) start (rebase-gets policy s) (MadeGets-none by.number start) (Leads-weaker Ends (RebaseSays by.number policy s start) (λ r h q. q.0) by (rebase_program policy s) start rebase-ends)
+      Leads-both (RebaseSays by.number policy s start) (λ r h. MadeGets by.number start h) by (rebase_program policy s) start
+      (Leads-weaker Ends (RebaseSays by.number policy s start) (λ r h q. q.0) by (rebase_program policy s) start rebase-ends)
+      (gets-hold (MadeGets by.number start) by (MadeGets-get by start) (rebase_program policy s) start (rebase-gets policy s) (MadeGets-none by.number start))
 
   pub rebase-goes_on : IsSpelled s → IsOpened s start → Leads GoesOn by (rebase_program policy s) start
   rebase-goes_on spelled opened =

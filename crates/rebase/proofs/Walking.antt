@@ -29,13 +29,15 @@ use Rattle.store_api.proofs.Standing.{HadRows-append}
 use Rattle.store_api.proofs.Telling.{Had, get-had, makes-keeps}
 use Rattle.repo_read.specs.Answers.{at_key, snapshot_told}
 use Rattle.repo_read.specs.Chains.{most_snapshots}
-use Rattle.session.specs.Sessions.{SessionState}
+use Rattle.session.specs.Sessions.{SessionState, branch_of}
 use Rattle.commit_path.proofs.Knowing.{rows-kept}
 use Rattle.rebase.specs.Rebasing.{Commits, head_of, walk_down}
 use Rattle.rebase.specs.Telling.{CameTo, HasEnded, IsOfRebase, Rises, SnapshotIsBad, SnapshotIsMissing, WasTooDeep, WasWalked}
-use Rattle.rebase.proofs.Own.{MadeGets-makes, stays-makes, got-made, absent-made, failed-made, got-cases}
-use Rattle.rebase.proofs.Gets.{Gets, done-gets}
-use Rattle.rebase.proofs.Kept.{ref-append, walked-append}
+use Rattle.repo_read.proofs.Own.{MadeGets-get}
+use Rattle.repo_read.proofs.Replies.{got-cases}
+use Rattle.repo_read.proofs.Namings.{got-made, absent-made, failed-made}
+use Rattle.commit_path.proofs.Gets.{Gets, done-gets}
+use Rattle.rebase.proofs.Kept.{stays-makes, ref-append, walked-append}
 
 pub same_id12-false : (a b : Id12) → same_id12 a b ≡ false → a ≢ b
 same_id12-false a b t same = let here : same_id12 a b ≡ true = subst (λ (id : Id12). same_id12 a id ≡ true) same (same_id12-self a) in cc
@@ -122,7 +124,7 @@ walk-gets base head (suc left) above id = (tt, λ reply. told-gets base head lef
 -- ---- what is told
 -- the commits above the base, of which the last one is the branch's snapshot
 pub record AreCommits (by : Caller) (s : SessionState) (head : Id12) (version : Version) (start : List Event) (c : Commits) (h : List Event) : Type 0 where
-  pub ref : WasRef by.number (Branch s.branch) version head start h
+  pub ref : WasRef by.number (Branch (branch_of s)) version head start h
   pub walked : WasWalked by.number s.base s.base head (c.oldest ∷ c.later) start h
   pub gets : MadeGets by.number start h
   pub top : IsHead head (head_of c.oldest c.later) h
@@ -142,7 +144,7 @@ module _ (law : SnapshotLaw) (by : Caller) (s : SessionState) (head : Id12) (ver
 
   -- the walk has come to this snapshot
   record Goes (above : List SnapshotFile) (next : Id12) (left : ℕ) (h : List Event) : Type 0 where
-    pub ref : WasRef by.number (Branch s.branch) version head start h
+    pub ref : WasRef by.number (Branch (branch_of s)) version head start h
     pub walked : WasWalked by.number s.base next head above start h
     pub apart : next ≢ s.base
     pub gets : MadeGets by.number start h
@@ -155,10 +157,10 @@ module _ (law : SnapshotLaw) (by : Caller) (s : SessionState) (head : Id12) (ver
   -- one more was got
   goes-get : (above : List SnapshotFile) (next : Id12) (left : ℕ) (reply : Reply) (old new : List Event) → Makes by (Get (Snapshot next)) reply old new → Goes above next left old → Goes above next left new
   goes-get above next left reply old new m g = record {
-    ref = stays-makes (λ (h : List Event). WasRef by.number (Branch s.branch) version head start h) (λ journal more. ref-append by.number start journal more (Branch s.branch) version head) by (Get (Snapshot next)) reply old new m g.ref;
+    ref = stays-makes (λ (h : List Event). WasRef by.number (Branch (branch_of s)) version head start h) (λ journal more. ref-append by.number start journal more (Branch (branch_of s)) version head) by (Get (Snapshot next)) reply old new m g.ref;
     walked = stays-makes (λ (h : List Event). WasWalked by.number s.base next head above start h) (λ journal more. walked-append by.number start journal more s.base next head above) by (Get (Snapshot next)) reply old new m g.walked;
     apart = g.apart;
-    gets = MadeGets-makes by start (Get (Snapshot next)) reply old new tt m g.gets;
+    gets = MadeGets-get by start (Snapshot next) reply old new m g.gets;
     count = g.count;
     top = makes-keeps (Top head above) (top-append head above) by (Get (Snapshot next)) reply old new tt m g.top;
   }
@@ -232,7 +234,7 @@ module _ (law : SnapshotLaw) (by : Caller) (s : SessionState) (head : Id12) (ver
   go-leads zero above next h g = record { head = head; next = next; seen = above; came = came above next zero h g; many = let c = g.count in omega (arith, c) }
   go-leads (suc left) above next h g = λ reply new m. get-leads left above next reply h new g (λ f parent k j. go-leads left (f ∷ above) parent k j) m
 
-  pub walk-leads : (h : List Event) → WasRef by.number (Branch s.branch) version head start h → MadeGets by.number start h → head ≢ s.base → Leads Told by (walk_down s.base head most_snapshots [] head) h
+  pub walk-leads : (h : List Event) → WasRef by.number (Branch (branch_of s)) version head start h → MadeGets by.number start h → head ≢ s.base → Leads Told by (walk_down s.base head most_snapshots [] head) h
   walk-leads h ref gets apart = go-leads most_snapshots [] head h (record {
     ref = ref;
     walked = record { rises = rises-none head; apart = All-nil (λ (g : SnapshotFile). g.id ≢ s.base); read = All-nil (λ (g : SnapshotFile). WasReadAs by.number g.id g start h) };

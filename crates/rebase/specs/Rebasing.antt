@@ -26,7 +26,7 @@ use Rattle.store_api.specs.Running.{Program, ◌>>=◌}
 use Rattle.repo_read.specs.declared.answers.Resolved.{Resolved}
 use Rattle.repo_read.specs.Chains.{most_snapshots}
 use Rattle.repo_read.specs.Programs.{resolve_program, snapshot_program, log_program}
-use Rattle.session.specs.Sessions.{SessionState, base_nodes, moved_to}
+use Rattle.session.specs.Sessions.{SessionState, branch_of, writes, tip_at, base_nodes, moved_to}
 use Rattle.rebase.specs.declared.rebasing.Walk.{Walk}
 use Rattle.rebase.specs.declared.rebasing.Solving.{Solving}
 use Rattle.rebase.specs.declared.rebasing.Rebasing.{Rebasing}
@@ -87,11 +87,11 @@ over_commits policy s named c = solve_program policy s.held (base_nodes s) (c.ol
 -- from what the branch names
 abbrev pub after_ref : Policy → SessionState → Resolved → Program Rebased
 after_ref policy s named =
-    if same_id12 named.id s.base then Done (Ok (UpToDate (record s { version = named.version.0 }))) else
+    if same_id12 named.id s.base then Done (Ok (UpToDate (record s { tip = tip_at named.version.0 s.tip }))) else
     walk_down s.base named.id most_snapshots [] named.id >>= over_commits policy s named
 
 unfoldable pub rebase_program : Policy → SessionState → Program Rebased
-rebase_program policy s = if s.writes then resolve_program s.branch >>= after_ref policy s else Done (Err ReadOnly)
+rebase_program policy s = if writes s then resolve_program (branch_of s) >>= after_ref policy s else Done (Err ReadOnly)
 
 -- ---- the machine
 -- The walk goes on with the next snapshot: these were read above it, the head first.
@@ -109,7 +109,7 @@ solving_rest policy s l =
     solve_program policy (unwrap_or l.held s.held) (nodes_before s l.before) (l.oldest ∷ reverse l.later) >>= on_head s l.named l.count (head_of l.oldest (reverse l.later))
 
 abbrev pub rebasing_rest : Policy → SessionState → Rebasing → Program Rebased
-rebasing_rest policy s state.Ref = resolve_program s.branch >>= after_ref policy s
+rebasing_rest policy s state.Ref = resolve_program (branch_of s) >>= after_ref policy s
 rebasing_rest policy s (state.Snapshot w) = walk_rest policy s w
 rebasing_rest policy s (state.Log l) = solving_rest policy s l
 rebasing_rest policy s state.Ended = Done (Err NoMemory)

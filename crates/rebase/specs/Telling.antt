@@ -25,7 +25,7 @@ use Rattle.store_api.specs.declared.machines.Refusal.{Refusal}
 use Rattle.store_api.specs.declared.machines.Refusal.TheVariants as R
 use Rattle.store_api.specs.Telling.{MadeGets, WasGot, WasAbsent, WasRef, RefWasBad, WasReadAs, SnapshotWasBad, WasFailure, GetsOf}
 use Rattle.repo_read.specs.Chains.{most_snapshots}
-use Rattle.session.specs.Sessions.{SessionState, base_nodes, moved_to}
+use Rattle.session.specs.Sessions.{SessionState, branch_of, writes, tip_at, base_nodes, moved_to}
 use Rattle.rebase.specs.declared.machine.Rebased.{Rebased}
 use Rattle.rebase.specs.declared.machine.Rebased.TheVariants.{Moved, UpToDate}
 use Rattle.rebase.specs.Along.{Link, Way, Solves, Stays, Hides, along}
@@ -54,7 +54,7 @@ pub record LogWasReadAs (client : ℕ) (l : Link) (start journal : List Event) :
 -- The branch named this snapshot at this version. From there these are the commits down to the base, the oldest first, of which the logs of the
 -- first ones were read.
 pub record WereMet (client : ℕ) (s : SessionState) (head : Id12) (version : Version) (links : List Link) (later : List SnapshotFile) (start journal : List Event) : Type 0 where
-  pub ref : WasRef client (Branch s.branch) version head start journal
+  pub ref : WasRef client (Branch (branch_of s)) version head start journal
   pub walked : WasWalked client s.base s.base head (map (λ (l : Link). l.file) links ++ later) start journal
   pub logs : All (λ l. LogWasReadAs client l start journal) links
 
@@ -86,8 +86,8 @@ pub record HasMoved (client : ℕ) (policy : Policy) (s t : SessionState) (count
 -- the branch named the session's base, at this version
 pub record WasUpToDate (client : ℕ) (s t : SessionState) (start journal : List Event) : Type 0 where
   pub version : Version
-  pub ref : WasRef client (Branch s.branch) version s.base start journal
-  pub becomes : t ≡ record s { version = version.0 }
+  pub ref : WasRef client (Branch (branch_of s)) version s.base start journal
+  pub becomes : t ≡ record s { tip = tip_at version.0 s.tip }
 
 -- all conflicts were solved, and with what is still held the branch's tree would have too many nodes
 pub record WasFull (client : ℕ) (policy : Policy) (s : SessionState) (start journal : List Event) : Type 0 where
@@ -132,7 +132,7 @@ pub record WasHidden (client : ℕ) (policy : Policy) (s : SessionState) (key : 
 -- The walk from the branch's snapshot came to this one, and hadn't met the base.
 pub record CameTo (client : ℕ) (s : SessionState) (head next : Id12) (seen : List SnapshotFile) (start journal : List Event) : Type 0 where
   pub version : Version
-  pub ref : WasRef client (Branch s.branch) version head start journal
+  pub ref : WasRef client (Branch (branch_of s)) version head start journal
   pub walked : WasWalked client s.base next head seen start journal
   pub apart : next ≢ s.base
 
@@ -200,16 +200,16 @@ pub record LogIsBad (client : ℕ) (policy : Policy) (s : SessionState) (key : K
 
 -- a key that a rebase gets
 abbrev pub IsOfRebase : SessionState → Key → Type 0
-IsOfRebase s key = (key ≡ Branch s.branch) ⊎ (((id : Id12) × (key ≡ Snapshot id)) ⊎ ((id : Id12) × (key ≡ Txn id)))
+IsOfRebase s key = (key ≡ Branch (branch_of s)) ⊎ (((id : Id12) × (key ≡ Snapshot id)) ⊎ ((id : Id12) × (key ≡ Txn id)))
 
 abbrev pub RebaseSays : ℕ → Policy → SessionState → List Event → Result Rebased Refusal → List Event → Type 0
 RebaseSays client policy s start (Ok (Moved t count)) journal = HasMoved client policy s t count start journal
 RebaseSays client policy s start (Ok (UpToDate t)) journal = WasUpToDate client s t start journal
-RebaseSays client policy s start (Err R.ReadOnly) journal = s.writes ≡ false
-RebaseSays client policy s start (Err R.NoRef) journal = WasAbsent client (Branch s.branch) start journal
+RebaseSays client policy s start (Err R.ReadOnly) journal = writes s ≡ false
+RebaseSays client policy s start (Err R.NoRef) journal = WasAbsent client (Branch (branch_of s)) start journal
 RebaseSays client policy s start (Err (R.Missing key)) journal = SnapshotIsMissing client s key start journal ⊎ LogIsMissing client policy s key start journal
 RebaseSays client policy s start (Err (R.BadFile key bad)) journal =
-    RefWasBad client (Branch s.branch) key bad start journal
+    RefWasBad client (Branch (branch_of s)) key bad start journal
     ⊎ (SnapshotIsBad client s key bad start journal ⊎ (LogIsBad client policy s key bad start journal ⊎ WasHidden client policy s key bad start journal))
 RebaseSays client policy s start (Err R.TooDeep) journal = WasTooDeep client s start journal
 RebaseSays client policy s start (Err R.Full) journal = WasFull client policy s start journal

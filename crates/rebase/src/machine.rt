@@ -11,6 +11,7 @@ ghost use Rattle.rebase.specs.inside.Working.{commits_behind, lists_behind, walk
 
 use crate::rebasing::{Rebasing, Solving, Walk};
 use crate::solving::{before_of, held_of, is_too_full, taken_out, without};
+use commit_path::Writer;
 use conflicts::Policy;
 use ice_items::Items;
 use repo_objects::Loaded;
@@ -41,7 +42,7 @@ pub enum Rebased {
 pub struct Rebase {
     alloc: Global,
     policy: Policy,
-    session: Option<Session>,
+    session: Option<Writer>,
     state: Rebasing,
 }
 
@@ -59,7 +60,7 @@ impl Machine for Rebase {
     fn request(&self) -> Result<Request<'_>, AllocError> {
         match &self.state {
             Rebasing::Ref => Ok(Request::Get {
-                key: Key::Branch(self.session().branch().copy(self.alloc)?),
+                key: Key::Branch(self.writer().branch().copy(self.alloc)?),
             }),
             Rebasing::Snapshot(walk) => Ok(Request::Get {
                 key: Key::Snapshot(walk.next),
@@ -117,7 +118,7 @@ impl Rebase {
         Ok(Rebase {
             alloc,
             policy,
-            session: Some(session),
+            session: Some(Writer::new(session)),
             state: Rebasing::Ref,
         })
     }
@@ -129,7 +130,7 @@ impl Rebase {
     {
         let Rebase { session, .. } = self;
         match session {
-            Some(session) => session,
+            Some(writer) => writer.into_session(),
             None => unreachable!(),
         }
     }
@@ -152,15 +153,23 @@ impl Rebase {
         }
     }
 
+    /// The session in the machine, which writes.
+    fn writer(&self) -> &Writer
+        requires { IsSome self.now.session }
+        ensures { self.now.session ≡ Some result.now }
+    {
+        match &self.session {
+            Some(writer) => writer,
+            None => unreachable!(),
+        }
+    }
+
     /// The session in the machine.
     fn session(&self) -> &Session
         requires { IsSome self.now.session }
         ensures { self.now.session ≡ Some result.now }
     {
-        match &self.session {
-            Some(session) => session,
-            None => unreachable!(),
-        }
+        self.writer().as_session()
     }
 
     /// The branch was got.
@@ -172,7 +181,7 @@ impl Rebase {
         ensures session { KeepsSession result (rebase_session self.old) (rebase_session self.new) }
         ensures listed { IfErr result MayRefuseRebase }
     {
-        match ref_told(self.alloc, self.session().branch(), reply) {
+        match ref_told(self.alloc, self.writer().branch(), reply) {
             Ok(named) => self.on_named(named),
             Err(why) => Err(why),
         }
@@ -196,9 +205,10 @@ impl Rebase {
             });
             return Ok(Next::Again);
         }
-        let Some(mut session) = self.session.take() else {
+        let Some(writer) = self.session.take() else {
             unreachable!()
         };
+        let mut session = writer.into_session();
         session.renew(named.version);
         Ok(Next::Ready(Rebased::UpToDate(session)))
     }
@@ -356,9 +366,10 @@ impl Rebase {
         if is_too_full(held_of(self.session(), &held), &head) {
             return Err(Refusal::Full);
         }
-        let Some(mut session) = self.session.take() else {
+        let Some(writer) = self.session.take() else {
             unreachable!()
         };
+        let mut session = writer.into_session();
         session.move_to(named.id, named.version, head, held);
         Ok(Next::Ready(Rebased::Moved(session, count)))
     }

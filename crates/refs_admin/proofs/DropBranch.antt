@@ -30,9 +30,10 @@ use Rattle.store_api.proofs.Telling.{get-had}
 use Rattle.store_api.proofs.Happening.{moved-later, stands-as}
 use Rattle.refs_admin.specs.Branches.{dropped, removal, branch_drop_program}
 use Rattle.refs_admin.specs.BranchTelling.{IsOfDrop, removes, BranchDropTells}
-use Rattle.refs_admin.proofs.Own.{MadeGets-none, MadeGets-get, one-made}
-use Rattle.refs_admin.proofs.Replies.{got-cases, gone-cases, gone-done, gone-moved}
-use Rattle.refs_admin.proofs.Namings.{got-made, absent-made, failed-made}
+use Rattle.repo_read.proofs.Own.{MadeGets-none, MadeGets-get, one-made}
+use Rattle.repo_read.proofs.Replies.{got-cases}
+use Rattle.refs_admin.proofs.Replies.{gone-cases, gone-done, gone-moved}
+use Rattle.repo_read.proofs.Namings.{got-made, absent-made, failed-made}
 use Rattle.refs_admin.proofs.ResetBranch.{HasRead, read-makes, stood-middle}
 
 -- the removal, unless the branch is `main`

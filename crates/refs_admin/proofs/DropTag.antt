@@ -24,13 +24,14 @@ use Rattle.repo_read.specs.Answers.{at_key}
 use Rattle.store_api.specs.Telling.{MadeGets, WasGot}
 use Rattle.store_api.proofs.Telling.{get-had}
 use Rattle.store_api.proofs.Happening.{new-present, stands-as}
-use Rattle.refs_admin.specs.Resolving.{tag_told}
+use Rattle.repo_read.specs.Resolving.{tag_told}
 use Rattle.refs_admin.specs.Tags.{buried, put_tombstone, tag_drop_program}
-use Rattle.refs_admin.specs.Telling.{TagNames}
+use Rattle.repo_read.specs.Naming.{TagNames}
 use Rattle.refs_admin.specs.TagTelling.{TagWasRead, IsOfBurying, buries, TagDropTells}
-use Rattle.refs_admin.proofs.Own.{MadeGets-none, MadeGets-get, one-made}
-use Rattle.refs_admin.proofs.Replies.{got-cases, new-cases, Holds, new-done}
-use Rattle.refs_admin.proofs.Namings.{got-made, absent-made, failed-made, got-tag, holds-names, names-waits, WasRef-makes}
+use Rattle.repo_read.proofs.Own.{MadeGets-none, MadeGets-get, one-made}
+use Rattle.repo_read.proofs.Replies.{got-cases, Holds}
+use Rattle.refs_admin.proofs.Replies.{new-cases, new-done}
+use Rattle.repo_read.proofs.Namings.{got-made, absent-made, failed-made, got-tag, holds-names, names-waits, WasRef-makes}
 
 -- ---- politeness
 module _ (by : Caller) (name : List ℕ) where

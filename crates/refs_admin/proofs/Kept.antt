@@ -19,18 +19,20 @@ use Rattle.store_api.specs.declared.machines.Refusal.{Refusal}
 use Rattle.store_api.specs.declared.machines.Refusal.TheVariants as R
 use Rattle.store_api.specs.Journal.{Each}
 use Rattle.store_api.specs.Callers.{Caller, IsOther}
-use Rattle.store_api.specs.Telling.{GetsOf, HasOwn, MadeGets, MadeOne, RefWasBad, SnapshotWasBad, WasAbsent, WasFailure, WasPresent, WasSnapshot}
+use Rattle.store_api.specs.Telling.{HasOwn, MadeGets, MadeOne, RefWasBad, SnapshotWasBad, WasAbsent, WasFailure, WasPresent, WasSnapshot}
 use Rattle.store_api.proofs.Happening.{HasOwn-append, WasGot-append, WasAbsent-append}
-use Rattle.refs_admin.specs.declared.resolving.At.{At}
-use Rattle.refs_admin.specs.declared.resolving.Named.{Named}
+use Rattle.repo_read.specs.declared.resolving.At.{At}
+use Rattle.repo_read.specs.declared.resolving.Named.{Named}
 use Rattle.refs_admin.specs.declared.log.LogLine.{LogLine}
-use Rattle.refs_admin.specs.Telling.{GetsTarget, IsOfMaking, WasAimed, WasResolved, WasNothing, WasUnnamed, key_of, IsNaming, NamingTells, TargetWasAbsent, TargetWasBad, MakingRefused}
+use Rattle.repo_read.specs.Naming.{WasResolved, WasNothing, WasUnnamed, key_of}
+use Rattle.refs_admin.specs.Telling.{GetsTarget, IsOfMaking, WasAimed, TargetWasAbsent, TargetWasBad, MakingRefused}
 use Rattle.refs_admin.specs.BranchTelling.{creates, BranchNewTells, BranchWasAt, ResetRefused, IsOfReset, resets, BranchResetTells, DropRefused, IsOfDrop, removes, BranchDropTells}
 use Rattle.refs_admin.specs.TagTelling.{TagWasThere, TombstoneWasNotGot, tags, TagNewTells, TagWasRead, HadTombstone, IsOfBurying, buries, TagDropTells}
 use Rattle.refs_admin.specs.InitTelling.{HasInitial, puts_initial, puts_main, InitTells}
 use Rattle.refs_admin.specs.LogTelling.{WasWalked, HeadWasAbsent, ChainIsBad, IsOfLog, LogSays, LogTells}
-use Rattle.refs_admin.proofs.Own.{MadeGets-append, MadeOne-append, others-get}
-use Rattle.refs_admin.proofs.Namings.{WasRef-append, WasResolved-append}
+use Rattle.repo_read.proofs.Own.{MadeGets-append, MadeOne-append, others-get}
+use Rattle.repo_read.proofs.NamingTold.{WasPresent-append, RefWasBad-append, WasNothing-append, WasFailure-append}
+use Rattle.repo_read.proofs.Namings.{WasRef-append, WasResolved-append}
 use Rattle.refs_admin.proofs.Targets.{WasSnapshot-append}
 use Rattle.refs_admin.proofs.Lines.{leading-append}
 
@@ -45,17 +47,17 @@ module _ (by : Caller) (start journal more : List Event) (others : Each (IsOther
   own op reply h = HasOwn-append by.number op reply start journal more h
 
   failure : (kind : Op → Type 0) → WasFailure by.number kind start journal → WasFailure by.number kind start (journal ++ more)
-  failure kind w = record { op = w.op; of_kind = w.of_kind; done = w.done; made = one w.op (Failed w.done) w.made }
+  failure kind w = WasFailure-append by.number kind start journal more (others-get by journal more others) w
 
   -- ... where the kind may say more of the longer journal
   failure-more : (kind other : Op → Type 0) → ((op : Op) → kind op → other op) → WasFailure by.number kind start journal → WasFailure by.number other start (journal ++ more)
   failure-more kind other f w = record { op = w.op; of_kind = f w.op w.of_kind; done = w.done; made = one w.op (Failed w.done) w.made }
 
   present : (key : Key) → WasPresent by.number key start journal → WasPresent by.number key start (journal ++ more)
-  present key w = record { bytes = w.bytes; version = w.version; got = WasGot-append by.number key w.bytes w.version start journal more w.got }
+  present key w = WasPresent-append by.number key start journal more w
 
   ref-bad : (ref key : Key) (bad : Bad) → RefWasBad by.number ref key bad start journal → RefWasBad by.number ref key bad start (journal ++ more)
-  ref-bad ref key bad w = record { key_is = w.key_is; bytes = w.bytes; version = w.version; got = WasGot-append by.number ref w.bytes w.version start journal more w.got; unread = w.unread }
+  ref-bad ref key bad w = RefWasBad-append by.number ref key bad start journal more w
 
   snapshot-bad : (id : Id12) (key : Key) (bad : Bad) → SnapshotWasBad by.number id key bad start journal → SnapshotWasBad by.number id key bad start (journal ++ more)
   snapshot-bad id key bad w = record { key_is = w.key_is; bytes = w.bytes; version = w.version; got = WasGot-append by.number (Snapshot id) w.bytes w.version start journal more w.got; unread = w.unread }
@@ -65,17 +67,7 @@ module _ (by : Caller) (start journal more : List Event) (others : Each (IsOther
   resolved at named w = WasResolved-append by.number at named start journal more w
 
   nothing : (at : At) → WasNothing by.number at start journal → WasNothing by.number at start (journal ++ more)
-  nothing (At.Branch name) w = WasAbsent-append by.number (Branch name) start journal more w
-  nothing (At.Tag name) (inl w) = inl (WasAbsent-append by.number (Tag name) start journal more w)
-  nothing (At.Tag name) (inr w) = inr (present (TagGone name) w)
-  nothing (At.Snapshot id) w = absurd w
-
-  pub naming-kept : (at : At) (result : Result Named Refusal) → NamingTells by.number at start result journal → NamingTells by.number at start result (journal ++ more)
-  naming-kept at (Ok named) t = (resolved at named t.0, gets t.1)
-  naming-kept at (Err R.NoRef) t = (nothing at t.0, gets t.1)
-  naming-kept at (Err (R.BadFile key bad)) t = (ref-bad (key_of at) key bad t.0, gets t.1)
-  naming-kept at (Err R.StoreFault) t = failure (GetsOf (IsNaming at)) t
-  naming-kept at (Err _) t = absurd t
+  nothing at w = WasNothing-append by.number at start journal more w
 
   -- ---- refs that are made
   target : (id : Id12) → WasSnapshot by.number id start journal → WasSnapshot by.number id start (journal ++ more)

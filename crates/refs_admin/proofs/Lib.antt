@@ -1,8 +1,6 @@
 pub mod Walks
-pub mod Own
 pub mod Replies
 pub mod Stays
-pub mod Namings
 pub mod Targets
 pub mod NewBranch
 pub mod ResetBranch

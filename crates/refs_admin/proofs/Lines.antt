@@ -25,16 +25,17 @@ use Rattle.repo_read.specs.declared.answers.Resolved.{Resolved}
 use Rattle.repo_read.specs.Answers.{at_key, ref_told, snapshot_told}
 use Rattle.repo_read.specs.Chains.{walk, chain_program, most_snapshots}
 use Rattle.store_api.specs.Telling.{GetsOf, MadeGets, WasGot, WasReadAs}
-use Rattle.refs_admin.specs.declared.resolving.At.{At}
-use Rattle.refs_admin.specs.declared.resolving.Named.{Named}
+use Rattle.repo_read.specs.declared.resolving.At.{At}
+use Rattle.repo_read.specs.declared.resolving.Named.{Named}
 use Rattle.refs_admin.specs.declared.log.LogLine.{LogLine}
-use Rattle.refs_admin.specs.Resolving.{alone, tag_told, tombstone_told, tombstone_program, resolve_at_program}
-use Rattle.refs_admin.specs.Logs.{line_of, told_lines, no_ref, refused_now, refused_first, chain_at, log_program}
-use Rattle.refs_admin.specs.Telling.{WasResolved, NamingTells, IsNaming}
+use Rattle.repo_read.specs.Resolving.{alone, tag_told, tombstone_told, tombstone_program, resolve_at_program}
+use Rattle.repo_read.specs.Resolving.{no_ref}
+use Rattle.refs_admin.specs.Logs.{line_of, told_lines, refused_now, refused_first, chain_at, log_program}
+use Rattle.repo_read.specs.Naming.{WasResolved, NamingTells, IsNaming}
 use Rattle.refs_admin.specs.LogTelling.{Leading, WasWalked, IsOfLog, LogSays, LogTells}
-use Rattle.refs_admin.proofs.Own.{MadeGets-none, MadeGets-get, made-more}
-use Rattle.refs_admin.proofs.Replies.{got-cases}
-use Rattle.refs_admin.proofs.Namings.{got-made, absent-made, failed-made, WasResolved-makes, naming-leads}
+use Rattle.repo_read.proofs.Own.{MadeGets-none, MadeGets-get, made-more}
+use Rattle.repo_read.proofs.Replies.{got-cases}
+use Rattle.repo_read.proofs.Namings.{got-made, absent-made, failed-made, WasResolved-makes, naming-leads}
 use Rattle.refs_admin.proofs.Targets.{read-append}
 use Rattle.refs_admin.proofs.NewBranch.{failure-as}
 

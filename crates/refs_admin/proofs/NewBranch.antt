@@ -21,16 +21,17 @@ use Rattle.store_api.specs.Program.{Done, Leads, Keeps}
 use Rattle.store_api.specs.Running.{on_answer, StaysPolite}
 use Rattle.store_api.proofs.Programs.{Leads-bind}
 use Rattle.store_api.proofs.Happening.{new-present, stands-as}
-use Rattle.refs_admin.specs.declared.resolving.At.{At}
-use Rattle.refs_admin.specs.declared.resolving.Named.{Named}
-use Rattle.refs_admin.specs.Resolving.{resolve_at_program}
+use Rattle.repo_read.specs.declared.resolving.At.{At}
+use Rattle.repo_read.specs.declared.resolving.Named.{Named}
+use Rattle.repo_read.specs.Resolving.{resolve_at_program}
 use Rattle.refs_admin.specs.Branches.{created, put_branch, create_program, branch_new_program}
-use Rattle.refs_admin.specs.Telling.{NamingTells, IsNaming, IsOfMaking}
+use Rattle.repo_read.specs.Naming.{NamingTells, IsNaming}
+use Rattle.refs_admin.specs.Telling.{IsOfMaking}
 use Rattle.store_api.specs.Telling.{GetsOf, WasFailure}
 use Rattle.refs_admin.specs.BranchTelling.{creates, BranchNewTells}
-use Rattle.refs_admin.proofs.Own.{MadeGets-none, one-made}
+use Rattle.repo_read.proofs.Own.{MadeGets-none, one-made}
 use Rattle.refs_admin.proofs.Replies.{new-cases, new-done}
-use Rattle.refs_admin.proofs.Namings.{failed-made, behind-polite, naming-leads}
+use Rattle.repo_read.proofs.Namings.{failed-made, behind-polite, naming-leads}
 use Rattle.refs_admin.proofs.Targets.{Spelled, names-put, target-polite, IsAimed, aimed-makes, target-leads}
 
 -- a failure of one kind is one of another

@@ -23,19 +23,21 @@ use Rattle.store_api.specs.Program.{Done, Leads, Keeps}
 use Rattle.store_api.specs.Running.{on_answer, StaysPolite}
 use Rattle.store_api.proofs.Programs.{Leads-bind}
 use Rattle.store_api.proofs.Happening.{new-present, stands-as}
-use Rattle.refs_admin.specs.declared.resolving.At.{At}
-use Rattle.refs_admin.specs.declared.resolving.Named.{Named}
-use Rattle.refs_admin.specs.Resolving.{resolve_at_program}
+use Rattle.repo_read.specs.declared.resolving.At.{At}
+use Rattle.repo_read.specs.declared.resolving.Named.{Named}
+use Rattle.repo_read.specs.Resolving.{resolve_at_program}
 use Rattle.refs_admin.specs.Tags.{taken, after_tag, put_tag, tag_target_program, tag_new_program}
-use Rattle.refs_admin.specs.Telling.{NamingTells, IsNaming, IsOfMaking}
+use Rattle.repo_read.specs.Naming.{NamingTells, IsNaming}
+use Rattle.refs_admin.specs.Telling.{IsOfMaking}
 use Rattle.store_api.specs.Telling.{GetsOf}
 use Rattle.refs_admin.specs.TagTelling.{tags, TagWasThere, TagNewTells}
-use Rattle.refs_admin.proofs.Own.{MadeGets-none, MadeOne-append, Since, Since-gets, Since-makes, got-alone, made-more, own-made, one-made}
-use Rattle.refs_admin.proofs.Replies.{got-cases, new-cases, got-absent, new-done}
-use Rattle.refs_admin.proofs.Namings.{failed-made, behind-polite, naming-leads, WasResolved-append}
+use Rattle.repo_read.proofs.Own.{MadeGets-none, MadeOne-append, Since, Since-gets, Since-makes, got-alone, made-more, own-made, one-made}
+use Rattle.repo_read.proofs.Replies.{got-cases, got-absent}
+use Rattle.refs_admin.proofs.Replies.{new-cases, new-done}
+use Rattle.repo_read.proofs.Namings.{failed-made, behind-polite, naming-leads, WasResolved-append}
 use Rattle.refs_admin.proofs.Targets.{Spelled, names-put, target-polite, IsAimed, aimed-makes, target-leads, WasSnapshot-append}
 use Rattle.refs_admin.proofs.NewBranch.{failure-as}
-use Rattle.refs_admin.proofs.Stays.{tag-new, tag-waits}
+use Rattle.repo_read.proofs.Stays.{tag-new, tag-waits}
 
 -- ---- politeness
 module _ (laws : Spelled) (by : Caller) (name : List ℕ) where

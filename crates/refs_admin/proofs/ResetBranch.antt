@@ -31,15 +31,16 @@ use Rattle.repo_read.specs.Answers.{at_key, resolved_at, ref_told}
 use Rattle.store_api.specs.Telling.{GetsOf, MadeGets, WasGot}
 use Rattle.store_api.proofs.Telling.{get-had}
 use Rattle.store_api.proofs.Happening.{over-done, over-moved, over-same, moved-later, stands-as}
-use Rattle.refs_admin.specs.declared.resolving.At.{At}
-use Rattle.refs_admin.specs.declared.resolving.Named.{Named}
-use Rattle.refs_admin.specs.Resolving.{resolve_at_program}
+use Rattle.repo_read.specs.declared.resolving.At.{At}
+use Rattle.repo_read.specs.declared.resolving.Named.{Named}
+use Rattle.repo_read.specs.Resolving.{resolve_at_program}
 use Rattle.refs_admin.specs.Branches.{moved, put_over, move_program, reset_program, branch_reset_program}
-use Rattle.refs_admin.specs.Telling.{WasResolved, NamingTells, IsNaming}
+use Rattle.repo_read.specs.Naming.{WasResolved, NamingTells, IsNaming}
 use Rattle.refs_admin.specs.BranchTelling.{BranchWasAt, IsOfReset, resets, BranchResetTells}
-use Rattle.refs_admin.proofs.Own.{MadeGets-none, MadeGets-get, made-more, one-made}
-use Rattle.refs_admin.proofs.Replies.{got-cases, over-cases}
-use Rattle.refs_admin.proofs.Namings.{got-made, absent-made, failed-made, behind-polite, naming-leads, WasRef-makes, WasResolved-makes}
+use Rattle.repo_read.proofs.Own.{MadeGets-none, MadeGets-get, made-more, one-made}
+use Rattle.repo_read.proofs.Replies.{got-cases}
+use Rattle.refs_admin.proofs.Replies.{over-cases}
+use Rattle.repo_read.proofs.Namings.{got-made, absent-made, failed-made, behind-polite, naming-leads, WasRef-makes, WasResolved-makes}
 use Rattle.refs_admin.proofs.Targets.{Spelled, names-put, target-polite, IsAimed, aimed-makes, target-leads}
 use Rattle.refs_admin.proofs.NewBranch.{failure-as}
 

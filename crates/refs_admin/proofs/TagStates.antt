@@ -24,7 +24,7 @@ use Rattle.histories.specs.Tags.{TagState, Absent, Stands, Gone, made_as, Open, 
 use Rattle.histories.specs.TagCalls.{tag_of, IsBuriedAs, StandsByState, TagAgrees, GotTag, GotTombstone}
 use Rattle.histories.proofs.Tagging.{never-moves, tags-law}
 use Rattle.histories.proofs.TagTrees.{entry-same}
-use Rattle.refs_admin.specs.Telling.{WasTagged}
+use Rattle.repo_read.specs.Naming.{WasTagged}
 use Rattle.refs_admin.specs.TagStates.{Gives, TagStatesTell, TagStatesLaw}
 
 -- ---- states by what stands

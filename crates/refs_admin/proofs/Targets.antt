@@ -26,13 +26,15 @@ use Rattle.repo_read.specs.Answers.{at_key}
 use Rattle.store_api.specs.Telling.{MadeGets, WasFailure, WasGot, WasReadAs, WasSnapshot}
 use Rattle.store_api.proofs.Happening.{WasGot-append}
 use Rattle.store_api.proofs.Telling.{get-had}
-use Rattle.refs_admin.specs.declared.resolving.At.{At}
-use Rattle.refs_admin.specs.declared.resolving.Named.{Named}
-use Rattle.refs_admin.specs.Resolving.{but_refused, no_snapshot, target_told, target_program}
-use Rattle.refs_admin.specs.Telling.{WasResolved, TargetWasAbsent, TargetWasBad}
-use Rattle.refs_admin.proofs.Own.{MadeGets-get, made-more}
-use Rattle.refs_admin.proofs.Replies.{got-cases}
-use Rattle.refs_admin.proofs.Namings.{got-made, absent-made, failed-made, WasResolved-makes}
+use Rattle.repo_read.specs.declared.resolving.At.{At}
+use Rattle.repo_read.specs.declared.resolving.Named.{Named}
+use Rattle.repo_read.specs.Resolving.{but_refused}
+use Rattle.refs_admin.specs.Targets.{no_snapshot, target_told, target_program}
+use Rattle.repo_read.specs.Naming.{WasResolved}
+use Rattle.refs_admin.specs.Telling.{TargetWasAbsent, TargetWasBad}
+use Rattle.repo_read.proofs.Own.{MadeGets-get, made-more}
+use Rattle.repo_read.proofs.Replies.{got-cases}
+use Rattle.repo_read.proofs.Namings.{got-made, absent-made, failed-made, WasResolved-makes}
 
 -- the laws of what is read and written
 pub record Spelled : Type 0 where

@@ -18,8 +18,9 @@ use Rattle.store_api.specs.declared.machines.Refusal.TheVariants.{NoRef, BadFile
 use Rattle.store_api.specs.Program.{Done, Ask}
 use Rattle.store_api.specs.Running.{Program, ◌>>=◌}
 use Rattle.repo_read.specs.Programs.{resolve_program}
-use Rattle.refs_admin.specs.declared.resolving.At.{At}
-use Rattle.refs_admin.specs.Resolving.{resolve_at_program, target_program}
+use Rattle.repo_read.specs.declared.resolving.At.{At}
+use Rattle.repo_read.specs.Resolving.{resolve_at_program}
+use Rattle.refs_admin.specs.Targets.{target_program}
 
 -- ---- a new branch
 -- what the put of a branch answers where it may be there

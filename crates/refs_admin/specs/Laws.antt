@@ -7,13 +7,13 @@ use Rattle.store_api.specs.Machine.{Stored, found}
 use Rattle.store_api.specs.Journal.{Each, IsGood}
 use Rattle.store_api.specs.Callers.{Caller}
 use Rattle.store_api.specs.Telling.{IsTold}
-use Rattle.refs_admin.specs.declared.resolving.At.{At}
-use Rattle.refs_admin.specs.Resolving.{resolve_at_program}
+use Rattle.repo_read.specs.declared.resolving.At.{At}
+use Rattle.repo_read.specs.Resolving.{resolve_at_program}
 use Rattle.refs_admin.specs.Branches.{branch_new_program, branch_reset_program, branch_drop_program}
 use Rattle.refs_admin.specs.Tags.{tag_new_program, tag_drop_program}
 use Rattle.refs_admin.specs.Beginning.{init_program}
 use Rattle.refs_admin.specs.Logs.{log_program}
-use Rattle.refs_admin.specs.Telling.{NamingTells}
+use Rattle.repo_read.specs.Naming.{NamingTells}
 use Rattle.refs_admin.specs.BranchTelling.{BranchNewTells, BranchResetTells, BranchDropTells}
 use Rattle.refs_admin.specs.TagTelling.{TagNewTells, TagDropTells}
 use Rattle.refs_admin.specs.InitTelling.{InitTells}

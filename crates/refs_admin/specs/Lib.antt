@@ -1,4 +1,4 @@
-pub mod Resolving
+pub mod Targets
 pub mod Branches
 pub mod Tags
 pub mod Logs

@@ -12,11 +12,11 @@ use Rattle.store_api.specs.declared.machines.Refusal.{Refusal}
 use Rattle.store_api.specs.declared.machines.Refusal.TheVariants as R
 use Rattle.repo_read.specs.Chains.{most_snapshots}
 use Rattle.store_api.specs.Telling.{GetsOf, MadeGets, SnapshotWasBad, WasAbsent, WasFailure, WasReadAs}
-use Rattle.refs_admin.specs.declared.resolving.At.{At}
-use Rattle.refs_admin.specs.declared.resolving.Named.{Named}
+use Rattle.repo_read.specs.declared.resolving.At.{At}
+use Rattle.repo_read.specs.declared.resolving.Named.{Named}
 use Rattle.refs_admin.specs.declared.log.LogLine.{LogLine}
 use Rattle.refs_admin.specs.Logs.{line_of}
-use Rattle.refs_admin.specs.Telling.{WasResolved, WasNothing, WasUnnamed, IsNaming}
+use Rattle.repo_read.specs.Naming.{WasResolved, WasNothing, WasUnnamed, IsNaming}
 
 -- ---- a log
 -- These snapshots were read, each the parent of the one before; it began with this one, and leads to the parent of the last one.

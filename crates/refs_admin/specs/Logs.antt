@@ -8,9 +8,9 @@ use Rattle.store_api.specs.declared.machines.Refusal.TheVariants.{NoRef, Missing
 use Rattle.store_api.specs.Program.{Done, Ask}
 use Rattle.store_api.specs.Running.{Program, ◌>>=◌}
 use Rattle.repo_read.specs.Chains.{chain_program}
-use Rattle.refs_admin.specs.declared.resolving.At.{At}
+use Rattle.repo_read.specs.declared.resolving.At.{At}
 use Rattle.refs_admin.specs.declared.log.LogLine.{LogLine}
-use Rattle.refs_admin.specs.Resolving.{resolve_at_program}
+use Rattle.repo_read.specs.Resolving.{no_ref, resolve_at_program}
 
 -- what the log says of a snapshot
 abbrev pub line_of : SnapshotFile → LogLine
@@ -21,10 +21,6 @@ abbrev pub told_lines : List SnapshotFile → Program (List LogLine)
 told_lines seen = Done (Ok (map line_of seen))
 
 -- ---- the head of the chain
-abbrev pub no_ref : Refusal → Refusal
-no_ref (Missing key) = NoRef
-no_ref why = why
-
 abbrev pub refused_now : {A : Type 0} → (Refusal → Refusal) → Program A → Program A
 refused_now f (Done (Ok x)) = Done (Ok x)
 refused_now f (Done (Err why)) = Done (Err (f why))

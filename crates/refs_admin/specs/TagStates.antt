@@ -12,8 +12,8 @@ use Rattle.store_api.specs.Journal.{IsGoodJournal}
 use Rattle.store_api.specs.Telling.{RefWasBad, WasAbsent, WasPresent}
 use Rattle.histories.specs.Tags.{TagCall, Open, Make, Drop, TagAnswer, Opened, Done, NoRef, RefExists, TagGone, tag_answer}
 use Rattle.histories.specs.TagCalls.{tag_of}
-use Rattle.refs_admin.specs.declared.resolving.At.{At}
-use Rattle.refs_admin.specs.Telling.{WasTagged}
+use Rattle.repo_read.specs.declared.resolving.At.{At}
+use Rattle.repo_read.specs.Naming.{WasTagged}
 use Rattle.refs_admin.specs.TagTelling.{WasTagPut, TagWasGone, TagStands, WasBuried, HadTombstone}
 
 -- the state of the tag behind this journal gives the call this answer

@@ -14,8 +14,9 @@ use Rattle.store_api.specs.declared.machines.Refusal.{Refusal}
 use Rattle.store_api.specs.declared.machines.Refusal.TheVariants as R
 use Rattle.store_api.specs.Machine.{found, version_at}
 use Rattle.store_api.specs.Telling.{HasOwn, MadeGets, MadeOne, RefWasBad, StandsAt, WasAbsent, WasFailure, WasPresent, WasRef}
-use Rattle.refs_admin.specs.declared.resolving.At.{At}
-use Rattle.refs_admin.specs.Telling.{TagNames, WasAimed, IsOfMaking, MakingRefused}
+use Rattle.repo_read.specs.declared.resolving.At.{At}
+use Rattle.repo_read.specs.Naming.{TagNames}
+use Rattle.refs_admin.specs.Telling.{WasAimed, IsOfMaking, MakingRefused}
 
 -- ---- a new tag
 abbrev pub tags : (name : List ℕ) → Id12 → Op

@@ -15,8 +15,9 @@ use Rattle.store_api.specs.declared.machines.Refusal.{Refusal}
 use Rattle.store_api.specs.declared.machines.Refusal.TheVariants.{NoRef, BadFile, NoSnapshot, RefExists, TagGone as Tag_gone, StoreFault, NoMemory}
 use Rattle.store_api.specs.Program.{Done, Ask}
 use Rattle.store_api.specs.Running.{Program, ◌>>=◌}
-use Rattle.refs_admin.specs.declared.resolving.At.{At}
-use Rattle.refs_admin.specs.Resolving.{resolve_at_program, tag_program, target_program}
+use Rattle.repo_read.specs.declared.resolving.At.{At}
+use Rattle.repo_read.specs.Resolving.{resolve_at_program, tag_program}
+use Rattle.refs_admin.specs.Targets.{target_program}
 
 -- ---- a new tag
 -- why a tag that is there at this version isn't made: by what the get of its tombstone tells

@@ -1,2 +1,1 @@
-pub mod Seeking
 pub mod Working

@@ -4,7 +4,7 @@ ghost use Rattle.std.specs.Prelude.{◌≡◌, IfErr, IfOk};
 ghost use Rattle.ref_file.specs.Refs.{ref_bytes};
 ghost use Rattle.repo_read.specs.Answers.{Answers};
 ghost use Rattle.store_api.specs.Driving.{bytes_of};
-ghost use Rattle.refs_admin.specs.Resolving.{target_told};
+ghost use Rattle.refs_admin.specs.Targets.{target_told};
 ghost use Rattle.refs_admin.specs.Branches.{created, moved, dropped};
 ghost use Rattle.refs_admin.specs.Tags.{taken, buried};
 ghost use Rattle.refs_admin.specs.inside.Working.{MayRefuseTarget};

@@ -4,13 +4,13 @@ ghost use Rattle.std.specs.Prelude.{◌≡◌, ◌<◌, ◌≤◌, ◌+◌, IfEr
 ghost use Rattle.store_api.specs.Program.{IsAsk, NextIsPolite, Steps};
 ghost use Rattle.store_api.specs.Driving.{Awaits, Took};
 ghost use Rattle.refs_admin.specs.Branches.{branch_new_program, create_program, MayRefuseNew};
-ghost use Rattle.refs_admin.specs.inside.Seeking.{resolving_left};
+ghost use Rattle.repo_read.specs.Seeking.{resolving_left};
 ghost use Rattle.refs_admin.specs.inside.Working.{creating_rest, branch_new_rest, branch_new_left};
 
 use crate::answers::{created, reference, target_told};
-use crate::resolving::{At, Resolution, Resolving};
 use ice_base::RefName;
 use ice_ids::Id12;
+use repo_read::{At, Resolution, Resolving};
 use std::alloc::{AllocError, Global};
 use std::mem;
 use store_api::{Key, Machine, Next, Refusal, Reply, Request, Store, Why, drive};

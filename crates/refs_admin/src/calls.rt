@@ -8,10 +8,9 @@ ghost use Rattle.refs_admin.specs.Tags.{tag_new_program, tag_drop_program, MayRe
 ghost use Rattle.refs_admin.specs.Logs.{log_program, MayRefuseLog};
 ghost use Rattle.repo_read.specs.Programs.{MayRefuseRef};
 
-use crate::{
-    At, BranchDrop, BranchNew, BranchReset, Init, Log, LogLines, TagDrop, TagNew, refs_law,
-};
+use crate::{BranchDrop, BranchNew, BranchReset, Init, Log, LogLines, TagDrop, TagNew, refs_law};
 use ice_base::RefName;
+use repo_read::At;
 use std::alloc::Global;
 use store_api::{Refusal, Store, run_machine};
 

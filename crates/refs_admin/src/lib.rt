@@ -9,7 +9,6 @@ mod calls;
 mod init;
 mod laws;
 mod log;
-mod resolving;
 mod tag_drop;
 mod tag_new;
 
@@ -22,6 +21,5 @@ pub use calls::{
 pub use init::Init;
 pub use laws::{refs_law, stays_law, tag_states_law};
 pub use log::{Log, LogLine, LogLines};
-pub use resolving::{At, Named, ResolveAt};
 pub use tag_drop::TagDrop;
 pub use tag_new::TagNew;

@@ -8,8 +8,8 @@ ghost use Rattle.refs_admin.specs.Tags.{tag_drop_program};
 ghost use Rattle.refs_admin.specs.inside.Working.{tag_drop_rest, tag_drop_left};
 
 use crate::answers::buried;
-use crate::resolving::tag_told;
 use ice_base::RefName;
+use repo_read::tag_told;
 use std::alloc::{AllocError, Global};
 use store_api::{Key, Machine, Next, Payload, Refusal, Reply, Request, Store, Why, drive};
 

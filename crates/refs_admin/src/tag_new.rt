@@ -4,13 +4,13 @@ ghost use Rattle.std.specs.Prelude.{◌≡◌, ◌<◌, ◌≤◌, ◌+◌, IfEr
 ghost use Rattle.store_api.specs.Program.{IsAsk, NextIsPolite, Steps};
 ghost use Rattle.store_api.specs.Driving.{Awaits, Took};
 ghost use Rattle.refs_admin.specs.Tags.{tag_new_program, tag_target_program, MayRefuseTag};
-ghost use Rattle.refs_admin.specs.inside.Seeking.{resolving_left};
+ghost use Rattle.repo_read.specs.Seeking.{resolving_left};
 ghost use Rattle.refs_admin.specs.inside.Working.{tagging_rest, tag_new_rest, tag_new_left};
 
 use crate::answers::{reference, taken, target_told};
-use crate::resolving::{At, Resolution, Resolving};
 use ice_base::RefName;
 use ice_ids::Id12;
+use repo_read::{At, Resolution, Resolving};
 use std::alloc::{AllocError, Global};
 use std::mem;
 use store_api::{Key, Machine, New, Next, Refusal, Reply, Request, Store, Version, Why, drive};

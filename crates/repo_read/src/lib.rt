@@ -3,10 +3,10 @@
 
 mod answers;
 mod chain;
-mod resolve;
+mod resolving;
 mod snapshot;
 
 pub use answers::{Resolved, log_told, manifest_told, object_told, ref_told, snapshot_told};
 pub use chain::{Chain, MOST_SNAPSHOTS};
-pub use resolve::Resolve;
+pub use resolving::{At, Named, Resolution, Resolve, Resolving, base_told, tag_told};
 pub use snapshot::ReadSnapshot;

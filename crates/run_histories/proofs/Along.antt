@@ -1,5 +1,5 @@
 -- Nothing is put again in a run, and for each of its commits there are its session's changes.
-use Rattle.std.proofs.Common.{◌≡◌, ℕ, ◌+◌, ◌-◌, ◌^◌, ◌<◌, List, [], ◌∷◌, ◌++◌, length, refl, sym, ◌∙◌, ap, subst, arith}
+use Rattle.std.proofs.Common.{◌≡◌, inl, inr, ◌⊎◌, ℕ, ◌+◌, ◌-◌, ◌^◌, ◌<◌, true, List, [], ◌∷◌, ◌++◌, length, refl, sym, ◌∙◌, ap, subst, arith}
 use Rattle.std.specs.Prelude.{Some, None, slice_get, All}
 use Rattle.std.proofs.lemmas.Option.{slice_get_within, get_or_from_slice_get}
 use Rattle.std.proofs.lemmas.List.Elements.{All-get_or}
@@ -13,22 +13,28 @@ use Rattle.repo_objects.specs.Readings.{ref_of}
 use Rattle.store_api.specs.declared.keys.Key.{Key}
 use Rattle.store_api.specs.declared.keys.Key.TheVariants.{Snapshot, Manifest, Txn, Chunk, Branch, Tag, TagGone}
 use Rattle.store_api.specs.declared.keys.Why.{Why}
+use Rattle.store_api.specs.declared.keys.Why.TheVariants.{Commit}
 use Rattle.store_api.specs.declared.events.Version.{Version}
 use Rattle.store_api.specs.declared.events.Op.{Op}
 use Rattle.store_api.specs.declared.events.Op.TheVariants.{Get, PutNew, PutOver, Remove, RemoveAt, List as ListPart}
 use Rattle.store_api.specs.declared.events.Event.{Event}
-use Rattle.store_api.specs.Machine.{Slot, slot_of, leaves, put_at}
+use Rattle.store_api.specs.Machine.{Slot, slot_of, leaves, put_at, is_on}
 use Rattle.store_api.specs.Journal.{Each, puts_of, IsGood, IsOnce, IsFirst, IsUnused}
 use Rattle.store_api.specs.Laws.{PutsOnce}
 use Rattle.store_api.proofs.Journals.{Each-append}
 use Rattle.store_api.proofs.Once.{first-law}
-use Rattle.store_api.proofs.Slots.{effect-cases, free-cases, old-cases, slot-append_one}
+use Rattle.store_api.proofs.Slots.{effect-cases, free-cases, old-cases, same_key-true, slot-append_one}
 use Rattle.histories.proofs.Choosing.{Knows}
 use Rattle.session.specs.Sessions.{changes_in}
 use Rattle.session.specs.Sources.{MayDrawObject}
-use Rattle.commit_path.specs.Owed.{Sessions, IsMade, OwesOver, Owes}
+use Rattle.commit_path.specs.Owed.{Sessions, IsCarefulEvent, IsMade, OwesOver, Owes}
+use Rattle.play_refs.specs.Telling.{OwesRefs}
+use Rattle.play_script.specs.declared.scripts.Access.{Access}
+use Rattle.play_script.specs.declared.scripts.Head.{Head}
+use Rattle.play_script.specs.declared.scripts.Head.TheVariants.{Session, Refs}
 use Rattle.play_script.specs.declared.scripts.Task.{Task}
 use Rattle.play_script.specs.Well.{IsWellTask}
+use Rattle.play_tasks.specs.Owing.{OwesBy}
 use Rattle.play_tasks.specs.Solving.{IsOfTask}
 use Rattle.play_tasks.specs.Tasks.{ids_at, IsOfClient}
 use Rattle.run_histories.specs.Sources.{ObjectsAreNew}
@@ -36,40 +42,57 @@ use Rattle.run_histories.specs.Told.{IsOfSession, CommitsSession}
 use Rattle.run_histories.proofs.Sources.{object-not_initial}
 use Rattle.run_histories.proofs.Carrying.{task-object}
 use Rattle.run_histories.proofs.Drawing.{AreOf}
-use Rattle.run_histories.proofs.Programs.{IsPlain}
+use Rattle.run_histories.proofs.Programs.{IsBranch, IsPlain}
 use Rattle.run_histories.proofs.Origins.{PutsOverSnapshot}
 
 -- ---- a key from which nothing is removed
 abbrev Unused : Slot → Type 0
 Unused slot = slot.stands ≡ None → slot.first ≡ None
 
--- a removal
+-- the key of an object
+abbrev pub IsObject : Key → Type 0
+IsObject (Snapshot id) = Unit {0}
+IsObject (Manifest id) = Unit {0}
+IsObject (Txn id) = Unit {0}
+IsObject (Chunk id) = Unit {0}
+IsObject _ = ⊥
+
+-- a removal of an object
 abbrev pub Removes : Op → Type 0
 Removes (Remove key why) = Unit {0}
-Removes (RemoveAt key old why) = Unit {0}
+Removes (RemoveAt key old why) = IsObject key
 Removes _ = ⊥
 
-leaves-unused : (op : Op) (n time : ℕ) (slot : Slot) → ¬ Removes op → Unused slot → Unused (leaves n time op slot)
-leaves-unused (Get key) n time slot k u = u
-leaves-unused (PutNew key bytes why) n time slot k u = free-cases Unused slot.stands (put_at n time bytes slot) slot u (λ e s. cc)
-leaves-unused (PutOver key bytes old why) n time slot k u = old-cases Unused old.0 slot.stands (put_at n time bytes slot) slot u (λ s e v t. cc)
-leaves-unused (Remove key why) n time slot k u = absurd (k tt)
-leaves-unused (RemoveAt key old why) n time slot k u = absurd (k tt)
-leaves-unused (ListPart part) n time slot k u = u
+pub no-object : (key : Key) → IsBranch key → ¬ IsObject key
+no-object (Branch name) b o = o
+no-object (Snapshot id) b o = b
+no-object (Manifest id) b o = b
+no-object (Txn id) b o = b
+no-object (Chunk id) b o = b
+no-object (Tag name) b o = b
+no-object (TagGone name) b o = b
 
-pub unused-one : (journal : List Event) (event : Event) (key : Key) → ¬ Removes event.op → IsUnused journal key → IsUnused (journal ++ event ∷ []) key
-unused-one journal event key k u =
+leaves-unused : (key : Key) → IsObject key → (op : Op) (n time : ℕ) (slot : Slot) → ¬ Removes op → is_on key op ≡ true → Unused slot → Unused (leaves n time op slot)
+leaves-unused key object (Get k) n time slot none on u = u
+leaves-unused key object (PutNew k bytes why) n time slot none on u = free-cases Unused slot.stands (put_at n time bytes slot) slot u (λ e s. cc)
+leaves-unused key object (PutOver k bytes old why) n time slot none on u = old-cases Unused old.0 slot.stands (put_at n time bytes slot) slot u (λ s e v t. cc)
+leaves-unused key object (Remove k why) n time slot none on u = absurd (none tt)
+leaves-unused key object (RemoveAt k old why) n time slot none on u = absurd (none (subst IsObject (sym (same_key-true k key on)) object))
+leaves-unused key object (ListPart part) n time slot none on u = u
+
+pub unused-one : (journal : List Event) (event : Event) (key : Key) → IsObject key → ¬ Removes event.op → IsUnused journal key → IsUnused (journal ++ event ∷ []) key
+unused-one journal event key object none u =
     subst (λ (s : Slot). Unused s) (sym (slot-append_one journal event key))
-    (effect-cases Unused key (length journal) (slot_of journal key) event u (λ on d. leaves-unused event.op (length journal) event.time (slot_of journal key) k u))
+    (effect-cases Unused key (length journal) (slot_of journal key) event u (λ on d. leaves-unused key object event.op (length journal) event.time (slot_of journal key) none on u))
 
 pub objects-one : (ids : AnyIds) (journal : List Event) (event : Event) → ¬ Removes event.op → ObjectsAreNew ids journal → ObjectsAreNew ids (journal ++ event ∷ [])
 objects-one ids journal event k new id d =
     let m = new id d in
     record {
-      snapshot = unused-one journal event (Snapshot id) k m.snapshot;
-      log = unused-one journal event (Txn id) k m.log;
-      manifest = unused-one journal event (Manifest id) k m.manifest;
-      chunk = unused-one journal event (Chunk id) k m.chunk;
+      snapshot = unused-one journal event (Snapshot id) tt k m.snapshot;
+      log = unused-one journal event (Txn id) tt k m.log;
+      manifest = unused-one journal event (Manifest id) tt k m.manifest;
+      chunk = unused-one journal event (Chunk id) tt k m.chunk;
     }
 
 -- the objects of a run's clients are new
@@ -77,7 +100,7 @@ abbrev pub AllObjectsAreNew : Draw → List Task → List Event → Type 0
 AllObjectsAreNew draw tasks journal = (place : ℕ) → place < length tasks → ObjectsAreNew (ids_at draw place) journal
 
 -- ---- an event of a run
--- it is good, it removes nothing and puts no snapshot over, it puts what wasn't put before, where its clients' objects are new, and its changes are known
+-- it is good, it removes no object and puts no snapshot over, it puts what wasn't put before, where its clients' objects are new, and its changes are known
 pub record Fits (draw : Draw) (tasks : List Task) (start journal : List Event) (event : Event) : Type 0 where
   pub good : IsGood journal event
   pub keeps : ¬ Removes event.op
@@ -85,19 +108,25 @@ pub record Fits (draw : Draw) (tasks : List Task) (start journal : List Event) (
   pub first : AllObjectsAreNew draw tasks journal → IsOnce journal → IsFirst journal event
   pub knows : IsOnce journal → Knows (λ h e c. CommitsSession draw tasks start c h e.client e.op) journal event
 
--- of the opening or the closing reading
+-- of the opening, the closing reading, or a task on refs
 plain-keeps : (op : Op) → IsPlain op → ¬ Removes op
 plain-keeps (Get key) p r = r
 plain-keeps (PutNew key bytes why) p r = r
 plain-keeps (PutOver key bytes old why) p r = r
 plain-keeps (Remove key why) p r = p
-plain-keeps (RemoveAt key old why) p r = p
+plain-keeps (RemoveAt key old why) p r = no-object key p r
 plain-keeps (ListPart part) p r = r
 
 plain-uncut : (op : Op) → IsPlain op → ¬ PutsOverSnapshot op
 plain-uncut (Get key) p c = c
 plain-uncut (PutNew key bytes why) p c = c
-plain-uncut (PutOver key bytes old why) p c = p
+plain-uncut (PutOver (Branch name) bytes old why) p c = c
+plain-uncut (PutOver (Snapshot id) bytes old why) p c = p.0
+plain-uncut (PutOver (Txn id) bytes old why) p c = c
+plain-uncut (PutOver (Manifest id) bytes old why) p c = c
+plain-uncut (PutOver (Chunk id) bytes old why) p c = c
+plain-uncut (PutOver (Tag name) bytes old why) p c = c
+plain-uncut (PutOver (TagGone name) bytes old why) p c = c
 plain-uncut (Remove key why) p c = c
 plain-uncut (RemoveAt key old why) p c = c
 plain-uncut (ListPart part) p c = c
@@ -109,16 +138,20 @@ plain-once journal (PutNew (Branch name) bytes why) p = tt
 plain-once journal (PutNew (Manifest id) bytes why) p = absurd p
 plain-once journal (PutNew (Txn id) bytes why) p = absurd p
 plain-once journal (PutNew (Chunk id) bytes why) p = absurd p
-plain-once journal (PutNew (Tag name) bytes why) p = absurd p
-plain-once journal (PutNew (TagGone name) bytes why) p = absurd p
-plain-once journal (PutOver key bytes old why) p = absurd p
-plain-once journal (Remove key why) p = absurd p
-plain-once journal (RemoveAt key old why) p = absurd p
+plain-once journal (PutNew (Tag name) bytes why) p = tt
+plain-once journal (PutNew (TagGone name) bytes why) p = tt
+plain-once journal (PutOver key bytes old why) p = tt
+plain-once journal (Remove key why) p = tt
+plain-once journal (RemoveAt key old why) p = tt
 plain-once journal (ListPart part) p = tt
+
+-- it is no commit
+pub plain-no-commit : (op : Op) (branch bytes : List ℕ) (old : Version) → IsPlain op → op ≡ PutOver (Branch branch) bytes old Commit → ⊥
+plain-no-commit op branch bytes old p e = let reset = (subst IsPlain e p).1 in cc
 
 module _ (draw : Draw) (tasks : List Task) where
   plain-none : (start journal : List Event) (client : ℕ) (op : Op) → IsPlain op → CommitsSession draw tasks start none journal client op
-  plain-none start journal client op p branch bytes old id e names = absurd (subst IsPlain e p)
+  plain-none start journal client op p branch bytes old id e names = absurd (plain-no-commit op branch bytes old p e)
 
   pub plain-fits : (start journal : List Event) (event : Event) → IsGood journal event → IsPlain event.op → Fits draw tasks start journal event
   plain-fits start journal event good p = record {
@@ -129,7 +162,52 @@ module _ (draw : Draw) (tasks : List Task) where
     knows = λ once. (none, plain-none start journal event.client event.op p);
   }
 
--- of a task
+-- an event of a task that opens a session
+pub record IsOfOpener (draw : Draw) (tasks : List Task) (start journal : List Event) (event : Event) : Type 0 where
+  pub place : ℕ
+  pub task : Task
+  pub client : event.client ≡ place + 1
+  pub at : slice_get tasks place ≡ Some task
+  pub access : Access
+  pub head_is : task.head ≡ Session access
+  pub careful : IsCarefulEvent (ids_at draw place) (IsOfTask (ids_at draw place) task (place + 1) start) journal event
+
+-- what a task on refs owes is plain
+owes-plain : (op : Op) → OwesRefs op → IsPlain op
+owes-plain (Get key) o = tt
+owes-plain (PutNew (Branch name) bytes why) o = tt
+owes-plain (PutNew (Tag name) bytes why) o = tt
+owes-plain (PutNew (TagGone name) bytes why) o = tt
+owes-plain (PutNew (Snapshot id) bytes why) o = absurd o
+owes-plain (PutNew (Manifest id) bytes why) o = absurd o
+owes-plain (PutNew (Txn id) bytes why) o = absurd o
+owes-plain (PutNew (Chunk id) bytes why) o = absurd o
+owes-plain (PutOver (Branch name) bytes old why) o = (tt, o)
+owes-plain (PutOver (Snapshot id) bytes old why) o = absurd o
+owes-plain (PutOver (Manifest id) bytes old why) o = absurd o
+owes-plain (PutOver (Txn id) bytes old why) o = absurd o
+owes-plain (PutOver (Chunk id) bytes old why) o = absurd o
+owes-plain (PutOver (Tag name) bytes old why) o = absurd o
+owes-plain (PutOver (TagGone name) bytes old why) o = absurd o
+owes-plain (Remove key why) o = absurd o
+owes-plain (RemoveAt (Branch name) old why) o = tt
+owes-plain (RemoveAt (Snapshot id) old why) o = absurd o
+owes-plain (RemoveAt (Manifest id) old why) o = absurd o
+owes-plain (RemoveAt (Txn id) old why) o = absurd o
+owes-plain (RemoveAt (Chunk id) old why) o = absurd o
+owes-plain (RemoveAt (Tag name) old why) o = absurd o
+owes-plain (RemoveAt (TagGone name) old why) o = absurd o
+owes-plain (ListPart part) o = tt
+
+-- each event of a client is of a task that opens a session, or plain
+pub by-head : (draw : Draw) (tasks : List Task) (start journal : List Event) (event : Event) → IsOfClient draw tasks start journal event → IsOfOpener draw tasks start journal event ⊎ (IsGood journal event × IsPlain event.op)
+by-head draw tasks start journal event c = by_cases c.task.head refl c.careful.owes
+  where
+    by_cases : (head : Head) → c.task.head ≡ head → OwesBy head (ids_at draw c.place) c.task (c.place + 1) start journal event.op → IsOfOpener draw tasks start journal event ⊎ (IsGood journal event × IsPlain event.op)
+    by_cases (Session access) e o = inl (record { place = c.place; task = c.task; client = c.client; at = c.at; access = access; head_is = e; careful = record { good = c.careful.good; owes = o } })
+    by_cases Refs e o = inr (c.careful.good, owes-plain event.op o)
+
+-- of a task that opens a session
 owes-keeps : (ids : AnyIds) (mine : Sessions) (journal : List Event) (op : Op) → Owes ids mine journal op → ¬ Removes op
 owes-keeps ids mine journal (Get key) o r = r
 owes-keeps ids mine journal (PutNew key bytes why) o r = r
@@ -228,7 +306,7 @@ module _ (draw : Draw) (tasks : List Task) where
   pub small-at : length tasks < 2 ^ 32 - 1 → (place : ℕ) → place < length tasks → client_of (ids_at draw place) < 2 ^ 32
   small-at few place within = let client = (source-at few place within).1 in omega (arith, client, within, few)
 
-  pub client-fits : length tasks < 2 ^ 32 - 1 → All IsWellTask tasks → (start journal : List Event) (event : Event) → IsOfClient draw tasks start journal event → Fits draw tasks start journal event
+  pub client-fits : length tasks < 2 ^ 32 - 1 → All IsWellTask tasks → (start journal : List Event) (event : Event) → IsOfOpener draw tasks start journal event → Fits draw tasks start journal event
   client-fits few wells start journal event c =
       let mine : Sessions = IsOfTask (ids_at draw c.place) c.task (c.place + 1) start in
       let owes : Owes (ids_at draw c.place) mine journal event.op = c.careful.owes in

@@ -1,5 +1,5 @@
--- A session began at the last entry of its branch's history.
-use Rattle.std.proofs.Common.{◌≡◌, ℕ, true, List, [], ◌∷◌, ◌++◌, length, refl, sym, ◌∙◌, ap, subst}
+-- Where sessions begin: at the last entry of a branch's history, at a tag as it stood, or at a snapshot.
+use Rattle.std.proofs.Common.{◌≡◌, ℕ, Bool, true, cond, List, [], ◌∷◌, ◌++◌, length, refl, sym, ◌∙◌, ap, subst}
 use Rattle.std.specs.Prelude.{Option, Some, None}
 use Rattle.ice_ids.specs.declared.Id12.{Id12}
 use Rattle.zarr_tree.specs.Changes.{Changes}
@@ -12,16 +12,24 @@ use Rattle.store_api.specs.declared.events.Reply.{Reply}
 use Rattle.store_api.specs.declared.events.Reply.TheVariants.{Got as Is_got}
 use Rattle.store_api.specs.declared.events.Event.{Event}
 use Rattle.store_api.specs.Machine.{is_on, version_at}
-use Rattle.store_api.specs.Journal.{Each, puts_of, IsOnce, tree_of}
+use Rattle.store_api.specs.Journal.{Each, puts_of, IsGoodJournal, IsOnce, tree_of}
+use Rattle.store_api.specs.Telling.{WasRef}
 use Rattle.store_api.proofs.Journals.{Each-at}
 use Rattle.store_api.proofs.Slots.{same_key-refl}
 use Rattle.histories.specs.Repository.{Entry, last, Open}
 use Rattle.histories.specs.Calls.{history_of, call_of, TellsCall, Agrees, IsHistory}
+use Rattle.histories.specs.Tags.{TagState, Absent, Stands, Gone, tag_answer}
+use Rattle.histories.specs.Tags as tags
+use Rattle.histories.specs.TagCalls.{tag_of}
+use Rattle.repo_read.specs.declared.resolving.At.{At}
+use Rattle.repo_read.specs.declared.resolving.Named.{Named}
+use Rattle.repo_read.specs.Naming.{WasTagged, WasResolved}
+use Rattle.refs_admin.proofs.TagStates.{states-tell}
 use Rattle.session.specs.Sessions.{SessionState}
-use Rattle.session.specs.Opening.{Asked}
+use Rattle.session.specs.Opening.{Asked, tip_named}
 use Rattle.commit_path.specs.Opened.{IsOpened, WasBegun}
 use Rattle.commit_path.proofs.Knowing.{tree-by_rows}
-use Rattle.run_histories.specs.Told.{BeganAtLast}
+use Rattle.run_histories.specs.Told.{BeganAt, BeganAtLast, BeganAtBranch, BeganAtTag}
 
 -- a get of a branch that was answered with a reference was answered with the last entry
 record WasLast (l : Option Entry) (version : ℕ) (base : Id12) : Type 0 where
@@ -42,22 +50,62 @@ was_last n (Some e) bytes version now base names t =
     same_id : Some e.id ≡ Some base → e.id ≡ base
     same_id h = cc
 
-pub began-at-last : (whole : List Event) (changes : ℕ → Changes) → IsOnce whole → IsHistory (tree_of whole) changes whole → (client : ℕ) (a : Asked) (s : SessionState) (start : List Event) → WasBegun client a s start whole → IsOpened s whole → BeganAtLast (puts_of whole) (tree_of whole) changes client a s start whole
-began-at-last whole changes once history client a s start begun opened =
-    let named = begun.named in
-    let own = named.got.own in
-    let answers : Each (Agrees (tree_of whole) changes) [] (own.before ++ own.event ∷ own.after) = subst (λ (h : List Event). Each (Agrees (tree_of whole) changes) [] h) own.is history.answers in
-    let on : is_on (Branch a.branch) own.event.op ≡ true = ap (is_on (Branch a.branch)) own.op_is ∙ same_key-refl (Branch a.branch) in
-    let agrees = Each-at (Agrees (tree_of whole) changes) [] own.before own.event own.after answers a.branch on in
-    let l : Option Entry = last (history_of (tree_of whole) changes own.before a.branch) in
-    let told : TellsCall (length own.before) (Some Open) l (Is_got (Found named.bytes (version_at s.version) named.got.now)) =
-    subst (λ (r : Reply). TellsCall (length own.before) (Some Open) l r) own.reply_is (subst (λ (op : Op). TellsCall (length own.before) (call_of (changes (length own.before)) op) l own.event.reply) own.op_is agrees) in
-    let was = was_last (length own.before) l named.bytes s.version named.got.now s.base named.names told in
-    record {
-      named = named;
-      entry = was.entry;
-      is_last = was.is;
-      version = was.version_is;
-      base = was.base_is;
-      tree = ap (tree_of whole) was.base_is ∙ tree-by_rows whole s.base s.rows (opened.rows once);
-    }
+-- a tag that answers its opening with an entry stands so
+opened-stands : (s : TagState) (e : Entry) → tag_answer tags.Open s ≡ tags.Opened e → s ≡ Stands e
+opened-stands Absent e told = cc
+opened-stands (Stands x) e told = let same : x ≡ e = cc in ap Stands same
+opened-stands (Gone x) e told = cc
+
+-- to write, a session keeps the branch and the version
+named-tip : (branch : List ℕ) (version : Version) (known : Option Version) (writes : Bool) → known ≡ Some version → writes ≡ true → cond writes (tip_named (At.Branch branch) known) None ≡ Some (record { branch = branch; version = version })
+named-tip branch version known writes k w = ap (λ (b : Bool). cond b (tip_named (At.Branch branch) known) None) w ∙ ap (λ (o : Option Version). tip_named (At.Branch branch) o) k
+
+module _ (whole : List Event) (changes : ℕ → Changes) (good : IsGoodJournal whole) (history : IsHistory (tree_of whole) changes whole) (client : ℕ) (start : List Event) where
+  at-branch : (branch : List ℕ) (version : Version) (base : Id12) (read : WasRef client (Branch branch) version base start whole) → WasLast (last (history_of (tree_of whole) changes read.got.own.before branch)) version.0 base
+  at-branch branch version base read =
+      let own = read.got.own in
+      let answers : Each (Agrees (tree_of whole) changes) [] (own.before ++ own.event ∷ own.after) = subst (λ (h : List Event). Each (Agrees (tree_of whole) changes) [] h) own.is history.answers in
+      let on : is_on (Branch branch) own.event.op ≡ true = ap (is_on (Branch branch)) own.op_is ∙ same_key-refl (Branch branch) in
+      let agrees = Each-at (Agrees (tree_of whole) changes) [] own.before own.event own.after answers branch on in
+      let l : Option Entry = last (history_of (tree_of whole) changes own.before branch) in
+      let told : TellsCall (length own.before) (Some Open) l (Is_got (Found read.bytes version read.got.now)) =
+      subst (λ (r : Reply). TellsCall (length own.before) (Some Open) l r) own.reply_is (subst (λ (op : Op). TellsCall (length own.before) (call_of (changes (length own.before)) op) l own.event.reply) own.op_is agrees) in
+      was_last (length own.before) l read.bytes version.0 read.got.now base read.names told
+
+  module _ (s : SessionState) (writes : Bool) (named : Named) (base : s.base ≡ named.id) where
+    began-at_branch : (branch : List ℕ) → s.tip ≡ cond writes (tip_named (At.Branch branch) named.version) None → WasResolved client (At.Branch branch) named start whole → BeganAtBranch (tree_of whole) changes client branch writes s start whole
+    began-at_branch branch tip w =
+        let read : WasRef client (Branch branch) w.version s.base start whole = subst (λ (id : Id12). WasRef client (Branch branch) w.version id start whole) (sym base) w.read in
+        let was = at-branch branch w.version s.base read in
+        record {
+          version = w.version;
+          read = read;
+          entry = was.entry;
+          is_last = was.is;
+          version_is = was.version_is;
+          base = was.base_is;
+          tip = λ k. tip ∙ named-tip branch w.version named.version writes w.version_is k;
+        }
+
+    began-at_tag : (tag : List ℕ) → WasResolved client (At.Tag tag) named start whole → BeganAtTag (tree_of whole) client tag s start whole
+    began-at_tag tag w =
+        let read : WasTagged client tag s.base start whole = subst (λ (id : Id12). WasTagged client tag id start whole) (sym base) w.1 in
+        let told = (states-tell (tree_of whole) client tag start whole good).opened s.base read in
+        record {
+          read = read;
+          entry = record { version = read.version.0; id = s.base; tree = tree_of whole s.base };
+          stood = opened-stands (tag_of (tree_of whole) read.stands.own.before tag) _ told;
+          version_is = refl;
+          base = refl;
+        }
+
+    began-at : (at : At) → s.tip ≡ cond writes (tip_named at named.version) None → WasResolved client at named start whole → BeganAt (tree_of whole) changes client at writes s start whole
+    began-at (At.Branch branch) tip w = began-at_branch branch tip w
+    began-at (At.Tag tag) tip w = began-at_tag tag w
+    began-at (At.Snapshot id) tip w = base ∙ ap (λ (n : Named). n.id) w
+
+pub began-at-last : (whole : List Event) (changes : ℕ → Changes) → IsGoodJournal whole → IsOnce whole → IsHistory (tree_of whole) changes whole → (client : ℕ) (a : Asked) (s : SessionState) (start : List Event) → WasBegun client a s start whole → IsOpened s whole → BeganAtLast (puts_of whole) (tree_of whole) changes client a s start whole
+began-at-last whole changes good once history client a s start begun opened = record {
+  began = began-at whole changes good history client start s a.writes begun.named begun.base a.at (ap (λ (x : SessionState). x.tip) begun.begins) begun.resolved;
+  tree = tree-by_rows whole s.base s.rows (opened.rows once);
+}

@@ -18,11 +18,12 @@ use Rattle.commit_path.specs.Single.{IsAlike, PutsAlike, HasPutAlike}
 use Rattle.commit_path.proofs.Sources.{later-same, later-later, object-later}
 use Rattle.rebase.specs.Along.{Link, Solves, left_at, solved_at, first_hidden, along}
 use Rattle.rebase.proofs.Following.{past-solves}
+use Rattle.play_script.specs.declared.scripts.Access.{Access}
 use Rattle.play_script.specs.declared.scripts.Task.{Task}
 use Rattle.play_script.specs.Well.{IsWellTask}
 use Rattle.play_tasks.specs.Playing.{asked_by, policy_of}
 use Rattle.play_tasks.specs.Solving.{WasLost, WasRebased, WasCarried, IsOfTask}
-use Rattle.run_histories.proofs.Drawing.{IsDrawnBy, AreOf, object-draws, head-ids}
+use Rattle.run_histories.proofs.Drawing.{IsDrawnBy, AreOf, object-draws, access-ids}
 use Rattle.run_histories.proofs.Edits.{GoesOn}
 use Rattle.run_histories.proofs.Editing.{WentOn, lines-end, begun-goes}
 
@@ -108,16 +109,16 @@ alike-back client s t start journal h p = record {
 }
 
 -- ---- a task
-module _ (ids : AnyIds) (task : Task) (client : ℕ) (start journal : List Event) where
-  pub opened-goes : (opened : SessionState) → WasBegun client (asked_by task.head ids) opened start journal → GoesOn ids opened
-  opened-goes opened b = begun-goes ids opened (ap (λ (x : SessionState). x.ids) b.begins ∙ head-ids task.head ids) (ap (λ (x : SessionState). x.held) b.begins)
+pub opened-goes : (ids : AnyIds) (access : Access) (client : ℕ) (start journal : List Event) (opened : SessionState) → WasBegun client (asked_by access ids) opened start journal → GoesOn ids opened
+opened-goes ids access client start journal opened b = begun-goes ids opened (ap (λ (x : SessionState). x.ids) b.begins ∙ access-ids access ids) (ap (λ (x : SessionState). x.held) b.begins)
 
+module _ (ids : AnyIds) (task : Task) (client : ℕ) (start journal : List Event) where
   module _ (t : SessionState) (id : Id12) (well : IsWellTask task) (o : IsOfTask ids task client start journal t id) where
     pub task-lines : WentOn ids o.opened o.session
-    task-lines = lines-end ids task.body o.opened o.session well.body (opened-goes o.opened o.begun) o.reaches
+    task-lines = lines-end ids task.body o.opened o.session well.body (opened-goes ids o.access client start journal o.opened o.begun) o.reaches
 
     pub task-carried : IsSameSession o.session t
-    task-carried = carried-same client (policy_of task.head) o.count o.session t start journal o.carried
+    task-carried = carried-same client (policy_of o.access) o.count o.session t start journal o.carried
 
     -- the id of the commit is one that the task's source may draw
     pub task-object : MayDrawObject ids id

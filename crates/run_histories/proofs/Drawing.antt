@@ -25,8 +25,8 @@ use Rattle.commit_path.proofs.Editing.{Added, node-added, text-set, node-dropped
 use Rattle.commit_path.proofs.Setting.{chunk-unset}
 use Rattle.play_script.specs.declared.scripts.EditCall.{EditCall}
 use Rattle.play_script.specs.declared.scripts.EditCall.TheVariants.{Group, Array, Make, Meta, Drop, Set, Fill, Unset, KeySet, KeyErase}
-use Rattle.play_script.specs.declared.scripts.Head.{Head}
-use Rattle.play_script.specs.declared.scripts.Head.TheVariants.{Write, Read}
+use Rattle.play_script.specs.declared.scripts.Access.{Access}
+use Rattle.play_script.specs.declared.scripts.Access.TheVariants.{Write, Read}
 use Rattle.play_script.specs.declared.scripts.Task.{Task}
 use Rattle.zarr_keys.specs.Keys.{session_of, erased_at, key_erased}
 use Rattle.play_tasks.specs.Lines.{edited}
@@ -104,9 +104,9 @@ module _ (client : ℕ) where
   pub object-draws : (ids : AnyIds) (id : Id12) → AreOf client ids → MayDrawObject ids id → IsDrawnBy client id
   object-draws ids id known m = record { ids = m.later; known = object-known ids id (known-small ids known.0) m; client_is = m.is_later.client ∙ known.1; is = m.drawn }
 
-pub head-ids : (head : Head) (ids : AnyIds) → (asked_by head ids).ids ≡ ids
-head-ids (Write branch tries policy) ids = refl
-head-ids (Read branch) ids = refl
+pub access-ids : (access : Access) (ids : AnyIds) → (asked_by access ids).ids ≡ ids
+access-ids (Write branch tries policy) ids = refl
+access-ids (Read at) ids = refl
 
 -- no id is drawn by two clients
 pub drawn-apart : (a b : ℕ) (id : Id12) → IsDrawnBy a id → IsDrawnBy b id → a ≡ b

@@ -31,7 +31,7 @@ use Rattle.commit_path.proofs.Editing.{Added, node-added, text-set, node-dropped
 use Rattle.commit_path.proofs.Sources.{later-same}
 use Rattle.zarr_keys.specs.Keys.{session_of, meta_value, put_over, erased_at, key_erased}
 use Rattle.play_script.specs.declared.scripts.Call.{Call}
-use Rattle.play_script.specs.declared.scripts.Call.TheVariants.{Edit, Read as Read_call, Commit}
+use Rattle.play_script.specs.declared.scripts.Call.TheVariants.{Edit, Read as Read_call, Commit, Ref}
 use Rattle.play_script.specs.declared.scripts.EditCall.{EditCall}
 use Rattle.play_script.specs.declared.scripts.EditCall.TheVariants.{Group, Array, Make, Meta, Drop, Set, Fill, Unset, KeySet, KeyErase}
 use Rattle.play_script.specs.declared.scripts.ReadCall.{ReadCall}
@@ -127,6 +127,7 @@ pub call-leads : (line : ℕ) (call : Call) (s : SessionState) → IsWellCall ca
 call-leads line (Edit edit) s well = edit-leads edit s well
 call-leads line (Read_call look) s well = read-leads line look s
 call-leads line (Commit message) s well = tt
+call-leads line (Ref call) s well = still-leads s (Ok [])
 
 -- ---- the lines of a task
 -- what holds behind a line that leads on

@@ -40,10 +40,10 @@ use Rattle.commit_path.proofs.Readable.{nothing-readable, readable-extend}
 use Rattle.play_script.specs.Well.{IsWellTask}
 use Rattle.play_script.specs.declared.scripts.Task.{Task}
 use Rattle.play_tasks.specs.Solving.{IsOfTask}
-use Rattle.play_tasks.specs.Tasks.{IsOfClient, ids_at}
+use Rattle.play_tasks.specs.Tasks.{ids_at}
 use Rattle.run_histories.specs.Runs.{AllCaused, AllTrees, HasCause, HasWellFormedTree, IsChildOf}
 use Rattle.run_histories.specs.Sources.{IsNewSource, IsOfAnother, NodesAreNew}
-use Rattle.run_histories.proofs.Along.{AllObjectsAreNew, Fits, client-fits, objects-one, plain-fits, small-at, source-at, well-at}
+use Rattle.run_histories.proofs.Along.{AllObjectsAreNew, Fits, IsOfOpener, client-fits, objects-one, plain-fits, small-at, source-at, well-at}
 use Rattle.run_histories.proofs.Ancestors.{Continues, Inherits, ancestor-on, causes-on, free-on, new-node, node-back, node-has, node-on, one-parent, tree-kept}
 use Rattle.run_histories.proofs.Grounds.{Grounds, IsCarried}
 use Rattle.run_histories.proofs.Origins.{continues}
@@ -162,7 +162,7 @@ module _ (draw : Draw) (tasks : List Task) (few : length tasks < 2 ^ 32 - 1) (we
           };
     }
 
-  -- ---- of the opening or the closing reading
+  -- ---- of the opening, of the closing reading, or of a task on refs
   module _ (journal : List Event) (event : Event) (good : IsGood journal event) (plain : IsPlain event.op) (h : Holds journal) where
     pub plain-holds : Holds (journal ++ event ∷ [])
     plain-holds = still old journal event (plain-fits draw tasks old journal event good plain) h
@@ -176,8 +176,8 @@ module _ (draw : Draw) (tasks : List Task) (few : length tasks < 2 ^ 32 - 1) (we
     pub plain-nodes : (place : ℕ) → NodesAreNew (ids_at draw place) journal → NodesAreNew (ids_at draw place) (journal ++ event ∷ [])
     plain-nodes place new = nodes-stay old journal event (plain-fits draw tasks old journal event good plain) h (ids_at draw place) (plain-inherits (ids_at draw place)) new
 
-  -- ---- of a task
-  module _ (start journal : List Event) (event : Event) (c : IsOfClient draw tasks start journal event) (h : Holds journal) (g : Grounds (ids_at draw c.place) (c.place + 1) start journal) where
+  -- ---- of a task that opens a session
+  module _ (start journal : List Event) (event : Event) (c : IsOfOpener draw tasks start journal event) (h : Holds journal) (g : Grounds (ids_at draw c.place) (c.place + 1) start journal) where
     abbrev fits : Fits draw tasks start journal event
     fits = client-fits draw tasks few wells start journal event c
 

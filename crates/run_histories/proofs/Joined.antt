@@ -15,6 +15,8 @@ use Rattle.store_api.proofs.Standing.{snap_made-put}
 use Rattle.histories.specs.Calls.{CommitsApply, IsGiven}
 use Rattle.histories.proofs.Choosing.{chosen}
 use Rattle.histories.proofs.Linked.{history-law}
+use Rattle.histories.proofs.TagTrees.{keeps-its-tree}
+use Rattle.histories.proofs.Tagging.{tags-law}
 use Rattle.play_script.specs.declared.scripts.Task.{Task}
 use Rattle.repository.specs.Beginning.{begin_program}
 use Rattle.play_tasks.specs.Tasks.{ids_at}
@@ -58,6 +60,7 @@ module _ (draw : Draw) (tasks : List Task) where
       (solved-given draw tasks start changes whole all once old added refl solved l.normal)
       in
       let law = history-law whole changes all once given in
+      let tags = tags-law (tree_of whole) whole all in
       record {
         added = added;
         is = refl;
@@ -67,13 +70,16 @@ module _ (draw : Draw) (tasks : List Task) where
         same = joined-before before after old;
         solved = solved;
         commits = solved-enter draw tasks start changes whole all once old added refl solved l.normal (Each-back (CommitsApply (tree_of whole) changes) [] old added law.0.commits).1;
-        opened = began-at-last whole changes once law.0;
+        opened = began-at-last whole changes all once law.0;
         frozen = l.frozen;
         unhidden = l.unhidden;
         sound = record { good = all; once = once; given = given; trees = l.trees; causes = l.causes };
         others = l.others;
         history = law.0;
         stand = law.1;
+        tags = tags.0;
+        tags_stand = tags.1;
+        tags_last = λ tag. keeps-its-tree old added tag s.good s.once good g.first;
       }
 
 pub run-law : InitialLaw → RunLaw

@@ -1,5 +1,6 @@
 -- A session is carried over commit after commit.
 use Rattle.std.proofs.Common.{◌≡◌, inl, inr, ℕ, List, [], ◌∷◌, ◌++◌, refl, subst}
+use Rattle.std.specs.Prelude.{Option, Some, None}
 use Rattle.ice_ids.specs.declared.Id12.{Id12}
 use Rattle.ice_ids.specs.declared.Id8.{Id8}
 use Rattle.ice_ids.specs.declared.drawing.AnyIds.{AnyIds}
@@ -9,7 +10,8 @@ use Rattle.repo_objects.specs.Laws.{InitialLaw}
 use Rattle.repo_objects.specs.Trees.{nodes_in}
 use Rattle.conflicts.specs.declared.solving.Policy.{Policy}
 use Rattle.store_api.specs.declared.events.Event.{Event}
-use Rattle.session.specs.Sessions.{SessionState, base_nodes, moved_to}
+use Rattle.session.specs.declared.tip.Tip.{Tip}
+use Rattle.session.specs.Sessions.{SessionState, base_nodes, moved_to, tip_at, version_of}
 use Rattle.commit_path.specs.Single.{HasPutAlike}
 use Rattle.rebase.specs.Along.{Hides, Link, Solves, along, first_hidden, left_at, solved_at}
 use Rattle.rebase.proofs.Following.{past-hides, past-solves}
@@ -19,6 +21,11 @@ use Rattle.run_histories.proofs.Linked.{step-carried, step-honest}
 
 solves-same : (g h : Held Place) → Solves g ≡ Solves h → g ≡ h
 solves-same g h e = cc
+
+-- a session that moves twice has the last version
+tip-again : (version k : ℕ) (tip : Option Tip) → tip_at version (tip_at k tip) ≡ tip_at version tip
+tip-again version k None = refl
+tip-again version k (Some tip) = refl
 
 module _ (initial : InitialLaw) (ids : AnyIds) (client : ℕ) (start journal : List Event) (g : Grounds ids client start journal) where
   -- ---- commit after commit
@@ -30,7 +37,7 @@ module _ (initial : InitialLaw) (ids : AnyIds) (client : ℕ) (start journal : L
   module _ (policy : Policy) where
     -- the session behind the first commit, of which nothing was left
     abbrev behind : SessionState → Link → SessionState
-    behind s l = moved_to s l.file.id s.version l.file (solved_at policy s.held (base_nodes s) l)
+    behind s l = moved_to s l.file.id (version_of s) l.file (solved_at policy s.held (base_nodes s) l)
 
     behind-alike : (s : SessionState) (l : Link) → HasPutAlike client s start journal → HasPutAlike client (behind s l) start journal
     behind-alike s l alike = alike-back client (behind s l) s start journal (record { added = refl; dropped = refl; metas = refl }) alike
@@ -44,7 +51,8 @@ module _ (initial : InitialLaw) (ids : AnyIds) (client : ℕ) (start journal : L
         subst (λ (h : Held Place). IsCarried ids journal (moved_to s last.file.id version last.file h)) same (step-carried initial ids client start journal g s k alike policy last linked.0 p.none_left version p.none_hidden)
     walk-carried (l ∷ ls) last s left version k alike linked e =
         let p = past-solves l.file.id (left_at policy s.held (base_nodes s) l) (first_hidden (nodes_in l.file.nodes) s.held.metas) (along policy (solved_at policy s.held (base_nodes s) l) (nodes_in l.file.nodes) (ls ++ last ∷ [])) left e in
-        walk-carried ls last (behind s l) left version (step-carried initial ids client start journal g s k alike policy l linked.0 p.none_left s.version p.none_hidden) (behind-alike s l alike) linked.1 p.goes_on
+        subst (λ (t : Option Tip). IsCarried ids journal (record s { tip = t; base = last.file.id; rows = last.file.nodes; files = last.file.manifest_files; held = left })) (tip-again version (version_of s) s.tip)
+        (walk-carried ls last (behind s l) left version (step-carried initial ids client start journal g s k alike policy l linked.0 p.none_left (version_of s) p.none_hidden) (behind-alike s l alike) linked.1 p.goes_on)
 
     pub walk-honest : (links : List Link) (s : SessionState) (at : Id12) (node : Id8) → IsCarried ids journal s → HasPutAlike client s start journal → AllLinked s.base links → ¬ (along policy s.held (base_nodes s) links ≡ Hides at node)
     unfolding along AllLinked
@@ -52,5 +60,5 @@ module _ (initial : InitialLaw) (ids : AnyIds) (client : ℕ) (start journal : L
     walk-honest (l ∷ ls) s at node k alike linked e =
         elim (past-hides l.file.id (left_at policy s.held (base_nodes s) l) (first_hidden (nodes_in l.file.nodes) s.held.metas) (along policy (solved_at policy s.held (base_nodes s) l) (nodes_in l.file.nodes) ls) at node e) [
           | inl h ↦ step-honest initial ids client start journal g s k alike policy l linked.0 h.1 node h.2
-          | inr p ↦ walk-honest ls (behind s l) at node (step-carried initial ids client start journal g s k alike policy l linked.0 p.none_left s.version p.none_hidden) (behind-alike s l alike) linked.1 p.goes_on
+          | inr p ↦ walk-honest ls (behind s l) at node (step-carried initial ids client start journal g s k alike policy l linked.0 p.none_left (version_of s) p.none_hidden) (behind-alike s l alike) linked.1 p.goes_on
         ]

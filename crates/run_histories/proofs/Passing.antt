@@ -12,9 +12,9 @@ use Rattle.store_api.proofs.Journals.{Each-append, Each-back, Each-none, Each-on
 use Rattle.commit_path.specs.Single.{PutsNone, PutsSnapshot}
 use Rattle.play_script.specs.Well.{IsWellTask}
 use Rattle.play_script.specs.declared.scripts.Task.{Task}
-use Rattle.play_tasks.specs.Tasks.{IsOfClient, ids_at}
+use Rattle.play_tasks.specs.Tasks.{ids_at}
 use Rattle.run_histories.specs.Sources.{NodesAreNew}
-use Rattle.run_histories.proofs.Along.{Fits, client-fits, plain-fits, well-at}
+use Rattle.run_histories.proofs.Along.{Fits, IsOfOpener, client-fits, plain-fits, plain-no-commit, well-at}
 use Rattle.run_histories.proofs.Ancestors.{Inherits}
 use Rattle.run_histories.proofs.Given.{CommitsNormal}
 use Rattle.run_histories.proofs.Grounds.{Grounds}
@@ -34,9 +34,9 @@ module _ (draw : Draw) (tasks : List Task) (few : length tasks < 2 ^ 32 - 1) (we
 
   -- ---- the tasks began at the start
   module _ (start : List Event) where
-    -- an event of a task, or of a reading
+    -- an event of a task that opens a session, or one of the opening, of a task on refs, or of the closing reading
     abbrev pub IsOfRun : List Event → Event → Type 0
-    IsOfRun journal event = IsOfClient draw tasks start journal event ⊎ (IsGood journal event × IsPlain event.op)
+    IsOfRun journal event = IsOfOpener draw tasks start journal event ⊎ (IsGood journal event × IsPlain event.op)
 
     -- What is known of an event: what holds before it and behind it; a snapshot that it puts is of its own client, or inherits; and it puts none over.
     pub record IsKnown (journal : List Event) (event : Event) : Type 0 where
@@ -99,14 +99,14 @@ module _ (draw : Draw) (tasks : List Task) (few : length tasks < 2 ^ 32 - 1) (we
         uncut = Each-weaker IsKnown (λ j e. ¬ PutsOverSnapshot e.op) (λ j e k. k.fits.uncut) from since known;
       }
 
-    -- ---- the readings
+    -- ---- plain events
     plain-one : (journal : List Event) (event : Event) → IsGood journal event → IsPlain event.op → Hold journal → IsKnown journal event
     plain-one journal event good plain h = record {
       holds = h;
       fits = plain-fits draw tasks start journal event good plain;
       after = plain-holds draw tasks few wells initial old journal event good plain h;
       comes = λ place within id now. inr (plain-inherits draw tasks few wells initial old journal event good plain h (ids_at draw place) id now);
-      commits = λ c branch bytes version id op_is s. absurd (subst IsPlain op_is plain);
+      commits = λ c branch bytes version id op_is s. absurd (plain-no-commit event.op branch bytes version plain op_is);
     }
 
     pub plain-known : (journal events : List Event) → Each IsGood journal events → Each (λ j e. IsPlain e.op) journal events → Hold journal → Each IsKnown journal events

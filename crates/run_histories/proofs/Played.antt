@@ -82,8 +82,8 @@ module _ (initial : InitialLaw) (draw : Draw) (tasks : List Task) (before : ℕ 
     played-carried : IsCarried ids new t
     played-carried =
         let well : All IsWellLine w.played = all-front IsWellLine w.played w.left (subst (All IsWellLine) w.body (well-at draw tasks r.well place task at).body) in
-        let went = lines-went ids (place + 1) start new w.played w.opened t w.shown well (opened-goes ids task (place + 1) start new w.opened w.begun) w.plays in
-        lines-carried ids (place + 1) start new grounds-new (asked_by task.head ids) w.opened w.begun w.early t went
+        let went = lines-went ids (place + 1) start new w.played w.opened t w.shown well (opened-goes ids w.access (place + 1) start new w.opened w.begun) w.plays in
+        lines-carried ids (place + 1) start new grounds-new (asked_by w.access ids) w.opened w.begun w.early t went
 
   pub all-frozen : AllKeepFrozen draw tasks old new
   all-frozen start place task t opening at w = sized-keeps (puts_of new) t (played-carried start opening place task t at w).normal
@@ -92,7 +92,7 @@ module _ (initial : InitialLaw) (draw : Draw) (tasks : List Task) (before : ℕ 
   none-hidden start since place task lost key bad opening at l hidden =
       let ids : AnyIds = ids_at draw place in
       let client : ℕ = place + 1 in
-      let policy : Policy = policy_of task.head in
+      let policy : Policy = policy_of l.was_played.access in
       let g = grounds-new start opening place task l.session at l.was_played in
       let same = lost-same client policy l.at_last lost start since l.was_lost in
       let here : IsFront new new = record { more = []; is = sym (append-nil new) } in

@@ -1,14 +1,15 @@
--- The operations of the opening and of the closing reading.
+-- The operations of the opening, of the closing reading and of tasks on refs.
 use Rattle.std.proofs.Common.{◌≡◌, ℕ, List, [], ◌∷◌, ◌++◌, refl, sym, subst}
 use Rattle.std.specs.Prelude.{Result, Ok, Err}
 use Rattle.ice_ids.specs.Text.{initial_id}
 use Rattle.repo_objects.specs.Laws.{initial_bytes}
 use Rattle.store_api.specs.declared.keys.Key.{Key}
-use Rattle.store_api.specs.declared.keys.Key.TheVariants.{Snapshot, Branch}
+use Rattle.store_api.specs.declared.keys.Key.TheVariants.{Snapshot, Branch, Tag, TagGone}
+use Rattle.store_api.specs.declared.keys.Why.TheVariants.{Reset}
 use Rattle.store_api.specs.declared.keys.Part.{Part}
 use Rattle.store_api.specs.declared.keys.Part.TheVariants.{Branches, Tags}
 use Rattle.store_api.specs.declared.events.Op.{Op}
-use Rattle.store_api.specs.declared.events.Op.TheVariants.{Get, PutNew, List as ListPart}
+use Rattle.store_api.specs.declared.events.Op.TheVariants.{Get, PutNew, PutOver, RemoveAt, List as ListPart}
 use Rattle.store_api.specs.declared.events.Got.TheVariants.{Found, Absent}
 use Rattle.store_api.specs.declared.events.Entry.{Entry}
 use Rattle.store_api.specs.declared.events.Reply.{Reply}
@@ -22,17 +23,25 @@ use Rattle.store_api.specs.Running.{Program, ◌>>=◌, on_answer}
 use Rattle.repository.specs.Beginning.{begin_program, put_main, after_put}
 use Rattle.repository.specs.Refs.{list_part, on_listed, read_ref, on_got, read_each, read_tags, read_branches, refs_program, with_line, live}
 
--- a new key of the opening
+abbrev pub IsBranch : Key → Type 0
+IsBranch (Branch name) = Unit {0}
+IsBranch _ = ⊥
+
+-- a new key: the initial snapshot, or a ref
 abbrev IsPlainNew : List ℕ → Key → Type 0
 IsPlainNew bytes (Snapshot id) = (id ≡ initial_id) × (bytes ≡ initial_bytes)
 IsPlainNew bytes (Branch name) = Unit {0}
+IsPlainNew bytes (Tag name) = Unit {0}
+IsPlainNew bytes (TagGone name) = Unit {0}
 IsPlainNew bytes _ = ⊥
 
--- a get, a listing, or a put of the opening
+-- It puts no object but the initial snapshot, and commits nothing: a get, a listing, a put of a new key, or a branch that is reset or removed.
 abbrev pub IsPlain : Op → Type 0
 IsPlain (Get key) = Unit {0}
 IsPlain (ListPart part) = Unit {0}
 IsPlain (PutNew key bytes why) = IsPlainNew bytes key
+IsPlain (PutOver key bytes old why) = IsBranch key × (why ≡ Reset)
+IsPlain (RemoveAt key old why) = IsBranch key
 IsPlain _ = ⊥
 
 -- ---- all operations that a program may come to

@@ -1,5 +1,5 @@
 -- What holds along a run.
-use Rattle.std.proofs.Common.{◌≡◌, inl, inr, ℕ, List, ◌++◌, sym, ◌∙◌, ap, subst, append_assoc}
+use Rattle.std.proofs.Common.{◌≡◌, inr, ℕ, List, ◌++◌, sym, ◌∙◌, ap, subst, append_assoc}
 use Rattle.ice_ids.specs.declared.drawing.Draw.{Draw}
 use Rattle.zarr_tree.specs.Changes.{Changes}
 use Rattle.repo_objects.specs.Laws.{InitialLaw}
@@ -12,6 +12,7 @@ use Rattle.repository.specs.Refs.{refs_program}
 use Rattle.play_tasks.specs.Tasks.{IsOfClient}
 use Rattle.run_histories.specs.Runs.{IsRun, IsSound, RanAlone}
 use Rattle.run_histories.specs.Sources.{IsNewRun}
+use Rattle.run_histories.proofs.Along.{by-head}
 use Rattle.run_histories.proofs.Growing.{AllNodesAreNew, Holds}
 use Rattle.run_histories.proofs.Passing.{IsKnown, IsOfRun, holds-along, plain-known, plain-nodes-along, run-knows}
 use Rattle.run_histories.proofs.Programs.{IsPlain, begin-plain, path-plain, refs-plain}
@@ -47,7 +48,7 @@ module _ (draw : Draw) (tasks : List Task) where
         let plain = path-plain refs_program r.played r.closing.own r.closing.left refs-plain r.closing.path in
         let closing : Each OfRun r.played r.closing.own = Each-both IsGood (λ h e. IsPlain e.op) OfRun (λ h e good p. inr (good, p)) r.played r.closing.own r.closing.good plain in
         Each-append OfRun r.begun r.playing.own r.closing.own
-        (Each-weaker (IsOfClient draw tasks r.begun) OfRun (λ h e c. inl c) r.begun r.playing.own r.playing.owed)
+        (Each-weaker (IsOfClient draw tasks r.begun) OfRun (λ h e c. by-head draw tasks r.begun h e c) r.begun r.playing.own r.playing.owed)
         (subst (λ (j : List Event). Each OfRun j r.closing.own) r.playing.is closing)
 
     -- behind any opening the nodes are new still

@@ -12,7 +12,7 @@ use Rattle.store_api.specs.declared.events.Reply.TheVariants.{Got as Is_got, New
 use Rattle.store_api.specs.declared.events.Event.{Event}
 use Rattle.store_api.specs.declared.machines.Refusal.TheVariants.{ReadOnly}
 use Rattle.store_api.specs.Program.{Done}
-use Rattle.session.specs.Sessions.{SessionState, nodes_seen}
+use Rattle.session.specs.Sessions.{SessionState, nodes_seen, writes}
 use Rattle.session.specs.Chunks.{most_inline, with_chunk, after_draw, after_object, put_object, put_chunk, unless_fault, set_program, chunk_unset}
 use Rattle.commit_path.proofs.Setting.{chunk-unset}
 use Rattle.chunk_calls.specs.Told.{WasSet}
@@ -65,7 +65,7 @@ module _ (s t : SessionState) (path index bytes : List ℕ) where
   -- a set that may end so, and one that was told
   pub chunk-set : MayEnd (set_program s path index bytes) (Ok t) → SetsChunk s t
   unfolding set_program
-  chunk-set e = by_writes s.writes e
+  chunk-set e = by_writes (writes s) e
 
   pub set-told : (client : ℕ) (start journal : List Event) → WasSet client s path index bytes t start journal → SetsChunk s t
   set-told client start journal w = elim w.is [

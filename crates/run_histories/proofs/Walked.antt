@@ -134,5 +134,5 @@ module _ (initial : InitialLaw) (ids : AnyIds) (client : ℕ) (start journal : L
 -- a session of a task at its commit
 pub task-carried_on : InitialLaw → (ids : AnyIds) (task : Task) (client : ℕ) (start journal : List Event) → Grounds ids client start journal → IsWellTask task → (t : SessionState) (id : Id12) → IsOfTask ids task client start journal t id → IsCarried ids journal t
 task-carried_on initial ids task client start journal g well t id o =
-    let k = lines-carried ids client start journal g (asked_by task.head ids) o.opened o.begun o.early o.session (task-lines ids task client start journal t id well o) in
-    carried initial ids client start journal g (policy_of task.head) o.count o.session t journal (record { more = []; is = sym (append-nil journal) }) k o.alike o.carried
+    let k = lines-carried ids client start journal g (asked_by o.access ids) o.opened o.begun o.early o.session (task-lines ids task client start journal t id well o) in
+    carried initial ids client start journal g (policy_of o.access) o.count o.session t journal (record { more = []; is = sym (append-nil journal) }) k o.alike o.carried

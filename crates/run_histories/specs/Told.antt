@@ -1,5 +1,5 @@
 -- What a run leaves of the branches' histories, in words of its tasks (own).
-use Rattle.std.specs.Prelude.{◌≡◌, ℕ, ◌+◌, ◌<◌, true, List, [], ◌++◌, length, Option, Some, slice_get}
+use Rattle.std.specs.Prelude.{◌≡◌, ℕ, ◌+◌, ◌<◌, Bool, true, List, [], ◌++◌, length, Option, Some, slice_get}
 use Rattle.ice_ids.specs.declared.Id12.{Id12}
 use Rattle.ice_ids.specs.declared.drawing.AnyIds.{AnyIds}
 use Rattle.ice_ids.specs.declared.drawing.Draw.{Draw}
@@ -18,15 +18,22 @@ use Rattle.store_api.specs.Machine.{Stored, found, was_done}
 use Rattle.store_api.specs.Journal.{Each, puts_of, tree_of}
 use Rattle.histories.specs.Repository.{Entry, last}
 use Rattle.histories.specs.Calls.{history_of, IsHistory, BranchesStand}
+use Rattle.histories.specs.Tags.{Stands, GoesOnAs}
+use Rattle.histories.specs.TagCalls.{tag_of, TagAgrees, StandsByState}
 use Rattle.repo_objects.specs.Trees.{Puts}
 use Rattle.changed_snapshot.specs.Laws.{KeepsFrozen}
-use Rattle.session.specs.Sessions.{SessionState, base_tree, changes_in, overlay}
+use Rattle.store_api.specs.Telling.{WasRef}
+use Rattle.repo_read.specs.declared.resolving.At.{At}
+use Rattle.repo_read.specs.Naming.{WasTagged}
+use Rattle.session.specs.Sessions.{SessionState, branch_of, version_of, base_tree, changes_in, overlay}
 use Rattle.session.specs.Opening.{Asked}
 use Rattle.commit_path.specs.Owed.{IsMade}
-use Rattle.commit_path.specs.Opened.{IsOpened, WasNamed, WasBegun}
+use Rattle.commit_path.specs.Opened.{IsOpened, WasBegun}
 use Rattle.commit_path.specs.Single.{HasPutNone, HasPutAlike}
 use Rattle.rebase.specs.Telling.{WasHidden}
 use Rattle.repository.specs.Beginning.{begin_program}
+use Rattle.play_script.specs.declared.scripts.Access.{Access}
+use Rattle.play_script.specs.declared.scripts.Head.TheVariants.{Session}
 use Rattle.play_script.specs.declared.scripts.Line.{Line}
 use Rattle.play_script.specs.declared.scripts.Task.{Task}
 use Rattle.play_outcome.specs.declared.outcome.Shown.{Shown}
@@ -48,8 +55,8 @@ pub record IsOfSession (draw : Draw) (tasks : List Task) (start : List Event) (c
   pub at : slice_get tasks place ≡ Some task
   pub session : SessionState
   pub of_task : IsOfTask (ids_at draw place) task (place + 1) start journal session id
-  pub branch_is : branch ≡ session.branch
-  pub version_is : old ≡ session.version
+  pub branch_is : branch ≡ branch_of session
+  pub version_is : old ≡ version_of session
   pub changes_are : changes ≡ changes_in (puts_of journal) session
   pub made : IsMade session id journal
 
@@ -81,22 +88,44 @@ abbrev pub CommitsEnter : Draw → List Task → List Event → Puts → (Id12 �
 CommitsEnter draw tasks start puts trees changes journal event = (branch bytes : List ℕ) (old : Version) (id : Id12) (s : Stored) → event.op ≡ PutOver (Branch branch) bytes old Commit → ref_of bytes ≡ Some id
     → was_done event.reply ≡ true → found journal (Branch branch) ≡ Some s → s.version ≡ old.0 → IsEntered draw tasks start puts trees changes journal event.client branch old.0 id
 
--- The session began at the last entry of its branch's history, as that was where the client got the branch: it has the
--- entry's version, snapshot and tree.
-pub record BeganAtLast (puts : Puts) (trees : Id12 → Option Tree) (changes : ℕ → Changes) (client : ℕ) (a : Asked) (s : SessionState) (start journal : List Event) : Type 0 where
-  pub named : WasNamed client a s.version s.base start journal
+-- ---- where sessions begin
+-- A branch was asked for: its history's last entry, as that was where the client got the branch, has the version and the snapshot that the client read,
+-- and the session begins at that snapshot. One that writes keeps the branch and the version.
+pub record BeganAtBranch (trees : Id12 → Option Tree) (changes : ℕ → Changes) (client : ℕ) (branch : List ℕ) (writes : Bool) (s : SessionState) (start journal : List Event) : Type 0 where
+  pub version : Version
+  pub read : WasRef client (Branch branch) version s.base start journal
   pub entry : Entry
-  pub is_last : last (history_of trees changes named.got.own.before a.branch) ≡ Some entry
-  pub version : entry.version ≡ s.version
+  pub is_last : last (history_of trees changes read.got.own.before branch) ≡ Some entry
+  pub version_is : entry.version ≡ version.0
   pub base : entry.id ≡ s.base
-  pub tree : trees entry.id ≡ Some (base_tree puts s)
+  pub tip : writes ≡ true → s.tip ≡ Some (record { branch = branch; version = version })
+
+-- A tag was asked for: it stood where the client got that it has no tombstone, as it was made, and the session begins at its snapshot.
+pub record BeganAtTag (trees : Id12 → Option Tree) (client : ℕ) (tag : List ℕ) (s : SessionState) (start journal : List Event) : Type 0 where
+  pub read : WasTagged client tag s.base start journal
+  pub entry : Entry
+  pub stood : tag_of trees read.stands.own.before tag ≡ Stands entry
+  pub version_is : entry.version ≡ read.version.0
+  pub base : entry.id ≡ s.base
+
+abbrev pub BeganAt : (Id12 → Option Tree) → (ℕ → Changes) → ℕ → At → (writes : Bool) → SessionState → (start journal : List Event) → Type 0
+BeganAt trees changes client (At.Branch branch) writes s start journal = BeganAtBranch trees changes client branch writes s start journal
+BeganAt trees changes client (At.Tag tag) writes s start journal = BeganAtTag trees client tag s start journal
+BeganAt trees changes client (At.Snapshot id) writes s start journal = s.base ≡ id
+
+-- The session began at what named its snapshot, as that was where the client got it, and it has that snapshot's tree.
+pub record BeganAtLast (puts : Puts) (trees : Id12 → Option Tree) (changes : ℕ → Changes) (client : ℕ) (a : Asked) (s : SessionState) (start journal : List Event) : Type 0 where
+  pub began : BeganAt trees changes client a.at a.writes s start journal
+  pub tree : trees s.base ≡ Some (base_tree puts s)
 
 -- ---- sessions that lines were played on
--- A session of a task of this client: it was opened at a snapshot that the client got before it put one itself, and lines of
+-- A session of a task of this client, which opens one: it was opened at a snapshot that the client got before it put one itself, and lines of
 -- the task were played on it.
 pub record WasPlayed (ids : AnyIds) (task : Task) (client : ℕ) (start : List Event) (s : SessionState) (journal : List Event) : Type 0 where
+  pub access : Access
+  pub head_is : task.head ≡ Session access
   pub opened : SessionState
-  pub begun : WasBegun client (asked_by task.head ids) opened start journal
+  pub begun : WasBegun client (asked_by access ids) opened start journal
   pub early : HasPutNone client start begun.got.own.before
   pub read : IsOpened opened journal
   pub played : List Line
@@ -119,22 +148,23 @@ pub record HasLost (ids : AnyIds) (task : Task) (client : ℕ) (start : List Eve
   pub was_played : WasPlayed ids task client start session journal
   pub count : ℕ
   pub at_last : SessionState
-  pub carried : WasCarried client (policy_of task.head) count session at_last start journal
+  pub carried : WasCarried client (policy_of was_played.access) count session at_last start journal
   pub was_lost : WasLost client at_last lost start since
   pub alike : HasPutAlike client lost start journal
 
 -- no rebase of such a session of the tasks, which began behind the opening, is refused because a log hides a node
 abbrev pub NoneHidden : Draw → List Task → (old new : List Event) → Type 0
 NoneHidden draw tasks old new = (start since : List Event) (place : ℕ) (task : Task) (lost : SessionState) (key : Key) (bad : Bad) → RanAlone begin_program old start → slice_get tasks place ≡ Some task
-    → HasLost (ids_at draw place) task (place + 1) start lost since new → ¬ WasHidden (place + 1) (policy_of task.head) lost key bad since new
+    → (l : HasLost (ids_at draw place) task (place + 1) start lost since new) → ¬ WasHidden (place + 1) (policy_of l.was_played.access) lost key bad since new
 
 -- ---- a run
 -- After a run, whose tasks began at `start`: the changes for each position are those before it, and for each commit that it added those of a session
 -- of its client's task; each commit that took effect follows on the entry before it; each session that was opened began
--- at the last entry of its branch, and keeps through its lines what stays of its nodes' metadata; and no log hides a node from
--- one that is rebased. With these changes the journal is sound, and what the source of another client may draw is new to it where
--- it was before, so that a run of other clients may go on; the histories run over its calls; and the branches stand as their
--- histories say. Trees are by what was put in the whole journal.
+-- at the last entry of its branch, or at its tag as that stood, or at the snapshot of its id, and keeps through its lines what stays of its nodes'
+-- metadata; and no log hides a node from one that is rebased. With these changes the journal is sound, and what the source of another client may draw
+-- is new to it where it was before, so that a run of other clients may go on; the histories run over its calls, and so do the states of the tags; the
+-- branches stand as their histories say, and the tags as their states do; and a tag that was there before is as it was, or was dropped. Trees are by
+-- what was put in the whole journal.
 pub record HasHistories (draw : Draw) (tasks : List Task) (before : ℕ → Changes) (old new : List Event) : Type 0 where
   pub added : List Event
   pub is : new ≡ old ++ added
@@ -151,6 +181,9 @@ pub record HasHistories (draw : Draw) (tasks : List Task) (before : ℕ → Chan
   pub others : (ids : AnyIds) → IsOfAnother tasks ids → IsNewSource ids old → IsNewSource ids new
   pub history : IsHistory (tree_of new) changes new
   pub stand : BranchesStand (tree_of new) changes new
+  pub tags : Each (TagAgrees (tree_of new)) [] new
+  pub tags_stand : (tag : List ℕ) → StandsByState (tree_of new) new tag
+  pub tags_last : (tag : List ℕ) → GoesOnAs (tag_of (tree_of old) old tag) (tag_of (tree_of new) new tag)
 
 -- of a run that goes on a sound journal, to which its clients' ids are new
 abbrev pub RunLaw : Type 0

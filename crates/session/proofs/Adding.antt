@@ -26,30 +26,30 @@ use Rattle.zarr_changes.specs.Sets.{add_refusal}
 use Rattle.manifest_file.specs.declared.manifest.Place.{Place}
 use Rattle.store_api.specs.declared.machines.Refusal.{Refusal}
 use Rattle.store_api.specs.declared.machines.Refusal.TheVariants as R
-use Rattle.session.specs.Sessions.{SessionState, nodes_seen}
+use Rattle.session.specs.Sessions.{SessionState, nodes_seen, writes}
 use Rattle.session.specs.Editing.{added, entered, Adds, refusal_of_edit, drawn_node, unless_bad}
 use Rattle.session.specs.inside.Reads.{Reads}
 use Rattle.session.proofs.Refusing.{unwritten, faulty, allowed, refused_by, taken}
 
 -- ---- before the edit
 module _ (fault : Result View MetaFault → Option MetaFault) (s : SessionState) (p text : List ℕ) where
-  pub read_only : s.writes ≡ false → added fault s p text ≡ Err R.ReadOnly
+  pub read_only : writes s ≡ false → added fault s p text ≡ Err R.ReadOnly
   unfolding added
-  read_only e = unwritten s.writes (unless_bad (fault (meta_of text)) (entered s p text)) e
+  read_only e = unwritten (writes s) (unless_bad (fault (meta_of text)) (entered s p text)) e
 
   -- the text doesn't serve
-  pub bad_text : (refusal : Refusal) → s.writes ≡ true → Reads fault text (Err refusal) → Adds (added fault s p text) s (Err refusal) s
+  pub bad_text : (refusal : Refusal) → writes s ≡ true → Reads fault text (Err refusal) → Adds (added fault s p text) s (Err refusal) s
   unfolding added
-  bad_text (R.BadMeta bad) w r = (faulty s.writes (fault (meta_of text)) (entered s p text) bad w r, refl)
+  bad_text (R.BadMeta bad) w r = (faulty (writes s) (fault (meta_of text)) (entered s p text) bad w r, refl)
   bad_text R.NoMemory w r = inl refl
   bad_text _ w r = absurd r
 
   -- what adding the metadata that was read answers, adding its text does
-  by_edit : (meta : Meta) → s.writes ≡ true → Reads fault text (Ok meta) → entered s p meta.text ≡ added fault s p text
+  by_edit : (meta : Meta) → writes s ≡ true → Reads fault text (Ok meta) → entered s p meta.text ≡ added fault s p text
   unfolding added
-  by_edit meta w g = ap (entered s p) g.1.0 ∙ sym (allowed s.writes (fault (meta_of text)) (entered s p text) w g.0)
+  by_edit meta w g = ap (entered s p) g.1.0 ∙ sym (allowed (writes s) (fault (meta_of text)) (entered s p text) w g.0)
 
-  pub added_text : (meta : Meta) (new : SessionState) (result : Result Id8 Refusal) → s.writes ≡ true → Reads fault text (Ok meta) → Adds (entered s p meta.text) s result new → Adds (added fault s p text) s result new
+  pub added_text : (meta : Meta) (new : SessionState) (result : Result Id8 Refusal) → writes s ≡ true → Reads fault text (Ok meta) → Adds (entered s p meta.text) s result new → Adds (added fault s p text) s result new
   added_text meta new result w g a = subst (λ (e : Result (Id8 × SessionState) Refusal). Adds e s result new) (by_edit meta w g) a
 
 -- ---- the tree refuses the node

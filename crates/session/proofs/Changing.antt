@@ -34,7 +34,7 @@ use Rattle.zarr_changes.proofs.DropLaws.{lists-with}
 use Rattle.manifest_file.specs.declared.manifest.Place.{Place}
 use Rattle.store_api.specs.declared.machines.Refusal.{Refusal}
 use Rattle.store_api.specs.declared.machines.Refusal.TheVariants as R
-use Rattle.session.specs.Sessions.{SessionState, base_nodes, nodes_seen}
+use Rattle.session.specs.Sessions.{SessionState, base_nodes, nodes_seen, writes}
 use Rattle.session.specs.Editing.{meta_set, node_dropped, node_fault, Leaves, refusal_of_edit, unless_bad, unless_refused}
 use Rattle.session.specs.inside.Reads.{Reads}
 use Rattle.session.proofs.Refusing.{unwritten, written, faulty, allowed, refused_by, taken}
@@ -72,28 +72,28 @@ module _ (s : SessionState) (p text : List ℕ) where
   abbrev set_to : List ℕ → Result SessionState Refusal
   set_to x = Ok (record s { held = with_text_at s.held (base_nodes s) p x })
 
-  pub set-read_only : s.writes ≡ false → meta_set s p text ≡ Err R.ReadOnly
+  pub set-read_only : writes s ≡ false → meta_set s p text ≡ Err R.ReadOnly
   unfolding meta_set
-  set-read_only e = unwritten s.writes (unless_bad (node_fault (meta_of text)) (unless_refused (text_refusal (nodes_seen s) p text) (set_to text))) e
+  set-read_only e = unwritten (writes s) (unless_bad (node_fault (meta_of text)) (unless_refused (text_refusal (nodes_seen s) p text) (set_to text))) e
 
-  pub set-bad_text : (refusal : Refusal) → s.writes ≡ true → Reads node_fault text (Err refusal) → Leaves (meta_set s p text) s (Err refusal) s
+  pub set-bad_text : (refusal : Refusal) → writes s ≡ true → Reads node_fault text (Err refusal) → Leaves (meta_set s p text) s (Err refusal) s
   unfolding meta_set
-  set-bad_text (R.BadMeta bad) w r = (faulty s.writes (node_fault (meta_of text)) (unless_refused (text_refusal (nodes_seen s) p text) (set_to text)) bad w r, refl)
+  set-bad_text (R.BadMeta bad) w r = (faulty (writes s) (node_fault (meta_of text)) (unless_refused (text_refusal (nodes_seen s) p text) (set_to text)) bad w r, refl)
   set-bad_text R.NoMemory w r = refl
   set-bad_text _ w r = absurd r
 
-  pub set-refused : (meta : Meta) (after : Held Place) (fault : EditFault) → s.writes ≡ true → Reads node_fault text (Ok meta)
+  pub set-refused : (meta : Meta) (after : Held Place) (fault : EditFault) → writes s ≡ true → Reads node_fault text (Ok meta)
       → Enters (text_refusal (nodes_seen s) p meta.text) (with_text_at s.held (base_nodes s) p meta.text) s.held (Err fault) after → Leaves (meta_set s p text) s (Err (refusal_of_edit fault)) (record s { held = after })
   unfolding meta_set
   set-refused meta after fault w g e =
       told (meta_set s p text) s (text_refusal (nodes_seen s) p meta.text) (with_text_at s.held (base_nodes s) p meta.text) after fault
-      (λ r. allowed s.writes (node_fault (meta_of text)) _ w g.0 ∙ refused_by (text_refusal (nodes_seen s) p text) (set_to text) fault (sym (ap (text_refusal (nodes_seen s) p) g.1.0) ∙ r)) e
+      (λ r. allowed (writes s) (node_fault (meta_of text)) _ w g.0 ∙ refused_by (text_refusal (nodes_seen s) p text) (set_to text) fault (sym (ap (text_refusal (nodes_seen s) p) g.1.0) ∙ r)) e
 
-  pub set-done : (meta : Meta) (after : Held Place) (done : Unit {0}) → s.writes ≡ true → Reads node_fault text (Ok meta)
+  pub set-done : (meta : Meta) (after : Held Place) (done : Unit {0}) → writes s ≡ true → Reads node_fault text (Ok meta)
       → Enters (text_refusal (nodes_seen s) p meta.text) (with_text_at s.held (base_nodes s) p meta.text) s.held (Ok done) after → meta_set s p text ≡ Ok (record s { held = after })
   unfolding meta_set
   set-done meta after done w g e =
-      allowed s.writes (node_fault (meta_of text)) _ w g.0 ∙ taken (text_refusal (nodes_seen s) p text) (set_to text) (sym (ap (text_refusal (nodes_seen s) p) g.1.0) ∙ e.0)
+      allowed (writes s) (node_fault (meta_of text)) _ w g.0 ∙ taken (text_refusal (nodes_seen s) p text) (set_to text) (sym (ap (text_refusal (nodes_seen s) p) g.1.0) ∙ e.0)
       ∙ sym (ap set_to g.1.0) ∙ sym (ap (λ (h : Held Place). Ok (record s { held = h })) e.1)
 
 -- ---- dropped nodes
@@ -101,19 +101,19 @@ module _ (s : SessionState) (p : List ℕ) where
   abbrev dropped : Result SessionState Refusal
   dropped = Ok (record s { held = without_node s.held (base_nodes s) p })
 
-  pub drop-read_only : s.writes ≡ false → node_dropped s p ≡ Err R.ReadOnly
+  pub drop-read_only : writes s ≡ false → node_dropped s p ≡ Err R.ReadOnly
   unfolding node_dropped
-  drop-read_only e = unwritten s.writes (unless_refused (drop_refusal (nodes_seen s) p) dropped) e
+  drop-read_only e = unwritten (writes s) (unless_refused (drop_refusal (nodes_seen s) p) dropped) e
 
-  pub drop-refused : (after : Held Place) (fault : EditFault) → s.writes ≡ true → Enters (drop_refusal (nodes_seen s) p) (without_node s.held (base_nodes s) p) s.held (Err fault) after
+  pub drop-refused : (after : Held Place) (fault : EditFault) → writes s ≡ true → Enters (drop_refusal (nodes_seen s) p) (without_node s.held (base_nodes s) p) s.held (Err fault) after
       → Leaves (node_dropped s p) s (Err (refusal_of_edit fault)) (record s { held = after })
   unfolding node_dropped
   drop-refused after fault w e =
-      told (node_dropped s p) s (drop_refusal (nodes_seen s) p) (without_node s.held (base_nodes s) p) after fault (λ r. written s.writes _ w ∙ refused_by (drop_refusal (nodes_seen s) p) dropped fault r) e
+      told (node_dropped s p) s (drop_refusal (nodes_seen s) p) (without_node s.held (base_nodes s) p) after fault (λ r. written (writes s) _ w ∙ refused_by (drop_refusal (nodes_seen s) p) dropped fault r) e
 
-  pub drop-done : (after : Held Place) (done : Unit {0}) → s.writes ≡ true → Enters (drop_refusal (nodes_seen s) p) (without_node s.held (base_nodes s) p) s.held (Ok done) after → node_dropped s p ≡ Ok (record s { held = after })
+  pub drop-done : (after : Held Place) (done : Unit {0}) → writes s ≡ true → Enters (drop_refusal (nodes_seen s) p) (without_node s.held (base_nodes s) p) s.held (Ok done) after → node_dropped s p ≡ Ok (record s { held = after })
   unfolding node_dropped
-  drop-done after done w e = written s.writes _ w ∙ taken (drop_refusal (nodes_seen s) p) dropped e.0 ∙ sym (ap (λ (h : Held Place). Ok (record s { held = h })) e.1)
+  drop-done after done w e = written (writes s) _ w ∙ taken (drop_refusal (nodes_seen s) p) dropped e.0 ∙ sym (ap (λ (h : Held Place). Ok (record s { held = h })) e.1)
 
 -- ---- a map of paths that another map has is no larger
 differs : (o : Ordering) → T (is_lt o) → is_eq o ≡ false

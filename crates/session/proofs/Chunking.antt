@@ -17,7 +17,7 @@ use Rattle.store_api.specs.declared.machines.Refusal.{Refusal}
 use Rattle.store_api.specs.declared.machines.Refusal.TheVariants as R
 use Rattle.store_api.specs.Program.{Done}
 use Rattle.store_api.specs.Running.{Program}
-use Rattle.session.specs.Sessions.{SessionState, base_nodes, nodes_seen}
+use Rattle.session.specs.Sessions.{SessionState, base_nodes, nodes_seen, writes}
 use Rattle.session.specs.Editing.{Leaves, refusal_of_edit, unless_refused}
 use Rattle.session.specs.Chunks.{set_program, put_chunk, put_object, unless_fault, chunk_unset, with_chunk, without_chunk, most_inline}
 use Rattle.session.specs.declared.putting.Putting.{Putting}
@@ -53,29 +53,29 @@ module _ (s : SessionState) (p i b : List ℕ) where
   abbrev refusal : Option EditFault
   refusal = set_refusal (nodes_seen s) p i (length b)
 
-  pub set_read_only : s.writes ≡ false → set_program s p i b ≡ Done (Err R.ReadOnly)
+  pub set_read_only : writes s ≡ false → set_program s p i b ≡ Done (Err R.ReadOnly)
   unfolding set_program
   set_read_only e = ap (λ (w : Bool). if_writes w (unless_fault refusal (put_chunk s p i b))) e
 
-  by_refusal : (o : Option EditFault) → s.writes ≡ true → refusal ≡ o → set_program s p i b ≡ unless_fault o (put_chunk s p i b)
+  by_refusal : (o : Option EditFault) → writes s ≡ true → refusal ≡ o → set_program s p i b ≡ unless_fault o (put_chunk s p i b)
   unfolding set_program
   by_refusal o w e = ap (λ (w : Bool). if_writes w (unless_fault refusal (put_chunk s p i b))) w ∙ ap (λ (o : Option EditFault). unless_fault o (put_chunk s p i b)) e
 
   -- the tree refuses the chunk
-  pub set_refused : (fault : EditFault) → s.writes ≡ true → Err fault ≡ unless refusal (tt {0}) → SetRefused (set_program s p i b) s s (refusal_of_edit fault)
+  pub set_refused : (fault : EditFault) → writes s ≡ true → Err fault ≡ unless refusal (tt {0}) → SetRefused (set_program s p i b) s s (refusal_of_edit fault)
   set_refused fault w e = set_told (set_program s p i b) s fault (by_refusal (Some fault) w (unless_err refusal fault e))
 
   -- or takes it
   pub set_allowed : (done : Unit {0}) → Ok done ≡ unless refusal (tt {0}) → refusal ≡ None
   set_allowed done e = unless_ok refusal done e
 
-  pub set_short : s.writes ≡ true → refusal ≡ None → put_chunk s p i b ≡ set_program s p i b
+  pub set_short : writes s ≡ true → refusal ≡ None → put_chunk s p i b ≡ set_program s p i b
   set_short w e = sym (by_refusal None w e)
 
   by_length : nat_le (length b) most_inline ≡ false → put_chunk s p i b ≡ put_object s p i b (drawn12 s.ids)
   by_length e = ap (λ (short : Bool). if short then Done (Ok (with_chunk s p i (Inline b))) else put_object s p i b (drawn12 s.ids)) e
 
-  pub set_long : s.writes ≡ true → refusal ≡ None → nat_le (length b) most_inline ≡ false → put_object s p i b (drawn12 s.ids) ≡ set_program s p i b
+  pub set_long : writes s ≡ true → refusal ≡ None → nat_le (length b) most_inline ≡ false → put_object s p i b (drawn12 s.ids) ≡ set_program s p i b
   set_long w e l = sym (by_length l) ∙ set_short w e
 
 -- ---- chunks that are taken away
@@ -83,19 +83,19 @@ module _ (s : SessionState) (p i : List ℕ) where
   abbrev unset : Result SessionState Refusal
   unset = Ok (without_chunk s p i)
 
-  pub unset_read_only : s.writes ≡ false → chunk_unset s p i ≡ Err R.ReadOnly
+  pub unset_read_only : writes s ≡ false → chunk_unset s p i ≡ Err R.ReadOnly
   unfolding chunk_unset
-  unset_read_only e = unwritten s.writes (unless_refused (unset_refusal (nodes_seen s) p i) unset) e
+  unset_read_only e = unwritten (writes s) (unless_refused (unset_refusal (nodes_seen s) p i) unset) e
 
-  pub unset_refused : (after : Held Place) (fault : EditFault) → s.writes ≡ true → Enters (unset_refusal (nodes_seen s) p i) (without_chunk_at s.held (base_nodes s) p i) s.held (Err fault) after
+  pub unset_refused : (after : Held Place) (fault : EditFault) → writes s ≡ true → Enters (unset_refusal (nodes_seen s) p i) (without_chunk_at s.held (base_nodes s) p i) s.held (Err fault) after
       → Leaves (chunk_unset s p i) s (Err (refusal_of_edit fault)) (record s { held = after })
   unfolding chunk_unset
   unset_refused after fault w e =
-      told (chunk_unset s p i) s (unset_refusal (nodes_seen s) p i) (without_chunk_at s.held (base_nodes s) p i) after fault (λ r. written s.writes _ w ∙ refused_by (unset_refusal (nodes_seen s) p i) unset fault r) e
+      told (chunk_unset s p i) s (unset_refusal (nodes_seen s) p i) (without_chunk_at s.held (base_nodes s) p i) after fault (λ r. written (writes s) _ w ∙ refused_by (unset_refusal (nodes_seen s) p i) unset fault r) e
 
-  pub unset_done : (after : Held Place) (done : Unit {0}) → s.writes ≡ true → Enters (unset_refusal (nodes_seen s) p i) (without_chunk_at s.held (base_nodes s) p i) s.held (Ok done) after → chunk_unset s p i ≡ Ok (record s { held = after })
+  pub unset_done : (after : Held Place) (done : Unit {0}) → writes s ≡ true → Enters (unset_refusal (nodes_seen s) p i) (without_chunk_at s.held (base_nodes s) p i) s.held (Ok done) after → chunk_unset s p i ≡ Ok (record s { held = after })
   unfolding chunk_unset
-  unset_done after done w e = written s.writes _ w ∙ taken (unset_refusal (nodes_seen s) p i) unset e.0 ∙ sym (ap (λ (h : Held Place). Ok (record s { held = h })) e.1)
+  unset_done after done w e = written (writes s) _ w ∙ taken (unset_refusal (nodes_seen s) p i) unset e.0 ∙ sym (ap (λ (h : Held Place). Ok (record s { held = h })) e.1)
 
 -- ---- no chunk adds a node
 module _ (h : Held Place) (nodes : FinMap path_cmp Node) (p i : List ℕ) where

@@ -29,7 +29,7 @@ use Rattle.repo_read.specs.Answers.{at_key}
 use Rattle.repo_read.specs.Programs.{manifest_program, object_program}
 use Rattle.session.specs.declared.chunks.Value.{Value}
 use Rattle.session.specs.declared.chunks.Value.TheVariants.{Held as Is_held, Fill}
-use Rattle.session.specs.Sessions.{SessionState, base_nodes, nodes_seen}
+use Rattle.session.specs.Sessions.{SessionState, base_nodes, nodes_seen, writes}
 use Rattle.session.specs.Editing.{refusal_of_edit, if_writes, unless_refused}
 
 -- ---- a chunk that is set
@@ -70,7 +70,7 @@ unless_fault (Some fault) p = Done (Err (refusal_of_edit fault))
 -- the object's put
 unfoldable pub set_program : SessionState → (path index bytes : List ℕ) → Program SessionState
 set_program s path index bytes =
-    if s.writes then unless_fault (set_refusal (nodes_seen s) path index (length bytes)) (put_chunk s path index bytes) else Done (Err ReadOnly)
+    if writes s then unless_fault (set_refusal (nodes_seen s) path index (length bytes)) (put_chunk s path index bytes) else Done (Err ReadOnly)
 
 -- ---- a chunk that isn't held any more
 abbrev pub without_chunk : SessionState → (path index : List ℕ) → SessionState
@@ -78,7 +78,7 @@ without_chunk s path index = record s { held = without_chunk_at s.held (base_nod
 
 -- the session in which no chunk is held there, or the first refusal: ReadOnly, those of the edit on its tree
 unfoldable pub chunk_unset : SessionState → (path index : List ℕ) → Result SessionState Refusal
-chunk_unset s path index = if_writes s.writes (unless_refused (unset_refusal (nodes_seen s) path index) (Ok (without_chunk s path index)))
+chunk_unset s path index = if_writes (writes s) (unless_refused (unset_refusal (nodes_seen s) path index) (Ok (without_chunk s path index)))
 
 -- ---- a chunk that is read
 -- a read found these bytes

@@ -1,6 +1,6 @@
 -- Codes of rows and of sessions, by which proofs tell them apart.
-use Rattle.std.specs.Prelude.{◌≡◌, ℕ, Bool, List, Option, Some, None, refl}
-use Rattle.std.specs.Coded.{Coded, coded_ℕ, coded_bool, coded×, coded_list, coded_option, code_by}
+use Rattle.std.specs.Prelude.{◌≡◌, ℕ, List, Option, Some, None, refl}
+use Rattle.std.specs.Coded.{Coded, coded_ℕ, coded×, coded_list, coded_option, code_by}
 use Rattle.ice_ids.specs.declared.drawing.AnyIds.{AnyIds}
 use Rattle.ice_ids.specs.declared.drawing.AnyIds.TheVariants.{Count}
 use Rattle.manifest_file.specs.declared.manifest.Place.{Place}
@@ -12,6 +12,7 @@ use Rattle.snapshot_file.specs.declared.snapshot.ManifestInfo.{ManifestInfo}
 use Rattle.zarr_tree.specs.Codes.{coded_path}
 use Rattle.zarr_tree.specs.Held.{Held}
 use Rattle.zarr_changes.specs.Codes.{coded_held, coded_place}
+use Rattle.session.specs.declared.tip.Tip.{Tip}
 use Rattle.session.specs.Sessions.{SessionState}
 
 -- ---- rows
@@ -70,8 +71,11 @@ abbrev pub coded_ids : Coded AnyIds
 coded_ids = code_by (ℕ × ℕ) (coded× coded_ℕ coded_ℕ) counts ids_of same-ids
 
 -- ---- sessions
+abbrev pub coded_tip : Coded Tip
+coded_tip = code_by (List ℕ × ℕ) (coded× coded_path coded_ℕ) (λ tip. (tip.branch, tip.version.0)) (λ p. record { branch = p.0; version = record { 0 = p.1 } }) (λ _. refl)
+
 abbrev pub Opened : Type 0
-Opened = List ℕ × (Bool × (List ℕ × ℕ))
+Opened = Option Tip × List ℕ
 
 abbrev pub Changed : Type 0
 Changed = (List NodeRow × List ManifestInfo) × (Held Place × AnyIds)
@@ -79,7 +83,7 @@ Changed = (List NodeRow × List ManifestInfo) × (Held Place × AnyIds)
 abbrev pub coded_session : Coded SessionState
 coded_session =
     code_by (Opened × Changed)
-    (coded× (coded× coded_path (coded× coded_bool (coded× coded_path coded_ℕ))) (coded× (coded× (coded_list coded_row) (coded_list coded_file)) (coded× (coded_held coded_place) coded_ids)))
-    (λ s. ((s.branch, (s.writes, (s.base.0, s.version))), ((s.rows, s.files), (s.held, s.ids))))
-    (λ p. record { branch = p.0.0; writes = p.0.1.0; base = record { 0 = p.0.1.1.0 }; version = p.0.1.1.1; rows = p.1.0.0; files = p.1.0.1; held = p.1.1.0; ids = p.1.1.1 })
+    (coded× (coded× (coded_option coded_tip) coded_path) (coded× (coded× (coded_list coded_row) (coded_list coded_file)) (coded× (coded_held coded_place) coded_ids)))
+    (λ s. ((s.tip, s.base.0), ((s.rows, s.files), (s.held, s.ids))))
+    (λ p. record { tip = p.0.0; base = record { 0 = p.0.1 }; rows = p.1.0.0; files = p.1.0.1; held = p.1.1.0; ids = p.1.1.1 })
     (λ _. refl)

@@ -20,7 +20,7 @@ use Rattle.zarr_changes.specs.Sets.{add_refusal, text_refusal, drop_refusal}
 use Rattle.store_api.specs.declared.machines.Refusal.{Refusal}
 use Rattle.store_api.specs.declared.machines.Refusal.TheVariants as R
 use Rattle.session.specs.declared.session.Listing.{Listing}
-use Rattle.session.specs.Sessions.{SessionState, base_nodes, nodes_seen}
+use Rattle.session.specs.Sessions.{SessionState, base_nodes, nodes_seen, writes}
 
 -- a session refuses an edit as its tree does
 abbrev pub refusal_of_edit : EditFault → Refusal
@@ -78,7 +78,7 @@ entered s path text = unless_refused (add_refusal (nodes_seen s) path) (drawn_no
 
 -- the same, but ReadOnly comes before, and then BadMeta where this tells a fault of the text
 unfoldable pub added : (Result View MetaFault → Option MetaFault) → SessionState → (path text : List ℕ) → Result (Id8 × SessionState) Refusal
-added fault s path text = if_writes s.writes (unless_bad (fault (meta_of text)) (entered s path text))
+added fault s path text = if_writes (writes s) (unless_bad (fault (meta_of text)) (entered s path text))
 
 abbrev pub group_added : SessionState → (path text : List ℕ) → Result (Id8 × SessionState) Refusal
 group_added = added group_fault
@@ -97,14 +97,14 @@ with_text s path text = record s { held = with_text_at s.held (base_nodes s) pat
 -- the session in which the node at a path has another text, or the first refusal: ReadOnly, BadMeta, those of the edit
 -- on its tree
 unfoldable pub meta_set : SessionState → (path text : List ℕ) → Result SessionState Refusal
-meta_set s path text = if_writes s.writes (unless_bad (node_fault (meta_of text)) (unless_refused (text_refusal (nodes_seen s) path text) (Ok (with_text s path text))))
+meta_set s path text = if_writes (writes s) (unless_bad (node_fault (meta_of text)) (unless_refused (text_refusal (nodes_seen s) path text) (Ok (with_text s path text))))
 
 abbrev pub without : SessionState → (path : List ℕ) → SessionState
 without s path = record s { held = without_node s.held (base_nodes s) path }
 
 -- the session without the node at a path and all beneath it, or the first refusal: ReadOnly, that of the edit on its tree
 unfoldable pub node_dropped : SessionState → (path : List ℕ) → Result SessionState Refusal
-node_dropped s path = if_writes s.writes (unless_refused (drop_refusal (nodes_seen s) path) (Ok (without s path)))
+node_dropped s path = if_writes (writes s) (unless_refused (drop_refusal (nodes_seen s) path) (Ok (without s path)))
 
 -- ---- what the calls answer and leave
 -- nothing changed but that one id may have been drawn

@@ -1,6 +1,5 @@
--- The program of an opening: it gets the branch, and then the snapshot that it names.
-use Rattle.std.specs.Prelude.{ℕ, Bool, List, Ok, Err}
-use Rattle.ice_ids.specs.declared.Id12.{Id12}
+-- The program of an opening: it gets what names a snapshot, if that is a ref, and then the snapshot.
+use Rattle.std.specs.Prelude.{ℕ, ◌+◌, if◌then◌else◌, Bool, Option, Some, None, Ok, Err}
 use Rattle.ice_ids.specs.declared.drawing.AnyIds.{AnyIds}
 use Rattle.snapshot_file.specs.declared.snapshot.SnapshotFile.{SnapshotFile}
 use Rattle.zarr_changes.specs.Edits.{nothing}
@@ -8,48 +7,61 @@ use Rattle.store_api.specs.declared.machines.Refusal.{Refusal}
 use Rattle.store_api.specs.declared.machines.Refusal.TheVariants.{NoRef, Missing, BadFile, StoreFault, NoMemory}
 use Rattle.store_api.specs.Program.{Done}
 use Rattle.store_api.specs.Running.{Program, ◌>>=◌}
-use Rattle.repo_read.specs.declared.answers.Resolved.{Resolved}
-use Rattle.repo_read.specs.Programs.{resolve_program, snapshot_program}
+use Rattle.store_api.specs.declared.events.Version.{Version}
+use Rattle.repo_read.specs.declared.resolving.At.{At}
+use Rattle.repo_read.specs.declared.resolving.Named.{Named}
+use Rattle.repo_read.specs.Resolving.{resolve_at_program, base_at_program}
+use Rattle.repo_read.specs.Seeking.{resolving_rest, resolving_left}
 use Rattle.session.specs.declared.open.Open.{Open}
 use Rattle.session.specs.declared.opening.Opening.{Opening}
-use Rattle.session.specs.declared.opening.Opening.TheVariants.{Ref, Base, Ended}
+use Rattle.session.specs.declared.opening.Opening.TheVariants.{Naming, Base, Ended}
+use Rattle.session.specs.declared.tip.Tip.{Tip}
 use Rattle.session.specs.Sessions.{SessionState}
 
--- what is asked: the branch, whether to write, and the ids to draw
+-- what is asked: what names the snapshot, whether to write, and the ids to draw
 pub record Asked : Type 0 where
-  pub branch : List ℕ
+  pub at : At
   pub writes : Bool
   pub ids : AnyIds
 
--- the session that begins at a snapshot, which the branch named at this version
-abbrev pub begun : Asked → Id12 → (version : ℕ) → SnapshotFile → SessionState
-begun a base version snap = record { branch = a.branch; writes = a.writes; base = base; version = version; rows = snap.nodes; files = snap.manifest_files; held = nothing; ids = a.ids }
+-- a branch that stood at this version
+abbrev pub tip_named : At → Option Version → Option Tip
+tip_named (At.Branch branch) (Some version) = Some (record { branch = branch; version = version })
+tip_named _ _ = None
 
--- gets the snapshot that the branch names
-abbrev pub base_program : Asked → Resolved → Program SessionState
+-- to write, a session keeps the branch and the version at which it was read
+abbrev pub tip_for : Asked → Named → Option Tip
+tip_for a named = if a.writes then tip_named a.at named.version else None
+
+-- the session that begins at the snapshot that was named
+abbrev pub begun : Asked → Named → SnapshotFile → SessionState
+begun a named snap = record { tip = tip_for a named; base = named.id; rows = snap.nodes; files = snap.manifest_files; held = nothing; ids = a.ids }
+
+-- gets the snapshot that was named
+abbrev pub base_program : Asked → Named → Program SessionState
 base_program a named = do
-  snap ← snapshot_program named.id
-  Done (Ok (begun a named.id named.version.0 snap))
+  snap ← base_at_program a.at named.id
+  Done (Ok (begun a named snap))
 
 abbrev pub open_program : Asked → Program SessionState
 open_program a = do
-  named ← resolve_program a.branch
+  named ← resolve_at_program a.at
   base_program a named
 
+-- what is still to be done
 abbrev pub opening_rest : Asked → Opening → Program SessionState
-opening_rest a Ref = open_program a
+opening_rest a (Naming resolving) = resolving_rest resolving >>= base_program a
 opening_rest a (Base named) = base_program a named
 opening_rest a Ended = Done (Err NoMemory)
 
 abbrev pub asked : Open → Asked
-asked o = record { branch = o.branch; writes = o.writes; ids = o.ids }
+asked o = record { at = o.at; writes = o.writes; ids = o.ids }
 
--- what is still to be done
 abbrev pub open_rest : Open → Program SessionState
 open_rest o = opening_rest (asked o) o.state
 
 abbrev pub opening_left : Opening → ℕ
-opening_left Ref = 2
+opening_left (Naming resolving) = resolving_left resolving + 1
 opening_left (Base named) = 1
 opening_left Ended = 0
 

@@ -85,7 +85,7 @@ impl Session {
     pub fn add_group(&mut self, path: &Path, text: &[u8]) -> Result<Id8, Refusal>
         ensures { Adds (group_added self.old path.now text.now) self.old result self.new }
     {
-        if !self.writes {
+        if !self.writes() {
             return Err(Refusal::ReadOnly);
         }
         let meta = group_meta(self.alloc, text)?;
@@ -97,7 +97,7 @@ impl Session {
     pub fn add_array(&mut self, path: &Path, text: &[u8]) -> Result<Id8, Refusal>
         ensures { Adds (array_added self.old path.now text.now) self.old result self.new }
     {
-        if !self.writes {
+        if !self.writes() {
             return Err(Refusal::ReadOnly);
         }
         let meta = array_meta(self.alloc, text)?;
@@ -109,7 +109,7 @@ impl Session {
     pub fn add_node(&mut self, path: &Path, text: &[u8]) -> Result<Id8, Refusal>
         ensures { Adds (node_added self.old path.now text.now) self.old result self.new }
     {
-        if !self.writes {
+        if !self.writes() {
             return Err(Refusal::ReadOnly);
         }
         let meta = node_meta(self.alloc, text)?;
@@ -122,7 +122,7 @@ impl Session {
     pub fn set_meta(&mut self, path: &Path, text: &[u8]) -> Result<(), Refusal>
         ensures { Leaves (meta_set self.old path.now text.now) self.old result self.new }
     {
-        if !self.writes {
+        if !self.writes() {
             return Err(Refusal::ReadOnly);
         }
         let meta = node_meta(self.alloc, text)?;
@@ -137,7 +137,7 @@ impl Session {
     pub fn drop_node(&mut self, path: &Path) -> Result<(), Refusal>
         ensures { Leaves (node_dropped self.old path.now) self.old result self.new }
     {
-        if !self.writes {
+        if !self.writes() {
             return Err(Refusal::ReadOnly);
         }
         match self.changes.drop_node(self.alloc, &self.loaded, path) {

@@ -14,6 +14,7 @@ mod rows;
 mod seeing;
 mod session;
 mod setting;
+mod tip;
 
 pub use chunks::Value;
 pub use getting::{GetChunk, Getting};

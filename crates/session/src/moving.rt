@@ -5,7 +5,7 @@ ghost use Rattle.std.specs.FinMap.{len};
 ghost use Rattle.zarr_tree.specs.Edits.{most_nodes};
 ghost use Rattle.zarr_tree.specs.Held.{nodes_over};
 ghost use Rattle.repo_objects.specs.Trees.{nodes_in};
-ghost use Rattle.session.specs.Sessions.{moved_to};
+ghost use Rattle.session.specs.Sessions.{moved_to, tip_at};
 
 use crate::Session;
 use ice_ids::Id12;
@@ -41,8 +41,8 @@ impl Session {
         requires few { len (nodes_over (unwrap_or changes self.old.held) (nodes_in loaded.nodes)) ≤ most_nodes }
         ensures { self.new ≡ moved_to self.old id version.0 loaded (unwrap_or changes self.old.held) }
     {
+        self.renew(version);
         self.base = id;
-        self.version = version;
         self.loaded = loaded;
         if let Some(changes) = changes {
             self.changes = changes;
@@ -51,8 +51,10 @@ impl Session {
 
     /// Takes this version as that at which the branch names the base.
     pub fn renew(&mut self, version: Version)
-        ensures { self.new ≡ record self.old { version = version.0 } }
+        ensures { self.new ≡ record self.old { tip = tip_at version.0 self.old.tip } }
     {
-        self.version = version;
+        if let Some(tip) = &mut self.tip {
+            tip.version = version;
+        }
     }
 }

@@ -1,24 +1,28 @@
 //! The machine that opens a session.
 
-ghost use Rattle.std.specs.Prelude.{◌≡◌, ◌<◌, true, false, IfErr};
+ghost use Rattle.std.specs.Prelude.{◌≡◌, ◌<◌, ◌≤◌, ◌+◌, true, false, IfErr, IfOk};
+ghost use Rattle.repo_read.specs.declared.resolving.At.TheVariants as At;
+ghost use Rattle.repo_read.specs.Seeking.{resolving_left};
 ghost use Rattle.store_api.specs.Program.{IsAsk, Steps};
 ghost use Rattle.store_api.specs.Driving.{Awaits, Took};
-ghost use Rattle.session.specs.Opening.{open_program, base_program, open_rest, open_left, asked, MayRefuseOpen};
+ghost use Rattle.session.specs.Opening.{open_program, base_program, opening_rest, open_rest, open_left, asked, tip_for, MayRefuseOpen};
 
 use crate::Session;
 use crate::opening::Opening;
+use crate::tip::Tip;
 use ice_base::RefName;
 use ice_ids::AnyIds;
-use repo_read::{Resolved, ref_told, snapshot_told};
+use repo_read::{At, Named, Resolution, Resolving, base_told};
 use std::alloc::{AllocError, Global};
+use std::mem;
 use store_api::{Key, Machine, Next, Refusal, Reply, Request, Store, drive};
 
-/// A machine that opens a session: it gets the branch, and then the snapshot that it names. It
-/// answers `NoRef`, `Missing`, `BadFile`, `StoreFault` or `NoMemory` in place of a session.
+/// A machine that opens a session: it resolves what names a snapshot, and gets the snapshot. It answers `NoRef` (also where a
+/// snapshot named by its own id was absent), `Missing`, `BadFile`, `StoreFault` or `NoMemory` in place of a session.
 #[derive(Drop)]
 pub struct Open {
     alloc: Global,
-    branch: RefName,
+    at: At,
     writes: bool,
     ids: AnyIds,
     state: Opening,
@@ -36,19 +40,18 @@ impl Machine for Open {
     ghost may_refuse = { MayRefuseOpen };
 
     fn request(&self) -> Result<Request<'_>, AllocError> {
-        let key = match self.state {
-            Opening::Ref => Key::Branch(self.branch.copy(self.alloc)?),
-            Opening::Base(named) => Key::Snapshot(named.id),
+        match &self.state {
+            Opening::Naming(resolving) => resolving.request(self.alloc),
+            Opening::Base(named) => Ok(Request::Get {
+                key: Key::Snapshot(named.id),
+            }),
             Opening::Ended => unreachable!(),
-        };
-        Ok(Request::Get { key })
+        }
     }
 
     fn answer(&mut self, reply: Reply) -> Result<Next<Session>, Refusal> {
-        let state = self.state;
-        self.state = Opening::Ended;
-        match state {
-            Opening::Ref => self.on_ref(reply),
+        match mem::replace(&mut self.state, Opening::Ended) {
+            Opening::Naming(resolving) => self.on_naming(resolving, reply),
             Opening::Base(named) => self.on_base(named, reply),
             Opening::Ended => unreachable!(),
         }
@@ -63,29 +66,37 @@ impl Machine for Open {
 
 impl Open {
     /// Opens a session to write to a branch, which draws these ids.
-    pub fn write(alloc: Global, branch: RefName, ids: AnyIds) -> Open
-        ensures { open_rest result ≡ open_program (record { branch = branch; writes = true; ids = ids }) }
+    pub fn write(alloc: Global, branch: RefName, ids: AnyIds) -> Result<Open, AllocError>
+        ensures program { IfOk result (λ machine. open_rest machine ≡ open_program (record { at = At.Branch branch; writes = true; ids = ids })) }
+        ensures few { IfOk result (λ machine. open_left machine ≤ 3) }
     {
-        Open {
-            alloc,
-            branch,
-            writes: true,
-            ids,
-            state: Opening::Ref,
-        }
+        Open::begin(alloc, At::Branch(branch), true, ids)
     }
 
-    /// Opens a session to read a branch.
-    pub fn read(alloc: Global, branch: RefName, ids: AnyIds) -> Open
-        ensures { open_rest result ≡ open_program (record { branch = branch; writes = false; ids = ids }) }
+    /// Opens a session to read what a branch, a tag or an id names.
+    pub fn read(alloc: Global, at: At, ids: AnyIds) -> Result<Open, AllocError>
+        ensures program { IfOk result (λ machine. open_rest machine ≡ open_program (record { at = at; writes = false; ids = ids })) }
+        ensures few { IfOk result (λ machine. open_left machine ≤ 3) }
     {
-        Open {
+        Open::begin(alloc, at, false, ids)
+    }
+
+    /// Before the first operation: an id is known at once.
+    fn begin(alloc: Global, at: At, writes: bool, ids: AnyIds) -> Result<Open, AllocError>
+        ensures program { IfOk result (λ machine. open_rest machine ≡ open_program (record { at = at; writes = writes; ids = ids })) }
+        ensures few { IfOk result (λ machine. open_left machine ≤ 3) }
+    {
+        let state = match Resolution::begin(at.copy(alloc)?) {
+            Resolution::Known(named) => Opening::Base(named),
+            Resolution::Asks(resolving) => Opening::Naming(resolving),
+        };
+        Ok(Open {
             alloc,
-            branch,
-            writes: false,
+            at,
+            writes,
             ids,
-            state: Opening::Ref,
-        }
+            state,
+        })
     }
 
     /// One operation of the store.
@@ -98,30 +109,48 @@ impl Open {
         drive(self, store)
     }
 
-    fn on_ref(&mut self, reply: Reply) -> Result<Next<Session>, Refusal>
+    fn on_naming(&mut self, resolving: Resolving, reply: Reply) -> Result<Next<Session>, Refusal>
         requires ended { self.old.state ≡ Opening.Ended }
-        requires awaited { Awaits (open_program (asked self.old)) reply }
-        ensures took { Took (open_program (asked self.old)) reply (open_rest self.new) result }
-        ensures falls { open_left self.new < 2 }
+        requires awaited { Awaits (opening_rest (asked self.old) (Opening.Naming resolving)) reply }
+        ensures took { Took (opening_rest (asked self.old) (Opening.Naming resolving)) reply (open_rest self.new) result }
+        ensures falls { open_left self.new < resolving_left resolving + 1 }
         ensures listed { IfErr result MayRefuseOpen }
     {
-        let named = ref_told(self.alloc, &self.branch, reply)?;
-        self.state = Opening::Base(named);
+        self.state = match resolving.on_reply(self.alloc, reply)? {
+            Resolution::Known(named) => Opening::Base(named),
+            Resolution::Asks(resolving) => Opening::Naming(resolving),
+        };
         Ok(Next::Again)
     }
 
-    fn on_base(&mut self, named: Resolved, reply: Reply) -> Result<Next<Session>, Refusal>
+    fn on_base(&mut self, named: Named, reply: Reply) -> Result<Next<Session>, Refusal>
         requires ended { self.old.state ≡ Opening.Ended }
         requires awaited { Awaits (base_program (asked self.old) named) reply }
         ensures took { Took (base_program (asked self.old) named) reply (open_rest self.new) result }
         ensures falls { open_left self.new < 1 }
         ensures listed { IfErr result MayRefuseOpen }
     {
-        let loaded = snapshot_told(self.alloc, named.id, reply)?;
-        let Ok(branch) = self.branch.copy(self.alloc) else {
+        let loaded = base_told(self.alloc, &self.at, named.id, reply)?;
+        let Ok(tip) = self.tip(named) else {
             return Err(Refusal::NoMemory);
         };
-        let session = Session::begin(self.alloc, branch, self.writes, self.ids, named, loaded);
+        let session = Session::begin(self.alloc, tip, self.ids, named.id, loaded);
         Ok(Next::Ready(session))
+    }
+
+    /// Where the session writes to that begins at what was named.
+    fn tip(&self, named: Named) -> Result<Option<Tip>, AllocError>
+        ensures { IfOk result (λ tip. tip ≡ tip_for (asked self.now) named) }
+    {
+        if !self.writes {
+            return Ok(None);
+        }
+        match (&self.at, named.version) {
+            (At::Branch(branch), Some(version)) => Ok(Some(Tip {
+                branch: branch.copy(self.alloc)?,
+                version,
+            })),
+            _ => Ok(None),
+        }
     }
 }

@@ -1,14 +1,14 @@
 //! Where an opening stands.
 
-use repo_read::Resolved;
+use repo_read::{Named, Resolving};
 
 /// The operation that comes next.
-#[derive(Clone, Copy, Debug)]
+#[derive(Drop)]
 pub enum Opening {
-    /// The branch is got.
-    Ref,
-    /// The snapshot is got that the branch named.
-    Base(Resolved),
+    /// What names the snapshot is resolved.
+    Naming(Resolving),
+    /// The snapshot is got that was named.
+    Base(Named),
     /// The machine has ended.
     Ended,
 }

@@ -1,12 +1,13 @@
 //! Sessions.
 
-ghost use Rattle.std.specs.Prelude.{◌≡◌};
+ghost use Rattle.std.specs.Prelude.{◌≡◌, true};
+ghost use Rattle.session.specs.Sessions.{branch_of, version_of, writes};
 
+use crate::tip::Tip;
 use ice_base::RefName;
 use ice_ids::{AnyIds, Id12};
 use ice_items::Items;
 use repo_objects::Loaded;
-use repo_read::Resolved;
 use std::alloc::Global;
 use std::marker::Model;
 use store_api::Version;
@@ -28,10 +29,8 @@ pub type Listings = Items<Listing>;
 #[derive(Drop)]
 pub struct Session {
     pub(crate) alloc: Global,
-    pub(crate) branch: RefName,
-    pub(crate) writes: bool,
+    pub(crate) tip: Option<Tip>,
     pub(crate) base: Id12,
-    pub(crate) version: Version,
     pub(crate) loaded: Loaded,
     pub(crate) changes: ChangeSet,
     pub(crate) ids: AnyIds,
@@ -62,22 +61,19 @@ impl Session {
     /// A session over this snapshot, without changes.
     pub(crate) fn begin(
         alloc: Global,
-        branch: RefName,
-        writes: bool,
+        tip: Option<Tip>,
         ids: AnyIds,
-        named: Resolved,
+        base: Id12,
         loaded: Loaded,
     ) -> Session
-        ensures { result ≡ record { branch = branch; writes = writes; base = named.id; version = named.version.0; rows = loaded.nodes; files = loaded.manifest_files; held = nothing; ids = ids } }
+        ensures { result ≡ record { tip = tip; base = base; rows = loaded.nodes; files = loaded.manifest_files; held = nothing; ids = ids } }
     {
         // What was loaded has no more nodes than a tree may have.
         let _ = loaded.file();
         Session {
             alloc,
-            branch,
-            writes,
-            base: named.id,
-            version: named.version,
+            tip,
+            base,
             loaded,
             changes: ChangeSet::new(alloc),
             ids,
@@ -91,25 +87,32 @@ impl Session {
         self.base
     }
 
-    /// The version at which the branch named the base.
-    pub fn version(&self) -> Version
-        ensures { result.0 ≡ self.now.version }
-    {
-        self.version
-    }
-
-    /// The branch that it was opened on.
-    pub fn branch(&self) -> &RefName
-        ensures { result.now ≡ self.now.branch }
-    {
-        &self.branch
-    }
-
     /// Whether it was opened to write.
     pub fn writes(&self) -> bool
-        ensures { result ≡ self.now.writes }
+        ensures { result ≡ writes self.now }
     {
-        self.writes
+        self.tip.is_some()
+    }
+
+    /// The branch that it writes to.
+    pub fn branch(&self) -> &RefName
+        requires { writes self.now ≡ true }
+        ensures { result.now ≡ branch_of self.now }
+    {
+        match &self.tip {
+            Some(tip) => &tip.branch,
+            None => unreachable!(),
+        }
+    }
+
+    /// The version at which that branch named the base; 0 where it only reads.
+    pub fn version(&self) -> Version
+        ensures { result.0 ≡ version_of self.now }
+    {
+        match &self.tip {
+            Some(tip) => tip.version,
+            None => Version(0),
+        }
     }
 
     /// The ids that it draws next.

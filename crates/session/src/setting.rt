@@ -120,7 +120,7 @@ impl Session {
     ) -> Result<Setting, (Session, Refusal)>
         ensures { Sets (set_program self path.now index.now bytes.now) self result }
     {
-        if !self.writes {
+        if !self.writes() {
             return Err((self, Refusal::ReadOnly));
         }
         let len = bytes.len() as u64;
@@ -139,7 +139,7 @@ impl Session {
     pub fn unset_chunk(&mut self, path: &Path, index: &Index) -> Result<(), Refusal>
         ensures { Leaves (chunk_unset self.old path.now index.now) self.old result self.new }
     {
-        if !self.writes {
+        if !self.writes() {
             return Err(Refusal::ReadOnly);
         }
         match self

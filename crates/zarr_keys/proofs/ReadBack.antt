@@ -39,7 +39,7 @@ use Rattle.store_api.specs.Program.{Done}
 use Rattle.store_api.specs.Running.{Program, ◌>>=◌}
 use Rattle.session.specs.declared.chunks.Value.{Value}
 use Rattle.session.specs.declared.chunks.Value.TheVariants.{Held as Is_held}
-use Rattle.session.specs.Sessions.{SessionState, base_nodes, nodes_seen}
+use Rattle.session.specs.Sessions.{SessionState, writes, base_nodes, nodes_seen}
 use Rattle.session.specs.Editing.{if_writes, unless_bad, unless_refused, node_fault, added, node_added, drawn_node, with_node, meta_set, with_text as session_with_text}
 use Rattle.session.specs.Chunks.{set_program, put_chunk, put_object, unless_fault, with_chunk, most_inline, get_program, read_at, read_found}
 use Rattle.session.proofs.Adding.{seen-added}
@@ -91,7 +91,7 @@ module _ (s t : SessionState) (p text : List ℕ) where
 
   new_text : session_of (node_added s p text) ≡ Ok t → meta_value t p ≡ Bytes text
   unfolding added
-  new_text e = by_writes s.writes e
+  new_text e = by_writes (writes s) e
 
 -- ---- another text
 module _ (c : Changes) (tree : Tree) (p text : List ℕ) where
@@ -117,7 +117,7 @@ no_bytes place = None
 set_text : (s t : SessionState) (p text : List ℕ) (n : Node) → get (nodes_seen s) p ≡ Some n → meta_set s p text ≡ Ok t → meta_value t p ≡ Bytes text
 unfolding meta_set
 set_text s t p text n f e =
-    let done : session_with_text s p text ≡ t = result_same _ _ (taken (text_refusal (nodes_seen s) p text) _ t (good (node_fault (meta_of text)) _ t (written s.writes _ t e))) in
+    let done : session_with_text s p text ≡ t = result_same _ _ (taken (text_refusal (nodes_seen s) p text) _ t (good (node_fault (meta_of text)) _ t (written (writes s) _ t e))) in
     let tree : Tree = record { nodes = base_nodes s; chunk = λ q i. None } in
     ap (λ (x : SessionState). meta_value x p) (sym done)
     ∙ ap (λ (c : Changes). node_value (get (nodes_under c (base_nodes s)) p)) (text-law no_bytes s.held tree p text)
@@ -177,7 +177,7 @@ module _ (s t : SessionState) (p i bytes : List ℕ) where
 
   set_chunk : set_program s p i bytes ≡ Done (Ok t) → chunk_program t p i ≡ Done (Ok (Bytes bytes))
   unfolding set_program
-  set_chunk e = by_leave s.writes e
+  set_chunk e = by_leave (writes s) e
 
 -- ---- by what the key names
 program_same : (r : Result SessionState Refusal) (t : SessionState) → Done r ≡ Done (Ok t) → r ≡ Ok t

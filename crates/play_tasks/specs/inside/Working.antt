@@ -1,16 +1,14 @@
 -- What a worker has still to do.
-use Rattle.std.specs.Prelude.{◌≡◌, ◌⊎◌, ℕ, zero, suc, ◌+◌, ◌-◌, ◌*◌, ◌^◌, ◌≤◌, ◌++◌, List, drop, Bool, true, false, not, Option, Result, Ok, Err}
+use Rattle.std.specs.Prelude.{◌≡◌, ℕ, zero, suc, ◌+◌, ◌-◌, ◌*◌, ◌^◌, ◌≤◌, ◌++◌, List, drop, Bool, true, false, not, Option, Result, Ok, Err}
 use Rattle.ice_ids.specs.declared.Id8.{Id8}
 use Rattle.ice_ids.specs.declared.drawing.AnyIds.{AnyIds}
 use Rattle.conflicts.specs.declared.solving.Policy.{Policy}
 use Rattle.store_api.specs.declared.events.Version.{Version}
-use Rattle.store_api.specs.declared.machines.Next.{Next}
-use Rattle.store_api.specs.declared.machines.Next.TheVariants.{Again, Ready}
 use Rattle.store_api.specs.declared.machines.Refusal.{Refusal}
 use Rattle.store_api.specs.declared.machines.Refusal.TheVariants.{NoMemory, Conflict}
-use Rattle.store_api.specs.Program.{Prog, Done, is_ask, is_fault}
+use Rattle.store_api.specs.Program.{Done, is_ask, is_fault}
 use Rattle.store_api.specs.Running.{Program}
-use Rattle.store_api.specs.Plays.{Play, Ended, Ask, Or, call, Comes}
+use Rattle.store_api.specs.Plays.{Play, Ended, Or, call, Comes}
 use Rattle.session.specs.declared.chunks.Value.{Value}
 use Rattle.session.specs.Sessions.{SessionState}
 use Rattle.session.specs.Opening.{open_rest, open_left}
@@ -20,11 +18,12 @@ use Rattle.commit_path.specs.Committing.{session_in, message_in, commit_rest, co
 use Rattle.rebase.specs.declared.machine.Rebased.{Rebased}
 use Rattle.rebase.specs.declared.machine.Rebased.TheVariants.{Moved, UpToDate}
 use Rattle.rebase.specs.Rebasing.{rebase_program, rebase_rest, rebase_left}
-use Rattle.play_script.specs.declared.scripts.Head.{Head}
-use Rattle.play_script.specs.declared.scripts.Task.{Task}
+use Rattle.play_script.specs.declared.scripts.Access.{Access}
 use Rattle.play_outcome.specs.declared.outcome.Shown.{Shown}
 use Rattle.play_outcome.specs.declared.outcome.Outcome.{Outcome}
 use Rattle.play_outcome.specs.Ending.{is_failed}
+use Rattle.play_outcome.specs.Playing.{refused}
+use Rattle.play_tasks.specs.declared.working.SessionTask.{SessionTask}
 use Rattle.play_tasks.specs.declared.working.Working.{Working}
 use Rattle.play_tasks.specs.declared.working.Working.TheVariants as w
 use Rattle.play_tasks.specs.declared.working.AskedFor.{AskedFor}
@@ -32,12 +31,12 @@ use Rattle.play_tasks.specs.declared.working.AskedFor.TheVariants as asked
 use Rattle.play_tasks.specs.declared.working.Step.{Step}
 use Rattle.play_tasks.specs.declared.working.Step.TheVariants as step
 use Rattle.play_tasks.specs.Lines.{Deed, silent, value_shown, chunk_key_shown}
-use Rattle.play_tasks.specs.Playing.{Rest, refused, after_line, shown_by, after_open, after_commit, after_rebase, commit_play, play_deed, play_lines}
+use Rattle.play_tasks.specs.Playing.{Rest, after_line, shown_by, after_open, after_commit, after_rebase, commit_play, play_deed, play_lines}
 
 -- ---- where a worker stands
 -- the lines of a task from a number on, from 0
-abbrev pub lines_from : Task → ℕ → Rest
-lines_from task at = play_lines task.head (drop at task.body)
+abbrev pub lines_from : SessionTask → ℕ → Rest
+lines_from task at = play_lines task.access.now (drop at task.body.now)
 
 -- what is played behind the setting of a chunk in a line, and behind the reading of one
 abbrev pub after_set : ℕ → List Shown → Rest → Result SessionState Refusal → Play Outcome
@@ -61,8 +60,8 @@ abbrev pub rebased_session : Rebased → SessionState
 rebased_session (Moved s count) = s
 rebased_session (UpToDate s) = s
 
-abbrev pub working_rest : Task → Working → Play Outcome
-working_rest task (w.Opening opener) = call (open_rest opener) (after_open task)
+abbrev pub working_rest : SessionTask → Working → Play Outcome
+working_rest task (w.Opening opener) = call (open_rest opener) (after_open task.access.now task.line task.body.now)
 working_rest task (w.Setting line at shown set) = call (set_rest set) (after_set line shown.items (lines_from task at))
 working_rest task (w.Getting line at for shown get) = call (get_rest get) (after_get (shown_for for line) line shown.items (get_session get) (lines_from task at))
 working_rest task (w.Committing line tries shown commit) = call (commit_rest commit) (after_commit line shown (after_lost tries.left tries.policy line shown (message_in commit) (session_in commit)))
@@ -140,15 +139,15 @@ is_local (Err why) = not (is_fault why)
 -- the play has come to what follows on that line, or to where the worker stands, with memory or without.
 abbrev pub PlayComes : (line at : ℕ) → List Shown → (Rest → Play Outcome) → Step → Type 0
 PlayComes line at shown play (step.On t more) = (rest : Rest) → play rest ≡ rest t more.items
-PlayComes line at shown play (step.Stop state) = (task : Task) → Comes (Or (play (lines_from task at)) (refused line shown NoMemory)) (working_rest task state)
+PlayComes line at shown play (step.Stop state) = (task : SessionTask) → Comes (Or (play (lines_from task at)) (refused line shown NoMemory)) (working_rest task state)
 
--- one that does this on a session, in a task with this head
-abbrev pub LineComes : Head → (line at : ℕ) → List Shown → SessionState → Deed → Step → Type 0
-LineComes head line at shown s d = PlayComes line at shown (λ rest. play_deed head line shown s d rest)
+-- one that does this on a session that was opened so
+abbrev pub LineComes : Access → (line at : ℕ) → List Shown → SessionState → Deed → Step → Type 0
+LineComes access line at shown s d = PlayComes line at shown (λ rest. play_deed access line shown s d rest)
 
--- ... or with whatever head
+-- ... or on one however it was opened
 abbrev pub CallComes : (line at : ℕ) → List Shown → SessionState → Deed → Step → Type 0
-CallComes line at shown s d x = (head : Head) → LineComes head line at shown s d x
+CallComes line at shown s d x = (access : Access) → LineComes access line at shown s d x
 
 -- where a program ends at once, it tells no fault of the store
 abbrev pub EndsCalmly : {A : Type 0} → Program A → Type 0
@@ -171,30 +170,3 @@ is_clean (step.Stop state) = is_well state
 abbrev pub IsBounded : (at : ℕ) → Step → Type 0
 IsBounded at (step.On s shown) = Unit {0}
 IsBounded at (step.Stop state) = (lines : ℕ) → working_left lines state ≤ (lines - at) * most_steps + most_steps
-
--- ---- a step of the machine in it
--- what is left to do after a step of a machine that has q left
-abbrev pub settled : {A B : Type 0} → (Result A Refusal → Play B) → Prog (Result A Refusal) → Result (Next A) Refusal → Play B
-settled f q (Ok Again) = call q f
-settled f q (Ok (Ready a)) = f (Ok a)
-settled f q (Err refusal) = f (Err refusal)
-
--- where a worker stands behind a machine that only reads: want of memory may come behind its answer
-abbrev pub ComesOrStarves : {A : Type 0} → (Result A Refusal → Play Outcome) → Prog (Result A Refusal) → Result (Next A) Refusal → Play Outcome → Type 0
-ComesOrStarves f q answer p = Comes (settled f q answer) p ⊎ Comes (f (Err NoMemory)) p
-
--- a machine that answered `Again` has something to do
-abbrev pub answers_well : {T : Type 0} → Bool → Result (Next T) Refusal → Bool
-answers_well live (Ok Again) = live
-answers_well live (Ok (Ready t)) = true
-answers_well live (Err refusal) = true
-
-abbrev pub tells_fault : {T : Type 0} → Result (Next T) Refusal → Bool
-tells_fault (Ok t) = false
-tells_fault (Err why) = is_fault why
-
--- an outcome tells a fault of the store only where the answer told one
-abbrev pub Faults : {T : Type 0} → Result (Next T) Refusal → Play Outcome → Type 0
-Faults answer (Ended outcome) = is_failed outcome ≡ true → tells_fault answer ≡ true
-Faults answer (Ask op starved next) = Unit {0}
-Faults answer (Or p q) = Unit {0}

@@ -7,8 +7,8 @@ use Rattle.store_api.specs.Program.{Done}
 use Rattle.store_api.specs.Running.{Program, ◌>>=◌}
 use Rattle.repo_read.specs.Chains.{most_snapshots}
 use Rattle.repo_read.specs.Programs.{snapshot_program}
-use Rattle.refs_admin.specs.declared.resolving.Resolution.{Resolution}
-use Rattle.refs_admin.specs.declared.resolving.Resolution.TheVariants.{Known, Asks}
+use Rattle.repo_read.specs.declared.resolving.Resolution.{Resolution}
+use Rattle.repo_read.specs.declared.resolving.Resolution.TheVariants.{Known, Asks}
 use Rattle.refs_admin.specs.declared.branch_new.Creating.{Creating}
 use Rattle.refs_admin.specs.declared.branch_new.BranchNew.{BranchNew}
 use Rattle.refs_admin.specs.declared.branch_reset.Moving.{Moving}
@@ -28,8 +28,9 @@ use Rattle.refs_admin.specs.declared.log.Log.{Log}
 use Rattle.refs_admin.specs.Branches.{create_program, put_branch, reset_program, move_program, put_over, branch_drop_program, removal}
 use Rattle.refs_admin.specs.Tags.{tag_target_program, put_tag, taken_program, tag_drop_program, put_tombstone}
 use Rattle.refs_admin.specs.Beginning.{init_program, put_main}
-use Rattle.refs_admin.specs.Logs.{line_of, no_ref, refused_first}
-use Rattle.refs_admin.specs.inside.Seeking.{resolving_rest, resolving_left}
+use Rattle.repo_read.specs.Resolving.{no_ref}
+use Rattle.refs_admin.specs.Logs.{line_of, refused_first}
+use Rattle.repo_read.specs.Seeking.{resolving_rest, resolving_left}
 
 -- the refusals of the get of a snapshot that a ref is to name
 abbrev pub MayRefuseTarget : Refusal → Type 0

@@ -5,11 +5,9 @@ use Rattle.snapshot_file.specs.declared.snapshot.SnapshotFile.{SnapshotFile}
 use Rattle.store_api.specs.declared.machines.Refusal.TheVariants.{NoMemory}
 use Rattle.store_api.specs.Program.{Done}
 use Rattle.store_api.specs.Running.{Program}
-use Rattle.repo_read.specs.declared.answers.Resolved.{Resolved}
-use Rattle.repo_read.specs.declared.resolve.Resolve.{Resolve}
 use Rattle.repo_read.specs.declared.snapshot.ReadSnapshot.{ReadSnapshot}
 use Rattle.repo_read.specs.declared.chain.Chain.{Chain}
-use Rattle.repo_read.specs.Programs.{resolve_program, snapshot_program}
+use Rattle.repo_read.specs.Programs.{snapshot_program}
 use Rattle.repo_read.specs.Chains.{walk}
 
 -- the program, unless the machine has ended
@@ -20,12 +18,6 @@ unless_ended false p = p
 abbrev pub steps_unless : Bool → ℕ
 steps_unless true = 0
 steps_unless false = 1
-
-abbrev pub resolve_rest : Resolve → Program Resolved
-resolve_rest m = unless_ended m.ended (resolve_program m.branch)
-
-abbrev pub resolve_left : Resolve → ℕ
-resolve_left m = steps_unless m.ended
 
 abbrev pub reading_rest : ReadSnapshot → Program SnapshotFile
 reading_rest m = unless_ended m.ended (snapshot_program m.id)

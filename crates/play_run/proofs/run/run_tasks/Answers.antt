@@ -7,7 +7,7 @@ use Rattle.play_tasks.specs.declared.worker.Worker.{Worker}
 use Rattle.play_tasks.specs.Workers.{worker_rest}
 use Rattle.play_tasks.specs.Tasks.{HasEndedAt}
 use Rattle.play_run.proofs.Rounds.{workers_size, went_size, begins, written_back, ended_all, ends_of, ran_all, told_all, blamed_all, size_all}
-use Rattle.play_run.specs.Order.{places_of, turns_of}
+use Rattle.play_run.specs.Order.{places_of, turns_of, Begin}
 use Rattle.play_run.specs.inside.Going.{Went}
 use Rattle.play_run.proofs.run.run_tasks.Goals as goal
 
@@ -23,7 +23,7 @@ run_workers-requires-clause-small g c =
 
 pub run_workers-requires-clause-stand : goal.run_workers-requires-clause-stand
 run_workers-requires-clause-stand g c =
-    begins c.task_law.ensures c.args.draw c.args.tasks.now (g.S.Store.view c.args.store.now) (map worker_rest c.deref_mut.result.now) c.requires.tasks (ap (map worker_rest) c.deref_mut.ensures.value ∙ c.in_ok-workers.ensures)
+    begins c.task_law.ensures c.args.draw c.args.tasks.now (g.S.Store.view c.args.store.now) (map worker_rest c.deref_mut.result.now) c.requires.tasks (subst (λ (ws : List Worker). Begin c.args.draw c.args.tasks.now (map worker_rest ws)) (sym c.deref_mut.ensures.value) c.in_ok-workers.ensures)
 
 pub take_outcomes-requires-clause-room : goal.take_outcomes-requires-clause-room
 take_outcomes-requires-clause-room g c =
@@ -43,7 +43,7 @@ returns-clause-ran g c =
     let same = went_size _ _ _ _ _ c.run_workers.ensures.went.1 ∙ ap length c.deref_mut.ensures.value in
     let back = written_back c.in_ok-workers.workers.len c.run_workers.new.workers c.in_ok-workers.workers.items same c.in_ok-workers.workers.ok.0 in
     let whole : (counts : List ℕ) × Went (places_of c.args.turns.now ++ turns_of 0 counts) (g.S.Store.view c.args.store.now) (g.S.Store.view c.run_workers.new.store) (map worker_rest c.deref_mut.result.now) (ends_of c.take_outcomes.new.outcomes.items) = (c.run_workers.ensures.went.0, subst (λ (ps : List (Play Outcome)). Went (places_of c.args.turns.now ++ turns_of 0 c.run_workers.ensures.went.0) (g.S.Store.view c.args.store.now) (g.S.Store.view c.run_workers.new.store) (map worker_rest c.deref_mut.result.now) ps) (sym (c.take_outcomes.ensures ∙ ap (map worker_rest) back)) c.run_workers.ensures.went.1) in
-    let first = ap (map worker_rest) c.deref_mut.ensures.value ∙ c.in_ok-workers.ensures in
+    let first = subst (λ (ws : List Worker). Begin c.args.draw c.args.tasks.now (map worker_rest ws)) (sym c.deref_mut.ensures.value) c.in_ok-workers.ensures in
     ran_all c.task_law.ensures c.args.draw c.args.tasks.now (places_of c.args.turns.now) (g.S.Store.view c.args.store.now) (g.S.Store.view c.run_workers.new.store) (map worker_rest c.deref_mut.result.now) c.take_outcomes.new.outcomes.items c.requires.tasks first whole
 
 pub returns-clause-told : goal.returns-clause-told
@@ -51,7 +51,7 @@ returns-clause-told g c =
     let same = went_size _ _ _ _ _ c.run_workers.ensures.went.1 ∙ ap length c.deref_mut.ensures.value in
     let back = written_back c.in_ok-workers.workers.len c.run_workers.new.workers c.in_ok-workers.workers.items same c.in_ok-workers.workers.ok.0 in
     let whole : (counts : List ℕ) × Went (places_of c.args.turns.now ++ turns_of 0 counts) (g.S.Store.view c.args.store.now) (g.S.Store.view c.run_workers.new.store) (map worker_rest c.deref_mut.result.now) (ends_of c.take_outcomes.new.outcomes.items) = (c.run_workers.ensures.went.0, subst (λ (ps : List (Play Outcome)). Went (places_of c.args.turns.now ++ turns_of 0 c.run_workers.ensures.went.0) (g.S.Store.view c.args.store.now) (g.S.Store.view c.run_workers.new.store) (map worker_rest c.deref_mut.result.now) ps) (sym (c.take_outcomes.ensures ∙ ap (map worker_rest) back)) c.run_workers.ensures.went.1) in
-    let first = ap (map worker_rest) c.deref_mut.ensures.value ∙ c.in_ok-workers.ensures in
+    let first = subst (λ (ws : List Worker). Begin c.args.draw c.args.tasks.now (map worker_rest ws)) (sym c.deref_mut.ensures.value) c.in_ok-workers.ensures in
     told_all c.task_law.ensures c.args.draw c.args.tasks.now (places_of c.args.turns.now) (g.S.Store.view c.args.store.now) (g.S.Store.view c.run_workers.new.store) (map worker_rest c.deref_mut.result.now) c.take_outcomes.new.outcomes.items c.requires.tasks first whole
 
 pub returns-clause-size : goal.returns-clause-size
@@ -59,7 +59,7 @@ returns-clause-size g c =
     let same = went_size _ _ _ _ _ c.run_workers.ensures.went.1 ∙ ap length c.deref_mut.ensures.value in
     let back = written_back c.in_ok-workers.workers.len c.run_workers.new.workers c.in_ok-workers.workers.items same c.in_ok-workers.workers.ok.0 in
     let whole : (counts : List ℕ) × Went (places_of c.args.turns.now ++ turns_of 0 counts) (g.S.Store.view c.args.store.now) (g.S.Store.view c.run_workers.new.store) (map worker_rest c.deref_mut.result.now) (ends_of c.take_outcomes.new.outcomes.items) = (c.run_workers.ensures.went.0, subst (λ (ps : List (Play Outcome)). Went (places_of c.args.turns.now ++ turns_of 0 c.run_workers.ensures.went.0) (g.S.Store.view c.args.store.now) (g.S.Store.view c.run_workers.new.store) (map worker_rest c.deref_mut.result.now) ps) (sym (c.take_outcomes.ensures ∙ ap (map worker_rest) back)) c.run_workers.ensures.went.1) in
-    let first = ap (map worker_rest) c.deref_mut.ensures.value ∙ c.in_ok-workers.ensures in
+    let first = subst (λ (ws : List Worker). Begin c.args.draw c.args.tasks.now (map worker_rest ws)) (sym c.deref_mut.ensures.value) c.in_ok-workers.ensures in
     size_all c.task_law.ensures c.args.draw c.args.tasks.now (places_of c.args.turns.now) (g.S.Store.view c.args.store.now) (g.S.Store.view c.run_workers.new.store) (map worker_rest c.deref_mut.result.now) c.take_outcomes.new.outcomes.items c.requires.tasks first whole
 
 pub returns-clause-blames : goal.returns-clause-blames
@@ -67,5 +67,5 @@ returns-clause-blames g c =
     let same = went_size _ _ _ _ _ c.run_workers.ensures.went.1 ∙ ap length c.deref_mut.ensures.value in
     let back = written_back c.in_ok-workers.workers.len c.run_workers.new.workers c.in_ok-workers.workers.items same c.in_ok-workers.workers.ok.0 in
     let whole : (counts : List ℕ) × Went (places_of c.args.turns.now ++ turns_of 0 counts) (g.S.Store.view c.args.store.now) (g.S.Store.view c.run_workers.new.store) (map worker_rest c.deref_mut.result.now) (ends_of c.take_outcomes.new.outcomes.items) = (c.run_workers.ensures.went.0, subst (λ (ps : List (Play Outcome)). Went (places_of c.args.turns.now ++ turns_of 0 c.run_workers.ensures.went.0) (g.S.Store.view c.args.store.now) (g.S.Store.view c.run_workers.new.store) (map worker_rest c.deref_mut.result.now) ps) (sym (c.take_outcomes.ensures ∙ ap (map worker_rest) back)) c.run_workers.ensures.went.1) in
-    let first = ap (map worker_rest) c.deref_mut.ensures.value ∙ c.in_ok-workers.ensures in
+    let first = subst (λ (ws : List Worker). Begin c.args.draw c.args.tasks.now (map worker_rest ws)) (sym c.deref_mut.ensures.value) c.in_ok-workers.ensures in
     blamed_all c.task_law.ensures c.args.draw c.args.tasks.now (places_of c.args.turns.now) (g.S.Store.view c.args.store.now) (g.S.Store.view c.run_workers.new.store) (map worker_rest c.deref_mut.result.now) c.take_outcomes.new.outcomes.items c.requires.tasks first whole

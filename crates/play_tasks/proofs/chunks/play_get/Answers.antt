@@ -9,7 +9,7 @@ use Rattle.play_tasks.proofs.Machines.{get-why, calm-why, get-began}
 use Rattle.play_tasks.proofs.chunks.play_get.Goals as goal
 
 pub returns-in-Ok-Again-clause-comes : goal.returns-in-Ok-Again-clause-comes
-returns-in-Ok-Again-clause-comes c = λ head task.
+returns-in-Ok-Again-clause-comes c = λ access task.
     let s = c.args.session in
     let get = c.in-Ok-Again.get in
     let p = get_program s c.args.path.now c.args.index.now in

@@ -9,7 +9,8 @@ use Rattle.session.specs.Getting.{get_rest, get_session}
 use Rattle.play_outcome.specs.declared.outcome.Shown.{Shown}
 use Rattle.play_tasks.specs.declared.working.Working.{Working}
 use Rattle.play_tasks.specs.Lines.{key_get_deed}
-use Rattle.play_tasks.specs.Playing.{play_deed, refused}
+use Rattle.play_outcome.specs.Playing.{refused}
+use Rattle.play_tasks.specs.Playing.{play_deed}
 use Rattle.play_tasks.specs.inside.Working.{lines_from, working_rest}
 use Rattle.play_tasks.proofs.Keys.{key-get-calm, key-get-why, key-got, key-asks, key-refused}
 use Rattle.play_tasks.proofs.Locals.{well_refused}
@@ -17,33 +18,33 @@ use Rattle.play_tasks.proofs.Machines.{calm-why}
 use Rattle.play_tasks.proofs.chunks.play_key_get.Goals as goal
 
 pub returns-in-Ok-clause-comes : goal.returns-in-Ok-clause-comes
-returns-in-Ok-clause-comes c = λ head rest.
+returns-in-Ok-clause-comes c = λ access rest.
     let s = c.args.session in
     let key = c.args.key.now in
     let shown = c.args.shown.items in
     let told = subst (λ (k : List ℕ). Gets (key_get_program s k) s (Ok c.in-Ok-Ready.field-0)) c.as_str.ensures c.in-Ok-Ready.ensures.read in
     let is = subst (λ (x : KeyGetting). Gets (key_get_program s key) s (Ok x)) c.in-Ok-Ready.field-0-is told in
     let shows = c.in-Ok.ensures.ok ∙ ap (λ (x : Shown). shown ++ x ∷ []) c.key_shown.ensures in
-    key-got head c.args.line shown c.show.new.shown.items s c.in-Ok-Ready.session key c.in-Ok-Ready.value rest is.0 is.1 shows
+    key-got access c.args.line shown c.show.new.shown.items s c.in-Ok-Ready.session key c.in-Ok-Ready.value rest is.0 is.1 shows
 
 pub returns-in-Ok-Again-clause-comes : goal.returns-in-Ok-Again-clause-comes
-returns-in-Ok-Again-clause-comes c = λ head task.
+returns-in-Ok-Again-clause-comes c = λ access task.
     let s = c.args.session in
     let get = c.in-Ok-Again.get in
     let told = subst (λ (k : List ℕ). Gets (key_get_program s k) s (Ok c.in-Ok-Again.field-0)) c.as_str.ensures c.in-Ok-Again.ensures.read in
     let is = subst (λ (x : KeyGetting). Gets (key_get_program s c.args.key.now) s (Ok x)) c.in-Ok-Again.field-0-is told in
-    inl (key-asks head c.args.line c.args.shown.items s (get_session get) c.args.key.now (get_rest get) (lines_from task c.args.at) is.0 is.1 is.2)
+    inl (key-asks access c.args.line c.args.shown.items s (get_session get) c.args.key.now (get_rest get) (lines_from task c.args.at) is.0 is.1 is.2)
 
 pub returns-clause-comes : goal.returns-clause-comes
-returns-clause-comes c = λ head task.
+returns-clause-comes c = λ access task.
     let s = c.args.session in
     let key = c.args.key.now in
     let line = c.args.line in
     let shown = c.args.shown.items in
     let why = c.in-Err.why in
     let told = subst (λ (k : List ℕ). GetRefused (key_get_program s k) s c.in-Err.field-0-0 why) c.as_str.ensures c.in-Err.ensures.read in
-    subst (λ (x : Working). Comes (Or (play_deed head line shown s (key_get_deed line (key_of key) s) (lines_from task c.args.at)) (refused line shown NoMemory)) (working_rest task x)) (sym c.refuse-in-Err.ensures)
-    (key-refused head line shown s c.in-Err.field-0-0 key why (lines_from task c.args.at) told)
+    subst (λ (x : Working). Comes (Or (play_deed access line shown s (key_get_deed line (key_of key) s) (lines_from task c.args.at)) (refused line shown NoMemory)) (working_rest task x)) (sym c.refuse-in-Err.ensures)
+    (key-refused access line shown s c.in-Err.field-0-0 key why (lines_from task c.args.at) told)
 
 pub returns-clause-clean : goal.returns-clause-clean
 returns-clause-clean c =

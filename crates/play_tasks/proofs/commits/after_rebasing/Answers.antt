@@ -6,7 +6,8 @@ use Rattle.store_api.specs.Plays.{Comes}
 use Rattle.rebase.specs.declared.machine.Rebased.{Rebased}
 use Rattle.rebase.specs.Rebasing.{rebase_rest}
 use Rattle.play_tasks.specs.Playing.{after_rebase, commit_play}
-use Rattle.play_tasks.specs.inside.Working.{settled, working_rest}
+use Rattle.play_outcome.specs.Settling.{settled}
+use Rattle.play_tasks.specs.inside.Working.{working_rest}
 use Rattle.play_tasks.proofs.Machines.{rebase-answers, stop-faults, well-faults}
 use Rattle.play_tasks.proofs.commits.after_rebasing.Goals as goal
 

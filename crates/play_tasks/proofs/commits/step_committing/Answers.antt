@@ -6,9 +6,10 @@ use Rattle.store_api.specs.declared.events.Version.{Version}
 use Rattle.commit_path.specs.Committing.{session_in, message_in, commit_rest}
 use Rattle.play_outcome.specs.declared.outcome.Outcome.{Outcome}
 use Rattle.play_tasks.specs.Playing.{after_commit}
-use Rattle.play_tasks.specs.inside.Working.{after_lost, settled, working_rest}
+use Rattle.play_outcome.specs.Settling.{settled}
+use Rattle.play_tasks.specs.inside.Working.{after_lost, working_rest}
 use Rattle.play_tasks.proofs.Machines.{lost-same}
-use Rattle.play_tasks.proofs.Stepping.{acts}
+use Rattle.play_outcome.proofs.Stepping.{acts}
 use Rattle.play_tasks.proofs.commits.step_committing.Goals as goal
 
 pub returns-clause-acts : goal.returns-clause-acts

@@ -1,7 +1,7 @@
 use Rattle.rebase.specs.Rebasing.{rebase_rest}
 use Rattle.play_tasks.specs.Playing.{after_rebase, commit_play}
 use Rattle.play_tasks.specs.inside.Working.{working_rest}
-use Rattle.play_tasks.proofs.Stepping.{acts}
+use Rattle.play_outcome.proofs.Stepping.{acts}
 use Rattle.play_tasks.proofs.commits.step_rebasing.Goals as goal
 
 pub returns-clause-acts : goal.returns-clause-acts

@@ -4,5 +4,14 @@ use Rattle.play_tasks.proofs.laws.task_law.Goals as goal
 
 pub returns : goal.returns
 returns c =
-    let L : Laws = record { opening = c.opening_law.ensures; session = c.session_law.ensures; commit = c.commit_law.ensures; single = c.single_law.ensures; rebase = c.rebase_law.ensures; set = c.set_law.ensures; get = c.get_law.ensures } in
+    let L : Laws = record {
+      opening = c.opening_law.ensures;
+      session = c.session_law.ensures;
+      commit = c.commit_law.ensures;
+      single = c.single_law.ensures;
+      rebase = c.rebase_law.ensures;
+      set = c.set_law.ensures;
+      get = c.get_law.ensures;
+      refs = c.refs_task_law.ensures;
+    } in
     λ by ids task start well. task-well L by ids task start well

@@ -43,13 +43,13 @@ pub returns-in-Fill-clause-comes : goal.returns-in-Fill-clause-comes
 returns-in-Fill-clause-comes c = subst (λ (x : EditCall). CallComes c.args.line c.args.at c.args.shown.items c.args.session (edit_deed x c.args.session) c.play_fill.result) (sym c.in-Fill.is) c.play_fill.ensures.comes
 
 pub returns-in-Set-clause-comes : goal.returns-in-Set-clause-comes
-returns-in-Set-clause-comes c = λ head.
+returns-in-Set-clause-comes c = λ access.
     let s = c.args.session in
-    subst (λ (x : EditCall). LineComes head c.args.line c.args.at c.args.shown.items s (edit_deed x s) c.play_set.result) (sym c.in-Set.is)
-    (subst (λ (bytes : List ℕ). LineComes head c.args.line c.args.at c.args.shown.items s (Sets c.in-Set.path c.in-Set.index bytes) c.play_set.result) c.as_slice.ensures.value (c.play_set.ensures.comes head))
+    subst (λ (x : EditCall). LineComes access c.args.line c.args.at c.args.shown.items s (edit_deed x s) c.play_set.result) (sym c.in-Set.is)
+    (subst (λ (bytes : List ℕ). LineComes access c.args.line c.args.at c.args.shown.items s (Sets c.in-Set.path c.in-Set.index bytes) c.play_set.result) c.as_slice.ensures.value (c.play_set.ensures.comes access))
 
 pub returns-in-KeySet-clause-comes : goal.returns-in-KeySet-clause-comes
-returns-in-KeySet-clause-comes c = λ head.
+returns-in-KeySet-clause-comes c = λ access.
     let s = c.args.session in
-    subst (λ (x : EditCall). LineComes head c.args.line c.args.at c.args.shown.items s (edit_deed x s) c.play_key_set.result) (sym c.in-KeySet.is)
-    (subst (λ (bytes : List ℕ). LineComes head c.args.line c.args.at c.args.shown.items s (key_set_deed bytes (key_of c.in-KeySet.key) s) c.play_key_set.result) c.as_slice-in-KeySet.ensures.value (c.play_key_set.ensures.comes head))
+    subst (λ (x : EditCall). LineComes access c.args.line c.args.at c.args.shown.items s (edit_deed x s) c.play_key_set.result) (sym c.in-KeySet.is)
+    (subst (λ (bytes : List ℕ). LineComes access c.args.line c.args.at c.args.shown.items s (key_set_deed bytes (key_of c.in-KeySet.key) s) c.play_key_set.result) c.as_slice-in-KeySet.ensures.value (c.play_key_set.ensures.comes access))

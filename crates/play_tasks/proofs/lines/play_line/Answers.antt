@@ -5,13 +5,13 @@ use Rattle.play_tasks.specs.inside.Working.{LineComes}
 use Rattle.play_tasks.proofs.lines.play_line.Goals as goal
 
 pub returns-in-Commit-clause-comes : goal.returns-in-Commit-clause-comes
-returns-in-Commit-clause-comes c = subst (λ (x : Call). LineComes c.args.head.now c.args.line.now.number c.args.at c.args.shown.items c.args.session (deed c.args.line.now.number x c.args.session) c.play_commit.result) (sym c.in-Commit.is) (c.play_commit.ensures.comes c.args.at)
+returns-in-Commit-clause-comes c = subst (λ (x : Call). LineComes c.args.access.now c.args.line.now.number c.args.at c.args.shown.items c.args.session (deed c.args.line.now.number x c.args.session) c.play_commit.result) (sym c.in-Commit.is) (c.play_commit.ensures.comes c.args.at)
 
 pub returns-in-Commit-clause-bounded : goal.returns-in-Commit-clause-bounded
 returns-in-Commit-clause-bounded c = c.play_commit.ensures.bounded c.args.at
 
 pub returns-in-Edit-clause-comes : goal.returns-in-Edit-clause-comes
-returns-in-Edit-clause-comes c = subst (λ (x : Call). LineComes c.args.head.now c.args.line.now.number c.args.at c.args.shown.items c.args.session (deed c.args.line.now.number x c.args.session) c.play_edit.result) (sym c.in-Edit.is) (c.play_edit.ensures.comes c.args.head.now)
+returns-in-Edit-clause-comes c = subst (λ (x : Call). LineComes c.args.access.now c.args.line.now.number c.args.at c.args.shown.items c.args.session (deed c.args.line.now.number x c.args.session) c.play_edit.result) (sym c.in-Edit.is) (c.play_edit.ensures.comes c.args.access.now)
 
 pub returns-in-Read-clause-comes : goal.returns-in-Read-clause-comes
-returns-in-Read-clause-comes c = subst (λ (x : Call). LineComes c.args.head.now c.args.line.now.number c.args.at c.args.shown.items c.args.session (deed c.args.line.now.number x c.args.session) c.play_read.result) (sym c.in-Read.is) (c.play_read.ensures.comes c.args.head.now)
+returns-in-Read-clause-comes c = subst (λ (x : Call). LineComes c.args.access.now c.args.line.now.number c.args.at c.args.shown.items c.args.session (deed c.args.line.now.number x c.args.session) c.play_read.result) (sym c.in-Read.is) (c.play_read.ensures.comes c.args.access.now)

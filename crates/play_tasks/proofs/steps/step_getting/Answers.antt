@@ -1,8 +1,10 @@
 use Rattle.std.proofs.Common.{subst}
 use Rattle.session.specs.Sessions.{SessionState}
 use Rattle.session.specs.Getting.{get_rest, get_session}
-use Rattle.play_tasks.specs.inside.Working.{ComesOrStarves, lines_from, shown_for, after_get, working_rest}
-use Rattle.play_tasks.proofs.Stepping.{acts-reads, get-reads}
+use Rattle.play_outcome.specs.Settling.{ComesOrStarves}
+use Rattle.play_tasks.specs.inside.Working.{lines_from, shown_for, after_get, working_rest}
+use Rattle.play_outcome.proofs.Stepping.{acts-reads}
+use Rattle.play_tasks.proofs.Stepping.{get-reads}
 use Rattle.play_tasks.proofs.steps.step_getting.Goals as goal
 
 pub returns-clause-acts : goal.returns-clause-acts

@@ -1,6 +1,6 @@
 use Rattle.session.specs.Setting.{set_rest}
 use Rattle.play_tasks.specs.inside.Working.{lines_from, after_set, working_rest}
-use Rattle.play_tasks.proofs.Stepping.{acts}
+use Rattle.play_outcome.proofs.Stepping.{acts}
 use Rattle.play_tasks.proofs.steps.step_setting.Goals as goal
 
 pub returns-clause-acts : goal.returns-clause-acts

@@ -1,5 +1,6 @@
-use Rattle.std.proofs.Common.{sym, ◌∙◌}
-use Rattle.session.specs.Sessions.{base_nodes}
+use Rattle.std.proofs.Common.{sym, ◌∙◌, subst}
+use Rattle.session.specs.Sessions.{SessionState, base_nodes}
+use Rattle.commit_path.specs.Committing.{IsDrawn}
 use Rattle.commit_path.proofs.Ascending.{these-ascend}
 use Rattle.commit_path.proofs.Walking.{undrawn, read-only, nothing-changed, begins}
 use Rattle.commit_path.proofs.commit.Commit.start.Goals as goal
@@ -16,10 +17,15 @@ new-requires c = these-ascend c.in-Ok.arrays c.args.session.held (base_nodes c.a
 
 pub returns-in-Ok-go_on-clause-starts : goal.returns-in-Ok-go_on-clause-starts
 returns-in-Ok-go_on-clause-starts c =
-    let r = c.in-Ok-go_on.ensures.reaches in
-    (sym (begins c.args.session c.args.message c.new.result c.in-Ok.arrays (sym c.writes.ensures ∙ c.if-not-writes.false) (sym c.is_unchanged.ensures ∙ c.if-is_unchanged.false) c.new.ensures.news c.new.ensures.left c.in-Ok.ensures ∙ r.0), r.1, c.in-Ok-go_on.ensures.kept)
+    let r = c.in-Ok-go_on.ensures.reaches in (
+      sym (begins c.args.session c.new-session.result c.args.message c.new.result c.in-Ok.arrays c.new-session.ensures (sym c.writes.ensures ∙ c.if-not-writes.false) (sym c.is_unchanged.ensures ∙ c.if-is_unchanged.false) c.new.ensures.news c.new.ensures.left c.in-Ok.ensures ∙ r.0),
+      r.1,
+      subst (λ (x : SessionState). IsDrawn x c.go_on.new.self.session) c.new-session.ensures c.in-Ok-go_on.ensures.kept,
+    )
 
 pub returns-in-Err-clause-starts : goal.returns-in-Err-clause-starts
 returns-in-Err-clause-starts c =
-    let r = c.in-Err.ensures.reaches in
-    (c.in-Err.ensures.kept, λ n. begins c.args.session c.args.message c.new.result c.in-Ok.arrays (sym c.writes.ensures ∙ c.if-not-writes.false) (sym c.is_unchanged.ensures ∙ c.if-is_unchanged.false) c.new.ensures.news c.new.ensures.left c.in-Ok.ensures ∙ r.1 n)
+    let r = c.in-Err.ensures.reaches in (
+      subst (λ (x : SessionState). IsDrawn x c.into_session.result) c.new-session.ensures (subst (IsDrawn c.new-session.result) (sym c.into_session.ensures) c.in-Err.ensures.kept),
+      λ n. begins c.args.session c.new-session.result c.args.message c.new.result c.in-Ok.arrays c.new-session.ensures (sym c.writes.ensures ∙ c.if-not-writes.false) (sym c.is_unchanged.ensures ∙ c.if-is_unchanged.false) c.new.ensures.news c.new.ensures.left c.in-Ok.ensures ∙ r.1 n,
+    )

@@ -1,5 +1,5 @@
 use Rattle.std.proofs.Common.{◌∙◌, ap}
-use Rattle.refs_admin.specs.declared.resolving.Resolution.{Resolution}
+use Rattle.repo_read.specs.declared.resolving.Resolution.{Resolution}
 use Rattle.refs_admin.specs.inside.Working.{first_rest}
 use Rattle.refs_admin.proofs.Walks.{log-begins}
 use Rattle.refs_admin.proofs.log.Log.new.Goals as goal

@@ -1,4 +1,4 @@
-use Rattle.refs_admin.specs.Logs.{no_ref}
+use Rattle.repo_read.specs.Resolving.{no_ref}
 use Rattle.refs_admin.specs.inside.Working.{walk_rest}
 use Rattle.refs_admin.proofs.Walks.{first-ok, head-refused}
 use Rattle.refs_admin.proofs.log.Log.on_head.Goals as goal

@@ -1,21 +1,21 @@
 use Rattle.std.proofs.Common.{refl, sym, ap, subst, ◌∙◌, Result, Err}
 use Rattle.std.proofs.lemmas.Result.{err_from_is_err_and}
 use Rattle.store_api.specs.declared.machines.Refusal.{Refusal}
-use Rattle.session.specs.Sessions.{SessionState, base_nodes}
+use Rattle.session.specs.Sessions.{SessionState, base_nodes, writes}
 use Rattle.session.specs.Viewed.{viewed}
 use Rattle.session.specs.Editing.{Leaves, meta_set}
 use Rattle.session.proofs.Changing.{set-read_only, set-bad_text, set-refused, set-done, few-set}
 use Rattle.session.proofs.session.Session.set_meta.Goals as goal
 use Rattle.session.proofs.session.Session.set_meta.Goals.{in-Ok, in-Err}
 
-pub returns-then-not-self : goal.returns-then-not-self
-returns-then-not-self c = (set-read_only c.args.self.now c.args.path.now c.args.text.now (sym (ap (λ (s : SessionState). s.writes) c.self.view_is) ∙ c.if-not-self.true), refl)
+pub returns-then-not-writes : goal.returns-then-not-writes
+returns-then-not-writes c = (set-read_only c.args.self.now c.args.path.now c.args.text.now (sym c.writes.ensures ∙ c.if-not-writes.true), refl)
 
 pub returns-in_err-meta : goal.returns-in_err-meta
 returns-in_err-meta c =
     let p = err_from_is_err_and c.from_residual.result c.from_residual.ensures.1 in
     rw (p.1, p.2) (subst (λ (s : SessionState). Leaves (meta_set s c.args.path.now c.args.text.now) s (Err c.in_err-meta.field-0.0) s) c.self.view_is
-    (set-bad_text (viewed c.self.inside) c.args.path.now c.args.text.now c.in_err-meta.field-0.0 c.if-not-self.false c.in_err-meta.ensures))
+    (set-bad_text (viewed c.self.inside) c.args.path.now c.args.text.now c.in_err-meta.field-0.0 (ap writes c.self.view_is ∙ (sym c.writes.ensures ∙ c.if-not-writes.false)) c.in_err-meta.ensures))
 
 pub invariant_of-self : goal.invariant_of-self
 invariant_of-self c = few-set c.self.inside.changes (base_nodes (viewed c.self.inside)) c.args.path.now c.in_ok-meta.meta.text c.set_meta.new.self c.set_meta.result c.self.invariant c.set_meta.ensures
@@ -27,9 +27,9 @@ returns c =
     let at_view : Leaves (meta_set v c.args.path.now c.args.text.now) v c.match-set_meta.result new = elim c.match-set_meta.branch [
       | in-Ok w ↦
           subst (λ (r : Result (Unit {0}) Refusal). Leaves (meta_set v c.args.path.now c.args.text.now) v r new) (sym w.result-is)
-          (set-done v c.args.path.now c.args.text.now c.in_ok-meta.meta c.set_meta.new.self tt c.if-not-self.false c.in_ok-meta.ensures w.in-Ok.ensures)
+          (set-done v c.args.path.now c.args.text.now c.in_ok-meta.meta c.set_meta.new.self tt (ap writes c.self.view_is ∙ (sym c.writes.ensures ∙ c.if-not-writes.false)) c.in_ok-meta.ensures w.in-Ok.ensures)
       | in-Err w ↦
           subst (λ (r : Result (Unit {0}) Refusal). Leaves (meta_set v c.args.path.now c.args.text.now) v r new) (sym (w.result-is ∙ ap (λ (r : Refusal). Err r) w.refusal_of_edit.ensures))
-          (set-refused v c.args.path.now c.args.text.now c.in_ok-meta.meta c.set_meta.new.self w.in-Err.fault c.if-not-self.false c.in_ok-meta.ensures w.in-Err.ensures)
+          (set-refused v c.args.path.now c.args.text.now c.in_ok-meta.meta c.set_meta.new.self w.in-Err.fault (ap writes c.self.view_is ∙ (sym c.writes.ensures ∙ c.if-not-writes.false)) c.in_ok-meta.ensures w.in-Err.ensures)
     ] in
     subst (λ (s : SessionState). Leaves (meta_set s c.args.path.now c.args.text.now) s c.match-set_meta.result new) c.self.view_is at_view

@@ -1,7 +1,7 @@
 use Rattle.std.proofs.Common.{refl, sym, ap, subst, ◌∙◌, Result, Err}
 use Rattle.store_api.specs.declared.machines.Refusal.{Refusal}
 use Rattle.zarr_changes.specs.Sets.{unset_refusal}
-use Rattle.session.specs.Sessions.{SessionState, base_nodes, nodes_seen}
+use Rattle.session.specs.Sessions.{SessionState, base_nodes, nodes_seen, writes}
 use Rattle.session.specs.Viewed.{viewed}
 use Rattle.session.specs.Editing.{Leaves}
 use Rattle.session.specs.Chunks.{chunk_unset}
@@ -9,8 +9,8 @@ use Rattle.session.proofs.Chunking.{unset_read_only, unset_refused, unset_done, 
 use Rattle.session.proofs.session.Session.unset_chunk.Goals as goal
 use Rattle.session.proofs.session.Session.unset_chunk.Goals.{in-Ok, in-Err}
 
-pub returns-then-not-self : goal.returns-then-not-self
-returns-then-not-self c = (unset_read_only c.args.self.now c.args.path.now c.args.index.now (sym (ap (λ (s : SessionState). s.writes) c.self.view_is) ∙ c.if-not-self.true), refl)
+pub returns-then-not-writes : goal.returns-then-not-writes
+returns-then-not-writes c = (unset_read_only c.args.self.now c.args.path.now c.args.index.now (sym c.writes.ensures ∙ c.if-not-writes.true), refl)
 
 pub invariant_of-self : goal.invariant_of-self
 invariant_of-self c =
@@ -24,9 +24,9 @@ returns c =
     let at_view : Leaves (chunk_unset v c.args.path.now c.args.index.now) v c.match-unset_chunk.result new = elim c.match-unset_chunk.branch [
       | in-Ok w ↦
           subst (λ (r : Result (Unit {0}) Refusal). Leaves (chunk_unset v c.args.path.now c.args.index.now) v r new) (sym w.result-is)
-          (unset_done v c.args.path.now c.args.index.now c.unset_chunk.new.self tt c.if-not-self.false w.in-Ok.ensures)
+          (unset_done v c.args.path.now c.args.index.now c.unset_chunk.new.self tt (ap writes c.self.view_is ∙ (sym c.writes.ensures ∙ c.if-not-writes.false)) w.in-Ok.ensures)
       | in-Err w ↦
           subst (λ (r : Result (Unit {0}) Refusal). Leaves (chunk_unset v c.args.path.now c.args.index.now) v r new) (sym (w.result-is ∙ ap (λ (r : Refusal). Err r) w.refusal_of_edit.ensures))
-          (unset_refused v c.args.path.now c.args.index.now c.unset_chunk.new.self w.in-Err.fault c.if-not-self.false w.in-Err.ensures)
+          (unset_refused v c.args.path.now c.args.index.now c.unset_chunk.new.self w.in-Err.fault (ap writes c.self.view_is ∙ (sym c.writes.ensures ∙ c.if-not-writes.false)) w.in-Err.ensures)
     ] in
     subst (λ (s : SessionState). Leaves (chunk_unset s c.args.path.now c.args.index.now) s c.match-unset_chunk.result new) c.self.view_is at_view

@@ -6,13 +6,13 @@ ghost use Rattle.repo_read.specs.Programs.{MayRefuseRef};
 ghost use Rattle.store_api.specs.Program.{IsAsk, Steps};
 ghost use Rattle.store_api.specs.Driving.{op_of};
 ghost use Rattle.store_api.specs.declared.events.Op.TheVariants as Op;
-ghost use Rattle.refs_admin.specs.Resolving.{resolve_at_program, tag_told, tombstone_told};
-ghost use Rattle.refs_admin.specs.inside.Seeking.{key_got, told_next, begun, resolving_left, resolve_at_rest, resolve_at_left, known_in};
+ghost use Rattle.repo_read.specs.Resolving.{base_told, resolve_at_program, tag_told, tombstone_told, MayRefuseBase};
+ghost use Rattle.repo_read.specs.Seeking.{key_got, told_next, resolution_at, resolving_left, resolve_rest, resolve_left, known_in};
 
+use crate::answers::{ref_told, snapshot_told};
 use ice_base::RefName;
 use ice_ids::Id12;
-use repo_objects::{Unread, ref_read};
-use repo_read::ref_told;
+use repo_objects::{Loaded, Unread, ref_read};
 use std::alloc::{AllocError, Global};
 use store_api::{Got, Key, Machine, Next, Refusal, Reply, Request, Store, Version, drive};
 
@@ -58,7 +58,7 @@ pub enum Resolution {
 
 /// What a reply to the get of a tag tells: the snapshot that it names. Refusals: `NoRef` where it was absent, `BadFile` where
 /// its bytes are no reference, `StoreFault` where the get failed, or `NoMemory`.
-pub(crate) fn tag_told(alloc: Global, tag: &RefName, reply: Reply) -> Result<Id12, Refusal>
+pub fn tag_told(alloc: Global, tag: &RefName, reply: Reply) -> Result<Id12, Refusal>
     ensures told { Answers (tag_told tag.now reply) result }
     ensures listed { IfErr result MayRefuseRef }
 {
@@ -96,10 +96,35 @@ fn tombstone_told(id: Id12, reply: Reply) -> Result<Id12, Refusal>
     }
 }
 
+/// What a reply to the get of the snapshot tells that was named so: as [`snapshot_told`] says, but of one that its own id names
+/// absence is that of a ref, `NoRef`.
+pub fn base_told(alloc: Global, at: &At, id: Id12, reply: Reply) -> Result<Loaded, Refusal>
+    ensures told { Answers (base_told at.now id reply) result }
+    ensures listed { IfErr result MayRefuseBase }
+{
+    match (at, snapshot_told(alloc, id, reply)) {
+        (At::Snapshot(_), Err(Refusal::Missing(_))) => Err(Refusal::NoRef),
+        (_, told) => told,
+    }
+}
+
+impl At {
+    /// A copy.
+    pub fn copy(&self, alloc: Global) -> Result<At, AllocError>
+        ensures { IfOk result (λ at. at ≡ self.now) }
+    {
+        Ok(match self {
+            At::Branch(name) => At::Branch(name.copy(alloc)?),
+            At::Tag(name) => At::Tag(name.copy(alloc)?),
+            At::Snapshot(id) => At::Snapshot(*id),
+        })
+    }
+}
+
 impl Resolution {
     /// How the resolution begins: an id is known at once.
-    pub(crate) fn begin(at: At) -> Resolution
-        ensures { result ≡ begun at }
+    pub fn begin(at: At) -> Resolution
+        ensures { result ≡ resolution_at at }
     {
         match at {
             At::Branch(name) => Resolution::Asks(Resolving::Branch(name)),
@@ -111,7 +136,7 @@ impl Resolution {
 
 impl Resolving {
     /// The get that comes next.
-    pub(crate) fn request(&self, alloc: Global) -> Result<Request<'_>, AllocError>
+    pub fn request(&self, alloc: Global) -> Result<Request<'_>, AllocError>
         ensures { IfOk result (λ request. op_of request ≡ Op.Get (key_got self.now)) }
     {
         let key = match self {
@@ -123,7 +148,7 @@ impl Resolving {
     }
 
     /// What the reply to it tells.
-    pub(crate) fn on_reply(self, alloc: Global, reply: Reply) -> Result<Resolution, Refusal>
+    pub fn on_reply(self, alloc: Global, reply: Reply) -> Result<Resolution, Refusal>
         ensures told { Answers (told_next self reply) result }
         ensures listed { IfErr result MayRefuseRef }
     {
@@ -151,17 +176,17 @@ impl Resolving {
 /// tombstone counts as absent, and an id is known at once. It may answer `NoRef`, `BadFile`, `StoreFault` or `NoMemory`
 /// instead.
 #[derive(Drop)]
-pub struct ResolveAt {
+pub struct Resolve {
     alloc: Global,
     state: Option<Resolution>,
 }
 
-impl Machine for ResolveAt {
+impl Machine for Resolve {
     type Answer = Named;
 
-    ghost rest = { resolve_at_rest };
+    ghost rest = { resolve_rest };
 
-    ghost left = { resolve_at_left };
+    ghost left = { resolve_left };
 
     ghost keeps = { λ old new. Unit {0} };
 
@@ -194,13 +219,13 @@ impl Machine for ResolveAt {
     ghost may_starve = { tt };
 }
 
-impl ResolveAt {
+impl Resolve {
     /// Before its first operation. An id is known then.
-    pub fn new(alloc: Global, at: At) -> ResolveAt
-        ensures program { resolve_at_rest result ≡ resolve_at_program at }
-        ensures few { resolve_at_left result ≤ 2 }
+    pub fn new(alloc: Global, at: At) -> Resolve
+        ensures program { resolve_rest result ≡ resolve_at_program at }
+        ensures few { resolve_left result ≤ 2 }
     {
-        ResolveAt {
+        Resolve {
             alloc,
             state: Some(Resolution::begin(at)),
         }
@@ -208,7 +233,7 @@ impl ResolveAt {
 
     /// The snapshot, where no operation is needed to know it.
     pub fn known(&self) -> Option<Id12>
-        ensures { result ≡ known_in (resolve_at_rest self.now) }
+        ensures { result ≡ known_in (resolve_rest self.now) }
     {
         match &self.state {
             Some(Resolution::Known(named)) => Some(named.id),
@@ -218,9 +243,9 @@ impl ResolveAt {
 
     /// One operation of the store.
     pub fn step<S: Store>(&mut self, store: &mut S) -> Result<Next<Named>, Refusal>
-        requires { IsAsk (resolve_at_rest self.old) }
-        ensures step { Steps (S.view store.old) (S.view store.new) (resolve_at_rest self.old) (resolve_at_rest self.new) result }
-        ensures falls { resolve_at_left self.new < resolve_at_left self.old }
+        requires { IsAsk (resolve_rest self.old) }
+        ensures step { Steps (S.view store.old) (S.view store.new) (resolve_rest self.old) (resolve_rest self.new) result }
+        ensures falls { resolve_left self.new < resolve_left self.old }
         ensures listed { IfErr result MayRefuseRef }
     {
         drive(self, store)

@@ -11,19 +11,20 @@ use Rattle.store_api.specs.Running.{Program, ◌>>=◌}
 use Rattle.repo_read.specs.declared.answers.Resolved.{Resolved}
 use Rattle.repo_read.specs.Answers.{ref_told}
 use Rattle.repo_read.specs.Programs.{resolve_program}
-use Rattle.refs_admin.specs.declared.resolving.At.{At}
-use Rattle.refs_admin.specs.declared.resolving.Named.{Named}
-use Rattle.refs_admin.specs.declared.resolving.Resolving.{Resolving}
-use Rattle.refs_admin.specs.declared.resolving.Resolving.TheVariants as Get_of
-use Rattle.refs_admin.specs.declared.resolving.Resolution.{Resolution}
-use Rattle.refs_admin.specs.declared.resolving.Resolution.TheVariants.{Known, Asks}
-use Rattle.refs_admin.specs.declared.resolving.ResolveAt.{ResolveAt}
-use Rattle.refs_admin.specs.Resolving.{alone, tag_told, tombstone_told, tombstone_program, tag_program}
+use Rattle.repo_read.specs.declared.resolving.At.{At}
+use Rattle.repo_read.specs.declared.resolving.Named.{Named}
+use Rattle.repo_read.specs.declared.resolving.Resolving.{Resolving}
+use Rattle.repo_read.specs.declared.resolving.Resolving.TheVariants as Get_of
+use Rattle.repo_read.specs.declared.resolving.Resolution.{Resolution}
+use Rattle.repo_read.specs.declared.resolving.Resolution.TheVariants.{Known, Asks}
+use Rattle.repo_read.specs.declared.resolving.Resolve.{Resolve}
+use Rattle.repo_read.specs.Resolving.{alone, tag_told, tombstone_told, tombstone_program, tag_program}
 
-abbrev pub begun : At → Resolution
-begun (At.Branch name) = Asks (Get_of.Branch name)
-begun (At.Tag name) = Asks (Get_of.Tag name)
-begun (At.Snapshot id) = Known (alone id)
+-- how the resolution begins
+abbrev pub resolution_at : At → Resolution
+resolution_at (At.Branch name) = Asks (Get_of.Branch name)
+resolution_at (At.Tag name) = Asks (Get_of.Tag name)
+resolution_at (At.Snapshot id) = Known (alone id)
 
 -- the key that is got next
 abbrev pub key_got : Resolving → Key
@@ -66,15 +67,15 @@ abbrev pub state_rest : Option Resolution → Program Named
 state_rest None = Done (Err NoMemory)
 state_rest (Some resolution) = resolution_rest resolution
 
-abbrev pub resolve_at_rest : ResolveAt → Program Named
-resolve_at_rest m = state_rest m.state
+abbrev pub resolve_rest : Resolve → Program Named
+resolve_rest m = state_rest m.state
 
 abbrev pub state_left : Option Resolution → ℕ
 state_left None = 0
 state_left (Some resolution) = resolution_left resolution
 
-abbrev pub resolve_at_left : ResolveAt → ℕ
-resolve_at_left m = state_left m.state
+abbrev pub resolve_left : Resolve → ℕ
+resolve_left m = state_left m.state
 
 -- the snapshot, where the program has come to its end with it
 abbrev pub known_in : Program Named → Option Id12

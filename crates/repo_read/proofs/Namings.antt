@@ -25,13 +25,13 @@ use Rattle.repo_read.specs.declared.answers.Resolved.{Resolved}
 use Rattle.repo_read.specs.Answers.{at_key, resolved_at, ref_told}
 use Rattle.store_api.specs.Telling.{GetsOf, MadeGets, WasAbsent, WasFailure, WasGot, WasRef}
 use Rattle.store_api.proofs.Happening.{HasOwn-append, WasGot-append}
-use Rattle.refs_admin.specs.declared.resolving.At.{At}
-use Rattle.refs_admin.specs.declared.resolving.Named.{Named}
-use Rattle.refs_admin.specs.Resolving.{alone, tag_told, tombstone_told, tombstone_program, resolve_at_program}
-use Rattle.refs_admin.specs.Telling.{TagNames, WasResolved, NamingTells, IsNaming}
-use Rattle.refs_admin.proofs.Own.{MadeGets-none, MadeGets-get, Since-gets, own-made, one-made, made-more}
-use Rattle.refs_admin.proofs.Replies.{got-cases, Holds, got-holds, got-absent}
-use Rattle.refs_admin.proofs.Stays.{tag-get, tag-waits}
+use Rattle.repo_read.specs.declared.resolving.At.{At}
+use Rattle.repo_read.specs.declared.resolving.Named.{Named}
+use Rattle.repo_read.specs.Resolving.{alone, tag_told, tombstone_told, tombstone_program, resolve_at_program}
+use Rattle.repo_read.specs.Naming.{TagNames, WasResolved, NamingTells, IsNaming}
+use Rattle.repo_read.proofs.Own.{MadeGets-none, MadeGets-get, Since-gets, own-made, one-made, made-more}
+use Rattle.repo_read.proofs.Replies.{got-cases, Holds, got-holds, got-absent}
+use Rattle.repo_read.proofs.Stays.{tag-get, tag-waits}
 
 -- ---- own gets
 module _ (by : Caller) (start : List Event) where

@@ -9,9 +9,8 @@ use Rattle.store_api.specs.Journal.{Each, IsGood, IsPolite}
 use Rattle.store_api.specs.Callers.{Caller, Makes}
 use Rattle.store_api.specs.Program.{Prog, Done, Ask, bind, Keeps, Leads}
 use Rattle.store_api.specs.Plays.{Stays}
-use Rattle.store_api.specs.Telling.{IsGet, MadeGets}
+use Rattle.store_api.specs.Telling.{IsGet}
 use Rattle.store_api.proofs.Telling.{makes-keeps}
-use Rattle.rebase.proofs.Own.{MadeGets-makes}
 
 unfoldable pub Gets : {A : Type 0} → Prog A → Type 0
 Gets (Done a) = Unit {0}
@@ -35,7 +34,15 @@ pub is-get : (op : Op) → IsGet op → (key : Key) × (Get key ≡ op)
 is-get (Get key) g = (key, refl)
 is-get _ g = absurd g
 
--- what holds of gets holds of each operation to come
+-- what own gets leave
+abbrev pub GetsLeave : (by : Caller) (N : List Event → Type 0) → Type 0
+GetsLeave by N = (key : Key) (reply : Reply) (old new : List Event) → Makes by (Get key) reply old new → N old → N new
+
+got-leaves : (by : Caller) (N : List Event → Type 0) → GetsLeave by N → (op : Op) (reply : Reply) (old new : List Event) → IsGet op → Makes by op reply old new → N old → N new
+got-leaves by N leave (Get key) reply old new g m n = leave key reply old new m n
+got-leaves by N leave _ reply old new g m n = absurd g
+
+-- ---- what holds of gets holds of each operation to come
 pub gets-keep_each : {A : Type 0} (P : List Event → ℕ → Op → Type 0) (by : Caller) → ((h : List Event) (key : Key) → P h by.number (Get key)) → (p : Prog A) (h : List Event) → Gets p → Keeps P by p h
 unfolding Gets Keeps
 gets-keep_each P by gets (Done a) h r = tt
@@ -55,14 +62,14 @@ gets-leave P stable Q by (Ask op k) h r c l = λ reply new m.
     let g = is-get op r.0 in
     gets-leave P stable Q by (k reply) new (r.1 reply) (makes-keeps P stable by op reply h new (subst (λ (o : Op). IsPolite h o) g.1 tt) m c) (l reply new m)
 
--- that the client made gets alone
-pub gets-alone : {A : Type 0} (Q : A → List Event → Type 0) (by : Caller) (start : List Event) (p : Prog A) (h : List Event) → Gets p → MadeGets by.number start h → Leads Q by p h → Leads (λ a j. Q a j × MadeGets by.number start j) by p h
+-- what own gets leave
+pub gets-hold : {A : Type 0} (N : List Event → Type 0) (by : Caller) → GetsLeave by N → (p : Prog A) (h : List Event) → Gets p → N h → Leads (λ a j. N j) by p h
 unfolding Gets Leads
-gets-alone Q by start (Done a) h r c l = (l, c)
-gets-alone Q by start (Ask op k) h r c l = λ reply new m. gets-alone Q by start (k reply) new (r.1 reply) (MadeGets-makes by start op reply h new r.0 m c) (l reply new m)
+gets-hold N by leave (Done a) h r n = n
+gets-hold N by leave (Ask op k) h r n = λ reply new m. gets-hold N by leave (k reply) new (r.1 reply) (got-leaves by N leave op reply h new r.0 m n)
 
--- what own gets leave holds wherever there may be no memory
-pub gets-stay : {A : Type 0} (N : List Event → Type 0) (by : Caller) → ((op : Op) (reply : Reply) (old new : List Event) → IsGet op → Makes by op reply old new → N old → N new) → (p : Prog A) (h : List Event) → Gets p → N h → Stays N by p h
+-- it holds wherever there may be no memory, too
+pub gets-stay : {A : Type 0} (N : List Event → Type 0) (by : Caller) → GetsLeave by N → (p : Prog A) (h : List Event) → Gets p → N h → Stays N by p h
 unfolding Gets Stays
-gets-stay N by left (Done a) h r n = tt
-gets-stay N by left (Ask op k) h r n = (n, λ reply new m. let next = left op reply h new r.0 m n in (λ e. next, gets-stay N by left (k reply) new (r.1 reply) next))
+gets-stay N by leave (Done a) h r n = tt
+gets-stay N by leave (Ask op k) h r n = (n, λ reply new m. let next = got-leaves by N leave op reply h new r.0 m n in (λ e. next, gets-stay N by leave (k reply) new (r.1 reply) next))

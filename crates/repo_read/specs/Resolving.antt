@@ -1,4 +1,4 @@
--- What a branch, a tag or an id names. (Icechunk specification version 1, "Reference Files", "Tags".)
+-- What a branch, a tag or an id names, and the program that reads it. (Icechunk specification version 1, "Reference Files", "Tags".)
 use Rattle.std.specs.Prelude.{ℕ, List, Some, None, Result, Ok, Err}
 use Rattle.ice_ids.specs.declared.Id12.{Id12}
 use Rattle.snapshot_file.specs.declared.snapshot.SnapshotFile.{SnapshotFile}
@@ -9,13 +9,13 @@ use Rattle.store_api.specs.declared.events.Got.TheVariants.{Found, Absent}
 use Rattle.store_api.specs.declared.events.Reply.{Reply}
 use Rattle.store_api.specs.declared.events.Reply.TheVariants.{Got}
 use Rattle.store_api.specs.declared.machines.Refusal.{Refusal}
-use Rattle.store_api.specs.declared.machines.Refusal.TheVariants.{NoRef, Missing, NoSnapshot, StoreFault}
+use Rattle.store_api.specs.declared.machines.Refusal.TheVariants.{NoRef, Missing, BadFile, StoreFault, NoMemory}
 use Rattle.store_api.specs.Program.{Done, Ask}
 use Rattle.store_api.specs.Running.{Program, ◌>>=◌}
 use Rattle.repo_read.specs.Answers.{at_key, snapshot_told}
 use Rattle.repo_read.specs.Programs.{resolve_program}
-use Rattle.refs_admin.specs.declared.resolving.At.{At}
-use Rattle.refs_admin.specs.declared.resolving.Named.{Named}
+use Rattle.repo_read.specs.declared.resolving.At.{At}
+use Rattle.repo_read.specs.declared.resolving.Named.{Named}
 
 -- a snapshot that isn't named by a branch
 abbrev pub alone : Id12 → Named
@@ -52,19 +52,31 @@ resolve_at_program (At.Tag name) = do
   Done (Ok (alone id))
 resolve_at_program (At.Snapshot id) = Done (Ok (alone id))
 
--- ---- the snapshot that a ref is to name
-abbrev pub no_snapshot : Refusal → Refusal
-no_snapshot (Missing key) = NoSnapshot
-no_snapshot why = why
+-- ---- the snapshot that was named
+-- own: of a snapshot that its own id names, absence is that of a ref; of one that a branch or a tag names, it isn't
+abbrev pub no_ref : Refusal → Refusal
+no_ref (Missing key) = NoRef
+no_ref why = why
 
 abbrev pub but_refused : {A : Type 0} → (Refusal → Refusal) → Result A Refusal → Result A Refusal
 but_refused f (Ok x) = Ok x
 but_refused f (Err why) = Err (f why)
 
--- the snapshot is there and readable
-abbrev pub target_told : Id12 → Reply → Result SnapshotFile Refusal
-target_told id reply = but_refused no_snapshot (snapshot_told id reply)
+-- the snapshot that was named so
+abbrev pub base_told : At → Id12 → Reply → Result SnapshotFile Refusal
+base_told (At.Branch name) id reply = snapshot_told id reply
+base_told (At.Tag name) id reply = snapshot_told id reply
+base_told (At.Snapshot own) id reply = but_refused no_ref (snapshot_told id reply)
 
--- gets the snapshot that a ref is to name
-abbrev pub target_program : Id12 → Program SnapshotFile
-target_program id = Ask (Get (Snapshot id)) (λ reply. Done (target_told id reply))
+-- gets it
+abbrev pub base_at_program : At → Id12 → Program SnapshotFile
+base_at_program at id = Ask (Get (Snapshot id)) (λ reply. Done (base_told at id reply))
+
+-- the refusals of its get
+abbrev pub MayRefuseBase : Refusal → Type 0
+MayRefuseBase NoRef = Unit {0}
+MayRefuseBase (Missing key) = Unit {0}
+MayRefuseBase (BadFile key bad) = Unit {0}
+MayRefuseBase StoreFault = Unit {0}
+MayRefuseBase NoMemory = Unit {0}
+MayRefuseBase _ = ⊥

@@ -1,0 +1,102 @@
+-- A step of a worker's machine is a step of the worker.
+use Rattle.std.proofs.Common.{Bool, true, false, ◌≡◌, ◌⊎◌, inl, inr, refl, sym, ap, subst, ℕ, List, Result, Ok, Err}
+use Rattle.std.specs.Prelude.{IsTrue}
+use Rattle.store_api.specs.declared.events.Op.{Op}
+use Rattle.store_api.specs.declared.events.Reply.{Reply}
+use Rattle.store_api.specs.declared.machines.Next.{Next}
+use Rattle.store_api.specs.declared.machines.Next.TheVariants.{Again, Ready}
+use Rattle.store_api.specs.declared.machines.Refusal.{Refusal}
+use Rattle.store_api.specs.declared.machines.Refusal.TheVariants.{NoMemory}
+use Rattle.store_api.specs.Callers.{View, Waits}
+use Rattle.store_api.specs.Program.{Prog, Done, Ask as Ask_next, is_ask, is_over, is_no_memory, Lands, IsSure, Steps, Blames}
+use Rattle.store_api.specs.Plays.{Play, Ended, Ask, Or, call, behind, Comes, Acts, Starved, BlamesEnd}
+use Rattle.play_outcome.specs.declared.outcome.Outcome.{Outcome}
+use Rattle.play_outcome.specs.Ending.{is_failed}
+use Rattle.play_outcome.specs.Settling.{settled, ComesOrStarves, Faults}
+
+pub is_memory : (why : Refusal) → is_no_memory why ≡ true → why ≡ NoMemory
+is_memory NoMemory e = refl
+is_memory _ e = absurd cc
+
+blamed : {T : Type 0} (result : Result (Next T) Refusal) (r : Play Outcome) (m n : ℕ) → Blames result m n → Faults result r → BlamesEnd is_failed r m n
+blamed (Ok t) (Ended outcome) m n b g = (b, λ failed. let x = g failed in cc)
+blamed (Ok t) (Ask op s next) m n b g = b
+blamed (Ok t) (Or p q) m n b g = b
+blamed (Err why) (Ended outcome) m n b g = (b.0, λ failed. b.1 (g failed))
+blamed (Err why) (Ask op s next) m n b g = b.0
+blamed (Err why) (Or p q) m n b g = b.0
+
+module _ {T : Type 0} (f : Result T Refusal → Play Outcome) (r : Play Outcome) where
+  goes : (x y : Prog (Result T Refusal)) → x ≡ y → Comes (call y f) r → Comes (call x f) r
+  goes x y e c = subst (λ (z : Prog (Result T Refusal)). Comes (call z f) r) (sym e) c
+
+  -- behind a put over
+  sure : (next q : Prog (Result T Refusal)) (result : Result (Next T) Refusal) → Lands next q result → IsSure next result → Comes (settled f q result) r → Comes (call next f) r
+  sure next q (Ok Again) l s c = goes next q l.0 c
+  sure next q (Ok (Ready t)) l s c = goes next (Done (Ok t)) l.0 c
+  sure next q (Err why) l s c = goes next (Done (Err why)) s c
+
+  refused : (next q : Prog (Result T Refusal)) (why : Refusal) (starved : Bool) → is_no_memory why ≡ starved → Lands next q (Err why) → Comes (f (Err why)) r → Comes (call next f) r ⊎ Comes (f (Err NoMemory)) r
+  refused next q why true e l c = inr (subst (λ (w : Refusal). Comes (f (Err w)) r) (is_memory why e) c)
+  refused next q why false e l c = inl (goes next (Done (Err why)) (l.1 e) c)
+
+  free : (next q : Prog (Result T Refusal)) (result : Result (Next T) Refusal) → Lands next q result → Comes (settled f q result) r → Comes (call next f) r ⊎ Comes (f (Err NoMemory)) r
+  free next q (Ok Again) l c = inl (goes next q l.0 c)
+  free next q (Ok (Ready t)) l c = inl (goes next (Done (Ok t)) l.0 c)
+  free next q (Err why) l c = refused next q why (is_no_memory why) refl l c
+
+  landed : (op : Op) (over : Bool) (next q : Prog (Result T Refusal)) (result : Result (Next T) Refusal) → is_over op ≡ over → Lands next q result → (is_over op ≡ true → IsSure next result) → Comes (settled f q result) r → Comes (behind op (call next f) (f (Err NoMemory))) r
+  landed op true next q result e l s c = rw e (sure next q result l (s e) c)
+  landed op false next q result e l s c = rw e (free next q result l c)
+
+  -- where there was no memory for an operation
+  starves : (old new : View) (p : Prog (Result T Refusal)) → is_ask p ≡ true → (IsTrue old.caller.tells → Waits old.caller old.seen new.seen) → Comes (f (Err NoMemory)) r → Starved old new (call p f) r
+  starves old new (Done a) e w c = absurd cc
+  starves old new (Ask_next op k) e w c = record { op = op; starved = f (Err NoMemory); next = λ reply. behind op (call (k reply) f) (f (Err NoMemory)); asks = refl; waits = w; comes = c }
+
+  pub acts : (old new : View) (p q : Prog (Result T Refusal)) (result : Result (Next T) Refusal) → is_ask p ≡ true → Steps old new p q result → Comes (settled f q result) r → Faults result r → Acts is_failed old new (call p f) r
+  acts old new p q result live s c b = record {
+    same = s.same;
+    blames = blamed result r old.faults new.faults s.blames b;
+    went = elim s.went [
+      | inl m ↦ inl (record {
+        op = m.op;
+        starved = f (Err NoMemory);
+        next = λ reply. behind m.op (call (m.next reply) f) (f (Err NoMemory));
+        reply = m.reply;
+        asks = ap (λ (x : Prog (Result T Refusal)). call x f) m.asks;
+        fits = m.fits;
+        made = m.made;
+        comes = landed m.op (is_over m.op) (m.next m.reply) q result refl m.lands m.sure c;
+      })
+      | inr n ↦ inr (starves old new p live n.waits (subst (λ (x : Result (Next T) Refusal). Comes (settled f q x) r) n.result_is c))
+    ];
+  }
+
+  -- ---- machines that only read, behind whose answers there may be no memory
+  landed-read : (op : Op) (next q : Prog (Result T Refusal)) (result : Result (Next T) Refusal) → is_over op ≡ false → Lands next q result → ComesOrStarves f q result r → Comes (behind op (call next f) (f (Err NoMemory))) r
+  landed-read op next q result e l (inl c) = rw e (free next q result l c)
+  landed-read op next q result e l (inr c) = rw e (inr c)
+
+  stopped-read : (q : Prog (Result T Refusal)) (result : Result (Next T) Refusal) → result ≡ Err NoMemory → ComesOrStarves f q result r → Comes (f (Err NoMemory)) r
+  stopped-read q result is (inl c) = subst (λ (x : Result (Next T) Refusal). Comes (settled f q x) r) is c
+  stopped-read q result is (inr c) = c
+
+  pub acts-reads : (old new : View) (p q : Prog (Result T Refusal)) (result : Result (Next T) Refusal) → ((op : Op) (next : Reply → Prog (Result T Refusal)) → p ≡ Ask_next op next → is_over op ≡ false) → is_ask p ≡ true → Steps old new p q result → ComesOrStarves f q result r → Faults result r → Acts is_failed old new (call p f) r
+  acts-reads old new p q result reads live s c b = record {
+    same = s.same;
+    blames = blamed result r old.faults new.faults s.blames b;
+    went = elim s.went [
+      | inl m ↦ inl (record {
+        op = m.op;
+        starved = f (Err NoMemory);
+        next = λ reply. behind m.op (call (m.next reply) f) (f (Err NoMemory));
+        reply = m.reply;
+        asks = ap (λ (x : Prog (Result T Refusal)). call x f) m.asks;
+        fits = m.fits;
+        made = m.made;
+        comes = landed-read m.op (m.next m.reply) q result (reads m.op m.next m.asks) m.lands c;
+      })
+      | inr n ↦ inr (starves old new p live n.waits (stopped-read q result n.result_is c))
+    ];
+  }

@@ -1,0 +1,36 @@
+-- Where a player stands behind a step of the machine that it calls. (Own.)
+use Rattle.std.specs.Prelude.{◌≡◌, ◌⊎◌, Bool, true, false, Result, Ok, Err}
+use Rattle.store_api.specs.declared.machines.Next.{Next}
+use Rattle.store_api.specs.declared.machines.Next.TheVariants.{Again, Ready}
+use Rattle.store_api.specs.declared.machines.Refusal.{Refusal}
+use Rattle.store_api.specs.declared.machines.Refusal.TheVariants.{NoMemory}
+use Rattle.store_api.specs.Program.{Prog, is_fault}
+use Rattle.store_api.specs.Plays.{Play, Ended, Ask, Or, call, Comes}
+use Rattle.play_outcome.specs.declared.outcome.Outcome.{Outcome}
+use Rattle.play_outcome.specs.Ending.{is_failed}
+
+-- what is left to do after a step of a machine that has q left
+abbrev pub settled : {A B : Type 0} → (Result A Refusal → Play B) → Prog (Result A Refusal) → Result (Next A) Refusal → Play B
+settled f q (Ok Again) = call q f
+settled f q (Ok (Ready a)) = f (Ok a)
+settled f q (Err refusal) = f (Err refusal)
+
+-- where a worker stands behind a machine that only reads: want of memory may come behind its answer
+abbrev pub ComesOrStarves : {A : Type 0} → (Result A Refusal → Play Outcome) → Prog (Result A Refusal) → Result (Next A) Refusal → Play Outcome → Type 0
+ComesOrStarves f q answer p = Comes (settled f q answer) p ⊎ Comes (f (Err NoMemory)) p
+
+-- a machine that answered `Again` has something to do
+abbrev pub answers_well : {T : Type 0} → Bool → Result (Next T) Refusal → Bool
+answers_well live (Ok Again) = live
+answers_well live (Ok (Ready t)) = true
+answers_well live (Err refusal) = true
+
+abbrev pub tells_fault : {T : Type 0} → Result (Next T) Refusal → Bool
+tells_fault (Ok t) = false
+tells_fault (Err why) = is_fault why
+
+-- an outcome tells a fault of the store only where the answer told one
+abbrev pub Faults : {T : Type 0} → Result (Next T) Refusal → Play Outcome → Type 0
+Faults answer (Ended outcome) = is_failed outcome ≡ true → tells_fault answer ≡ true
+Faults answer (Ask op starved next) = Unit {0}
+Faults answer (Or p q) = Unit {0}

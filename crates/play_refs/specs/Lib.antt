@@ -1,0 +1,5 @@
+pub mod Playing
+pub mod Telling
+pub mod Workers
+pub mod Laws
+pub mod inside

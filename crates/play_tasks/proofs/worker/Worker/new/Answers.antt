@@ -1,0 +1,16 @@
+use Rattle.std.proofs.Common.{◌∙◌, ap, sym, subst}
+use Rattle.store_api.specs.Plays.{Comes}
+use Rattle.play_script.specs.declared.scripts.Head.{Head}
+use Rattle.play_tasks.specs.Playing.{session_play, headed_play}
+use Rattle.play_tasks.specs.inside.Sessions.{session_rest}
+use Rattle.play_tasks.proofs.Begun.{session-begun}
+use Rattle.play_tasks.proofs.worker.Worker.new.Goals as goal
+
+pub returns-in_ok-worker-in-Session : goal.returns-in_ok-worker-in-Session
+returns-in_ok-worker-in-Session c =
+    let task = c.args.task.now in
+    let ids = c.args.ids in
+    let access = c.in-Session.access in
+    let worker = c.in_ok-worker-in-Session.worker in
+    let is = c.in_ok-worker-in-Session.ensures ∙ ap (session_play ids access task.line) c.as_slice-body.ensures in
+    subst (λ (head : Head). Comes (headed_play head ids task) (session_rest worker)) (sym c.in-Session.is) (session-begun ids access task.line task.body (session_rest worker) is)

@@ -1,0 +1,41 @@
+-- What a task owes of each operation of its client. (Own.)
+use Rattle.std.specs.Prelude.{ℕ, List}
+use Rattle.ice_ids.specs.declared.drawing.AnyIds.{AnyIds}
+use Rattle.store_api.specs.declared.events.Op.{Op}
+use Rattle.store_api.specs.declared.events.Event.{Event}
+use Rattle.store_api.specs.Journal.{IsPolite, IsGood}
+use Rattle.store_api.specs.Telling.{ChangedNothing}
+use Rattle.commit_path.specs.Owed.{Owes}
+use Rattle.play_script.specs.declared.scripts.Head.{Head}
+use Rattle.play_script.specs.declared.scripts.Head.TheVariants.{Session, Refs}
+use Rattle.play_script.specs.declared.scripts.Task.{Task}
+use Rattle.play_refs.specs.Telling.{OwesRefs}
+use Rattle.play_tasks.specs.Solving.{IsOfTask}
+
+-- a task that opens a session owes what clients owe who open and commit sessions, its own being those of the task; one that calls on refs,
+-- what clients owe who call on refs
+abbrev pub OwesBy : Head → AnyIds → Task → (client : ℕ) → (start journal : List Event) → Op → Type 0
+OwesBy (Session access) ids task client start journal op = Owes ids (IsOfTask ids task client start) journal op
+OwesBy Refs ids task client start journal op = OwesRefs op
+
+-- what this task owes, whose client has this number and whose session draws these ids if it opens one, where it began at `start`
+abbrev pub OwesOfTask : AnyIds → Task → (client : ℕ) → (start journal : List Event) → Op → Type 0
+OwesOfTask ids task client start journal op = OwesBy task.head ids task client start journal op
+
+-- the operation is polite, and owed
+pub record IsDue (ids : AnyIds) (task : Task) (number : ℕ) (start journal : List Event) (client : ℕ) (op : Op) : Type 0 where
+  pub polite : IsPolite journal op
+  pub owes : OwesOfTask ids task number start journal op
+
+-- the event is good, and owed
+pub record IsDueEvent (ids : AnyIds) (task : Task) (number : ℕ) (start journal : List Event) (event : Event) : Type 0 where
+  pub good : IsGood journal event
+  pub owes : OwesOfTask ids task number start journal event.op
+
+-- a task that opens a session makes each operation before its client changed a branch; one that calls on refs changes as many as it likes
+abbrev pub ComesBefore : Head → (client : ℕ) → (start journal : List Event) → Type 0
+ComesBefore (Session access) client start journal = ChangedNothing client start journal
+ComesBefore Refs client start journal = Unit {0}
+
+abbrev pub BeforeChange : Task → (client : ℕ) → (start journal : List Event) → Type 0
+BeforeChange task client start journal = ComesBefore task.head client start journal
