@@ -170,7 +170,7 @@ own_start _ m = absurd m
 
 -- ---- the start
 pub undrawn : (s : SessionState) → IsDrawn s s
-undrawn s = record { same = refl; later = record { client = refl; left = omega arith } }
+undrawn s = record { same = refl; later = record { way = refl; client = refl; left = omega arith } }
 
 pub read-only : (s : SessionState) (message : List ℕ) → writes s ≡ false → commit_program s message ≡ Done (Err ReadOnly)
 unfolding commit_program

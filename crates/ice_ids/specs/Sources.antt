@@ -8,8 +8,9 @@ use Rattle.std.proofs.lemmas.Bool.{eqb-true, eqb-false, ltb-true}
 use Rattle.ice_ids.specs.declared.Id12.{Id12}
 use Rattle.ice_ids.specs.declared.Id8.{Id8}
 use Rattle.ice_ids.specs.declared.drawing.CountIds.{CountIds}
-use Rattle.ice_ids.specs.declared.drawing.AnyIds.TheVariants.{Count}
-use Rattle.ice_ids.specs.Drawing.{IsSource, counted12, counted8, is_spent, count_left, count_drawn12, count_drawn8, count_after, left_of, client_of, drawn12, drawn8, after12, after8}
+use Rattle.ice_ids.specs.declared.drawing.StreamIds.{StreamIds}
+use Rattle.ice_ids.specs.declared.drawing.AnyIds.TheVariants.{Count, Stream}
+use Rattle.ice_ids.specs.Drawing.{IsSource, counted12, counted8, is_spent, count_left, count_drawn12, count_drawn8, count_after, is_dry, stream_left, streamed12, streamed8, stream_drawn12, stream_drawn8, stream_after, left_of, client_of, drawn12, drawn8, after12, after8}
 
 -- ---- a source that counts
 ended : {I : Type 0} (spent : Bool) (id : I) → is_none (cond spent None (Some id)) ≡ spent
@@ -27,35 +28,6 @@ kept : (ids : CountIds) (spent : Bool) → (cond spent ids (raised ids)).client 
 kept ids true = refl
 kept ids false = refl
 
-drawn_is : {I : Type 0} (spent : Bool) (x id : I) → cond spent None (Some x) ≡ Some id → x ≡ id
-drawn_is true x id is = absurd (subst (λ o. T (is_none o)) is tt)
-drawn_is false x id is = ap (λ o. unwrap_or o id) is
-
-left_over : {I : Type 0} (spent : Bool) (x id : I) → cond spent None (Some x) ≡ Some id → spent ≡ false
-left_over true x id is = absurd (subst (λ o. T (is_none o)) is tt)
-left_over false x id is = refl
-
-counts : (ids : CountIds) → is_spent ids ≡ false → ids.counter < 2 ^ 32 - 1
-counts ids e = sub-pos_iff_lt.0 (pos_of_ne-zero (eqb-false _ _ e))
-
-once12 : (s t : CountIds) (id : Id12) → count_drawn12 s ≡ Some id → count_drawn12 t ≡ Some id → s.client ≡ t.client → count_left s ≡ count_left t
-once12 s t id in_s in_t same = ap (λ n. 2 ^ 32 - 1 - n) (number s (drawn s in_s) ∙ sym (number t (drawn t in_t)))
-  where
-    drawn : (ids : CountIds) → count_drawn12 ids ≡ Some id → (is_spent ids ≡ false) × (counted12 ids.client ids.counter ≡ id)
-    drawn ids is = (left_over (is_spent ids) _ id is, drawn_is (is_spent ids) _ id is)
-
-    number : (ids : CountIds) → (is_spent ids ≡ false) × (counted12 ids.client ids.counter ≡ id) → ids.counter ≡ from_be_bytes w64 (drop 4 id.0)
-    number ids d = sym (from_be_bytes-to_be_bytes_8 ids.counter (lt_trans (counts ids d.0) (ltb-true (2 ^ 32 - 1) (2 ^ 64) refl))) ∙ ap (λ (id : Id12). from_be_bytes w64 (drop 4 id.0)) d.1
-
-once8 : (s t : CountIds) (id : Id8) → count_drawn8 s ≡ Some id → count_drawn8 t ≡ Some id → s.client ≡ t.client → count_left s ≡ count_left t
-once8 s t id in_s in_t same = ap (λ n. 2 ^ 32 - 1 - n) (number s (drawn s in_s) ∙ sym (number t (drawn t in_t)))
-  where
-    drawn : (ids : CountIds) → count_drawn8 ids ≡ Some id → (is_spent ids ≡ false) × (counted8 ids.client ids.counter ≡ id)
-    drawn ids is = (left_over (is_spent ids) _ id is, drawn_is (is_spent ids) _ id is)
-
-    number : (ids : CountIds) → (is_spent ids ≡ false) × (counted8 ids.client ids.counter ≡ id) → ids.counter ≡ from_be_bytes w32 (drop 4 id.0)
-    number ids d = sym (from_be_bytes-to_be_bytes_4 ids.counter (lt_trans (counts ids d.0) (ltb-true (2 ^ 32 - 1) (2 ^ 32) refl))) ∙ ap (λ (id : Id8). from_be_bytes w32 (drop 4 id.0)) d.1
-
 stayed : (ids : CountIds) → count_left ids ≡ 0 → count_after ids ≡ ids
 stayed ids e = ap (λ n. cond (n == 0) ids (record ids { counter = ids.counter + 1 })) e
 
@@ -65,7 +37,6 @@ count_source12 = record {
   moves = λ s. moved s (is_spent s) refl;
   stays = stayed;
   keeps = λ s. kept s (is_spent s);
-  once = once12;
 }
 
 pub count_source8 : IsSource count_left (λ ids. ids.client) count_drawn8 count_after
@@ -74,24 +45,49 @@ count_source8 = record {
   moves = λ s. moved s (is_spent s) refl;
   stays = stayed;
   keeps = λ s. kept s (is_spent s);
-  once = once8;
+}
+
+-- ---- a source at random
+flowed : (ids : StreamIds) (dry : Bool) → is_dry ids ≡ dry → stream_left (cond dry ids (record ids { counter = ids.counter + 1 })) ≡ stream_left ids - 1
+flowed ids true e = eqb-true _ _ e ∙ sym (ap (λ n. n - 1) (eqb-true _ _ e))
+flowed ids false e = sub-add-eq (2 ^ 22) ids.counter 1
+
+stream_kept : (ids : StreamIds) (dry : Bool) → (cond dry ids (record ids { counter = ids.counter + 1 })).client ≡ ids.client
+stream_kept ids true = refl
+stream_kept ids false = refl
+
+stream_stayed : (ids : StreamIds) → stream_left ids ≡ 0 → stream_after ids ≡ ids
+stream_stayed ids e = ap (λ n. cond (n == 0) ids (record ids { counter = ids.counter + 1 })) e
+
+pub stream_source12 : IsSource stream_left (λ ids. ids.client) stream_drawn12 stream_after
+stream_source12 = record {
+  ends = λ s. ended (is_dry s) (streamed12 s);
+  moves = λ s. flowed s (is_dry s) refl;
+  stays = stream_stayed;
+  keeps = λ s. stream_kept s (is_dry s);
+}
+
+pub stream_source8 : IsSource stream_left (λ ids. ids.client) stream_drawn8 stream_after
+stream_source8 = record {
+  ends = λ s. ended (is_dry s) (streamed8 s);
+  moves = λ s. flowed s (is_dry s) refl;
+  stays = stream_stayed;
+  keeps = λ s. stream_kept s (is_dry s);
 }
 
 -- ---- a source of any kind is one of these
 pub any_source12 : IsSource left_of client_of drawn12 after12
 any_source12 = record {
-  ends = elim [ Count s ↦ count_source12.ends s ];
-  moves = elim [ Count s ↦ count_source12.moves s ];
-  stays = elim [ Count s ↦ λ e. ap Count (count_source12.stays s e) ];
-  keeps = elim [ Count s ↦ count_source12.keeps s ];
-  once = elim [ Count s ↦ elim [ Count t ↦ count_source12.once s t ] ];
+  ends = elim [ Count s ↦ count_source12.ends s | Stream s ↦ stream_source12.ends s ];
+  moves = elim [ Count s ↦ count_source12.moves s | Stream s ↦ stream_source12.moves s ];
+  stays = elim [ Count s ↦ λ e. ap Count (count_source12.stays s e) | Stream s ↦ λ e. ap Stream (stream_source12.stays s e) ];
+  keeps = elim [ Count s ↦ count_source12.keeps s | Stream s ↦ stream_source12.keeps s ];
 }
 
 pub any_source8 : IsSource left_of client_of drawn8 after8
 any_source8 = record {
-  ends = elim [ Count s ↦ count_source8.ends s ];
-  moves = elim [ Count s ↦ count_source8.moves s ];
-  stays = elim [ Count s ↦ λ e. ap Count (count_source8.stays s e) ];
-  keeps = elim [ Count s ↦ count_source8.keeps s ];
-  once = elim [ Count s ↦ elim [ Count t ↦ count_source8.once s t ] ];
+  ends = elim [ Count s ↦ count_source8.ends s | Stream s ↦ stream_source8.ends s ];
+  moves = elim [ Count s ↦ count_source8.moves s | Stream s ↦ stream_source8.moves s ];
+  stays = elim [ Count s ↦ λ e. ap Count (count_source8.stays s e) | Stream s ↦ λ e. ap Stream (stream_source8.stays s e) ];
+  keeps = elim [ Count s ↦ count_source8.keeps s | Stream s ↦ stream_source8.keeps s ];
 }

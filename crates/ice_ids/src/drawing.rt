@@ -3,11 +3,14 @@
 ghost use Rattle.std.specs.Prelude.{◌≡◌, ℕ, Option, if◌then◌else◌};
 ghost use Rattle.ice_ids.specs.declared.Id12.{Id12};
 ghost use Rattle.ice_ids.specs.declared.Id8.{Id8};
-ghost use Rattle.ice_ids.specs.Drawing.{IsSource, is_spent, count_left, count_drawn12, count_drawn8, count_after, left_of, client_of, drawn12, after12, drawn8, after8, ids_of};
+ghost use Rattle.ice_ids.specs.Drawing.{IsSource, is_spent, count_left, count_drawn12, count_drawn8, count_after, stream_left, is_dry, stream_place, word_bytes, behind_word, two_words, stream_drawn12, stream_drawn8, stream_after, left_of, client_of, drawn12, after12, drawn8, after8, ids_of};
 
 use crate::{Id8, Id12};
+use rand_chacha::ChaCha20Rng;
+use rand_core::SeedableRng;
+use rand_core::utils::NextWord;
 
-/// A source of a client's ids, each of which is drawn once.
+/// A source of a client's ids.
 pub trait Ids {
     // How many draws are left, and whose ids they are.
     ghost left: { Self → ℕ };
@@ -33,7 +36,7 @@ pub trait Ids {
     fn next8(&mut self) -> Option<Id8>
         ensures { (result ≡ drawn8 self.old) × (self.new ≡ after8 self.old) };
 
-    // `None` comes at the end alone, each draw moves on, and no id is drawn twice.
+    // `None` comes at the end alone, and each draw moves on.
     ghost source12: { IsSource left client drawn12 after12 };
 
     ghost source8: { IsSource left client drawn8 after8 };
@@ -111,11 +114,111 @@ impl Ids for CountIds {
     }
 }
 
+/// The most draws of a client from a stream, 2 to the 22nd: more than a script can ask for.
+const MOST_STREAMED: u32 = 4_194_304;
+
+/// Ids at random: 12 or 8 bytes of the key stream of ChaCha20 with the seed as its key and the client as its stream's
+/// number. Each draw takes 16 bytes of the stream, of which an id is the first ones.
+#[derive(Clone, Copy, Debug, PartialEq, Eq)]
+pub struct StreamIds {
+    /// The key.
+    pub seed: [u8; 32],
+    /// The client's number.
+    pub client: u32,
+    /// The number of ids that were drawn; at 4,194,304 nothing is left to draw.
+    pub counter: u32,
+}
+
+/// The next word of a stream as bytes.
+#[tactic(auto, unfolding(crate::specs::Drawing::word_bytes, crate::specs::Drawing::behind_word))]
+fn word_bytes(stream: &mut ChaCha20Rng) -> [u8; 4]
+    ensures bytes { result ≡ word_bytes stream.old }
+    ensures after { stream.new ≡ behind_word stream.old }
+{
+    stream.next_word().to_le_bytes()
+}
+
+/// The next two words of a stream as bytes.
+#[tactic(auto, unfolding(crate::specs::Drawing::word_bytes))]
+fn two_words(stream: &mut ChaCha20Rng) -> [u8; 8]
+    ensures bytes { result ≡ two_words stream.old }
+    ensures after { stream.new ≡ behind_word (behind_word stream.old) }
+{
+    let mut bytes = [0; 8];
+    bytes[..4].copy_from_slice(&word_bytes(stream));
+    bytes[4..].copy_from_slice(&word_bytes(stream));
+    bytes
+}
+
+impl StreamIds {
+    /// The ids of a client, from the first one.
+    pub fn new(seed: [u8; 32], client: u32) -> StreamIds
+        ensures { result ≡ record { seed = seed; client = client; counter = 0 } }
+    {
+        StreamIds {
+            seed,
+            client,
+            counter: 0,
+        }
+    }
+
+    /// The stream at the next draw, which is used up by this call; `None` where nothing is left.
+    fn take_stream(&mut self) -> Option<ChaCha20Rng>
+        ensures stream { result ≡ (if is_dry self.old then None else Some (stream_place self.old)) }
+        ensures after { self.new ≡ stream_after self.old }
+    {
+        if self.counter >= MOST_STREAMED {
+            return None;
+        }
+        let mut stream = ChaCha20Rng::from_seed(self.seed);
+        stream.set_stream(u64::from(self.client));
+        stream.set_word_pos(u128::from(self.counter) * 4);
+        self.counter += 1;
+        Some(stream)
+    }
+}
+
+impl Ids for StreamIds {
+    ghost use Rattle.ice_ids.specs.Sources.{stream_source12, stream_source8};
+
+    ghost left = { stream_left };
+
+    ghost client = { λ ids. ids.client };
+
+    ghost drawn12 = { stream_drawn12 };
+
+    ghost after12 = { stream_after };
+
+    ghost drawn8 = { stream_drawn8 };
+
+    ghost after8 = { stream_after };
+
+    ghost source12 = { stream_source12 };
+
+    ghost source8 = { stream_source8 };
+
+    #[tactic(auto, unfolding(crate::specs::Drawing::word_bytes))]
+    fn next12(&mut self) -> Option<Id12> {
+        let mut stream = self.take_stream()?;
+        let mut bytes = [0; 12];
+        bytes[..8].copy_from_slice(&two_words(&mut stream));
+        bytes[8..].copy_from_slice(&word_bytes(&mut stream));
+        Some(Id12(bytes))
+    }
+
+    fn next8(&mut self) -> Option<Id8> {
+        let mut stream = self.take_stream()?;
+        Some(Id8(two_words(&mut stream)))
+    }
+}
+
 /// The ways to draw ids.
 #[derive(Clone, Copy, Debug, PartialEq, Eq)]
 pub enum Draw {
     /// By counting.
     Count,
+    /// At random, from these 32 bytes.
+    Stream([u8; 32]),
 }
 
 impl Draw {
@@ -125,6 +228,7 @@ impl Draw {
     {
         match self {
             Draw::Count => AnyIds::Count(CountIds::new(client)),
+            Draw::Stream(seed) => AnyIds::Stream(StreamIds::new(*seed, client)),
         }
     }
 }
@@ -134,6 +238,8 @@ impl Draw {
 pub enum AnyIds {
     /// By counting.
     Count(CountIds),
+    /// At random.
+    Stream(StreamIds),
 }
 
 impl Ids for AnyIds {
@@ -158,12 +264,14 @@ impl Ids for AnyIds {
     fn next12(&mut self) -> Option<Id12> {
         match self {
             AnyIds::Count(ids) => ids.next12(),
+            AnyIds::Stream(ids) => ids.next12(),
         }
     }
 
     fn next8(&mut self) -> Option<Id8> {
         match self {
             AnyIds::Count(ids) => ids.next8(),
+            AnyIds::Stream(ids) => ids.next8(),
         }
     }
 }

@@ -1,11 +1,12 @@
 //! Laws of ids: functions that do nothing, whose contracts are the laws.
 
-ghost use Rattle.std.specs.Prelude.{◌≡◌, ◌≢◌, ◌<◌, ◌+◌, ℕ, List, Option, Some, Ok, length, All, true};
+ghost use Rattle.std.specs.Prelude.{◌≡◌, ◌<◌, ◌+◌, ◌^◌, ℕ, List, Option, Some, Ok, length, All, true};
 ghost use Rattle.ice_ids.specs.declared.Id12.{Id12};
 ghost use Rattle.ice_ids.specs.declared.Id8.{Id8};
 ghost use Rattle.ice_ids.specs.declared.drawing.AnyIds.{AnyIds};
 ghost use Rattle.ice_ids.specs.Text.{IsId12, IsId8, id12_text, id8_text, id12_of_text, id8_of_text, initial_id, id12_cmp, id8_cmp, same_id12, same_id8};
-ghost use Rattle.ice_ids.specs.Drawing.{IsSource, IsAnyIds, client_of, counter_of, drawn12, after12, drawn8, after8};
+ghost use Rattle.ice_ids.specs.declared.drawing.Draw.TheVariants as Draw;
+ghost use Rattle.ice_ids.specs.Drawing.{IsSource, DrawsOnce, left_of, drawn12, after12, drawn8, after8};
 
 use crate::{Id8, Id12, Ids};
 
@@ -35,19 +36,17 @@ pub fn compared_by_bytes()
     ensures nodes { (a b : Id8) → ⟦<Id8 as Ord>⟧.cmp a b ≡ id8_cmp a b }
 {}
 
-/// No id is drawn twice: two draws of one id are draws of one client, at one number of its counter,
-/// which each draw raises. No object id that is drawn is that of the initial snapshot.
+/// By counting no id is drawn twice, by whichever clients, and no object id that is drawn is that of the initial snapshot. In
+/// whichever way ids are drawn, a draw leaves one fewer to draw.
 pub fn drawn_ids()
-    ensures objects { (a b : AnyIds) (id : Id12) → IsAnyIds a → IsAnyIds b → drawn12 a ≡ Some id → drawn12 b ≡ Some id → (client_of a ≡ client_of b) × (counter_of a ≡ counter_of b) }
-    ensures nodes { (a b : AnyIds) (id : Id8) → IsAnyIds a → IsAnyIds b → drawn8 a ≡ Some id → drawn8 b ≡ Some id → (client_of a ≡ client_of b) × (counter_of a ≡ counter_of b) }
-    ensures initial { (ids : AnyIds) (id : Id12) → IsAnyIds ids → drawn12 ids ≡ Some id → id ≢ initial_id }
-    ensures raised { (ids : AnyIds) (id : Id12) → IsAnyIds ids → drawn12 ids ≡ Some id → counter_of (after12 ids) ≡ counter_of ids + 1 }
-    ensures raised_too { (ids : AnyIds) (id : Id8) → IsAnyIds ids → drawn8 ids ≡ Some id → counter_of (after8 ids) ≡ counter_of ids + 1 }
+    ensures once { (most : ℕ) → most < 2 ^ 32 → DrawsOnce Draw.Count most }
+    ensures lowered { (ids : AnyIds) (id : Id12) → drawn12 ids ≡ Some id → left_of ids ≡ left_of (after12 ids) + 1 }
+    ensures lowered_too { (ids : AnyIds) (id : Id8) → drawn8 ids ≡ Some id → left_of ids ≡ left_of (after8 ids) + 1 }
     ensures spelled { Id12.INITIAL ≡ initial_id }
 {}
 
 /// What each source of ids promises, also where code doesn't know which one it has: no id is answered exactly where
-/// nothing is left to draw, a draw moves on by one, and no id is drawn twice.
+/// nothing is left to draw, and a draw moves on by one.
 pub fn any_source<I: Ids>()
     ensures objects { IsSource I.left I.client I.drawn12 I.after12 }
     ensures nodes { IsSource I.left I.client I.drawn8 I.after8 }

@@ -11,7 +11,7 @@ mod drawing;
 pub mod laws;
 
 use base32::{number_of_bytes, number_of_text, write_bytes, write_letters};
-pub use drawing::{AnyIds, CountIds, Draw, Ids};
+pub use drawing::{AnyIds, CountIds, Draw, Ids, StreamIds};
 
 /// The id of an object: a snapshot, a manifest, a transaction log or a chunk. Ids are ordered by
 /// their bytes. (Icechunk specification version 1, object ids.)

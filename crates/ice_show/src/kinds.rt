@@ -11,8 +11,8 @@ use crate::scripts::tell_script;
 use crate::snapshots::{tell_initial, tell_snapshot, tell_snapshot_again};
 use crate::store_keys::{tell_object, tell_same};
 use crate::texts::{
-    tell_draw, tell_draw_at, tell_id, tell_id_of, tell_indices, tell_key, tell_keys, tell_name,
-    tell_names, tell_node_id, tell_path, tell_paths, tell_ref, tell_ref_of,
+    tell_draw, tell_draw_at, tell_draw_stream, tell_id, tell_id_of, tell_indices, tell_key,
+    tell_keys, tell_name, tell_names, tell_node_id, tell_path, tell_paths, tell_ref, tell_ref_of,
 };
 use crate::words::{NoAnswer, text_of};
 use std::alloc::Global;
@@ -56,6 +56,7 @@ fn tell_text(alloc: Global, kind: &str, text: &str) -> Result<String, NoAnswer> 
         "id_of" => tell_id_of(alloc, text),
         "draw" => tell_draw(alloc, text),
         "draw_at" => tell_draw_at(alloc, text),
+        "draw_stream" => tell_draw_stream(alloc, text),
         "name" => tell_name(alloc, text),
         "names" => tell_names(alloc, text),
         "path" => tell_path(alloc, text),

@@ -3,7 +3,7 @@
 use crate::told::{digits, fault_told};
 use crate::words::{NoAnswer, first_word, indices_of, said, small_number_of, two_words};
 use ice_base::RefName;
-use ice_ids::{CountIds, Draw, Id8, Id12, Ids};
+use ice_ids::{CountIds, Draw, Id8, Id12, Ids, StreamIds};
 use std::alloc::{AllocError, Global};
 use zarr_path::{Index, KeyFault, Path, ZarrKey, chunk_key, meta_key, read_key};
 
@@ -70,6 +70,23 @@ pub fn tell_draw_at(alloc: Global, text: &str) -> Result<String, NoAnswer> {
     let (client, rest) = first_word(text);
     let (counter, words) = first_word(rest);
     let ids = CountIds::at(small_number_of(client)?, small_number_of(counter)?);
+    Ok(drawn(alloc, ids, words)?)
+}
+
+/// The ids of a client at random, of this seed of 32 bytes, from one of its numbers on.
+pub fn tell_draw_stream(alloc: Global, text: &str) -> Result<String, NoAnswer> {
+    let (seed, rest) = first_word(text);
+    let (client, rest) = first_word(rest);
+    let (counter, words) = first_word(rest);
+    let mut bytes = [0; 32];
+    if hex::decode_to_slice(seed.as_bytes(), &mut bytes).is_err() {
+        return Err(NoAnswer::Words);
+    }
+    let ids = StreamIds {
+        seed: bytes,
+        client: small_number_of(client)?,
+        counter: small_number_of(counter)?,
+    };
     Ok(drawn(alloc, ids, words)?)
 }
 

@@ -7,6 +7,7 @@ use Rattle.ice_ids.specs.declared.Id8.{Id8}
 use Rattle.ice_ids.specs.declared.drawing.AnyIds.{AnyIds}
 use Rattle.ice_ids.specs.Drawing.{drawn8, after8}
 use Rattle.ice_ids.specs.Sources.{any_source8}
+use Rattle.ice_ids.proofs.Drawn.{after8-draw}
 use Rattle.zarr_path.specs.declared.keys.ZarrKey.{ZarrKey}
 use Rattle.zarr_path.specs.declared.keys.ZarrKey.TheVariants as zarr
 use Rattle.zarr_path.specs.Keys.{key_of}
@@ -45,7 +46,7 @@ abbrev DrawsOn : AnyIds → Result SessionState Refusal → Type 0
 DrawsOn ids r = IfOk r (λ t. IsLater ids t.ids)
 
 later-drawn8 : (ids : AnyIds) → IsLater ids (after8 ids)
-later-drawn8 ids = let moves = any_source8.moves ids in record { client = any_source8.keeps ids; left = omega (arith, moves) }
+later-drawn8 ids = let moves = any_source8.moves ids in record { way = after8-draw ids; client = any_source8.keeps ids; left = omega (arith, moves) }
 
 module _ {A : Type 0} (P : A → Type 0) where
   by_writes : (writes : Bool) (r : Result A Refusal) → IfOk r P → IfOk (if_writes writes r) P

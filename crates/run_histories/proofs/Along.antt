@@ -1,13 +1,12 @@
 -- Nothing is put again in a run, and for each of its commits there are its session's changes.
-use Rattle.std.proofs.Common.{◌≡◌, inl, inr, ◌⊎◌, ℕ, ◌+◌, ◌-◌, ◌^◌, ◌<◌, true, List, [], ◌∷◌, ◌++◌, length, refl, sym, ◌∙◌, ap, subst, arith}
+use Rattle.std.proofs.Common.{◌≡◌, inl, inr, ◌⊎◌, ℕ, ◌+◌, ◌<◌, true, List, [], ◌∷◌, ◌++◌, length, refl, sym, ◌∙◌, ap, subst, arith}
 use Rattle.std.specs.Prelude.{Some, None, slice_get, All}
 use Rattle.std.proofs.lemmas.Option.{slice_get_within, get_or_from_slice_get}
 use Rattle.std.proofs.lemmas.List.Elements.{All-get_or}
 use Rattle.ice_ids.specs.declared.Id12.{Id12}
 use Rattle.ice_ids.specs.declared.drawing.AnyIds.{AnyIds}
 use Rattle.ice_ids.specs.declared.drawing.Draw.{Draw}
-use Rattle.ice_ids.specs.Drawing.{client_of}
-use Rattle.ice_ids.proofs.Drawn.{ids_of-IsAnyIds}
+use Rattle.ice_ids.specs.Drawing.{IsAmong, DrawsOnce}
 use Rattle.zarr_tree.specs.Changes.{Changes, none}
 use Rattle.repo_objects.specs.Readings.{ref_of}
 use Rattle.store_api.specs.declared.keys.Key.{Key}
@@ -41,7 +40,7 @@ use Rattle.run_histories.specs.Sources.{ObjectsAreNew}
 use Rattle.run_histories.specs.Told.{IsOfSession, CommitsSession}
 use Rattle.run_histories.proofs.Sources.{object-not_initial}
 use Rattle.run_histories.proofs.Carrying.{task-object}
-use Rattle.run_histories.proofs.Drawing.{AreOf}
+use Rattle.run_histories.proofs.Drawing.{are-among, ids_at-of}
 use Rattle.run_histories.proofs.Programs.{IsBranch, IsPlain}
 use Rattle.run_histories.proofs.Origins.{PutsOverSnapshot}
 
@@ -230,27 +229,28 @@ owes-uncut ids mine journal (Remove key why) o c = c
 owes-uncut ids mine journal (RemoveAt key old why) o c = c
 owes-uncut ids mine journal (ListPart part) o c = c
 
-owes-once : (ids : AnyIds) (task : Task) (client : ℕ) (start journal : List Event) (op : Op) → client_of ids < 2 ^ 32 → IsWellTask task → ObjectsAreNew ids journal → Owes ids (IsOfTask ids task client start) journal op → PutsOnce journal op
-owes-once ids task client start journal (Get key) small well new o = tt
-owes-once ids task client start journal (ListPart part) small well new o = tt
-owes-once ids task client start journal (PutNew (Snapshot id) bytes why) small well new o =
-    let drawn : MayDrawObject ids id = task-object ids task client start journal o.session id well o.is_mine in
-    (λ e. absurd (object-not_initial ids id small drawn e), λ differs. (new id drawn).snapshot)
-owes-once ids task client start journal (PutNew (Txn id) bytes why) small well new o = (new id o).log
-owes-once ids task client start journal (PutNew (Manifest id) bytes why) small well new o = (new id o).manifest
-owes-once ids task client start journal (PutNew (Chunk id) bytes why) small well new o = (new id o).chunk
-owes-once ids task client start journal (PutNew (Branch name) bytes why) small well new o = tt
-owes-once ids task client start journal (PutNew (Tag name) bytes why) small well new o = tt
-owes-once ids task client start journal (PutNew (TagGone name) bytes why) small well new o = tt
-owes-once ids task client start journal (PutOver (Snapshot id) bytes old why) small well new o = absurd o
-owes-once ids task client start journal (PutOver (Txn id) bytes old why) small well new o = tt
-owes-once ids task client start journal (PutOver (Manifest id) bytes old why) small well new o = tt
-owes-once ids task client start journal (PutOver (Chunk id) bytes old why) small well new o = tt
-owes-once ids task client start journal (PutOver (Branch name) bytes old why) small well new o = tt
-owes-once ids task client start journal (PutOver (Tag name) bytes old why) small well new o = tt
-owes-once ids task client start journal (PutOver (TagGone name) bytes old why) small well new o = tt
-owes-once ids task client start journal (Remove key why) small well new o = tt
-owes-once ids task client start journal (RemoveAt key old why) small well new o = tt
+module _ (draw : Draw) (most : ℕ) (once : DrawsOnce draw most) where
+  owes-once : (ids : AnyIds) (task : Task) (client : ℕ) (start journal : List Event) (op : Op) → IsAmong draw most ids → IsWellTask task → ObjectsAreNew ids journal → Owes ids (IsOfTask ids task client start) journal op → PutsOnce journal op
+  owes-once ids task client start journal (Get key) among well new o = tt
+  owes-once ids task client start journal (ListPart part) among well new o = tt
+  owes-once ids task client start journal (PutNew (Snapshot id) bytes why) among well new o =
+      let drawn : MayDrawObject ids id = task-object ids task client start journal o.session id well o.is_mine in
+      (λ e. absurd (object-not_initial draw most once ids id among drawn e), λ differs. (new id drawn).snapshot)
+  owes-once ids task client start journal (PutNew (Txn id) bytes why) among well new o = (new id o).log
+  owes-once ids task client start journal (PutNew (Manifest id) bytes why) among well new o = (new id o).manifest
+  owes-once ids task client start journal (PutNew (Chunk id) bytes why) among well new o = (new id o).chunk
+  owes-once ids task client start journal (PutNew (Branch name) bytes why) among well new o = tt
+  owes-once ids task client start journal (PutNew (Tag name) bytes why) among well new o = tt
+  owes-once ids task client start journal (PutNew (TagGone name) bytes why) among well new o = tt
+  owes-once ids task client start journal (PutOver (Snapshot id) bytes old why) among well new o = absurd o
+  owes-once ids task client start journal (PutOver (Txn id) bytes old why) among well new o = tt
+  owes-once ids task client start journal (PutOver (Manifest id) bytes old why) among well new o = tt
+  owes-once ids task client start journal (PutOver (Chunk id) bytes old why) among well new o = tt
+  owes-once ids task client start journal (PutOver (Branch name) bytes old why) among well new o = tt
+  owes-once ids task client start journal (PutOver (Tag name) bytes old why) among well new o = tt
+  owes-once ids task client start journal (PutOver (TagGone name) bytes old why) among well new o = tt
+  owes-once ids task client start journal (Remove key why) among well new o = tt
+  owes-once ids task client start journal (RemoveAt key old why) among well new o = tt
 
 module _ (draw : Draw) (tasks : List Task) (start : List Event) (client place : ℕ) (task : Task) (client_is : client ≡ place + 1) (at : slice_get tasks place ≡ Some task) (journal : List Event) (once : IsOnce journal) where
   -- a branch that is put over
@@ -299,15 +299,12 @@ module _ (draw : Draw) (tasks : List Task) where
   pub well-at : All IsWellTask tasks → (place : ℕ) (task : Task) → slice_get tasks place ≡ Some task → IsWellTask task
   well-at wells place task at = subst IsWellTask (get_or_from_slice_get tasks place task task at) (All-get_or IsWellTask tasks place task (slice_get_within tasks place task at) wells)
 
-  -- the source of the client of a place
-  pub source-at : length tasks < 2 ^ 32 - 1 → (place : ℕ) → place < length tasks → AreOf (place + 1) (ids_at draw place)
-  source-at few place within = ids_of-IsAnyIds draw (place + 1) (omega (arith, within, few))
+  -- the source of the client of a place is among the run's
+  pub among-at : (place : ℕ) → place < length tasks → IsAmong draw (length tasks) (ids_at draw place)
+  among-at place within = are-among draw (place + 1) (length tasks) (ids_at draw place) (omega (arith, within)) (ids_at-of draw place)
 
-  pub small-at : length tasks < 2 ^ 32 - 1 → (place : ℕ) → place < length tasks → client_of (ids_at draw place) < 2 ^ 32
-  small-at few place within = let client = (source-at few place within).1 in omega (arith, client, within, few)
-
-  pub client-fits : length tasks < 2 ^ 32 - 1 → All IsWellTask tasks → (start journal : List Event) (event : Event) → IsOfOpener draw tasks start journal event → Fits draw tasks start journal event
-  client-fits few wells start journal event c =
+  pub client-fits : DrawsOnce draw (length tasks) → All IsWellTask tasks → (start journal : List Event) (event : Event) → IsOfOpener draw tasks start journal event → Fits draw tasks start journal event
+  client-fits draws wells start journal event c =
       let mine : Sessions = IsOfTask (ids_at draw c.place) c.task (c.place + 1) start in
       let owes : Owes (ids_at draw c.place) mine journal event.op = c.careful.owes in
       record {
@@ -315,7 +312,7 @@ module _ (draw : Draw) (tasks : List Task) where
         keeps = owes-keeps (ids_at draw c.place) mine journal event.op owes;
         uncut = owes-uncut (ids_at draw c.place) mine journal event.op owes;
         first = λ new once d. first-law journal event.op once c.careful.good.polite
-            (owes-once (ids_at draw c.place) c.task (c.place + 1) start journal event.op (small-at few c.place (slice_get_within tasks c.place c.task c.at)) (well-at wells c.place c.task c.at) (new c.place (slice_get_within tasks c.place c.task c.at)) owes);
+            (owes-once draw (length tasks) draws (ids_at draw c.place) c.task (c.place + 1) start journal event.op (among-at c.place (slice_get_within tasks c.place c.task c.at)) (well-at wells c.place c.task c.at) (new c.place (slice_get_within tasks c.place c.task c.at)) owes);
         knows = λ once. op-knows draw tasks start event.client c.place c.task c.client c.at journal once event.op owes;
       }
 

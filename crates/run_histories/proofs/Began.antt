@@ -65,7 +65,7 @@ module _ (ids : AnyIds) (client : ℕ) (start journal : List Event) (g : Grounds
         let free : IsFree ids journal s.base = subst (IsFree ids journal) (sym w.base) opened-free in
         let tree : tree_of journal s.base ≡ Some (base_tree (puts_of journal) s) = tree-by_rows journal s.base s.rows rows in
         let own : OwnAreNew ids s = λ p n f. free s.base n.id (ancestor-self journal s.base) (node-has journal s.base (base_tree (puts_of journal) s) p n tree f) in
-        let kept : IsKept ids s = w.goes.kept own in
+        let kept : IsKept ids s = w.goes.kept g.spends own in
         record {
           later = w.goes.later;
           put = put;

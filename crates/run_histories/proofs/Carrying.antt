@@ -3,6 +3,7 @@ use Rattle.std.proofs.Common.{◌≡◌, inl, inr, ℕ, zero, suc, List, [], ◌
 use Rattle.std.specs.FinMap.{FinMap}
 use Rattle.ice_ids.specs.declared.Id12.{Id12}
 use Rattle.ice_ids.specs.declared.drawing.AnyIds.{AnyIds}
+use Rattle.ice_ids.specs.declared.drawing.Draw.{Draw}
 use Rattle.zarr_path.specs.Paths.{path_cmp}
 use Rattle.zarr_tree.specs.Nodes.{Node}
 use Rattle.zarr_tree.specs.Held.{Held}
@@ -125,5 +126,5 @@ module _ (ids : AnyIds) (task : Task) (client : ℕ) (start journal : List Event
     task-object = object-later ids t.ids id (later-later ids o.session.ids t.ids task-lines.goes.later task-carried.later) o.drawn
 
     -- so it was drawn by the task's client
-    pub task-draws : (other : ℕ) → AreOf other ids → IsDrawnBy other id
-    task-draws other known = object-draws other ids id known task-object
+    pub task-draws : (draw : Draw) (other : ℕ) → AreOf draw other ids → IsDrawnBy draw other id
+    task-draws draw other known = object-draws draw other ids id known task-object

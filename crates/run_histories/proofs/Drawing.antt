@@ -1,14 +1,14 @@
 -- The ids that tasks' sessions draw.
-use Rattle.std.proofs.Common.{◌≡◌, ◌≢◌, inl, inr, ℕ, ◌+◌, ◌-◌, ◌^◌, ◌<◌, List, length, refl, sym, ◌∙◌, ap, subst, arith}
-use Rattle.std.specs.Prelude.{Option, Some, None, Result, Ok, Err, slice_get}
-use Rattle.std.proofs.lemmas.Option.{slice_get_within}
+use Rattle.std.proofs.Common.{◌≡◌, ◌≢◌, inl, inr, ℕ, ◌+◌, ◌≤◌, List, refl, sym, ◌∙◌, ap, subst}
+use Rattle.std.specs.Prelude.{Option, Some, None, Result, Ok, Err}
 use Rattle.ice_ids.specs.declared.Id8.{Id8}
 use Rattle.ice_ids.specs.declared.Id12.{Id12}
 use Rattle.ice_ids.specs.declared.drawing.AnyIds.{AnyIds}
 use Rattle.ice_ids.specs.declared.drawing.Draw.{Draw}
 use Rattle.ice_ids.specs.Text.{initial_id}
-use Rattle.ice_ids.specs.Drawing.{IsAnyIds, client_of, drawn12, after8}
-use Rattle.ice_ids.proofs.Drawn.{after8-IsAnyIds, after12-IsAnyIds, ids_of-IsAnyIds, drawn12-not_initial, drawn12-same}
+use Rattle.ice_ids.specs.Drawing.{draw_of, client_of, drawn12, after12, after8, IsAmong, DrawsOnce}
+use Rattle.ice_ids.specs.Sources.{any_source12, any_source8}
+use Rattle.ice_ids.proofs.Drawn.{after8-draw, after12-draw, ids_of-draw, ids_of-client}
 use Rattle.zarr_path.specs.declared.keys.ZarrKey.{ZarrKey}
 use Rattle.zarr_path.specs.declared.keys.ZarrKey.TheVariants as zarr
 use Rattle.zarr_path.specs.Keys.{key_of}
@@ -27,61 +27,69 @@ use Rattle.play_script.specs.declared.scripts.EditCall.{EditCall}
 use Rattle.play_script.specs.declared.scripts.EditCall.TheVariants.{Group, Array, Make, Meta, Drop, Set, Fill, Unset, KeySet, KeyErase}
 use Rattle.play_script.specs.declared.scripts.Access.{Access}
 use Rattle.play_script.specs.declared.scripts.Access.TheVariants.{Write, Read}
-use Rattle.play_script.specs.declared.scripts.Task.{Task}
 use Rattle.zarr_keys.specs.Keys.{session_of, erased_at, key_erased}
 use Rattle.play_tasks.specs.Lines.{edited}
 use Rattle.play_tasks.specs.Playing.{asked_by}
 use Rattle.play_tasks.specs.Tasks.{ids_at}
-use Rattle.run_histories.proofs.Sources.{known-small, object-known}
 use Rattle.run_histories.proofs.Edits.{SetsChunk}
 
--- an id that a client may draw
-pub record IsDrawnBy (client : ℕ) (id : Id12) : Type 0 where
+-- an id that a client may draw in this way
+pub record IsDrawnBy (draw : Draw) (client : ℕ) (id : Id12) : Type 0 where
   pub ids : AnyIds
-  pub known : IsAnyIds ids
+  pub way : draw_of ids ≡ draw
   pub client_is : client_of ids ≡ client
   pub is : drawn12 ids ≡ Some id
 
--- ids of a client
-abbrev pub AreOf : ℕ → AnyIds → Type 0
-AreOf client ids = IsAnyIds ids × (client_of ids ≡ client)
+-- ids of a client, drawn in this way
+abbrev pub AreOf : Draw → ℕ → AnyIds → Type 0
+AreOf draw client ids = (draw_of ids ≡ draw) × (client_of ids ≡ client)
 
-module _ (client : ℕ) where
+-- so it is among those of clients of at most a number
+pub are-among : (draw : Draw) (client most : ℕ) (ids : AnyIds) → client ≤ most → AreOf draw client ids → IsAmong draw most ids
+are-among draw client most ids small known = record { way = known.0; small = subst (λ (n : ℕ). n ≤ most) (sym known.1) small }
+
+-- and so it is behind a draw
+pub drawn8-of : (draw : Draw) (client : ℕ) (ids : AnyIds) → AreOf draw client ids → AreOf draw client (after8 ids)
+drawn8-of draw client ids known = (after8-draw ids ∙ known.0, any_source8.keeps ids ∙ known.1)
+
+pub drawn12-of : (draw : Draw) (client : ℕ) (ids : AnyIds) → AreOf draw client ids → AreOf draw client (after12 ids)
+drawn12-of draw client ids known = (after12-draw ids ∙ known.0, any_source12.keeps ids ∙ known.1)
+
+module _ (draw : Draw) (client : ℕ) where
   -- a session to which a node was added still draws for its client
-  added-draws : (fault : Result View MetaFault → Option MetaFault) (s t : SessionState) (path text : List ℕ) (new : Id8) → TellsFaults fault → AreOf client s.ids → added fault s path text ≡ Ok (new, t) → AreOf client t.ids
+  added-draws : (fault : Result View MetaFault → Option MetaFault) (s t : SessionState) (path text : List ℕ) (new : Id8) → TellsFaults fault → AreOf draw client s.ids → added fault s path text ≡ Ok (new, t) → AreOf draw client t.ids
   added-draws fault s t path text new tells known e =
       let a : Added s t path text new = node-added fault s t path text new tells e in
       let ids : t.ids ≡ after8 s.ids = ap (λ (x : SessionState). x.ids) a.is in
-      let after = after8-IsAnyIds s.ids known.0 in
-      subst (AreOf client) (sym ids) (after.0, after.1 ∙ known.1)
+      subst (AreOf draw client) (sym ids) (drawn8-of draw client s.ids known)
 
-  pub taken-draws : (fault : Result View MetaFault → Option MetaFault) (s t : SessionState) (path text : List ℕ) → TellsFaults fault → AreOf client s.ids → (r : Result (Id8 × SessionState) Refusal) → added fault s path text ≡ r → session_of r ≡ Ok t → AreOf client t.ids
+  pub taken-draws : (fault : Result View MetaFault → Option MetaFault) (s t : SessionState) (path text : List ℕ) → TellsFaults fault → AreOf draw client s.ids → (r : Result (Id8 × SessionState) Refusal) → added fault s path text ≡ r → session_of r ≡ Ok t → AreOf draw client t.ids
   taken-draws fault s t path text tells known (Err why) e d = absurd cc
-  taken-draws fault s t path text tells known (Ok new) e d = let same : new.1 ≡ t = cc in subst (λ (x : SessionState). AreOf client x.ids) same (added-draws fault s new.1 path text new.0 tells known e)
+  taken-draws fault s t path text tells known (Ok new) e d = let same : new.1 ≡ t = cc in subst (λ (x : SessionState). AreOf draw client x.ids) same (added-draws fault s new.1 path text new.0 tells known e)
 
-  stays-draws : (s t : SessionState) → AreOf client s.ids → ◌≡◌ {A = Result SessionState Refusal} (Ok s) (Ok t) → AreOf client t.ids
-  stays-draws s t known e = let same : s ≡ t = cc in subst (λ (x : SessionState). AreOf client x.ids) same known
+  stays-draws : (s t : SessionState) → AreOf draw client s.ids → ◌≡◌ {A = Result SessionState Refusal} (Ok s) (Ok t) → AreOf draw client t.ids
+  stays-draws s t known e = let same : s ≡ t = cc in subst (λ (x : SessionState). AreOf draw client x.ids) same known
 
-  pub text-draws : (s t : SessionState) (path text : List ℕ) → AreOf client s.ids → meta_set s path text ≡ Ok t → AreOf client t.ids
-  text-draws s t path text known e = subst (λ (x : SessionState). AreOf client x.ids) (sym (text-set s t path text e).is) known
+  pub text-draws : (s t : SessionState) (path text : List ℕ) → AreOf draw client s.ids → meta_set s path text ≡ Ok t → AreOf draw client t.ids
+  text-draws s t path text known e = subst (λ (x : SessionState). AreOf draw client x.ids) (sym (text-set s t path text e).is) known
 
-  drop-draws : (s t : SessionState) (path : List ℕ) → AreOf client s.ids → node_dropped s path ≡ Ok t → AreOf client t.ids
-  drop-draws s t path known e = subst (λ (x : SessionState). AreOf client x.ids) (sym (node-dropped s t path e).is) known
+  drop-draws : (s t : SessionState) (path : List ℕ) → AreOf draw client s.ids → node_dropped s path ≡ Ok t → AreOf draw client t.ids
+  drop-draws s t path known e = subst (λ (x : SessionState). AreOf draw client x.ids) (sym (node-dropped s t path e).is) known
 
-  unset-draws : (s t : SessionState) (path index : List ℕ) → AreOf client s.ids → chunk_unset s path index ≡ Ok t → AreOf client t.ids
-  unset-draws s t path index known e = subst (λ (x : SessionState). AreOf client x.ids) (sym (chunk-unset s t path index e).is) known
+  unset-draws : (s t : SessionState) (path index : List ℕ) → AreOf draw client s.ids → chunk_unset s path index ≡ Ok t → AreOf draw client t.ids
+  unset-draws s t path index known e = subst (λ (x : SessionState). AreOf draw client x.ids) (sym (chunk-unset s t path index e).is) known
 
-  erased-draws : (o : Option ZarrKey) (s t : SessionState) → AreOf client s.ids → erased_at s o ≡ Ok t → AreOf client t.ids
+  erased-draws : (o : Option ZarrKey) (s t : SessionState) → AreOf draw client s.ids → erased_at s o ≡ Ok t → AreOf draw client t.ids
   erased-draws None s t known e = absurd cc
   erased-draws (Some (zarr.Meta path)) s t known e = drop-draws s t path known e
   erased-draws (Some (zarr.Chunk path index)) s t known e = unset-draws s t path index known e
 
-  key-draws : (s t : SessionState) (key : List ℕ) → AreOf client s.ids → key_erased s key ≡ Ok t → AreOf client t.ids
+  key-draws : (s t : SessionState) (key : List ℕ) → AreOf draw client s.ids → key_erased s key ≡ Ok t → AreOf draw client t.ids
   unfolding key_erased
   key-draws s t key known e = erased-draws (key_of key) s t known e
 
   -- and so does one behind any edit
-  pub edited-draws : (edit : EditCall) (s t : SessionState) → AreOf client s.ids → edited edit s ≡ Ok t → AreOf client t.ids
+  pub edited-draws : (edit : EditCall) (s t : SessionState) → AreOf draw client s.ids → edited edit s ≡ Ok t → AreOf draw client t.ids
   edited-draws (Group path) s t known e = taken-draws group_fault s t path group_text (λ bad. refl) known (group_added s path group_text) refl e
   edited-draws (Array path text) s t known e = taken-draws array_fault s t path text (λ bad. refl) known (array_added s path text) refl e
   edited-draws (Make path text) s t known e = taken-draws node_fault s t path text (λ bad. refl) known (node_added s path text) refl e
@@ -94,29 +102,32 @@ module _ (client : ℕ) where
   edited-draws (KeyErase key) s t known e = key-draws s t key known e
 
   -- and behind a chunk that was set
-  pub set-draws : (s t : SessionState) → AreOf client s.ids → SetsChunk s t → AreOf client t.ids
-  set-draws s t known a = subst (λ (x : SessionState). AreOf client x.ids) (sym a.is) (elim a.ids_are [
-    | inl same ↦ subst (AreOf client) (sym same) known
-    | inr drawn ↦ let after = after12-IsAnyIds s.ids known.0 in subst (AreOf client) (sym drawn) (after.0, after.1 ∙ known.1)
+  pub set-draws : (s t : SessionState) → AreOf draw client s.ids → SetsChunk s t → AreOf draw client t.ids
+  set-draws s t known a = subst (λ (x : SessionState). AreOf draw client x.ids) (sym a.is) (elim a.ids_are [
+    | inl same ↦ subst (AreOf draw client) (sym same) known
+    | inr drawn ↦ subst (AreOf draw client) (sym drawn) (drawn12-of draw client s.ids known)
   ])
 
   -- what its source may draw
-  pub object-draws : (ids : AnyIds) (id : Id12) → AreOf client ids → MayDrawObject ids id → IsDrawnBy client id
-  object-draws ids id known m = record { ids = m.later; known = object-known ids id (known-small ids known.0) m; client_is = m.is_later.client ∙ known.1; is = m.drawn }
+  pub object-draws : (ids : AnyIds) (id : Id12) → AreOf draw client ids → MayDrawObject ids id → IsDrawnBy draw client id
+  object-draws ids id known m = record { ids = m.later; way = m.is_later.way ∙ known.0; client_is = m.is_later.client ∙ known.1; is = m.drawn }
 
 pub access-ids : (access : Access) (ids : AnyIds) → (asked_by access ids).ids ≡ ids
 access-ids (Write branch tries policy) ids = refl
 access-ids (Read at) ids = refl
 
--- no id is drawn by two clients
-pub drawn-apart : (a b : ℕ) (id : Id12) → IsDrawnBy a id → IsDrawnBy b id → a ≡ b
-drawn-apart a b id d e = sym d.client_is ∙ ((drawn12-same d.ids e.ids id d.known e.known d.is e.is).0 ∙ e.client_is)
+module _ (draw : Draw) (most : ℕ) (once : DrawsOnce draw most) where
+  among : (client : ℕ) (id : Id12) → client ≤ most → (d : IsDrawnBy draw client id) → IsAmong draw most d.ids
+  among client id small d = are-among draw client most d.ids small (d.way, d.client_is)
 
-pub drawn-not_initial : (client : ℕ) (id : Id12) → IsDrawnBy client id → id ≢ initial_id
-drawn-not_initial client id d = drawn12-not_initial d.ids id d.known d.is
+  -- no id is drawn by two clients
+  pub drawn-apart : (a b : ℕ) (id : Id12) → a ≤ most → b ≤ most → IsDrawnBy draw a id → IsDrawnBy draw b id → a ≡ b
+  drawn-apart a b id small other d e = sym d.client_is ∙ ((once.objects d.ids e.ids id (among a id small d) (among b id other e) d.is e.is).0 ∙ e.client_is)
 
--- the ids of the client of a task
-pub ids_at-of : (draw : Draw) (tasks : List Task) (place : ℕ) (task : Task) → length tasks < 2 ^ 32 - 1 → slice_get tasks place ≡ Some task → AreOf (place + 1) (ids_at draw place)
-ids_at-of draw tasks place task few at =
-    let within : place < length tasks = slice_get_within tasks place task at in
-    ids_of-IsAnyIds draw (place + 1) (omega (arith, within, few))
+  -- and none is the initial snapshot's
+  pub drawn-not_initial : (client : ℕ) (id : Id12) → client ≤ most → IsDrawnBy draw client id → id ≢ initial_id
+  drawn-not_initial client id small d = once.others d.ids id (among client id small d) d.is
+
+-- the ids of the client of a place
+pub ids_at-of : (draw : Draw) (place : ℕ) → AreOf draw (place + 1) (ids_at draw place)
+ids_at-of draw place = (ids_of-draw draw (place + 1), ids_of-client draw (place + 1))

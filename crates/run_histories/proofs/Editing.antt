@@ -194,7 +194,7 @@ pub begun-goes : (ids : AnyIds) (s : SessionState) → s.ids ≡ ids → s.held 
 begun-goes ids s same none = record {
   later = subst (IsLater ids) (sym same) (later-same ids);
   texts = same-texts s.held nothing (ap (λ (h : Held Place). h.metas) none) (All-nil _);
-  kept = λ own. record {
+  kept = λ spends own. record {
     added = λ p n f. let no : None ≡ Some n = sym (get-empty path_cmp p) ∙ (ap (λ (h : Held Place). get h.added p) (sym none) ∙ f) in absurd cc;
     dropped = λ id l. let no : false ≡ true = ap (λ (h : Held Place). lists h.dropped id) (sym none) ∙ l in absurd cc;
     normal = λ puts well. subst (λ (h : Held Place). IsNormal (changes_of sized h) (base_tree puts s)) (sym none) ((none-law (base_tree puts s) well).1);

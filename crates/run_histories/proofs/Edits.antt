@@ -1,5 +1,5 @@
--- What edits are, and what they keep: the session's changes stay normal for its base, by the lengths of chunks, where its source draws no id
--- of the base's nodes.
+-- What edits are, and what they keep: the session's changes stay normal for its base, by the lengths of chunks, where its source draws no node id
+-- twice and none of the base's nodes.
 use Rattle.std.proofs.Common.{◌≡◌, inl, inr, ◌⊎◌, ℕ, Bool, true, false, cond, not, ◌&&◌, ◌||◌, List, length, refl, sym, ◌∙◌, ap, subst}
 use Rattle.std.specs.Prelude.{Option, Some, None}
 use Rattle.std.specs.FinMap.{FinMap, get, insert, retain_keys}
@@ -33,7 +33,7 @@ use Rattle.session.specs.Chunks.{with_chunk, without_chunk}
 use Rattle.commit_path.proofs.Sources.{later-same, later-later, later-drawn12}
 use Rattle.rebase.specs.AlongLaws.{HasOneTextEach}
 use Rattle.run_histories.proofs.Texts.{same-texts, set-texts, drop-texts}
-use Rattle.run_histories.proofs.Sources.{later-drawn8, node-now, node-later, node-spent}
+use Rattle.run_histories.proofs.Sources.{SpendsNodes, later-drawn8, node-now, node-later}
 use Rattle.run_histories.proofs.Sized.{sized, sized-bytes, changes_sized}
 
 -- ---- what an edit is
@@ -128,7 +128,7 @@ each-left Q m f there p n e = by_test (f p) (sym (get-where m f p) ∙ e)
 abbrev bare : SessionState → Tree
 bare s = record { nodes = base_nodes s; chunk = λ p i. None }
 
-module _ (ids : AnyIds) (s : SessionState) (later : IsLater ids s.ids) (own : OwnAreNew ids s) (k : IsKept ids s) where
+module _ (ids : AnyIds) (spends : SpendsNodes ids) (s : SessionState) (later : IsLater ids s.ids) (own : OwnAreNew ids s) (k : IsKept ids s) where
   -- an id that is drawn now is fresh
   now-fresh : (id : Id8) → drawn8 s.ids ≡ Some id → (puts : Puts) → IsFresh (changes_sized s) (base_tree puts s) id
   now-fresh id d puts =
@@ -148,7 +148,7 @@ module _ (ids : AnyIds) (s : SessionState) (later : IsLater ids s.ids) (own : Ow
       let new : Node = record { id = a.id; text = a.text } in
       subst (IsKept ids) (sym a.is) (record {
         added = each-put (λ n. WasDrawn ids (after8 s.ids) n.id) s.held.added a.path new
-            (record { before = node-later ids s.ids a.id later (node-now s.ids a.id a.drawn); spent = node-spent s.ids a.id a.drawn })
+            (record { before = node-later ids s.ids a.id later (node-now s.ids a.id a.drawn); spent = spends s.ids a.id later a.drawn })
             (λ p n f. still-spent (after8 s.ids) (later-drawn8 s.ids) n.id (k.added p n f));
         dropped = k.dropped;
         normal = λ puts well. normal-law (changes_sized s) (base_tree puts s) (Add a.path a.id a.text) well (k.normal puts well) (now-fresh a.id a.drawn puts) a.is_a a.metadata a.allowed;
@@ -278,12 +278,12 @@ edit-texts s t (inr (inr (inr (inr a)))) one =
     same-texts t.held s.held (ap (λ (x : SessionState). x.held.metas) a.is ∙ unset-metas s.held a.index (get s.held.added a.path) (get (nodes_over s.held (base_nodes s)) a.path)) one
 
 -- ---- along edits
--- What holds along the lines of a task: the session's source is a later one, it holds one text for each node, and it is kept, where no node
--- of its base has an id that the first source may draw.
+-- What holds along the lines of a task: the session's source is a later one, it holds one text for each node, and it is kept, where the first source
+-- draws no node id twice and no node of the base has an id that it may draw.
 pub record GoesOn (ids : AnyIds) (s : SessionState) : Type 0 where
   pub later : IsLater ids s.ids
   pub texts : HasOneTextEach s.held
-  pub kept : OwnAreNew ids s → IsKept ids s
+  pub kept : SpendsNodes ids → OwnAreNew ids s → IsKept ids s
 
 pub edit-later : (s t : SessionState) → Edits s t → IsLater s.ids t.ids
 edit-later s t (inl a) = subst (λ (x : SessionState). IsLater s.ids x.ids) (sym a.is) (later-drawn8 s.ids)
@@ -300,5 +300,5 @@ pub edit-goes : (ids : AnyIds) (s t : SessionState) → Edits s t → GoesOn ids
 edit-goes ids s t e g = record {
   later = later-later ids s.ids t.ids g.later (edit-later s t e);
   texts = edit-texts s t e g.texts;
-  kept = λ own. let before : OwnAreNew ids s = own-stay ids s t (edit-base s t e) own in edit-keeps ids s g.later before (g.kept before) t e;
+  kept = λ spends own. let before : OwnAreNew ids s = own-stay ids s t (edit-base s t e) own in edit-keeps ids spends s g.later before (g.kept spends before) t e;
 }

@@ -30,17 +30,19 @@ use Rattle.run_histories.specs.Sources.{NodesAreNew}
 use Rattle.run_histories.proofs.Ancestors.{IsFree}
 use Rattle.run_histories.proofs.Origins.{AllCome, PutsOverSnapshot}
 use Rattle.run_histories.proofs.Sized.{changes_sized}
+use Rattle.run_histories.proofs.Sources.{SpendsNodes}
 
 some-same : {A : Type 0} (a b : A) → Some a ≡ Some b → a ≡ b
 some-same a b e = cc
 
--- What is known of a journal that goes on from a start at which the client's nodes were new: it is sound; each snapshot since is the client's own, or
+-- What is known of a journal that goes on from a start at which the client's nodes were new, where its source draws no node id twice: it is sound; each snapshot since is the client's own, or
 -- inherits what it has of the client's nodes, and none was put over; and until the client put one, its nodes were new.
 pub record Grounds (ids : AnyIds) (client : ℕ) (start journal : List Event) : Type 0 where
   pub good : IsGoodJournal journal
   pub once : IsOnce journal
   pub trees : AllTrees journal
   pub causes : AllCaused journal
+  pub spends : SpendsNodes ids
   pub since : List Event
   pub is : journal ≡ start ++ since
   pub new : NodesAreNew ids start

@@ -1,11 +1,12 @@
 -- In a run each snapshot has a well-formed tree and comes from its parent, and what another source may draw stays new.
-use Rattle.std.proofs.Common.{◌≡◌, ◌≢◌, inl, inr, ◌⊎◌, ℕ, ◌+◌, ◌-◌, ◌^◌, ◌<◌, Bool, true, false, List, [], ◌∷◌, ◌++◌, length, refl, sym, ◌∙◌, ap, subst, arith, eqb-true}
+use Rattle.std.proofs.Common.{◌≡◌, inl, inr, ◌⊎◌, ℕ, ◌+◌, ◌<◌, Bool, true, false, List, [], ◌∷◌, ◌++◌, length, refl, sym, ◌∙◌, ap, subst, arith, eqb-true}
 use Rattle.std.specs.Prelude.{◌==◌, All, None, Option, Some, option_map}
 use Rattle.std.proofs.lemmas.Bool.{eqb-false}
 use Rattle.std.proofs.lemmas.Option.{slice_get_within}
-use Rattle.ice_ids.specs.Drawing.{client_of}
+use Rattle.ice_ids.specs.Drawing.{DrawsOnce}
 use Rattle.ice_ids.specs.Text.{initial_id}
 use Rattle.ice_ids.specs.declared.Id12.{Id12}
+use Rattle.ice_ids.specs.declared.Id8.{Id8}
 use Rattle.ice_ids.specs.declared.drawing.AnyIds.{AnyIds}
 use Rattle.ice_ids.specs.declared.drawing.Draw.{Draw}
 use Rattle.zarr_tree.specs.Changes.{IsNormal}
@@ -43,14 +44,15 @@ use Rattle.play_tasks.specs.Solving.{IsOfTask}
 use Rattle.play_tasks.specs.Tasks.{ids_at}
 use Rattle.run_histories.specs.Runs.{AllCaused, AllTrees, HasCause, HasWellFormedTree, IsChildOf}
 use Rattle.run_histories.specs.Sources.{IsNewSource, IsOfAnother, NodesAreNew}
-use Rattle.run_histories.proofs.Along.{AllObjectsAreNew, Fits, IsOfOpener, client-fits, objects-one, plain-fits, small-at, source-at, well-at}
+use Rattle.run_histories.proofs.Along.{AllObjectsAreNew, Fits, IsOfOpener, client-fits, among-at, objects-one, plain-fits, well-at}
 use Rattle.run_histories.proofs.Ancestors.{Continues, Inherits, ancestor-on, causes-on, free-on, new-node, node-back, node-has, node-on, one-parent, tree-kept}
+use Rattle.run_histories.proofs.Drawing.{ids_at-of}
 use Rattle.run_histories.proofs.Grounds.{Grounds, IsCarried}
 use Rattle.run_histories.proofs.Origins.{continues}
 use Rattle.run_histories.proofs.Programs.{IsPlain}
 use Rattle.run_histories.proofs.Putting.{PutsFresh, grown as puts-grow, fresh-parent, nodes-one, put-now, rows-kept, trees-one}
 use Rattle.run_histories.proofs.Sized.{changes_sized, normal-in}
-use Rattle.run_histories.proofs.Sources.{known-small, node-apart}
+use Rattle.run_histories.proofs.Sources.{node-apart}
 use Rattle.run_histories.proofs.Walked.{task-carried_on}
 
 some-same : {A : Type 0} (a b : A) → Some a ≡ Some b → a ≡ b
@@ -108,7 +110,7 @@ module _ (initial : InitialLaw) (journal : List Event) (event : Event) (plain : 
   initial-inherits ids node h may = absurd (initial-nodes ids h.tree h.path h.node h.has h.found (subst (MayDrawNode ids) (sym h.same) may))
 
 -- ---- a run
-module _ (draw : Draw) (tasks : List Task) (few : length tasks < 2 ^ 32 - 1) (wells : All IsWellTask tasks) (initial : InitialLaw) (old : List Event) where
+module _ (draw : Draw) (tasks : List Task) (draws : DrawsOnce draw (length tasks)) (wells : All IsWellTask tasks) (initial : InitialLaw) (old : List Event) where
   -- What holds of the journal: it is good and puts nothing again, what its clients' sources may put is new, and each snapshot
   -- has a well-formed tree, and comes from its parent.
   pub record Holds (journal : List Event) : Type 0 where
@@ -117,7 +119,7 @@ module _ (draw : Draw) (tasks : List Task) (few : length tasks < 2 ^ 32 - 1) (we
     pub objects : AllObjectsAreNew draw tasks journal
     pub trees : AllTrees journal
     pub causes : AllCaused journal
-    pub others : (ids : AnyIds) → IsOfAnother tasks ids → IsNewSource ids old → IsNewSource ids journal
+    pub others : (ids : AnyIds) → IsOfAnother draw tasks ids → IsNewSource ids old → IsNewSource ids journal
 
   abbrev pub AllNodesAreNew : List Event → Type 0
   AllNodesAreNew journal = (place : ℕ) → place < length tasks → NodesAreNew (ids_at draw place) journal
@@ -143,7 +145,7 @@ module _ (draw : Draw) (tasks : List Task) (few : length tasks < 2 ^ 32 - 1) (we
     -- what holds still, where what is put fresh is so
     still : ((id : Id12) → PutsFresh journal event (Snapshot id) → HasWellFormedTree (journal ++ event ∷ []) id)
         → ((base id : Id12) → PutsFresh journal event (Snapshot id) → IsChildOf (journal ++ event ∷ []) base id → HasCause (journal ++ event ∷ []) base id)
-        → ((ids : AnyIds) → IsOfAnother tasks ids → (id : Id12) → PutsFresh journal event (Snapshot id) → Inherits ids (journal ++ event ∷ []) id)
+        → ((ids : AnyIds) → IsOfAnother draw tasks ids → (id : Id12) → PutsFresh journal event (Snapshot id) → Inherits ids (journal ++ event ∷ []) id)
         → Holds (journal ++ event ∷ [])
     still tree cause inherits = record {
       good = Each-append IsGood [] journal (event ∷ []) h.good (Each-one IsGood journal event fits.good);
@@ -179,7 +181,7 @@ module _ (draw : Draw) (tasks : List Task) (few : length tasks < 2 ^ 32 - 1) (we
   -- ---- of a task that opens a session
   module _ (start journal : List Event) (event : Event) (c : IsOfOpener draw tasks start journal event) (h : Holds journal) (g : Grounds (ids_at draw c.place) (c.place + 1) start journal) where
     abbrev fits : Fits draw tasks start journal event
-    fits = client-fits draw tasks few wells start journal event c
+    fits = client-fits draw tasks draws wells start journal event c
 
     abbrev ids : AnyIds
     ids = ids_at draw c.place
@@ -248,11 +250,11 @@ module _ (draw : Draw) (tasks : List Task) (few : length tasks < 2 ^ 32 - 1) (we
       session-child = record { snap = owes.snap; made = ap (snap_in id) n.first ∙ owes.read; parent = owes.parent }
 
       -- a node of it is one that the session added, or has the id of one of the base's
-      session-inherits : (other : AnyIds) → client_of other < 2 ^ 32 → client_of other ≢ client_of ids → Inherits other after id
-      session-inherits other small differs node has may =
+      session-inherits : (other : AnyIds) → ((node : Id8) → MayDrawNode ids node → ¬ MayDrawNode other node) → Inherits other after id
+      session-inherits other apart node has may =
           let same = some-same has.tree (overlay (puts_of after) session) (sym has.has ∙ tree-is) in
           elim (node_cases (changes_in (puts_of after) session) (base_tree (puts_of after) session) has.path has.node (ap (λ (u : Tree). node_at u has.path) (sym same) ∙ has.found)) [
-            | inl added ↦ absurd (differs (node-apart other ids node small (small-at draw tasks few c.place within_tasks) may (subst (MayDrawNode ids) has.same (kept.added has.path has.node added))))
+            | inl added ↦ absurd (apart node (subst (MayDrawNode ids) has.same (kept.added has.path has.node added)) may)
             | inr o ↦ record {
               base = session.base;
               child = session-child;
@@ -287,18 +289,19 @@ module _ (draw : Draw) (tasks : List Task) (few : length tasks < 2 ^ 32 - 1) (we
 
     pub client-holds : Holds after
     client-holds = still start journal event fits h session-tree (λ base id n child. cause-of id n base child)
-        (λ other another id n. session-inherits id n other (known-small other another.known) (λ e. another.other c.place within_tasks (e ∙ (source-at draw tasks few c.place within_tasks).1)))
+        (λ other another id n. session-inherits id n other (another c.place within_tasks))
 
     -- what it puts is of its own client, or inherits
     pub client-comes : (place : ℕ) → place < length tasks → (id : Id12) → PutsFresh journal event (Snapshot id) → (event.client ≡ place + 1) ⊎ Inherits (ids_at draw place) after id
     client-comes place within id n = by_place (place == c.place) refl
       where
-        differs : (place == c.place) ≡ false → client_of (ids_at draw place) ≢ client_of ids
-        differs e same =
-            let a = (source-at draw tasks few place within).1 in
-            let b = (source-at draw tasks few c.place within_tasks).1 in
+        apart : (place == c.place) ≡ false → (node : Id8) → MayDrawNode ids node → ¬ MayDrawNode (ids_at draw place) node
+        apart e node own may =
+            let same = node-apart draw (length tasks) draws (ids_at draw place) ids node (among-at draw tasks place within) (among-at draw tasks c.place within_tasks) may own in
+            let a = (ids_at-of draw place).1 in
+            let b = (ids_at-of draw c.place).1 in
             eqb-false place c.place e (omega (arith, a, b, same))
 
         by_place : (b : Bool) → (place == c.place) ≡ b → (event.client ≡ place + 1) ⊎ Inherits (ids_at draw place) after id
         by_place true e = inl (c.client ∙ ap (λ (k : ℕ). k + 1) (sym (eqb-true place c.place e)))
-        by_place false e = inr (session-inherits id n (ids_at draw place) (small-at draw tasks few place within) (differs e))
+        by_place false e = inr (session-inherits id n (ids_at draw place) (apart e))

@@ -1,7 +1,9 @@
 -- The law of runs.
-use Rattle.std.proofs.Common.{◌≡◌, ℕ, List, [], ◌++◌, refl, sym, ◌∙◌, ap, subst}
+use Rattle.std.proofs.Common.{◌≡◌, ℕ, ◌+◌, List, [], ◌++◌, refl, sym, ◌∙◌, ap, subst, arith}
 use Rattle.ice_ids.specs.declared.drawing.AnyIds.{AnyIds}
 use Rattle.ice_ids.specs.declared.drawing.Draw.{Draw}
+use Rattle.ice_ids.specs.Drawing.{IsAmong}
+use Rattle.ice_ids.proofs.Drawn.{count-once}
 use Rattle.zarr_tree.specs.Changes.{Changes, none}
 use Rattle.repo_objects.specs.Laws.{InitialLaw}
 use Rattle.store_api.specs.Journal.{Each, IsFirst, IsGood, IsGoodJournal, IsOnce, IsUnused, WasPut, tree_of}
@@ -22,13 +24,15 @@ use Rattle.repository.specs.Beginning.{begin_program}
 use Rattle.play_tasks.specs.Tasks.{ids_at}
 use Rattle.run_histories.specs.Runs.{AllCaused, AllTrees, IsSound, RanAlone}
 use Rattle.run_histories.specs.Sources.{IsNewRun, IsNewSource, IsOfAnother}
-use Rattle.run_histories.specs.Told.{AllKeepFrozen, BegunLaw, CommitsSession, HasHistories, IsSolved, NoneHidden, NothingLaw, RunLaw}
+use Rattle.run_histories.specs.Told.{AllKeepFrozen, BegunLaw, CommitsSession, HasHistories, IsSolved, NoneHidden, NothingLaw, OthersLaw, RunLaw}
 use Rattle.run_histories.proofs.Along.{Fits, goes}
 use Rattle.run_histories.proofs.Beginnings.{began-at-last}
+use Rattle.run_histories.proofs.Drawing.{AreOf, are-among, ids_at-of}
 use Rattle.run_histories.proofs.Given.{CommitsNormal, before-given, joined, joined-before, joined-right, solved-enter, solved-given}
 use Rattle.run_histories.proofs.Played.{all-frozen, none-hidden}
 use Rattle.run_histories.proofs.Putting.{tree-put}
 use Rattle.run_histories.proofs.Running.{HoldsOf, Known, NodesOf, known-is, run-begins, run-holds, run-known}
+use Rattle.run_histories.proofs.Sources.{node-apart}
 
 -- What a run leaves that goes on a journal.
 record Leaves (draw : Draw) (tasks : List Task) (old start added : List Event) : Type 0 where
@@ -37,7 +41,7 @@ record Leaves (draw : Draw) (tasks : List Task) (old start added : List Event) :
   normal : Each (CommitsNormal draw tasks start) old added
   trees : AllTrees (old ++ added)
   causes : AllCaused (old ++ added)
-  others : (ids : AnyIds) → IsOfAnother tasks ids → IsNewSource ids old → IsNewSource ids (old ++ added)
+  others : (ids : AnyIds) → IsOfAnother draw tasks ids → IsNewSource ids old → IsNewSource ids (old ++ added)
   frozen : AllKeepFrozen draw tasks old (old ++ added)
   unhidden : NoneHidden draw tasks old (old ++ added)
 
@@ -47,7 +51,7 @@ module _ (draw : Draw) (tasks : List Task) where
   whole-law before old start added s new_run l =
       let whole : List Event = old ++ added in
       let Q : List Event → Event → Changes → Type 0 = λ h e c. CommitsSession draw tasks start c h e.client e.op in
-      let g = goes draw tasks start old added s.once (λ place within. (new_run place within).objects) l.fits in
+      let g = goes draw tasks start old added s.once (λ place within. (new_run.sources place within).objects) l.fits in
       let good : Each IsGood old added = Each-weaker (Fits draw tasks start) IsGood (λ h e f. f.good) old added l.fits in
       let all : IsGoodJournal whole = Each-append IsGood [] old added s.good good in
       let once : IsOnce whole = Each-append IsFirst [] old added s.once g.first in
@@ -84,17 +88,17 @@ module _ (draw : Draw) (tasks : List Task) where
 
 pub run-law : InitialLaw → RunLaw
 run-law initial draw tasks before old new s new_run r =
-    let first = run-begins draw tasks initial old new r before s new_run in
-    let nodes : NodesOf draw tasks initial old new r old = λ place within. (new_run place within).nodes in
+    let first = run-begins draw tasks new_run.once initial old new r before s new_run in
+    let nodes : NodesOf draw tasks new_run.once initial old new r old = λ place within. (new_run.sources place within).nodes in
     let added : List Event = r.opening.own ++ (r.playing.own ++ r.closing.own) in
-    let is : new ≡ old ++ added = known-is draw tasks initial old new r in
-    let known : Each (Known draw tasks initial old new r) old added = run-known draw tasks initial old new r first nodes in
-    let last : HoldsOf draw tasks initial old new r (old ++ added) = subst (HoldsOf draw tasks initial old new r) is (run-holds draw tasks initial old new r first nodes) in
+    let is : new ≡ old ++ added = known-is draw tasks new_run.once initial old new r in
+    let known : Each (Known draw tasks new_run.once initial old new r) old added = run-known draw tasks new_run.once initial old new r first nodes in
+    let last : HoldsOf draw tasks new_run.once initial old new r (old ++ added) = subst (HoldsOf draw tasks new_run.once initial old new r) is (run-holds draw tasks new_run.once initial old new r first nodes) in
     subst (λ (h : List Event). HasHistories draw tasks before old h) (sym is)
     (whole-law draw tasks before old r.begun added s new_run (record {
       began = r.opening;
-      fits = Each-weaker (Known draw tasks initial old new r) (Fits draw tasks r.begun) (λ h e k. k.fits) old added known;
-      normal = Each-weaker (Known draw tasks initial old new r) (CommitsNormal draw tasks r.begun) (λ h e k. k.commits) old added known;
+      fits = Each-weaker (Known draw tasks new_run.once initial old new r) (Fits draw tasks r.begun) (λ h e k. k.fits) old added known;
+      normal = Each-weaker (Known draw tasks new_run.once initial old new r) (CommitsNormal draw tasks r.begun) (λ h e k. k.commits) old added known;
       trees = last.trees;
       causes = last.causes;
       others = last.others;
@@ -128,4 +132,12 @@ pub nothing-law : NothingLaw
 nothing-law = (nothing-sound, nothing-new)
 
 pub begun-law : InitialLaw → BegunLaw
-begun-law initial draw tasks new r = run-law initial draw tasks (λ n. none) [] new (nothing-sound (λ n. none)) (λ place within. nothing-new (ids_at draw place)) r
+begun-law initial draw tasks new once r =
+    run-law initial draw tasks (λ n. none) [] new (nothing-sound (λ n. none)) (record { once = once; sources = λ place within. nothing-new (ids_at draw place) }) r
+
+-- ---- sources that count for others
+pub others-law : OthersLaw
+others-law tasks ids most small fits among differs place within id own may =
+    let source : AreOf Draw.Count (place + 1) (ids_at Draw.Count place) = ids_at-of Draw.Count place in
+    let among_too : IsAmong Draw.Count most (ids_at Draw.Count place) = are-among Draw.Count (place + 1) most (ids_at Draw.Count place) (omega (arith, within, fits)) source in
+    differs place within (node-apart Draw.Count most (count-once most small) ids (ids_at Draw.Count place) id among among_too may own ∙ source.1)

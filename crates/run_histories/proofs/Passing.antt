@@ -1,9 +1,10 @@
 -- What holds along the events of a run.
-use Rattle.std.proofs.Common.{◌≡◌, inl, inr, ◌⊎◌, ℕ, ◌+◌, ◌-◌, ◌^◌, ◌<◌, List, [], ◌∷◌, ◌++◌, length, refl, sym, subst, append_assoc, append-nil}
+use Rattle.std.proofs.Common.{◌≡◌, inl, inr, ◌⊎◌, ℕ, ◌+◌, ◌<◌, List, [], ◌∷◌, ◌++◌, length, refl, sym, subst, append_assoc, append-nil}
 use Rattle.std.specs.Prelude.{All}
 use Rattle.std.proofs.lemmas.Option.{slice_get_within}
 use Rattle.ice_ids.specs.declared.Id12.{Id12}
 use Rattle.ice_ids.specs.declared.drawing.Draw.{Draw}
+use Rattle.ice_ids.specs.Drawing.{DrawsOnce}
 use Rattle.repo_objects.specs.Laws.{InitialLaw}
 use Rattle.store_api.specs.Journal.{Each, IsGood, puts_of}
 use Rattle.store_api.specs.declared.events.Event.{Event}
@@ -14,7 +15,7 @@ use Rattle.play_script.specs.Well.{IsWellTask}
 use Rattle.play_script.specs.declared.scripts.Task.{Task}
 use Rattle.play_tasks.specs.Tasks.{ids_at}
 use Rattle.run_histories.specs.Sources.{NodesAreNew}
-use Rattle.run_histories.proofs.Along.{Fits, IsOfOpener, client-fits, plain-fits, plain-no-commit, well-at}
+use Rattle.run_histories.proofs.Along.{Fits, IsOfOpener, among-at, client-fits, plain-fits, plain-no-commit, well-at}
 use Rattle.run_histories.proofs.Ancestors.{Inherits}
 use Rattle.run_histories.proofs.Given.{CommitsNormal}
 use Rattle.run_histories.proofs.Grounds.{Grounds}
@@ -23,14 +24,15 @@ use Rattle.run_histories.proofs.Origins.{AllCome, PutsOverSnapshot, come-one, co
 use Rattle.run_histories.proofs.Programs.{IsPlain}
 use Rattle.run_histories.proofs.Putting.{PutsFresh}
 use Rattle.run_histories.proofs.Sized.{normal-in}
+use Rattle.run_histories.proofs.Sources.{node-spends}
 use Rattle.run_histories.proofs.Walked.{task-carried_on}
 
-module _ (draw : Draw) (tasks : List Task) (few : length tasks < 2 ^ 32 - 1) (wells : All IsWellTask tasks) (initial : InitialLaw) (old : List Event) where
+module _ (draw : Draw) (tasks : List Task) (draws : DrawsOnce draw (length tasks)) (wells : All IsWellTask tasks) (initial : InitialLaw) (old : List Event) where
   abbrev Hold : List Event → Type 0
-  Hold = Holds draw tasks few wells initial old
+  Hold = Holds draw tasks draws wells initial old
 
   abbrev AllNew : List Event → Type 0
-  AllNew = AllNodesAreNew draw tasks few wells initial old
+  AllNew = AllNodesAreNew draw tasks draws wells initial old
 
   -- ---- the tasks began at the start
   module _ (start : List Event) where
@@ -58,7 +60,7 @@ module _ (draw : Draw) (tasks : List Task) (few : length tasks < 2 ^ 32 - 1) (we
     module _ (place : ℕ) (within : place < length tasks) where
       pub known-nodes : (journal : List Event) (event : Event) → IsKnown journal event → PutsNone (place + 1) journal event → NodesAreNew (ids_at draw place) journal → NodesAreNew (ids_at draw place) (journal ++ event ∷ [])
       known-nodes journal event known none =
-          nodes-stay draw tasks few wells initial old start journal event known.fits known.holds (ids_at draw place)
+          nodes-stay draw tasks draws wells initial old start journal event known.fits known.holds (ids_at draw place)
           (λ id now. elim (known.comes place within id now) [
             | inl own ↦ absurd (none own (subst PutsSnapshot (sym now.op_is) tt))
             | inr inherits ↦ inherits
@@ -88,6 +90,7 @@ module _ (draw : Draw) (tasks : List Task) (few : length tasks < 2 ^ 32 - 1) (we
         once = h.once;
         trees = h.trees;
         causes = h.causes;
+        spends = node-spends draw (length tasks) draws (ids_at draw place) (among-at draw tasks place within);
         since = since;
         is = refl;
         new = new;
@@ -104,8 +107,8 @@ module _ (draw : Draw) (tasks : List Task) (few : length tasks < 2 ^ 32 - 1) (we
     plain-one journal event good plain h = record {
       holds = h;
       fits = plain-fits draw tasks start journal event good plain;
-      after = plain-holds draw tasks few wells initial old journal event good plain h;
-      comes = λ place within id now. inr (plain-inherits draw tasks few wells initial old journal event good plain h (ids_at draw place) id now);
+      after = plain-holds draw tasks draws wells initial old journal event good plain h;
+      comes = λ place within id now. inr (plain-inherits draw tasks draws wells initial old journal event good plain h (ids_at draw place) id now);
       commits = λ c branch bytes version id op_is s. absurd (plain-no-commit event.op branch bytes version plain op_is);
     }
 
@@ -113,15 +116,15 @@ module _ (draw : Draw) (tasks : List Task) (few : length tasks < 2 ^ 32 - 1) (we
     unfolding Each
     plain-known journal [] good plain h = tt
     plain-known journal (x ∷ xs) good plain h =
-        (plain-one journal x good.0 plain.0 h, plain-known (journal ++ x ∷ []) xs good.1 plain.1 (plain-holds draw tasks few wells initial old journal x good.0 plain.0 h))
+        (plain-one journal x good.0 plain.0 h, plain-known (journal ++ x ∷ []) xs good.1 plain.1 (plain-holds draw tasks draws wells initial old journal x good.0 plain.0 h))
 
     pub plain-nodes-along : (journal events : List Event) → Each IsGood journal events → Each (λ j e. IsPlain e.op) journal events → Hold journal → AllNew journal → AllNew (journal ++ events)
     unfolding Each
     plain-nodes-along journal [] good plain h new = subst AllNew (sym (append-nil journal)) new
     plain-nodes-along journal (x ∷ xs) good plain h new =
         subst AllNew (append_assoc journal (x ∷ []) xs)
-        (plain-nodes-along (journal ++ x ∷ []) xs good.1 plain.1 (plain-holds draw tasks few wells initial old journal x good.0 plain.0 h)
-        (λ place within. plain-nodes draw tasks few wells initial old journal x good.0 plain.0 h place (new place within)))
+        (plain-nodes-along (journal ++ x ∷ []) xs good.1 plain.1 (plain-holds draw tasks draws wells initial old journal x good.0 plain.0 h)
+        (λ place within. plain-nodes draw tasks draws wells initial old journal x good.0 plain.0 h place (new place within)))
 
     -- ---- the run
     module _ (new : AllNew start) (since : List Event) (known : Each IsKnown start since) (h : Hold (start ++ since)) where
@@ -143,9 +146,9 @@ module _ (draw : Draw) (tasks : List Task) (few : length tasks < 2 ^ 32 - 1) (we
           let g = grounds-at c.place (slice_get_within tasks c.place c.task c.at) in
           record {
             holds = h;
-            fits = client-fits draw tasks few wells start here event c;
-            after = client-holds draw tasks few wells initial old start here event c h g;
-            comes = client-comes draw tasks few wells initial old start here event c h g;
+            fits = client-fits draw tasks draws wells start here event c;
+            after = client-holds draw tasks draws wells initial old start here event c h g;
+            comes = client-comes draw tasks draws wells initial old start here event c h g;
             commits = commit-normal event;
           }
       known-one event (inr p) = plain-one here event p.0 p.1 h

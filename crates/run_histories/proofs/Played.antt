@@ -37,16 +37,16 @@ all-front P (x ∷ xs) ys all = All-cons P x xs (All-head P x (xs ++ ys) all) (a
 
 module _ (initial : InitialLaw) (draw : Draw) (tasks : List Task) (before : ℕ → Changes) (old new : List Event) (sound_old : IsSound old before) (new_run : IsNewRun draw tasks old) (r : IsRun draw tasks old new) where
   abbrev Hold : List Event → Type 0
-  Hold = HoldsOf draw tasks initial old new r
+  Hold = HoldsOf draw tasks new_run.once initial old new r
 
   at_first : Hold old
-  at_first = run-begins draw tasks initial old new r before sound_old new_run
+  at_first = run-begins draw tasks new_run.once initial old new r before sound_old new_run
 
-  nodes_first : NodesOf draw tasks initial old new r old
-  nodes_first place within = (new_run place within).nodes
+  nodes_first : NodesOf draw tasks new_run.once initial old new r old
+  nodes_first place within = (new_run.sources place within).nodes
 
   at_last : Hold new
-  at_last = run-holds draw tasks initial old new r at_first nodes_first
+  at_last = run-holds draw tasks new_run.once initial old new r at_first nodes_first
 
   module _ (start : List Event) (opening : RanAlone begin_program old start) (place : ℕ) (task : Task) (t : SessionState) (at : slice_get tasks place ≡ Some task) (w : WasPlayed (ids_at draw place) task (place + 1) start t new) where
     abbrev ids : AnyIds
@@ -57,7 +57,7 @@ module _ (initial : InitialLaw) (draw : Draw) (tasks : List Task) (before : ℕ 
     since = w.begun.got.own.since ++ w.begun.got.own.event ∷ w.begun.got.own.after
 
     abbrev Here : List Event → Event → Type 0
-    Here = Known draw tasks initial old new r
+    Here = Known draw tasks new_run.once initial old new r
 
     goes-on : new ≡ start ++ since
     goes-on =
@@ -68,8 +68,8 @@ module _ (initial : InitialLaw) (draw : Draw) (tasks : List Task) (before : ℕ 
     known-since =
         let all = r.opening.own ++ (r.playing.own ++ r.closing.own) in
         let whole : old ++ all ≡ old ++ (opening.own ++ since) =
-        sym (known-is draw tasks initial old new r) ∙ goes-on ∙ ap (λ (j : List Event). j ++ since) opening.is ∙ append_assoc old opening.own since in
-        let each = subst (Each Here old) (append_cancel_left old all (opening.own ++ since) whole) (run-known draw tasks initial old new r at_first nodes_first) in
+        sym (known-is draw tasks new_run.once initial old new r) ∙ goes-on ∙ ap (λ (j : List Event). j ++ since) opening.is ∙ append_assoc old opening.own since in
+        let each = subst (Each Here old) (append_cancel_left old all (opening.own ++ since) whole) (run-known draw tasks new_run.once initial old new r at_first nodes_first) in
         subst (λ (j : List Event). Each Here j since) (sym opening.is) (Each-back Here old opening.own since each).1
 
     -- its client had put no snapshot when it began
@@ -77,7 +77,7 @@ module _ (initial : InitialLaw) (draw : Draw) (tasks : List Task) (before : ℕ 
     grounds-new =
         let within : place < length tasks = slice_get_within tasks place task at in
         subst (Grounds ids (place + 1) start) (sym goes-on)
-        (grounds draw tasks r.few r.well initial old r.begun place within start since known-since (subst Hold goes-on at_last) (opening-nodes draw tasks initial old new r start opening at_first nodes_first place within))
+        (grounds draw tasks new_run.once r.well initial old r.begun place within start since known-since (subst Hold goes-on at_last) (opening-nodes draw tasks new_run.once initial old new r start opening at_first nodes_first place within))
 
     played-carried : IsCarried ids new t
     played-carried =

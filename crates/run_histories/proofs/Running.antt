@@ -1,6 +1,7 @@
 -- What holds along a run.
-use Rattle.std.proofs.Common.{◌≡◌, inr, ℕ, List, ◌++◌, sym, ◌∙◌, ap, subst, append_assoc}
+use Rattle.std.proofs.Common.{◌≡◌, inr, ℕ, List, ◌++◌, length, sym, ◌∙◌, ap, subst, append_assoc}
 use Rattle.ice_ids.specs.declared.drawing.Draw.{Draw}
+use Rattle.ice_ids.specs.Drawing.{DrawsOnce}
 use Rattle.zarr_tree.specs.Changes.{Changes}
 use Rattle.repo_objects.specs.Laws.{InitialLaw}
 use Rattle.store_api.specs.Journal.{Each, IsGood}
@@ -17,31 +18,31 @@ use Rattle.run_histories.proofs.Growing.{AllNodesAreNew, Holds}
 use Rattle.run_histories.proofs.Passing.{IsKnown, IsOfRun, holds-along, plain-known, plain-nodes-along, run-knows}
 use Rattle.run_histories.proofs.Programs.{IsPlain, begin-plain, path-plain, refs-plain}
 
-module _ (draw : Draw) (tasks : List Task) where
+module _ (draw : Draw) (tasks : List Task) (draws : DrawsOnce draw (length tasks)) where
   -- what holds at the end of a run
   module _ (initial : InitialLaw) (old new : List Event) (r : IsRun draw tasks old new) where
     abbrev pub HoldsOf : List Event → Type 0
-    HoldsOf journal = Holds draw tasks r.few r.well initial old journal
+    HoldsOf journal = Holds draw tasks draws r.well initial old journal
 
     pub run-begins : (before : ℕ → Changes) → IsSound old before → IsNewRun draw tasks old → HoldsOf old
     run-begins before s new_run = record {
       good = s.good;
       once = s.once;
-      objects = λ place within. (new_run place within).objects;
+      objects = λ place within. (new_run.sources place within).objects;
       trees = s.trees;
       causes = s.causes;
       others = λ ids another is_new. is_new;
     }
 
     abbrev pub NodesOf : List Event → Type 0
-    NodesOf journal = AllNodesAreNew draw tasks r.few r.well initial old journal
+    NodesOf journal = AllNodesAreNew draw tasks draws r.well initial old journal
 
     -- all that came is known: of the opening, of the tasks, and of the closing reading
     abbrev pub Known : List Event → Event → Type 0
-    Known = IsKnown draw tasks r.few r.well initial old r.begun
+    Known = IsKnown draw tasks draws r.well initial old r.begun
 
     abbrev OfRun : List Event → Event → Type 0
-    OfRun = IsOfRun draw tasks r.few r.well initial old r.begun
+    OfRun = IsOfRun draw tasks draws r.well initial old r.begun
 
     run-each : Each OfRun r.begun (r.playing.own ++ r.closing.own)
     run-each =
@@ -55,16 +56,16 @@ module _ (draw : Draw) (tasks : List Task) where
     pub opening-nodes : (start : List Event) → RanAlone begin_program old start → HoldsOf old → NodesOf old → NodesOf start
     opening-nodes start q h nodes =
         let plain = path-plain begin_program old q.own q.left begin-plain q.path in
-        subst NodesOf (sym q.is) (plain-nodes-along draw tasks r.few r.well initial old r.begun old q.own q.good plain h nodes)
+        subst NodesOf (sym q.is) (plain-nodes-along draw tasks draws r.well initial old r.begun old q.own q.good plain h nodes)
 
     pub run-known : HoldsOf old → NodesOf old → Each Known old (r.opening.own ++ (r.playing.own ++ r.closing.own))
     run-known h nodes =
         let plain = path-plain begin_program old r.opening.own r.opening.left begin-plain r.opening.path in
-        let opening : Each Known old r.opening.own = plain-known draw tasks r.few r.well initial old r.begun old r.opening.own r.opening.good plain h in
-        let begun : HoldsOf r.begun = subst HoldsOf (sym r.opening.is) (holds-along draw tasks r.few r.well initial old r.begun old r.opening.own opening h) in
+        let opening : Each Known old r.opening.own = plain-known draw tasks draws r.well initial old r.begun old r.opening.own r.opening.good plain h in
+        let begun : HoldsOf r.begun = subst HoldsOf (sym r.opening.is) (holds-along draw tasks draws r.well initial old r.begun old r.opening.own opening h) in
         Each-append Known old r.opening.own (r.playing.own ++ r.closing.own) opening
         (subst (λ (j : List Event). Each Known j (r.playing.own ++ r.closing.own)) r.opening.is
-        (run-knows draw tasks r.few r.well initial old r.begun (r.playing.own ++ r.closing.own) run-each begun (opening-nodes r.begun r.opening h nodes)))
+        (run-knows draw tasks draws r.well initial old r.begun (r.playing.own ++ r.closing.own) run-each begun (opening-nodes r.begun r.opening h nodes)))
 
     pub known-is : new ≡ old ++ (r.opening.own ++ (r.playing.own ++ r.closing.own))
     known-is =
@@ -76,4 +77,4 @@ module _ (draw : Draw) (tasks : List Task) where
 
     pub run-holds : HoldsOf old → NodesOf old → HoldsOf new
     run-holds h nodes =
-        subst HoldsOf (sym known-is) (holds-along draw tasks r.few r.well initial old r.begun old (r.opening.own ++ (r.playing.own ++ r.closing.own)) (run-known h nodes) h)
+        subst HoldsOf (sym known-is) (holds-along draw tasks draws r.well initial old r.begun old (r.opening.own ++ (r.playing.own ++ r.closing.own)) (run-known h nodes) h)

@@ -1,5 +1,5 @@
 -- Runs of tasks over one store on which nobody else acts (own).
-use Rattle.std.specs.Prelude.{◌≡◌, ℕ, ◌<◌, ◌-◌, ◌^◌, List, [], ◌∷◌, ◌++◌, length, true, Some, All}
+use Rattle.std.specs.Prelude.{◌≡◌, ℕ, List, [], ◌∷◌, ◌++◌, true, Some, All}
 use Rattle.std.specs.FinMap.{get}
 use Rattle.ice_ids.specs.declared.Id8.{Id8}
 use Rattle.ice_ids.specs.declared.Id12.{Id12}
@@ -105,7 +105,6 @@ pub record PlayedAlone (draw : Draw) (tasks : List Task) (old new : List Event) 
 -- From old to new a repository was begun, where there was none, then the tasks of a script were played, and then the refs
 -- were read; nobody else acted.
 pub record IsRun (draw : Draw) (tasks : List Task) (old new : List Event) : Type 0 where
-  pub few : length tasks < 2 ^ 32 - 1
   pub well : All IsWellTask tasks
   pub begun : List Event
   pub played : List Event

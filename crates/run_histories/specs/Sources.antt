@@ -1,9 +1,10 @@
 -- Sources of ids whose draws are new to a journal (own).
-use Rattle.std.specs.Prelude.{◌≡◌, ◌≢◌, ℕ, ◌+◌, ◌<◌, List, length, Some}
+use Rattle.std.specs.Prelude.{◌≡◌, ℕ, ◌<◌, List, length, Some}
+use Rattle.ice_ids.specs.declared.Id8.{Id8}
 use Rattle.ice_ids.specs.declared.Id12.{Id12}
 use Rattle.ice_ids.specs.declared.drawing.AnyIds.{AnyIds}
 use Rattle.ice_ids.specs.declared.drawing.Draw.{Draw}
-use Rattle.ice_ids.specs.Drawing.{IsAnyIds, client_of}
+use Rattle.ice_ids.specs.Drawing.{DrawsOnce}
 use Rattle.zarr_tree.specs.Nodes.{Node}
 use Rattle.zarr_tree.specs.Trees.{Tree, node_at}
 use Rattle.store_api.specs.declared.keys.Key.TheVariants.{Snapshot, Manifest, Txn, Chunk}
@@ -33,11 +34,11 @@ pub record IsNewSource (ids : AnyIds) (journal : List Event) : Type 0 where
   pub objects : ObjectsAreNew ids journal
   pub nodes : NodesAreNew ids journal
 
--- the sources of a run's clients are new to the journal that the run goes on
-abbrev pub IsNewRun : Draw → List Task → List Event → Type 0
-IsNewRun draw tasks journal = (place : ℕ) → place < length tasks → IsNewSource (ids_at draw place) journal
+-- the clients of a run draw no id twice, and their sources are new to the journal that the run goes on
+pub record IsNewRun (draw : Draw) (tasks : List Task) (journal : List Event) : Type 0 where
+  pub once : DrawsOnce draw (length tasks)
+  pub sources : (place : ℕ) → place < length tasks → IsNewSource (ids_at draw place) journal
 
--- a source of a client that isn't one of a run's
-pub record IsOfAnother (tasks : List Task) (ids : AnyIds) : Type 0 where
-  pub known : IsAnyIds ids
-  pub other : (place : ℕ) → place < length tasks → client_of ids ≢ place + 1
+-- a source that draws no node id which one of a run's may draw
+abbrev pub IsOfAnother : Draw → List Task → AnyIds → Type 0
+IsOfAnother draw tasks ids = (place : ℕ) → place < length tasks → (id : Id8) → MayDrawNode (ids_at draw place) id → ¬ MayDrawNode ids id

@@ -1,8 +1,9 @@
 -- What a run leaves of the branches' histories, in words of its tasks (own).
-use Rattle.std.specs.Prelude.{◌≡◌, ℕ, ◌+◌, ◌<◌, Bool, true, List, [], ◌++◌, length, Option, Some, slice_get}
+use Rattle.std.specs.Prelude.{◌≡◌, ◌≢◌, ℕ, ◌+◌, ◌<◌, ◌≤◌, ◌^◌, Bool, true, List, [], ◌++◌, length, Option, Some, slice_get}
 use Rattle.ice_ids.specs.declared.Id12.{Id12}
 use Rattle.ice_ids.specs.declared.drawing.AnyIds.{AnyIds}
 use Rattle.ice_ids.specs.declared.drawing.Draw.{Draw}
+use Rattle.ice_ids.specs.Drawing.{client_of, IsAmong, DrawsOnce}
 use Rattle.zarr_tree.specs.Trees.{Tree}
 use Rattle.zarr_tree.specs.Changes.{Changes, none, IsNormal}
 use Rattle.repo_objects.specs.declared.bad.Bad.{Bad}
@@ -161,8 +162,8 @@ NoneHidden draw tasks old new = (start since : List Event) (place : ℕ) (task :
 -- After a run, whose tasks began at `start`: the changes for each position are those before it, and for each commit that it added those of a session
 -- of its client's task; each commit that took effect follows on the entry before it; each session that was opened began
 -- at the last entry of its branch, or at its tag as that stood, or at the snapshot of its id, and keeps through its lines what stays of its nodes'
--- metadata; and no log hides a node from one that is rebased. With these changes the journal is sound, and what the source of another client may draw
--- is new to it where it was before, so that a run of other clients may go on; the histories run over its calls, and so do the states of the tags; the
+-- metadata; and no log hides a node from one that is rebased. With these changes the journal is sound, and what another source may draw
+-- is new to it where it was before, so that another run may go on; the histories run over its calls, and so do the states of the tags; the
 -- branches stand as their histories say, and the tags as their states do; and a tag that was there before is as it was, or was dropped. Trees are by
 -- what was put in the whole journal.
 pub record HasHistories (draw : Draw) (tasks : List Task) (before : ℕ → Changes) (old new : List Event) : Type 0 where
@@ -178,7 +179,7 @@ pub record HasHistories (draw : Draw) (tasks : List Task) (before : ℕ → Chan
   pub frozen : AllKeepFrozen draw tasks old new
   pub unhidden : NoneHidden draw tasks old new
   pub sound : IsSound new changes
-  pub others : (ids : AnyIds) → IsOfAnother tasks ids → IsNewSource ids old → IsNewSource ids new
+  pub others : (ids : AnyIds) → IsOfAnother draw tasks ids → IsNewSource ids old → IsNewSource ids new
   pub history : IsHistory (tree_of new) changes new
   pub stand : BranchesStand (tree_of new) changes new
   pub tags : Each (TagAgrees (tree_of new)) [] new
@@ -189,9 +190,14 @@ pub record HasHistories (draw : Draw) (tasks : List Task) (before : ℕ → Chan
 abbrev pub RunLaw : Type 0
 RunLaw = (draw : Draw) (tasks : List Task) (before : ℕ → Changes) (old new : List Event) → IsSound old before → IsNewRun draw tasks old → IsRun draw tasks old new → HasHistories draw tasks before old new
 
--- of a run over an empty store
+-- of a run over an empty store, whose clients draw no id twice, as it always is where they count
 abbrev pub BegunLaw : Type 0
-BegunLaw = (draw : Draw) (tasks : List Task) (new : List Event) → IsRun draw tasks [] new → HasHistories draw tasks (λ n. none) [] new
+BegunLaw = (draw : Draw) (tasks : List Task) (new : List Event) → DrawsOnce draw (length tasks) → IsRun draw tasks [] new → HasHistories draw tasks (λ n. none) [] new
+
+-- Sources that count for other clients than a run's, which counts too, draw no node id of these.
+abbrev pub OthersLaw : Type 0
+OthersLaw = (tasks : List Task) (ids : AnyIds) (most : ℕ) → most < 2 ^ 32 → length tasks ≤ most → IsAmong Draw.Count most ids
+    → ((place : ℕ) → place < length tasks → client_of ids ≢ place + 1) → IsOfAnother Draw.Count tasks ids
 
 -- the journal of an empty store is sound, and each source is new to it
 abbrev pub NothingLaw : Type 0

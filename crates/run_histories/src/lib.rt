@@ -1,7 +1,7 @@
 //! The theorem of a run: the tasks of a script, played over one store, keep the histories of its branches.
 #![tactic(auto)]
 
-ghost use Rattle.run_histories.specs.Told.{BegunLaw, NothingLaw, RunLaw};
+ghost use Rattle.run_histories.specs.Told.{BegunLaw, NothingLaw, OthersLaw, RunLaw};
 
 use repo_objects::initial_law;
 
@@ -15,12 +15,18 @@ pub fn run_law()
     initial_law();
 }
 
-/// The same of a run over an empty store, with no premise on what stood there.
+/// The same of a run over an empty store, with no premise on what stood there: where its clients draw no id twice, as it
+/// always is by counting.
 pub fn begun_law()
     ensures { BegunLaw }
 {
     initial_law();
 }
+
+/// Another run's source draws no node id of a run's where both count, for other clients.
+pub fn others_law()
+    ensures { OthersLaw }
+{}
 
 /// The journal of an empty store is sound, and each source of ids is new to it.
 pub fn nothing_law()

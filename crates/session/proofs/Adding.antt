@@ -4,10 +4,9 @@ use Rattle.std.specs.Prelude.{nat_le, not, ◌&&◌, if◌then◌else◌, Option
 use Rattle.std.specs.FinMap.{FinMap, get, insert, len, contains_key, len-insert}
 use Rattle.std.proofs.lemmas.Bool.Decides.{nat_tests}
 use Rattle.ice_ids.specs.declared.Id8.{Id8}
-use Rattle.ice_ids.specs.declared.drawing.CountIds.{CountIds}
 use Rattle.ice_ids.specs.declared.drawing.AnyIds.{AnyIds}
-use Rattle.ice_ids.specs.declared.drawing.AnyIds.TheVariants.{Count}
-use Rattle.ice_ids.specs.Drawing.{drawn8, after8, is_spent, counted8}
+use Rattle.ice_ids.specs.declared.drawing.AnyIds.TheVariants.{Count, Stream}
+use Rattle.ice_ids.specs.Drawing.{drawn8, after8, is_spent, counted8, is_dry, streamed8}
 use Rattle.zarr_path.specs.Paths.{path_cmp, same_path, root, parent_of}
 use Rattle.zarr_path.proofs.OrderLaws.{total}
 use Rattle.zarr_meta.specs.declared.faults.MetaFault.{MetaFault}
@@ -88,12 +87,13 @@ module _ (s : SessionState) (p text : List ℕ) where
       → entered s p text ≡ Ok (id, record s { held = held; ids = ids })
   there id held ids n i r h = by_draw (Some id) r n ∙ sym (ap (λ (x : Held Place). Ok (id, record s { held = x; ids = after8 s.ids })) h) ∙ sym (ap (λ (x : AnyIds). Ok (id, record s { held = held; ids = x })) i)
 
-by_counter : (b : Bool) (x : Id8) (old new : CountIds) → ◌≡◌ {A = Option Id8} (if b then None else Some x) None → Count (if b then old else new) ≡ Count old
+by_counter : {A : Type 0} (b : Bool) (x : Id8) (old new : A) → ◌≡◌ {A = Option Id8} (if b then None else Some x) None → (if b then old else new) ≡ old
 by_counter true x old new e = refl
 by_counter false x old new e = absurd (cc)
 
 pub same_after : (ids : AnyIds) → drawn8 ids ≡ None → after8 ids ≡ ids
-same_after (Count ids) n = by_counter (is_spent ids) (counted8 ids.client ids.counter) ids (record ids { counter = ids.counter + 1 }) n
+same_after (Count ids) n = ap Count (by_counter (is_spent ids) (counted8 ids.client ids.counter) ids (record ids { counter = ids.counter + 1 }) n)
+same_after (Stream ids) n = ap Stream (by_counter (is_dry ids) (streamed8 ids) ids (record ids { counter = ids.counter + 1 }) n)
 
 -- ---- and the tree has no more nodes than it may
 lower : (a b : ℕ) → nat_le a b ≡ false → b < a

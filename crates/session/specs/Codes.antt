@@ -2,7 +2,7 @@
 use Rattle.std.specs.Prelude.{◌≡◌, ℕ, List, Option, Some, None, refl}
 use Rattle.std.specs.Coded.{Coded, coded_ℕ, coded×, coded_list, coded_option, code_by}
 use Rattle.ice_ids.specs.declared.drawing.AnyIds.{AnyIds}
-use Rattle.ice_ids.specs.declared.drawing.AnyIds.TheVariants.{Count}
+use Rattle.ice_ids.specs.declared.drawing.AnyIds.TheVariants.{Count, Stream}
 use Rattle.manifest_file.specs.declared.manifest.Place.{Place}
 use Rattle.snapshot_file.specs.declared.nodes.ManifestRef.{ManifestRef}
 use Rattle.snapshot_file.specs.declared.nodes.NodeKind.{NodeKind}
@@ -58,17 +58,23 @@ abbrev pub coded_file : Coded ManifestInfo
 coded_file = code_by (List ℕ × (ℕ × ℕ)) (coded× coded_path (coded× coded_ℕ coded_ℕ)) (λ file. (file.id.0, (file.size, file.refs))) (λ p. record { id = record { 0 = p.0 }; size = p.1.0; refs = p.1.1 }) (λ _. refl)
 
 -- ---- sources of ids
-abbrev pub counts : AnyIds → ℕ × ℕ
-counts (Count c) = (c.client, c.counter)
+abbrev pub Counts : Type 0
+Counts = Option (List ℕ) × (ℕ × ℕ)
 
-abbrev pub ids_of : ℕ × ℕ → AnyIds
-ids_of p = Count (record { client = p.0; counter = p.1 })
+abbrev pub counts : AnyIds → Counts
+counts (Count c) = (None, (c.client, c.counter))
+counts (Stream c) = (Some c.seed, (c.client, c.counter))
 
-pub same-ids : (ids : AnyIds) → ids_of (counts ids) ≡ ids
+abbrev pub ids_by : Option (List ℕ) → ℕ × ℕ → AnyIds
+ids_by None p = Count (record { client = p.0; counter = p.1 })
+ids_by (Some seed) p = Stream (record { seed = seed; client = p.0; counter = p.1 })
+
+pub same-ids : (ids : AnyIds) → ids_by (counts ids).0 (counts ids).1 ≡ ids
 same-ids (Count c) = refl
+same-ids (Stream c) = refl
 
 abbrev pub coded_ids : Coded AnyIds
-coded_ids = code_by (ℕ × ℕ) (coded× coded_ℕ coded_ℕ) counts ids_of same-ids
+coded_ids = code_by Counts (coded× (coded_option coded_path) (coded× coded_ℕ coded_ℕ)) counts (λ p. ids_by p.0 p.1) same-ids
 
 -- ---- sessions
 abbrev pub coded_tip : Coded Tip

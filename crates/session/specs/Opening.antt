@@ -3,8 +3,7 @@ use Rattle.std.specs.Prelude.{ℕ, ◌+◌, if◌then◌else◌, Bool, Option, S
 use Rattle.ice_ids.specs.declared.drawing.AnyIds.{AnyIds}
 use Rattle.snapshot_file.specs.declared.snapshot.SnapshotFile.{SnapshotFile}
 use Rattle.zarr_changes.specs.Edits.{nothing}
-use Rattle.store_api.specs.declared.machines.Refusal.{Refusal}
-use Rattle.store_api.specs.declared.machines.Refusal.TheVariants.{NoRef, Missing, BadFile, StoreFault, NoMemory}
+use Rattle.store_api.specs.declared.machines.Refusal.TheVariants.{NoMemory}
 use Rattle.store_api.specs.Program.{Done}
 use Rattle.store_api.specs.Running.{Program, ◌>>=◌}
 use Rattle.store_api.specs.declared.events.Version.{Version}
@@ -68,12 +67,3 @@ opening_left Ended = 0
 -- how many steps are left
 abbrev pub open_left : Open → ℕ
 open_left o = opening_left o.state
-
--- the refusals of an opening
-abbrev pub MayRefuseOpen : Refusal → Type 0
-MayRefuseOpen NoRef = Unit {0}
-MayRefuseOpen (Missing key) = Unit {0}
-MayRefuseOpen (BadFile key bad) = Unit {0}
-MayRefuseOpen StoreFault = Unit {0}
-MayRefuseOpen NoMemory = Unit {0}
-MayRefuseOpen _ = ⊥

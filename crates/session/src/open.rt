@@ -5,7 +5,8 @@ ghost use Rattle.repo_read.specs.declared.resolving.At.TheVariants as At;
 ghost use Rattle.repo_read.specs.Seeking.{resolving_left};
 ghost use Rattle.store_api.specs.Program.{IsAsk, Steps};
 ghost use Rattle.store_api.specs.Driving.{Awaits, Took};
-ghost use Rattle.session.specs.Opening.{open_program, base_program, opening_rest, open_rest, open_left, asked, tip_for, MayRefuseOpen};
+ghost use Rattle.repo_read.specs.Resolving.{MayRefuseBase};
+ghost use Rattle.session.specs.Opening.{open_program, base_program, opening_rest, open_rest, open_left, asked, tip_for};
 
 use crate::Session;
 use crate::opening::Opening;
@@ -37,7 +38,7 @@ impl Machine for Open {
 
     ghost keeps = { λ old new. Unit {0} };
 
-    ghost may_refuse = { MayRefuseOpen };
+    ghost may_refuse = { MayRefuseBase };
 
     fn request(&self) -> Result<Request<'_>, AllocError> {
         match &self.state {
@@ -104,7 +105,7 @@ impl Open {
         requires { IsAsk (open_rest self.old) }
         ensures step { Steps (S.view store.old) (S.view store.new) (open_rest self.old) (open_rest self.new) result }
         ensures falls { open_left self.new < open_left self.old }
-        ensures listed { IfErr result MayRefuseOpen }
+        ensures listed { IfErr result MayRefuseBase }
     {
         drive(self, store)
     }
@@ -114,7 +115,7 @@ impl Open {
         requires awaited { Awaits (opening_rest (asked self.old) (Opening.Naming resolving)) reply }
         ensures took { Took (opening_rest (asked self.old) (Opening.Naming resolving)) reply (open_rest self.new) result }
         ensures falls { open_left self.new < resolving_left resolving + 1 }
-        ensures listed { IfErr result MayRefuseOpen }
+        ensures listed { IfErr result MayRefuseBase }
     {
         self.state = match resolving.on_reply(self.alloc, reply)? {
             Resolution::Known(named) => Opening::Base(named),
@@ -128,7 +129,7 @@ impl Open {
         requires awaited { Awaits (base_program (asked self.old) named) reply }
         ensures took { Took (base_program (asked self.old) named) reply (open_rest self.new) result }
         ensures falls { open_left self.new < 1 }
-        ensures listed { IfErr result MayRefuseOpen }
+        ensures listed { IfErr result MayRefuseBase }
     {
         let loaded = base_told(self.alloc, &self.at, named.id, reply)?;
         let Ok(tip) = self.tip(named) else {

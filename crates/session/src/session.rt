@@ -105,13 +105,14 @@ impl Session {
         }
     }
 
-    /// The version at which that branch named the base; 0 where it only reads.
+    /// The version at which that branch named the base.
     pub fn version(&self) -> Version
+        requires { writes self.now ≡ true }
         ensures { result.0 ≡ version_of self.now }
     {
         match &self.tip {
             Some(tip) => tip.version,
-            None => Version(0),
+            None => unreachable!(),
         }
     }
 

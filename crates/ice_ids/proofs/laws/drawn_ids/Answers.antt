@@ -1,17 +1,11 @@
-use Rattle.ice_ids.proofs.Drawn.{drawn12-same, drawn8-same, drawn12-not_initial, drawn12-raises, drawn8-raises}
+use Rattle.ice_ids.proofs.Drawn.{count-once, drawn12-lowers, drawn8-lowers}
 use Rattle.ice_ids.proofs.laws.drawn_ids.Goals as goal
 
-pub returns-clause-objects : goal.returns-clause-objects
-returns-clause-objects c = drawn12-same
+pub returns-clause-once : goal.returns-clause-once
+returns-clause-once c = count-once
 
-pub returns-clause-nodes : goal.returns-clause-nodes
-returns-clause-nodes c = drawn8-same
+pub returns-clause-lowered : goal.returns-clause-lowered
+returns-clause-lowered c = drawn12-lowers
 
-pub returns-clause-initial : goal.returns-clause-initial
-returns-clause-initial c = drawn12-not_initial
-
-pub returns-clause-raised : goal.returns-clause-raised
-returns-clause-raised c = drawn12-raises
-
-pub returns-clause-raised_too : goal.returns-clause-raised_too
-returns-clause-raised_too c = drawn8-raises
+pub returns-clause-lowered_too : goal.returns-clause-lowered_too
+returns-clause-lowered_too c = drawn8-lowers
