@@ -229,7 +229,8 @@ pub(crate) fn rows_over<'a>(
 {
     let old = base.file().nodes.as_slice();
     let mut left = changes.over(base);
-    let mut nodes = Vec::with_capacity(alloc, old.len())?;
+    let most = old.len().saturating_add(changes.added_len());
+    let mut nodes = Vec::with_capacity(alloc, most)?;
     while let Some(row) = left.next() {
         nodes.push(row)?;
     }

@@ -2,23 +2,32 @@
 
 ghost use Rattle.std.specs.Prelude.{◌≡◌, [], ◌∷◌, not, IfOk, OnOk, OnErr, IfSome, MatchOption, IsTrue};
 ghost use Rattle.std.specs.String.{string_bytes};
+ghost use Rattle.std.specs.Arc.{arc_value};
 ghost use Rattle.zarr_path.specs.Paths.{is_path, is_within};
 ghost use Rattle.zarr_changes.specs.Rows.{row_found, IsInOrder};
 ghost use Rattle.zarr_changes.specs.inside.Touching.{has_metadata};
 ghost use Rattle.std.specs.Option.{option_copied};
 ghost use Rattle.std.specs.FinMap as map;
 
+use crate::kinds::is_group;
+use crate::shared::{SharedNode, same};
+use ice_ids::Id8;
 use std::alloc::{AllocError, Global};
 use std::collections::BTreeMap;
 use std::collections::btree_map::Iter;
 use std::marker::Model;
+use std::sync::Arc;
+use zarr_meta::Meta;
 use zarr_path::{Path, is_within};
-use zarr_tree::{Found, Node};
+use zarr_tree::Found;
 
-/// Nodes by their paths. Contracts see a finite map from the bytes of the paths.
+/// Nodes by their paths. Contracts see a finite map from the bytes of the paths. The metadata of the last group and of the
+/// last array is kept, and the next one with its text shares it.
 #[derive(Debug, Drop)]
 pub(crate) struct Added {
-    nodes: BTreeMap<String, Node>,
+    nodes: BTreeMap<String, SharedNode>,
+    group: Option<Arc<Meta>>,
+    array: Option<Arc<Meta>>,
 }
 
 impl Model for Added {
@@ -45,6 +54,8 @@ impl Added {
     {
         Added {
             nodes: BTreeMap::new(alloc),
+            group: None,
+            array: None,
         }
     }
 
@@ -63,27 +74,66 @@ impl Added {
     }
 
     /// The node at a path. It takes no memory.
-    pub(crate) fn find(&self, path: &str) -> Option<&Node>
+    pub(crate) fn find(&self, path: &str) -> Option<&SharedNode>
         ensures { option_copied result ≡ map.get self.now path.now }
     {
         self.nodes.get(path)
     }
 
-    /// Enters a node at a path, in place of one that stands there. Where memory runs out, all is as before.
+    /// The metadata that is kept, where it has the text of this.
+    fn kept(&self, meta: &Meta) -> Option<&Arc<Meta>>
+        ensures { IfSome result (λ kept. (arc_value kept.now).text ≡ meta.now.text) }
+    {
+        if is_group(meta) {
+            same(&self.group, meta)
+        } else {
+            same(&self.array, meta)
+        }
+    }
+
+    /// Keeps metadata, for the next node to share.
+    fn keep(&mut self, meta: Arc<Meta>)
+        ensures { self.new ≡ self.old }
+    {
+        if is_group(&meta) {
+            self.group = Some(meta);
+        } else {
+            self.array = Some(meta);
+        }
+    }
+
+    /// Metadata of this text for a node: what is kept, where it has the text, and else this, which is kept from now on.
+    fn share(&mut self, alloc: Global, meta: Meta) -> Result<Arc<Meta>, AllocError>
+        ensures text { IfOk result (λ shared. (arc_value shared).text ≡ meta.text) }
+        ensures same { self.new ≡ self.old }
+    {
+        if let Some(kept) = self.kept(&meta) {
+            return Arc::try_clone(kept);
+        }
+        let meta = Arc::new(alloc, meta)?;
+        self.keep(Arc::try_clone(&meta)?);
+        Ok(meta)
+    }
+
+    /// Enters a node of this id with this metadata at a path, in place of one that stands there. Where memory runs out, all
+    /// is as before.
     pub(crate) fn insert(
         &mut self,
         alloc: Global,
         path: &Path,
-        node: Node,
+        id: Id8,
+        meta: Meta,
     ) -> Result<(), AllocError>
-        ensures ok { OnOk result (self.new ≡ map.insert self.old path.now node) }
+        ensures ok { OnOk result (self.new ≡ map.insert self.old path.now (record { id = id; text = meta.text })) }
         ensures err { OnErr result (self.new ≡ self.old) }
     {
-        self.enter(String::from_str(alloc, path.as_str())?, node)
+        let text = String::from_str(alloc, path.as_str())?;
+        let meta = self.share(alloc, meta)?;
+        self.enter(text, SharedNode::new(id, meta))
     }
 
     /// Enters a node at the path of this text.
-    fn enter(&mut self, text: String, node: Node) -> Result<(), AllocError>
+    fn enter(&mut self, text: String, node: SharedNode) -> Result<(), AllocError>
         requires { IsTrue (is_path (string_bytes text)) }
         ensures ok { OnOk result (self.new ≡ map.insert self.old (string_bytes text) node) }
         ensures err { OnErr result (self.new ≡ self.old) }
@@ -105,7 +155,7 @@ impl Added {
     {
         let mut copy = Added::new(alloc);
         for (text, node) in self.nodes.iter() {
-            copy.enter(text.clone()?, node.copy(alloc)?)?;
+            copy.enter(text.clone()?, node.copy()?)?;
         }
         Ok(copy)
     }
@@ -123,7 +173,7 @@ impl Added {
 /// Nodes that are walked in the order of the bytes of their paths. Contracts see the rows that are left.
 #[derive(Drop)]
 pub(crate) struct AddedRows<'a> {
-    rest: Iter<'a, String, Node>,
+    rest: Iter<'a, String, SharedNode>,
 }
 
 impl<'a> Model for AddedRows<'a> {

@@ -13,7 +13,7 @@ use ice_ids::Id8;
 use std::alloc::Global;
 use zarr_meta::Meta;
 use zarr_path::{Path, parent_text};
-use zarr_tree::{EditFault, MOST_NODES, Node, TreeLike};
+use zarr_tree::{EditFault, MOST_NODES, TreeLike};
 
 impl ChangeSet {
     /// Whether a group of the overlay stands at a path.
@@ -68,7 +68,7 @@ impl ChangeSet {
         ensures { Enters (add_refusal (nodes_over self.old (B.nodes base.now)) path.now) (with_added self.old path.now (record { id = id; text = meta.text })) self.old result self.new }
     {
         self.may_add(base, path)?;
-        self.added.insert(alloc, path, Node::new(id, meta))?;
+        self.added.insert(alloc, path, id, meta)?;
         Ok(())
     }
 }

@@ -10,7 +10,7 @@ use crate::set::ChangeSet;
 use std::alloc::Global;
 use zarr_meta::Meta;
 use zarr_path::Path;
-use zarr_tree::{EditFault, Node, TreeLike};
+use zarr_tree::{EditFault, TreeLike};
 
 impl ChangeSet {
     /// Gives the overlay's node at a path other metadata, which may not differ in the parts that stay. After a refusal, and
@@ -32,7 +32,7 @@ impl ChangeSet {
         }
         let id = found.id;
         if self.added.find(path.as_str()).is_some() {
-            self.added.insert(alloc, path, Node::new(id, meta))?;
+            self.added.insert(alloc, path, id, meta)?;
         } else {
             self.metas.insert(id, meta)?;
         }

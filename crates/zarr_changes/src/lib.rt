@@ -21,6 +21,7 @@ mod net;
 mod overlay;
 mod places;
 mod set;
+mod shared;
 mod texts;
 mod written;
 

@@ -1,6 +1,7 @@
 //! The set of changes.
 
 ghost use Rattle.std.specs.Prelude.{◌≡◌, IfOk};
+ghost use Rattle.std.specs.FinMap.{len};
 ghost use Rattle.zarr_changes.specs.Edits.{nothing};
 
 use crate::added::Added;
@@ -43,6 +44,13 @@ impl ChangeSet {
             metas: Texts::new(alloc),
             entries: Entries::new(alloc),
         }
+    }
+
+    /// How many nodes were added.
+    pub fn added_len(&self) -> usize
+        ensures { result ≡ len self.now.added }
+    {
+        self.added.len()
     }
 
     /// The same changes once more.

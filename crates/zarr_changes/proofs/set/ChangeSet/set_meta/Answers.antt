@@ -21,7 +21,7 @@ returns-in_ok-insert g c =
     (λ i. is_some (get (sym c.self.view_is i).added (sym c.as_str-2.ensures.value i))) ∙ ap is_some (sym c.find.ensures)
     ∙ some-map (λ (m : Bor Node). m.now) c.find.result ∙ sym c.is_some.ensures ∙ c.if-is_some.true in
     let after : c.insert.new.self ≡ insert held.added c.args.path.now (record { id = n.id; text = c.args.meta.text }) =
-    c.in_ok-insert.ensures.ok ∙ (λ i. insert (c.self.view_is i).added c.args.path.now (c.new.ensures i)) in (
+    c.in_ok-insert.ensures.ok ∙ (λ i. insert (c.self.view_is i).added c.args.path.now (record { id = n.id; text = c.args.meta.text })) in (
       text_allowed held nodes c.args.path.now c.args.meta.text n found c.frozen_change.result c.frozen_change.ensures c.in_default-frozen_change.is,
       ap (λ (h : Held Place). record h { added = c.insert.new.self }) c.self.view_is ∙ text_added held nodes c.args.path.now c.args.meta.text n found c.insert.new.self there after,
     )
