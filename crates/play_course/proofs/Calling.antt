@@ -53,9 +53,8 @@ use Rattle.play_outcome.specs.declared.outcome.End.TheVariants as E
 use Rattle.play_outcome.specs.declared.outcome.Outcome.{Outcome}
 use Rattle.play_outcome.specs.Playing.{refused}
 use Rattle.play_refs.specs.Playing.{Rest, logged, unseen, ref_play, after_ref, play_ref_line, refs_play}
-use Rattle.run_histories.proofs.Drawing.{IsDrawnBy}
 use Rattle.play_course.specs.Refusing.{is_strange, strange_answer, strange_end}
-use Rattle.play_course.proofs.Tidy.{IsAny, any-of, stands-readable, stands-first, put-stands, all-named}
+use Rattle.play_course.proofs.Tidy.{Client, Draws, IsAny, any-of, stands-readable, stands-first, put-stands, all-named}
 use Rattle.play_course.proofs.Meeting.{was-read, Meets, PlayMeets, done-meets, ask-meets, then-meets, got-meets, ended-meets, or-meets, call-meets}
 use Rattle.play_course.proofs.Knowing.{OfOthers, OfOwn, beside}
 use Rattle.play_course.proofs.Naming.{Names, Reads, Resolves, branch-read, tag-read, Tags, resolve-meets}
@@ -116,13 +115,13 @@ no_ref-plain : (w : Refusal) → is_strange w ≡ false → is_strange (no_ref w
 no_ref-plain (R.Missing key) e = refl
 no_ref-plain w e = e
 
-module _ (client : ℕ) (ids : AnyIds) where
+module _ (client : Client) (ids : AnyIds) where
   -- ---- the journal
   abbrev Tidy : List Event → Type 0
   Tidy h = Each IsAny [] h
 
   tidy-others : (journal more : List Event) → Each (OfOthers client ids) journal more → Tidy journal → Tidy (journal ++ more)
-  tidy-others journal more others t = Each-append IsAny [] journal more t (Each-weaker (OfOthers client ids) IsAny (λ h event o. any-of (λ id. ¬ IsDrawnBy client id) h event o.tidy) journal more others)
+  tidy-others journal more others t = Each-append IsAny [] journal more t (Each-weaker (OfOthers client ids) IsAny (λ h event o. any-of (λ id. ¬ Draws client id) h event o.tidy) journal more others)
 
   tidy-own : (journal : List Event) (event : Event) → OfOwn ids journal event → Tidy journal → Tidy (journal ++ event ∷ [])
   tidy-own journal event own t = Each-append IsAny [] journal (event ∷ []) t (Each-one IsAny journal event own.tidy)

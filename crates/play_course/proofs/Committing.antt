@@ -4,7 +4,6 @@ use Rattle.std.specs.Prelude.{Option, Some, None, Result, Ok, Err, nat_lt}
 use Rattle.ice_ids.specs.declared.Id12.{Id12}
 use Rattle.ice_ids.specs.declared.drawing.AnyIds.{AnyIds}
 use Rattle.ice_ids.specs.Drawing.{drawn12, after12}
-use Rattle.ice_ids.proofs.Drawn.{after12-IsAnyIds}
 use Rattle.flat_tables.specs.declared.header.Kind.TheVariants as kinds
 use Rattle.zarr_tree.specs.Held.{Entry, touched}
 use Rattle.zarr_tree.specs.Touched.{is_untouched}
@@ -46,9 +45,9 @@ use Rattle.commit_path.specs.declared.commit.Tried.TheVariants.{Done as Was_done
 use Rattle.commit_path.specs.Opened.{IsOpened}
 use Rattle.commit_path.specs.Committing.{Written, is_long, manifest_for, with_list, with_manifest, after_manifest, put_manifest, write_array, old_program, array_program, arrays_program, log_for, snap_for, after_branch, put_branch, after_snapshot, after_log, put_log, after_arrays, unwritten, write_all, commit_program}
 use Rattle.commit_path.proofs.Knowing.{IsOpened-append}
-use Rattle.run_histories.proofs.Drawing.{IsDrawnBy, AreOf, object-draws}
+use Rattle.run_histories.proofs.Drawing.{drawn12-of, object-draws}
 use Rattle.play_course.specs.Refusing.{is_strange}
-use Rattle.play_course.proofs.Tidy.{IsTidy, spared-snapshot, free-others, free-apart}
+use Rattle.play_course.proofs.Tidy.{Client, Draws, AreIts, IsTidy, spared-snapshot, free-others, free-apart}
 use Rattle.play_course.proofs.Meeting.{was-read, Meets, done-meets, ask-meets, then-meets, got-meets, put-meets}
 use Rattle.play_course.proofs.Knowing.{OfOthers, OfOwn, Before, beside, before-others, before-got, before-under, before-put, before-over, spent-differs, drawn-now, good-others}
 use Rattle.play_course.proofs.Holding.{MayCommit, AreOfBase, own-of-base, manifest-stands}
@@ -56,11 +55,11 @@ use Rattle.play_course.proofs.Holding.{MayCommit, AreOfBase, own-of-base, manife
 some-same : {A : Type 0} (a b : A) → Some a ≡ Some b → a ≡ b
 some-same a b e = cc
 
-module _ (client : ℕ) (ids : AnyIds) (s : SessionState) where
+module _ (client : Client) (ids : AnyIds) (s : SessionState) where
   -- what is held while objects are written: nothing stands under what is still to be drawn, and the base is known
   pub record Writes (next : AnyIds) (journal : List Event) : Type 0 where
     pub before : Before next journal
-    pub known : AreOf client next
+    pub known : AreIts client next
     pub opened : IsOpened s journal
 
   writes-others : (next : AnyIds) (journal more : List Event) → Each (OfOthers client ids) journal more → Writes next journal → Writes next (journal ++ more)
@@ -73,8 +72,8 @@ module _ (client : ℕ) (ids : AnyIds) (s : SessionState) where
   opened-own : (journal : List Event) (event : Event) → OfOwn ids journal event → IsOpened s journal → IsOpened s (journal ++ event ∷ [])
   opened-own journal event own o = IsOpened-append s journal (event ∷ []) (Each-one IsGood journal event own.tidy.good) o
 
-  drawn-known : (next : AnyIds) → AreOf client next → AreOf client (after12 next)
-  drawn-known next known = let after = after12-IsAnyIds next known.0 in (after.0, after.1 ∙ known.1)
+  drawn-known : (next : AnyIds) → AreIts client next → AreIts client (after12 next)
+  drawn-known next known = drawn12-of client.draw client.number next known
 
   abbrev WritesWell : Result Written Refusal → List Event → Type 0
   WritesWell (Ok w) h = Writes w.ids h
@@ -110,7 +109,7 @@ module _ (client : ℕ) (ids : AnyIds) (s : SessionState) where
       let mid = writes-others w.ids journal more others k in
       put-meets WritesWell (beside client ids) (after_manifest (with_manifest w a array id) id) (journal ++ more) event own.tidy.good ((journal ++ more) ++ event ∷ []) (Manifest id) (file_bytes (manifest_for id array)) Set is (mid.before.free id (drawn-now w.ids id d)).manifest
       (λ told. done-meets WritesWell (beside client ids) (Ok (with_manifest w a array id)) ((journal ++ more) ++ event ∷ []) (record {
-        before = before-put ids w.ids (journal ++ more) event (Manifest id) (file_bytes (manifest_for id array)) Set id own is refl d mid.before;
+        before = before-put client ids w.ids k.known (journal ++ more) event (Manifest id) (file_bytes (manifest_for id array)) Set id own is refl d mid.before;
         known = drawn-known w.ids k.known;
         opened = opened-own (journal ++ more) event own mid.opened;
       }))
@@ -170,13 +169,13 @@ module _ (client : ℕ) (ids : AnyIds) (s : SessionState) where
       }))
 
   abbrev Who : Id12 → Type 0
-  Who id = ¬ IsDrawnBy client id
+  Who id = ¬ Draws client id
 
-  snapshot-free : (id : Id12) → IsDrawnBy client id → (old more : List Event) → Each (OfOthers client ids) old more → found old (Snapshot id) ≡ None → found (old ++ more) (Snapshot id) ≡ None
+  snapshot-free : (id : Id12) → Draws client id → (old more : List Event) → Each (OfOthers client ids) old more → found old (Snapshot id) ≡ None → found (old ++ more) (Snapshot id) ≡ None
   snapshot-free id d old more others f = free-others Who (Snapshot id) old more (spared-snapshot client id d Who (λ n. n d)) (Each-weaker (OfOthers client ids) (IsTidy Who) (λ h event o. o.tidy) old more others) f
 
   -- unless the file is too long
-  snapshot-meets : (id : Id12) (next : AnyIds) (file : List ℕ) (journal : List Event) (long : Bool) → IsDrawnBy client id → ((other : Id12) → MayDrawObject next other → id ≢ other) → found journal (Snapshot id) ≡ None → Writes next journal
+  snapshot-meets : (id : Id12) (next : AnyIds) (file : List ℕ) (journal : List Event) (long : Bool) → Draws client id → ((other : Id12) → MayDrawObject next other → id ≢ other) → found journal (Snapshot id) ≡ None → Writes next journal
       → Meets CommitsWell (beside client ids) (cond long (Done (Err (R.TooLarge kinds.Snapshot))) (Ask (PutNew (Snapshot id) file Set) (after_snapshot s id next))) journal
   snapshot-meets id next file journal true d differs free k = done-meets CommitsWell (beside client ids) (Err (R.TooLarge kinds.Snapshot)) journal refl
   snapshot-meets id next file journal false d differs free k = ask-meets CommitsWell (beside client ids) (PutNew (Snapshot id) file Set) (after_snapshot s id next) journal (λ more event others own is.
@@ -198,8 +197,8 @@ module _ (client : ℕ) (ids : AnyIds) (s : SessionState) where
       let off : is_on (Snapshot id) event.op ≡ false = ap (is_on (Snapshot id)) is in
       put-meets CommitsWell (beside client ids) (after_log s message w.news id (after12 w.ids)) (journal ++ more) event own.tidy.good ((journal ++ more) ++ event ∷ []) (Txn id) (log_file (log_for s id)) Set is free.log
       (λ told. snapshot-meets id (after12 w.ids) (snapshot_bytes (snap_for s message w.news id event.time)) ((journal ++ more) ++ event ∷ []) (is_long (snapshot_bytes (snap_for s message w.news id event.time)))
-      (object-draws client w.ids id k.known (drawn-now w.ids id d)) (spent-differs w.ids id d) (free-apart (Snapshot id) (journal ++ more) event off free.snapshot) (record {
-        before = before-put ids w.ids (journal ++ more) event (Txn id) (log_file (log_for s id)) Set id own is refl d mid.before;
+      (object-draws client.draw client.number w.ids id k.known (drawn-now w.ids id d)) (spent-differs client w.ids id k.known d) (free-apart (Snapshot id) (journal ++ more) event off free.snapshot) (record {
+        before = before-put client ids w.ids k.known (journal ++ more) event (Txn id) (log_file (log_for s id)) Set id own is refl d mid.before;
         known = drawn-known w.ids k.known;
         opened = opened-own (journal ++ more) event own mid.opened;
       }))

@@ -34,11 +34,12 @@ use Rattle.commit_path.proofs.Knowing.{IsOpened-append}
 use Rattle.commit_path.proofs.Readable.{some_of, own-chunk}
 use Rattle.commit_path.proofs.Having.{here, there}
 use Rattle.run_histories.proofs.Along.{IsObject}
-use Rattle.run_histories.proofs.Drawing.{AreOf}
+use Rattle.run_histories.proofs.Sources.{node-spends}
+use Rattle.run_histories.proofs.Drawing.{are-among}
 use Rattle.run_histories.proofs.Edits.{OwnAreNew, IsKept, GoesOn}
 use Rattle.run_histories.proofs.Sized.{normal-in, sized-keeps}
 use Rattle.chunk_calls.proofs.Seen.{IsThere}
-use Rattle.play_course.proofs.Tidy.{IsAny, put-stands}
+use Rattle.play_course.proofs.Tidy.{Client, AreIts, IsAny, put-stands}
 use Rattle.play_course.proofs.Knowing.{IsSoFar, OfOthers, OfOwn, Before, before-others, before-got, good-others}
 
 some-same : {A : Type 0} (a b : A) → Some a ≡ Some b → a ≡ b
@@ -60,24 +61,24 @@ last-stands journal key bytes object tidy last = by_found (found journal key) re
 -- ---- a session
 -- The client draws by its own source, and nothing stands under what it may draw; the changes are those of lines of its task, whose node ids
 -- are new to the base; and what the session knows of its base holds.
-pub record Held (client : ℕ) (ids : AnyIds) (s : SessionState) (journal : List Event) : Type 0 where
+pub record Held (client : Client) (ids : AnyIds) (s : SessionState) (journal : List Event) : Type 0 where
   pub before : Before s.ids journal
-  pub known : AreOf client s.ids
+  pub known : AreIts client s.ids
   pub goes : GoesOn ids s
   pub own : OwnAreNew ids s
   pub opened : IsOpened s journal
 
 -- What is enough for a commit or a rebase: the client draws by its own source, nothing stands under what it may draw, and what the session knows of
 -- its base holds.
-pub record MayCommit (client : ℕ) (s : SessionState) (journal : List Event) : Type 0 where
+pub record MayCommit (client : Client) (s : SessionState) (journal : List Event) : Type 0 where
   pub before : Before s.ids journal
-  pub known : AreOf client s.ids
+  pub known : AreIts client s.ids
   pub opened : IsOpened s journal
 
-pub held-may : (client : ℕ) (ids : AnyIds) (s : SessionState) (journal : List Event) → Held client ids s journal → MayCommit client s journal
+pub held-may : (client : Client) (ids : AnyIds) (s : SessionState) (journal : List Event) → Held client ids s journal → MayCommit client s journal
 held-may client ids s journal h = record { before = h.before; known = h.known; opened = h.opened }
 
-module _ (client : ℕ) (ids : AnyIds) (s : SessionState) where
+module _ (client : Client) (ids : AnyIds) (s : SessionState) where
   pub may-others : (journal more : List Event) → Each (OfOthers client ids) journal more → MayCommit client s journal → MayCommit client s (journal ++ more)
   may-others journal more others m = record {
     before = before-others client ids s.ids m.known journal more others m.before;
@@ -98,7 +99,7 @@ base-of s journal so_far o =
     let t = so_far.trees s.base o.put in
     subst (HasTree (puts_of journal)) (some-same t.rows s.rows (sym t.is ∙ o.rows so_far.once)) t.has
 
-module _ (client : ℕ) (ids : AnyIds) (s : SessionState) where
+module _ (client : Client) (ids : AnyIds) (s : SessionState) where
   pub held-others : (journal more : List Event) → Each (OfOthers client ids) journal more → Held client ids s journal → Held client ids s (journal ++ more)
   held-others journal more others h = record {
     before = before-others client ids s.ids h.known journal more others h.before;
@@ -115,8 +116,12 @@ module _ (client : ℕ) (ids : AnyIds) (s : SessionState) where
     pub has-chunks : HasChunks (puts_of journal) s.held.chunks
     has-chunks = h.opened.chunks h.before.so_far.once
 
+    -- the source that it began with is its client's too
+    its : AreIts client ids
+    its = let later = h.goes.later in (sym later.way ∙ h.known.0, sym later.client ∙ h.known.1)
+
     kept : IsKept ids s
-    kept = h.goes.kept h.own
+    kept = h.goes.kept (node-spends client.draw client.most client.once ids (are-among client.draw client.number client.most ids client.small its)) h.own
 
     pub is-normal : IsNormal (changes_in (puts_of journal) s) (base_tree (puts_of journal) s)
     is-normal = normal-in (puts_of journal) s has-chunks (kept.normal (puts_of journal) base-has.well_formed)
@@ -169,7 +174,7 @@ manifest-stands s journal tidy so_far opened m o =
     let stands = last-stands journal (Manifest m.id) bytes.0 tt tidy bytes.1 in
     record { file = file.0; put = file.1; stored = stands.stored; found_is = stands.found_is; read = ap (manifest_by m.id) stands.bytes_are ∙ bytes.2 }
 
-module _ (client : ℕ) (ids : AnyIds) (s : SessionState) (journal : List Event) (h : Held client ids s journal) where
+module _ (client : Client) (ids : AnyIds) (s : SessionState) (journal : List Event) (h : Held client ids s journal) where
   -- ---- a chunk
   module _ (path index : List ℕ) (at : ChunkAt) (t : IsThere s path index at) where
     -- the bytes of the session's tree are a whole chunk

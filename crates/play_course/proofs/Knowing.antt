@@ -20,8 +20,8 @@ use Rattle.commit_path.proofs.Sources.{later-same, later-drawn12, object-drawn, 
 use Rattle.run_histories.specs.Sources.{NodesAreNew}
 use Rattle.run_histories.specs.Runs.{AllTrees, AllCaused}
 use Rattle.run_histories.proofs.Sources.{object-spent}
-use Rattle.run_histories.proofs.Drawing.{IsDrawnBy, AreOf, object-draws}
-use Rattle.play_course.proofs.Tidy.{IsTidy, IsAny, Puts, any-of, along, spared-snapshot, spared-log, spared-manifest, spared-chunk, free-others, free-apart}
+use Rattle.run_histories.proofs.Drawing.{are-among, object-draws}
+use Rattle.play_course.proofs.Tidy.{Client, Draws, AreIts, IsTidy, IsAny, Puts, any-of, along, spared-snapshot, spared-log, spared-manifest, spared-chunk, free-others, free-apart}
 use Rattle.play_course.proofs.Meeting.{Watch}
 
 -- ---- the journal
@@ -40,8 +40,8 @@ pub record IsFreeId (journal : List Event) (id : Id12) : Type 0 where
 
 -- ---- the events of others, and the client's own
 -- an event of others than this client: it puts nothing under the client's ids, and nodes stay new to this source
-pub record OfOthers (client : ℕ) (ids : AnyIds) (journal : List Event) (event : Event) : Type 0 where
-  pub tidy : IsTidy (λ id. ¬ IsDrawnBy client id) journal event
+pub record OfOthers (client : Client) (ids : AnyIds) (journal : List Event) (event : Event) : Type 0 where
+  pub tidy : IsTidy (λ id. ¬ Draws client id) journal event
   pub after : IsSoFar (journal ++ event ∷ [])
   pub nodes : NodesAreNew ids journal → NodesAreNew ids (journal ++ event ∷ [])
 
@@ -51,7 +51,7 @@ pub record OfOwn (ids : AnyIds) (journal : List Event) (event : Event) : Type 0 
   pub after : IsSoFar (journal ++ event ∷ [])
   pub nodes : ¬ PutsSnapshot event.op → NodesAreNew ids journal → NodesAreNew ids (journal ++ event ∷ [])
 
-abbrev pub beside : ℕ → AnyIds → Watch
+abbrev pub beside : Client → AnyIds → Watch
 beside client ids = record { others = OfOthers client ids; own = OfOwn ids }
 
 -- ---- what a client knows
@@ -65,15 +65,15 @@ pub record Before (source : AnyIds) (journal : List Event) : Type 0 where
 pub before-later : (source later : AnyIds) (journal : List Event) → IsLater source later → Before source journal → Before later journal
 before-later source later journal l b = record { tidy = b.tidy; so_far = b.so_far; free = λ id m. b.free id (object-later source later id l m) }
 
-module _ (client : ℕ) where
+module _ (client : Client) where
   abbrev Who : Id12 → Type 0
-  Who id = ¬ IsDrawnBy client id
+  Who id = ¬ Draws client id
 
-  not-who : (id : Id12) → IsDrawnBy client id → ¬ Who id
+  not-who : (id : Id12) → Draws client id → ¬ Who id
   not-who id d n = n d
 
   -- through an event that puts nothing under the client's ids
-  pub id-free : (id : Id12) → IsDrawnBy client id → (old more : List Event) → Each (IsTidy (λ i. ¬ IsDrawnBy client i)) old more → IsFreeId old id → IsFreeId (old ++ more) id
+  pub id-free : (id : Id12) → Draws client id → (old more : List Event) → Each (IsTidy (λ i. ¬ Draws client i)) old more → IsFreeId old id → IsFreeId (old ++ more) id
   id-free id d old more others f = record {
     snapshot = free-others Who (Snapshot id) old more (spared-snapshot client id d Who (not-who id d)) others f.snapshot;
     log = free-others Who (Txn id) old more (spared-log id Who (not-who id d)) others f.log;
@@ -81,18 +81,18 @@ module _ (client : ℕ) where
     chunk = free-others Who (Chunk id) old more (spared-chunk id Who (not-who id d)) others f.chunk;
   }
 
-  before-tidy : (source : AnyIds) → AreOf client source → (journal : List Event) (event : Event) → IsTidy (λ i. ¬ IsDrawnBy client i) journal event → IsSoFar (journal ++ event ∷ []) → Before source journal → Before source (journal ++ event ∷ [])
+  before-tidy : (source : AnyIds) → AreIts client source → (journal : List Event) (event : Event) → IsTidy (λ i. ¬ Draws client i) journal event → IsSoFar (journal ++ event ∷ []) → Before source journal → Before source (journal ++ event ∷ [])
   before-tidy source known journal event t after b = record {
     tidy = Each-append IsAny [] journal (event ∷ []) b.tidy (Each-one IsAny journal event (any-of Who journal event t));
     so_far = after;
-    free = λ id m. id-free id (object-draws client source id known m) journal (event ∷ []) (Each-one (IsTidy Who) journal event t) (b.free id m);
+    free = λ id m. id-free id (object-draws client.draw client.number source id known m) journal (event ∷ []) (Each-one (IsTidy Who) journal event t) (b.free id m);
   }
 
-  pub before-others : (ids source : AnyIds) → AreOf client source → (journal more : List Event) → Each (OfOthers client ids) journal more → Before source journal → Before source (journal ++ more)
+  pub before-others : (ids source : AnyIds) → AreIts client source → (journal more : List Event) → Each (OfOthers client ids) journal more → Before source journal → Before source (journal ++ more)
   before-others ids source known journal more others b = along (OfOthers client ids) (Before source) (λ h event o k. before-tidy source known h event o.tidy o.after k) journal more others b
 
   -- through an own get
-  pub before-got : (ids source : AnyIds) → AreOf client source → (journal : List Event) (event : Event) (key : Key) → OfOwn ids journal event → event.op ≡ Get key → Before source journal → Before source (journal ++ event ∷ [])
+  pub before-got : (ids source : AnyIds) → AreIts client source → (journal : List Event) (event : Event) (key : Key) → OfOwn ids journal event → event.op ≡ Get key → Before source journal → Before source (journal ++ event ∷ [])
   before-got ids source known journal event key own is b = before-tidy source known journal event (record { good = own.tidy.good; puts = subst (Puts Who) (sym is) tt }) own.after b
 
   -- and nodes stay new
@@ -149,13 +149,14 @@ before-under ids source journal event key bytes why id own is under differs b =
     before-own ids source journal event own (λ other m f. free-beside journal event key bytes why id other is under (differs other m) f) b
 
 -- what was drawn isn't drawn again
-pub spent-differs : (source : AnyIds) (id : Id12) → drawn12 source ≡ Some id → (other : Id12) → MayDrawObject (after12 source) other → id ≢ other
-spent-differs source id drawn other m e = object-spent source id drawn (subst (MayDrawObject (after12 source)) (sym e) m)
+pub spent-differs : (client : Client) (source : AnyIds) (id : Id12) → AreIts client source → drawn12 source ≡ Some id → (other : Id12) → MayDrawObject (after12 source) other → id ≢ other
+spent-differs client source id known drawn other m e =
+    object-spent client.draw client.most client.once source id (are-among client.draw client.number client.most source client.small known) drawn (subst (MayDrawObject (after12 source)) (sym e) m)
 
 -- a put under the next id
-pub before-put : (ids source : AnyIds) (journal : List Event) (event : Event) (key : Key) (bytes : List ℕ) (why : Why) (id : Id12) → OfOwn ids journal event → event.op ≡ PutNew key bytes why → id_of key ≡ Some id → drawn12 source ≡ Some id → Before source journal → Before (after12 source) (journal ++ event ∷ [])
-before-put ids source journal event key bytes why id own is under drawn b =
-    before-under ids (after12 source) journal event key bytes why id own is under (spent-differs source id drawn) (before-later source (after12 source) journal (later-drawn12 source) b)
+pub before-put : (client : Client) (ids source : AnyIds) → AreIts client source → (journal : List Event) (event : Event) (key : Key) (bytes : List ℕ) (why : Why) (id : Id12) → OfOwn ids journal event → event.op ≡ PutNew key bytes why → id_of key ≡ Some id → drawn12 source ≡ Some id → Before source journal → Before (after12 source) (journal ++ event ∷ [])
+before-put client ids source known journal event key bytes why id own is under drawn b =
+    before-under ids (after12 source) journal event key bytes why id own is under (spent-differs client source id known drawn) (before-later source (after12 source) journal (later-drawn12 source) b)
 
 -- a branch that is put over
 pub before-over : (ids source : AnyIds) (journal : List Event) (event : Event) (branch bytes : List ℕ) (old : Version) (why : Why) → OfOwn ids journal event → event.op ≡ PutOver (Branch branch) bytes old why → Before source journal → Before source (journal ++ event ∷ [])

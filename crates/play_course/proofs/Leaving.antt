@@ -1,5 +1,5 @@
 -- The histories of a course.
-use Rattle.std.proofs.Common.{◌≡◌, ℕ, ◌<◌, ◌-◌, ◌^◌, inl, inr, List, [], length, refl, sym, ◌∙◌, ap, subst, append-nil, arith}
+use Rattle.std.proofs.Common.{◌≡◌, ℕ, inl, inr, List, [], refl, sym, ◌∙◌, ap, subst, append-nil}
 use Rattle.std.specs.Prelude.{◌↔◌, Option, Some, None, Result, Ok, Err, IsTrue, IfOk, IfErr, All}
 use Rattle.std.specs.declared.alloc.AllocError.{AllocError}
 use Rattle.ice_ids.specs.declared.Id12.{Id12}
@@ -34,7 +34,7 @@ use Rattle.run_histories.specs.Told.{HasHistories, RunLaw}
 use Rattle.play_course.specs.declared.course.Played.{Played}
 use Rattle.play_course.specs.Course.{Course, OnlyBegan, Plays}
 use Rattle.play_course.specs.Leaving.{TagEndsAt, TellsEnds, LeavesBranches}
-use Rattle.play_course.proofs.Playing.{tells-on}
+use Rattle.play_course.proofs.Playing.{at-once, tells-on}
 
 -- ---- the parts of a run
 pub ran-alone : {A : Type 0} (p : Program A) (result : Result A Refusal) (old new : View) → IsTrue old.caller.tells → HasAll old.caller → Runs old new p result → RanAlone p old.seen new.seen
@@ -44,7 +44,7 @@ ran-alone p result old new told all r = elim r.ends [
 ]
 
 plays-alone : (draw : Draw) (script : Script) (old new : View) (opening : Result (Unit {0}) Refusal) (outcomes : List Outcome) → IsTrue old.caller.tells → Plays draw script old new opening outcomes → PlayedAlone draw script.tasks old.seen new.seen
-plays-alone draw script old new (Ok done) outcomes t p = let r = p.ran.ran in record { own = r.own; is = r.is t; owed = r.careful t }
+plays-alone draw script old new (Ok done) outcomes t p = let r = at-once script.turns draw script.tasks old.caller.tells outcomes old.seen new.seen p.ran in record { own = r.own; is = r.is t; owed = r.careful t }
 plays-alone draw script old new (Err why) outcomes t p = record { own = []; is = ap (λ (v : View). v.seen) p.0 ∙ sym (append-nil old.seen); owed = Each-none (IsOfClient draw script.tasks old.seen) old.seen }
 
 -- ---- the refs that are told
@@ -126,15 +126,14 @@ ran-told result old new law told all r lines e = elim r.ends [
 
 -- ---- the run
 -- the opening, the tasks and the closing reading are a run
-pub course-run : (draw : Draw) (script : Script) (old new : View) (opening : Result (Unit {0}) Refusal) (outcomes : List Outcome) (refs : Result (List RefLine) Refusal) → length script.tasks < 2 ^ 32 - 1 → All IsWellTask script.tasks
+pub course-run : (draw : Draw) (script : Script) (old new : View) (opening : Result (Unit {0}) Refusal) (outcomes : List Outcome) (refs : Result (List RefLine) Refusal) → All IsWellTask script.tasks
     → Course draw script old new opening outcomes refs → IsTrue old.caller.tells → IsRun draw script.tasks old.seen new.seen
-course-run draw script old new opening outcomes refs few wells c t =
+course-run draw script old new opening outcomes refs wells c t =
     let all : HasAll (as_client 0 old).caller = record { low = c.alone.low; end = c.alone.end } in
     let begun_tells : IsTrue c.begun.caller.tells = subst (λ (b : Caller). IsTrue b.tells) (sym c.begins.same) t in
     let played_tells : IsTrue c.played.caller.tells = tells-on draw script c.begun c.played opening outcomes c.plays begun_tells in
     let last_all : HasAll (as_client 0 c.played).caller = record { low = c.still_alone.low; end = c.still_alone.end } in
     record {
-      few = few;
       well = wells;
       begun = c.begun.seen;
       played = c.played.seen;
@@ -143,33 +142,28 @@ course-run draw script old new opening outcomes refs few wells c t =
       closing = ran-alone refs_program refs (as_client 0 c.played) new played_tells last_all c.reads;
     }
 
-pub course-leaves : RunLaw → RefsLaw → (draw : Draw) (script : Script) (old new : View) (opening : Result (Unit {0}) Refusal) (outcomes : List Outcome) (refs : Result (List RefLine) Refusal) → length script.tasks < 2 ^ 32 - 1 → All IsWellTask script.tasks
+pub course-leaves : RunLaw → RefsLaw → (draw : Draw) (script : Script) (old new : View) (opening : Result (Unit {0}) Refusal) (outcomes : List Outcome) (refs : Result (List RefLine) Refusal) → All IsWellTask script.tasks
     → Course draw script old new opening outcomes refs → IsTrue old.caller.tells → (before : ℕ → Changes) → IsSound old.seen before → IsNewRun draw script.tasks old.seen → LeavesBranches draw script.tasks before old.seen new.seen refs
-course-leaves run closing draw script old new opening outcomes refs few wells c t before sound new_run =
+course-leaves run closing draw script old new opening outcomes refs wells c t before sound new_run =
     let begun_tells : IsTrue c.begun.caller.tells = subst (λ (b : Caller). IsTrue b.tells) (sym c.begins.same) t in
     let played_tells : IsTrue c.played.caller.tells = tells-on draw script c.begun c.played opening outcomes c.plays begun_tells in
     let last_all : HasAll (as_client 0 c.played).caller = record { low = c.still_alone.low; end = c.still_alone.end } in
-    let h = run draw script.tasks before old.seen new.seen sound new_run (course-run draw script old new opening outcomes refs few wells c t) in
+    let h = run draw script.tasks before old.seen new.seen sound new_run (course-run draw script old new opening outcomes refs wells c t) in
     record {
       histories = h;
       told = λ lines e. told-ends h.changes new.seen lines h.stand h.tags_stand (ran-told refs (as_client 0 c.played) new closing played_tells last_all c.reads lines e);
     }
 
--- a script has few tasks
-pub few-tasks : (script : Script) → IsWell script → length script.tasks < 2 ^ 32 - 1
-few-tasks script well = let few = well.few in omega (arith, few)
-
 pub played-leaves : RunLaw → RefsLaw → (draw : Draw) (script : Script) (old new : View) (result : Result Played AllocError) → IsWell script → IfOk result (λ played. Course draw script old new played.opening played.outcomes.items played.refs) → IsTrue old.caller.tells → (before : ℕ → Changes) → IsSound old.seen before → IsNewRun draw script.tasks old.seen
     → IfOk result (λ played. LeavesBranches draw script.tasks before old.seen new.seen played.refs)
-played-leaves run closing draw script old new (Ok played) well c t before sound new_run = course-leaves run closing draw script old new played.opening played.outcomes.items played.refs (few-tasks script well) well.tasks c t before sound new_run
+played-leaves run closing draw script old new (Ok played) well c t before sound new_run = course-leaves run closing draw script old new played.opening played.outcomes.items played.refs well.tasks c t before sound new_run
 played-leaves run closing draw script old new (Err error) well c t before sound new_run = tt
 
 -- where the repository was begun at most
-began-kept : RunLaw → (draw : Draw) (script : Script) (old new : View) → length script.tasks < 2 ^ 32 - 1 → All IsWellTask script.tasks → OnlyBegan old new → IsTrue old.caller.tells → (before : ℕ → Changes) → IsSound old.seen before → IsNewRun draw script.tasks old.seen → HasHistories draw script.tasks before old.seen new.seen
-began-kept run draw script old new few wells b t before sound new_run =
+began-kept : RunLaw → (draw : Draw) (script : Script) (old new : View) → All IsWellTask script.tasks → OnlyBegan old new → IsTrue old.caller.tells → (before : ℕ → Changes) → IsSound old.seen before → IsNewRun draw script.tasks old.seen → HasHistories draw script.tasks before old.seen new.seen
+began-kept run draw script old new wells b t before sound new_run =
     let all : HasAll (as_client 0 old).caller = record { low = b.alone.low; end = b.alone.end } in
     run draw script.tasks before old.seen new.seen sound new_run (record {
-      few = few;
       well = wells;
       begun = new.seen;
       played = new.seen;
@@ -181,4 +175,4 @@ began-kept run draw script old new few wells b t before sound new_run =
 pub unplayed-kept : RunLaw → (draw : Draw) (script : Script) (old new : View) (result : Result Played AllocError) → IsWell script → IfErr result (λ error. OnlyBegan old new) → IsTrue old.caller.tells → (before : ℕ → Changes) → IsSound old.seen before → IsNewRun draw script.tasks old.seen
     → IfErr result (λ error. HasHistories draw script.tasks before old.seen new.seen)
 unplayed-kept run draw script old new (Ok played) well b t before sound new_run = tt
-unplayed-kept run draw script old new (Err error) well b t before sound new_run = began-kept run draw script old new (few-tasks script well) well.tasks b t before sound new_run
+unplayed-kept run draw script old new (Err error) well b t before sound new_run = began-kept run draw script old new well.tasks b t before sound new_run

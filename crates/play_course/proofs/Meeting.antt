@@ -1,7 +1,8 @@
 -- What programs of store operations answer, where the events of all are those of a run over an empty store.
-use Rattle.std.proofs.Common.{◌≡◌, ℕ, true, false, ◌⊎◌, inl, inr, Bool, List, [], ◌∷◌, ◌++◌, length, refl, sym, ◌∙◌, ap, subst, append_assoc, append-nil}
-use Rattle.std.specs.Prelude.{Option, Some, None, Result, Ok, Err}
+use Rattle.std.proofs.Common.{◌≡◌, ◌≢◌, ℕ, true, false, cond, ◌⊎◌, inl, inr, Bool, List, [], ◌∷◌, ◌++◌, length, refl, sym, ◌∙◌, ap, subst, append_assoc, append-nil, eqb-true}
+use Rattle.std.specs.Prelude.{◌==◌, Option, Some, None, Result, Ok, Err}
 use Rattle.std.specs.Result.{result_ok}
+use Rattle.std.proofs.lemmas.Bool.{eqb-false}
 use Rattle.ice_ids.specs.declared.Id12.{Id12}
 use Rattle.store_api.specs.declared.keys.Key.{Key}
 use Rattle.store_api.specs.declared.keys.Why.{Why}
@@ -16,10 +17,11 @@ use Rattle.store_api.specs.declared.machines.Refusal.{Refusal}
 use Rattle.store_api.specs.declared.machines.Refusal.TheVariants.{NoMemory}
 use Rattle.store_api.specs.Machine.{Stored, found, version_at, got_of, new_of, IsHonest, UnlessFailed}
 use Rattle.store_api.specs.Journal.{Each, IsGood}
-use Rattle.store_api.specs.Program.{Prog, Done, Ask, bind, Path, is_over}
+use Rattle.store_api.specs.Program.{Prog, Done, Ask, bind, Path, is_over, events_of}
 use Rattle.store_api.specs.Plays.{Play, Ended, Ask as Ask_play, Or, call, behind, Comes}
 use Rattle.store_api.proofs.Journals.{Each-append, Each-none}
 use Rattle.store_api.specs.Running.{Program, ◌>>=◌, on_answer}
+use Rattle.play_tasks.specs.Played.{StartsWith, PlaysTo}
 use Rattle.play_course.specs.Refusing.{strange_answer}
 use Rattle.play_course.proofs.Tidy.{IsTidy, IsAny}
 
@@ -130,19 +132,75 @@ module _ {A : Type 0} (Q : A → Type 0) (watch : Watch) where
   )
   meets-others (Or p q) old more others m = (meets-others p old more others m.0, meets-others q old more others m.1)
 
-  -- a turn with its operation
-  pub meets-acted : (op : Op) (s : Play A) (next : Reply → Play A) (q : Play A) (old : List Event) (event : Event) → watch.own old event → event.op ≡ op → Comes (next event.reply) q → PlayMeets Q watch (Ask_play op s next) old → PlayMeets Q watch q (old ++ event ∷ [])
-  unfolding PlayMeets
-  meets-acted op s next q old event any is comes m =
-      let same : old ++ [] ≡ old = append-nil old in
-      meets-comes (next event.reply) q (old ++ event ∷ []) comes
-      (subst (λ (h : List Event). PlayMeets Q watch (next event.reply) (h ++ event ∷ [])) same
-      (m.1 [] event (Each-none watch.others old) (subst (λ (h : List Event). watch.own h event) (sym same) any) is))
+  -- ---- paths
+  -- of the events of all, what is known of this client's own, and of those of others
+  abbrev pub IsWatched : ℕ → List Event → Event → Type 0
+  IsWatched client journal event = (event.client ≡ client → watch.own journal event) × (event.client ≢ client → watch.others journal event)
 
-  -- a turn for which there was no memory
-  pub meets-starved : (op : Op) (s : Play A) (next : Reply → Play A) (q : Play A) (old : List Event) → Comes s q → PlayMeets Q watch (Ask_play op s next) old → PlayMeets Q watch q old
-  unfolding PlayMeets
-  meets-starved op s next q old comes m = meets-comes s q old comes m.0
+  -- the client's first event, those of others before it, and all behind it
+  record First (client : ℕ) (old events : List Event) : Type 0 where
+    more : List Event
+    event : Event
+    later : List Event
+    others : Each watch.others old more
+    own : watch.own (old ++ more) event
+    watched : Each (IsWatched client) ((old ++ more) ++ event ∷ []) later
+    picked : events_of client events ≡ event ∷ events_of client later
+
+  first-own : (client : ℕ) (old events : List Event) → Each (IsWatched client) old events → (events_of client events ≡ []) ⊎ First client old events
+  unfolding Each
+  first-own client old [] each = inl refl
+  first-own client old (x ∷ xs) each = by_client (x.client == client) refl (first-own client (old ++ x ∷ []) xs each.1)
+    where
+      mine : (x.client == client) ≡ true → First client old (x ∷ xs)
+      mine e =
+          let same : old ++ [] ≡ old = append-nil old in
+          record {
+            more = [];
+            event = x;
+            later = xs;
+            others = Each-none watch.others old;
+            own = subst (λ (h : List Event). watch.own h x) (sym same) (each.0.0 (eqb-true x.client client e));
+            watched = subst (λ (h : List Event). Each (IsWatched client) (h ++ x ∷ []) xs) (sym same) each.1;
+            picked = ap (λ (b : Bool). cond b (x ∷ events_of client xs) (events_of client xs)) e;
+          }
+
+      skipped : (x.client == client) ≡ false → events_of client (x ∷ xs) ≡ events_of client xs
+      skipped e = ap (λ (b : Bool). cond b (x ∷ events_of client xs) (events_of client xs)) e
+
+      behind_it : (x.client == client) ≡ false → First client (old ++ x ∷ []) xs → First client old (x ∷ xs)
+      behind_it e f =
+          let same : (old ++ x ∷ []) ++ f.more ≡ old ++ (x ∷ f.more) = append_assoc old (x ∷ []) f.more in
+          record {
+            more = x ∷ f.more;
+            event = f.event;
+            later = f.later;
+            others = (each.0.1 (λ c. eqb-false x.client client e c), f.others);
+            own = subst (λ (h : List Event). watch.own h f.event) same f.own;
+            watched = subst (λ (h : List Event). Each (IsWatched client) (h ++ f.event ∷ []) f.later) same f.watched;
+            picked = skipped e ∙ f.picked;
+          }
+
+      by_client : (b : Bool) → (x.client == client) ≡ b → (events_of client xs ≡ []) ⊎ First client (old ++ x ∷ []) xs → (events_of client (x ∷ xs) ≡ []) ⊎ First client old (x ∷ xs)
+      by_client true e rest = inr (mine e)
+      by_client false e rest = elim rest [
+        | inl none ↦ inl (skipped e ∙ none)
+        | inr f ↦ inr (behind_it e f)
+      ]
+
+  -- a play whose client's events, picked out from among those of all, are a path of it to its end
+  pub plays-meets : (client : ℕ) (p : Play A) (old events : List Event) (a : A) → Each (IsWatched client) old events → PlaysTo p (events_of client events) a → PlayMeets Q watch p old → Q a
+  unfolding PlaysTo PlayMeets
+  plays-meets client (Ended b) old events a each plays m = subst Q plays.1 m
+  plays-meets client (Or p q) old events a each (inl plays) m = plays-meets client p old events a each plays m.0
+  plays-meets client (Or p q) old events a each (inr plays) m = plays-meets client q old events a each plays m.1
+  plays-meets client (Ask_play op starved next) old events a each (inr plays) m = plays-meets client starved old events a each plays m.0
+  plays-meets client (Ask_play op starved next) old events a each (inl starts) m = elim (first-own client old events each) [
+    | inl none ↦ absurd (subst (λ (xs : List Event). StartsWith op xs (λ reply more. PlaysTo (next reply) more a)) none starts)
+    | inr f ↦
+        let s = subst (λ (xs : List Event). StartsWith op xs (λ reply more. PlaysTo (next reply) more a)) f.picked starts in
+        plays-meets client (next f.event.reply) ((old ++ f.more) ++ f.event ∷ []) f.later a f.watched s.2 (m.1 f.more f.event f.others f.own s.0)
+  ]
 
   behind-meets : (op : Op) (p s : Play A) (journal : List Event) (over : Bool) → is_over op ≡ over → PlayMeets Q watch p journal → PlayMeets Q watch s journal → PlayMeets Q watch (behind op p s) journal
   unfolding PlayMeets

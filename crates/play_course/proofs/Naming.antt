@@ -25,7 +25,7 @@ use Rattle.session.specs.Opening.{tip_named}
 use Rattle.commit_path.specs.Opened.{BranchNamed, IsByRef, IsTip}
 use Rattle.commit_path.proofs.Knowing.{IsTip-append}
 use Rattle.play_course.specs.Refusing.{is_strange}
-use Rattle.play_course.proofs.Tidy.{IsAny, all-named}
+use Rattle.play_course.proofs.Tidy.{Client, IsAny, all-named}
 use Rattle.play_course.proofs.Meeting.{was-read, Meets, done-meets, ask-meets, then-meets, got-meets}
 use Rattle.play_course.proofs.Knowing.{OfOthers, OfOwn, beside}
 
@@ -52,13 +52,13 @@ branch-tip name read journal n false = tt
 
 -- ---- names
 -- what is known of the journal is known through the events of others, and through own gets
-abbrev pub ByOthers : ℕ → AnyIds → (List Event → Type 0) → Type 0
+abbrev pub ByOthers : Client → AnyIds → (List Event → Type 0) → Type 0
 ByOthers client ids K = (journal more : List Event) → Each (OfOthers client ids) journal more → K journal → K (journal ++ more)
 
 abbrev pub ByGets : AnyIds → (List Event → Type 0) → Type 0
 ByGets ids K = (journal : List Event) (event : Event) (key : Key) → OfOwn ids journal event → event.op ≡ Get key → K journal → K (journal ++ event ∷ [])
 
-module _ (client : ℕ) (ids : AnyIds) (K : List Event → Type 0) (k_others : ByOthers client ids K) (k_got : ByGets ids K) (k_tidy : (journal : List Event) → K journal → Each IsAny [] journal) where
+module _ (client : Client) (ids : AnyIds) (K : List Event → Type 0) (k_others : ByOthers client ids K) (k_got : ByGets ids K) (k_tidy : (journal : List Event) → K journal → Each IsAny [] journal) where
   -- ---- a branch
   abbrev pub Reads : List ℕ → Result Resolved Refusal → List Event → Type 0
   Reads name (Ok read) h = K h × BranchNamed h name read.version.0 read.id × WasPut h (Snapshot read.id)

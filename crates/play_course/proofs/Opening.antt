@@ -32,10 +32,9 @@ use Rattle.commit_path.specs.Opened.{IsByRef, IsTip}
 use Rattle.commit_path.specs.Single.{PutsSnapshot}
 use Rattle.commit_path.proofs.Knowing.{IsTip-append, tree-by_rows, rows-kept}
 use Rattle.run_histories.specs.Sources.{NodesAreNew}
-use Rattle.run_histories.proofs.Drawing.{AreOf}
 use Rattle.run_histories.proofs.Editing.{begun-goes}
 use Rattle.play_course.specs.Refusing.{is_strange}
-use Rattle.play_course.proofs.Tidy.{stands-readable, put-stands}
+use Rattle.play_course.proofs.Tidy.{Client, AreIts, stands-readable, put-stands}
 use Rattle.play_course.proofs.Meeting.{was-read, Meets, done-meets, ask-meets, then-meets, got-meets}
 use Rattle.play_course.proofs.Knowing.{OfOthers, OfOwn, Before, beside, before-others, before-got, nodes-others}
 use Rattle.play_course.proofs.Holding.{Held}
@@ -59,13 +58,13 @@ base-absent (At.Branch name) id now none = absurd (none tt)
 base-absent (At.Tag name) id now none = absurd (none tt)
 base-absent (At.Snapshot own) id now none = refl
 
-module _ (client : ℕ) (ids : AnyIds) where
+module _ (client : Client) (ids : AnyIds) where
   -- the journal is known, and no node has an id that the client may draw
   pub record Begins (journal : List Event) : Type 0 where
     pub before : Before ids journal
     pub nodes : NodesAreNew ids journal
 
-  module _ (known : AreOf client ids) (a : Asked) (a_ids : a.ids ≡ ids) where
+  module _ (known : AreIts client ids) (a : Asked) (a_ids : a.ids ≡ ids) where
     begins-others : (journal more : List Event) → Each (OfOthers client ids) journal more → Begins journal → Begins (journal ++ more)
     begins-others journal more others b = record { before = before-others client ids ids known journal more others b.before; nodes = nodes-others client ids journal more others b.nodes }
 
@@ -92,7 +91,7 @@ module _ (client : ℕ) (ids : AnyIds) where
         let rows : rows_of journal named.id ≡ Some snap.nodes = ap (λ (o : Option (List ℕ)). option_map (λ (x : SnapshotFile). x.nodes) (snap_in named.id o)) last ∙ ap (option_map (λ (x : SnapshotFile). x.nodes)) read in
         record {
           before = subst (λ (x : AnyIds). Before x (journal ++ event ∷ [])) (sym a_ids) (begins-got journal event (Snapshot named.id) own is b).before;
-          known = subst (AreOf client) (sym a_ids) known;
+          known = subst (AreIts client) (sym a_ids) known;
           goes = begun-goes ids s a_ids refl;
           own = λ p m f. b.nodes named.id (tree_under (puts_of journal) snap.nodes) p m (tree-by_rows journal named.id snap.nodes rows) f;
           opened = record {

@@ -31,6 +31,7 @@ use Rattle.chunk_calls.proofs.Setting.{taken, entries-opened, chunk-opened, IsOu
 use Rattle.run_histories.proofs.Edits.{SetsChunk, Edits, edit-goes, edit-base, own-stay}
 use Rattle.run_histories.proofs.Drawing.{set-draws}
 use Rattle.play_course.specs.Refusing.{is_strange}
+use Rattle.play_course.proofs.Tidy.{Client}
 use Rattle.play_course.proofs.Meeting.{Meets, done-meets, ask-meets, put-meets}
 use Rattle.play_course.proofs.Knowing.{Before, beside, before-put, drawn-now}
 use Rattle.play_course.proofs.Holding.{Held, held-others}
@@ -54,7 +55,7 @@ put-last journal event key bytes why is done free = ap (λ (s : Slot). s.last) (
 pub last-was : (journal : List Event) (key : Key) (bytes : List ℕ) → last_put journal key ≡ Some bytes → WasPut journal key
 last-was journal key bytes e = (sound journal key).begun bytes e
 
-module _ (client : ℕ) (ids : AnyIds) (s : SessionState) (path index bytes : List ℕ) where
+module _ (client : Client) (ids : AnyIds) (s : SessionState) (path index bytes : List ℕ) where
   -- a session is held, or the set is refused as it may be
   abbrev pub SetWell : Result SessionState Refusal → List Event → Type 0
   SetWell (Ok t) h = Held client ids t h
@@ -66,7 +67,7 @@ module _ (client : ℕ) (ids : AnyIds) (s : SessionState) (path index bytes : Li
       let edits : Edits s t = inr (inr (inr (inl a))) in
       record {
         before = before;
-        known = set-draws client s t h.known a;
+        known = set-draws client.draw client.number s t h.known a;
         goes = edit-goes ids s t edits h.goes;
         own = own-stay ids t s (sym (edit-base s t edits)) h.own;
         opened = opened;
@@ -95,7 +96,7 @@ module _ (client : ℕ) (ids : AnyIds) (s : SessionState) (path index bytes : Li
       let drawn : IsOpened (after_draw s) after = entries-opened s (after12 s.ids) s.held.chunks after opened opened.objects opened.chunks in
       let object_is : (x : Id12) (offset size : ℕ) → Object id 0 (length bytes) ≡ Object x offset size → id ≡ x = λ x offset size e. cc in
       done-meets SetWell (beside client ids) (Ok t) after
-      (held-set t (journal ++ more) a mid after (before-put ids s.ids (journal ++ more) event (Chunk id) bytes Set id own is refl out.drawn mid.before)
+      (held-set t (journal ++ more) a mid after (before-put client ids s.ids mid.known (journal ++ more) event (Chunk id) bytes Set id own is refl out.drawn mid.before)
       (chunk-opened (after_draw s) path index (Object id 0 (length bytes)) (length bytes) (taken (nodes_seen s) path index (length bytes) out.fine) after
       (λ x offset size e. subst (λ (y : Id12). WasPut after (Chunk y)) (object_is x offset size e) (last-was after (Chunk id) bytes last))
       (bytes, ap (option_and_then (part_of 0 (length bytes))) last ∙ part-whole bytes, refl)

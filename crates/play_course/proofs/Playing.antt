@@ -1,16 +1,16 @@
 -- The tasks of a script, as they were run.
 use Rattle.std.proofs.Common.{◌≡◌, ◌≢◌, ℕ, ◌+◌, ◌≤◌, Bool, true, false, cond, List, [], ◌∷◌, ◌++◌, length, refl, sym, ◌∙◌, ap, subst, arith}
-use Rattle.std.specs.Prelude.{◌==◌, Result, Ok, Err, IsTrue, IfOk}
+use Rattle.std.specs.Prelude.{◌==◌, Option, Some, None, Result, Ok, Err, IsTrue, IfOk}
 use Rattle.std.proofs.Common.{eqb-true}
 use Rattle.std.specs.declared.alloc.AllocError.{AllocError}
 use Rattle.ice_ids.specs.declared.drawing.Draw.{Draw}
 use Rattle.store_api.specs.declared.events.Event.{Event}
 use Rattle.store_api.specs.declared.machines.Refusal.{Refusal}
-use Rattle.store_api.specs.Journal.{Each, IsGood}
+use Rattle.store_api.specs.Journal.{Each, IsGood, IsGoodJournal}
 use Rattle.store_api.specs.Callers.{Caller, View, HasAll, IsOther, only, as_client}
 use Rattle.store_api.specs.Program.{events_of}
 use Rattle.store_api.specs.Running.{Program, Runs}
-use Rattle.store_api.proofs.Journals.{Each-both}
+use Rattle.store_api.proofs.Journals.{Each-append, Each-both}
 use Rattle.repository.specs.Beginning.{begin_program}
 use Rattle.repository.specs.Refs.{refs_program}
 use Rattle.play_script.specs.declared.scripts.Script.{Script}
@@ -20,12 +20,18 @@ use Rattle.play_outcome.specs.declared.outcome.Outcome.{Outcome}
 use Rattle.play_outcome.specs.declared.outcome.RefLine.{RefLine}
 use Rattle.play_tasks.specs.Laws.{OutcomeLaw}
 use Rattle.play_tasks.specs.Tasks.{ids_at, TellsAt, AllTold, AllBlame}
-use Rattle.play_run.specs.Order.{RanTasks, places_of}
 use Rattle.play_run.proofs.Turning.{only-other}
-use Rattle.play_course.specs.Course.{turns_in, PlaysTasks, Plays, Course}
+use Rattle.play_at_once.specs.Running.{RanAtOnce}
+use Rattle.play_course.specs.Course.{RanBy, PlaysTasks, Plays, Course}
 
-pub plays-tasks : {V : Type 0} (draw : Draw) (script : Script) (tasks : List Task) (turns : List Turn) (old new : View) (result : Result V AllocError) (items : V → List Outcome) → tasks ≡ script.tasks → turns ≡ turns_in script.turns
-    → IfOk result (λ v. RanTasks draw tasks old.caller.tells (places_of turns) (items v) old.seen new.seen)
+-- in whatever way the tasks ran, this is so
+pub at-once : (turns : Option (List Turn)) (draw : Draw) (tasks : List Task) (tells : Bool) (outcomes : List Outcome) (old new : List Event) → RanBy turns draw tasks tells outcomes old new → RanAtOnce draw tasks tells outcomes old new
+at-once None draw tasks tells outcomes old new r = r
+at-once (Some turns) draw tasks tells outcomes old new r = record { own = r.ran.own; is = r.ran.is; careful = r.ran.careful; played = r.played }
+
+-- the run of a script's tasks
+pub plays-tasks : {V : Type 0} (draw : Draw) (script : Script) (tasks : List Task) (turns : Option (List Turn)) (old new : View) (result : Result V AllocError) (items : V → List Outcome) → tasks ≡ script.tasks → script.turns ≡ turns
+    → IfOk result (λ v. RanBy turns draw tasks old.caller.tells (items v) old.seen new.seen)
     → IfOk result (λ v. length (items v) ≡ length tasks)
     → IfOk result (λ v. AllBlame (items v) old.faults new.faults)
     → old.faults ≤ new.faults → new.caller.tells ≡ old.caller.tells
@@ -33,12 +39,25 @@ pub plays-tasks : {V : Type 0} (draw : Draw) (script : Script) (tasks : List Tas
 plays-tasks draw script tasks turns old new (Err error) items t e ran size blames counted tells = tt
 plays-tasks draw script tasks turns old new (Ok v) items t e ran size blames counted tells = record {
   size = size ∙ ap length t;
-  ran = subst (λ (ts : List Turn). RanTasks draw script.tasks old.caller.tells (places_of ts) (items v) old.seen new.seen) e
-      (subst (λ (ts : List Task). RanTasks draw ts old.caller.tells (places_of turns) (items v) old.seen new.seen) t ran);
+  ran = subst (λ (o : Option (List Turn)). RanBy o draw script.tasks old.caller.tells (items v) old.seen new.seen) (sym e)
+      (subst (λ (ts : List Task). RanBy turns draw ts old.caller.tells (items v) old.seen new.seen) t ran);
   blames = blames;
   counted = counted;
   tells = tells;
 }
+
+-- what is so of an answer
+pub of-ok : {A E : Type 0} (P : A → Type 0) (r : Result A E) (a : A) → r ≡ Ok a → IfOk r P → P a
+of-ok {A = A} {E = E} P r a is p = subst (λ (x : Result A E). IfOk x P) is p
+
+-- ---- the journal is good
+-- behind a machine that ran alone
+pub good-behind : (tells : Bool) (old first new : View) {A : Type 0} (p : Program A) (result : Result A Refusal) → old.caller.tells ≡ tells → HasAll old.caller → first ≡ as_client 0 old → Runs first new p result → (tells ≡ true → IsGoodJournal old.seen) → tells ≡ true → IsGoodJournal new.seen
+good-behind tells old first new p result law all is_first runs good telling =
+    let r : Runs (as_client 0 old) new p result = subst (λ (v : View). Runs v new p result) is_first runs in
+    let told : IsTrue old.caller.tells = law ∙ telling in
+    let adds = r.alone told (record { low = all.low; end = all.end }) in
+    subst IsGoodJournal (sym adds.is) (Each-append IsGood [] old.seen r.own (good telling) adds.good)
 
 -- ---- what outcomes tell stays so through the events of client 0
 -- the client's own events are its

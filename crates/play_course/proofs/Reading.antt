@@ -44,6 +44,7 @@ use Rattle.commit_path.proofs.Putting.{extends-same, extends-more, puts-kept}
 use Rattle.commit_path.proofs.Readable.{some_of}
 use Rattle.chunk_calls.proofs.Seen.{IsThere, there, by-entry, by-base}
 use Rattle.play_course.specs.Refusing.{is_strange}
+use Rattle.play_course.proofs.Tidy.{Client}
 use Rattle.play_course.proofs.Meeting.{was-read, Meets, done-meets, ask-meets, got-meets}
 use Rattle.play_course.proofs.Knowing.{OfOthers, OfOwn, beside, before-got, good-others}
 use Rattle.play_course.proofs.Holding.{last-stands, Held, held-others, has-chunks, keeps-frozen, IsOfBase, AreOfBase, own-of-base, manifest-stands, is-whole, base-place}
@@ -87,7 +88,7 @@ and-then : {A B : Type 0} (f : A → Option B) (o : Option A) (b : B) → option
 and-then f None b e = absurd cc
 and-then f (Some a) b e = (a, refl, e)
 
-module _ (client : ℕ) (ids : AnyIds) (s : SessionState) where
+module _ (client : Client) (ids : AnyIds) (s : SessionState) where
   -- the session is as it was, or the read is refused as it may be
   abbrev pub ReadWell : Result Value Refusal → List Event → Type 0
   ReadWell (Ok value) h = Held client ids s h

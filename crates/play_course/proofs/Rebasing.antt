@@ -49,7 +49,7 @@ use Rattle.rebase.proofs.Walking.{IsHead, IsHead-append, got-head}
 use Rattle.rebase.proofs.Moving.{IsLess, HasNamed, HasNamed-append, same-opened, moved-opened}
 use Rattle.run_histories.specs.Runs.{AllCaused, IsChildOf, HasCause}
 use Rattle.play_course.specs.Refusing.{is_strange}
-use Rattle.play_course.proofs.Tidy.{IsAny, stands-readable, stands-first, put-stands, all-named}
+use Rattle.play_course.proofs.Tidy.{Client, IsAny, stands-readable, stands-first, put-stands, all-named}
 use Rattle.play_course.proofs.Meeting.{was-read, Meets, done-meets, ask-meets, then-meets, got-meets}
 use Rattle.play_course.proofs.Knowing.{OfOwn, beside, good-others}
 use Rattle.play_course.proofs.Holding.{MayCommit, may-others, may-got}
@@ -145,7 +145,7 @@ behind base head left above f parent = elim parent [
 abbrev Nodes : Type 0
 Nodes = FinMap path_cmp Node
 
-module _ (client : ℕ) (ids : AnyIds) (law : SnapshotLaw) (policy : Policy) (s : SessionState) where
+module _ (client : Client) (ids : AnyIds) (law : SnapshotLaw) (policy : Policy) (s : SessionState) where
   own-good : (journal : List Event) (event : Event) → OfOwn ids journal event → Each IsGood journal (event ∷ [])
   own-good journal event own = Each-one IsGood journal event own.tidy.good
 

@@ -59,10 +59,11 @@ use Rattle.zarr_keys.specs.Keys.{session_of, meta_value, put_over, erased_at, ke
 use Rattle.play_tasks.specs.Lines.{deed, edit_deed, read_deed, edited, read_by, silent, still, nodes_shown, meta_shown, value_shown, key_shown, chunk_key_shown, key_set_deed, key_get_deed, filled, Goes}
 use Rattle.play_tasks.specs.Playing.{Rest, after_line, after_commit, after_rebase, after_open, shown_by, commit_play, tries_of, policy_of, play_deed, play_lines, asked_by, session_play}
 use Rattle.run_histories.specs.Sources.{NodesAreNew}
-use Rattle.run_histories.proofs.Drawing.{AreOf, edited-draws, text-draws, taken-draws, access-ids}
+use Rattle.run_histories.proofs.Drawing.{edited-draws, text-draws, taken-draws, access-ids}
 use Rattle.run_histories.proofs.Edits.{Edits, edit-later, edit-goes, edit-base, own-stay}
 use Rattle.run_histories.proofs.Editing.{Leads, call-leads}
 use Rattle.play_course.specs.Refusing.{is_strange}
+use Rattle.play_course.proofs.Tidy.{Client, AreIts}
 use Rattle.play_course.proofs.Meeting.{PlayMeets, ended-meets, or-meets, call-meets}
 use Rattle.play_course.proofs.Knowing.{Before, beside, before-later}
 use Rattle.play_course.proofs.Holding.{Held, MayCommit, held-may}
@@ -214,11 +215,11 @@ EndsFine (E.Committed id) = Unit {0}
 EndsFine E.Done = Unit {0}
 EndsFine (E.Refused line why) = IsFine why
 
-module _ (client : ℕ) (ids : AnyIds) where
+module _ (client : Client) (ids : AnyIds) where
   abbrev Knows : SessionState → List Event → Type 0
   Knows s journal = Held client ids s journal
 
-  held-led : (s t : SessionState) (journal : List Event) → (t ≡ s) ⊎ Edits s t → AreOf client t.ids → IsOpened t journal → Held client ids s journal → Held client ids t journal
+  held-led : (s t : SessionState) (journal : List Event) → (t ≡ s) ⊎ Edits s t → AreIts client t.ids → IsOpened t journal → Held client ids s journal → Held client ids t journal
   held-led s t journal (inl same) known opened h = subst (λ (x : SessionState). Held client ids x journal) (sym same) h
   held-led s t journal (inr edits) known opened h = record {
     before = before-later s.ids t.ids journal (edit-later s t edits) h.before;
@@ -245,13 +246,13 @@ module _ (client : ℕ) (ids : AnyIds) where
   edit-meets : (line : ℕ) (shown : List Shown) (edit : EditCall) (s : SessionState) (rest : Rest) (journal : List Event) → Held client ids s journal → GoesOn rest → Leads (Goes (silent (edited edit s))) s → (r : Result SessionState Refusal) → edited edit s ≡ r
       → PlayMeets Ends (beside client ids) (after_line line shown (silent r) rest) journal
   edit-meets line shown edit s rest journal h go leads (Ok t) e =
-      go t (shown ++ []) journal (held-led s t journal (leads [] t (ap (λ (x : Result SessionState Refusal). silent x) e)) (edited-draws client edit s t h.known e) (edited-known edit s t journal e h.opened) h)
+      go t (shown ++ []) journal (held-led s t journal (leads [] t (ap (λ (x : Result SessionState Refusal). silent x) e)) (edited-draws client.draw client.number edit s t h.known e) (edited-known edit s t journal e h.opened) h)
   edit-meets line shown edit s rest journal h go leads (Err why) e = refused-meets line shown why journal (edited-plain edit s why e)
 
   -- a key's metadata is put
-  put-draws : (o : Option Node) (s t : SessionState) (path text : List ℕ) → AreOf client s.ids → put_over o s path text ≡ Ok t → AreOf client t.ids
-  put-draws (Some node) s t path text known e = text-draws client s t path text known e
-  put-draws None s t path text known e = taken-draws client node_fault s t path text (λ bad. refl) known (node_added s path text) refl e
+  put-draws : (o : Option Node) (s t : SessionState) (path text : List ℕ) → AreIts client s.ids → put_over o s path text ≡ Ok t → AreIts client t.ids
+  put-draws (Some node) s t path text known e = text-draws client.draw client.number s t path text known e
+  put-draws None s t path text known e = taken-draws client.draw client.number node_fault s t path text (λ bad. refl) known (node_added s path text) refl e
 
   put-meets : (line : ℕ) (shown : List Shown) (o : Option Node) (path text : List ℕ) (s : SessionState) (rest : Rest) (journal : List Event) → Held client ids s journal → GoesOn rest → Leads (Goes (silent (put_over o s path text))) s → (r : Result SessionState Refusal) → put_over o s path text ≡ r
       → PlayMeets Ends (beside client ids) (after_line line shown (silent r) rest) journal
@@ -358,12 +359,12 @@ module _ (client : ℕ) (ids : AnyIds) where
       (deed-meets law access l.number l.call shown s (play_lines access ls) journal h (λ t more j k. lines-meets law access ls (All-tail IsWellLine l ls well) t more j k) (call-leads l.number l.call s (All-head IsWellLine l ls well).call))
       (refused-meets l.number shown R.NoMemory journal refl)
 
-  opened-meets : (law : SnapshotLaw) (access : Access) (line : ℕ) (body : List Line) → All IsWellLine body → (known : AreOf client ids) (r : Result SessionState Refusal) (journal : List Event) → Opens client ids known (asked_by access ids) (access-ids access ids) r journal → PlayMeets Ends (beside client ids) (after_open access line body r) journal
+  opened-meets : (law : SnapshotLaw) (access : Access) (line : ℕ) (body : List Line) → All IsWellLine body → (known : AreIts client ids) (r : Result SessionState Refusal) (journal : List Event) → Opens client ids known (asked_by access ids) (access-ids access ids) r journal → PlayMeets Ends (beside client ids) (after_open access line body r) journal
   opened-meets law access line body well known (Ok s) journal h = lines-meets law access body well s [] journal h
   opened-meets law access line body well known (Err why) journal p = refused-meets line [] why journal p
 
   -- a session of this client is refused as it may be, or by a log that hides a node
-  pub session-meets : (law : SnapshotLaw) (access : Access) (line : ℕ) (body : List Line) → All IsWellLine body → (journal : List Event) → AreOf client ids → Before ids journal → NodesAreNew ids journal → PlayMeets (λ o. EndsFine o.end) (beside client ids) (session_play ids access line body) journal
+  pub session-meets : (law : SnapshotLaw) (access : Access) (line : ℕ) (body : List Line) → All IsWellLine body → (journal : List Event) → AreIts client ids → Before ids journal → NodesAreNew ids journal → PlayMeets (λ o. EndsFine o.end) (beside client ids) (session_play ids access line body) journal
   session-meets law access line body well journal known before nodes =
       call-meets Ends (beside client ids) (Opens client ids known (asked_by access ids) (access-ids access ids)) (open_program (asked_by access ids)) (after_open access line body) journal
       (open-meets client ids known (asked_by access ids) (access-ids access ids) journal (record { before = before; nodes = nodes }))

@@ -1,8 +1,11 @@
 -- What stands in the journal of a run over an empty store.
 use Rattle.std.proofs.Common.{◌≡◌, ◌≢◌, ℕ, ◌⊎◌, inl, inr, true, false, List, [], ◌∷◌, ◌++◌, length, refl, sym, ◌∙◌, ap, subst, append_assoc, append-nil}
-use Rattle.std.specs.Prelude.{Option, Some, None}
+use Rattle.std.specs.Prelude.{◌≤◌, Option, Some, None}
 use Rattle.std.specs.Option.{option_or}
 use Rattle.ice_ids.specs.declared.Id12.{Id12}
+use Rattle.ice_ids.specs.declared.drawing.AnyIds.{AnyIds}
+use Rattle.ice_ids.specs.declared.drawing.Draw.{Draw}
+use Rattle.ice_ids.specs.Drawing.{DrawsOnce}
 use Rattle.ice_ids.specs.Text.{initial_id}
 use Rattle.snapshot_file.specs.declared.snapshot.SnapshotFile.{SnapshotFile}
 use Rattle.repo_objects.specs.Readings.{snapshot_by}
@@ -18,7 +21,7 @@ use Rattle.store_api.proofs.Journals.{Each-append, Each-weaker}
 use Rattle.store_api.proofs.Naming.{names-law}
 use Rattle.store_api.proofs.Slots.{effect-cases, free-cases, old-cases, slot-append_one, slot-none, same_key-true}
 use Rattle.run_histories.proofs.Along.{IsObject, Removes, no-object, unused-one}
-use Rattle.run_histories.proofs.Drawing.{IsDrawnBy, drawn-not_initial}
+use Rattle.run_histories.proofs.Drawing.{IsDrawnBy, AreOf, drawn-not_initial}
 use Rattle.run_histories.proofs.Programs.{IsBranch}
 
 -- ---- events
@@ -81,9 +84,26 @@ puts-weaker who more f (RemoveAt key old why) p = p
 abbrev pub IsAny : List Event → Event → Type 0
 IsAny = IsTidy (λ id. Unit {0})
 
+-- ---- clients
+-- a client of a run in which no id is drawn twice
+pub record Client : Type 0 where
+  pub draw : Draw
+  pub most : ℕ
+  pub once : DrawsOnce draw most
+  pub number : ℕ
+  pub small : number ≤ most
+
+-- an id that it may draw
+abbrev pub Draws : Client → Id12 → Type 0
+Draws client = IsDrawnBy client.draw client.number
+
+-- ids of it
+abbrev pub AreIts : Client → AnyIds → Type 0
+AreIts client = AreOf client.draw client.number
+
 -- an event of others than this client
-abbrev pub IsOthers : ℕ → List Event → Event → Type 0
-IsOthers client = IsTidy (λ id. ¬ IsDrawnBy client id)
+abbrev pub IsOthers : Client → List Event → Event → Type 0
+IsOthers client = IsTidy (λ id. ¬ Draws client id)
 
 pub any-of : (who : Id12 → Type 0) (journal : List Event) (event : Event) → IsTidy who journal event → IsAny journal event
 any-of who journal event t = record { good = t.good; puts = puts-weaker who (λ id. Unit {0}) (λ id w. tt) event.op t.puts }
@@ -201,8 +221,8 @@ pub record IsSpared (who : Id12 → Type 0) (key : Key) : Type 0 where
   pub new : (bytes : List ℕ) → ¬ PutsNew who bytes key
   pub over : ¬ PutsOver key
 
-pub spared-snapshot : (client : ℕ) (id : Id12) → IsDrawnBy client id → (who : Id12 → Type 0) → ¬ who id → IsSpared who (Snapshot id)
-spared-snapshot client id d who other = record { new = λ bytes p. elim p.1 [ inl i ↦ absurd (drawn-not_initial client id d i) | inr w ↦ other w ]; over = λ p. p }
+pub spared-snapshot : (client : Client) (id : Id12) → Draws client id → (who : Id12 → Type 0) → ¬ who id → IsSpared who (Snapshot id)
+spared-snapshot client id d who other = record { new = λ bytes p. elim p.1 [ inl i ↦ absurd (drawn-not_initial client.draw client.most client.once client.number id client.small d i) | inr w ↦ other w ]; over = λ p. p }
 
 pub spared-log : (id : Id12) (who : Id12 → Type 0) → ¬ who id → IsSpared who (Txn id)
 spared-log id who other = record { new = λ bytes p. other p; over = λ p. p }

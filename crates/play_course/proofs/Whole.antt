@@ -1,10 +1,11 @@
 -- A run over an empty store gives no strange refusal.
-use Rattle.std.proofs.Common.{◌≡◌, ◌≢◌, ℕ, ◌+◌, ◌-◌, ◌^◌, ◌<◌, ◌⊎◌, inl, inr, false, List, [], ◌∷◌, ◌++◌, length, refl, sym, ◌∙◌, ap, subst, append_assoc, append-nil, set, arith, zero-add}
+use Rattle.std.proofs.Common.{◌≡◌, ◌≢◌, ℕ, ◌+◌, ◌<◌, ◌⊎◌, inl, inr, false, List, [], ◌∷◌, ◌++◌, length, refl, sym, ◌∙◌, ap, subst, arith}
 use Rattle.std.specs.Prelude.{◌≤◌, Some, None, Result, Ok, Err, All, IfOk, IsTrue, slice_get, get_or}
 use Rattle.std.specs.declared.alloc.AllocError.{AllocError}
 use Rattle.ice_ids.specs.declared.Id12.{Id12}
 use Rattle.ice_ids.specs.declared.drawing.AnyIds.{AnyIds}
 use Rattle.ice_ids.specs.declared.drawing.Draw.{Draw}
+use Rattle.ice_ids.specs.Drawing.{DrawsOnce}
 use Rattle.store_api.specs.declared.keys.Key.{Key}
 use Rattle.store_api.specs.declared.keys.Key.TheVariants.{Snapshot, Manifest, Txn, Chunk, Branch, Tag, TagGone}
 use Rattle.store_api.specs.declared.events.Op.{Op}
@@ -14,9 +15,8 @@ use Rattle.store_api.specs.declared.machines.Refusal.{Refusal}
 use Rattle.store_api.specs.declared.machines.Refusal.TheVariants as R
 use Rattle.store_api.specs.Journal.{Each, IsGood}
 use Rattle.store_api.specs.Callers.{Caller, View, HasAll, as_client}
-use Rattle.store_api.specs.Program.{Done, Path}
-use Rattle.store_api.specs.Plays.{Play, Ended, Ask, Comes as ComesTo}
-use Rattle.store_api.proofs.Journals.{Each-append, Each-weaker, Each-both, Each-one, Each-two, Each-back}
+use Rattle.store_api.specs.Program.{Done, Path, events_of}
+use Rattle.store_api.proofs.Journals.{Each-append, Each-weaker, Each-both}
 use Rattle.session.specs.Sessions.{SessionState}
 use Rattle.commit_path.specs.Owed.{Sessions, OwesNew, Owes}
 use Rattle.store_api.specs.Running.{Program, Runs}
@@ -35,11 +35,9 @@ use Rattle.play_tasks.specs.Playing.{headed_play, task_play}
 use Rattle.play_tasks.specs.Telling.{TellsBy}
 use Rattle.play_tasks.specs.Solving.{IsOfTask}
 use Rattle.play_tasks.specs.Tasks.{ids_at, IsOfClient}
-use Rattle.play_run.specs.Order.{WentOn, FellShort, Turned, InTurns, Begin}
-use Rattle.play_run.proofs.Places.{at_set}
-use Rattle.play_run.proofs.Rounds.{play_at, ends_of, ends_at}
+use Rattle.play_tasks.specs.Played.{PlaysTo}
 use Rattle.run_histories.proofs.Programs.{IsPlain, AllPlain, path-plain, begin-plain, refs-plain}
-use Rattle.run_histories.proofs.Drawing.{IsDrawnBy, AreOf, object-draws, drawn-apart, ids_at-of}
+use Rattle.run_histories.proofs.Drawing.{IsDrawnBy, object-draws, drawn-apart, ids_at-of}
 use Rattle.run_histories.proofs.Carrying.{task-draws}
 use Rattle.run_histories.proofs.Along.{IsOfOpener, by-head, well-at}
 use Rattle.run_histories.specs.Sources.{NodesAreNew, IsNewRun}
@@ -55,14 +53,14 @@ use Rattle.std.proofs.lemmas.Option.{slice_get_cases, slice_get_within}
 use Rattle.play_course.specs.declared.course.Played.{Played}
 use Rattle.play_course.specs.Course.{Course, Plays}
 use Rattle.play_course.specs.Refusing.{strange_answer, strange_end, NothingStrange}
-use Rattle.play_course.proofs.Tidy.{IsTidy, IsAny, IsOthers, Puts, PutsNew, puts-weaker, any-of, free-others, spared-snapshot, spared-log, spared-manifest, spared-chunk, nothing-stands}
-use Rattle.play_course.proofs.Meeting.{drawing, Meets, PlayMeets, play-weaker, meets-ended, meets-comes, meets-others, meets-acted, meets-starved, meets-path}
+use Rattle.play_course.proofs.Tidy.{Client, Draws, AreIts, IsTidy, IsAny, IsOthers, Puts, PutsNew, puts-weaker, any-of, free-others, spared-snapshot, spared-log, spared-manifest, spared-chunk, nothing-stands}
+use Rattle.play_course.proofs.Meeting.{Watch, drawing, Meets, PlayMeets, IsWatched, plays-meets, meets-path}
 use Rattle.play_course.proofs.Calling.{calls-meet}
 use Rattle.play_course.proofs.Tasks.{EndsFine, session-meets}
 use Rattle.play_course.proofs.Hiding.{NeverHides, told-plain}
 use Rattle.play_course.proofs.Knowing.{IsSoFar, IsFreeId, OfOthers, OfOwn, Before, beside}
-use Rattle.play_course.proofs.Playing.{tells-on}
-use Rattle.play_course.proofs.Leaving.{few-tasks, ran-alone, course-run}
+use Rattle.play_course.proofs.Playing.{at-once, tells-on}
+use Rattle.play_course.proofs.Leaving.{ran-alone, course-run}
 use Rattle.play_course.proofs.Edges.{plain-puts, plain-tidy, begin-meets, refs-meets}
 
 -- ---- the ends of tasks
@@ -101,138 +99,94 @@ owes-puts ids mine who f g journal (PutOver (TagGone name) bytes old why) o = ab
 owes-puts ids mine who f g journal (Remove key why) o = absurd o
 owes-puts ids mine who f g journal (RemoveAt key old why) o = absurd o
 
-module _ (initial : InitialLaw) (draw : Draw) (tasks : List Task) (few : length tasks < 2 ^ 32 - 1) (wells : All IsWellTask tasks) where
+module _ (initial : InitialLaw) (draw : Draw) (tasks : List Task) (once : DrawsOnce draw (length tasks)) (wells : All IsWellTask tasks) where
+  -- the client of a task
+  abbrev client_at : (place : ℕ) → place < length tasks → Client
+  client_at place within = record { draw = draw; most = length tasks; once = once; number = place + 1; small = omega (arith, within) }
+
   -- the puts of a client that opens a session are under ids that it drew
-  opener-tidy : (start journal : List Event) (event : Event) → (c : IsOfOpener draw tasks start journal event) → IsTidy (IsDrawnBy (c.place + 1)) journal event
+  opener-tidy : (start journal : List Event) (event : Event) → (c : IsOfOpener draw tasks start journal event) → IsTidy (IsDrawnBy draw (c.place + 1)) journal event
   opener-tidy start journal event c = record {
     good = c.careful.good;
-    puts = owes-puts (ids_at draw c.place) (IsOfTask (ids_at draw c.place) c.task (c.place + 1) start) (IsDrawnBy (c.place + 1))
-        (λ h s id m. task-draws (ids_at draw c.place) c.task (c.place + 1) start h s id (well-at draw tasks wells c.place c.task c.at) m (c.place + 1) (ids_at-of draw tasks c.place c.task few c.at))
-        (λ id m. object-draws (c.place + 1) (ids_at draw c.place) id (ids_at-of draw tasks c.place c.task few c.at) m) journal event.op c.careful.owes;
+    puts = owes-puts (ids_at draw c.place) (IsOfTask (ids_at draw c.place) c.task (c.place + 1) start) (IsDrawnBy draw (c.place + 1))
+        (λ h s id m. task-draws (ids_at draw c.place) c.task (c.place + 1) start h s id (well-at draw tasks wells c.place c.task c.at) m draw (c.place + 1) (ids_at-of draw c.place))
+        (λ id m. object-draws draw (c.place + 1) (ids_at draw c.place) id (ids_at-of draw c.place) m) journal event.op c.careful.owes;
   }
 
   -- and those of a client that calls on refs are under none
   anybody : (start journal : List Event) (event : Event) → IsOfClient draw tasks start journal event → IsAny journal event
   anybody start journal event c = elim (by-head draw tasks start journal event c) [
-    | inl o ↦ any-of (IsDrawnBy (o.place + 1)) journal event (opener-tidy start journal event o)
+    | inl o ↦ any-of (IsDrawnBy draw (o.place + 1)) journal event (opener-tidy start journal event o)
     | inr p ↦ record { good = p.0; puts = puts-weaker (λ id. ⊥) (λ id. Unit {0}) (λ id d. tt) event.op (plain-puts initial event.op p.1) }
   ]
 
-  another : (k : ℕ) (start journal : List Event) (event : Event) → event.client ≢ k + 1 → IsOfClient draw tasks start journal event → IsOthers (k + 1) journal event
-  another k start journal event n c = elim (by-head draw tasks start journal event c) [
+  -- two clients of tasks draw no id both
+  apart : (a b : ℕ) (id : Id12) → a < length tasks → b < length tasks → IsDrawnBy draw (a + 1) id → IsDrawnBy draw (b + 1) id → a + 1 ≡ b + 1
+  apart a b id first second d e = drawn-apart draw (length tasks) once (a + 1) (b + 1) id (omega (arith, first)) (omega (arith, second)) d e
+
+  another : (k : ℕ) (within : k < length tasks) (start journal : List Event) (event : Event) → event.client ≢ k + 1 → IsOfClient draw tasks start journal event → IsOthers (client_at k within) journal event
+  another k within start journal event n c = elim (by-head draw tasks start journal event c) [
     | inl o ↦ let t = opener-tidy start journal event o in record {
       good = t.good;
-      puts = puts-weaker (IsDrawnBy (o.place + 1)) (λ id. ¬ IsDrawnBy (k + 1) id) (λ id d e. n (o.client ∙ drawn-apart (o.place + 1) (k + 1) id d e)) event.op t.puts;
+      puts = puts-weaker (IsDrawnBy draw (o.place + 1)) (λ id. ¬ IsDrawnBy draw (k + 1) id) (λ id d e. n (o.client ∙ apart o.place k id (slice_get_within tasks o.place o.task o.at) within d e)) event.op t.puts;
     }
-    | inr p ↦ record { good = p.0; puts = puts-weaker (λ id. ⊥) (λ id. ¬ IsDrawnBy (k + 1) id) (λ id d e. d) event.op (plain-puts initial event.op p.1) }
+    | inr p ↦ record { good = p.0; puts = puts-weaker (λ id. ⊥) (λ id. ¬ IsDrawnBy draw (k + 1) id) (λ id d e. d) event.op (plain-puts initial event.op p.1) }
   ]
 
   -- ---- what is known of each event
   abbrev Hold : List Event → Type 0
-  Hold = Holds draw tasks few wells initial []
+  Hold = Holds draw tasks once wells initial []
 
   -- it is of a client, and what holds of the journal before it is known
   abbrev Comes : List Event → List Event → Event → Type 0
-  Comes start journal event = IsOfClient draw tasks start journal event × IsKnown draw tasks few wells initial [] start journal event
+  Comes start journal event = IsOfClient draw tasks start journal event × IsKnown draw tasks once wells initial [] start journal event
 
   so-far : (journal : List Event) → Hold journal → IsSoFar journal
   so-far journal h = record { once = h.once; trees = h.trees; causes = h.causes }
 
-  nodes-stay : (k : ℕ) → k < length tasks → (start journal : List Event) (event : Event) → IsKnown draw tasks few wells initial [] start journal event → PutsNone (k + 1) journal event → NodesAreNew (ids_at draw k) journal → NodesAreNew (ids_at draw k) (journal ++ event ∷ [])
-  nodes-stay k within start journal event known none new = known-nodes draw tasks few wells initial [] start k within journal event known none new
+  -- what was known of all events of the tasks
+  comes-along : (start own : List Event) → Each (IsOfClient draw tasks start) start own → Hold start → AllNodesAreNew draw tasks once wells initial [] start → Each (Comes start) start own
+  comes-along start own careful holds nodes =
+      let known = run-knows draw tasks once wells initial [] start own (Each-weaker (IsOfClient draw tasks start) (IsOfRun draw tasks once wells initial [] start) (λ h event c. by-head draw tasks start h event c) start own careful) holds nodes in
+      Each-both (IsOfClient draw tasks start) (IsKnown draw tasks once wells initial [] start) (Comes start) (λ h event c k. (c, k)) start own careful known
 
-  by-other : (k : ℕ) → k < length tasks → (start journal : List Event) (event : Event) → event.client ≢ k + 1 → Comes start journal event → OfOthers (k + 1) (ids_at draw k) journal event
-  by-other k within start journal event differs c = record {
-    tidy = another k start journal event differs c.0;
-    after = so-far (journal ++ event ∷ []) (known-holds draw tasks few wells initial [] start journal event c.1);
-    nodes = λ new. nodes-stay k within start journal event c.1 (λ e p. differs e) new;
-  }
+  -- ---- one task
+  module _ (k : ℕ) (within : k < length tasks) where
+    abbrev ids : AnyIds
+    ids = ids_at draw k
 
-  by-itself : (k : ℕ) → k < length tasks → (start journal : List Event) (event : Event) → Comes start journal event → OfOwn (ids_at draw k) journal event
-  by-itself k within start journal event c = record {
-    tidy = anybody start journal event c.0;
-    after = so-far (journal ++ event ∷ []) (known-holds draw tasks few wells initial [] start journal event c.1);
-    nodes = λ none new. nodes-stay k within start journal event c.1 (λ e p. none p) new;
-  }
+    abbrev watch : Watch
+    watch = beside (client_at k within) ids
 
-  -- ---- turns
-  -- how the task at a place ends
-  abbrev EndsAt : ℕ → Outcome → Type 0
-  EndsAt k o = (task : Task) → slice_get tasks k ≡ Some task → EndsBy task.head o.end
+    nodes-stay : (start journal : List Event) (event : Event) → IsKnown draw tasks once wells initial [] start journal event → PutsNone (k + 1) journal event → NodesAreNew ids journal → NodesAreNew ids (journal ++ event ∷ [])
+    nodes-stay start journal event known none new = known-nodes draw tasks once wells initial [] start k within journal event known none new
 
-  -- the worker at a place won't be refused so
-  abbrev GoesWell : ℕ → Play Outcome → List Event → Type 0
-  GoesWell k p journal = PlayMeets (EndsAt k) (beside (k + 1) (ids_at draw k)) p journal
+    by-other : (start journal : List Event) (event : Event) → event.client ≢ k + 1 → Comes start journal event → OfOthers (client_at k within) ids journal event
+    by-other start journal event differs c = record {
+      tidy = another k within start journal event differs c.0;
+      after = so-far (journal ++ event ∷ []) (known-holds draw tasks once wells initial [] start journal event c.1);
+      nodes = λ new. nodes-stay start journal event c.1 (λ e p. differs e) new;
+    }
 
-  abbrev AllWell : List (Play Outcome) → List Event → Type 0
-  AllWell ps journal = (k : ℕ) (p : Play Outcome) → slice_get ps k ≡ Some p → (k < length tasks) × GoesWell k p journal
+    by-itself : (start journal : List Event) (event : Event) → Comes start journal event → OfOwn ids journal event
+    by-itself start journal event c = record {
+      tidy = anybody start journal event c.0;
+      after = so-far (journal ++ event ∷ []) (known-holds draw tasks once wells initial [] start journal event c.1);
+      nodes = λ none new. nodes-stay start journal event c.1 (λ e p. none p) new;
+    }
 
-  well-others : (k : ℕ) (p : Play Outcome) (old : List Event) (event : Event) → OfOthers (k + 1) (ids_at draw k) old event → GoesWell k p old → GoesWell k p (old ++ event ∷ [])
-  well-others k p old event o m = meets-others (EndsAt k) (beside (k + 1) (ids_at draw k)) p old (event ∷ []) (Each-one (OfOthers (k + 1) (ids_at draw k)) old event o) m
+    -- of a task that opens a session, or calls on refs
+    headed-well : SnapshotLaw → (task : Task) (journal : List Event) → IsWellTask task → Before ids journal → NodesAreNew ids journal → (head : Head) → PlayMeets (λ o. EndsBy head o.end) watch (headed_play head ids task) journal
+    headed-well law task journal well before nodes (Session access) = session-meets (client_at k within) ids law access task.line task.body well.body journal (ids_at-of draw k) before nodes
+    headed-well law task journal well before nodes Refs = calls-meet (client_at k within) ids task.body [] journal before.tidy
 
-  well-nothing : (ps : List (Play Outcome)) (old events : List Event) → events ≡ [] → AllWell ps old → AllWell ps (old ++ events)
-  well-nothing ps old events e all = subst (λ (xs : List Event). AllWell ps (old ++ xs)) (sym e) (subst (λ (h : List Event). AllWell ps h) (sym (append-nil old)) all)
-
-  well-acted : (t : ℕ) (ps qs : List (Play Outcome)) (start old events : List Event) → Each (Comes start) old events → WentOn t ps events qs → AllWell ps old → AllWell qs (old ++ events)
-  well-acted t ps qs start old events each a all =
-      let p : Play Outcome = Ask a.event.op a.starved a.next in
-      let c : Comes start old a.event = (Each-two (Comes start) old a.event [] (subst (λ (xs : List Event). Each (Comes start) old xs) a.one each)).0 in
-      let here = all t p a.at in
-      let mine : (t < length tasks) × GoesWell t a.q (old ++ a.event ∷ []) = (here.0, meets-acted (EndsAt t) (beside (t + 1) (ids_at draw t)) a.event.op a.starved a.next a.q old a.event (by-itself t here.0 start old a.event c) refl a.comes here.1) in
-      let set_all : AllWell (set ps t a.q) (old ++ a.event ∷ []) = at_set (λ k p. (k < length tasks) × GoesWell k p (old ++ a.event ∷ [])) ps t p a.q a.at mine
-      (λ k p differs at. let there = all k p at in (there.0, well-others k p old a.event (by-other k there.0 start old a.event (λ e. differs (next_same k t (sym a.client ∙ e))) c) there.1)) in
-      subst (λ (xs : List Event). AllWell qs (old ++ xs)) (sym a.one) (subst (λ (xs : List (Play Outcome)). AllWell xs (old ++ a.event ∷ [])) (sym a.rest) set_all)
-    where
-      next_same : (k t : ℕ) → t + 1 ≡ k + 1 → k ≡ t
-      next_same k t e = omega (arith, e)
-
-  well-starved : (t : ℕ) (ps qs : List (Play Outcome)) (old events : List Event) → FellShort t ps events qs → AllWell ps old → AllWell qs (old ++ events)
-  well-starved t ps qs old events s all =
-      let p : Play Outcome = Ask s.op s.starved s.next in
-      let here = all t p s.at in
-      let mine : (t < length tasks) × GoesWell t s.q old = (here.0, meets-starved (EndsAt t) (beside (t + 1) (ids_at draw t)) s.op s.starved s.next s.q old s.comes here.1) in
-      let set_all : AllWell (set ps t s.q) old = at_set (λ k p. (k < length tasks) × GoesWell k p old) ps t p s.q s.at mine (λ k p differs at. all k p at) in
-      well-nothing qs old events s.nothing (subst (λ (xs : List (Play Outcome)). AllWell xs old) (sym s.rest) set_all)
-
-  well-turned : (t : ℕ) (ps qs : List (Play Outcome)) (start old events : List Event) → Each (Comes start) old events → Turned t ps events qs → AllWell ps old → AllWell qs (old ++ events)
-  well-turned t ps qs start old events each turned all = elim turned [
-    | inl p ↦ well-nothing qs old events p.nothing (subst (λ (xs : List (Play Outcome)). AllWell xs old) (sym p.same) all)
-    | inr r ↦ elim r [
-      | inl a ↦ well-acted t ps qs start old events each a all
-      | inr s ↦ well-starved t ps qs old events s all
-    ]
-  ]
-
-  well-turns : (ts : List ℕ) (ps qs : List (Play Outcome)) (start old events : List Event) → Each (Comes start) old events → InTurns ts ps events qs → AllWell ps old → AllWell qs (old ++ events)
-  unfolding InTurns
-  well-turns [] ps qs start old events each i all = well-nothing qs old events i.0 (subst (λ (xs : List (Play Outcome)). AllWell xs old) (sym i.1) all)
-  well-turns (t ∷ ts) ps qs start old events each i all =
-      let parts = Each-back (Comes start) old i.0 i.1 (subst (λ (xs : List Event). Each (Comes start) old xs) i.3 each) in
-      let first : AllWell i.2 (old ++ i.0) = well-turned t ps i.2 start old i.0 parts.0 i.4 all in
-      let rest : AllWell qs ((old ++ i.0) ++ i.1) = well-turns ts i.2 qs start (old ++ i.0) i.1 parts.1 i.5 first in
-      subst (λ (xs : List Event). AllWell qs (old ++ xs)) (sym i.3) (subst (λ (h : List Event). AllWell qs h) (append_assoc old i.0 i.1) rest)
-
-  -- of a task that opens a session, or calls on refs
-  headed-well : SnapshotLaw → (k : ℕ) (task : Task) (journal : List Event) → IsWellTask task → AreOf (k + 1) (ids_at draw k) → Before (ids_at draw k) journal → NodesAreNew (ids_at draw k) journal → (head : Head) → PlayMeets (λ o. EndsBy head o.end) (beside (k + 1) (ids_at draw k)) (headed_play head (ids_at draw k) task) journal
-  headed-well law k task journal well known before nodes (Session access) = session-meets (k + 1) (ids_at draw k) law access task.line task.body well.body journal known before nodes
-  headed-well law k task journal well known before nodes Refs = calls-meet (k + 1) (ids_at draw k) task.body [] journal before.tidy
-
-  task-same : (k : ℕ) (a b : Task) → slice_get tasks k ≡ Some a → slice_get tasks k ≡ Some b → a ≡ b
-  task-same k a b e f = let both = sym e ∙ f in cc
-
-  well-begun : SnapshotLaw → (journal : List Event) → ((client : ℕ) (ids : AnyIds) → AreOf client ids → Before ids journal) → AllNodesAreNew draw tasks few wells initial [] journal → (ps : List (Play Outcome)) → Begin draw tasks ps → AllWell ps journal
-  well-begun law journal before nodes ps begins k q at =
-      let r = play_at draw 0 tasks ps k q begins at in
-      let p : Play Outcome = task_play (ids_at draw k) r.task in
-      let comes : ComesTo p q = subst (λ (n : ℕ). ComesTo (task_play (ids_at draw n) r.task) q) (zero-add k) r.comes in
-      let within : k < length tasks = slice_get_within tasks k r.task r.at in
-      let known : AreOf (k + 1) (ids_at draw k) = ids_at-of draw tasks k r.task few r.at in
-      let meets = headed-well law k r.task journal (well-at draw tasks wells k r.task r.at) known (before (k + 1) (ids_at draw k) known) (nodes k within) r.task.head in
-      let here : GoesWell k p journal = play-weaker (λ o. EndsBy r.task.head o.end) (EndsAt k) (λ o e task there. subst (λ (t : Task). EndsBy t.head o.end) (task-same k r.task task r.at there) e) (beside (k + 1) (ids_at draw k)) p journal meets in
-      (within, meets-comes (EndsAt k) (beside (k + 1) (ids_at draw k)) p q journal comes here)
-
-  well-ended : (outcomes : List Outcome) (journal : List Event) → AllWell (ends_of outcomes) journal → (place : ℕ) (outcome : Outcome) → slice_get outcomes place ≡ Some outcome → EndsAt place outcome
-  well-ended outcomes journal all place outcome at = meets-ended (EndsAt place) (beside (place + 1) (ids_at draw place)) outcome journal (all place (Ended outcome) (ends_at outcomes place outcome at)).1
+    -- it ends so, whatever the order in which the tasks' clients act
+    ends-well : SnapshotLaw → (task : Task) → slice_get tasks k ≡ Some task → (old events : List Event) → Each (Comes old) old events → Before ids old → NodesAreNew ids old
+        → (outcome : Outcome) → PlaysTo (task_play ids task) (events_of (k + 1) events) outcome → EndsBy task.head outcome.end
+    ends-well law task at old events comes before nodes outcome plays =
+        plays-meets (λ o. EndsBy task.head o.end) watch (k + 1) (task_play ids task) old events outcome
+        (Each-weaker (Comes old) (IsWatched (λ (o : Outcome). EndsBy task.head o.end) watch (k + 1)) (λ h event c. (λ e. by-itself old h event c, λ differs. by-other old h event differs c)) old events comes)
+        plays (headed-well law task old (well-at draw tasks wells k task at) before nodes task.head)
 
 -- ---- the opening and the closing reading
 -- a program that was run alone: its events put nothing under drawn ids, and it came to its end or wanted memory
@@ -258,12 +212,12 @@ answers-plain p result old new a m = elim a.ends [
 ]
 
 -- after the opening of an empty store
-module _ (initial : InitialLaw) (draw : Draw) (tasks : List Task) (few : length tasks < 2 ^ 32 - 1) (wells : All IsWellTask tasks) (opening : Result (Unit {0}) Refusal) (begun : List Event) (a : Alone begin_program opening [] begun) where
+module _ (initial : InitialLaw) (draw : Draw) (tasks : List Task) (once : DrawsOnce draw (length tasks)) (wells : All IsWellTask tasks) (opening : Result (Unit {0}) Refusal) (begun : List Event) (a : Alone begin_program opening [] begun) where
   begun-tidy : Each IsAny [] begun
   begun-tidy = subst (λ (h : List Event). Each IsAny [] h) (sym a.is) (Each-weaker (IsTidy (λ id. ⊥)) IsAny (any-of (λ id. ⊥)) [] a.own a.tidy)
 
   -- what holds of the empty journal
-  nothing-holds : Holds draw tasks few wells initial [] []
+  nothing-holds : Holds draw tasks once wells initial [] []
   nothing-holds =
       let s = nothing-law.0 (λ n. none) in
       record {
@@ -278,13 +232,13 @@ module _ (initial : InitialLaw) (draw : Draw) (tasks : List Task) (few : length 
   own-good : Each IsGood [] a.own
   own-good = Each-weaker (IsTidy (λ id. ⊥)) IsGood (λ h event t. t.good) [] a.own a.tidy
 
-  begun-holds : Holds draw tasks few wells initial [] begun
-  begun-holds = subst (Holds draw tasks few wells initial []) (sym a.is) (holds-along draw tasks few wells initial [] begun [] a.own (plain-known draw tasks few wells initial [] begun [] a.own own-good a.plain nothing-holds) nothing-holds)
+  begun-holds : Holds draw tasks once wells initial [] begun
+  begun-holds = subst (Holds draw tasks once wells initial []) (sym a.is) (holds-along draw tasks once wells initial [] begun [] a.own (plain-known draw tasks once wells initial [] begun [] a.own own-good a.plain nothing-holds) nothing-holds)
 
-  begun-nodes : AllNodesAreNew draw tasks few wells initial [] begun
-  begun-nodes = subst (AllNodesAreNew draw tasks few wells initial []) (sym a.is) (plain-nodes-along draw tasks few wells initial [] begun [] a.own own-good a.plain nothing-holds (λ place within. (nothing-law.1 (ids_at draw place)).nodes))
+  begun-nodes : AllNodesAreNew draw tasks once wells initial [] begun
+  begun-nodes = subst (AllNodesAreNew draw tasks once wells initial []) (sym a.is) (plain-nodes-along draw tasks once wells initial [] begun [] a.own own-good a.plain nothing-holds (λ place within. (nothing-law.1 (ids_at draw place)).nodes))
 
-  begun-free : (client : ℕ) (id : Id12) → IsDrawnBy client id → IsFreeId begun id
+  begun-free : (client : Client) (id : Id12) → Draws client id → IsFreeId begun id
   begun-free client id d = subst (λ (h : List Event). IsFreeId h id) (sym a.is) (record {
     snapshot = free-others (λ i. ⊥) (Snapshot id) [] a.own (spared-snapshot client id d (λ i. ⊥) (λ x. x)) a.tidy (nothing-stands (Snapshot id));
     log = free-others (λ i. ⊥) (Txn id) [] a.own (spared-log id (λ i. ⊥) (λ x. x)) a.tidy (nothing-stands (Txn id));
@@ -292,30 +246,31 @@ module _ (initial : InitialLaw) (draw : Draw) (tasks : List Task) (few : length 
     chunk = free-others (λ i. ⊥) (Chunk id) [] a.own (spared-chunk id (λ i. ⊥) (λ x. x)) a.tidy (nothing-stands (Chunk id));
   })
 
-  begun-before : (client : ℕ) (ids : AnyIds) → AreOf client ids → Before ids begun
+  begun-before : (client : Client) (ids : AnyIds) → AreIts client ids → Before ids begun
   begun-before client ids known = record {
     tidy = begun-tidy;
     so_far = record { once = begun-holds.once; trees = begun-holds.trees; causes = begun-holds.causes };
-    free = λ id m. begun-free client id (object-draws client ids id known m);
+    free = λ id m. begun-free client id (object-draws client.draw client.number ids id known m);
   }
 
 -- ---- the run
-module _ (initial : InitialLaw) (draw : Draw) (script : Script) (few : length script.tasks < 2 ^ 32 - 1) (wells : All IsWellTask script.tasks) where
+module _ (initial : InitialLaw) (draw : Draw) (script : Script) (once : DrawsOnce draw (length script.tasks)) (wells : All IsWellTask script.tasks) where
   plays-tidy : (old new : View) (opening : Result (Unit {0}) Refusal) (outcomes : List Outcome) → IsTrue old.caller.tells → Plays draw script old new opening outcomes → Each IsAny [] old.seen → Each IsAny [] new.seen
   plays-tidy old new (Ok done) outcomes told p tidy =
-      let r = p.ran.ran in
-      subst (λ (h : List Event). Each IsAny [] h) (sym (r.is told)) (Each-append IsAny [] old.seen r.own tidy (Each-weaker (IsOfClient draw script.tasks old.seen) IsAny (anybody initial draw script.tasks few wells old.seen) old.seen r.own (r.careful told)))
+      let r = at-once script.turns draw script.tasks old.caller.tells outcomes old.seen new.seen p.ran in
+      subst (λ (h : List Event). Each IsAny [] h) (sym (r.is told)) (Each-append IsAny [] old.seen r.own tidy (Each-weaker (IsOfClient draw script.tasks old.seen) IsAny (anybody initial draw script.tasks once wells old.seen) old.seen r.own (r.careful told)))
   plays-tidy old new (Err why) outcomes told p tidy = subst (λ (v : View). Each IsAny [] v.seen) (sym p.0) tidy
 
   -- each task ends so
-  plays-fine : SnapshotLaw → (old new : View) (opening : Result (Unit {0}) Refusal) (outcomes : List Outcome) → IsTrue old.caller.tells → Plays draw script old new opening outcomes → ((client : ℕ) (ids : AnyIds) → AreOf client ids → Before ids old.seen)
-      → Holds draw script.tasks few wells initial [] old.seen → AllNodesAreNew draw script.tasks few wells initial [] old.seen → (place : ℕ) (outcome : Outcome) → slice_get outcomes place ≡ Some outcome → (task : Task) → slice_get script.tasks place ≡ Some task → EndsBy task.head outcome.end
-  plays-fine law old new (Ok done) outcomes told p before holds nodes place outcome at =
-      let r = p.ran.ran in
-      let known = run-knows draw script.tasks few wells initial [] old.seen r.own (Each-weaker (IsOfClient draw script.tasks old.seen) (IsOfRun draw script.tasks few wells initial [] old.seen) (λ h event c. by-head draw script.tasks old.seen h event c) old.seen r.own (r.careful told)) holds nodes in
-      let comes = Each-both (IsOfClient draw script.tasks old.seen) (IsKnown draw script.tasks few wells initial [] old.seen) (Comes initial draw script.tasks few wells old.seen) (λ h event c k. (c, k)) old.seen r.own (r.careful told) known in
-      well-ended initial draw script.tasks few wells outcomes (old.seen ++ r.own) (well-turns initial draw script.tasks few wells _ p.ran.begun (ends_of outcomes) old.seen old.seen r.own comes r.order (well-begun initial draw script.tasks few wells law old.seen before nodes p.ran.begun p.ran.begins)) place outcome at
-  plays-fine law old new (Err why) outcomes told p before holds nodes place outcome at = λ task there. let no = sym (ap (λ (os : List Outcome). slice_get os place) p.1) ∙ at in absurd cc
+  plays-fine : SnapshotLaw → (old new : View) (opening : Result (Unit {0}) Refusal) (outcomes : List Outcome) → IsTrue old.caller.tells → Plays draw script old new opening outcomes → ((client : Client) (ids : AnyIds) → AreIts client ids → Before ids old.seen)
+      → Holds draw script.tasks once wells initial [] old.seen → AllNodesAreNew draw script.tasks once wells initial [] old.seen → (place : ℕ) (outcome : Outcome) → slice_get outcomes place ≡ Some outcome → (task : Task) → slice_get script.tasks place ≡ Some task → EndsBy task.head outcome.end
+  plays-fine law old new (Ok done) outcomes told p before holds nodes place outcome at task there =
+      let r = at-once script.turns draw script.tasks old.caller.tells outcomes old.seen new.seen p.ran in
+      let within : place < length script.tasks = slice_get_within script.tasks place task there in
+      ends-well initial draw script.tasks once wells place within law task there old.seen r.own
+      (comes-along initial draw script.tasks once wells old.seen r.own (r.careful told) holds nodes)
+      (before (client_at initial draw script.tasks once wells place within) (ids_at draw place) (ids_at-of draw place)) (nodes place within) outcome (r.played.plays place task outcome there at)
+  plays-fine law old new (Err why) outcomes told p before holds nodes place outcome at task there = let no = sym (ap (λ (os : List Outcome). slice_get os place) p.1) ∙ at in absurd cc
 
   -- there is a task for each outcome
   task-of : (old new : View) (opening : Result (Unit {0}) Refusal) (outcomes : List Outcome) → Plays draw script old new opening outcomes → (place : ℕ) (outcome : Outcome) → slice_get outcomes place ≡ Some outcome → (task : Task) × (slice_get script.tasks place ≡ Some task)
@@ -339,8 +294,8 @@ module _ (initial : InitialLaw) (draw : Draw) (script : Script) (few : length sc
       let first : Alone begin_program opening [] c.begun.seen = subst (λ (h : List Event). Alone begin_program opening h c.begun.seen) empty (was-alone initial begin_program opening (as_client 0 old) c.begun begin-plain told all c.begins) in
       let last : Alone refs_program refs c.played.seen new.seen = was-alone initial refs_program refs (as_client 0 c.played) new refs-plain played_tells last_all c.reads in
       let opened : RanAlone begin_program old.seen c.begun.seen = ran-alone begin_program opening (as_client 0 old) c.begun told all c.begins in
-      let tidy : Each IsAny [] c.begun.seen = begun-tidy initial draw script.tasks few wells opening c.begun.seen first in
-      let fine = plays-fine law c.begun c.played opening outcomes begun_tells c.plays (begun-before initial draw script.tasks few wells opening c.begun.seen first) (begun-holds initial draw script.tasks few wells opening c.begun.seen first) (begun-nodes initial draw script.tasks few wells opening c.begun.seen first) in
+      let tidy : Each IsAny [] c.begun.seen = begun-tidy initial draw script.tasks once wells opening c.begun.seen first in
+      let fine = plays-fine law c.begun c.played opening outcomes begun_tells c.plays (begun-before initial draw script.tasks once wells opening c.begun.seen first) (begun-holds initial draw script.tasks once wells opening c.begun.seen first) (begun-nodes initial draw script.tasks once wells opening c.begun.seen first) in
       record {
         opened = answers-plain begin_program opening [] c.begun.seen first (begin-meets (λ id. ⊥) []);
         tasks = λ place outcome at.
@@ -349,12 +304,11 @@ module _ (initial : InitialLaw) (draw : Draw) (script : Script) (few : length sc
         closed = answers-plain refs_program refs c.played.seen new.seen last (refs-meets (λ id. ⊥) c.played.seen (plays-tidy c.begun c.played opening outcomes begun_tells c.plays tidy));
       }
 
-pub played-plain : InitialLaw → SnapshotLaw → RunLaw → (draw : Draw) (script : Script) (old new : View) (result : Result Played AllocError) → IsWell script → IfOk result (λ played. Course draw script old new played.opening played.outcomes.items played.refs) → IsTrue old.caller.tells → old.seen ≡ []
+pub played-plain : InitialLaw → SnapshotLaw → RunLaw → (draw : Draw) (script : Script) (old new : View) (result : Result Played AllocError) → IsWell script → IfOk result (λ played. Course draw script old new played.opening played.outcomes.items played.refs) → IsTrue old.caller.tells → old.seen ≡ [] → DrawsOnce draw (length script.tasks)
     → IfOk result (λ played. NothingStrange played.opening played.outcomes.items played.refs)
-played-plain initial law run draw script old new (Ok played) well c told empty =
-    let few = few-tasks script well in
+played-plain initial law run draw script old new (Ok played) well c told empty once =
     let sound : IsSound old.seen (λ n. none) = subst (λ (h : List Event). IsSound h (λ n. none)) (sym empty) (nothing-law.0 (λ n. none)) in
-    let new_run : IsNewRun draw script.tasks old.seen = subst (λ (h : List Event). IsNewRun draw script.tasks h) (sym empty) (λ place within. nothing-law.1 (ids_at draw place)) in
-    let histories = run draw script.tasks (λ n. none) old.seen new.seen sound new_run (course-run draw script old new played.opening played.outcomes.items played.refs few well.tasks c told) in
-    course-plain initial draw script few well.tasks law old new played.opening played.outcomes.items played.refs c histories.unhidden told empty
-played-plain initial law run draw script old new (Err error) well c told empty = tt
+    let new_run : IsNewRun draw script.tasks old.seen = subst (λ (h : List Event). IsNewRun draw script.tasks h) (sym empty) (record { once = once; sources = λ place within. nothing-law.1 (ids_at draw place) }) in
+    let histories = run draw script.tasks (λ n. none) old.seen new.seen sound new_run (course-run draw script old new played.opening played.outcomes.items played.refs well.tasks c told) in
+    course-plain initial draw script once well.tasks law old new played.opening played.outcomes.items played.refs c histories.unhidden told empty
+played-plain initial law run draw script old new (Err error) well c told empty once = tt

@@ -1,29 +1,31 @@
 -- What is done once a script is read: the repository is begun where there is none, the tasks are played, and the refs are
 -- read (own).
-use Rattle.std.specs.Prelude.{◌≡◌, ◌≤◌, List, [], length, Option, Some, None, Result, Ok, Err, IsTrue}
+use Rattle.std.specs.Prelude.{◌≡◌, ◌≤◌, Bool, List, [], length, Option, Some, None, Result, Ok, Err, IsTrue}
 use Rattle.ice_ids.specs.declared.drawing.Draw.{Draw}
+use Rattle.store_api.specs.declared.events.Event.{Event}
 use Rattle.store_api.specs.declared.machines.Refusal.{Refusal}
 use Rattle.store_api.specs.Callers.{View, HasAll, as_client}
 use Rattle.store_api.specs.Running.{Runs}
 use Rattle.play_script.specs.declared.scripts.Script.{Script}
+use Rattle.play_script.specs.declared.scripts.Task.{Task}
 use Rattle.play_script.specs.declared.scripts.Turn.{Turn}
 use Rattle.play_outcome.specs.declared.outcome.Outcome.{Outcome}
 use Rattle.play_outcome.specs.declared.outcome.RefLine.{RefLine}
 use Rattle.play_tasks.specs.Tasks.{AllTold, AllBlame}
 use Rattle.play_run.specs.Order.{RanTasks, places_of}
+use Rattle.play_at_once.specs.Running.{RanAtOnce}
 use Rattle.repository.specs.Beginning.{begin_program}
 use Rattle.repository.specs.Refs.{refs_program}
 
--- the turns that a script names
-abbrev pub turns_in : Option (List Turn) → List Turn
-turns_in None = []
-turns_in (Some turns) = turns
+-- the tasks ran by the turns that a script names, and then each to its end; where it names none, at once
+abbrev pub RanBy : Option (List Turn) → Draw → List Task → Bool → List Outcome → List Event → List Event → Type 0
+RanBy (Some turns) draw tasks tells outcomes old new = RanTasks draw tasks tells (places_of turns) outcomes old new
+RanBy None draw tasks tells outcomes old new = RanAtOnce draw tasks tells outcomes old new
 
--- From old to new the tasks were run, by the list of turns and then each to its end, with these outcomes; a fault of the store is told only where
--- it rose.
+-- From old to new the tasks were run, by the script's turns or at once, with these outcomes; a fault of the store is told only where it rose.
 pub record PlaysTasks (draw : Draw) (script : Script) (old new : View) (outcomes : List Outcome) : Type 0 where
   pub size : length outcomes ≡ length script.tasks
-  pub ran : RanTasks draw script.tasks old.caller.tells (places_of (turns_in script.turns)) outcomes old.seen new.seen
+  pub ran : RanBy script.turns draw script.tasks old.caller.tells outcomes old.seen new.seen
   pub blames : AllBlame outcomes old.faults new.faults
   pub counted : old.faults ≤ new.faults
   pub tells : new.caller.tells ≡ old.caller.tells

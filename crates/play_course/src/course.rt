@@ -1,25 +1,29 @@
 //! The course of a run.
 
-ghost use Rattle.std.specs.Prelude.{◌≡◌, ℕ, [], All, length, IfOk, IfErr, IsTrue};
+ghost use Rattle.std.specs.Prelude.{◌≡◌, ℕ, true, [], length, IfOk, IfErr, IsTrue};
+ghost use Rattle.ice_ids.specs.Drawing.{DrawsOnce};
 ghost use Rattle.zarr_tree.specs.Changes.{Changes};
-ghost use Rattle.play_script.specs.Well.{IsWell, IsWellTurn};
-ghost use Rattle.play_tasks.specs.Tasks.{AllTold};
+ghost use Rattle.store_api.specs.Journal.{IsGoodJournal};
+ghost use Rattle.play_script.specs.Well.{IsWell};
 ghost use Rattle.run_histories.specs.Runs.{IsSound};
 ghost use Rattle.run_histories.specs.Sources.{IsNewRun};
 ghost use Rattle.run_histories.specs.Told.{HasHistories};
-ghost use Rattle.play_course.specs.Course.{turns_in, Course, OnlyBegan, PlaysTasks, Plays};
+ghost use Rattle.play_course.specs.Course.{Course, OnlyBegan};
 ghost use Rattle.play_course.specs.Leaving.{LeavesBranches};
 ghost use Rattle.play_course.specs.Refusing.{NothingStrange};
 
+use crate::running::play_tasks;
 use ice_ids::Draw;
+use play_at_once::Gate;
 use play_outcome::{Outcome, RefLines};
-use play_run::run_tasks;
-use play_script::{Script, Turn};
+use play_script::Script;
 use play_tasks::outcome_law;
 use repo_objects::{initial_law, snapshot_law};
 use repository::{begin, read_refs, refs_law};
 use run_histories::run_law;
 use std::alloc::{AllocError, Global};
+use std::sync::Wait;
+use std::thread::Threads;
 use store_api::{Base, Refusal};
 
 /// What was played: how the opening ended, the outcomes of the tasks, and how the closing reading ended.
@@ -33,102 +37,71 @@ pub struct Played {
     pub refs: Result<RefLines, Refusal>,
 }
 
-/// The turns of a script.
-fn turns_of(script: &Script) -> &[Turn]
-    requires { IsWell script.now }
-    ensures turns { result.now ≡ turns_in script.now.turns }
-    ensures well { All (IsWellTurn (length script.now.tasks)) result.now }
-{
-    match &script.turns {
-        Some(turns) => turns.as_slice(),
-        None => &[],
-    }
-}
-
-/// Runs the tasks of a script by its turns, and then each to its end.
-fn run_script<S: Base>(
-    alloc: Global,
-    script: &Script,
-    draw: Draw,
-    store: &mut S,
-) -> Result<Vec<Outcome>, AllocError>
-    requires { IsWell script.now }
-    ensures nothing { IfErr result (λ error. S.view store.new ≡ S.view store.old) }
-    ensures plays { IfOk result (λ outcomes. PlaysTasks draw script.now (S.view store.old) (S.view store.new) outcomes.items) }
-    ensures told { IsTrue (S.view store.old).caller.tells → IfOk result (λ outcomes. AllTold draw script.now.tasks outcomes.items (S.view store.old).seen (S.view store.new).seen) }
-{
-    let turns = turns_of(script);
-    run_tasks(alloc, script.tasks.as_slice(), draw, turns, store)
-}
-
-/// Plays the tasks where the opening went well.
-fn play_tasks<S: Base>(
-    alloc: Global,
-    script: &Script,
-    draw: Draw,
-    opening: &Result<(), Refusal>,
-    store: &mut S,
-) -> Result<Vec<Outcome>, AllocError>
-    requires { IsWell script.now }
-    ensures nothing { IfErr result (λ error. S.view store.new ≡ S.view store.old) }
-    ensures plays { IfOk result (λ outcomes. Plays draw script.now (S.view store.old) (S.view store.new) opening.now outcomes.items) }
-    ensures told { IsTrue (S.view store.old).caller.tells → IfOk result (λ outcomes. AllTold draw script.now.tasks outcomes.items (S.view store.old).seen (S.view store.new).seen) }
-{
-    match opening {
-        Ok(()) => run_script(alloc, script, draw, store),
-        Err(_) => Ok(Vec::new(alloc)),
-    }
-}
-
 /// The opening, the tasks and the closing reading.
-fn play_through<S: Base>(
+fn play_through<R: Threads + Wait + Sync, S: Base + Send, G: Gate + Sync>(
+    rt: &R,
     alloc: Global,
     script: &Script,
     draw: Draw,
-    store: &mut S,
-) -> Result<Played, AllocError>
-    requires { IsWell script.now }
-    ensures began { IfErr result (λ error. OnlyBegan (S.view store.old) (S.view store.new)) }
-    ensures course { IfOk result (λ played. Course draw script.now (S.view store.old) (S.view store.new) played.opening played.outcomes.items played.refs) }
+    store: S,
+    gate: &G,
+) -> (S, Result<Played, AllocError>)
+    requires well { IsWell script.now }
+    requires good { S.tells ≡ true → IsGoodJournal (S.view store).seen }
+    ensures began { IfErr result.1 (λ error. OnlyBegan (S.view store) (S.view result.0)) }
+    ensures course { IfOk result.1 (λ played. Course draw script.now (S.view store) (S.view result.0) played.opening played.outcomes.items played.refs) }
 {
     outcome_law();
+    let mut store = store;
     store.set_client(0);
-    let opening = begin(alloc, store);
-    let outcomes = play_tasks(alloc, script, draw, &opening, store)?;
+    let opening = begin(alloc, &mut store);
+    let (mut store, outcomes) = play_tasks(rt, alloc, script, draw, &opening, store, gate);
+    let outcomes = match outcomes {
+        Ok(outcomes) => outcomes,
+        Err(error) => return (store, Err(error)),
+    };
     store.set_client(0);
-    let refs = read_refs(alloc, store);
-    Ok(Played {
+    let refs = read_refs(alloc, &mut store);
+    let played = Played {
         opening,
         outcomes,
         refs,
-    })
+    };
+    (store, Ok(played))
 }
 
 /// Plays a script over a store on which nobody else acts: makes the repository where there is none,
-/// runs the tasks, unless that was refused, and reads the refs. The opening and the closing reading
+/// runs the tasks, unless that was refused, and reads the refs. A script that names turns is run by them,
+/// and the tasks of one that names none are run at once. The opening and the closing reading
 /// are client 0's; the task at place k, from 0, is client k + 1's. All tasks have ended.
-pub fn play<S: Base>(
+///
+/// The store comes back. The gate is called before each step of a task that runs at once.
+pub fn play<R: Threads + Wait + Sync, S: Base + Send, G: Gate + Sync>(
+    rt: &R,
     alloc: Global,
     script: &Script,
     draw: Draw,
-    store: &mut S,
-) -> Result<Played, AllocError>
-    requires { IsWell script.now }
-    ensures course { IfOk result (λ played. Course draw script.now (S.view store.old) (S.view store.new) played.opening played.outcomes.items played.refs) }
+    store: S,
+    gate: &G,
+) -> (S, Result<Played, AllocError>)
+    requires well { IsWell script.now }
+    requires good { S.tells ≡ true → IsGoodJournal (S.view store).seen }
+    ensures course { IfOk result.1 (λ played. Course draw script.now (S.view store) (S.view result.0) played.opening played.outcomes.items played.refs) }
 
     // Without memory for the workers the repository may have been begun, and nothing else has been done; the histories are
     // kept then, too.
-    ensures began { IfErr result (λ error. OnlyBegan (S.view store.old) (S.view store.new)) }
-    ensures kept { IsTrue (S.view store.old).caller.tells → (before : ℕ → Changes) → IsSound (S.view store.old).seen before → IsNewRun draw script.now.tasks (S.view store.old).seen → IfErr result (λ error. HasHistories draw script.now.tasks before (S.view store.old).seen (S.view store.new).seen) }
+    ensures began { IfErr result.1 (λ error. OnlyBegan (S.view store) (S.view result.0)) }
+    ensures kept { IsTrue (S.view store).caller.tells → (before : ℕ → Changes) → IsSound (S.view store).seen before → IsNewRun draw script.now.tasks (S.view store).seen → IfErr result.1 (λ error. HasHistories draw script.now.tasks before (S.view store).seen (S.view result.0).seen) }
     // Over a store that tells its journal, where that is sound and the clients' ids are new to it, the branches' histories
     // are kept, and the refs that were read are their ends.
-    ensures leaves { IsTrue (S.view store.old).caller.tells → (before : ℕ → Changes) → IsSound (S.view store.old).seen before → IsNewRun draw script.now.tasks (S.view store.old).seen → IfOk result (λ played. LeavesBranches draw script.now.tasks before (S.view store.old).seen (S.view store.new).seen played.refs) }
-    // Over one on which nothing was done before, no drawn id is taken, no object is missing, and every file can be read.
-    ensures regular { IsTrue (S.view store.old).caller.tells → (S.view store.old).seen ≡ [] → IfOk result (λ played. NothingStrange played.opening played.outcomes.items played.refs) }
+    ensures leaves { IsTrue (S.view store).caller.tells → (before : ℕ → Changes) → IsSound (S.view store).seen before → IsNewRun draw script.now.tasks (S.view store).seen → IfOk result.1 (λ played. LeavesBranches draw script.now.tasks before (S.view store).seen (S.view result.0).seen played.refs) }
+    // Over one on which nothing was done before, where the clients draw no id twice, as it always is by counting, no drawn id is
+    // taken, no object is missing, and every file can be read.
+    ensures regular { IsTrue (S.view store).caller.tells → (S.view store).seen ≡ [] → DrawsOnce draw (length script.now.tasks) → IfOk result.1 (λ played. NothingStrange played.opening played.outcomes.items played.refs) }
 {
     initial_law();
     snapshot_law();
     run_law();
     refs_law();
-    play_through(alloc, script, draw, store)
+    play_through(rt, alloc, script, draw, store, gate)
 }

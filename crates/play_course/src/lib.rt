@@ -2,5 +2,6 @@
 #![tactic(auto)]
 
 mod course;
+mod running;
 
 pub use course::{Played, play};

@@ -114,12 +114,12 @@ owned_turns tasks (t ∷ ts) ps events qs size r =
 
 -- ---- the tasks
 -- the worker of the task at a place begins with what its play has come to
-record Begun (draw : Draw) (place : ℕ) (task : Task) (k : ℕ) (ps : List (Play Outcome)) : Type 0 where
+pub record Begun (draw : Draw) (place : ℕ) (task : Task) (k : ℕ) (ps : List (Play Outcome)) : Type 0 where
   pub q : Play Outcome
   pub at : slice_get ps k ≡ Some q
   pub comes : Comes (task_play (ids_at draw (place + k)) task) q
 
-begun_at : (draw : Draw) (place : ℕ) (tasks : List Task) (ps : List (Play Outcome)) (k : ℕ) (task : Task) → AllZip (λ (p q : Play Outcome). Comes p q) (plays_from draw place tasks) ps → slice_get tasks k ≡ Some task → Begun draw place task k ps
+pub begun_at : (draw : Draw) (place : ℕ) (tasks : List Task) (ps : List (Play Outcome)) (k : ℕ) (task : Task) → AllZip (λ (p q : Play Outcome). Comes p q) (plays_from draw place tasks) ps → slice_get tasks k ≡ Some task → Begun draw place task k ps
 begun_at draw place [] ps k task z e = absurd (cc)
 begun_at draw place (t ∷ ts) [] k task z e = absurd z
 begun_at draw place (t ∷ ts) (p ∷ ps) zero task z e =

@@ -118,7 +118,7 @@ well_at tasks k task wells e = by_cases (slice_get_cases tasks k).1
     by_cases (inr c) = absurd (cc)
 
 -- tasks that are well begin so that each operation of theirs is polite and owed
-AllStand-begin : TaskLaw → (draw : Draw) (tasks : List Task) (tells : Bool) (journal : List Event) (ps : List (Play Outcome)) → All IsWellTask tasks → Begin draw tasks ps → AllStand draw tasks journal tells ps journal
+pub AllStand-begin : TaskLaw → (draw : Draw) (tasks : List Task) (tells : Bool) (journal : List Event) (ps : List (Play Outcome)) → All IsWellTask tasks → Begin draw tasks ps → AllStand draw tasks journal tells ps journal
 AllStand-begin law draw tasks tells journal ps wells b k q e =
     let r = play_at draw 0 tasks ps k q b e in
     let by = only tells (k + 1) in
@@ -141,7 +141,7 @@ pub size_map : (ws : List Worker) → length (map worker_rest ws) ≡ length ws
 size_map [] = refl
 size_map (x ∷ xs) = ap suc (size_map xs)
 
-begun_size : (draw : Draw) (tasks : List Task) (ps : List (Play Outcome)) → Begin draw tasks ps → length ps ≡ length tasks
+pub begun_size : (draw : Draw) (tasks : List Task) (ps : List (Play Outcome)) → Begin draw tasks ps → length ps ≡ length tasks
 begun_size draw tasks ps b = sym (length_all_zip came (plays_from draw 0 tasks) ps b) ∙ plays_size draw 0 tasks
 
 pub workers_size : (draw : Draw) (tasks : List Task) (ws : List Worker) → Begin draw tasks (map worker_rest ws) → length ws ≡ length tasks
@@ -151,7 +151,7 @@ pub went_size : (ts : List ℕ) (a b : View) (old new : List Worker) → Went ts
 went_size ts a b old new w = sym (size_map new) ∙ w.size ∙ size_map old
 
 -- where a play has ended at once, it tells no fault of the store
-none_blamed : (draw : Draw) (tasks : List Task) (ps : List (Play Outcome)) (m n : ℕ) → Begin draw tasks ps → Blame ps m n
+pub none_blamed : (draw : Draw) (tasks : List Task) (ps : List (Play Outcome)) (m n : ℕ) → Begin draw tasks ps → Blame ps m n
 none_blamed draw tasks ps m n b k outcome at failed =
     let r = play_at draw 0 tasks ps k (Ended outcome) b at in
     let calm = begun-calm (ids_at draw (0 + k)) r.task outcome r.comes in
@@ -188,7 +188,7 @@ ends_at [] k outcome e = absurd (cc)
 ends_at (o ∷ os) zero outcome e = let same : o ≡ outcome = cc in ap (λ (x : Outcome). Some (Ended x)) same
 ends_at (o ∷ os) (suc k) outcome e = ends_at os k outcome e
 
-ended_told : (Q : Outcome → List Event → Type 0) (tells : Bool) (k : ℕ) (outcome : Outcome) (journal : List Event) → PlayLeads Q (only tells k) (Ended outcome) journal → Q outcome journal
+pub ended_told : (Q : Outcome → List Event → Type 0) (tells : Bool) (k : ℕ) (outcome : Outcome) (journal : List Event) → PlayLeads Q (only tells k) (Ended outcome) journal → Q outcome journal
 unfolding PlayLeads
 ended_told Q tells k outcome journal l = l
 

@@ -46,7 +46,7 @@ Waits-alone : (by : Caller) (old new : List Event) → HasAll by → Waits by ol
 Waits-alone by old new all w = w.is ∙ rw (alone by old w.between all w.others) (append-nil old)
 
 -- the time of an event that was made; over a store that tells nothing it is any number
-abbrev time_of : (tells : Bool) (by : Caller) (op : Op) (reply : Reply) (old new : List Event) → (IsTrue tells → Makes by op reply old new) → ℕ
+abbrev pub time_of : (tells : Bool) (by : Caller) (op : Op) (reply : Reply) (old new : List Event) → (IsTrue tells → Makes by op reply old new) → ℕ
 time_of true by op reply old new made = (made refl).time
 time_of false by op reply old new made = 0
 
@@ -69,10 +69,10 @@ fewer-only : (tells : Bool) (k : ℕ) (by : Caller) → HasAll by → by.number 
 fewer-only tells k by all e = (sym e, λ n no. let y = has-all by all n in absurd (cc))
 
 -- the view as a caller who owns fewer numbers sees it
-abbrev seen_by : Caller → View → View
+abbrev pub seen_by : Caller → View → View
 seen_by to view = record view { caller = to }
 
-Acts-fewer : (by to : Caller) → Fewer by to → to.tells ≡ by.tells → (old new : View) (p q : Play Outcome) → old.caller ≡ by → Acts is_failed old new p q → Acts is_failed (seen_by to old) (seen_by to new) p q
+pub Acts-fewer : (by to : Caller) → Fewer by to → to.tells ≡ by.tells → (old new : View) (p q : Play Outcome) → old.caller ≡ by → Acts is_failed old new p q → Acts is_failed (seen_by to old) (seen_by to new) p q
 Acts-fewer by to f told old new p q at s = record {
   same = refl;
   blames = s.blames;
@@ -107,14 +107,14 @@ only-other tells k n differs = both_false (nat_le (k + 1) n) (nat_lt n (k + 1 + 
     between a b = omega (arith, a, b)
 
 -- ---- what a step keeps
-PlayKeeps-now : (P : List Event → ℕ → Op → Type 0) (by : Caller) (op : Op) (starved : Play Outcome) (next : Reply → Play Outcome) (p : Play Outcome) (journal : List Event) → p ≡ Ask op starved next → PlayKeeps P by p journal → P journal by.number op
+pub PlayKeeps-now : (P : List Event → ℕ → Op → Type 0) (by : Caller) (op : Op) (starved : Play Outcome) (next : Reply → Play Outcome) (p : Play Outcome) (journal : List Event) → p ≡ Ask op starved next → PlayKeeps P by p journal → P journal by.number op
 unfolding PlayKeeps
 PlayKeeps-now P by op starved next (Ended a) journal e k = absurd (cc)
 PlayKeeps-now P by op starved next (Ask o s f) journal e k = let same : o ≡ op = cc in subst (λ (x : Op). P journal by.number x) same k.0
 PlayKeeps-now P by op starved next (Or p r) journal e k = absurd (cc)
 
 -- what the next operation owes
-Keeps-polite : (ids : AnyIds) (task : Task) (number : ℕ) (start : List Event) (by : Caller) (p : Play Outcome) (journal : List Event) → PlayKeeps (IsDue ids task number start) by p journal → PlayIsPolite p journal
+pub Keeps-polite : (ids : AnyIds) (task : Task) (number : ℕ) (start : List Event) (by : Caller) (p : Play Outcome) (journal : List Event) → PlayKeeps (IsDue ids task number start) by p journal → PlayIsPolite p journal
 unfolding PlayKeeps
 Keeps-polite ids task number start by (Ended a) journal k = tt
 Keeps-polite ids task number start by (Ask op starved next) journal k = k.0.polite
@@ -168,12 +168,12 @@ module _ (ids : AnyIds) (task : Task) (start : List Event) (tells : Bool) (k : �
   Owed = IsDue ids task (k + 1) start
 
   -- it stays careful while it waits, and by a step of its own
-  careful-waits : (p : Play Outcome) (old new : List Event) → Waits (only tells (k + 1)) old new → PlayKeeps Owed (only tells (k + 1)) p old → PlayKeeps Owed (only tells (k + 1)) p new
+  pub careful-waits : (p : Play Outcome) (old new : List Event) → Waits (only tells (k + 1)) old new → PlayKeeps Owed (only tells (k + 1)) p old → PlayKeeps Owed (only tells (k + 1)) p new
   careful-waits p old new w c =
       keeps-own (Owing ids task start) Owed (only tells (k + 1)) (λ h op x. x) p new
       (PlayKeeps-waits (Owing ids task start) (stable ids task start) (only tells (k + 1)) p old new w (keeps-own Owed (Owing ids task start) (only tells (k + 1)) (λ h op x. x) p old c))
 
-  careful-acts : (old new : View) (p q : Play Outcome) → old.caller ≡ only tells (k + 1) → IsTrue old.caller.tells → Acts is_failed old new p q → PlayKeeps Owed (only tells (k + 1)) p old.seen → PlayKeeps Owed (only tells (k + 1)) q new.seen
+  pub careful-acts : (old new : View) (p q : Play Outcome) → old.caller ≡ only tells (k + 1) → IsTrue old.caller.tells → Acts is_failed old new p q → PlayKeeps Owed (only tells (k + 1)) p old.seen → PlayKeeps Owed (only tells (k + 1)) q new.seen
   careful-acts old new p q same told acts c =
       keeps-own (Owing ids task start) Owed (only tells (k + 1)) (λ h op x. x) q new.seen
       (subst (λ (by : Caller). PlayKeeps (Owing ids task start) by q new.seen) same
@@ -181,14 +181,14 @@ module _ (ids : AnyIds) (task : Task) (start : List Event) (tells : Bool) (k : �
       (subst (λ (by : Caller). PlayKeeps (Owing ids task start) by p old.seen) (sym same) (keeps-own Owed (Owing ids task start) (only tells (k + 1)) (λ h op x. x) p old.seen c))))
 
 -- the client of a task that opens a session has changed no branch before an operation
-abbrev Before : Task → List Event → List Event → ℕ → Op → Type 0
+abbrev pub Before : Task → List Event → List Event → ℕ → Op → Type 0
 Before task start journal client op = BeforeChange task client start journal
 
 before-others : (by : Caller) (start journal more : List Event) → Each (IsOther by) journal more → (head : Head) → ComesBefore head by.number start journal → ComesBefore head by.number start (journal ++ more)
 before-others by start journal more others (Session access) c = ChangedNothing-others by start journal more others c
 before-others by start journal more others Refs c = c
 
-stable-before : (task : Task) (start : List Event) (by : Caller) (journal more : List Event) (op : Op) → Each (IsOther by) journal more → Before task start journal by.number op → Before task start (journal ++ more) by.number op
+pub stable-before : (task : Task) (start : List Event) (by : Caller) (journal more : List Event) (op : Op) → Each (IsOther by) journal more → Before task start journal by.number op → Before task start (journal ++ more) by.number op
 stable-before task start by journal more op others c = before-others by start journal more others task.head c
 
 -- what holds of each worker, where one of them went on
@@ -335,12 +335,12 @@ not_both (Ended a) l d = l
 not_both (Ask op s f) l d = d
 not_both (Or p q) l d = d
 
-counted_by : (q : Play Outcome) (m n : ℕ) → BlamesEnd is_failed q m n → m ≤ n
+pub counted_by : (q : Play Outcome) (m n : ℕ) → BlamesEnd is_failed q m n → m ≤ n
 counted_by (Ended o) m n b = b.0
 counted_by (Ask op s next) m n b = b
 counted_by (Or p q) m n b = b
 
-blamed_by : (q : Play Outcome) (outcome : Outcome) (m n : ℕ) → q ≡ Ended outcome → BlamesEnd is_failed q m n → is_failed outcome ≡ true → Rose m n
+pub blamed_by : (q : Play Outcome) (outcome : Outcome) (m n : ℕ) → q ≡ Ended outcome → BlamesEnd is_failed q m n → is_failed outcome ≡ true → Rose m n
 blamed_by (Ended o) outcome m n e b f = let same : o ≡ outcome = cc in b.1 (ap is_failed same ∙ f)
 blamed_by (Ask op s next) outcome m n e b f = absurd (cc)
 blamed_by (Or p q) outcome m n e b f = absurd (cc)

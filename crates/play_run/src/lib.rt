@@ -5,3 +5,4 @@ mod run;
 mod workers;
 
 pub use run::run_tasks;
+pub use workers::workers_for;

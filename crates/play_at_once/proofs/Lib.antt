@@ -1,0 +1,4 @@
+pub mod Steps
+pub mod Joining
+pub mod Porting
+pub mod Whole
