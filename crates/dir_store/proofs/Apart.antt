@@ -1,18 +1,16 @@
 -- Names of keys are told apart: by a byte near their start, or by their last byte.
-use Rattle.std.proofs.Common.{◌≡◌, ◌≢◌, ◌++◌, ℕ, ◌<◌, List, [], ◌∷◌, get_or, Result, Ok, Err, refl, sym, ap, subst, ◌∙◌, arith}
+use Rattle.std.proofs.Common.{◌≡◌, ◌≢◌, ◌++◌, ℕ, ◌<◌, List, [], ◌∷◌, get_or, Result, Ok, Err, refl, sym, ap, ◌∙◌, arith}
 use Rattle.std.specs.Prelude.{codes}
 use Rattle.std.specs.Fmt.{decimal}
-use Rattle.std.specs.List.{AllByRecursion}
-use Rattle.std.proofs.lemmas.List.{append_cancel_left, append_cancel_right}
-use Rattle.std.proofs.lemmas.List.Elements.{recursion_from_All}
+use Rattle.std.proofs.lemmas.List.{append_assoc, append_cancel_left, append_cancel_right}
 use Rattle.ice_ids.specs.declared.Id12.{Id12}
 use Rattle.ice_ids.specs.declared.IdFault.{IdFault}
 use Rattle.ice_ids.specs.Text.{IsId12, id12_text, id12_of_text}
-use Rattle.ice_ids.proofs.TextLaws.{id12_of_text-id12_text, id12_text-plain}
+use Rattle.ice_ids.proofs.TextLaws.{id12_of_text-id12_text}
 use Rattle.store_api.specs.declared.keys.Key.{Key}
 use Rattle.store_api.specs.declared.keys.Key.TheVariants.{Snapshot, Manifest, Txn, Chunk, Branch, Tag, TagGone}
 use Rattle.store_api.specs.Names.{key_name}
-use Rattle.dir_store.specs.Paths.{IsKey, aside_name}
+use Rattle.dir_store.specs.Paths.{IsKey, aside_in, path_in}
 
 below-apart : (m n : ℕ) → m < n → m ≡ n → ⊥
 below-apart m n below same = omega arith
@@ -44,18 +42,6 @@ last_of-append (x ∷ xs) ys default = last_of-append xs ys x
 
 ends_apart : (m n : ℕ) (xs ys : List ℕ) → last_of xs 0 ≡ m → last_of ys 0 ≡ n → (m ≡ n → ⊥) → xs ≡ ys → ⊥
 ends_apart m n xs ys first second differ same = differ (sym first ∙ ap (λ (zs : List ℕ). last_of zs 0) same ∙ second)
-
-abbrev IsLetter : ℕ → Type 0
-IsLetter c = (47 < c) × (c < 91)
-
-last_letter : (xs : List ℕ) (default : ℕ) → AllByRecursion IsLetter xs → default < 91 → last_of xs default < 91
-last_letter [] default all low = low
-last_letter (x ∷ xs) default all low = last_letter xs x all.1 all.0.1
-
-id_ends : (start : List ℕ) (id : Id12) → last_of start 0 < 91 → last_of (start ++ id12_text id) 0 < 91
-id_ends start id low =
-    let all : AllByRecursion IsLetter (id12_text id) = recursion_from_All IsLetter (id12_text id) (id12_text-plain id) in
-    subst (λ (c : ℕ). c < 91) (sym (last_of-append start (id12_text id) 0)) (last_letter (id12_text id) (last_of start 0) all low)
 
 -- ---- the laws
 pub names_differ : (a b : Key) → IsKey a → IsKey b → key_name a ≡ key_name b → a ≡ b
@@ -109,17 +95,21 @@ names_differ (TagGone a) (Branch b) known too same = absurd (apart 5 116 98 (cod
 names_differ (TagGone a) (Tag b) known too same = absurd (ends_apart 100 110 (codes "refs/tag." ++ a ++ codes "/ref.json.deleted") (codes "refs/tag." ++ b ++ codes "/ref.json") (last_of-append (codes "refs/tag." ++ a) (codes "/ref.json.deleted") 0) (last_of-append (codes "refs/tag." ++ b) (codes "/ref.json") 0) (below-apart 100 110 (omega arith)) same)
 names_differ (TagGone a) (TagGone b) known too same = ap (λ (name : List ℕ). TagGone name) (same_middle (codes "refs/tag.") a b (codes "/ref.json.deleted") same)
 
--- a name's last byte is a letter of an id, or that of a ref's file
-name_ends : (key : Key) → (last_of (key_name key) 0 ≡ 119) → ⊥
-name_ends (Snapshot id) ends = let low : last_of (codes "snapshots/" ++ id12_text id) 0 < 91 = id_ends (codes "snapshots/") id (omega arith) in omega (arith, low, ends)
-name_ends (Manifest id) ends = let low : last_of (codes "manifests/" ++ id12_text id) 0 < 91 = id_ends (codes "manifests/") id (omega arith) in omega (arith, low, ends)
-name_ends (Txn id) ends = let low : last_of (codes "transactions/" ++ id12_text id) 0 < 91 = id_ends (codes "transactions/") id (omega arith) in omega (arith, low, ends)
-name_ends (Chunk id) ends = let low : last_of (codes "chunks/" ++ id12_text id) 0 < 91 = id_ends (codes "chunks/") id (omega arith) in omega (arith, low, ends)
-name_ends (Branch name) ends = below-apart 110 119 (omega arith) (sym (last_of-append (codes "refs/branch." ++ name) (codes "/ref.json") 0) ∙ ends)
-name_ends (Tag name) ends = below-apart 110 119 (omega arith) (sym (last_of-append (codes "refs/tag." ++ name) (codes "/ref.json") 0) ∙ ends)
-name_ends (TagGone name) ends = below-apart 100 119 (omega arith) (sym (last_of-append (codes "refs/tag." ++ name) (codes "/ref.json.deleted") 0) ∙ ends)
+-- no name begins as that of the folder of files aside
+begins_apart : (key : Key) → get_or (codes "/" ++ key_name key) 1 0 ≡ 105 → ⊥
+begins_apart (Snapshot id) same = below-apart 105 115 (omega arith) (sym same)
+begins_apart (Manifest id) same = below-apart 105 109 (omega arith) (sym same)
+begins_apart (Txn id) same = below-apart 105 116 (omega arith) (sym same)
+begins_apart (Chunk id) same = below-apart 99 105 (omega arith) same
+begins_apart (Branch name) same = below-apart 105 114 (omega arith) (sym same)
+begins_apart (Tag name) same = below-apart 105 114 (omega arith) (sym same)
+begins_apart (TagGone name) same = below-apart 105 114 (omega arith) (sym same)
 
-pub asides_differ : (a b : Key) (number : ℕ) → IsKey a → IsKey b → aside_name (key_name a) number ≢ key_name b
-asides_differ a b number known too same =
-    let ends : last_of (aside_name (key_name a) number) 0 ≡ 119 = last_of-append (key_name a ++ codes "." ++ decimal number) (codes ".new") 0 in
-    name_ends b (sym (ap (λ (zs : List ℕ). last_of zs 0) same) ∙ ends)
+pub asides_differ : (root : List ℕ) (key : Key) (number : ℕ) → IsKey key → aside_in root number ≢ path_in root key
+asides_differ root key number known same =
+    let start : List ℕ = codes "/icerepo.new" ++ codes "/" in
+    let split : aside_in root number ≡ root ++ (start ++ decimal number) =
+    ap (λ (zs : List ℕ). zs ++ decimal number) (append_assoc root (codes "/icerepo.new") (codes "/")) ∙ append_assoc root start (decimal number) in
+    let behind : start ++ decimal number ≡ codes "/" ++ key_name key =
+    append_cancel_left root (start ++ decimal number) (codes "/" ++ key_name key) (sym split ∙ same ∙ append_assoc root (codes "/") (key_name key)) in
+    begins_apart key (sym (ap (λ (zs : List ℕ). get_or zs 1 0) behind))

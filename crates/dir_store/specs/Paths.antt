@@ -26,14 +26,18 @@ NamesKey name found = MatchOption found ((key : Key) → IsKey key → name ≢ 
 abbrev pub path_in : List ℕ → Key → List ℕ
 path_in root key = root ++ codes "/" ++ key_name key
 
--- the name under which a file is written before it is moved to its path
-abbrev pub aside_name : List ℕ → ℕ → List ℕ
-aside_name path number = path ++ codes "." ++ decimal number ++ codes ".new"
+-- the folder in the directory in which files are written before they are moved to their places
+abbrev pub aside_folder_in : List ℕ → List ℕ
+aside_folder_in root = root ++ codes "/icerepo.new"
+
+-- the path of a file in it
+abbrev pub aside_in : List ℕ → ℕ → List ℕ
+aside_in root number = aside_folder_in root ++ codes "/" ++ decimal number
 
 -- two keys have two names
 abbrev pub NamesDiffer : Type 0
 NamesDiffer = (a b : Key) → IsKey a → IsKey b → key_name a ≡ key_name b → a ≡ b
 
--- a name beside an object's is no object's
+-- no object lies at the path of a file aside
 abbrev pub AsidesAreNoKeys : Type 0
-AsidesAreNoKeys = (a b : Key) (number : ℕ) → IsKey a → IsKey b → aside_name (key_name a) number ≢ key_name b
+AsidesAreNoKeys = (root : List ℕ) (key : Key) (number : ℕ) → IsKey key → aside_in root number ≢ path_in root key

@@ -1,5 +1,8 @@
 -- The directory as a store: what is seen of it, and what its answers say of the bytes that they give or were given.
-use Rattle.std.specs.Prelude.{◌≡◌, ◌≢◌, ℕ, List, [], false, Some, None}
+use Rattle.std.specs.Prelude.{◌≡◌, ◌≢◌, ℕ, List, [], false, Some, None, Result, Ok, Err, string_bytes}
+use Rattle.ice_base.specs.Ends.{raised}
+use Rattle.store_api.specs.declared.events.StoreFault.{StoreFault}
+use Rattle.store_api.specs.declared.events.StoreFault.TheVariants.{Failed, NoMemory}
 use Rattle.store_api.specs.declared.events.Version.{Version}
 use Rattle.store_api.specs.declared.events.Got.{Got}
 use Rattle.store_api.specs.declared.events.Got.TheVariants as G
@@ -24,6 +27,12 @@ client_of s = s.client
 abbrev pub faults_of : {R C : Type 0} → DirStore R C → ℕ
 faults_of s = s.faults
 
+abbrev pub operations_of : {R C : Type 0} → DirStore R C → ℕ
+operations_of s = s.operations
+
+abbrev pub root_of : {R C : Type 0} → DirStore R C → List ℕ
+root_of s = string_bytes s.root
+
 abbrev pub clock_of : {R C : Type 0} → DirStore R C → C
 clock_of s = s.clock
 
@@ -38,11 +47,19 @@ untold_view client faults = record { caller = untold client; seen = []; faults =
 abbrev pub view_of : {R C : Type 0} → DirStore R C → View
 view_of s = untold_view (client_of s) (faults_of s)
 
--- for the client 0, with no fault so far
-pub record IsOpened {R C : Type 0} (clock : C) (s : DirStore R C) : Type 0 where
+-- in this directory, for the client 0, with no fault and no operation so far
+pub record IsNewIn {R C : Type 0} (path : List ℕ) (clock : C) (s : DirStore R C) : Type 0 where
+  pub root : root_of s ≡ path
   pub client : client_of s ≡ 0
   pub faults : faults_of s ≡ 0
+  pub made : operations_of s ≡ 0
   pub keeps : clock_of s ≡ clock
+
+-- an answer and a failure are one operation more, where a count can hold it, and want of memory is none
+abbrev pub IsMade : {A : Type 0} → Result A StoreFault → ℕ → ℕ → Type 0
+IsMade (Ok a) old new = new ≡ raised old
+IsMade (Err Failed) old new = new ≡ raised old
+IsMade (Err NoMemory) old new = new ≡ old
 
 -- ---- what answers say
 -- the version that is told is that of the bytes

@@ -3,7 +3,7 @@
 ghost use Rattle.std.specs.Prelude.{◌≡◌, ◌≤◌, length, IfOk, MatchResult, Ok};
 ghost use Rattle.dir_store.specs.Store.{IsMoved};
 
-use crate::names::aside_of;
+use crate::names::{aside_folder, aside_of};
 use crate::versions::version_of_digest;
 use ice_base::Bytes;
 use sha2::{Digest, Sha256};
@@ -18,9 +18,6 @@ use store_api::{StoreFault, Version};
 /// How many bytes are read at once.
 const PIECE: usize = 4096;
 
-/// How many names beside a path are tried.
-const MOST_ASIDES: u32 = 1000;
-
 /// What came of a change of a version that was to stand at a path.
 #[derive(Clone, Copy, Debug)]
 pub(crate) enum Change {
@@ -31,12 +28,12 @@ pub(crate) enum Change {
 }
 
 /// Whether nothing lies at a path.
-fn is_missing(kind: ErrorKind) -> bool {
+pub(crate) fn is_missing(kind: ErrorKind) -> bool {
     kind == ErrorKind::NotFound || kind == ErrorKind::NotADirectory
 }
 
 /// A failed system call.
-fn or_failed<T>(called: std::io::Result<T>) -> Result<T, StoreFault> {
+pub(crate) fn or_failed<T>(called: std::io::Result<T>) -> Result<T, StoreFault> {
     match called {
         Ok(value) => Ok(value),
         Err(_) => Err(StoreFault::Failed),
@@ -124,14 +121,44 @@ fn flush_folder<R: Files>(rt: &R, path: &str) -> Result<(), StoreFault> {
     or_failed(folder.sync_all())
 }
 
-/// Makes a file beside a path that wasn't there before, and tells its own path.
-fn new_beside<R: Files>(
-    rt: &R,
-    alloc: Global,
-    path: &str,
-) -> Result<(String, R::File), StoreFault> {
-    for number in 0..MOST_ASIDES {
-        let aside = or_no_memory(aside_of(alloc, path, number))?;
+/// Flushes to disk which files the folder at a path holds, if one is there.
+pub(crate) fn flush_folder_at<R: Files>(rt: &R, path: &str) -> Result<(), StoreFault> {
+    match fs::metadata(rt, path) {
+        Ok(metadata) if metadata.is_dir() => {
+            let folder = or_failed(fs::open(rt, path))?;
+            or_failed(folder.sync_all())
+        }
+        Ok(_) => Ok(()),
+        Err(error) if is_missing(error.kind()) => Ok(()),
+        Err(_) => Err(StoreFault::Failed),
+    }
+}
+
+/// Makes a folder where nothing is, and flushes to disk that it is there.
+fn make_folder<R: Files>(rt: &R, folder: &str) -> Result<(), StoreFault> {
+    match fs::create_dir(rt, folder) {
+        Ok(()) => flush_folder(rt, folder),
+        Err(error) if error.kind() == ErrorKind::AlreadyExists => Ok(()),
+        Err(_) => Err(StoreFault::Failed),
+    }
+}
+
+/// Makes the folders in the directory that a path lies in, where they aren't there: one or two.
+fn make_folders<R: Files>(rt: &R, root: &str, path: &str) -> Result<(), StoreFault> {
+    let folder = folder_of(path);
+    let above = folder_of(folder);
+    if above != root {
+        make_folder(rt, above)?;
+    }
+    make_folder(rt, folder)
+}
+
+/// Makes a file aside that wasn't there before, and tells its path.
+fn new_aside<R: Files>(rt: &R, alloc: Global, root: &str) -> Result<(String, R::File), StoreFault> {
+    let folder = or_no_memory(aside_folder(alloc, root))?;
+    make_folder(rt, folder.as_str())?;
+    for number in 0..u32::MAX {
+        let aside = or_no_memory(aside_of(alloc, root, number))?;
         match OpenOptions::new()
             .write(true)
             .create_new(true)
@@ -145,14 +172,14 @@ fn new_beside<R: Files>(
     Err(StoreFault::Failed)
 }
 
-/// Writes these bytes beside a path, flushed to disk, and tells where.
-fn write_beside<R: Files>(
+/// Writes these bytes aside, flushed to disk, and tells where.
+fn write_aside<R: Files>(
     rt: &R,
     alloc: Global,
-    path: &str,
+    root: &str,
     bytes: &[u8],
 ) -> Result<String, StoreFault> {
-    let (aside, mut file) = new_beside(rt, alloc, path)?;
+    let (aside, mut file) = new_aside(rt, alloc, root)?;
     if file.write_all(bytes).is_err() || file.sync_all().is_err() {
         let _ = fs::remove_file(rt, aside.as_str());
         return Err(StoreFault::Failed);
@@ -164,26 +191,26 @@ fn write_beside<R: Files>(
 pub(crate) fn make_file<R: Files>(
     rt: &R,
     alloc: Global,
+    root: &str,
     path: &str,
     bytes: &[u8],
 ) -> Result<Option<Version>, StoreFault> {
-    or_failed(fs::create_dir_all(rt, folder_of(path)))?;
-    let aside = write_beside(rt, alloc, path, bytes)?;
+    if let Some(version) = standing(rt, path)? {
+        return Ok(Some(version));
+    }
+    make_folders(rt, root, path)?;
+    let aside = write_aside(rt, alloc, root, bytes)?;
     let linked = fs::hard_link(rt, aside.as_str(), path);
-    let removed = fs::remove_file(rt, aside.as_str());
+    or_failed(fs::remove_file(rt, aside.as_str()))?;
     match linked {
         Ok(()) => {
-            or_failed(removed)?;
             flush_folder(rt, path)?;
             Ok(None)
         }
-        Err(error) if error.kind() == ErrorKind::AlreadyExists => {
-            or_failed(removed)?;
-            match standing(rt, path)? {
-                Some(version) => Ok(Some(version)),
-                None => Err(StoreFault::Failed),
-            }
-        }
+        Err(error) if error.kind() == ErrorKind::AlreadyExists => match standing(rt, path)? {
+            Some(version) => Ok(Some(version)),
+            None => Err(StoreFault::Failed),
+        },
         Err(_) => Err(StoreFault::Failed),
     }
 }
@@ -192,6 +219,7 @@ pub(crate) fn make_file<R: Files>(
 pub(crate) fn replace_file<R: Files>(
     rt: &R,
     alloc: Global,
+    root: &str,
     path: &str,
     bytes: &[u8],
     old: Version,
@@ -202,7 +230,7 @@ pub(crate) fn replace_file<R: Files>(
     if found != Some(old) {
         return Ok(Change::Moved(found));
     }
-    let aside = write_beside(rt, alloc, path, bytes)?;
+    let aside = write_aside(rt, alloc, root, bytes)?;
     if fs::rename(rt, aside.as_str(), path).is_err() {
         let _ = fs::remove_file(rt, aside.as_str());
         return Err(StoreFault::Failed);

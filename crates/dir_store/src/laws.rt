@@ -7,7 +7,7 @@ pub fn names_are_told_apart()
     ensures { NamesDiffer }
 {}
 
-/// The name under which a file is written, before it is moved to its place, is no key's.
+/// No object lies where a file is written before it is moved to its place.
 pub fn asides_are_no_keys()
     ensures { AsidesAreNoKeys }
 {}

@@ -2,14 +2,22 @@
 #![tactic(auto)]
 
 mod claims;
+mod clearing;
+mod counting;
+mod faults;
 mod files;
 pub mod laws;
 mod listing;
 mod names;
+mod opening;
+mod seeds;
 mod store;
 mod versions;
 
-pub use claims::{Claim, ClaimFault};
+pub use claims::Claim;
+pub use faults::OpenFault;
 pub use names::key_of;
+pub use opening::{Opened, open};
+pub use seeds::random_seed;
 pub use store::DirStore;
 pub use versions::content_version;

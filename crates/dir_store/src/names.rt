@@ -4,12 +4,15 @@ ghost use Rattle.std.specs.Prelude.{◌≡◌, ◌≢◌, ◌++◌, List, ℕ, I
 ghost use Rattle.ice_base.specs.Names.{IsRefName};
 ghost use Rattle.ice_ids.specs.declared.Id12.{Id12};
 ghost use Rattle.ice_ids.specs.Text.{IsId12, id12_text};
-ghost use Rattle.dir_store.specs.Paths.{NamesKey, path_in, aside_name};
+ghost use Rattle.dir_store.specs.Paths.{NamesKey, aside_folder_in, aside_in, path_in};
 
 use ice_base::{NameFault, RefName};
 use ice_ids::Id12;
 use std::alloc::{AllocError, Global};
 use store_api::Key;
+
+/// Where the folder of files aside lies in a directory.
+const ASIDE: &str = "/icerepo.new";
 
 /// What stands behind this start of a text.
 fn after<'a>(text: &'a str, start: &str) -> Option<&'a str>
@@ -106,13 +109,26 @@ pub(crate) fn path_of(alloc: Global, root: &str, key: &Key) -> Result<String, Al
     Ok(path)
 }
 
-/// A name beside a path, which no object has.
-pub(crate) fn aside_of(alloc: Global, path: &str, number: u32) -> Result<String, AllocError>
-    ensures { IfOk result (λ aside. string_bytes aside ≡ aside_name path.now number) }
+/// The folder in this directory in which files are written before they are moved to their places.
+pub(crate) fn aside_folder(alloc: Global, root: &str) -> Result<String, AllocError>
+    ensures { IfOk result (λ folder. string_bytes folder ≡ aside_folder_in root.now) }
 {
-    let mut aside = String::from_str(alloc, path)?;
-    aside.push_str(".")?;
+    let mut folder = String::from_str(alloc, root)?;
+    folder.push_str(ASIDE)?;
+    Ok(folder)
+}
+
+/// The path of a file aside in this directory.
+pub(crate) fn aside_of(alloc: Global, root: &str, number: u32) -> Result<String, AllocError>
+    ensures { IfOk result (λ aside. string_bytes aside ≡ aside_in root.now number) }
+{
+    let mut aside = aside_folder(alloc, root)?;
+    aside.push_str("/")?;
     write!(aside, "{number}")?;
-    aside.push_str(".new")?;
     Ok(aside)
+}
+
+/// Whether a file in the folder of files aside may be one of them, by its name.
+pub(crate) fn is_aside(name: &str) -> bool {
+    name.parse::<u32>().is_ok()
 }

@@ -2,7 +2,7 @@
 
 ghost use Rattle.std.specs.Prelude.{◌≡◌, refl, false, IfOk, IfErr};
 ghost use Rattle.store_api.specs.Callers.{Called, Counted, as_client};
-ghost use Rattle.dir_store.specs.Store.{view_of, client_of, faults_of, clock_of, IsOpened, IsRightGot, IsRightNew, IsRightOver, IsRightGoneAt, time_of_got, time_of_new, time_of_over, time_of_gone, time_of_gone_at};
+ghost use Rattle.dir_store.specs.Store.{view_of, client_of, faults_of, operations_of, clock_of, IsNewIn, IsMade, IsRightGot, IsRightNew, IsRightOver, IsRightGoneAt, time_of_got, time_of_new, time_of_over, time_of_gone, time_of_gone_at};
 ghost use Rattle.dir_store.specs.Listings.{IsListed};
 
 use crate::files;
@@ -21,13 +21,12 @@ use store_api::{
 /// A store in a directory. What the directory holds is trusted: contracts speak of the caller, of the
 /// count of faults, and of what an answer says of the bytes that it gives or was given.
 ///
-/// A file is written beside its place, under a name that no object has, flushed to disk, and then
-/// moved there, so no reader sees half a file, and of two programs that put one new key one alone is
-/// answered `Done`. The folder is flushed too; the entry of a folder that was made for the object may
-/// be lost where the machine loses power. Between the check of the version and the move `put_over`
-/// and `remove_at` assume that no other program changes the file. A version is told by the content:
-/// where the same bytes are put again, they have the same version. A program that is cut off may
-/// leave files beside objects, which are passed over.
+/// A file is written aside, in a folder of the directory in which no object lies, flushed to disk, and
+/// then moved to its place, so no reader sees half a file, and a new key's file overwrites none. The
+/// folder is flushed too, as is the one that a new folder was made in. Between the check of the version
+/// and the move `put_over` and `remove_at` assume that no other program changes the file. A version is
+/// told by the content: where the same bytes are put again, they have the same version. A program that
+/// is cut off may leave files aside, which are no objects, and which the next claim removes.
 #[derive(Drop)]
 pub struct DirStore<R, C> {
     rt: R,
@@ -35,13 +34,14 @@ pub struct DirStore<R, C> {
     clock: C,
     client: u32,
     faults: u64,
+    operations: u64,
 }
 
 impl<R: Files + AllocGlobal + Clone + Drop, C: Clock + Drop> DirStore<R, C> {
     /// The store in the directory at this path, for the client 0. `Failed` comes only where the
     /// directory can't be listed.
     pub fn at(rt: R, path: &str, clock: C) -> Result<DirStore<R, C>, StoreFault>
-        ensures { IfOk result (IsOpened clock) }
+        ensures { IfOk result (IsNewIn path.now clock) }
     {
         let root = or_no_memory(String::from_str(rt.alloc(), path))?;
         if let Err(error) = fs::read_dir(&rt, path) {
@@ -53,6 +53,7 @@ impl<R: Files + AllocGlobal + Clone + Drop, C: Clock + Drop> DirStore<R, C> {
             clock,
             client: 0,
             faults: 0,
+            operations: 0,
         })
     }
 }
@@ -65,6 +66,13 @@ impl<R: Files + AllocGlobal + Clone + Drop, C: Clock> DirStore<R, C> {
         self.faults
     }
 
+    /// How many operations were made, those that failed too, or the greatest u64.
+    pub fn operations(&self) -> u64
+        ensures { result ≡ operations_of self.now }
+    {
+        self.operations
+    }
+
     /// The path of an object.
     fn path(&self, key: &Key) -> Result<String, StoreFault>
         ensures { IfErr result (λ fault. fault ≡ StoreFault.NoMemory) }
@@ -72,15 +80,21 @@ impl<R: Files + AllocGlobal + Clone + Drop, C: Clock> DirStore<R, C> {
         or_no_memory(path_of(self.rt.alloc(), self.root.as_str(), key))
     }
 
-    /// What was done, and a failure is counted.
+    /// What was done. It is counted, unless memory was wanting, and so is a failure.
     fn counted<T>(&mut self, done: Result<T, StoreFault>) -> Result<T, StoreFault>
         ensures is { result ≡ done }
         ensures counted { Counted result (faults_of self.old) (faults_of self.new) }
+        ensures made { IsMade result (operations_of self.old) (operations_of self.new) }
         ensures client { client_of self.new ≡ client_of self.old }
         ensures clock { clock_of self.new ≡ clock_of self.old }
     {
-        if let Err(StoreFault::Failed) = done {
-            self.faults = self.faults.saturating_add(1);
+        match done {
+            Ok(_) => self.operations = self.operations.saturating_add(1),
+            Err(StoreFault::Failed) => {
+                self.operations = self.operations.saturating_add(1);
+                self.faults = self.faults.saturating_add(1);
+            }
+            Err(StoreFault::NoMemory) => {}
         }
         done
     }
@@ -92,6 +106,7 @@ impl<R: Files + AllocGlobal + Clone + Drop, C: Clock> Store for DirStore<R, C> {
     fn get(&mut self, key: &Key) -> Result<Got, StoreFault>
         ensures call { Called (λ got. Reply.Got got) (Op.Get key.now) result (view_of self.old) (view_of self.new) }
         ensures content { IfOk result IsRightGot }
+        ensures made { IsMade result (operations_of self.old) (operations_of self.new) }
         ensures time { IfOk result (λ got. C.gives (clock_of self.old) (time_of_got got) (clock_of self.new)) }
     {
         let path = self.path(key)?;
@@ -114,10 +129,17 @@ impl<R: Files + AllocGlobal + Clone + Drop, C: Clock> Store for DirStore<R, C> {
     fn put_new(&mut self, key: &Key, bytes: &[u8], why: Why) -> Result<New, StoreFault>
         ensures call { Called (λ new. Reply.New new) (Op.PutNew key.now bytes.now why) result (view_of self.old) (view_of self.new) }
         ensures content { IfOk result (IsRightNew bytes.now) }
+        ensures made { IsMade result (operations_of self.old) (operations_of self.new) }
         ensures time { IfOk result (λ new. C.gives (clock_of self.old) (time_of_new new) (clock_of self.new)) }
     {
         let path = self.path(key)?;
-        let made = files::make_file(&self.rt, self.rt.alloc(), path.as_str(), bytes);
+        let made = files::make_file(
+            &self.rt,
+            self.rt.alloc(),
+            self.root.as_str(),
+            path.as_str(),
+            bytes,
+        );
         let found = self.counted(made)?;
         let now = self.clock.now();
         Ok(match found {
@@ -138,10 +160,18 @@ impl<R: Files + AllocGlobal + Clone + Drop, C: Clock> Store for DirStore<R, C> {
     ) -> Result<Over, StoreFault>
         ensures call { Called (λ over. Reply.Over over) (Op.PutOver key.now bytes.now old why) result (view_of self.old) (view_of self.new) }
         ensures content { IfOk result (IsRightOver bytes.now old) }
+        ensures made { IsMade result (operations_of self.old) (operations_of self.new) }
         ensures time { IfOk result (λ over. C.gives (clock_of self.old) (time_of_over over) (clock_of self.new)) }
     {
         let path = self.path(key)?;
-        let replaced = files::replace_file(&self.rt, self.rt.alloc(), path.as_str(), bytes, old);
+        let replaced = files::replace_file(
+            &self.rt,
+            self.rt.alloc(),
+            self.root.as_str(),
+            path.as_str(),
+            bytes,
+            old,
+        );
         let change = self.counted(replaced)?;
         let now = self.clock.now();
         Ok(match change {
@@ -155,6 +185,7 @@ impl<R: Files + AllocGlobal + Clone + Drop, C: Clock> Store for DirStore<R, C> {
 
     fn remove(&mut self, key: &Key, why: Why) -> Result<Gone, StoreFault>
         ensures call { Called (λ gone. Reply.Gone gone) (Op.Remove key.now why) result (view_of self.old) (view_of self.new) }
+        ensures made { IsMade result (operations_of self.old) (operations_of self.new) }
         ensures time { IfOk result (λ gone. C.gives (clock_of self.old) (time_of_gone gone) (clock_of self.new)) }
     {
         let path = self.path(key)?;
@@ -171,6 +202,7 @@ impl<R: Files + AllocGlobal + Clone + Drop, C: Clock> Store for DirStore<R, C> {
     fn remove_at(&mut self, key: &Key, old: Version, why: Why) -> Result<GoneAt, StoreFault>
         ensures call { Called (λ gone. Reply.GoneAt gone) (Op.RemoveAt key.now old why) result (view_of self.old) (view_of self.new) }
         ensures content { IfOk result (IsRightGoneAt old) }
+        ensures made { IsMade result (operations_of self.old) (operations_of self.new) }
         ensures time { IfOk result (λ gone. C.gives (clock_of self.old) (time_of_gone_at gone) (clock_of self.new)) }
     {
         let path = self.path(key)?;
@@ -186,6 +218,7 @@ impl<R: Files + AllocGlobal + Clone + Drop, C: Clock> Store for DirStore<R, C> {
     fn list(&mut self, part: Part) -> Result<Listed, StoreFault>
         ensures call { Called (λ listed. Reply.Listed listed) (Op.List part) result (view_of self.old) (view_of self.new) }
         ensures content { IfOk result (λ listed. IsListed part listed.entries) }
+        ensures made { IsMade result (operations_of self.old) (operations_of self.new) }
         ensures time { IfOk result (λ listed. C.gives (clock_of self.old) listed.now (clock_of self.new)) }
     {
         let listing = list_files(&self.rt, self.root.as_str(), part);
@@ -201,6 +234,7 @@ impl<R: Files + AllocGlobal + Clone + Drop, C: Clock> Base for DirStore<R, C> {
     fn set_client(&mut self, client: u32)
         ensures view { view_of self.new ≡ as_client client (view_of self.old) }
         ensures clock { clock_of self.new ≡ clock_of self.old }
+        ensures made { operations_of self.new ≡ operations_of self.old }
     {
         self.client = client;
     }

@@ -1,9 +1,11 @@
-use dir_store::{Claim, ClaimFault, DirStore, content_version};
+use dir_store::{Claim, DirStore, OpenFault, Opened, content_version, open};
 use ice_base::{RefName, TickClock};
 use ice_ids::Id12;
+use moments::WallClock;
 use std::fs;
 use std::test::Fail;
 use store_api::{Gone, GoneAt, Got, Key, New, Over, Part, Store, StoreFault, Why};
+use store_count::Counting;
 
 type Directory = DirStore<HostRuntime, TickClock>;
 
@@ -128,10 +130,52 @@ fn one_claim_at_a_time(rt: HostRuntime) -> Result<(), Fail> {
     let _store = fresh(rt, "claimed")?;
     {
         let _claim = Claim::of(&rt, "claimed")?;
-        assert!(rt; matches!(Claim::of(&rt, "claimed"), Err(ClaimFault::Taken)));
+        assert!(rt; matches!(Claim::of(&rt, "claimed"), Err(OpenFault::Taken)));
+        assert!(rt; matches!(open(rt, "claimed", TickClock::new()), Err(OpenFault::Taken)));
     }
     let _again = Claim::of(&rt, "claimed")?;
-    assert!(rt; matches!(Claim::of(&rt, "not_there"), Err(ClaimFault::Failed)));
     fs::remove_dir_all(&rt, "claimed")?;
+    Ok(())
+}
+
+#[test]
+fn what_is_no_directory_is_not_opened(rt: HostRuntime) -> Result<(), Fail> {
+    fs::write(&rt, "a_file", "no directory")?;
+    for (path, fault) in [
+        ("not_there", OpenFault::Missing),
+        ("", OpenFault::Missing),
+        ("a_file", OpenFault::NotDirectory),
+        ("a_file/beneath", OpenFault::NotDirectory),
+    ] {
+        match open(rt, path, TickClock::new()) {
+            Ok(_) => return Err(Fail::new("opened")),
+            Err(told) => assert!(rt; told == fault),
+        }
+    }
+    assert!(rt; !fs::exists(&rt, "not_there")?);
+    fs::remove_file(&rt, "a_file")?;
+    Ok(())
+}
+
+/// A store that may go to another thread counts its operations.
+fn count<S: Counting + Send>(store: &mut S) -> u64 {
+    store.operations()
+}
+
+#[test]
+fn operations_are_counted(rt: HostRuntime) -> Result<(), Fail> {
+    let _ = fresh(rt, "counted")?;
+    let Opened {
+        claim: _claim,
+        mut store,
+        seed,
+    } = open(rt, "counted", WallClock::new(rt))?;
+    assert!(rt; seed != [0; 32]);
+    let main = branch(rt, "main")?;
+    store.put_new(&main, b"one", Why::Create)?;
+    store.get(&main)?;
+    store.list(Part::Tags)?;
+    assert_eq!(rt; count(&mut store), 3);
+    fs::remove_dir_all(&rt, "counted")?;
     Ok(())
 }

@@ -3,6 +3,8 @@
 #![tactic(auto)]
 
 #[cfg(test)]
+mod breaking;
+#[cfg(test)]
 mod cutoffs;
 #[cfg(test)]
 mod directories;

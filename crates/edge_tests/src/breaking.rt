@@ -1,0 +1,311 @@
+//! Files of the system that break, and what the store over them says and leaves.
+
+ghost use Rattle.std.specs.Prelude.{◌≤◌};
+
+use dir_store::{DirStore, content_version, open};
+use ice_base::{RefName, TickClock};
+use ice_ids::Id12;
+use std::alloc::{Allocator, Global};
+use std::cell::Cell;
+use std::fs::{File, Metadata, OpenFile, OpenOptions};
+use std::io::{ErrorKind, Read, Seek, SeekFrom, Write};
+use std::rt::Files;
+use std::test::Fail;
+use std::{fs, io};
+use store_api::{Got, Key, Over, Part, Store, StoreFault, Why};
+
+/// Files of the system. A call breaks: that one alone, or all from it on, as where a program is cut
+/// off there.
+#[derive(Clone, Copy)]
+struct Breaking<'a> {
+    rt: HostRuntime,
+    calls: &'a Cell<u64>,
+    broken: u64,
+    for_good: bool,
+}
+
+impl<'a> Breaking<'a> {
+    /// Counts a call, and fails where it breaks.
+    fn call(&self) -> io::Result<()> {
+        let number = self.calls.get();
+        self.calls.set(number.saturating_add(1));
+        if number == self.broken || (self.for_good && number > self.broken) {
+            return Err(io::Error::from(ErrorKind::StorageFull));
+        }
+        Ok(())
+    }
+}
+
+/// An open file of them.
+#[derive(Drop)]
+struct BreakingFile<'a> {
+    file: File,
+    files: Breaking<'a>,
+}
+
+impl<'a> Read for BreakingFile<'a> {
+    fn read(&mut self, buf: &mut [u8]) -> io::Result<usize> {
+        self.files.call()?;
+        self.file.read(buf)
+    }
+}
+
+impl<'a> Write for BreakingFile<'a> {
+    /// A write that breaks has written one byte.
+    fn write(&mut self, buf: &[u8]) -> io::Result<usize> {
+        if let Err(error) = self.files.call() {
+            let _ = self.file.write(buf.get(..1).unwrap_or(buf));
+            return Err(error);
+        }
+        self.file.write(buf)
+    }
+
+    fn flush(&mut self) -> io::Result<()> {
+        Ok(())
+    }
+}
+
+impl<'a> Seek for BreakingFile<'a> {
+    fn seek(&mut self, to: SeekFrom) -> io::Result<u64> {
+        self.file.seek(to)
+    }
+}
+
+/// Nothing is flushed, so that the tests are quick.
+impl<'a> OpenFile for BreakingFile<'a> {
+    fn metadata(&self) -> io::Result<Metadata> {
+        self.files.call()?;
+        self.file.metadata()
+    }
+
+    fn set_len(&self, size: u64) -> io::Result<()> {
+        self.files.call()?;
+        self.file.set_len(size)
+    }
+
+    fn sync_all(&self) -> io::Result<()> {
+        self.files.call()
+    }
+
+    fn sync_data(&self) -> io::Result<()> {
+        self.files.call()
+    }
+}
+
+impl<'a> Alloc for Breaking<'a> {
+    type A = Global;
+
+    fn alloc(&self) -> Global {
+        self.rt.alloc()
+    }
+}
+
+impl<'a> Files for Breaking<'a> {
+    type File = BreakingFile<'a>;
+
+    type Dir = <HostRuntime as Files>::Dir;
+
+    fn open_file(&self, how: &OpenOptions, path: &str) -> io::Result<BreakingFile<'a>> {
+        self.call()?;
+        Ok(BreakingFile {
+            file: self.rt.open_file(how, path)?,
+            files: *self,
+        })
+    }
+
+    fn open_dir(&self, path: &str) -> io::Result<<HostRuntime as Files>::Dir> {
+        self.call()?;
+        self.rt.open_dir(path)
+    }
+
+    fn metadata(&self, path: &str) -> io::Result<Metadata> {
+        self.call()?;
+        Files::metadata(&self.rt, path)
+    }
+
+    fn symlink_metadata(&self, path: &str) -> io::Result<Metadata> {
+        self.call()?;
+        Files::symlink_metadata(&self.rt, path)
+    }
+
+    fn copy(&self, from: &str, to: &str) -> io::Result<u64> {
+        self.call()?;
+        Files::copy(&self.rt, from, to)
+    }
+
+    fn rename(&self, from: &str, to: &str) -> io::Result<()> {
+        self.call()?;
+        Files::rename(&self.rt, from, to)
+    }
+
+    fn remove_file(&self, path: &str) -> io::Result<()> {
+        self.call()?;
+        Files::remove_file(&self.rt, path)
+    }
+
+    fn create_dir(&self, path: &str) -> io::Result<()> {
+        self.call()?;
+        Files::create_dir(&self.rt, path)
+    }
+
+    fn remove_dir(&self, path: &str) -> io::Result<()> {
+        self.call()?;
+        Files::remove_dir(&self.rt, path)
+    }
+
+    fn remove_dir_all<B: Allocator>(&self, alloc: B, path: &str) -> io::Result<()> {
+        self.call()?;
+        Files::remove_dir_all(&self.rt, alloc, path)
+    }
+
+    fn hard_link(&self, original: &str, link: &str) -> io::Result<()> {
+        self.call()?;
+        Files::hard_link(&self.rt, original, link)
+    }
+}
+
+/// More calls than the operations below make.
+const MOST: u64 = 300;
+
+/// The keys that the operations are on.
+#[derive(Drop)]
+struct Keys {
+    snapshot: Key,
+    main: Key,
+    other: Key,
+}
+
+fn make_keys(rt: HostRuntime) -> Result<Keys, Fail> {
+    Ok(Keys {
+        snapshot: Key::Snapshot(Id12::INITIAL),
+        main: Key::Branch(RefName::read(rt.alloc(), "main")?),
+        other: Key::Branch(RefName::read(rt.alloc(), "other")?),
+    })
+}
+
+/// Makes a directory with one branch.
+fn begin(rt: HostRuntime, path: &str, keys: &Keys) -> Result<(), Fail> {
+    let _ = fs::remove_dir_all(&rt, path);
+    fs::create_dir_all(&rt, path)?;
+    let mut store = DirStore::at(rt, path, TickClock::new())?;
+    store.put_new(&keys.main, b"one", Why::Create)?;
+    Ok(())
+}
+
+fn failures<T: Drop>(done: Result<T, StoreFault>) -> u64
+    ensures { result ≤ 1 }
+{
+    match done {
+        Err(StoreFault::Failed) => 1,
+        _ => 0,
+    }
+}
+
+/// Makes each operation, and tells how many failed.
+fn work(store: &mut DirStore<Breaking<'_>, TickClock>, keys: &Keys) -> u64 {
+    let one = content_version(b"one");
+    let made = content_version(b"made");
+    failures(store.put_new(&keys.snapshot, b"whole", Why::Init))
+        + failures(store.put_over(&keys.main, b"two", one, Why::Commit))
+        + failures(store.put_new(&keys.main, b"never", Why::Create))
+        + failures(store.get(&keys.main))
+        + failures(store.put_new(&keys.other, b"made", Why::Create))
+        + failures(store.list(Part::Branches))
+        + failures(store.list(Part::Snapshots))
+        + failures(store.remove_at(&keys.other, made, Why::Drop))
+        + failures(store.remove(&keys.snapshot, Why::Collect))
+}
+
+#[test]
+fn each_failed_call_is_counted(rt: HostRuntime) -> Result<(), Fail> {
+    let keys = make_keys(rt)?;
+    for broken in 1..MOST {
+        begin(rt, "failing_calls", &keys)?;
+        let calls = Cell::new(0);
+        let files = Breaking {
+            rt,
+            calls: &calls,
+            broken,
+            for_good: false,
+        };
+        let mut store = DirStore::at(files, "failing_calls", TickClock::new())?;
+        let failed = work(&mut store, &keys);
+        let broke = calls.get() > broken;
+        assert_eq!(rt; failed, if broke { 1 } else { 0 });
+        assert_eq!(rt; store.faults(), failed);
+        assert_eq!(rt; store.operations(), 9);
+        if !broke {
+            fs::remove_dir_all(&rt, "failing_calls")?;
+            return Ok(());
+        }
+    }
+    Err(Fail::new("too many calls"))
+}
+
+/// Whether a key has one of these contents, or, where that may be, none.
+fn has_one_of(
+    store: &mut DirStore<HostRuntime, TickClock>,
+    key: &Key,
+    contents: &[&[u8]],
+    absent: bool,
+) -> Result<bool, Fail> {
+    Ok(match store.get(key)? {
+        Got::Absent { .. } => absent,
+        Got::Found { bytes, .. } => contents.contains(&bytes.as_slice()),
+    })
+}
+
+/// Whether what a program that was cut off has left is whole, and can be gone on with.
+fn goes_on(rt: HostRuntime, path: &str, keys: &Keys) -> Result<bool, Fail> {
+    let mut opened = open(rt, path, TickClock::new())?;
+    let store = &mut opened.store;
+    let main = has_one_of(store, &keys.main, &[b"one", b"two"], false)?;
+    let snapshot = has_one_of(store, &keys.snapshot, &[b"whole"], true)?;
+    let other = has_one_of(store, &keys.other, &[b"made"], true)?;
+    let Got::Found { version, .. } = store.get(&keys.main)? else {
+        return Ok(false);
+    };
+    let over = store.put_over(&keys.main, b"three", version, Why::Commit)?;
+    Ok(main && snapshot && other && matches!(over, Over::Done { .. }))
+}
+
+#[test]
+fn a_program_that_is_cut_off_leaves_whole_files(rt: HostRuntime) -> Result<(), Fail> {
+    let keys = make_keys(rt)?;
+    for broken in 1..MOST {
+        begin(rt, "cut_off", &keys)?;
+        let calls = Cell::new(0);
+        let files = Breaking {
+            rt,
+            calls: &calls,
+            broken,
+            for_good: true,
+        };
+        let mut store = DirStore::at(files, "cut_off", TickClock::new())?;
+        work(&mut store, &keys);
+        assert!(rt; goes_on(rt, "cut_off", &keys)?);
+        assert_eq!(rt; fs::read_dir(&rt, "cut_off/icerepo.new")?.count(), 0);
+        if calls.get() <= broken {
+            fs::remove_dir_all(&rt, "cut_off")?;
+            return Ok(());
+        }
+    }
+    Err(Fail::new("too many calls"))
+}
+
+#[test]
+fn leftovers_never_stop_a_put(rt: HostRuntime) -> Result<(), Fail> {
+    let keys = make_keys(rt)?;
+    begin(rt, "leftovers", &keys)?;
+    for number in 0..1200u32 {
+        let path = format!(in rt.alloc(); "leftovers/icerepo.new/{number}")?;
+        fs::write(&rt, path.as_str(), "cut off")?;
+    }
+    fs::write(&rt, "leftovers/icerepo.new/readme", "mine")?;
+    let mut store = DirStore::at(rt, "leftovers", TickClock::new())?;
+    store.put_new(&keys.other, b"made", Why::Create)?;
+    assert!(rt; goes_on(rt, "leftovers", &keys)?);
+    assert_eq!(rt; fs::read_dir(&rt, "leftovers/icerepo.new")?.count(), 1);
+    fs::remove_dir_all(&rt, "leftovers")?;
+    Ok(())
+}
