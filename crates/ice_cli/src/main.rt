@@ -1,22 +1,37 @@
-//! The program `icerepo`: it reads the words of its command line, runs the script that comes on standard input over a
-//! store in memory, and prints the report.
+//! The program `icerepo`: it reads the words of its command line, and plays the script that comes on standard input, or one
+//! that is made from a number, over a store in memory or in a directory; or it says what it is.
 #![tactic(auto)]
 
-use ice_base::{StdSink, StdSource, TickClock};
+mod running;
+
+use command_words::{Place, place_of};
+use dir_store::{OpenFault, Opened, open};
 use ice_ids::Draw;
-use mem_store::MemStore;
+use moments::WallClock;
+use running::{end_without_store, in_memory, run_over};
 use std::process::ExitCode;
-use top_call::{end, given_words, run};
+use top_call::{Status, end, given_words};
 
 fn main(rt: HostRuntime) -> ExitCode {
     let words = match given_words(&rt) {
         Ok(words) => words,
         Err(status) => return end(&rt, &status),
     };
-    let alloc = rt.alloc();
-    let mut input = StdSource::new(rt);
-    let mut output = StdSink::new(rt);
-    let store = MemStore::new(alloc, TickClock::new());
-    let ended = run(alloc, &words, Draw::Count, &mut input, store, &mut output);
-    end(&rt, &ended.status)
+    match place_of(rt.alloc(), &words) {
+        Ok(Place::Memory) => in_memory(&rt, &words),
+        Ok(Place::Dir(path)) => match open(rt, path, WallClock::new(rt)) {
+            Ok(opened) => {
+                let seed = opened.seed;
+                let Opened {
+                    claim: _claim,
+                    store,
+                    ..
+                } = opened;
+                run_over(&rt, &words, Draw::Stream(seed), store)
+            }
+            Err(OpenFault::NoMemory) => end(&rt, &Status::NoMemory),
+            Err(fault) => end_without_store(&rt, fault),
+        },
+        Err(_) => end(&rt, &Status::NoMemory),
+    }
 }

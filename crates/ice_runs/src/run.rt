@@ -1,12 +1,16 @@
 //! Whole runs over a store in memory that is empty at first: scripts, and the reports and statuses that belong to them.
 
+use command_words::{UsageFault, Word, words_of};
 use ice_base::{ByteSink, ByteSource, TickClock};
 use ice_ids::Draw;
 use mem_store::{FaultStore, MemStore};
+use play_at_once::OpenGate;
 use play_script::ScriptKind;
 use std::alloc::Global;
+use std::sync::Wait;
 use std::test::Fail;
-use top_call::{Status, UsageFault, Word, run, words_of};
+use std::thread::Threads;
+use top_call::{Status, run};
 
 /// Which reads of the input, writes of the output and calls of the store fail; a call of the store may be done all the same.
 #[derive(Clone, Copy)]
@@ -23,7 +27,7 @@ const NOTHING_FAILS: Failing<'static> = Failing {
 };
 
 /// The words behind the program's name.
-fn words(alloc: Global, said: &[&str]) -> Result<Vec<Word>, Fail> {
+pub(crate) fn words(alloc: Global, said: &[&str]) -> Result<Vec<Word>, Fail> {
     let mut texts = vec![in alloc; String::from_str(alloc, "icerepo")?]?;
     for word in said {
         texts.push(String::from_str(alloc, word)?)?;
@@ -32,7 +36,8 @@ fn words(alloc: Global, said: &[&str]) -> Result<Vec<Word>, Fail> {
 }
 
 /// What a run writes, and its status.
-fn ran(
+fn ran<R: Threads + Wait + Sync>(
+    rt: &R,
     alloc: Global,
     said: &[&str],
     script: &str,
@@ -43,8 +48,19 @@ fn ran(
     let mut input = ByteSource::new(script, failing.reads.to_vec(alloc)?);
     let mut output = ByteSink::new(alloc, 1000, failing.writes.to_vec(alloc)?)?;
     let calls = failing.calls.to_vec(alloc)?;
-    let store = FaultStore::new(MemStore::new(alloc, TickClock::new()), calls);
-    let ended = run(alloc, &words, Draw::Count, &mut input, store, &mut output);
+    let memory = MemStore::new(alloc, TickClock::new());
+    let store = FaultStore::new(memory, calls);
+    let draw = Draw::Count;
+    let ended = run(
+        rt,
+        alloc,
+        &words,
+        draw,
+        &mut input,
+        store,
+        &OpenGate,
+        &mut output,
+    );
     let report = String::from_utf8_lossy(alloc, output.written())?;
     Ok((report, ended.status))
 }
@@ -75,7 +91,7 @@ const ROWS: [Row; 27] = [
     Row {
         script: "task a write main 0 fail\n\
             group /\ngroup /b\nlist /\ngroup /b/c\nlist /\nlist /b/c\ncommit x\n\
-            task r read branch main\nlist /b\n",
+            task r read branch main\nlist /b\nturns\n",
         report: "a 4 list group /b\n\
             a 6 list group /b\na 6 list group /b/c\n\
             a committed 0000008000000000001G\n\
@@ -118,7 +134,7 @@ const ROWS: [Row; 27] = [
         script: "task a write main 0 fail\n\
             group /\narray /x uint8 4 2 0\ngroup /g\narray /g/y int16 - - -5\n\
             list /\nget /g/y\ndrop /g\nlist /\ncommit one\n\
-            task b write main 0 fail\ndrop /\nlist /\n",
+            task b write main 0 fail\ndrop /\nlist /\nturns\n",
         report: "a 6 list group /g\na 6 list array /g/y\na 6 list array /x\n\
             a 7 meta {\"zarr_format\":3,\"node_type\":\"array\",\"shape\":[],\"data_type\":\"int16\",\
             \"chunk_grid\":{\"name\":\"regular\",\"configuration\":{\"chunk_shape\":[]}},\
@@ -132,7 +148,7 @@ const ROWS: [Row; 27] = [
     Row {
         script: "task a write main 0 fail\ngroup /\ngroup /a\ncommit one\n\
             task b write main 0 fail\ndrop /\ncommit two\n\
-            task c write main 0 fail\ngroup /\nlist /\ncommit three\n",
+            task c write main 0 fail\ngroup /\nlist /\ncommit three\nturns\n",
         report: "a committed 00000080000000000010\n\
             b committed 000000G0000000000000\n\
             c committed 000000R000000000000G\n\
@@ -153,7 +169,7 @@ const ROWS: [Row; 27] = [
         script: "task a write main 0 fail\n\
             group /\narray /x uint8 5 2 7\nset /x 0 0102\nfill /x 1 ff\nset /x 2 0a0b\n\
             chunk /x 1\nunset /x 1\nchunk /x 1\ncommit one\n\
-            task r read branch main\nchunk /x 0\nchunk /x 1\nchunk /x 2\nchunk /x 3\n",
+            task r read branch main\nchunk /x 0\nchunk /x 1\nchunk /x 2\nchunk /x 3\nturns\n",
         report: "a 7 chunk ffff\na 9 fill\na committed 0000008000000000001G\n\
             r 12 chunk 0102\nr 13 fill\nr 14 chunk 0a0b\nr refused 15 outofgrid\n\
             branch main 0000008000000000001G\n",
@@ -165,7 +181,7 @@ const ROWS: [Row; 27] = [
             group /\narray /x uint8 1026 513 0\nfill /x 0 61\ncommit one\n\
             task b write main 0 fail\nfill /x 1 62\nunset /x 0\ncommit two\n\
             task c write main 0 fail\nchunk /x 0\nunset /x 1\nchunk /x 1\ncommit three\n\
-            task r read branch main\nchunk /x 1\n",
+            task r read branch main\nchunk /x 1\nturns\n",
         report: "a committed 00000080000000000020\nb committed 000000G0000000000010\n\
             c 11 fill\nc 13 fill\nc committed 000000R0000000000000\n\
             r 16 fill\nr done\nbranch main 000000R0000000000000\n",
@@ -260,7 +276,7 @@ const ROWS: [Row; 27] = [
     // A branch that isn't there, between lines that are passed over.
     Row {
         script: "# one\ntask a write other 0 fail\n\ngroup /\ncommit x\n\
-            task b read branch other\n# two\nlist /\n",
+            task b read branch other\n# two\nlist /\nturns\n",
         report: "a refused 2 noref\nb refused 6 noref\nbranch main 1CECHNKREP0F1RSTCMT0\n",
         status: Status::Refused,
     },
@@ -347,7 +363,7 @@ const ROWS: [Row; 27] = [
 #[test]
 fn scripts(rt: HostRuntime) -> Result<(), Fail> {
     for row in &ROWS {
-        let (report, status) = ran(rt.alloc(), &["play"], row.script, NOTHING_FAILS)?;
+        let (report, status) = ran(&rt, rt.alloc(), &["play"], row.script, NOTHING_FAILS)?;
         assert_eq!(rt; report.as_str(), row.report, "{}", row.script);
         assert_eq!(rt; status, row.status, "{}", row.script);
     }
@@ -401,7 +417,7 @@ const FAILING_ROWS: [FailingRow; 4] = [
 #[test]
 fn ends_that_fail(rt: HostRuntime) -> Result<(), Fail> {
     for row in &FAILING_ROWS {
-        let (report, status) = ran(rt.alloc(), &["play"], SMALLEST_COMMIT, row.failing)?;
+        let (report, status) = ran(&rt, rt.alloc(), &["play"], SMALLEST_COMMIT, row.failing)?;
         assert_eq!(rt; report.as_str(), row.report);
         assert_eq!(rt; status, row.status);
     }
@@ -410,16 +426,48 @@ fn ends_that_fail(rt: HostRuntime) -> Result<(), Fail> {
 
 #[test]
 fn wrong_words(rt: HostRuntime) -> Result<(), Fail> {
-    let cases: [(&[&str], UsageFault); 4] = [
+    let cases: [(&[&str], UsageFault); 6] = [
         (&[], UsageFault::NoCommand),
         (&["Play"], UsageFault::Unknown),
         (&["pla", "--dir"], UsageFault::Unknown),
         (&["play", ""], UsageFault::Words),
+        (&["play", "--dir"], UsageFault::Words),
+        (&["grow", "61"], UsageFault::Words),
     ];
     for (said, fault) in cases {
-        let (report, status) = ran(rt.alloc(), said, SMALLEST_COMMIT, NOTHING_FAILS)?;
+        let (report, status) = ran(&rt, rt.alloc(), said, SMALLEST_COMMIT, NOTHING_FAILS)?;
         assert_eq!(rt; report.as_str(), "");
         assert_eq!(rt; status, Status::Usage(fault));
     }
+    Ok(())
+}
+
+/// What `grow` and `--version` print, and that neither reads its input.
+#[test]
+fn other_commands(rt: HostRuntime) -> Result<(), Fail> {
+    let cases: [(&[&str], &str); 2] = [
+        (&["grow", "1"], "tasks 2 committed 2 refused 0 events 16\n"),
+        (&["--version"], "icerepo 0.1.0\n"),
+    ];
+    let failing = Failing {
+        reads: &[0],
+        ..NOTHING_FAILS
+    };
+    for (said, want) in cases {
+        let (text, status) = ran(&rt, rt.alloc(), said, "", failing)?;
+        assert_eq!(rt; text.as_str(), want);
+        assert_eq!(rt; status, Status::Ok);
+    }
+    Ok(())
+}
+
+/// `grow 60` prints the same line each time.
+#[test]
+fn grown_runs_agree(rt: HostRuntime) -> Result<(), Fail> {
+    let said: &[&str] = &["grow", "60"];
+    let (first, status) = ran(&rt, rt.alloc(), said, "", NOTHING_FAILS)?;
+    let (second, _) = ran(&rt, rt.alloc(), said, "", NOTHING_FAILS)?;
+    assert_eq!(rt; first.as_str(), second.as_str());
+    assert_eq!(rt; status, Status::Ok, "{first}");
     Ok(())
 }

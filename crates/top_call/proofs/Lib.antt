@@ -2,3 +2,4 @@ mod Rows
 pub mod Endings
 pub mod Tellings
 pub mod Readings
+pub mod Commands

@@ -1,9 +1,9 @@
 -- What the bytes of an input say of the script that is read from it.
-use Rattle.std.proofs.Common.{◌≡◌, ℕ, ◌+◌, ◌<◌, ◌≤◌, List, [], ◌++◌, length, take, Bool, true, false, refl, sym, ◌∙◌, ap, inl, inr, ltb, arith, length-append}
+use Rattle.std.proofs.Common.{◌≡◌, ◌⊎◌, ℕ, ◌+◌, ◌<◌, ◌≤◌, List, [], ◌++◌, length, take, Bool, true, false, refl, sym, ◌∙◌, ap, inl, inr, ltb, arith, length-append}
 use Rattle.std.specs.Prelude.{Some, Err}
 use Rattle.std.proofs.lemmas.Bool.{lt-leb, ltb-true, ltb-false}
 use Rattle.std.proofs.lemmas.List.{take-append-le, append-nil}
-use Rattle.ice_base.specs.Ends.{InputAt, OutputAt, IsInput}
+use Rattle.ice_base.specs.Ends.{InputAt, OutputAt, IsInput, Rose}
 use Rattle.ice_ids.specs.declared.drawing.Draw.{Draw}
 use Rattle.store_api.specs.Callers.{View}
 use Rattle.play_script.specs.declared.faults.ScriptKind.{ScriptKind}
@@ -12,8 +12,11 @@ use Rattle.play_script.specs.declared.scripts.Script.{Script}
 use Rattle.play_script.specs.Reading.{script_of, most_bytes, feeds}
 use Rattle.top_call.specs.declared.statuses.Status.{Status}
 use Rattle.top_call.specs.declared.statuses.Status.TheVariants as S
-use Rattle.top_call.specs.Run.{most_input, HasScript, HasFault, Ends, TellsRefused, IsCalm, IsFaultless}
-use Rattle.top_call.proofs.Endings.{store_faulted, sink_faulted}
+use Rattle.command_words.specs.declared.reading.Command.{Command}
+use Rattle.command_words.specs.declared.reading.Command.TheVariants as C
+use Rattle.command_words.specs.Help.{help_of, version_line}
+use Rattle.top_call.specs.Run.{most_input, IsSource, HasFailed, HasScript, HasFault, PlayEnds, SayEnds, Ends, TellsRefused, IsCalm, IsFaultless}
+use Rattle.top_call.proofs.Endings.{store_played, sink_played}
 
 -- a text that is too long is refused by its first bytes alone
 too_long : (text : List ℕ) → most_bytes < length text → script_of text ≡ Err (feeds (take most_bytes text) + 1, Long)
@@ -41,33 +44,65 @@ reads_all a b text bytes i e =
         let l = ltb-false (length text) most_input h in
         ap script_of is ∙ still_long text rest (omega (arith, l))
 
-module _ (a b : InputAt) (bytes : List ℕ) (line : ℕ) (kind : ScriptKind) (e : a.left ≡ Some bytes) (r : script_of bytes ≡ Err (line, kind)) where
-  not_script : {P : Type 0} (script : Script) → HasScript a b script → P
-  not_script script h = let both = sym r ∙ (reads_all a b h.text bytes h.input e ∙ h.reads) in absurd cc
+-- the script of a command whose text is refused
+module _ (command : Command) (a b : InputAt) (line : ℕ) (kind : ScriptKind) (refused : (text : List ℕ) → IsSource command a b text → script_of text ≡ Err (line, kind)) where
+  not_script : {P : Type 0} (script : Script) → HasScript command a b script → P
+  not_script script h = let both = sym (refused h.text h.source) ∙ h.reads in absurd cc
 
-  first_fault : (n : ℕ) (k : ScriptKind) → HasFault a b n k → S.Script n k ≡ S.Script line kind
+  first_fault : (n : ℕ) (k : ScriptKind) → HasFault command a b n k → S.Script n k ≡ S.Script line kind
   first_fault n k h =
-      let both = sym r ∙ (reads_all a b h.text bytes h.input e ∙ h.reads) in
+      let both = sym (refused h.text h.source) ∙ h.reads in
       let same : (line, kind) ≡ (n, k) = cc in
       ap (λ (at : ℕ × ScriptKind). S.Script at.0 at.1) (sym same)
 
-module _ (draw : Draw) (a b : InputAt) (s t : View) (x y : OutputAt) where
-  pub tells_refused : (status : Status) → Ends draw a b s t x y status → TellsRefused a status
-  tells_refused S.ReadFault ends bytes line kind e r = inr (inl refl)
-  tells_refused S.NoMemory ends bytes line kind e r = inr (inr refl)
-  tells_refused (S.Script n k) ends bytes line kind e r = inl (first_fault a b bytes line kind e r n k ends.0)
-  tells_refused (S.Usage fault) ends bytes line kind e r = absurd ends
-  tells_refused S.Ok ends bytes line kind e r = not_script a b bytes line kind e r ends.script ends.reads
-  tells_refused S.Refused ends bytes line kind e r = not_script a b bytes line kind e r ends.script ends.reads
-  tells_refused S.WriteFault ends bytes line kind e r = not_script a b bytes line kind e r ends.script ends.reads
-  tells_refused S.StoreFault ends bytes line kind e r = not_script a b bytes line kind e r ends.script ends.reads
+  module _ (draw : Draw) (s t : View) (x y : OutputAt) where
+    pub first_refused : (status : Status) → PlayEnds command draw a b s t x y status → (status ≡ S.Script line kind) ⊎ (((status ≡ S.ReadFault) × HasFailed command a b) ⊎ (status ≡ S.NoMemory))
+    first_refused S.ReadFault ends = inr (inl (refl, ends.0))
+    first_refused S.NoMemory ends = inr (inr refl)
+    first_refused (S.Script n k) ends = inl (first_fault n k ends.0)
+    first_refused (S.Usage fault) ends = absurd ends
+    first_refused S.Ok ends = not_script ends.script ends.reads
+    first_refused S.Refused ends = not_script ends.script ends.reads
+    first_refused S.WriteFault ends = not_script ends.script ends.reads
+    first_refused S.StoreFault ends = not_script ends.script ends.reads
 
-  pub faultless : (status : Status) → Ends draw a b s t x y status → IsCalm a b s t x y → IsFaultless status
-  faultless S.Ok ends calm = tt
-  faultless S.Refused ends calm = tt
-  faultless (S.Script line kind) ends calm = tt
-  faultless S.NoMemory ends calm = tt
-  faultless (S.Usage fault) ends calm = ends
-  faultless S.ReadFault ends calm = calm.input ends.0
-  faultless S.StoreFault ends calm = calm.store (store_faulted draw a b s t x y S.StoreFault ends refl)
-  faultless S.WriteFault ends calm = calm.output (sink_faulted draw a b s t x y S.WriteFault ends refl)
+module _ (draw : Draw) (a b : InputAt) (s t : View) (x y : OutputAt) (status : Status) where
+  pub tells_refused : (command : Command) → Ends command draw a b s t x y status → TellsRefused command a status
+  tells_refused C.Play ends = λ bytes line kind e r.
+      elim (first_refused C.Play a b line kind (λ text i. sym (reads_all a b text bytes i e) ∙ r) draw s t x y status ends) [ inl is ↦ inl is | inr other ↦ elim other [ inl failed ↦ inr (inl failed.0) | inr short ↦ inr (inr short) ] ]
+  tells_refused (C.Grow tasks) ends = λ line kind r.
+      elim (first_refused (C.Grow tasks) a b line kind (λ text i. ap script_of i ∙ r) draw s t x y status ends.1) [ inl is ↦ inl is | inr other ↦ elim other [ inl failed ↦ absurd failed.1 | inr short ↦ inr short ] ]
+  tells_refused (C.Help topic) ends = tt
+  tells_refused C.Version ends = tt
+
+failed_rose : (command : Command) (a b : InputAt) → HasFailed command a b → Rose a.faults b.faults
+failed_rose C.Play a b h = h
+failed_rose (C.Grow tasks) a b h = absurd h
+failed_rose (C.Help topic) a b h = h
+failed_rose C.Version a b h = h
+
+play_faultless : (command : Command) (draw : Draw) (a b : InputAt) (s t : View) (x y : OutputAt) (status : Status) → PlayEnds command draw a b s t x y status → IsCalm a b s t x y → IsFaultless status
+play_faultless command draw a b s t x y S.Ok ends calm = tt
+play_faultless command draw a b s t x y S.Refused ends calm = tt
+play_faultless command draw a b s t x y (S.Script line kind) ends calm = tt
+play_faultless command draw a b s t x y S.NoMemory ends calm = tt
+play_faultless command draw a b s t x y (S.Usage fault) ends calm = ends
+play_faultless command draw a b s t x y S.ReadFault ends calm = calm.input (failed_rose command a b ends.0)
+play_faultless command draw a b s t x y S.StoreFault ends calm = calm.store (store_played command draw a b s t x y S.StoreFault ends refl)
+play_faultless command draw a b s t x y S.WriteFault ends calm = calm.output (sink_played command draw a b s t x y S.WriteFault ends refl)
+
+say_faultless : (text : List ℕ) (x y : OutputAt) (status : Status) → SayEnds text x y status → ¬ Rose x.faults y.faults → IsFaultless status
+say_faultless text x y S.Ok ends calm = tt
+say_faultless text x y S.Refused ends calm = tt
+say_faultless text x y (S.Script line kind) ends calm = tt
+say_faultless text x y S.NoMemory ends calm = tt
+say_faultless text x y (S.Usage fault) ends calm = ends
+say_faultless text x y S.ReadFault ends calm = ends
+say_faultless text x y S.StoreFault ends calm = ends
+say_faultless text x y S.WriteFault ends calm = calm ends.faults
+
+pub faultless : (draw : Draw) (a b : InputAt) (s t : View) (x y : OutputAt) (status : Status) (command : Command) → Ends command draw a b s t x y status → IsCalm a b s t x y → IsFaultless status
+faultless draw a b s t x y status C.Play ends calm = play_faultless C.Play draw a b s t x y status ends calm
+faultless draw a b s t x y status (C.Grow tasks) ends calm = play_faultless (C.Grow tasks) draw a b s t x y status ends.1 calm
+faultless draw a b s t x y status (C.Help topic) ends calm = say_faultless (help_of topic) x y status ends.2 calm.output
+faultless draw a b s t x y status C.Version ends calm = say_faultless version_line x y status ends.2 calm.output

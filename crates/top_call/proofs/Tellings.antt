@@ -1,29 +1,35 @@
 -- The causes of a run, one after the other and together.
-use Rattle.std.proofs.Common.{◌-◌, ◌^◌, ltb, ◌≡◌, ℕ, zero, suc, ◌≤◌, ◌<◌, ◌⊎◌, inl, inr, Bool, true, false, List, [], ◌∷◌, ◌++◌, refl, sym, ◌∙◌, ap, arith}
-use Rattle.std.specs.Prelude.{◌||◌, Result, Ok, Err, Some, slice_get, IfOk, IfErr}
+use Rattle.std.proofs.Common.{◌-◌, ◌^◌, ltb, ◌≡◌, ℕ, zero, suc, ◌≤◌, ◌<◌, ◌⊎◌, inl, inr, Bool, true, false, List, [], ◌∷◌, ◌++◌, refl, sym, ◌∙◌, ap, subst, arith, length, ◌+◌, length-append}
+use Rattle.std.specs.Prelude.{IsTrue, ◌||◌, Result, Ok, Err, Option, Some, None, slice_get, IfOk, IfErr}
 use Rattle.std.specs.declared.alloc.AllocError.{AllocError}
 use Rattle.std.specs.List.{list_any, flat_map}
 use Rattle.std.proofs.lemmas.Bool.{ltb-true, ltb-false}
 use Rattle.std.proofs.lemmas.List.Folds.{list_any-append}
 use Rattle.ice_base.specs.Ends.{OutputAt, Rose}
 use Rattle.ice_ids.specs.declared.drawing.Draw.{Draw}
+use Rattle.store_api.specs.declared.events.Event.{Event}
 use Rattle.store_api.specs.declared.machines.Refusal.{Refusal}
 use Rattle.store_api.specs.declared.machines.Refusal.TheVariants as R
-use Rattle.store_api.specs.Callers.{View}
+use Rattle.store_api.specs.Callers.{Caller, View, HasAll, as_client}
+use Rattle.store_api.specs.Running.{Program, Runs}
+use Rattle.command_words.specs.declared.reading.Command.{Command}
+use Rattle.command_words.specs.declared.reading.Command.TheVariants as C
 use Rattle.store_api.specs.Program.{is_no_memory, is_fault}
 use Rattle.play_script.specs.declared.scripts.Script.{Script}
+use Rattle.play_script.specs.declared.scripts.Task.{Task}
+use Rattle.play_script.specs.declared.scripts.Turn.{Turn}
 use Rattle.play_outcome.specs.declared.outcome.End.{End}
 use Rattle.play_outcome.specs.declared.outcome.End.TheVariants as E
 use Rattle.play_outcome.specs.declared.outcome.Outcome.{Outcome}
 use Rattle.play_outcome.specs.declared.outcome.RefLine.{RefLine}
 use Rattle.play_outcome.specs.Ending.{end_failed, is_failed}
-use Rattle.play_course.specs.Course.{Course, OnlyBegan, Plays}
+use Rattle.play_course.specs.Course.{Course, OnlyBegan, Plays, RanBy}
 use Rattle.top_call.specs.declared.statuses.Causes.{Causes}
 use Rattle.top_call.specs.declared.statuses.Status.{Status}
 use Rattle.top_call.specs.declared.statuses.Status.TheVariants as S
 use Rattle.top_call.specs.Statuses.{status_of}
 use Rattle.play_outcome.specs.Ending.{end_why, why_ended}
-use Rattle.top_call.specs.Telling.{why_of, refusals, is_other, causes, Wrote, Told, KeepsHistories, KeepsBranches, IsRegular, WasPlayed, WasUntold}
+use Rattle.top_call.specs.Telling.{why_of, refusals, is_other, causes, line_text, IsText, Wrote, Told, KeepsHistories, KeepsBranches, IsRegular, WasPlayed, WasUntold}
 use Rattle.top_call.specs.inside.Adding.{added, all_added}
 use Rattle.top_call.proofs.Rows.{rows-all}
 
@@ -133,7 +139,7 @@ wrote-rose : (old new : OutputAt) (text : List ℕ) (unwritten : Bool) → Wrote
 wrote-rose old new text true w e = w.faults
 wrote-rose old new text false w e = cc
 
-module _ (draw : Draw) (script : Script) (s t : View) (x y : OutputAt) (status : Status) (p : WasPlayed draw script s t x y status) where
+module _ (command : Command) (draw : Draw) (script : Script) (s t : View) (x y : OutputAt) (status : Status) (p : WasPlayed command draw script s t x y status) where
   given : Causes
   given = causes p.told.unwritten (refusals p.opening p.outcomes p.refs)
 
@@ -150,10 +156,56 @@ module _ (draw : Draw) (script : Script) (s t : View) (x y : OutputAt) (status :
       wrote-rose x y _ p.told.unwritten p.told.wrote (((rows-all given).write_fault.0 is).2)
 
 -- ---- what was played and told
-pub finished : (draw : Draw) (script : Script) (s t : View) (x y : OutputAt) (opening : Result (Unit {0}) Refusal) (outcomes : List Outcome) (refs : Result (List RefLine) Refusal) (result : Result Status AllocError)
-    → Course draw script s t opening outcomes refs → KeepsHistories draw script s t refs → IsRegular s opening outcomes refs → IfOk result (λ status. Told script opening outcomes refs x y status) → IfOk result (λ status. WasPlayed draw script s t x y status)
-finished draw script s t x y opening outcomes refs (Ok status) c kept regular told = record { opening = opening; outcomes = outcomes; refs = refs; course = c; histories = kept; regular = regular; told = told }
-finished draw script s t x y opening outcomes refs (Err error) c kept regular told = tt
+pub finished : (command : Command) (draw : Draw) (script : Script) (s t : View) (x y : OutputAt) (opening : Result (Unit {0}) Refusal) (outcomes : List Outcome) (refs : Result (List RefLine) Refusal) (result : Result Status AllocError)
+    → Course draw script s t opening outcomes refs → KeepsHistories draw script s t refs → IsRegular draw script s opening outcomes refs
+    → IfOk result (λ status. Told (IsText command script s t opening outcomes refs) (refusals opening outcomes refs) x y status)
+    → IfOk result (λ status. WasPlayed command draw script s t x y status)
+finished command draw script s t x y opening outcomes refs (Ok status) c kept regular told = record { opening = opening; outcomes = outcomes; refs = refs; course = c; histories = kept; regular = regular; told = told }
+finished command draw script s t x y opening outcomes refs (Err error) c kept regular told = tt
+
+-- ---- the line of a grown script
+-- a run adds to a journal that is told
+ran-grew : (turns : Option (List Turn)) (draw : Draw) (tasks : List Task) (tells : Bool) (outcomes : List Outcome) (old new : List Event) → RanBy turns draw tasks tells outcomes old new → IsTrue tells → length old ≤ length new
+ran-grew (Some turns) draw tasks tells outcomes old new r told = let one = ap length (r.ran.is told) ∙ length-append old r.ran.own in omega (arith, one)
+ran-grew None draw tasks tells outcomes old new r told = let one = ap length (r.is told) ∙ length-append old r.own in omega (arith, one)
+
+plays-grew : (draw : Draw) (script : Script) (old new : View) (opening : Result (Unit {0}) Refusal) (outcomes : List Outcome) → Plays draw script old new opening outcomes → IsTrue old.caller.tells
+    → length old.seen ≤ length new.seen × IsTrue new.caller.tells
+plays-grew draw script old new (Ok done) outcomes p told = (ran-grew script.turns draw script.tasks old.caller.tells outcomes old.seen new.seen p.ran told, subst IsTrue (sym p.tells) told)
+plays-grew draw script old new (Err why) outcomes p told = (subst (λ (v : View). length old.seen ≤ length v.seen) (sym p.0) (omega arith), subst (λ (v : View). IsTrue v.caller.tells) (sym p.0) told)
+
+run-grew : {A : Type 0} (old new : View) (p : Program A) (result : Result A Refusal) → Runs (as_client 0 old) new p result → HasAll old.caller → IsTrue old.caller.tells
+    → length old.seen ≤ length new.seen × IsTrue new.caller.tells
+run-grew old new p result r all told =
+    let adds = r.alone told (record { low = all.low; end = all.end }) in
+    let one = ap length adds.is ∙ length-append old.seen r.own in
+    (omega (arith, one), subst (λ (by : Caller). IsTrue by.tells) (sym r.same) told)
+
+pub course-grew : (draw : Draw) (script : Script) (s t : View) (opening : Result (Unit {0}) Refusal) (outcomes : List Outcome) (refs : Result (List RefLine) Refusal) → Course draw script s t opening outcomes refs → IsTrue s.caller.tells
+    → length s.seen ≤ length t.seen × IsTrue t.caller.tells
+course-grew draw script s t opening outcomes refs c told =
+    let first = run-grew s c.begun _ opening c.begins c.alone told in
+    let mid = plays-grew draw script c.begun c.played opening outcomes c.plays first.1 in
+    let last = run-grew c.played t _ refs c.reads c.still_alone mid.1 in
+    (omega (arith, first.0, mid.0, last.0), last.1)
+
+-- what a count says before and after a course is by how much the journal grew
+pub counted : (draw : Draw) (script : Script) (s t : View) (opening : Result (Unit {0}) Refusal) (outcomes : List Outcome) (refs : Result (List RefLine) Refusal) (before after : ℕ)
+    → Course draw script s t opening outcomes refs → (IsTrue s.caller.tells → before ≡ length s.seen) → (IsTrue t.caller.tells → after ≡ length t.seen)
+    → IsTrue s.caller.tells → length t.seen ≡ length s.seen + (after - before)
+counted draw script s t opening outcomes refs before after c first last told =
+    let grew = course-grew draw script s t opening outcomes refs c told in
+    let one = first told in
+    let two = last grew.1 in
+    omega (arith, grew.0, one, two)
+
+-- the line was told
+pub told-line : (tasks events : ℕ) (script : Script) (s t : View) (opening : Result (Unit {0}) Refusal) (outcomes : List Outcome) (refs : Result (List RefLine) Refusal) (x y : OutputAt) (result : Result Status AllocError)
+    → (IsTrue s.caller.tells → length t.seen ≡ length s.seen + events)
+    → IfOk result (λ status. Told (λ text. text ≡ line_text tasks outcomes events) (refusals opening outcomes refs) x y status)
+    → IfOk result (λ status. Told (IsText (C.Grow tasks) script s t opening outcomes refs) (refusals opening outcomes refs) x y status)
+told-line tasks events script s t opening outcomes refs x y (Ok status) grew told = record { text = told.text; is = record { events = events; counted = grew; is = told.is }; unwritten = told.unwritten; wrote = told.wrote; status_is = told.status_is }
+told-line tasks events script s t opening outcomes refs x y (Err error) grew told = tt
 
 -- ---- where memory ran out
 pub untold : (draw : Draw) (script : Script) (s t : View) (x y : OutputAt) (opening : Result (Unit {0}) Refusal) (outcomes : List Outcome) (refs : Result (List RefLine) Refusal) (result : Result Status AllocError)

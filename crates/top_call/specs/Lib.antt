@@ -1,5 +1,4 @@
 pub mod Statuses
-pub mod Words
 pub mod Telling
 pub mod Run
 pub mod inside

@@ -1,11 +1,15 @@
 -- What the top call reads, does and writes (own).
 use Rattle.std.specs.Prelude.{◌≡◌, ◌⊎◌, ℕ, List, Some, Ok, Err}
-use Rattle.ice_base.specs.Ends.{InputAt, OutputAt, IsInput, Rose}
+use Rattle.ice_base.specs.Ends.{InputAt, OutputAt, IsInput, Rose, WroteWhole, WroteLess}
 use Rattle.ice_ids.specs.declared.drawing.Draw.{Draw}
 use Rattle.play_script.specs.declared.faults.ScriptKind.{ScriptKind}
 use Rattle.play_script.specs.declared.scripts.Script.{Script}
 use Rattle.play_script.specs.Reading.{script_of}
 use Rattle.store_api.specs.Callers.{View}
+use Rattle.grow_script.specs.Script.{script_text}
+use Rattle.command_words.specs.declared.reading.Command.{Command}
+use Rattle.command_words.specs.declared.reading.Command.TheVariants as C
+use Rattle.command_words.specs.Help.{help_of, version_line}
 use Rattle.top_call.specs.declared.statuses.Status.{Status}
 use Rattle.top_call.specs.declared.statuses.Status.TheVariants as S
 use Rattle.top_call.specs.Telling.{WasPlayed, WasUntold}
@@ -14,30 +18,42 @@ use Rattle.top_call.specs.Telling.{WasPlayed, WasUntold}
 abbrev pub most_input : ℕ
 most_input = 1048577
 
--- the input is the text of this script
-pub record HasScript (old new : InputAt) (script : Script) : Type 0 where
+-- ---- the script that a command plays
+-- its text: by `grow` the one that is made from the number, else the input
+abbrev pub IsSource : Command → InputAt → InputAt → List ℕ → Type 0
+IsSource (C.Grow tasks) old new text = text ≡ script_text tasks
+IsSource command old new text = IsInput most_input old new text
+
+-- the input couldn't be read; the text that `grow` makes is no input
+abbrev pub HasFailed : Command → InputAt → InputAt → Type 0
+HasFailed (C.Grow tasks) old new = ⊥
+HasFailed command old new = Rose old.faults new.faults
+
+-- the text is that of this script
+pub record HasScript (command : Command) (old new : InputAt) (script : Script) : Type 0 where
   pub text : List ℕ
-  pub input : IsInput most_input old new text
+  pub source : IsSource command old new text
   pub reads : script_of text ≡ Ok script
 
--- the first line of the input that is refused
-pub record HasFault (old new : InputAt) (line : ℕ) (kind : ScriptKind) : Type 0 where
+-- the first line of the text that is refused
+pub record HasFault (command : Command) (old new : InputAt) (line : ℕ) (kind : ScriptKind) : Type 0 where
   pub text : List ℕ
-  pub input : IsInput most_input old new text
+  pub source : IsSource command old new text
   pub reads : script_of text ≡ Err (line, kind)
 
 -- why there is no script: the source failed, or a line is refused; want of memory is free
-abbrev pub HasNone : InputAt → InputAt → Status → Type 0
-HasNone old new S.ReadFault = Rose old.faults new.faults
-HasNone old new (S.Script line kind) = HasFault old new line kind
-HasNone old new S.NoMemory = Unit {0}
-HasNone old new _ = ⊥
+abbrev pub HasNone : Command → InputAt → InputAt → Status → Type 0
+HasNone command old new S.ReadFault = HasFailed command old new
+HasNone command old new (S.Script line kind) = HasFault command old new line kind
+HasNone command old new S.NoMemory = Unit {0}
+HasNone command old new _ = ⊥
 
--- the input is the text of a script, which was played, and the report and the status tell of it
-pub record WasRun (draw : Draw) (in_old in_new : InputAt) (s t : View) (out_old out_new : OutputAt) (status : Status) : Type 0 where
+-- ---- what each status says of a command that plays
+-- the text is that of a script, which was played, and what is written and the status tell of it
+pub record WasRun (command : Command) (draw : Draw) (in_old in_new : InputAt) (s t : View) (out_old out_new : OutputAt) (status : Status) : Type 0 where
   pub script : Script
-  pub reads : HasScript in_old in_new script
-  pub played : WasPlayed draw script s t out_old out_new status
+  pub reads : HasScript command in_old in_new script
+  pub played : WasPlayed command draw script s t out_old out_new status
 
 -- nothing was done, and nothing written
 pub record IsUntouched (store_old store_new : View) (out_old out_new : OutputAt) : Type 0 where
@@ -46,26 +62,47 @@ pub record IsUntouched (store_old store_new : View) (out_old out_new : OutputAt)
 
 -- A script was read when memory ran out. It was played and told (so that the status is that of a task that found no memory),
 -- or nothing was written.
-pub record IsShort (draw : Draw) (in_old in_new : InputAt) (s t : View) (out_old out_new : OutputAt) : Type 0 where
+pub record IsShort (command : Command) (draw : Draw) (in_old in_new : InputAt) (s t : View) (out_old out_new : OutputAt) : Type 0 where
   pub script : Script
-  pub reads : HasScript in_old in_new script
-  pub went : WasPlayed draw script s t out_old out_new S.NoMemory ⊎ WasUntold draw script s t out_old out_new
+  pub reads : HasScript command in_old in_new script
+  pub went : WasPlayed command draw script s t out_old out_new S.NoMemory ⊎ WasUntold draw script s t out_old out_new
 
--- what each status says where the words are a command
-abbrev pub Ends : Draw → InputAt → InputAt → View → View → OutputAt → OutputAt → Status → Type 0
-Ends draw in_old in_new s t out_old out_new S.ReadFault = Rose in_old.faults in_new.faults × IsUntouched s t out_old out_new
-Ends draw in_old in_new s t out_old out_new (S.Script line kind) = HasFault in_old in_new line kind × IsUntouched s t out_old out_new
-Ends draw in_old in_new s t out_old out_new (S.Usage fault) = ⊥
-Ends draw in_old in_new s t out_old out_new S.NoMemory = IsUntouched s t out_old out_new ⊎ IsShort draw in_old in_new s t out_old out_new
-Ends draw in_old in_new s t out_old out_new status = WasRun draw in_old in_new s t out_old out_new status
+abbrev pub PlayEnds : Command → Draw → InputAt → InputAt → View → View → OutputAt → OutputAt → Status → Type 0
+PlayEnds command draw in_old in_new s t out_old out_new S.ReadFault = HasFailed command in_old in_new × IsUntouched s t out_old out_new
+PlayEnds command draw in_old in_new s t out_old out_new (S.Script line kind) = HasFault command in_old in_new line kind × IsUntouched s t out_old out_new
+PlayEnds command draw in_old in_new s t out_old out_new (S.Usage fault) = ⊥
+PlayEnds command draw in_old in_new s t out_old out_new S.NoMemory = IsUntouched s t out_old out_new ⊎ IsShort command draw in_old in_new s t out_old out_new
+PlayEnds command draw in_old in_new s t out_old out_new status = WasRun command draw in_old in_new s t out_old out_new status
+
+-- ---- what each status says of a command that prints a text
+-- all of the text was written, or not all of it and the sink failed; without memory nothing was written
+abbrev pub SayEnds : List ℕ → OutputAt → OutputAt → Status → Type 0
+SayEnds text old new S.Ok = WroteWhole old new text
+SayEnds text old new S.WriteFault = WroteLess old new text
+SayEnds text old new S.NoMemory = new ≡ old
+SayEnds text old new _ = ⊥
+
+-- and nothing was read or done
+abbrev pub Says : List ℕ → InputAt → InputAt → View → View → OutputAt → OutputAt → Status → Type 0
+Says text in_old in_new s t out_old out_new status = (in_new ≡ in_old) × (t ≡ s) × SayEnds text out_old out_new status
+
+-- ---- what each status says where the words are a command
+abbrev pub Ends : Command → Draw → InputAt → InputAt → View → View → OutputAt → OutputAt → Status → Type 0
+Ends C.Play draw in_old in_new s t out_old out_new status = PlayEnds C.Play draw in_old in_new s t out_old out_new status
+Ends (C.Grow tasks) draw in_old in_new s t out_old out_new status = (in_new ≡ in_old) × PlayEnds (C.Grow tasks) draw in_old in_new s t out_old out_new status
+Ends (C.Help topic) draw in_old in_new s t out_old out_new status = Says (help_of topic) in_old in_new s t out_old out_new status
+Ends C.Version draw in_old in_new s t out_old out_new status = Says version_line in_old in_new s t out_old out_new status
 
 -- ---- which statuses there can be
 -- where the source tells its bytes and a line of them is refused, the status is that line, unless the source failed or memory
--- was wanting
-abbrev pub TellsRefused : InputAt → Status → Type 0
-TellsRefused input status =
+-- was wanting; and so it is where a line of the text that `grow` makes is refused
+abbrev pub TellsRefused : Command → InputAt → Status → Type 0
+TellsRefused C.Play input status =
     (bytes : List ℕ) (line : ℕ) (kind : ScriptKind) → input.left ≡ Some bytes → script_of bytes ≡ Err (line, kind)
     → (status ≡ S.Script line kind) ⊎ ((status ≡ S.ReadFault) ⊎ (status ≡ S.NoMemory))
+TellsRefused (C.Grow tasks) input status =
+    (line : ℕ) (kind : ScriptKind) → script_of (script_text tasks) ≡ Err (line, kind) → (status ≡ S.Script line kind) ⊎ (status ≡ S.NoMemory)
+TellsRefused command input status = Unit {0}
 
 -- no count of faults rose
 pub record IsCalm (in_old in_new : InputAt) (s t : View) (out_old out_new : OutputAt) : Type 0 where

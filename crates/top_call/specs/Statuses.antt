@@ -7,7 +7,9 @@ use Rattle.ice_base.specs.declared.ends.InputFault.TheVariants as I
 use Rattle.play_script.specs.Parts.{kind_text}
 use Rattle.play_script.specs.declared.faults.ScriptFault.{ScriptFault}
 use Rattle.play_script.specs.declared.faults.ScriptFault.TheVariants as F
-use Rattle.top_call.specs.declared.words.UsageFault.TheVariants as U
+use Rattle.command_words.specs.declared.reading.UsageFault.TheVariants as U
+use Rattle.command_words.specs.declared.reading.WordsFault.{WordsFault}
+use Rattle.command_words.specs.declared.reading.WordsFault.TheVariants as W
 use Rattle.top_call.specs.declared.statuses.Causes.{Causes}
 use Rattle.top_call.specs.declared.statuses.Status.{Status}
 use Rattle.top_call.specs.declared.statuses.Status.TheVariants as S
@@ -39,6 +41,11 @@ abbrev pub is_told : Status → Bool
 is_told S.Ok = false
 is_told S.Refused = false
 is_told _ = true
+
+-- words that say nothing
+abbrev pub of_words : WordsFault → Status
+of_words (W.Usage fault) = S.Usage fault
+of_words W.NoMemory = S.NoMemory
 
 -- an input that couldn't be read
 abbrev pub of_input : InputFault → Status

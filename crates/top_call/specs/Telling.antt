@@ -1,16 +1,22 @@
--- What is told of a run: the report and the status (own).
-use Rattle.std.specs.Prelude.{◌≡◌, ◌⊎◌, ℕ, Bool, true, false, not, ◌&&◌, List, [], ◌∷◌, ◌++◌, map, Result, Ok, Err, IsTrue}
-use Rattle.std.specs.List.{list_any, flat_map}
+-- What is told of a run: the report, or the line of a grown script, and the status (own).
+use Rattle.std.specs.Prelude.{◌≡◌, ◌⊎◌, ℕ, Bool, true, false, not, ◌&&◌, List, [], ◌∷◌, ◌++◌, ◌+◌, length, map, codes, Result, Ok, Err, IsTrue}
+use Rattle.std.specs.List.{list_any, flat_map, count_by}
 use Rattle.ice_base.specs.Ends.{OutputAt, WroteWhole, WroteLess}
 use Rattle.ice_ids.specs.declared.drawing.Draw.{Draw}
+use Rattle.ice_ids.specs.Drawing.{DrawsOnce}
 use Rattle.store_api.specs.declared.machines.Refusal.{Refusal}
 use Rattle.store_api.specs.Callers.{View}
 use Rattle.store_api.specs.Program.{is_no_memory, is_fault}
 use Rattle.play_script.specs.declared.scripts.Script.{Script}
+use Rattle.play_outcome.specs.declared.outcome.End.{End}
+use Rattle.play_outcome.specs.declared.outcome.End.TheVariants as E
 use Rattle.play_outcome.specs.declared.outcome.Outcome.{Outcome}
 use Rattle.play_outcome.specs.declared.outcome.RefLine.{RefLine}
 use Rattle.play_outcome.specs.Ending.{why_ended}
 use Rattle.play_report.specs.Report.{report_of}
+use Rattle.command_words.specs.declared.reading.Command.{Command}
+use Rattle.command_words.specs.declared.reading.Command.TheVariants as C
+use Rattle.grow_script.specs.Summary.{summary_text}
 use Rattle.zarr_tree.specs.Changes.{Changes}
 use Rattle.run_histories.specs.Sources.{IsNewRun}
 use Rattle.run_histories.specs.Runs.{IsSound}
@@ -45,12 +51,43 @@ abbrev pub Wrote : OutputAt → OutputAt → List ℕ → Bool → Type 0
 Wrote old new text false = WroteWhole old new text
 Wrote old new text true = WroteLess old new text
 
--- The report was written, and the status is that of what it tells: of the first of want of memory, a fault of the store, a
--- report that wasn't written whole, another refusal.
-pub record Told (script : Script) (opening : Result (Unit {0}) Refusal) (outcomes : List Outcome) (refs : Result (List RefLine) Refusal) (old new : OutputAt) (status : Status) : Type 0 where
+abbrev pub end_committed : End → Bool
+end_committed (E.Committed id) = true
+end_committed _ = false
+
+abbrev pub end_refused : End → Bool
+end_refused (E.Refused line why) = true
+end_refused _ = false
+
+abbrev pub is_committed : Outcome → Bool
+is_committed outcome = end_committed outcome.end
+
+abbrev pub is_refused : Outcome → Bool
+is_refused outcome = end_refused outcome.end
+
+-- the line of a grown script of one base task and so many others, with so many operations of the store
+abbrev pub line_text : ℕ → List Outcome → ℕ → List ℕ
+line_text tasks outcomes events = summary_text (record { tasks = tasks + 1; committed = count_by is_committed outcomes; refused = count_by is_refused outcomes; events = events }) ++ codes "\n"
+
+-- The text is the line of this run. Where the store tells its journal, that grew by as many events as the line says.
+pub record IsLine (tasks : ℕ) (old new : View) (outcomes : List Outcome) (text : List ℕ) : Type 0 where
+  pub events : ℕ
+  pub counted : IsTrue old.caller.tells → length new.seen ≡ length old.seen + events
+  pub is : text ≡ line_text tasks outcomes events
+
+-- the text that a command prints of what was played: by `grow` the line, else the report
+abbrev pub IsText : Command → Script → View → View → Result (Unit {0}) Refusal → List Outcome → Result (List RefLine) Refusal → List ℕ → Type 0
+IsText (C.Grow tasks) script old new opening outcomes refs text = IsLine tasks old new outcomes text
+IsText command script old new opening outcomes refs text = text ≡ report_of (map (λ t. t.name) script.tasks) opening outcomes refs
+
+-- Such a text was written, and the status is that of what was played: of the first of want of memory, a fault of the store, a
+-- text that wasn't written whole, another refusal.
+pub record Told (Is : List ℕ → Type 0) (whys : List Refusal) (old new : OutputAt) (status : Status) : Type 0 where
+  pub text : List ℕ
+  pub is : Is text
   pub unwritten : Bool
-  pub wrote : Wrote old new (report_of (map (λ t. t.name) script.tasks) opening outcomes refs) unwritten
-  pub status_is : status ≡ status_of (causes unwritten (refusals opening outcomes refs))
+  pub wrote : Wrote old new text unwritten
+  pub status_is : status ≡ status_of (causes unwritten whys)
 
 -- where the store tells its journal, and that is sound and the clients' ids are new to it, a run keeps the histories, and the
 -- refs that it tells are their ends
@@ -61,10 +98,10 @@ KeepsHistories draw script old new refs = IsTrue old.caller.tells → (before : 
 abbrev pub KeepsBranches : Draw → Script → View → View → Type 0
 KeepsBranches draw script old new = IsTrue old.caller.tells → (before : ℕ → Changes) → IsSound old.seen before → IsNewRun draw script.tasks old.seen → HasHistories draw script.tasks before old.seen new.seen
 
--- over a store that tells its journal and on which nothing was done before, nothing is refused because an id was taken, an
--- object is missing or a file can't be read
-abbrev pub IsRegular : View → Result (Unit {0}) Refusal → List Outcome → Result (List RefLine) Refusal → Type 0
-IsRegular old opening outcomes refs = IsTrue old.caller.tells → old.seen ≡ [] → NothingStrange opening outcomes refs
+-- over a store that tells its journal and on which nothing was done before, where the clients draw no id twice, nothing is
+-- refused because an id was taken, an object is missing or a file can't be read
+abbrev pub IsRegular : Draw → Script → View → Result (Unit {0}) Refusal → List Outcome → Result (List RefLine) Refusal → Type 0
+IsRegular draw script old opening outcomes refs = IsTrue old.caller.tells → old.seen ≡ [] → DrawsOnce draw (length script.tasks) → NothingStrange opening outcomes refs
 
 -- all was played, whatever it came to
 pub record HasCourse (draw : Draw) (script : Script) (old new : View) : Type 0 where
@@ -79,12 +116,12 @@ pub record WasUntold (draw : Draw) (script : Script) (store_old store_new : View
   pub came : HasCourse draw script store_old store_new ⊎ OnlyBegan store_old store_new
   pub histories : KeepsBranches draw script store_old store_new
 
--- What was played, and what was told of it: all tasks have ended, with these outcomes.
-pub record WasPlayed (draw : Draw) (script : Script) (store_old store_new : View) (out_old out_new : OutputAt) (status : Status) : Type 0 where
+-- What was played by a command, and what was told of it: all tasks have ended, with these outcomes.
+pub record WasPlayed (command : Command) (draw : Draw) (script : Script) (store_old store_new : View) (out_old out_new : OutputAt) (status : Status) : Type 0 where
   pub opening : Result (Unit {0}) Refusal
   pub outcomes : List Outcome
   pub refs : Result (List RefLine) Refusal
   pub course : Course draw script store_old store_new opening outcomes refs
   pub histories : KeepsHistories draw script store_old store_new refs
-  pub regular : IsRegular store_old opening outcomes refs
-  pub told : Told script opening outcomes refs out_old out_new status
+  pub regular : IsRegular draw script store_old opening outcomes refs
+  pub told : Told (IsText command script store_old store_new opening outcomes refs) (refusals opening outcomes refs) out_old out_new status

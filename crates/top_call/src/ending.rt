@@ -6,7 +6,7 @@ ghost use Rattle.std.specs.IoError.{error_kind};
 ghost use Rattle.top_call.specs.Statuses.{number_of, of_arguments, IsUnread};
 
 use crate::statuses::Status;
-use crate::words::{UsageFault, Word, words_of};
+use command_words::{UsageFault, Word, words_of};
 use std::env::Env;
 use std::io::ErrorKind;
 use std::process::ExitCode;

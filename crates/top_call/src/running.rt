@@ -1,47 +1,96 @@
 //! The top call.
 
-ghost use Rattle.std.specs.Prelude.{◌≡◌, Ok, Err, IfOk, IfErr, MatchResult};
-ghost use Rattle.ice_base.specs.Ends.{Rose, TakesAtMost};
+ghost use Rattle.std.specs.Prelude.{◌≡◌, ◌≤◌, ◌⊎◌, true, Ok, Err, IfOk, MatchResult};
+ghost use Rattle.ice_base.specs.Ends.{InputAt, Rose, TakesAtMost};
+ghost use Rattle.store_api.specs.Journal.{IsGoodJournal};
 ghost use Rattle.play_script.specs.Well.{IsWell};
-ghost use Rattle.top_call.specs.Telling.{WasPlayed, WasUntold};
-ghost use Rattle.top_call.specs.Run.{most_input, HasScript, HasNone, Ends, TellsRefused, IsCalm, IsFaultless};
-ghost use Rattle.top_call.specs.declared.words.UsageFault.{UsageFault};
-ghost use Rattle.top_call.specs.declared.words.Command.{Command};
-ghost use Rattle.top_call.specs.Words.{command_of};
+ghost use Rattle.top_call.specs.Run.{most_input, HasScript, HasNone, PlayEnds, Ends, TellsRefused, IsCalm, IsFaultless};
+ghost use Rattle.command_words.specs.Words.{command_of, IsInRange};
+ghost use Rattle.command_words.specs.declared.reading.UsageFault.{UsageFault};
 
 use crate::ending::Ended;
+use crate::saying::{say, say_help};
 use crate::statuses::Status;
-use crate::telling::finish;
-use crate::words::{Word, read_words};
+use crate::telling::{finish, finish_grown};
+use command_words::{Command, Word, read_words, version};
+use grow_script::grown_script;
 use ice_base::{Sink, Source, read_input};
 use ice_ids::Draw;
+use play_at_once::Gate;
 use play_course::play;
 use play_script::Script;
 use std::alloc::{AllocError, Global};
-use store_api::Base;
+use std::sync::Wait;
+use std::thread::Threads;
+use store_count::Counting;
 
 /// The longest input that is read: one byte more than a script may have.
 const MOST_INPUT: usize = 1_048_577;
 
-/// Plays a script and writes the report.
-fn play_and_report<S: Base, K: Sink>(
+/// How a run ended of which this was told, or nothing for want of memory.
+fn ended<S>(store: S, told: Result<Status, AllocError>) -> Ended<S>
+    ensures store { result.store ≡ store }
+    ensures status { MatchResult told (λ status. result.status ≡ status) (λ error. result.status ≡ Status.NoMemory) }
+{
+    match told {
+        Ok(status) => Ended { status, store },
+        Err(_) => Ended {
+            status: Status::NoMemory,
+            store,
+        },
+    }
+}
+
+/// Plays the script of the input and writes the report.
+fn play_and_report<R: Threads + Wait + Sync, S: Counting + Send, K: Sink, G: Gate + Sync>(
+    rt: &R,
     alloc: Global,
     script: &Script,
     draw: Draw,
-    store: &mut S,
+    store: S,
+    gate: &G,
     out: &mut K,
-) -> Result<Status, AllocError>
-    requires { IsWell script.now }
-    ensures untold { IfErr result (λ error. WasUntold draw script.now (S.view store.old) (S.view store.new) (K.at out.old) (K.at out.new)) }
-    ensures played { IfOk result (λ status. WasPlayed draw script.now (S.view store.old) (S.view store.new) (K.at out.old) (K.at out.new) status) }
+) -> Ended<S>
+    requires well { IsWell script.now }
+    requires good { S.tells ≡ true → IsGoodJournal (S.view store).seen }
+    ensures { (a : InputAt) (b : InputAt) → HasScript Command.Play a b script.now → PlayEnds Command.Play draw a b (S.view store) (S.view result.store) (K.at out.old) (K.at out.new) result.status }
 {
-    let played = play(alloc, script, draw, store)?;
-    finish(alloc, script, &played, out)
+    let (store, played) = play(rt, alloc, script, draw, store, gate);
+    match played {
+        Ok(played) => ended(store, finish(alloc, script, &played, out)),
+        Err(error) => ended(store, Err(error)),
+    }
 }
 
-/// Reads the script.
+/// Plays the script of `grow` and writes its line.
+fn play_and_count<R: Threads + Wait + Sync, S: Counting + Send, K: Sink, G: Gate + Sync>(
+    rt: &R,
+    alloc: Global,
+    tasks: u8,
+    script: &Script,
+    draw: Draw,
+    store: S,
+    gate: &G,
+    out: &mut K,
+) -> Ended<S>
+    requires well { IsWell script.now }
+    requires good { S.tells ≡ true → IsGoodJournal (S.view store).seen }
+    ensures { (a : InputAt) (b : InputAt) → HasScript (Command.Grow tasks) a b script.now → PlayEnds (Command.Grow tasks) draw a b (S.view store) (S.view result.store) (K.at out.old) (K.at out.new) result.status }
+{
+    let before = store.operations();
+    let (store, played) = play(rt, alloc, script, draw, store, gate);
+    match played {
+        Ok(played) => {
+            let events = store.operations().saturating_sub(before);
+            ended(store, finish_grown(alloc, tasks, events, &played, out))
+        }
+        Err(error) => ended(store, Err(error)),
+    }
+}
+
+/// Reads the script of the input.
 fn read_script<I: Source>(alloc: Global, input: &mut I) -> Result<Script, Status>
-    ensures reads { MatchResult result (HasScript (I.at input.old) (I.at input.new)) (HasNone (I.at input.old) (I.at input.new)) }
+    ensures reads { MatchResult result (HasScript Command.Play (I.at input.old) (I.at input.new)) (HasNone Command.Play (I.at input.old) (I.at input.new)) }
     ensures well { IfOk result IsWell }
     ensures bound { TakesAtMost most_input (I.at input.old) (I.at input.new) }
 {
@@ -49,49 +98,123 @@ fn read_script<I: Source>(alloc: Global, input: &mut I) -> Result<Script, Status
     Ok(Script::read(alloc, text.as_slice())?)
 }
 
-/// Reads the script, plays it and writes the report.
-fn run_input<I: Source, S: Base, K: Sink>(
+/// Makes the script of `grow` and reads it.
+fn make_script(alloc: Global, tasks: u8) -> Result<Script, Status>
+    requires { 1 ≤ tasks }
+    ensures reads { (at : InputAt) → MatchResult result (HasScript (Command.Grow tasks) at at) (HasNone (Command.Grow tasks) at at) }
+    ensures well { IfOk result IsWell }
+{
+    let text = grown_script(alloc, tasks)?;
+    Ok(Script::read(alloc, text.as_bytes())?)
+}
+
+/// Reads the script of the input, plays it and writes the report.
+fn run_input<R: Threads + Wait + Sync, I: Source, S: Counting + Send, K: Sink, G: Gate + Sync>(
+    rt: &R,
     alloc: Global,
     draw: Draw,
     input: &mut I,
-    store: &mut S,
+    store: S,
+    gate: &G,
     out: &mut K,
-) -> Status
-    ensures ends { Ends draw (I.at input.old) (I.at input.new) (S.view store.old) (S.view store.new) (K.at out.old) (K.at out.new) result }
+) -> Ended<S>
+    requires good { S.tells ≡ true → IsGoodJournal (S.view store).seen }
+    ensures ends { PlayEnds Command.Play draw (I.at input.old) (I.at input.new) (S.view store) (S.view result.store) (K.at out.old) (K.at out.new) result.status }
     ensures bound { TakesAtMost most_input (I.at input.old) (I.at input.new) }
 {
     match read_script(alloc, input) {
-        Ok(script) => match play_and_report(alloc, &script, draw, store, out) {
-            Ok(status) => status,
-            Err(_) => Status::NoMemory,
-        },
-        Err(status) => status,
+        Ok(script) => play_and_report(rt, alloc, &script, draw, store, gate, out),
+        Err(status) => Ended { status, store },
     }
 }
 
-/// Runs the command that the words say: reads a script from the input, plays it over the store, and writes the report.
-pub fn run<I: Source, S: Base, K: Sink>(
+/// Makes the script of `grow`, plays it and writes its line.
+fn run_grown<R: Threads + Wait + Sync, S: Counting + Send, K: Sink, G: Gate + Sync>(
+    rt: &R,
+    alloc: Global,
+    tasks: u8,
+    draw: Draw,
+    store: S,
+    gate: &G,
+    out: &mut K,
+) -> Ended<S>
+    requires range { 1 ≤ tasks }
+    requires good { S.tells ≡ true → IsGoodJournal (S.view store).seen }
+    ensures { (at : InputAt) → PlayEnds (Command.Grow tasks) draw at at (S.view store) (S.view result.store) (K.at out.old) (K.at out.new) result.status }
+{
+    match make_script(alloc, tasks) {
+        Ok(script) => play_and_count(rt, alloc, tasks, &script, draw, store, gate, out),
+        Err(status) => Ended { status, store },
+    }
+}
+
+/// Does what a command says.
+fn run_command<R: Threads + Wait + Sync, I: Source, S: Counting + Send, K: Sink, G: Gate + Sync>(
+    rt: &R,
+    alloc: Global,
+    command: Command,
+    draw: Draw,
+    input: &mut I,
+    store: S,
+    gate: &G,
+    out: &mut K,
+) -> Ended<S>
+    requires range { IsInRange command }
+    requires good { S.tells ≡ true → IsGoodJournal (S.view store).seen }
+    ensures ends { Ends command draw (I.at input.old) (I.at input.new) (S.view store) (S.view result.store) (K.at out.old) (K.at out.new) result.status }
+    ensures bound { TakesAtMost most_input (I.at input.old) (I.at input.new) }
+{
+    match command {
+        Command::Play => run_input(rt, alloc, draw, input, store, gate, out),
+        Command::Grow(tasks) => run_grown(rt, alloc, tasks, draw, store, gate, out),
+        Command::Help(topic) => Ended {
+            status: say_help(alloc, topic, out),
+            store,
+        },
+        Command::Version => Ended {
+            status: say(out, version()),
+            store,
+        },
+    }
+}
+
+/// Does what the words say: reads a script from the input, plays it over the store, and writes the report; or makes a script
+/// from a number, plays it, and writes one line; or writes help or the version.
+///
+/// Where a script has no line of turns, its tasks are played at once, each in a thread of its own where one can be started,
+/// and the gate is called before each step of theirs.
+pub fn run<R: Threads + Wait + Sync, I: Source, S: Counting + Send, K: Sink, G: Gate + Sync>(
+    rt: &R,
     alloc: Global,
     words: &[Word],
     draw: Draw,
     input: &mut I,
     store: S,
+    gate: &G,
     out: &mut K,
 ) -> Ended<S>
-    // Where the words are no command, that is what the status tells, and nothing has been read, done or written.
-    ensures usage { (fault : UsageFault) → command_of words.now ≡ Err fault → (result.status ≡ Status.Usage fault) × (S.view result.store ≡ S.view store) × (I.at input.new ≡ I.at input.old) × (K.at out.new ≡ K.at out.old) }
+    // Where the store tells its journal, that is legal and polite, as an empty one is.
+    requires good { S.tells ≡ true → IsGoodJournal (S.view store).seen }
+
+    // Where the words are no command, that is what the status tells, or that there was no memory to read them; and nothing has
+    // been read, done or written.
+    ensures usage { (fault : UsageFault) → command_of words.now ≡ Err fault → ((result.status ≡ Status.Usage fault) ⊎ (result.status ≡ Status.NoMemory)) × (S.view result.store ≡ S.view store) × (I.at input.new ≡ I.at input.old) × (K.at out.new ≡ K.at out.old) }
 
     // Else the status tells of the input: a fault of the source only where it rose; the first line that is refused, exactly; and
     // then nothing has been done or written. Every other status but want of memory has read a script, played it over the
     // store, and written its report, whole, or less where the sink failed. Of want of memory it tells how far all this came.
-    ensures ends { (command : Command) → command_of words.now ≡ Ok command → Ends draw (I.at input.old) (I.at input.new) (S.view store) (S.view result.store) (K.at out.old) (K.at out.new) result.status }
+    // `grow` reads no input, and plays the text that is made from its number in its place; of that it writes one line, whose
+    // number of operations is that of the events by which the store's journal grew, where that is told. Help and the version
+    // are written, whole, or less where the sink failed, and nothing else is read or done.
+    ensures ends { (command : Command) → command_of words.now ≡ Ok command → Ends command draw (I.at input.old) (I.at input.new) (S.view store) (S.view result.store) (K.at out.old) (K.at out.new) result.status }
 
     // At most 1,048,577 bytes of the input are read, whatever the status.
     ensures bound { TakesAtMost most_input (I.at input.old) (I.at input.new) }
 
     // Where the source tells its bytes and the grammar refuses a line of them, the status is the first such line and its kind,
-    // unless the source failed or memory was wanting.
-    ensures refused { (command : Command) → command_of words.now ≡ Ok command → TellsRefused (I.at input.old) result.status }
+    // unless the source failed or memory was wanting. Whether the grammar refuses a line of what `grow` makes isn't said; if
+    // so, the status is that line.
+    ensures refused { (command : Command) → command_of words.now ≡ Ok command → TellsRefused command (I.at input.old) result.status }
 
     // A fault of the store or of the sink is told only where their counts of faults rose. So where the words are a command and
     // no count rises, the status is Ok, Refused, the line that is refused, or NoMemory.
@@ -99,13 +222,11 @@ pub fn run<I: Source, S: Base, K: Sink>(
     ensures write_fault { result.status ≡ Status.WriteFault → Rose (K.at out.old).faults (K.at out.new).faults }
     ensures calm { (command : Command) → command_of words.now ≡ Ok command → IsCalm (I.at input.old) (I.at input.new) (S.view store) (S.view result.store) (K.at out.old) (K.at out.new) → IsFaultless result.status }
 {
-    let mut store = store;
-    if let Err(fault) = read_words(words) {
-        return Ended {
-            status: Status::Usage(fault),
+    match read_words(alloc, words) {
+        Ok(command) => run_command(rt, alloc, command, draw, input, store, gate, out),
+        Err(fault) => Ended {
+            status: Status::from(fault),
             store,
-        };
+        },
     }
-    let status = run_input(alloc, draw, input, &mut store, out);
-    Ended { status, store }
 }

@@ -3,7 +3,7 @@
 ghost use Rattle.std.specs.Prelude.{◌≡◌};
 ghost use Rattle.top_call.specs.Statuses.{number_of, is_told, status_of};
 
-use crate::words::UsageFault;
+use command_words::{UsageFault, WordsFault};
 use ice_base::InputFault;
 use play_script::{ScriptFault, ScriptKind};
 use std::alloc::AllocError;
@@ -12,7 +12,7 @@ use std::fmt;
 /// How a call of the program ended.
 #[derive(Clone, Copy, Debug, PartialEq, Eq)]
 pub enum Status {
-    /// The opening, every task and the closing reading ended well, and the report was written.
+    /// All that was to be done ended well, and all that was to be written was written.
     Ok,
     /// A task or the closing reading ended by a refusal that is no fault of the store.
     Refused,
@@ -27,7 +27,7 @@ pub enum Status {
     },
     /// The input couldn't be read.
     ReadFault,
-    /// The report couldn't be written whole.
+    /// Not all that was to be written could be.
     WriteFault,
     /// The store failed.
     StoreFault,
@@ -80,14 +80,17 @@ impl fmt::Display for Status {
     }
 }
 
-impl From<UsageFault> for Status {
+impl From<WordsFault> for Status {
     ghost use Rattle.std.specs.Prelude.{◌≡◌};
-    ghost use Rattle.top_call.specs.declared.statuses.Status.TheVariants as Status;
+    ghost use Rattle.top_call.specs.Statuses.{of_words};
 
-    ghost from_gives = { λ fault status. status ≡ Status.Usage fault };
+    ghost from_gives = { λ fault status. status ≡ of_words fault };
 
-    fn from(fault: UsageFault) -> Status {
-        Status::Usage(fault)
+    fn from(fault: WordsFault) -> Status {
+        match fault {
+            WordsFault::Usage(usage) => Status::Usage(usage),
+            WordsFault::NoMemory => Status::NoMemory,
+        }
     }
 }
 

@@ -1,12 +1,14 @@
-//! What is told of a run: the report and the status.
+//! What is told of a run: the report, or the line of a grown script, and the status.
 
-ghost use Rattle.std.specs.Prelude.{◌≡◌, map, IfOk, IfErr};
-ghost use Rattle.std.specs.List.{flat_map};
+ghost use Rattle.std.specs.Prelude.{◌≡◌, map, IfOk, IfErr, string_bytes};
+ghost use Rattle.std.specs.List.{count_by, flat_map};
+ghost use Rattle.play_report.specs.Report.{report_of};
 ghost use Rattle.play_outcome.specs.Ending.{why_ended};
-ghost use Rattle.top_call.specs.Telling.{why_of, refusals, causes, Wrote, Told};
+ghost use Rattle.top_call.specs.Telling.{why_of, refusals, causes, is_committed, is_refused, line_text, Wrote, Told};
 ghost use Rattle.top_call.specs.inside.Adding.{added, all_added};
 
 use crate::statuses::{Causes, Status};
+use grow_script::Summary;
 use ice_base::{Sink, write_whole};
 use play_course::Played;
 use play_outcome::{End, Outcome, RefLines};
@@ -82,8 +84,8 @@ fn causes_of(played: &Played, unwritten: bool) -> Causes
     causes
 }
 
-/// Writes the report; whether not all of it was written.
-fn write_report<K: Sink>(out: &mut K, text: &[u8]) -> bool
+/// Writes a text; whether not all of it was written.
+fn write_text<K: Sink>(out: &mut K, text: &[u8]) -> bool
     ensures { Wrote (K.at out.old) (K.at out.new) text.now result }
 {
     write_whole(out, text).is_err()
@@ -97,7 +99,7 @@ pub fn finish<K: Sink>(
     out: &mut K,
 ) -> Result<Status, AllocError>
     ensures nothing { IfErr result (λ error. K.at out.new ≡ K.at out.old) }
-    ensures told { IfOk result (λ status. Told script.now played.now.opening played.now.outcomes.items played.now.refs (K.at out.old) (K.at out.new) status) }
+    ensures told { IfOk result (λ status. Told (λ text. text ≡ report_of (map (λ t. t.name) script.now.tasks) played.now.opening played.now.outcomes.items played.now.refs) (refusals played.now.opening played.now.outcomes.items played.now.refs) (K.at out.old) (K.at out.new) status) }
 {
     let names = names_of(alloc, script.tasks.as_slice())?;
     let text = report(
@@ -107,6 +109,54 @@ pub fn finish<K: Sink>(
         &played.outcomes,
         &played.refs,
     )?;
-    let unwritten = write_report(out, &text);
+    let unwritten = write_text(out, &text);
+    Ok(causes_of(played, unwritten).status())
+}
+
+/// How many tasks committed, and how many were refused.
+fn numbers(outcomes: &[Outcome]) -> (u64, u64)
+    ensures committed { result.0 ≡ count_by is_committed outcomes.now }
+    ensures refused { result.1 ≡ count_by is_refused outcomes.now }
+{
+    let mut committed: u64 = 0;
+    let mut refused: u64 = 0;
+    for outcome in outcomes {
+        match outcome.end {
+            End::Committed(_) => committed += 1,
+            End::Refused { .. } => refused += 1,
+            _ => {}
+        }
+    }
+    (committed, refused)
+}
+
+/// The line of a grown script.
+fn line(alloc: Global, tasks: u8, outcomes: &[Outcome], events: u64) -> Result<String, AllocError>
+    ensures { IfOk result (λ text. string_bytes text ≡ line_text tasks outcomes.now events) }
+{
+    let (committed, refused) = numbers(outcomes);
+    let summary = Summary {
+        tasks: u64::from(tasks) + 1,
+        committed,
+        refused,
+        events,
+    };
+    format!(in alloc; "{summary}\n")
+}
+
+/// Writes the line of a grown script whose run made so many operations, and tells the status. Without
+/// memory for it nothing is written.
+pub fn finish_grown<K: Sink>(
+    alloc: Global,
+    tasks: u8,
+    events: u64,
+    played: &Played,
+    out: &mut K,
+) -> Result<Status, AllocError>
+    ensures nothing { IfErr result (λ error. K.at out.new ≡ K.at out.old) }
+    ensures told { IfOk result (λ status. Told (λ text. text ≡ line_text tasks played.now.outcomes.items events) (refusals played.now.opening played.now.outcomes.items played.now.refs) (K.at out.old) (K.at out.new) status) }
+{
+    let text = line(alloc, tasks, &played.outcomes, events)?;
+    let unwritten = write_text(out, text.as_bytes());
     Ok(causes_of(played, unwritten).status())
 }

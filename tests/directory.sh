@@ -1,0 +1,145 @@
+#!/bin/sh
+# Tries the program over directories: run ./icerepo once before, since nothing is built here. Where ICE_PROGRAM names
+# another program, that one is tried. Needs sh, coreutils, findutils, grep and sed.
+
+program=${ICE_PROGRAM:-$(CDPATH='' cd -P -- "$(dirname "$0")/.." && pwd -P)/crates/ice_cli/out/ice_cli}
+[ -x "$program" ] || { echo 'directory: there is no program yet; run ./icerepo once' >&2; exit 1; }
+room=$(mktemp -d "${TMPDIR:-/tmp}/directory-XXXXXX") || exit
+failed=0
+trap 'rm -rf "$room"' EXIT
+trap 'exit 1' HUP INT TERM
+cd "$room" || exit
+
+# What is wanted, and what came.
+same() {
+    if [ "$2" != "$3" ]; then
+        failed=$((failed + 1))
+        printf 'FAILED: %s\n  wanted: %s\n  came:   %s\n' "$1" "$2" "$3"
+    fi
+}
+
+# Calls the program with these words, and with the file `given` on standard input: what it prints, what it says on
+# standard error, and its status, with a bar behind each line.
+call() {
+    "$program" "$@" <given >printed 2>said
+    echo "$?" >>said
+    cat printed said | tr '\n' '|'
+}
+
+# What lies in a directory, without the file of the claim: names and sums of contents.
+contents() {
+    find "$1" -type f ! -name icerepo.lock -exec sha256sum {} + | sort
+}
+
+# The smallest commit, twice: ids are drawn at random, and the second task finds the first one's group.
+printf 'task a write main 0 fail\ngroup /\ncommit first\n' >given
+mkdir d
+call play --dir d >came
+id=$(sed -n 's/^a committed //p' printed)
+same 'an id has 20 letters' 20 "$(printf %s "$id" | wc -c | tr -d ' ')"
+same 'the first run' "a committed $id|branch main $id|0|" "$(cat came)"
+same 'the second run' "a refused 2 nodeexists|branch main $id|1|" "$(call play --dir=d)"
+same 'the branch names it' "{\"snapshot\":\"$id\"}" "$(cat d/refs/branch.main/ref.json)"
+same 'its files' 'icerepo.lock|refs/branch.main/ref.json|snapshots/1CECHNKREP0F1RSTCMT0|'"snapshots/$id|transactions/$id|" \
+    "$(cd d && find . -type f | sed 's/^..//' | sort | tr '\n' '|')"
+mkdir other
+call play --dir other >/dev/null
+same 'another directory has other ids' no "$(grep -qF "$id" printed && echo yes || echo no)"
+
+# What was written is read by later runs: chunks that are objects and chunks in manifests, tags, and the log.
+printf 'task a write main 0 fail\narray /x uint8 1200 600 0\narray /y uint8 4 2 0\nfill /x 1 07\nset /y 0 0102\ncommit chunks\n' >given
+printf 'task t refs\ntag v1 branch main\nturns\n' >>given
+call play --dir d >/dev/null
+same 'a second commit' 0 "$(cat said)"
+printf 'task r read tag v1\nlist /\nchunk /y 0\nchunk /x 0\ntask l refs\nlog tag v1\nturns\n' >given
+call play --dir d >/dev/null
+same 'it is read' 'r 2 list array /x|r 2 list array /y|r 3 chunk 0102|r 4 fill|r done|' "$(sed -n '1,5p' printed | tr '\n' '|')"
+same 'the log has three lines' 'chunks|first|Repository initialized|' "$(sed -n 's/^l 6 log [0-9A-Z]* [0-9]* //p' printed | tr '\n' '|')"
+
+# What is no directory. Nothing is read of the script then, nor made.
+printf 'no script\n' >given
+before=$(contents d)
+echo text >file
+for path in missing file file/beneath '' missing/beneath; do
+    case $path in
+        file*) why="it isn't a directory" ;;
+        *) why='nothing is there' ;;
+    esac
+    same "the path '$path'" "icerepo: no store: $why|8|" "$(call play --dir "$path")"
+done
+same 'nothing is made' 'd file given other printed said ' "$(rm came; ls | tr '\n' ' ')"
+same 'wrong words come first' 'icerepo: usage|2|' "$(call play --dir)"
+same 'grow, too' 'icerepo: no store: nothing is there|8|' "$(call grow 1 --dir missing)"
+same 'a refused script' 'icerepo: script line 1: word|3|' "$(call play --dir d)"
+
+# Another program has claimed it: it has opened the directory as soon as the file of the claim is locked.
+mkfifo script
+mkdir claimed
+"$program" play --dir claimed <script >first 2>&1 &
+exec 3>script
+printf 'task a write main 0 fail\ngroup /\ncommit first\n' >given
+tries=0
+while [ ! -e claimed/icerepo.lock ] && [ "$tries" -lt 100 ]; do
+    sleep 0.05
+    tries=$((tries + 1))
+done
+sleep 0.2
+same 'a second program' 'icerepo: no store: another program uses it|8|' "$(call play --dir claimed)"
+same 'it has done nothing' '' "$(contents claimed)"
+cat given >&3
+exec 3>&-
+wait
+same 'the first one goes on' 'a committed' "$(sed -n 's/^\(a committed\) .*/\1/p' first)"
+same 'and then the next one may' 1 "$(call play --dir claimed >/dev/null; cat said)"
+
+# Damaged files: each is told, and stands as it did.
+damaged() {
+    rm -rf broken
+    cp -r d broken
+    cat >"broken/$1"
+    before=$(contents broken)
+    call play --dir broken >/dev/null
+    same "$1 is told" "$2" "$(sed -n 's/^a refused 1 \(badfile\|missing\).*/\1/p' printed) $(tail -n 1 said)"
+    same "$1 stands as it did" "$before" "$(contents broken)"
+}
+head=$(sed 's/.*:"\(.*\)"}/\1/' d/refs/branch.main/ref.json)
+printf 'task a read branch main\nlist /\n' >given
+damaged refs/branch.main/ref.json 'badfile 1' </dev/null
+printf '{"snapshot":' | damaged refs/branch.main/ref.json 'badfile 1'
+printf '{"snapshot":"00000000000000000000"}' | damaged refs/branch.main/ref.json 'missing 1'
+head -c 50 "d/snapshots/$head" | damaged "snapshots/$head" 'badfile 1'
+printf 'text' | damaged "snapshots/$head" 'badfile 1'
+cat "d/snapshots/$id" | damaged "snapshots/$head" 'badfile 1'
+
+# Files that are no objects are passed over, and what a cut off program left aside is removed.
+echo text >d/readme
+echo text >d/refs/readme
+echo text >d/snapshots/readme
+mkdir -p d/refs/branch.empty d/icerepo.new
+echo half >d/icerepo.new/0
+echo mine >d/icerepo.new/readme
+printf '' >given
+same 'they are passed over' "branch main $head|tag v1 $head|0|" "$(call play --dir d)"
+same 'what was left aside is gone' 'readme' "$(ls d/icerepo.new)"
+
+# Where nothing more can be written, as on a full disk, the store fails, and what stood there stands and is read.
+before=$(contents d)
+printf 'task a write main 0 fail\ngroup /new\ncommit never\ntask r read tag v1\nchunk /y 0\nturns\n' >given
+{
+    (
+        ulimit -f 0
+        trap '' XFSZ
+        exec "$program" play --dir d 2>&1
+    ) <given
+    echo $?
+} | cat >printed
+same 'a full directory' "a refused 3 storefault|r 5 chunk 0102|r done|branch main $head|tag v1 $head|icerepo: store fault|6|" "$(tr '\n' '|' <printed)"
+same 'it stands as it did' "$before" "$(contents d)"
+
+# A script that is made from a number.
+mkdir grown
+: >given
+same 'a grown script' 'tasks 2 committed 2 refused 0 events 16|0|' "$(call grow 1 --dir grown)"
+
+[ "$failed" = 0 ] && echo 'directory: all well'
+[ "$failed" = 0 ]
