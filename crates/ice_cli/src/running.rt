@@ -13,7 +13,7 @@ use play_at_once::OpenGate;
 use std::process::ExitCode;
 use std::sync::Wait;
 use std::thread::Threads;
-use store_count::Counting;
+use store_api::Counting;
 use top_call::{end, run};
 
 /// Does what the words say over this store, with the system's input and output, and gives the exit code.

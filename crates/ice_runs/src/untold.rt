@@ -7,9 +7,9 @@ use ice_base::TickClock;
 use mem_store::MemStore;
 use std::alloc::Global;
 use store_api::{
-    Base, Gone, GoneAt, Got, Key, Listed, New, Over, Part, Store, StoreFault, Version, Why,
+    Base, Counting, Gone, GoneAt, Got, Key, Listed, New, Over, Part, Store, StoreFault, Version,
+    Why,
 };
-use store_count::Counting;
 
 /// A store in memory that tells nothing of its journal, so that a run over it asks nothing of what was done before.
 #[derive(Drop)]

@@ -20,5 +20,5 @@ pub use events::{
 pub use keys::{Key, Part, Why};
 pub use laws::{first_law, names_law, polite_law, rows_law, trees_law};
 pub use machines::{Next, Refusal};
-pub use operations::{Base, Store};
+pub use operations::{Base, Counting, Store};
 pub use running::run_machine;

@@ -1,6 +1,6 @@
 //! The trait of a store.
 
-ghost use Rattle.std.specs.Prelude.{◌≡◌, Bool};
+ghost use Rattle.std.specs.Prelude.{◌≡◌, Bool, IsTrue, length};
 ghost use Rattle.store_api.specs.Callers.{View, Called, MayCall, HasAll, as_client};
 
 use crate::{Gone, GoneAt, Got, Key, Listed, New, Op, Over, Part, Reply, StoreFault, Version, Why};
@@ -62,4 +62,11 @@ pub trait Base: Store {
 
     /// Its caller has every client number.
     ghost alone: { (s : Self) → HasAll (Self.view s).caller };
+}
+
+/// A whole store that counts the operations made on it.
+pub trait Counting: Base {
+    /// How many operations were made on it. Where the store tells its journal, they are its events.
+    fn operations(&self) -> u64
+        ensures { IsTrue (Self.view self.now).caller.tells → result ≡ length (Self.view self.now).seen };
 }

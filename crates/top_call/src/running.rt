@@ -22,7 +22,7 @@ use play_script::Script;
 use std::alloc::{AllocError, Global};
 use std::sync::Wait;
 use std::thread::Threads;
-use store_count::Counting;
+use store_api::Counting;
 
 /// The longest input that is read: one byte more than a script may have.
 const MOST_INPUT: usize = 1_048_577;
