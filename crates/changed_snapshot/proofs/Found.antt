@@ -17,7 +17,8 @@ use Rattle.zarr_tree.specs.Nodes.{Node}
 use Rattle.zarr_tree.specs.Held.{Held, nodes_over}
 use Rattle.zarr_tree.proofs.Maps.{Path, get-made}
 use Rattle.snapshot_file.specs.declared.nodes.NodeRow.{NodeRow}
-use Rattle.repo_objects.specs.Trees.{node_of, nodes_in, row_at, manifests_of}
+use Rattle.snapshot_file.specs.Snapshots.{manifests_named}
+use Rattle.repo_objects.specs.Trees.{node_of, nodes_in, row_at}
 use Rattle.snapshot_file.specs.declared.nodes.ManifestRef.{ManifestRef}
 use Rattle.changed_snapshot.specs.declared.written.NewList.{NewList}
 use Rattle.changed_snapshot.specs.Rows.{refs_of, new_list, row_of, row_from, row_over, rows_over}
@@ -66,15 +67,15 @@ StandsAt p old = (row : NodeRow) → old ≡ Some row → row.path ≡ p
 -- the row has the path, and is of the node
 pub from-path : (p : Path) (n : Node) (old : Option NodeRow) → StandsAt p old → (row_from p n old).path ≡ p
 from-path p n None there = refl
-from-path p n (Some row) there = elim (same_id8 row.id n.id) as (λ b. (cond b (cond (bytes_eq row.user_data n.text) row (row_of p n (manifests_of row.kind))) (row_of p n [])).path ≡ p) [
-  | true ↦ elim (bytes_eq row.user_data n.text) as (λ b. (cond b row (row_of p n (manifests_of row.kind))).path ≡ p) [ true ↦ there row refl | false ↦ refl ]
+from-path p n (Some row) there = elim (same_id8 row.id n.id) as (λ b. (cond b (cond (bytes_eq row.user_data n.text) row (row_of p n (manifests_named row.kind))) (row_of p n [])).path ≡ p) [
+  | true ↦ elim (bytes_eq row.user_data n.text) as (λ b. (cond b row (row_of p n (manifests_named row.kind))).path ≡ p) [ true ↦ there row refl | false ↦ refl ]
   | false ↦ refl
 ]
 
 pub from-node : (p : Path) (n : Node) (old : Option NodeRow) → node_of (row_from p n old) ≡ n
 from-node p n None = refl
-from-node p n (Some row) = elim (same_id8 row.id n.id) as (λ b. same_id8 row.id n.id ≡ b → node_of (cond b (cond (bytes_eq row.user_data n.text) row (row_of p n (manifests_of row.kind))) (row_of p n [])) ≡ n) [
-  | true ↦ λ e. elim (bytes_eq row.user_data n.text) as (λ b. bytes_eq row.user_data n.text ≡ b → node_of (cond b row (row_of p n (manifests_of row.kind))) ≡ n) [
+from-node p n (Some row) = elim (same_id8 row.id n.id) as (λ b. same_id8 row.id n.id ≡ b → node_of (cond b (cond (bytes_eq row.user_data n.text) row (row_of p n (manifests_named row.kind))) (row_of p n [])) ≡ n) [
+  | true ↦ λ e. elim (bytes_eq row.user_data n.text) as (λ b. bytes_eq row.user_data n.text ≡ b → node_of (cond b row (row_of p n (manifests_named row.kind))) ≡ n) [
     | true ↦ λ t. let same_text : row.user_data ≡ n.text = (bytes_eq-Decides row.user_data n.text).0 t in λ i. record { id = same_id8-true row.id n.id e i; text = same_text i }
     | false ↦ λ t. refl
   ] refl

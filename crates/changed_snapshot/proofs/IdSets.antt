@@ -14,7 +14,7 @@ use Rattle.ice_ids.proofs.TextLaws.{same_id12-true, same_id12-self}
 use Rattle.snapshot_file.specs.declared.nodes.ManifestRef.{ManifestRef}
 use Rattle.snapshot_file.specs.declared.nodes.NodeRow.{NodeRow}
 use Rattle.snapshot_file.specs.declared.snapshot.ManifestInfo.{ManifestInfo}
-use Rattle.repo_objects.specs.Trees.{manifests_of}
+use Rattle.snapshot_file.specs.Snapshots.{manifests_named}
 use Rattle.changed_snapshot.specs.Rows.{names_in, files_over}
 use Rattle.changed_snapshot.specs.inside.Named.{has_id, have_id}
 
@@ -67,10 +67,10 @@ next_id ids m ms rest id e =
     ∙ ap (λ (xs : List ManifestRef). has_id ids id || have_id xs id) (sym e)
 
 -- the manifests of the next row are entered
-pub next_row : (ids more : List Id12) (row : NodeRow) (rows rest : List NodeRow) (id : Id12) → rows ≡ row ∷ rest → has_id more id ≡ (has_id ids id || have_id (manifests_of row.kind) id) → (has_id more id || names_in rest id) ≡ (has_id ids id || names_in rows id)
+pub next_row : (ids more : List Id12) (row : NodeRow) (rows rest : List NodeRow) (id : Id12) → rows ≡ row ∷ rest → has_id more id ≡ (has_id ids id || have_id (manifests_named row.kind) id) → (has_id more id || names_in rest id) ≡ (has_id ids id || names_in rows id)
 next_row ids more row rows rest id e entered =
     ap (λ b. b || names_in rest id) entered
-    ∙ or_assoc (has_id ids id) (have_id (manifests_of row.kind) id) (names_in rest id)
+    ∙ or_assoc (has_id ids id) (have_id (manifests_named row.kind) id) (names_in rest id)
     ∙ ap (λ (xs : List NodeRow). has_id ids id || names_in xs id) (sym e)
 
 -- ---- the next file

@@ -14,12 +14,10 @@ use Rattle.zarr_tree.specs.Held.{Held}
 use Rattle.zarr_tree.proofs.Maps.{Path}
 use Rattle.zarr_tree.proofs.Apply.{both, first, second}
 use Rattle.snapshot_file.specs.declared.nodes.ManifestRef.{ManifestRef}
-use Rattle.snapshot_file.specs.declared.nodes.NodeKind.{NodeKind}
-use Rattle.snapshot_file.specs.declared.nodes.NodeKind.TheVariants.{Group, Array}
 use Rattle.snapshot_file.specs.declared.nodes.NodeRow.{NodeRow}
 use Rattle.snapshot_file.specs.declared.snapshot.ManifestInfo.{ManifestInfo}
 use Rattle.snapshot_file.specs.Snapshots.{manifests_named, is_listed, all_listed, first_unlisted}
-use Rattle.repo_objects.specs.Trees.{row_at, manifests_of}
+use Rattle.repo_objects.specs.Trees.{row_at}
 use Rattle.changed_snapshot.specs.declared.written.NewList.{NewList}
 use Rattle.changed_snapshot.specs.declared.written.NewManifest.{NewManifest}
 use Rattle.changed_snapshot.specs.Rows.{refs_of, infos_of, files_with, kind_of, row_of, row_from, names_in, files_over, rows_over}
@@ -111,20 +109,14 @@ module _ (test : Id12 → Bool) where
       (stays files m.id (first (is_listed files m) (list_all (is_listed files) ms) l) (named m.id (ap (λ b. b || have ms m.id) (same_id12-self m.id))))
       (manifests_stay files ms (second (is_listed files m) (list_all (is_listed files) ms) l) (λ id h. named id (ap (λ b. same_id12 m.id id || b) h ∙ or-true (same_id12 m.id id))))
 
-  same_named : (kind : NodeKind) → manifests_named kind ≡ manifests_of kind
-  same_named Group = refl
-  same_named (Array shape names manifests) = refl
-
-  row_stays : (files : List ManifestInfo) (row : NodeRow) → IsListed files row → ((id : Id12) → have (manifests_of row.kind) id ≡ true → test id ≡ true) → IsListed (staying test files) row
-  row_stays files row l named =
-      let is = same_named row.kind in
-      ap (list_all (is_listed (staying test files))) is ∙ manifests_stay files (manifests_of row.kind) (sym (ap (list_all (is_listed files)) is) ∙ l) named
+  row_stays : (files : List ManifestInfo) (row : NodeRow) → IsListed files row → ((id : Id12) → have (manifests_named row.kind) id ≡ true → test id ≡ true) → IsListed (staying test files) row
+  row_stays files row l named = manifests_stay files (manifests_named row.kind) l named
 
   rows_stay : (files : List ManifestInfo) (rows : List NodeRow) → AllByRecursion (IsListed files) rows → ((id : Id12) → names_in rows id ≡ true → test id ≡ true) → AllByRecursion (IsListed (staying test files)) rows
   rows_stay files [] all named = tt
   rows_stay files (row ∷ rows) all named = (
     row_stays files row all.0 (λ id h. named id (ap (λ b. b || names_in rows id) h)),
-    rows_stay files rows all.1 (λ id h. named id (ap (λ b. have (manifests_of row.kind) id || b) h ∙ or-true (have (manifests_of row.kind) id))),
+    rows_stay files rows all.1 (λ id h. named id (ap (λ b. have (manifests_named row.kind) id || b) h ∙ or-true (have (manifests_named row.kind) id))),
   )
 
 -- ---- the rows under what is held
@@ -137,15 +129,11 @@ module _ (files : List ManifestInfo) (p : Path) (n : Node) where
   made_of : (ms : List ManifestRef) → list_all (is_listed files) ms ≡ true → IsListed files (row_of p n ms)
   made_of ms h = of_manifests (array_in n.text) ms h
 
-  same_list : (kind : NodeKind) → list_all (is_listed files) (manifests_named kind) ≡ true → list_all (is_listed files) (manifests_of kind) ≡ true
-  same_list Group h = h
-  same_list (Array shape names manifests) h = h
-
   -- a row made of one that is listed is listed
   from_listed : (old : Option NodeRow) → ((row : NodeRow) → old ≡ Some row → IsListed files row) → IsListed files (row_from p n old)
   from_listed None are = made_of [] refl
-  from_listed (Some row) are = elim (same_id8 row.id n.id) as (λ b. IsListed files (cond b (cond (bytes_eq row.user_data n.text) row (row_of p n (manifests_of row.kind))) (row_of p n []))) [
-    | true ↦ elim (bytes_eq row.user_data n.text) as (λ b. IsListed files (cond b row (row_of p n (manifests_of row.kind)))) [ true ↦ are row refl | false ↦ made_of (manifests_of row.kind) (same_list row.kind (are row refl)) ]
+  from_listed (Some row) are = elim (same_id8 row.id n.id) as (λ b. IsListed files (cond b (cond (bytes_eq row.user_data n.text) row (row_of p n (manifests_named row.kind))) (row_of p n []))) [
+    | true ↦ elim (bytes_eq row.user_data n.text) as (λ b. IsListed files (cond b row (row_of p n (manifests_named row.kind)))) [ true ↦ are row refl | false ↦ made_of (manifests_named row.kind) (are row refl) ]
     | false ↦ made_of [] refl
   ]
 

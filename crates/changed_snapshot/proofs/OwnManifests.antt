@@ -12,7 +12,8 @@ use Rattle.zarr_tree.specs.Nodes.{Node, array_in}
 use Rattle.zarr_tree.proofs.Maps.{Path}
 use Rattle.snapshot_file.specs.declared.nodes.ManifestRef.{ManifestRef}
 use Rattle.snapshot_file.specs.declared.nodes.NodeRow.{NodeRow}
-use Rattle.repo_objects.specs.Trees.{NamesManifest, manifests_of, row_at}
+use Rattle.snapshot_file.specs.Snapshots.{manifests_named}
+use Rattle.repo_objects.specs.Trees.{NamesManifest, row_at}
 use Rattle.changed_snapshot.specs.declared.written.NewList.{NewList}
 use Rattle.changed_snapshot.specs.declared.written.NewManifest.{NewManifest}
 use Rattle.changed_snapshot.specs.Rows.{refs_of, kind_of, row_of, row_from, rows_over}
@@ -45,7 +46,7 @@ module _ (news : List NewList) (rows : List NodeRow) where
   Given id = NamesManifest rows id ⊎ IsNew news id
 
   abbrev Known : NodeRow → Type 0
-  Known row = (m : ManifestRef) → Contains (manifests_of row.kind) m → Given m.id
+  Known row = (m : ManifestRef) → Contains (manifests_named row.kind) m → Given m.id
 
   none_named : (m : ManifestRef) → Contains [] m → Given m.id
   none_named m c = absurd (omega (arith, c.1))
@@ -56,10 +57,10 @@ module _ (news : List NewList) (rows : List NodeRow) where
 
   from_known : (p : Path) (n : Node) (old : Option NodeRow) → ((row : NodeRow) → old ≡ Some row → Contains rows row) → Known (row_from p n old)
   from_known p n None among = written_known p n (array_in n.text) [] none_named
-  from_known p n (Some row) among = elim (same_id8 row.id n.id) as (λ b. Known (cond b (cond (bytes_eq row.user_data n.text) row (row_of p n (manifests_of row.kind))) (row_of p n []))) [
-    | true ↦ elim (bytes_eq row.user_data n.text) as (λ b. Known (cond b row (row_of p n (manifests_of row.kind)))) [
+  from_known p n (Some row) among = elim (same_id8 row.id n.id) as (λ b. Known (cond b (cond (bytes_eq row.user_data n.text) row (row_of p n (manifests_named row.kind))) (row_of p n []))) [
+    | true ↦ elim (bytes_eq row.user_data n.text) as (λ b. Known (cond b row (row_of p n (manifests_named row.kind)))) [
       | true ↦ named
-      | false ↦ written_known p n (array_in n.text) (manifests_of row.kind) named
+      | false ↦ written_known p n (array_in n.text) (manifests_named row.kind) named
     ]
     | false ↦ written_known p n (array_in n.text) [] none_named
   ]

@@ -31,7 +31,8 @@ use Rattle.snapshot_file.specs.Layout.{IsManifest, IsKind, IsNode, IsInfo, IsWri
 use Rattle.repo_objects.specs.declared.bad.Bad.{Bad}
 use Rattle.repo_objects.specs.declared.bad.Bad.TheVariants as bad
 use Rattle.repo_objects.specs.Readings.{kind_fault, row_fault, first_bad}
-use Rattle.repo_objects.specs.Trees.{node_of, nodes_in, row_at, manifests_of}
+use Rattle.snapshot_file.specs.Snapshots.{manifests_named}
+use Rattle.repo_objects.specs.Trees.{node_of, nodes_in, row_at}
 use Rattle.changed_snapshot.specs.declared.written.NewList.{NewList}
 use Rattle.changed_snapshot.specs.declared.written.NewManifest.{NewManifest}
 use Rattle.changed_snapshot.specs.declared.written.Stamp.{Stamp}
@@ -95,16 +96,16 @@ made_good p n ms h = by_view (meta_of n.text) h
 made_node : (p : Path) (n : Node) (ms : List ManifestRef) → IsFineNode p n → AllByRecursion IsManifest ms → IsNode (row_of p n ms)
 made_node p n ms fine named = record { id = fine.id; path = fine.path; text = fine.text; user_data = metadata_bytes n.text fine.metadata; kind = kind_is n.text ms named }
 
-kind_manifests : (kind : NodeKind) → IsKind kind → AllByRecursion IsManifest (manifests_of kind)
+kind_manifests : (kind : NodeKind) → IsKind kind → AllByRecursion IsManifest (manifests_named kind)
 kind_manifests Group h = tt
 kind_manifests (Array shape names manifests) h = h.manifests_are
 
 module _ (Q : NodeRow → Type 0) where
   -- what holds of a node's new rows and of the base's own holds of its row over the base
-  from_old : (p : Path) (n : Node) (old : Option NodeRow) → Q (row_of p n []) → ((row : NodeRow) → old ≡ Some row → Q row × Q (row_of p n (manifests_of row.kind))) → Q (row_from p n old)
+  from_old : (p : Path) (n : Node) (old : Option NodeRow) → Q (row_of p n []) → ((row : NodeRow) → old ≡ Some row → Q row × Q (row_of p n (manifests_named row.kind))) → Q (row_from p n old)
   from_old p n None bare were = bare
-  from_old p n (Some row) bare were = elim (same_id8 row.id n.id) as (λ b. Q (cond b (cond (bytes_eq row.user_data n.text) row (row_of p n (manifests_of row.kind))) (row_of p n []))) [
-    | true ↦ elim (bytes_eq row.user_data n.text) as (λ b. Q (cond b row (row_of p n (manifests_of row.kind)))) [ true ↦ (were row refl).0 | false ↦ (were row refl).1 ]
+  from_old p n (Some row) bare were = elim (same_id8 row.id n.id) as (λ b. Q (cond b (cond (bytes_eq row.user_data n.text) row (row_of p n (manifests_named row.kind))) (row_of p n []))) [
+    | true ↦ elim (bytes_eq row.user_data n.text) as (λ b. Q (cond b row (row_of p n (manifests_named row.kind)))) [ true ↦ (were row refl).0 | false ↦ (were row refl).1 ]
     | false ↦ bare
   ]
 
@@ -161,14 +162,14 @@ module _ (h : Held Place) (rows : List NodeRow) (nodes : AllByRecursion IsNode r
       by_list news rows IsNode p n
       (from_old IsNode p n (row_at rows p) (made_node p n [] fine tt) (λ row there.
       let node : IsNode row = row_has IsNode rows p row nodes there in
-      (node, made_node p n (manifests_of row.kind) fine (kind_manifests row.kind node.kind))))
+      (node, made_node p n (manifests_named row.kind) fine (kind_manifests row.kind node.kind))))
       (λ list there. made_node p n (refs_of list.manifest) fine (refs_sized list.manifest (found_sized (λ (new : NewList). same_path new.path p) news list sized there))))
 
   good_over : AddsFine h → SetsFine h → (news : List NewList) → AllByRecursion IsGood (rows_over h news rows)
   good_over adds sets news = all_over IsGood h news rows (λ p n is.
       let text = (fine_over adds sets p n is).metadata in
       by_list news rows IsGood p n
-      (from_old IsGood p n (row_at rows p) (made_good p n [] text) (λ row there. (row_has IsGood rows p row good there, made_good p n (manifests_of row.kind) text)))
+      (from_old IsGood p n (row_at rows p) (made_good p n [] text) (λ row there. (row_has IsGood rows p row good there, made_good p n (manifests_named row.kind) text)))
       (λ list there. made_good p n (refs_of list.manifest) text))
 
 -- ---- the snapshot

@@ -22,7 +22,8 @@ use Rattle.held_manifest.specs.LookUp.{look_up, chunk_place}
 use Rattle.manifest_index.specs.Merging.{merged}
 use Rattle.snapshot_file.specs.declared.nodes.ManifestRef.{ManifestRef}
 use Rattle.snapshot_file.specs.declared.nodes.NodeRow.{NodeRow}
-use Rattle.repo_objects.specs.Trees.{Puts, bytes_at, node_of, nodes_in, row_at, manifests_of, listed, place_in, chunk_under, tree_under}
+use Rattle.snapshot_file.specs.Snapshots.{manifests_named}
+use Rattle.repo_objects.specs.Trees.{Puts, bytes_at, node_of, nodes_in, row_at, listed, place_in, chunk_under, tree_under}
 use Rattle.changed_snapshot.specs.declared.written.NewList.{NewList}
 use Rattle.changed_snapshot.specs.Rows.{new_list, manifests_for, kind_of, row_of, row_from, row_over, rows_over}
 use Rattle.changed_snapshot.specs.Laws.{HasMerged, TreeLaw}
@@ -64,17 +65,17 @@ module _ (puts : Puts) (i : Index) where
       tested false f r h = cc
 
   changed_view : (p : Path) (n : Node) (row : NodeRow) (m v : Option View) → row.id ≡ n.id → view_change m v ≡ None
-      → option_and_then (bytes_at puts) (place_in puts (record { id = n.id; path = p; user_data = n.text; kind = kind_of (array_of_view v) (manifests_of row.kind) }) i (array_of_view v))
+      → option_and_then (bytes_at puts) (place_in puts (record { id = n.id; path = p; user_data = n.text; kind = kind_of (array_of_view v) (manifests_named row.kind) }) i (array_of_view v))
       ≡ at_array (is_some (array_of_view v)) (option_and_then (bytes_at puts) (place_in puts row i (array_of_view m)))
   changed_view p n row m None same h = refl
   changed_view p n row m (Some view.Group) same h = refl
   changed_view p n row None (Some (view.Array b)) same h = cc
   changed_view p n row (Some view.Group) (Some (view.Array b)) same h = cc
   changed_view p n row (Some (view.Array a)) (Some (view.Array b)) same h =
-      λ j. option_and_then (bytes_at puts) (chunk_place (sym (same_rank a b h) j) (sym same j) i (listed puts (manifests_of row.kind)))
+      λ j. option_and_then (bytes_at puts) (chunk_place (sym (same_rank a b h) j) (sym same j) i (listed puts (manifests_named row.kind)))
 
   changed : (p : Path) (n : Node) (row : NodeRow) → row.id ≡ n.id → SameFrozen row.user_data n.text
-      → chunk_under puts i (Some (row_of p n (manifests_of row.kind))) ≡ at_array (is_array n.text) (chunk_under puts i (Some row))
+      → chunk_under puts i (Some (row_of p n (manifests_named row.kind))) ≡ at_array (is_array n.text) (chunk_under puts i (Some row))
   changed p n row same frozen = changed_view p n row (view_in row.user_data) (view_in n.text) same frozen
 
   -- the row of a node has the chunk of the old row, where that one is of the same node
@@ -84,14 +85,14 @@ module _ (puts : Puts) (i : Index) where
   row_chunk p n (Some row) frozen = by_id (same_id8 row.id n.id) refl
     where
       by_text : row.id ≡ n.id → (b : Bool) → bytes_eq row.user_data n.text ≡ b
-          → chunk_under puts i (Some (cond b row (row_of p n (manifests_of row.kind)))) ≡ at_array (is_array n.text) (chunk_under puts i (Some row))
+          → chunk_under puts i (Some (cond b row (row_of p n (manifests_named row.kind)))) ≡ at_array (is_array n.text) (chunk_under puts i (Some row))
       by_text same true e =
           let text : row.user_data ≡ n.text = (bytes_eq-Decides row.user_data n.text).0 e in
           kept row ∙ ap (λ t. at_array (is_array t) (chunk_under puts i (Some row))) text
       by_text same false e = changed p n row same (frozen row refl same)
 
       by_id : (b : Bool) → same_id8 row.id n.id ≡ b
-          → chunk_under puts i (Some (cond b (cond (bytes_eq row.user_data n.text) row (row_of p n (manifests_of row.kind))) (row_of p n [])))
+          → chunk_under puts i (Some (cond b (cond (bytes_eq row.user_data n.text) row (row_of p n (manifests_named row.kind))) (row_of p n [])))
           ≡ at_array (is_array n.text) (cond b (chunk_under puts i (Some row)) None)
       by_id true e = by_text (same_id8-true row.id n.id e) (bytes_eq row.user_data n.text) refl
       by_id false e = bare p n ∙ sym (nothing_there (is_array n.text))
@@ -103,7 +104,7 @@ module _ (puts : Puts) (i : Index) where
   own_manifests_chunk p n (Some row) frozen = by_id (same_id8 row.id n.id) refl
     where
       by_id : (b : Bool) → same_id8 row.id n.id ≡ b
-          → chunk_under puts i (Some (row_of p n (cond b (manifests_of row.kind) []))) ≡ at_array (is_array n.text) (cond b (chunk_under puts i (Some row)) None)
+          → chunk_under puts i (Some (row_of p n (cond b (manifests_named row.kind) []))) ≡ at_array (is_array n.text) (cond b (chunk_under puts i (Some row)) None)
       by_id true e = let same : row.id ≡ n.id = same_id8-true row.id n.id e in changed p n row same (frozen row refl same)
       by_id false e = bare p n ∙ sym (nothing_there (is_array n.text))
 

@@ -18,7 +18,8 @@ use Rattle.snapshot_file.specs.declared.nodes.NodeKind.TheVariants.{Group, Array
 use Rattle.snapshot_file.specs.declared.nodes.NodeRow.{NodeRow}
 use Rattle.snapshot_file.specs.declared.snapshot.ManifestInfo.{ManifestInfo}
 use Rattle.snapshot_file.specs.declared.snapshot.SnapshotFile.{SnapshotFile}
-use Rattle.repo_objects.specs.Trees.{nodes_in, row_at, manifests_of}
+use Rattle.snapshot_file.specs.Snapshots.{manifests_named}
+use Rattle.repo_objects.specs.Trees.{nodes_in, row_at}
 use Rattle.changed_snapshot.specs.declared.written.NewManifest.{NewManifest}
 use Rattle.changed_snapshot.specs.declared.written.NewList.{NewList}
 use Rattle.changed_snapshot.specs.declared.written.Stamp.{Stamp}
@@ -43,7 +44,7 @@ list_key new = new.path
 -- the manifests that a row has for the node of this id: its own, where it is that node's
 abbrev pub manifests_for : Id8 → Option NodeRow → List ManifestRef
 manifests_for id None = []
-manifests_for id (Some row) = if same_id8 row.id id then manifests_of row.kind else []
+manifests_for id (Some row) = if same_id8 row.id id then manifests_named row.kind else []
 
 -- the manifests that the base has for the node at a path
 abbrev pub own_manifests : List NodeRow → (path : List ℕ) → (node : Id8) → List ManifestRef
@@ -69,7 +70,7 @@ row_of p n manifests = record { id = n.id; path = p; user_data = n.text; kind = 
 abbrev pub row_from : (path : List ℕ) → Node → Option NodeRow → NodeRow
 row_from p n None = row_of p n []
 row_from p n (Some row) =
-    if same_id8 row.id n.id then (if bytes_eq row.user_data n.text then row else row_of p n (manifests_of row.kind)) else row_of p n []
+    if same_id8 row.id n.id then (if bytes_eq row.user_data n.text then row else row_of p n (manifests_named row.kind)) else row_of p n []
 
 -- with the new list, if it has one
 abbrev pub row_over : (path : List ℕ) → Node → (old : Option NodeRow) → (new : Option (List ManifestRef)) → NodeRow
@@ -99,7 +100,7 @@ files_with files news = values (from_entries {R = id12_cmp} (map (λ file. (file
 
 -- whether rows name a manifest
 abbrev pub names_in : List NodeRow → Id12 → Bool
-names_in rows id = list_any (λ row. list_any (λ manifest. same_id12 manifest.id id) (manifests_of row.kind)) rows
+names_in rows id = list_any (λ row. list_any (λ manifest. same_id12 manifest.id id) (manifests_named row.kind)) rows
 
 -- the manifests that rows name
 abbrev pub files_over : List ManifestInfo → List NodeRow → List ManifestInfo

@@ -6,7 +6,7 @@ ghost use Rattle.ice_ids.specs.declared.Id12.{Id12 as TheId};
 ghost use Rattle.changed_snapshot.specs.Rows.{infos_of, files_with, names_in, files_over};
 ghost use Rattle.changed_snapshot.specs.inside.Named.{has_id, have_id, files_by_id};
 
-use crate::rows::{RowsOver, manifests_of};
+use crate::rows::RowsOver;
 use crate::written::NewList;
 use ice_ids::Id12;
 use ice_items::Items;
@@ -74,7 +74,7 @@ fn named(alloc: Global, rows: &RowsOver) -> Result<BTreeSet<Id12>, AllocError>
     let mut ids = BTreeSet::new(alloc);
     for at in 0..rows.len() {
         let row = rows.row(alloc, at)?;
-        enter(&mut ids, manifests_of(&row.kind))?;
+        enter(&mut ids, row.kind.manifests())?;
     }
     Ok(ids)
 }

@@ -7,7 +7,7 @@ ghost use Rattle.zarr_tree.specs.Nodes.{array_of_view};
 ghost use Rattle.zarr_tree.specs.Rows.{node_found};
 ghost use Rattle.flat_tables.specs.Rows.{Ascends};
 ghost use Rattle.snapshot_file.specs.Snapshots.{node_key};
-ghost use Rattle.repo_objects.specs.Trees.{manifests_of, row_at};
+ghost use Rattle.repo_objects.specs.Trees.{row_at};
 ghost use Rattle.changed_snapshot.specs.Rows.{refs_of, new_list, list_key, kind_of, row_of, row_from, row_over, rows_over};
 
 use crate::names::copy_names;
@@ -22,16 +22,6 @@ use zarr_changes::{ChangeSet, Row};
 use zarr_meta::{ArrayView, View};
 use zarr_path::Path;
 use zarr_tree::Found;
-
-/// The manifests that a row names.
-pub(crate) fn manifests_of(kind: &NodeKind) -> &[ManifestRef]
-    ensures { result.now ≡ manifests_of kind.now }
-{
-    match kind {
-        NodeKind::Group => &[],
-        NodeKind::Array { manifests, .. } => manifests.as_slice(),
-    }
-}
 
 /// Lengths of dimensions, each with that of a chunk.
 fn shape_of(alloc: Global, lengths: &[u64], chunks: &[u64]) -> Result<Shape, AllocError>
@@ -107,7 +97,7 @@ fn row_from(
     if old.user_data.as_slice() == found.meta.text.as_slice() {
         return old.copy(alloc);
     }
-    let manifests = copy_manifests(alloc, manifests_of(&old.kind))?;
+    let manifests = copy_manifests(alloc, old.kind.manifests())?;
     row_of(alloc, path, found, manifests)
 }
 
@@ -119,7 +109,7 @@ fn compare(row: &NodeRow, path: &str) -> Ordering
 }
 
 /// The row at a path, found by halves.
-fn row_at<'a>(rows: &'a [NodeRow], path: &str) -> Option<&'a NodeRow>
+pub fn row_at<'a>(rows: &'a [NodeRow], path: &str) -> Option<&'a NodeRow>
     requires { Ascends node_key None rows.now }
     ensures { option_copied result ≡ row_at rows.now path.now }
 {

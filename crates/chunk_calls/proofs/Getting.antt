@@ -32,7 +32,6 @@ use Rattle.store_api.specs.declared.events.Reply.{Reply}
 use Rattle.store_api.specs.declared.events.Reply.TheVariants.{Got as Is_got, Failed}
 use Rattle.store_api.specs.declared.events.Event.{Event}
 use Rattle.store_api.specs.declared.machines.Refusal.{Refusal}
-use Rattle.store_api.specs.Machine.{Stored, found, got_of}
 use Rattle.store_api.specs.Callers.{Caller, Makes}
 use Rattle.store_api.specs.Program.{Leads}
 use Rattle.store_api.specs.Running.{Program, on_answer}
@@ -43,12 +42,12 @@ use Rattle.session.specs.Sessions.{SessionState, nodes_seen, overlay}
 use Rattle.session.specs.Editing.{refusal_of_edit}
 use Rattle.session.specs.Chunks.{found as found_bytes, read_entry, read_listed, read_at, read_found, get_program}
 use Rattle.commit_path.specs.Owed.{IsCareful}
-use Rattle.store_api.specs.Telling.{ChangedNothing, WasAbsent, WasGot}
+use Rattle.store_api.specs.Telling.{ChangedNothing, WasGot}
 use Rattle.commit_path.specs.Opened.{IsOpened}
 use Rattle.commit_path.specs.Single.{PutsSnapshot}
 use Rattle.commit_path.specs.Laws.{SessionLaw}
 use Rattle.store_api.proofs.Telling.{get-had, makes-keeps}
-use Rattle.store_api.proofs.Happening.{own-made, failed-made}
+use Rattle.store_api.proofs.Happening.{got-made, absent-made, failed-made}
 use Rattle.chunk_calls.specs.Told.{value_of, IsOfLength, IsOfGet, GetTells}
 use Rattle.chunk_calls.specs.Laws.{GetLaw}
 use Rattle.chunk_calls.proofs.Growing.{Surely, Surely-makes}
@@ -83,10 +82,6 @@ inline-unfit want bytes bad e = by_test (length bytes == want) bad e
     by_test true x d = cc
     by_test false x d = let same : BadChunk want (length bytes) ≡ x = cc in subst IsOfLength same tt
 
-got-absent : (at : Option Stored) (now time : ℕ) → Is_got (Absent now) ≡ Is_got (got_of time at) → at ≡ None
-got-absent None now time e = refl
-got-absent (Some x) now time e = absurd (cc)
-
 module _ (L : SessionLaw) (by : Caller) (s : SessionState) (path index : List ℕ) (start : List Event) where
   abbrev Told : Result Value Refusal → List Event → Type 0
   Told answer h = GetTells by.number s path index start answer h × IsOpened s h
@@ -107,12 +102,6 @@ module _ (L : SessionLaw) (by : Caller) (s : SessionState) (path index : List �
     opened = makes-keeps (IsOpened s) (L.kept s) by (Get key) reply old new tt m k.opened;
     nothing = got-nothing by start key reply old new m k.nothing;
   }
-
-  got-made : (key : Key) (bytes : List ℕ) (version : Version) (now : ℕ) (old new : List Event) → Makes by (Get key) (Is_got (Found bytes version now)) old new → ChangedNothing by.number start old → WasGot by.number key bytes version.0 start new
-  got-made key bytes version now old new m c = record { now = now; own = own-made by start (Get key) (Is_got (Found bytes version now)) old new m c }
-
-  absent-made : (key : Key) (now : ℕ) (old new : List Event) → Makes by (Get key) (Is_got (Absent now)) old new → ChangedNothing by.number start old → WasAbsent by.number key start new
-  absent-made key now old new m c = record { now = now; own = own-made by start (Get key) (Is_got (Absent now)) old new m c; nothing = got-absent (found m.middle key) now m.time m.answered.answered }
 
   value-told : (value : Value) (journal : List Event) → Known (λ puts. value_of value) journal → Told (Ok value) journal
   value-told value journal k = ((k.is, k.nothing), k.opened)
@@ -138,14 +127,14 @@ module _ (L : SessionLaw) (by : Caller) (s : SessionState) (path index : List �
         })
     part-told bytes version now old new k m (Err bad) e =
         let k' = Known-makes (λ puts. bytes_at puts place) (Chunk id) (Is_got (Found bytes version now)) old new m k in
-        ((record { of_get = inr (id, refl); bytes = bytes; version = version.0; got = got-made (Chunk id) bytes version now old new m k.nothing; unfit = part-unfit want offset size bytes bad e }, k'.nothing), k'.opened)
+        ((record { of_get = inr (id, refl); bytes = bytes; version = version.0; got = got-made by start (Chunk id) bytes version now old new m k.nothing; unfit = part-unfit want offset size bytes bad e }, k'.nothing), k'.opened)
 
     object-told : (reply : Reply) (old new : List Event) → Known (λ puts. bytes_at puts place) old → Makes by (Get (Chunk id)) reply old new → Leads Told by (held_of (object_told want id offset size reply)) new
     unfolding Leads
     object-told (Is_got (Found bytes version now)) old new k m = part-told bytes version now old new k m (read_chunk want offset size bytes) refl
     object-told (Is_got (Absent now)) old new k m =
         let k' = Known-makes (λ puts. bytes_at puts place) (Chunk id) (Is_got (Absent now)) old new m k in
-        ((record { of_get = inr (id, refl); absent = absent-made (Chunk id) now old new m k.nothing }, k'.nothing), k'.opened)
+        ((record { of_get = inr (id, refl); absent = absent-made by start (Chunk id) now old new m k.nothing }, k'.nothing), k'.opened)
     object-told (Failed d) old new k m =
         let k' = Known-makes (λ puts. bytes_at puts place) (Chunk id) (Failed d) old new m k in
         (failed-made by (IsOfGet s) start (Get (Chunk id)) d old new (inr (id, refl)) m k.nothing, k'.opened)
@@ -189,7 +178,7 @@ module _ (L : SessionLaw) (by : Caller) (s : SessionState) (path index : List �
     file-told m ms go bytes version now old new named k n (Ok file) e =
         let k' = Known-makes (got_chunk m ms) (Manifest m.id) (Is_got (Found bytes version now)) old new n k in
         let had = get-had by (Manifest m.id) bytes version now old new n in
-        entry-told m ms go bytes version.0 new named (got-made (Manifest m.id) bytes version now old new n k.nothing) (entry_of node index file) (record {
+        entry-told m ms go bytes version.0 new named (got-made by start (Manifest m.id) bytes version now old new n k.nothing) (entry_of node index file) (record {
           is = λ once puts x keeps.
               k'.is once puts x keeps
               ∙ ap (λ (o : Option ManifestFile). first_chunk ms (entry_of node index (or_empty m.id o)) puts) (x.manifests m.id file (ap (option_and_then (manifest_by m.id)) had.last ∙ ap result_ok e));
@@ -198,7 +187,7 @@ module _ (L : SessionLaw) (by : Caller) (s : SessionState) (path index : List �
         })
     file-told m ms go bytes version now old new named k n (Err bad) e =
         let k' = Known-makes (got_chunk m ms) (Manifest m.id) (Is_got (Found bytes version now)) old new n k in
-        ((record { of_get = inl (m.id, named, refl); bytes = bytes; version = version.0; got = got-made (Manifest m.id) bytes version now old new n k.nothing; unfit = inl e }, k'.nothing), k'.opened)
+        ((record { of_get = inl (m.id, named, refl); bytes = bytes; version = version.0; got = got-made by start (Manifest m.id) bytes version now old new n k.nothing; unfit = inl e }, k'.nothing), k'.opened)
 
     manifest-told : (m : ManifestRef) (ms : List ManifestRef) → Continues ms → (reply : Reply) (old new : List Event) → NamesManifest s.rows m.id → Known (got_chunk m ms) old → Makes by (Get (Manifest m.id)) reply old new
         → Leads Told by (on_answer (λ file. read_entry want m.id (rest ms) (entry_of node index file)) (manifest_told m.id reply)) new
@@ -206,7 +195,7 @@ module _ (L : SessionLaw) (by : Caller) (s : SessionState) (path index : List �
     manifest-told m ms go (Is_got (Found bytes version now)) old new named k n = file-told m ms go bytes version now old new named k n (read_manifest m.id bytes) refl
     manifest-told m ms go (Is_got (Absent now)) old new named k n =
         let k' = Known-makes (got_chunk m ms) (Manifest m.id) (Is_got (Absent now)) old new n k in
-        ((record { of_get = inl (m.id, named, refl); absent = absent-made (Manifest m.id) now old new n k.nothing }, k'.nothing), k'.opened)
+        ((record { of_get = inl (m.id, named, refl); absent = absent-made by start (Manifest m.id) now old new n k.nothing }, k'.nothing), k'.opened)
     manifest-told m ms go (Failed d) old new named k n =
         let k' = Known-makes (got_chunk m ms) (Manifest m.id) (Failed d) old new n k in
         (failed-made by (IsOfGet s) start (Get (Manifest m.id)) d old new (inl (m.id, named, refl)) n k.nothing, k'.opened)

@@ -8,32 +8,23 @@ use Rattle.changed_snapshot.specs.Laws.{KeepsFrozen}
 use Rattle.store_api.specs.declared.keys.Key.{Key}
 use Rattle.store_api.specs.declared.keys.Key.TheVariants.{Chunk}
 use Rattle.store_api.specs.declared.keys.Why.TheVariants.{Set}
-use Rattle.store_api.specs.declared.events.Op.TheVariants.{Get, PutNew}
-use Rattle.store_api.specs.declared.events.Got.TheVariants.{Found, Absent}
+use Rattle.store_api.specs.declared.events.Op.TheVariants.{PutNew}
 use Rattle.store_api.specs.declared.events.New.TheVariants.{Done as New_done, Present}
-use Rattle.store_api.specs.declared.events.Reply.TheVariants.{Got as Is_got, New as Is_new}
+use Rattle.store_api.specs.declared.events.Reply.TheVariants.{New as Is_new}
 use Rattle.store_api.specs.declared.events.Event.{Event}
 use Rattle.store_api.specs.declared.machines.Refusal.{Refusal}
 use Rattle.store_api.specs.declared.machines.Refusal.TheVariants as R
-use Rattle.store_api.specs.Machine.{version_at}
 use Rattle.store_api.specs.Journal.{Each, IsGood}
 use Rattle.store_api.specs.Callers.{Caller, IsOther}
 use Rattle.store_api.proofs.Programs.{good-waits}
 use Rattle.session.specs.declared.chunks.Value.{Value}
 use Rattle.session.specs.Sessions.{SessionState, overlay}
 use Rattle.session.specs.Chunks.{most_inline, with_chunk}
-use Rattle.store_api.specs.Telling.{WasAbsent, WasGot}
-use Rattle.store_api.proofs.Happening.{ChangedNothing-others, HasOwn-append}
+use Rattle.store_api.proofs.Happening.{ChangedNothing-others, HasOwn-append, WasGot-append, WasAbsent-append}
 use Rattle.commit_path.proofs.Lasting.{failed-others}
 use Rattle.chunk_calls.specs.Told.{WasPutOut, WasSet, WasObjectTaken, IsOfSet, SetRefused, SetTells, value_of, IsChunk, IsOfGet, WasNotThere, WasUnfit, GetRefused, GetTells}
 use Rattle.chunk_calls.specs.Laws.{TellsLaw}
 use Rattle.chunk_calls.proofs.Growing.{Surely-append}
-
-WasGot-append : (client : ℕ) (key : Key) (bytes : List ℕ) (version : ℕ) (start journal more : List Event) → WasGot client key bytes version start journal → WasGot client key bytes version start (journal ++ more)
-WasGot-append client key bytes version start journal more g = record { now = g.now; own = HasOwn-append client (Get key) (Is_got (Found bytes (version_at version) g.now)) start journal more g.own }
-
-WasAbsent-append : (client : ℕ) (key : Key) (start journal more : List Event) → WasAbsent client key start journal → WasAbsent client key start (journal ++ more)
-WasAbsent-append client key start journal more g = record { now = g.now; own = HasOwn-append client (Get key) (Is_got (Absent g.now)) start journal more g.own; nothing = g.nothing }
 
 -- ---- a set
 module _ (client : ℕ) (s : SessionState) (path index bytes : List ℕ) (start journal more : List Event) where

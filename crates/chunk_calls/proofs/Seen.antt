@@ -25,7 +25,8 @@ use Rattle.manifest_file.specs.declared.manifest.Place.{Place}
 use Rattle.held_manifest.specs.LookUp.{look_up}
 use Rattle.snapshot_file.specs.declared.nodes.ManifestRef.{ManifestRef}
 use Rattle.snapshot_file.specs.declared.nodes.NodeRow.{NodeRow}
-use Rattle.repo_objects.specs.Trees.{Puts, NamesManifest, bytes_at, node_of, nodes_in, row_at, manifests_of, listed, place_in, chunk_under}
+use Rattle.snapshot_file.specs.Snapshots.{manifests_named}
+use Rattle.repo_objects.specs.Trees.{Puts, NamesManifest, bytes_at, node_of, nodes_in, row_at, listed, place_in, chunk_under}
 use Rattle.changed_snapshot.specs.Rows.{manifests_for, own_manifests}
 use Rattle.changed_snapshot.specs.Laws.{KeepsFrozen}
 use Rattle.changed_snapshot.proofs.Found.{node_at_row}
@@ -107,13 +108,13 @@ listed_chunk puts node index manifests = option_and_then (bytes_at puts) (look_u
 
 module _ (puts : Puts) (index : List ℕ) where
   row-chunk : (row : NodeRow) (n : Node) (array : ArrayView) → row.id ≡ n.id → SameFrozen row.user_data n.text → array_in n.text ≡ Some array → length index ≡ length array.shape
-      → chunk_under puts index (Some row) ≡ listed_chunk puts n.id index (manifests_of row.kind)
+      → chunk_under puts index (Some row) ≡ listed_chunk puts n.id index (manifests_named row.kind)
   row-chunk row n array same frozen is rank =
       let b = earlier (view_in row.user_data) (view_in n.text) array frozen is in
       let test : (length index == length b.before.shape) ≡ true = eq-eqb _ _ (rank ∙ sym b.rank) in
       ap (λ (a : Option ArrayView). option_and_then (bytes_at puts) (place_in puts row index a)) b.is
-      ∙ ap (λ (t : Bool). option_and_then (bytes_at puts) (cond t (look_up row.id index (listed puts (manifests_of row.kind))) None)) test
-      ∙ ap (λ (id : Id8). listed_chunk puts id index (manifests_of row.kind)) same
+      ∙ ap (λ (t : Bool). option_and_then (bytes_at puts) (cond t (look_up row.id index (listed puts (manifests_named row.kind))) None)) test
+      ∙ ap (λ (id : Id8). listed_chunk puts id index (manifests_named row.kind)) same
 
   own-chunk : (rows : List NodeRow) (path : List ℕ) (n : Node) (array : ArrayView) → ((row : NodeRow) → row_at rows path ≡ Some row → row.id ≡ n.id → SameFrozen row.user_data n.text) → array_in n.text ≡ Some array → length index ≡ length array.shape
       → own_chunk (get (nodes_in rows) path) n.id (chunk_under puts index (row_at rows path)) ≡ listed_chunk puts n.id index (own_manifests rows path n.id)
@@ -121,7 +122,7 @@ module _ (puts : Puts) (index : List ℕ) where
       ap (λ (o : Option Node). own_chunk o n.id (chunk_under puts index (row_at rows path))) (node_at_row rows path)
       ∙ elim (row_at rows path) as (λ o. row_at rows path ≡ o → own_chunk (option_map node_of o) n.id (chunk_under puts index o) ≡ listed_chunk puts n.id index (manifests_for n.id o)) [
         | None ↦ λ f. refl
-        | Some row ↦ λ f. elim (same_id8 row.id n.id) as (λ b. same_id8 row.id n.id ≡ b → cond b (chunk_under puts index (Some row)) None ≡ listed_chunk puts n.id index (cond b (manifests_of row.kind) [])) [
+        | Some row ↦ λ f. elim (same_id8 row.id n.id) as (λ b. same_id8 row.id n.id ≡ b → cond b (chunk_under puts index (Some row)) None ≡ listed_chunk puts n.id index (cond b (manifests_named row.kind) [])) [
           | true ↦ λ t. let same = same_id8-true row.id n.id t in row-chunk row n array same (frozen row f same) is rank
           | false ↦ λ t. refl
         ] refl
@@ -160,8 +161,8 @@ pub own-named : (rows : List NodeRow) (path : List ℕ) (node : Id8) → AllName
 own-named rows path node =
     elim (row_at rows path) as (λ o. row_at rows path ≡ o → AllNamed rows (manifests_for node o)) [
       | None ↦ λ f. tt
-      | Some row ↦ λ f. elim (same_id8 row.id node) as (λ b. AllNamed rows (cond b (manifests_of row.kind) [])) [
-        | true ↦ each-named rows (manifests_of row.kind) (λ m c. record { row = row; among = find-contains (λ (x : NodeRow). same_path x.path path) rows row f; manifest = m; named = c; is = refl })
+      | Some row ↦ λ f. elim (same_id8 row.id node) as (λ b. AllNamed rows (cond b (manifests_named row.kind) [])) [
+        | true ↦ each-named rows (manifests_named row.kind) (λ m c. record { row = row; among = find-contains (λ (x : NodeRow). same_path x.path path) rows row f; manifest = m; named = c; is = refl })
         | false ↦ tt
       ]
     ] refl

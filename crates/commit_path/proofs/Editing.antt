@@ -26,7 +26,7 @@ use Rattle.zarr_tree.proofs.NodeLaws.{frozen-trans}
 use Rattle.zarr_tree.proofs.Apply.{id-true, Own, node_cases}
 use Rattle.zarr_tree.proofs.Extend.{own-id, Kept, kept_of}
 use Rattle.zarr_tree.proofs.Over.{over-law}
-use Rattle.zarr_changes.specs.Edits.{with_added, with_text_at, without_node, with_entry, without_entry}
+use Rattle.zarr_changes.specs.Edits.{with_added, with_text_at, without_node}
 use Rattle.zarr_changes.specs.Edits as held
 use Rattle.zarr_changes.specs.Sets.{add_refusal, text_refusal, drop_refusal}
 use Rattle.zarr_changes.proofs.EditLaws.{text-law}

@@ -11,7 +11,8 @@ use Rattle.snapshot_file.specs.declared.nodes.NodeKind.TheVariants.{Group, Array
 use Rattle.snapshot_file.specs.declared.nodes.NodeRow.{NodeRow}
 use Rattle.snapshot_file.specs.Layout.{IsExtent, IsNode, IsKind}
 use Rattle.snapshot_file.specs.Layout as layout
-use Rattle.repo_objects.specs.Trees.{NamesManifest, manifests_of, row_at}
+use Rattle.snapshot_file.specs.Snapshots.{manifests_named}
+use Rattle.repo_objects.specs.Trees.{NamesManifest, row_at}
 use Rattle.store_api.proofs.SameTree.{find-contains}
 use Rattle.changed_snapshot.proofs.Found.{row_has}
 use Rattle.session.specs.Sessions.{SessionState}
@@ -22,11 +23,11 @@ none-there : {A : Type 0} (m : A) → ¬ Contains [] m
 none-there m c = absurd (omega (arith, c.1))
 
 -- the manifests of a row that is found
-own-row : (rows : List NodeRow) (node : Id8) (o : Option NodeRow) (m : ManifestRef) → Contains (manifests_for node o) m → (row : NodeRow) × (o ≡ Some row) × Contains (manifests_of row.kind) m
+own-row : (rows : List NodeRow) (node : Id8) (o : Option NodeRow) (m : ManifestRef) → Contains (manifests_for node o) m → (row : NodeRow) × (o ≡ Some row) × Contains (manifests_named row.kind) m
 own-row rows node None m c = absurd (none-there m c)
 own-row rows node (Some row) m c = by_id (same_id8 row.id node) c
   where
-    by_id : (b : Bool) → Contains (cond b (manifests_of row.kind) []) m → (r : NodeRow) × (Some row ≡ Some r) × Contains (manifests_of r.kind) m
+    by_id : (b : Bool) → Contains (cond b (manifests_named row.kind) []) m → (r : NodeRow) × (Some row ≡ Some r) × Contains (manifests_named r.kind) m
     by_id true c = (row, refl, c)
     by_id false c = absurd (none-there m c)
 
@@ -36,7 +37,7 @@ own-named rows p node m c =
     let r = own-row rows node (row_at rows p) m c in
     record { row = r.0; among = find-contains (λ (row : NodeRow). same_path row.path p) rows r.0 r.1; manifest = m; named = r.2; is = refl }
 
-kind-sized : (kind : NodeKind) (m : ManifestRef) → IsKind kind → Contains (manifests_of kind) m → layout.IsManifest m
+kind-sized : (kind : NodeKind) (m : ManifestRef) → IsKind kind → Contains (manifests_named kind) m → layout.IsManifest m
 kind-sized Group m k c = absurd (none-there m c)
 kind-sized (Array shape names manifests) m k c = All-contains layout.IsManifest manifests m (All-from_recursion layout.IsManifest manifests k.manifests_are) c
 

@@ -21,7 +21,8 @@ use Rattle.held_manifest.specs.LookUp.{Listed, look_up, chunk_place}
 use Rattle.manifest_index.specs.Merging.{merged}
 use Rattle.snapshot_file.specs.declared.nodes.ManifestRef.{ManifestRef}
 use Rattle.snapshot_file.specs.declared.nodes.NodeRow.{NodeRow}
-use Rattle.repo_objects.specs.Trees.{Puts, manifest_put, or_empty, listed, bytes_at, place_in, place_under, nodes_in, node_of, row_at, manifests_of, Extends, IsReadable}
+use Rattle.snapshot_file.specs.Snapshots.{manifests_named}
+use Rattle.repo_objects.specs.Trees.{Puts, manifest_put, or_empty, listed, bytes_at, place_in, place_under, nodes_in, node_of, row_at, Extends, IsReadable}
 use Rattle.changed_snapshot.specs.declared.written.NewList.{NewList}
 use Rattle.changed_snapshot.specs.Rows.{refs_of, manifests_for, own_manifests, kind_of, row_of, row_from, rows_over}
 use Rattle.changed_snapshot.specs.Laws.{KeepsFrozen}
@@ -45,7 +46,7 @@ none-among x c = let below = c.1 in omega (arith, below)
 -- ---- one row
 -- all that a row names is readable
 pub record RowIsReadable (puts : Puts) (row : NodeRow) : Type 0 where
-  pub manifests : (m : ManifestRef) → Contains (manifests_of row.kind) m → IsSome (manifest_put puts m.id)
+  pub manifests : (m : ManifestRef) → Contains (manifests_named row.kind) m → IsSome (manifest_put puts m.id)
   pub chunks : (i : List ℕ) (place : Place) → place_under puts row i ≡ Some place → IsSome (bytes_at puts place)
 
 module _ (puts : Puts) where
@@ -56,7 +57,7 @@ module _ (puts : Puts) where
     abbrev HasPlaces : Type 0
     HasPlaces = (array : ArrayView) → array_in n.text ≡ Some array → (i : List ℕ) (place : Place) → chunk_place (length array.shape) n.id i (listed puts refs) ≡ Some place → IsSome (bytes_at puts place)
 
-    named-manifests : AreThere refs → (a : Option ArrayView) → AreThere (manifests_of (kind_of a refs))
+    named-manifests : AreThere refs → (a : Option ArrayView) → AreThere (manifests_named (kind_of a refs))
     named-manifests there None m c = absurd (none-among m c)
     named-manifests there (Some array) m c = there m c
 
@@ -83,7 +84,7 @@ module _ (puts : Puts) where
 
   module _ (row : NodeRow) (n : Node) (same : row.id ≡ n.id) (array : ArrayView) (i : List ℕ) (place : Place) where
     by_view : (m v : Option View) → view_change m v ≡ None → array_of_view v ≡ Some array → (place_in puts row i (array_of_view m) ≡ Some place → IsSome (bytes_at puts place))
-        → chunk_place (length array.shape) n.id i (listed puts (manifests_of row.kind)) ≡ Some place → IsSome (bytes_at puts place)
+        → chunk_place (length array.shape) n.id i (listed puts (manifests_named row.kind)) ≡ Some place → IsSome (bytes_at puts place)
     by_view m None h e f k = absurd cc
     by_view m (Some view.Group) h e f k = absurd cc
     by_view None (Some (view.Array b)) h e f k = absurd cc
@@ -91,16 +92,16 @@ module _ (puts : Puts) where
     by_view (Some (view.Array a)) (Some (view.Array b)) h e f k =
         let is : b ≡ array = cc in
         let rank : length a.shape ≡ length array.shape = same_rank a b h ∙ ap (λ (v : ArrayView). length v.shape) is in
-        f ((λ j. chunk_place (rank j) (same j) i (listed puts (manifests_of row.kind))) ∙ k)
+        f ((λ j. chunk_place (rank j) (same j) i (listed puts (manifests_named row.kind))) ∙ k)
 
     -- a place that the base's manifests give for the same node with another text
     same-node : SameFrozen row.user_data n.text → array_in n.text ≡ Some array → (place_under puts row i ≡ Some place → IsSome (bytes_at puts place))
-        → chunk_place (length array.shape) n.id i (listed puts (manifests_of row.kind)) ≡ Some place → IsSome (bytes_at puts place)
+        → chunk_place (length array.shape) n.id i (listed puts (manifests_named row.kind)) ≡ Some place → IsSome (bytes_at puts place)
     same-node frozen e f k = by_view (view_in row.user_data) (view_in n.text) frozen e f k
 
   module _ (rows : List NodeRow) (base : IsReadable puts rows) (p : List ℕ) (n : Node) (frozen : (row : NodeRow) → row_at rows p ≡ Some row → row.id ≡ n.id → SameFrozen row.user_data n.text) where
     base-chunk : (array : ArrayView) → array_in n.text ≡ Some array → (i : List ℕ) (place : Place) → (row : NodeRow) → row_at rows p ≡ Some row → row.id ≡ n.id
-        → chunk_place (length array.shape) n.id i (listed puts (manifests_of row.kind)) ≡ Some place → IsSome (bytes_at puts place)
+        → chunk_place (length array.shape) n.id i (listed puts (manifests_named row.kind)) ≡ Some place → IsSome (bytes_at puts place)
     base-chunk array e i place row there same k = same-node row n same array i place (frozen row there same) e (base.chunks p i row place there) k
 
     pub own-chunk : (array : ArrayView) → array_in n.text ≡ Some array → (i : List ℕ) (place : Place) → chunk_place (length array.shape) n.id i (listed puts (own_manifests rows p n.id)) ≡ Some place → IsSome (bytes_at puts place)
@@ -108,7 +109,7 @@ module _ (puts : Puts) where
       where
         by_row : (o : Option NodeRow) → row_at rows p ≡ o → chunk_place (length array.shape) n.id i (listed puts (manifests_for n.id o)) ≡ Some place → IsSome (bytes_at puts place)
         by_row None there k = let none = no-chunks (length array.shape) n.id i in absurd cc
-        by_row (Some row) there k = elim (same_id8 row.id n.id) as (λ b. same_id8 row.id n.id ≡ b → chunk_place (length array.shape) n.id i (listed puts (cond b (manifests_of row.kind) [])) ≡ Some place → IsSome (bytes_at puts place)) [
+        by_row (Some row) there k = elim (same_id8 row.id n.id) as (λ b. same_id8 row.id n.id ≡ b → chunk_place (length array.shape) n.id i (listed puts (cond b (manifests_named row.kind) [])) ≡ Some place → IsSome (bytes_at puts place)) [
           | true ↦ λ s h. base-chunk array e i place row there (id-true row.id n.id s) h
           | false ↦ λ s h. let none = no-chunks (length array.shape) n.id i in absurd cc
         ] refl k
@@ -117,13 +118,13 @@ module _ (puts : Puts) where
     row-kept : RowIsReadable puts (row_from p n (row_at rows p))
     row-kept = by_row (row_at rows p) refl
       where
-        by_text : (row : NodeRow) → row_at rows p ≡ Some row → row.id ≡ n.id → (b : Bool) → RowIsReadable puts (cond b row (row_of p n (manifests_of row.kind)))
+        by_text : (row : NodeRow) → row_at rows p ≡ Some row → row.id ≡ n.id → (b : Bool) → RowIsReadable puts (cond b row (row_of p n (manifests_named row.kind)))
         by_text row there same true = record { manifests = λ m c. base.manifests p row m there c; chunks = λ i place k. base.chunks p i row place there k }
-        by_text row there same false = row-of p n (manifests_of row.kind) (λ m c. base.manifests p row m there c) (λ array e i place k. base-chunk array e i place row there same k)
+        by_text row there same false = row-of p n (manifests_named row.kind) (λ m c. base.manifests p row m there c) (λ array e i place k. base-chunk array e i place row there same k)
 
         by_row : (o : Option NodeRow) → row_at rows p ≡ o → RowIsReadable puts (row_from p n o)
         by_row None there = row-bare p n
-        by_row (Some row) there = elim (same_id8 row.id n.id) as (λ b. same_id8 row.id n.id ≡ b → RowIsReadable puts (cond b (cond (bytes_eq row.user_data n.text) row (row_of p n (manifests_of row.kind))) (row_of p n []))) [
+        by_row (Some row) there = elim (same_id8 row.id n.id) as (λ b. same_id8 row.id n.id ≡ b → RowIsReadable puts (cond b (cond (bytes_eq row.user_data n.text) row (row_of p n (manifests_named row.kind))) (row_of p n []))) [
           | true ↦ λ s. by_text row there (id-true row.id n.id s) (bytes_eq row.user_data n.text)
           | false ↦ λ s. row-bare p n
         ] refl
@@ -195,12 +196,12 @@ module _ (p q : Puts) (more : Extends p q) where
       let same : manifest_put q m.id ≡ manifest_put p m.id = more.manifests m.id x.0 x.1 ∙ sym x.1 in
       λ j. (m.extents, or_empty m.id (same j)) ∷ listed-same ms (λ n c. h n (there n m ms c)) j
 
-  place-same : (row : NodeRow) (i : List ℕ) → ((m : ManifestRef) → Contains (manifests_of row.kind) m → IsSome (manifest_put p m.id)) → place_under q row i ≡ place_under p row i
+  place-same : (row : NodeRow) (i : List ℕ) → ((m : ManifestRef) → Contains (manifests_named row.kind) m → IsSome (manifest_put p m.id)) → place_under q row i ≡ place_under p row i
   place-same row i h = by_array (array_in row.user_data)
     where
       by_array : (a : Option ArrayView) → place_in q row i a ≡ place_in p row i a
       by_array None = refl
-      by_array (Some array) = ap (chunk_place (length array.shape) row.id i) (listed-same (manifests_of row.kind) h)
+      by_array (Some array) = ap (chunk_place (length array.shape) row.id i) (listed-same (manifests_named row.kind) h)
 
   pub readable-extend : (rows : List NodeRow) → IsReadable p rows → IsReadable q rows
   readable-extend rows r = record {

@@ -21,9 +21,9 @@ use Rattle.store_api.specs.Journal.{Each}
 use Rattle.store_api.specs.Callers.{Caller, IsOther, Makes}
 use Rattle.store_api.specs.Program.{Prog, Done, Ask, Leads}
 use Rattle.store_api.specs.Running.{on_answer}
-use Rattle.store_api.specs.Telling.{ChangedNothing, GetsOf, SnapshotWasBad, WasAbsent}
+use Rattle.store_api.specs.Telling.{ChangedNothing, GetsOf, WasAbsent}
 use Rattle.store_api.proofs.Programs.{Leads-bind, Leads-weaker}
-use Rattle.store_api.proofs.Happening.{ChangedNothing-others, failed-made, got-nothing, got-made, absent-made, WasGot-append, WasAbsent-append}
+use Rattle.store_api.proofs.Happening.{ChangedNothing-others, failed-made, got-nothing, got-made, absent-made, WasGot-append, WasAbsent-append, RefWasBad-append}
 use Rattle.repo_read.specs.declared.resolving.At.{At}
 use Rattle.repo_read.specs.declared.resolving.Named.{Named}
 use Rattle.repo_read.specs.Answers.{at_key}
@@ -31,10 +31,10 @@ use Rattle.repo_read.specs.Resolving.{resolve_at_program, base_told}
 use Rattle.repo_read.specs.Naming.{WasResolved, IsNaming, NamingTells, key_of}
 use Rattle.repo_read.proofs.Replies.{got-cases}
 use Rattle.repo_read.proofs.Namings.{WasResolved-append, WasResolved-makes}
-use Rattle.repo_read.proofs.NamingTold.{WasNothing-append, RefWasBad-append, naming-told}
+use Rattle.repo_read.proofs.NamingTold.{WasNothing-append, TargetWasBad-append, naming-told}
 use Rattle.session.specs.Sessions.{SessionState}
 use Rattle.session.specs.Opening.{Asked, open_program, base_program}
-use Rattle.commit_path.specs.Opened.{WasBegun, BaseWasAbsent, WasMissing, WasUnread, IsOfOpening, RefusalTells}
+use Rattle.commit_path.specs.Opened.{WasBegun, BaseWasAbsent, WasMissing, IsOfOpening, RefusalTells}
 use Rattle.commit_path.proofs.Lasting.{failed-others}
 use Rattle.commit_path.proofs.Sooner.{gets-change_nothing, resolved-sooner, nothing-sooner, unnamed-sooner, failure-sooner}
 use Rattle.commit_path.proofs.Opened.{after_base, base-found, base-failed}
@@ -59,15 +59,9 @@ WasBegun-append client a s start journal more b = record {
   begins = b.begins;
 }
 
-SnapshotWasBad-append : (client : ℕ) (id : Id12) (key : Key) (bad : Bad) (start journal more : List Event) → SnapshotWasBad client id key bad start journal → SnapshotWasBad client id key bad start (journal ++ more)
-SnapshotWasBad-append client id key bad start journal more w = record { key_is = w.key_is; bytes = w.bytes; version = w.version; got = WasGot-append client (Snapshot id) w.bytes w.version start journal more w.got; unread = w.unread }
-
 module _ (client : ℕ) (at : At) (start journal more : List Event) where
   WasMissing-append : (key : Key) → WasMissing client at key start journal → WasMissing client at key start (journal ++ more)
   WasMissing-append key b = record { by_ref = b.by_ref; named = b.named; resolved = WasResolved-append client at b.named start journal more b.resolved; key_is = b.key_is; absent = WasAbsent-append client (Snapshot b.named.id) start journal more b.absent }
-
-  WasUnread-append : (key : Key) (bad : Bad) → WasUnread client at key bad start journal → WasUnread client at key bad start (journal ++ more)
-  WasUnread-append key bad b = record { named = b.named; resolved = WasResolved-append client at b.named start journal more b.resolved; unread = SnapshotWasBad-append client b.named.id key bad start journal more b.unread }
 
 absent-append : (client : ℕ) (at : At) (start journal more : List Event) → BaseWasAbsent client at start journal → BaseWasAbsent client at start (journal ++ more)
 absent-append client (At.Branch name) start journal more w = absurd w
@@ -82,7 +76,7 @@ module _ (by : Caller) (a : Asked) (start journal more : List Event) (others : E
   pub RefusalTells-others : (why : Refusal) → RefusalTells by.number a start why journal → RefusalTells by.number a start why (journal ++ more)
   RefusalTells-others R.NoRef t = (either (WasNothing-append by.number a.at start journal more) (absent-append by.number a.at start journal more) t.0, ChangedNothing-others by start journal more others t.1)
   RefusalTells-others (R.Missing key) t = (WasMissing-append by.number a.at start journal more key t.0, ChangedNothing-others by start journal more others t.1)
-  RefusalTells-others (R.BadFile key bad) t = (either (RefWasBad-append by.number (key_of a.at) key bad start journal more) (WasUnread-append by.number a.at start journal more key bad) t.0, ChangedNothing-others by start journal more others t.1)
+  RefusalTells-others (R.BadFile key bad) t = (either (RefWasBad-append by.number (key_of a.at) key bad start journal more) (TargetWasBad-append by.number a.at key bad start journal more) t.0, ChangedNothing-others by start journal more others t.1)
   RefusalTells-others R.StoreFault t = failed-others by start journal more others (IsOfOpening a) t
   RefusalTells-others R.NoMemory t = ChangedNothing-others by start journal more others t
   RefusalTells-others _ t = absurd t

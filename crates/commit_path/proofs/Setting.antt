@@ -12,7 +12,7 @@ use Rattle.zarr_tree.proofs.ViewLaws.{in_grid_is}
 use Rattle.zarr_tree.specs.Nodes.{Node, array_in, in_grid, are_low}
 use Rattle.zarr_tree.specs.Edits.{at_node, at_array}
 use Rattle.zarr_tree.specs.Held.{Entry}
-use Rattle.zarr_changes.specs.Edits.{with_added, with_text_at, without_node, with_entry, without_entry}
+use Rattle.zarr_changes.specs.Edits.{with_entry, without_entry}
 use Rattle.zarr_changes.specs.Edits as held
 use Rattle.zarr_changes.specs.Sets.{set_refusal, unset_refusal, length_of}
 use Rattle.manifest_file.specs.declared.manifest.Place.{Place}

@@ -83,7 +83,7 @@ HasPutNone-others by start journal more others c = record {
 }
 
 -- nor does an own operation that puts none
-HasPutNone-makes : (by : Caller) (start : List Event) (op : Op) (reply : Reply) (old new : List Event) → (m : Makes by op reply old new) → ¬ PutsSnapshot op → HasPutNone by.number start old → HasPutNone by.number start new
+pub HasPutNone-makes : (by : Caller) (start : List Event) (op : Op) (reply : Reply) (old new : List Event) → (m : Makes by op reply old new) → ¬ PutsSnapshot op → HasPutNone by.number start old → HasPutNone by.number start new
 HasPutNone-makes by start op reply old new m none c =
     let w = subst (λ (h : List Event). HasPutNone by.number start h) (sym m.waits.is) (HasPutNone-others by start old m.waits.between m.waits.others c) in
     let event : Event = own_event by op reply m.time in

@@ -7,7 +7,6 @@ use Rattle.zarr_tree.specs.Held.{Entry, entry_in}
 use Rattle.manifest_file.specs.declared.manifest.Place.{Place}
 use Rattle.manifest_file.specs.declared.manifest.Place.TheVariants.{Object}
 use Rattle.snapshot_file.specs.declared.snapshot.SnapshotFile.{SnapshotFile}
-use Rattle.repo_objects.specs.declared.bad.Bad.{Bad}
 use Rattle.repo_objects.specs.Readings.{snapshot_by, ref_of}
 use Rattle.store_api.specs.declared.keys.Key.{Key}
 use Rattle.store_api.specs.declared.keys.Key.TheVariants.{Snapshot, Chunk, Branch}
@@ -17,10 +16,10 @@ use Rattle.store_api.specs.declared.events.Event.{Event}
 use Rattle.store_api.specs.declared.machines.Refusal.{Refusal}
 use Rattle.store_api.specs.declared.machines.Refusal.TheVariants.{NoRef, Missing, BadFile, StoreFault, NoMemory}
 use Rattle.store_api.specs.Journal.{WasPut, StoodAt, HadRows, puts_of, rows_of, IsOnce}
-use Rattle.store_api.specs.Telling.{ChangedNothing, WasAbsent, WasFailed, WasGot, SnapshotWasBad, GetsOf}
+use Rattle.store_api.specs.Telling.{ChangedNothing, WasAbsent, WasFailed, WasGot, GetsOf}
 use Rattle.repo_read.specs.declared.resolving.At.{At}
 use Rattle.repo_read.specs.declared.resolving.Named.{Named}
-use Rattle.repo_read.specs.Naming.{WasResolved, WasNothing, WasUnnamed, IsNaming}
+use Rattle.repo_read.specs.Naming.{WasResolved, WasNothing, WasUnnamed, IsNaming, TargetWasBad}
 use Rattle.session.specs.declared.tip.Tip.{Tip}
 use Rattle.session.specs.Sessions.{SessionState}
 use Rattle.session.specs.Opening.{Asked, begun}
@@ -84,12 +83,6 @@ pub record WasMissing (client : ℕ) (at : At) (key : Key) (start journal : List
   pub key_is : key ≡ Snapshot named.id
   pub absent : WasAbsent client (Snapshot named.id) start journal
 
--- what was named is a snapshot that isn't readable, for this cause
-pub record WasUnread (client : ℕ) (at : At) (key : Key) (bad : Bad) (start journal : List Event) : Type 0 where
-  pub named : Named
-  pub resolved : WasResolved client at named start journal
-  pub unread : SnapshotWasBad client named.id key bad start journal
-
 -- an operation of an opening: a get of what names the snapshot that was asked for, or that of a snapshot
 abbrev pub IsOfOpening : Asked → Op → Type 0
 IsOfOpening a op = GetsOf (IsNaming a.at) op ⊎ ((id : Id12) × (op ≡ Get (Snapshot id)))
@@ -98,7 +91,7 @@ IsOfOpening a op = GetsOf (IsNaming a.at) op ⊎ ((id : Id12) × (op ≡ Get (Sn
 abbrev pub RefusalTells : ℕ → Asked → List Event → Refusal → List Event → Type 0
 RefusalTells client a start NoRef journal = (WasNothing client a.at start journal ⊎ BaseWasAbsent client a.at start journal) × ChangedNothing client start journal
 RefusalTells client a start (Missing key) journal = WasMissing client a.at key start journal × ChangedNothing client start journal
-RefusalTells client a start (BadFile key bad) journal = (WasUnnamed client a.at key bad start journal ⊎ WasUnread client a.at key bad start journal) × ChangedNothing client start journal
+RefusalTells client a start (BadFile key bad) journal = (WasUnnamed client a.at key bad start journal ⊎ TargetWasBad client a.at key bad start journal) × ChangedNothing client start journal
 RefusalTells client a start StoreFault journal = WasFailed client (IsOfOpening a) start journal
 RefusalTells client a start NoMemory journal = ChangedNothing client start journal
 RefusalTells client a start _ journal = ⊥

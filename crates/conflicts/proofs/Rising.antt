@@ -1,12 +1,12 @@
 -- What is found stands in order.
-use Rattle.std.proofs.Common.{◌≡◌, ◌≢◌, ◌∙◌, ℕ, ◌<◌, ◌≤◌, nat_lt, Bool, true, false, cond, ◌&&◌, T, is_some, List, [], ◌∷◌, ◌++◌, map, Option, Some, None, refl, sym, ap, subst, ◌⊎◌, inl, inr, arith}
+use Rattle.std.proofs.Common.{◌≡◌, ◌∙◌, ℕ, ◌<◌, nat_lt, Bool, true, false, cond, ◌&&◌, is_some, List, [], ◌∷◌, ◌++◌, map, Some, None, refl, sym, ap, subst, ◌⊎◌, inl, inr, arith}
 use Rattle.std.specs.Ordering.{is_lt, ordering_reverse}
 use Rattle.std.specs.declared.cmp.Ordering.{Ordering}
 use Rattle.std.specs.declared.cmp.Ordering.TheVariants.{Less, Equal, Greater}
 use Rattle.std.specs.Cmp.{tied_itself}
 use Rattle.std.specs.List.{list_all, filter, flat_map, AllByRecursion}
 use Rattle.std.specs.List.Sorted.{IsStrictlySortedBy}
-use Rattle.std.specs.FinMap.{FinMap, keys, entries, entries_sorted, is_sorted}
+use Rattle.std.specs.FinMap.{keys, entries, entries_sorted}
 use Rattle.ice_ids.specs.declared.Id8.{Id8}
 use Rattle.ice_ids.specs.Text.{same_id8, id8_cmp}
 use Rattle.zarr_path.specs.Indices.{index_cmp}
@@ -21,7 +21,8 @@ use Rattle.zarr_tree.specs.Touched.{IdsAscend, IndicesAscend, IsOrdered}
 use Rattle.zarr_tree.specs.Held.{Rows, entry_in}
 use Rattle.zarr_tree.proofs.Apply.{id-true, first, second}
 use Rattle.zarr_changes.proofs.IdLaws.{id_total}
-use Rattle.conflicts.specs.Order.{number, Precedes, Ascend}
+use Rattle.zarr_tree.specs.Cases.{number}
+use Rattle.conflicts.specs.Order.{Precedes, Ascend}
 use Rattle.conflicts.specs.Found.{Sides, is_taken, if_so, of_added, chunks_listed, holds, twice, of_case, node_cases, of_row, rows_before, rows_from, found_in, found}
 use Rattle.conflicts.specs.Laws.{AscendLaw}
 use Rattle.conflicts.proofs.Members.{In, contains-in, InTurn, in-append, in-flat, turn-append, turn-filter, turn-map, turn-flat}

@@ -3,22 +3,8 @@ use Rattle.std.specs.Prelude.{◌≡◌, ◌⊎◌, ℕ, ◌<◌, List, [], ◌�
 use Rattle.std.specs.declared.cmp.Ordering.TheVariants.{Less}
 use Rattle.zarr_path.specs.Paths.{path_cmp}
 use Rattle.zarr_path.specs.Indices.{index_cmp}
-use Rattle.zarr_tree.specs.declared.cases.Case.{Case}
-use Rattle.zarr_tree.specs.declared.cases.Case.TheVariants as case
+use Rattle.zarr_tree.specs.Cases.{number}
 use Rattle.zarr_tree.specs.declared.cases.Conflict.{Conflict}
-
--- the number of a case
-abbrev pub number : Case → ℕ
-number case.NewNodeConflictsWithExistingNode = 1
-number case.NewNodeInInvalidGroup = 2
-number case.ZarrMetadataDoubleUpdate = 3
-number case.ZarrMetadataUpdateOfDeletedArray = 4
-number case.ZarrMetadataUpdateOfDeletedGroup = 5
-number case.ChunkDoubleUpdate = 6
-number case.ChunksUpdatedInDeletedArray = 7
-number case.ChunksUpdatedInUpdatedArray = 8
-number case.DeleteOfUpdatedArray = 9
-number case.DeleteOfUpdatedGroup = 10
 
 -- no index stands before an index
 abbrev pub IndexPrecedes : (a b : Option (List ℕ)) → Type 0

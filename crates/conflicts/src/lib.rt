@@ -3,7 +3,6 @@
 //! The functions that end in `law` do nothing: the contract of each is a law on which other crates may stand.
 #![tactic(auto)]
 
-mod cases;
 mod detecting;
 mod ids;
 mod laws;
@@ -16,7 +15,6 @@ mod solving;
 #[cfg(test)]
 mod tests;
 
-pub use cases::number;
 pub use detecting::detect;
 pub use laws::{ascend_law, commuting_law, exact_law, given_law, solved_law};
 pub use solving::{ChunkPlace, Pick, Policy, Solved, keys_at, solve};

@@ -2,7 +2,7 @@
 //! it.
 
 use crate::shelf::{Shelf, under};
-use crate::{Pick, Policy, Solved, detect, keys_at, number, solve};
+use crate::{Pick, Policy, Solved, detect, keys_at, solve};
 use ice_base::Bytes;
 use ice_ids::Id8;
 use ice_items::Items;
@@ -114,7 +114,7 @@ fn conflicts(alloc: Global, ours: &[Edit], theirs: &[Edit]) -> Result<Items<Conf
 fn told(alloc: Global, conflicts: &[Conflict]) -> Result<String, Fail> {
     let mut text = String::new(alloc);
     for conflict in conflicts {
-        write!(text, "{}:{}", number(conflict.case), conflict.path)?;
+        write!(text, "{}:{}", conflict.case.number(), conflict.path)?;
         if let Some(index) = &conflict.index {
             write!(text, ":{:?}", index.parts())?;
         }

@@ -15,7 +15,8 @@ use Rattle.held_manifest.specs.LookUp.{look_up}
 use Rattle.snapshot_file.specs.declared.nodes.ManifestRef.{ManifestRef}
 use Rattle.snapshot_file.specs.declared.nodes.NodeRow.{NodeRow}
 use Rattle.repo_objects.specs.Readings.{manifest_by}
-use Rattle.repo_objects.specs.Trees.{manifest_put, listed, bytes_at, node_of, row_at, manifests_of, HasTree}
+use Rattle.snapshot_file.specs.Snapshots.{manifests_named}
+use Rattle.repo_objects.specs.Trees.{manifest_put, listed, bytes_at, node_of, row_at, HasTree}
 use Rattle.changed_snapshot.specs.Rows.{manifests_for, own_manifests}
 use Rattle.changed_snapshot.specs.Laws.{KeepsFrozen}
 use Rattle.changed_snapshot.proofs.Found.{node_at_row}
@@ -135,7 +136,7 @@ pub record IsOfBase (rows : List NodeRow) (m : ManifestRef) : Type 0 where
   pub path : List ℕ
   pub row : NodeRow
   pub there : row_at rows path ≡ Some row
-  pub named : Contains (manifests_of row.kind) m
+  pub named : Contains (manifests_named row.kind) m
 
 abbrev pub AreOfBase : List NodeRow → List ManifestRef → Type 0
 AreOfBase rows [] = Unit {0}
@@ -150,8 +151,8 @@ own-of-base rows path node = by_row (row_at rows path) refl
   where
     by_row : (o : Option NodeRow) → row_at rows path ≡ o → AreOfBase rows (manifests_for node o)
     by_row None f = tt
-    by_row (Some row) f = elim (same_id8 row.id node) as (λ b. AreOfBase rows (cond b (manifests_of row.kind) [])) [
-      | true ↦ each-of rows (manifests_of row.kind) (λ m c. record { path = path; row = row; there = f; named = c })
+    by_row (Some row) f = elim (same_id8 row.id node) as (λ b. AreOfBase rows (cond b (manifests_named row.kind) [])) [
+      | true ↦ each-of rows (manifests_named row.kind) (λ m c. record { path = path; row = row; there = f; named = c })
       | false ↦ tt
     ]
 

@@ -10,9 +10,8 @@ use Rattle.zarr_meta.specs.declared.views.ArrayView.{ArrayView}
 use Rattle.zarr_tree.specs.Nodes.{Node, array_in}
 use Rattle.zarr_tree.specs.Trees.{Tree, IsWellFormed}
 use Rattle.snapshot_file.specs.declared.nodes.ManifestRef.{ManifestRef}
-use Rattle.snapshot_file.specs.declared.nodes.NodeKind.{NodeKind}
-use Rattle.snapshot_file.specs.declared.nodes.NodeKind.TheVariants.{Group, Array}
 use Rattle.snapshot_file.specs.declared.nodes.NodeRow.{NodeRow}
+use Rattle.snapshot_file.specs.Snapshots.{manifests_named}
 use Rattle.manifest_file.specs.declared.manifest.Place.{Place}
 use Rattle.manifest_file.specs.declared.manifest.Place.TheVariants.{Inline, Object}
 use Rattle.manifest_file.specs.declared.manifest.ManifestFile.{ManifestFile}
@@ -34,11 +33,6 @@ nodes_in rows = from_entries (map (λ row. (row.path, node_of row)) rows)
 -- the row at a path
 abbrev pub row_at : List NodeRow → List ℕ → Option NodeRow
 row_at rows p = find (λ row. same_path row.path p) rows
-
--- the manifests that an array names
-abbrev pub manifests_of : NodeKind → List ManifestRef
-manifests_of Group = []
-manifests_of (Array shape names manifests) = manifests
 
 -- ---- chunks
 
@@ -76,7 +70,7 @@ listed puts manifests = map (λ m. (m.extents, or_empty m.id (manifest_put puts 
 -- where a row's chunk is, if it is an array's
 abbrev pub place_in : Puts → NodeRow → List ℕ → Option ArrayView → Option Place
 place_in puts row i None = None
-place_in puts row i (Some array) = chunk_place (length array.shape) row.id i (listed puts (manifests_of row.kind))
+place_in puts row i (Some array) = chunk_place (length array.shape) row.id i (listed puts (manifests_named row.kind))
 
 abbrev pub place_under : Puts → NodeRow → List ℕ → Option Place
 place_under puts row i = place_in puts row i (array_in row.user_data)
@@ -92,7 +86,7 @@ pub record NamesManifest (rows : List NodeRow) (id : Id12) : Type 0 where
   pub row : NodeRow
   pub among : Contains rows row
   pub manifest : ManifestRef
-  pub named : Contains (manifests_of row.kind) manifest
+  pub named : Contains (manifests_named row.kind) manifest
   pub is : manifest.id ≡ id
 
 -- a manifest has a chunk in an object
@@ -116,7 +110,7 @@ tree_under puts rows = record {
 
 -- all that the rows name was put and is readable: their manifests, and the bytes at the places of their chunks
 pub record IsReadable (puts : Puts) (rows : List NodeRow) : Type 0 where
-  pub manifests : (p : List ℕ) (row : NodeRow) (m : ManifestRef) → row_at rows p ≡ Some row → Contains (manifests_of row.kind) m → IsSome (manifest_put puts m.id)
+  pub manifests : (p : List ℕ) (row : NodeRow) (m : ManifestRef) → row_at rows p ≡ Some row → Contains (manifests_named row.kind) m → IsSome (manifest_put puts m.id)
   pub chunks : (p i : List ℕ) (row : NodeRow) (place : Place) → row_at rows p ≡ Some row → place_under puts row i ≡ Some place → IsSome (bytes_at puts place)
 
 -- the rows have a tree: all is readable, and it is well formed

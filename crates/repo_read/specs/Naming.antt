@@ -11,7 +11,7 @@ use Rattle.store_api.specs.declared.events.Event.{Event}
 use Rattle.store_api.specs.declared.machines.Refusal.{Refusal}
 use Rattle.store_api.specs.declared.machines.Refusal.TheVariants as R
 use Rattle.store_api.specs.Machine.{Stored, found}
-use Rattle.store_api.specs.Telling.{WasAbsent, MadeGets, WasRef, RefWasBad, WasPresent, WasFailure, GetsOf}
+use Rattle.store_api.specs.Telling.{WasAbsent, MadeGets, WasRef, RefWasBad, SnapshotWasBad, WasPresent, WasFailure, GetsOf}
 use Rattle.repo_read.specs.declared.resolving.At.{At}
 use Rattle.repo_read.specs.declared.resolving.Named.{Named}
 use Rattle.repo_read.specs.Resolving.{alone}
@@ -54,6 +54,18 @@ key_of (At.Snapshot id) = Snapshot id
 -- the bytes of the ref are no reference
 abbrev pub WasUnnamed : ℕ → At → Key → Bad → List Event → List Event → Type 0
 WasUnnamed client at key bad start journal = RefWasBad client (key_of at) key bad start journal
+
+-- the snapshot that was named is absent
+pub record TargetWasAbsent (client : ℕ) (at : At) (start journal : List Event) : Type 0 where
+  pub named : Named
+  pub resolved : WasResolved client at named start journal
+  pub absent : WasAbsent client (Snapshot named.id) start journal
+
+-- ... or isn't readable, for this cause
+pub record TargetWasBad (client : ℕ) (at : At) (key : Key) (bad : Bad) (start journal : List Event) : Type 0 where
+  pub named : Named
+  pub resolved : WasResolved client at named start journal
+  pub unread : SnapshotWasBad client named.id key bad start journal
 
 -- a get of what names a snapshot: a branch; a tag, or its tombstone
 abbrev pub IsNaming : At → Key → Type 0

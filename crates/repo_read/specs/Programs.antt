@@ -41,27 +41,7 @@ MayRefuseRef StoreFault = Unit {0}
 MayRefuseRef NoMemory = Unit {0}
 MayRefuseRef _ = ⊥
 
-abbrev pub MayRefuseSnapshot : Refusal → Type 0
-MayRefuseSnapshot (Missing key) = Unit {0}
-MayRefuseSnapshot (BadFile key bad) = Unit {0}
-MayRefuseSnapshot StoreFault = Unit {0}
-MayRefuseSnapshot NoMemory = Unit {0}
-MayRefuseSnapshot _ = ⊥
-
-abbrev pub MayRefuseManifest : Refusal → Type 0
-MayRefuseManifest (Missing key) = Unit {0}
-MayRefuseManifest (BadFile key bad) = Unit {0}
-MayRefuseManifest StoreFault = Unit {0}
-MayRefuseManifest NoMemory = Unit {0}
-MayRefuseManifest _ = ⊥
-
-abbrev pub MayRefuseLog : Refusal → Type 0
-MayRefuseLog (Missing key) = Unit {0}
-MayRefuseLog (BadFile key bad) = Unit {0}
-MayRefuseLog StoreFault = Unit {0}
-MayRefuseLog NoMemory = Unit {0}
-MayRefuseLog _ = ⊥
-
+-- why a read of a snapshot, a manifest, a log or an object with a chunk may be refused
 abbrev pub MayRefuseObject : Refusal → Type 0
 MayRefuseObject (Missing key) = Unit {0}
 MayRefuseObject (BadFile key bad) = Unit {0}

@@ -2,7 +2,7 @@
 
 ghost use Rattle.std.specs.Prelude.{◌≡◌, IfErr};
 ghost use Rattle.repo_read.specs.Answers.{ref_told, snapshot_told, manifest_told, log_told, object_told, Answers};
-ghost use Rattle.repo_read.specs.Programs.{MayRefuseRef, MayRefuseSnapshot, MayRefuseManifest, MayRefuseLog, MayRefuseObject};
+ghost use Rattle.repo_read.specs.Programs.{MayRefuseRef, MayRefuseObject};
 
 use held_manifest::Held;
 use ice_base::{Bytes, RefName};
@@ -52,7 +52,7 @@ pub fn ref_told(alloc: Global, branch: &RefName, reply: Reply) -> Result<Resolve
 /// snapshot of this id, `StoreFault` where the get failed, or `NoMemory`.
 pub fn snapshot_told(alloc: Global, id: Id12, reply: Reply) -> Result<Loaded, Refusal>
     ensures told { Answers (snapshot_told id reply) result }
-    ensures listed { IfErr result MayRefuseSnapshot }
+    ensures listed { IfErr result MayRefuseObject }
 {
     let Reply::Got(got) = reply else {
         return Err(Refusal::StoreFault);
@@ -76,7 +76,7 @@ pub fn snapshot_told(alloc: Global, id: Id12, reply: Reply) -> Result<Loaded, Re
 /// its bytes are no manifest of this id, or `StoreFault` where the get failed.
 pub fn manifest_told(id: Id12, reply: Reply) -> Result<Held, Refusal>
     ensures told { result ≡ manifest_told id reply }
-    ensures listed { IfErr result MayRefuseManifest }
+    ensures listed { IfErr result MayRefuseObject }
 {
     let Reply::Got(got) = reply else {
         return Err(Refusal::StoreFault);
@@ -99,7 +99,7 @@ pub fn manifest_told(id: Id12, reply: Reply) -> Result<Held, Refusal>
 /// log of this id, `StoreFault` where the get failed, or `NoMemory`.
 pub fn log_told(alloc: Global, id: Id12, reply: Reply) -> Result<TxnFile, Refusal>
     ensures told { Answers (log_told id reply) result }
-    ensures listed { IfErr result MayRefuseLog }
+    ensures listed { IfErr result MayRefuseObject }
 {
     let Reply::Got(got) = reply else {
         return Err(Refusal::StoreFault);

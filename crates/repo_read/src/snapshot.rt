@@ -2,7 +2,7 @@
 
 ghost use Rattle.std.specs.Prelude.{◌≡◌, ◌<◌, IfErr};
 ghost use Rattle.store_api.specs.Program.{IsAsk, Steps};
-ghost use Rattle.repo_read.specs.Programs.{snapshot_program, MayRefuseSnapshot};
+ghost use Rattle.repo_read.specs.Programs.{snapshot_program, MayRefuseObject};
 ghost use Rattle.repo_read.specs.inside.Working.{reading_rest, reading_left};
 
 use crate::answers::snapshot_told;
@@ -28,7 +28,7 @@ impl Machine for ReadSnapshot {
 
     ghost keeps = { λ old new. Unit {0} };
 
-    ghost may_refuse = { MayRefuseSnapshot };
+    ghost may_refuse = { MayRefuseObject };
 
     fn request(&self) -> Result<Request<'_>, AllocError> {
         Ok(Request::Get {
@@ -65,7 +65,7 @@ impl ReadSnapshot {
         requires { IsAsk (reading_rest self.old) }
         ensures step { Steps (S.view store.old) (S.view store.new) (reading_rest self.old) (reading_rest self.new) result }
         ensures falls { reading_left self.new < reading_left self.old }
-        ensures listed { IfErr result MayRefuseSnapshot }
+        ensures listed { IfErr result MayRefuseObject }
     {
         drive(self, store)
     }

@@ -29,6 +29,21 @@ pub enum NodeKind {
     },
 }
 
+impl NodeKind {
+    ghost use Rattle.std.specs.Prelude.{◌≡◌};
+    ghost use Rattle.snapshot_file.specs.Snapshots.{manifests_named};
+
+    /// The manifests that it names: those of an array.
+    pub fn manifests(&self) -> &[ManifestRef]
+        ensures { result.now ≡ manifests_named self.now }
+    {
+        match self {
+            NodeKind::Group => &[],
+            NodeKind::Array { manifests, .. } => manifests.as_slice(),
+        }
+    }
+}
+
 /// A node of a tree.
 #[derive(Debug, Drop)]
 pub struct NodeRow {

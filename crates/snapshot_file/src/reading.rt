@@ -6,7 +6,7 @@ ghost use Rattle.snapshot_file.specs.Snapshots.{node_key, file_key, nodes_in, no
 ghost use Rattle.snapshot_file.specs.Layout.{IsWritable};
 
 use crate::node_reading::node_at;
-use crate::nodes::{ManifestRef, NodeKind, NodeRow};
+use crate::nodes::{ManifestRef, NodeRow};
 use crate::numbers::info_of;
 use crate::snapshot::{ManifestInfo, NODE_LIMIT, SnapshotFile};
 use file_fields::{id12, id12_of, payload_in};
@@ -127,13 +127,8 @@ fn all_listed(files: &[ManifestInfo], node: &NodeRow) -> bool
     requires { Ascends file_key None files.now }
     ensures { result ≡ all_listed files.now node.now }
 {
-    match &node.kind {
-        NodeKind::Group => true,
-        NodeKind::Array { manifests, .. } => manifests
-            .as_slice()
-            .iter()
-            .all(|manifest| is_listed(files, manifest)),
-    }
+    let manifests = node.kind.manifests();
+    manifests.iter().all(|manifest| is_listed(files, manifest))
 }
 
 /// The number of the first node that names a manifest which isn't among the snapshot's.

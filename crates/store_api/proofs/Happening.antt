@@ -4,6 +4,7 @@ use Rattle.std.proofs.lemmas.Bool.{cases_order}
 use Rattle.std.proofs.lemmas.List.{length-append}
 use Rattle.std.specs.Prelude.{Option, Some, None, ◌==◌}
 use Rattle.ice_ids.specs.declared.Id12.{Id12}
+use Rattle.repo_objects.specs.declared.bad.Bad.{Bad}
 use Rattle.store_api.specs.declared.keys.Key.{Key}
 use Rattle.store_api.specs.declared.keys.Key.TheVariants.{Snapshot, Manifest, Txn, Chunk, Branch}
 use Rattle.store_api.specs.declared.keys.Why.{Why}
@@ -22,7 +23,7 @@ use Rattle.store_api.specs.Journal.{Each, StoodAt}
 use Rattle.store_api.specs.Callers.{Caller, IsOther, Waits, Makes, own_event}
 use Rattle.store_api.proofs.Journals.{Each-append, Each-weaker, Each-one, Each-none}
 use Rattle.store_api.proofs.Slots.{same_key-true, effect-cases, old-cases, slot-append_one, sound, found-old, found-stood}
-use Rattle.store_api.specs.Telling.{ChangedNothing, ChangedOnce, HasMovedOn, HasOwn, LeavesBranches, StandsAt, WasAbsent, WasFailed, WasGot, WasRemoved}
+use Rattle.store_api.specs.Telling.{ChangedNothing, ChangedOnce, HasMovedOn, HasOwn, LeavesBranches, RefWasBad, SnapshotWasBad, StandsAt, WasAbsent, WasFailed, WasGot, WasRemoved}
 
 -- ---- what others do changes nothing of it
 pub ChangedNothing-none : (client : ℕ) (start : List Event) → ChangedNothing client start start
@@ -295,3 +296,9 @@ WasGot-append client key bytes version start journal more g = record { now = g.n
 
 pub WasAbsent-append : (client : ℕ) (key : Key) (start journal more : List Event) → WasAbsent client key start journal → WasAbsent client key start (journal ++ more)
 WasAbsent-append client key start journal more g = record { now = g.now; own = HasOwn-append client (Get key) (Is_got (Absent g.now)) start journal more g.own; nothing = g.nothing }
+
+pub RefWasBad-append : (client : ℕ) (ref key : Key) (bad : Bad) (start journal more : List Event) → RefWasBad client ref key bad start journal → RefWasBad client ref key bad start (journal ++ more)
+RefWasBad-append client ref key bad start journal more w = record { key_is = w.key_is; bytes = w.bytes; version = w.version; got = WasGot-append client ref w.bytes w.version start journal more w.got; unread = w.unread }
+
+pub SnapshotWasBad-append : (client : ℕ) (id : Id12) (key : Key) (bad : Bad) (start journal more : List Event) → SnapshotWasBad client id key bad start journal → SnapshotWasBad client id key bad start (journal ++ more)
+SnapshotWasBad-append client id key bad start journal more w = record { key_is = w.key_is; bytes = w.bytes; version = w.version; got = WasGot-append client (Snapshot id) w.bytes w.version start journal more w.got; unread = w.unread }

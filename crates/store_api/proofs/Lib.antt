@@ -10,3 +10,5 @@ pub mod PlayLaws
 pub mod RunLaws
 pub mod Telling
 pub mod Happening
+pub mod Ties
+pub mod Puts

@@ -18,7 +18,8 @@ use Rattle.manifest_file.specs.declared.manifest.ArrayRefs.{ArrayRefs}
 use Rattle.manifest_file.specs.declared.manifest.ChunkRef.{ChunkRef}
 use Rattle.held_manifest.specs.LookUp.{within, place_of, refs_of_node, entry_of, entry_seen, look_up, chunk_place}
 use Rattle.repo_objects.specs.Readings.{manifest_by}
-use Rattle.repo_objects.specs.Trees.{Puts, NamesManifest, NamesChunk, manifests_of, nodes_in, row_at, part_of, bytes_at, manifest_put, or_empty, listed, place_in, place_under, chunk_under, tree_under}
+use Rattle.snapshot_file.specs.Snapshots.{manifests_named}
+use Rattle.repo_objects.specs.Trees.{Puts, NamesManifest, NamesChunk, nodes_in, row_at, part_of, bytes_at, manifest_put, or_empty, listed, place_in, place_under, chunk_under, tree_under}
 
 -- ---- what a search finds is in its list
 Contains-here : {X : Type 0} (x : X) (xs : List X) → Contains (x ∷ xs) x
@@ -85,11 +86,11 @@ look-names puts node index (m ∷ ms) object offset size e = elim (or-some (entr
   | inr h ↦ let r = look-names puts node index ms object offset size h in record { manifest = r.manifest; among = Contains-there r.manifest m ms r.among; names = r.names }
 ]
 
-place-names : (puts : Puts) (row : NodeRow) (index : List ℕ) (array : Option ArrayView) (object : Id12) (offset size : ℕ) → place_in puts row index array ≡ Some (Object object offset size) → NamesListed puts (manifests_of row.kind) object
+place-names : (puts : Puts) (row : NodeRow) (index : List ℕ) (array : Option ArrayView) (object : Id12) (offset size : ℕ) → place_in puts row index array ≡ Some (Object object offset size) → NamesListed puts (manifests_named row.kind) object
 place-names puts row index None object offset size e = cc
 place-names puts row index (Some array) object offset size e =
-    look-names puts row.id index (manifests_of row.kind) object offset size
-    (where-true (length index == length array.shape) (look_up row.id index (listed puts (manifests_of row.kind))) (Object object offset size) e)
+    look-names puts row.id index (manifests_named row.kind) object offset size
+    (where-true (length index == length array.shape) (look_up row.id index (listed puts (manifests_named row.kind))) (Object object offset size) e)
 
 -- ---- puts that agree on what rows name
 bytes-same : (p q : Puts) (o : Option Place) → ((object : Id12) (offset size : ℕ) → o ≡ Some (Object object offset size) → q.chunk object ≡ p.chunk object) → option_and_then (bytes_at q) o ≡ option_and_then (bytes_at p) o
@@ -101,19 +102,19 @@ listed-same : (p q : Puts) (manifests : List ManifestRef) → ((m : ManifestRef)
 listed-same p q [] h = refl
 listed-same p q (m ∷ ms) h = λ j. (m.extents, or_empty m.id (option_and_then (manifest_by m.id) (h m (Contains-here m ms) j))) ∷ listed-same p q ms (λ n c. h n (Contains-there n m ms c)) j
 
-place-same : (p q : Puts) (row : NodeRow) (index : List ℕ) (array : Option ArrayView) → listed q (manifests_of row.kind) ≡ listed p (manifests_of row.kind) → place_in q row index array ≡ place_in p row index array
+place-same : (p q : Puts) (row : NodeRow) (index : List ℕ) (array : Option ArrayView) → listed q (manifests_named row.kind) ≡ listed p (manifests_named row.kind) → place_in q row index array ≡ place_in p row index array
 place-same p q row index None e = refl
 place-same p q row index (Some array) e = ap (chunk_place (length array.shape) row.id index) e
 
 module _ (p q : Puts) (rows : List NodeRow) (manifests : (m : Id12) → NamesManifest rows m → q.manifest m ≡ p.manifest m) (chunks : (m object : Id12) → NamesManifest rows m → NamesChunk (or_empty m (manifest_put p m)) object → q.chunk object ≡ p.chunk object) where
-  names-of : (row : NodeRow) (m : ManifestRef) → Contains rows row → Contains (manifests_of row.kind) m → NamesManifest rows m.id
+  names-of : (row : NodeRow) (m : ManifestRef) → Contains rows row → Contains (manifests_named row.kind) m → NamesManifest rows m.id
   names-of row m c d = record { row = row; among = c; manifest = m; named = d; is = refl }
 
   chunk-same : (path index : List ℕ) (o : Option NodeRow) → row_at rows path ≡ o → chunk_under q index o ≡ chunk_under p index o
   chunk-same path index None e = refl
   chunk-same path index (Some row) e =
       let c : Contains rows row = find-contains (λ (r : NodeRow). same_path r.path path) rows row e in
-      ap (option_and_then (bytes_at q)) (place-same p q row index (array_in row.user_data) (listed-same p q (manifests_of row.kind) (λ m d. manifests m.id (names-of row m c d))))
+      ap (option_and_then (bytes_at q)) (place-same p q row index (array_in row.user_data) (listed-same p q (manifests_named row.kind) (λ m d. manifests m.id (names-of row m c d))))
       ∙ bytes-same p q (place_under p row index) (λ object offset size h. let l = place-names p row index (array_in row.user_data) object offset size h in chunks l.manifest.id object (names-of row l.manifest c l.among) l.names)
 
   pub tree-same : tree_under q rows ≡ tree_under p rows

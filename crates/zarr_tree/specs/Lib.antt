@@ -6,5 +6,6 @@ pub mod Edits
 pub mod Changes
 pub mod Touched
 pub mod Held
+pub mod Cases
 pub mod Conflicts
 pub mod Laws

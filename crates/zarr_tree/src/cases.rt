@@ -27,6 +27,29 @@ pub enum Case {
     DeleteOfUpdatedGroup,
 }
 
+impl Case {
+    ghost use Rattle.std.specs.Prelude.{◌≡◌};
+    ghost use Rattle.zarr_tree.specs.Cases.{number};
+
+    /// The number of the case, by which conflicts at one path are ordered and told.
+    pub fn number(self) -> u8
+        ensures { result ≡ number self }
+    {
+        match self {
+            Case::NewNodeConflictsWithExistingNode => 1,
+            Case::NewNodeInInvalidGroup => 2,
+            Case::ZarrMetadataDoubleUpdate => 3,
+            Case::ZarrMetadataUpdateOfDeletedArray => 4,
+            Case::ZarrMetadataUpdateOfDeletedGroup => 5,
+            Case::ChunkDoubleUpdate => 6,
+            Case::ChunksUpdatedInDeletedArray => 7,
+            Case::ChunksUpdatedInUpdatedArray => 8,
+            Case::DeleteOfUpdatedArray => 9,
+            Case::DeleteOfUpdatedGroup => 10,
+        }
+    }
+}
+
 /// A conflict of changes with a later commit.
 #[derive(Debug, Drop)]
 pub struct Conflict {

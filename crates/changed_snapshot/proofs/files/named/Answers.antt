@@ -10,5 +10,5 @@ loop-at-preserved c id =
     let rows = c.args.rows.now in
     let i = c.loop-at.at in
     let row = c.in_ok-row.row in
-    let entered = c.in_ok-enter.ensures id ∙ ap (λ (ms : List ManifestRef). has_id c.loop-at.ids.keys id || have_id ms id) c.manifests_of.ensures in
+    let entered = c.in_ok-enter.ensures id ∙ ap (λ (ms : List ManifestRef). has_id c.loop-at.ids.keys id || have_id ms id) c.manifests.ensures in
     next_row c.loop-at.ids.keys c.enter.new.ids.keys row (drop i rows) (drop (i + 1) rows) id (rows_from rows i row c.in_ok-row.ensures) entered ∙ c.loop-at.invariant id
