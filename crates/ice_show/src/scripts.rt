@@ -21,9 +21,9 @@ fn push_at(told: &mut String, call: &str, path: &Path, index: &Index) -> Result<
 fn push_edit(told: &mut String, edit: &EditCall) -> Result<(), AllocError> {
     match edit {
         EditCall::Group { path } => write!(told, "group {path}"),
-        EditCall::Array { path, text } => write!(told, "array {path} {}", text.as_str()),
-        EditCall::Make { path, text } => write!(told, "make {path} '{}'", text.as_str()),
-        EditCall::Meta { path, text } => write!(told, "meta {path} '{}'", text.as_str()),
+        EditCall::Array { path, text } => write!(told, "array {} {}", path.as_str(), text.as_str()),
+        EditCall::Make { path, text } => write!(told, "make {} '{}'", path.as_str(), text.as_str()),
+        EditCall::Meta { path, text } => write!(told, "meta {} '{}'", path.as_str(), text.as_str()),
         EditCall::Drop { path } => write!(told, "drop {path}"),
         EditCall::Set { path, index, bytes } => {
             push_at(told, "set", path, index)?;

@@ -1,5 +1,5 @@
 -- A script that was read is well.
-use Rattle.std.proofs.Common.{◌≡◌, ◌≢◌, ℕ, ◌+◌, ◌≤◌, Bool, true, false, List, [], ◌∷◌, length, Option, None, Some, Result, Ok, Err, refl, subst, arith, length-append}
+use Rattle.std.proofs.Common.{◌≡◌, ◌≢◌, ℕ, ◌+◌, ◌≤◌, Bool, true, false, List, [], ◌∷◌, length, Option, Some, Result, Ok, Err, refl, subst, arith, length-append}
 use Rattle.std.specs.Prelude.{IfOk, IfSome, ◌&&◌, ◌||◌, ◌==◌, AllPairs, map, not, nat_lt, codes}
 use Rattle.std.specs.List.{All, onto_first}
 use Rattle.std.specs.Str.{is_utf8}

@@ -4,7 +4,8 @@ ghost use Rattle.std.specs.Prelude.{◌≡◌, IfOk};
 ghost use Rattle.play_script.specs.Parts.{rank, earlier, ◌&◌, made, only_if};
 ghost use Rattle.play_script.specs.SoFar.{parts_seen, one_more};
 
-use std::alloc::AllocError;
+use crate::boxed::Boxed;
+use std::alloc::{AllocError, Global};
 use std::fmt;
 
 /// What is wrong with a script, in the order in which it is told.
@@ -116,6 +117,19 @@ pub fn both<A: Drop, B: Drop>(
         (Ok(_), Err(kind)) => Err(kind),
         (Err(kind), Ok(_)) => Err(kind),
         (Err(kind), Err(other)) => Err(kind.earlier(other)),
+    }
+}
+
+/// A part of a line, in memory of its own.
+pub fn boxed<T: Drop>(
+    alloc: Global,
+    part: Result<T, ScriptKind>,
+) -> Result<Result<Boxed<T>, ScriptKind>, AllocError>
+    ensures { IfOk result (λ r. r ≡ part) }
+{
+    match part {
+        Ok(value) => Ok(Ok(Boxed::new(alloc, value)?)),
+        Err(kind) => Ok(Err(kind)),
     }
 }
 

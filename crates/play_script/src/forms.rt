@@ -8,7 +8,8 @@ ghost use Rattle.play_script.specs.Values.{text_of};
 ghost use Rattle.play_script.specs.Forms.{taken, lone_path, path_and_text, array_of, path_and_array, path_and_index, chunk_and_bytes, chunk_and_byte, lone_key, key_and_bytes, node_edit_of, chunk_edit_of, key_edit_of, edit_of, read_of, commit_of, ref_of, form, form_of};
 
 use crate::arrays::array_text;
-use crate::faults::{ScriptKind, both};
+use crate::boxed::Boxed;
+use crate::faults::{ScriptKind, both, boxed};
 use crate::refs::ref_call;
 use crate::scripts::{Call, Class, EditCall, ReadCall};
 use crate::values::{byte_in, bytes_in, fill_in, index_in, numbers_in, path_in, text_in};
@@ -52,14 +53,14 @@ fn rest_text(alloc: Global, rest: Option<&str>) -> Result<Result<Text, ScriptKin
 fn path_and_text(
     alloc: Global,
     rest: Option<&str>,
-) -> Result<Result<(Path, Text), ScriptKind>, AllocError>
+) -> Result<Result<(Boxed<Path>, Boxed<Text>), ScriptKind>, AllocError>
     ensures { IfOk result (λ r. r ≡ path_and_text (seen rest.entry)) }
 {
     let Some((path, rest)) = next(rest) else {
         return Ok(Err(ScriptKind::Word));
     };
-    let path = path_in(alloc, path)?;
-    let text = rest_text(alloc, rest)?;
+    let path = boxed(alloc, path_in(alloc, path)?)?;
+    let text = boxed(alloc, rest_text(alloc, rest)?)?;
     Ok(both(path, text))
 }
 
@@ -88,14 +89,14 @@ fn array_in(
 fn path_and_array(
     alloc: Global,
     rest: Option<&str>,
-) -> Result<Result<(Path, Text), ScriptKind>, AllocError>
+) -> Result<Result<(Boxed<Path>, Boxed<Text>), ScriptKind>, AllocError>
     ensures { IfOk result (λ r. r ≡ path_and_array (seen rest.entry)) }
 {
     let Some((path, data_type, shape, chunks, fill)) = five(rest) else {
         return Ok(Err(ScriptKind::Word));
     };
-    let path = path_in(alloc, path)?;
-    let text = array_in(alloc, data_type, shape, chunks, fill)?;
+    let path = boxed(alloc, path_in(alloc, path)?)?;
+    let text = boxed(alloc, array_in(alloc, data_type, shape, chunks, fill)?)?;
     Ok(both(path, text))
 }
 
@@ -104,14 +105,14 @@ fn path_and_array(
 fn path_and_index(
     alloc: Global,
     rest: Option<&str>,
-) -> Result<Result<(Path, Index), ScriptKind>, AllocError>
+) -> Result<Result<(Boxed<Path>, Boxed<Index>), ScriptKind>, AllocError>
     ensures { IfOk result (λ r. r ≡ path_and_index (seen rest.entry)) }
 {
     let Some((path, index)) = two(rest) else {
         return Ok(Err(ScriptKind::Word));
     };
-    let path = path_in(alloc, path)?;
-    let index = index_in(alloc, index)?;
+    let path = boxed(alloc, path_in(alloc, path)?)?;
+    let index = boxed(alloc, index_in(alloc, index)?)?;
     Ok(both(path, index))
 }
 
@@ -120,15 +121,15 @@ fn path_and_index(
 fn chunk_and_bytes(
     alloc: Global,
     rest: Option<&str>,
-) -> Result<Result<((Path, Index), Bytes), ScriptKind>, AllocError>
+) -> Result<Result<((Boxed<Path>, Boxed<Index>), Boxed<Bytes>), ScriptKind>, AllocError>
     ensures { IfOk result (λ r. r ≡ chunk_and_bytes (seen rest.entry)) }
 {
     let Some((path, index, bytes)) = three(rest) else {
         return Ok(Err(ScriptKind::Word));
     };
-    let path = path_in(alloc, path)?;
-    let index = index_in(alloc, index)?;
-    let bytes = bytes_in(alloc, bytes)?;
+    let path = boxed(alloc, path_in(alloc, path)?)?;
+    let index = boxed(alloc, index_in(alloc, index)?)?;
+    let bytes = boxed(alloc, bytes_in(alloc, bytes)?)?;
     Ok(both(both(path, index), bytes))
 }
 
@@ -137,14 +138,14 @@ fn chunk_and_bytes(
 fn chunk_and_byte(
     alloc: Global,
     rest: Option<&str>,
-) -> Result<Result<((Path, Index), u8), ScriptKind>, AllocError>
+) -> Result<Result<((Boxed<Path>, Boxed<Index>), u8), ScriptKind>, AllocError>
     ensures { IfOk result (λ r. r ≡ chunk_and_byte (seen rest.entry)) }
 {
     let Some((path, index, byte)) = three(rest) else {
         return Ok(Err(ScriptKind::Word));
     };
-    let path = path_in(alloc, path)?;
-    let index = index_in(alloc, index)?;
+    let path = boxed(alloc, path_in(alloc, path)?)?;
+    let index = boxed(alloc, index_in(alloc, index)?)?;
     Ok(both(both(path, index), byte_in(byte)))
 }
 
@@ -164,14 +165,14 @@ fn lone_key(alloc: Global, rest: Option<&str>) -> Result<Result<Text, ScriptKind
 fn key_and_bytes(
     alloc: Global,
     rest: Option<&str>,
-) -> Result<Result<(Text, Bytes), ScriptKind>, AllocError>
+) -> Result<Result<(Boxed<Text>, Boxed<Bytes>), ScriptKind>, AllocError>
     ensures { IfOk result (λ r. r ≡ key_and_bytes (seen rest.entry)) }
 {
     let Some((key, bytes)) = two(rest) else {
         return Ok(Err(ScriptKind::Word));
     };
-    let key = text_in(alloc, key)?;
-    match bytes_in(alloc, bytes)? {
+    let key = Boxed::new(alloc, text_in(alloc, key)?)?;
+    match boxed(alloc, bytes_in(alloc, bytes)?)? {
         Ok(bytes) => Ok(Ok((key, bytes))),
         Err(kind) => Ok(Err(kind)),
     }
@@ -324,7 +325,7 @@ fn refs_in(alloc: Global, first: &str, rest: Option<&str>) -> Result<Option<Form
     match ref_call(alloc, first, rest)? {
         Some(call) => Ok(Some(Form {
             class: Class::Ref,
-            call: call.map(Call::Ref),
+            call: boxed(alloc, call)?.map(Call::Ref),
         })),
         None => Ok(None),
     }

@@ -22,6 +22,7 @@
 
 mod arrays;
 mod bodies;
+mod boxed;
 mod faults;
 mod forms;
 mod heads;
@@ -34,6 +35,7 @@ mod turning;
 mod values;
 mod words;
 
+pub use boxed::Boxed;
 pub use faults::{ScriptFault, ScriptKind};
 pub use heads::MOST_TASKS;
 pub use laws::{hex_law, plain_law};

@@ -1,5 +1,6 @@
 //! What a script says.
 
+use crate::boxed::Boxed;
 use crate::values::TaskName;
 use conflicts::Policy;
 use ice_base::{Bytes, RefName, Text};
@@ -18,23 +19,23 @@ pub enum EditCall {
     /// Adds an array.
     Array {
         /// Where it is added.
-        path: Path,
+        path: Boxed<Path>,
         /// Its metadata: the plain text of the type, shape, chunks and fill value that the line tells.
-        text: Text,
+        text: Boxed<Text>,
     },
     /// Adds a node of given metadata.
     Make {
         /// Where it is added.
-        path: Path,
+        path: Boxed<Path>,
         /// Its metadata, any UTF-8.
-        text: Text,
+        text: Boxed<Text>,
     },
     /// Gives a node other metadata.
     Meta {
         /// The node's path.
-        path: Path,
+        path: Boxed<Path>,
         /// Its metadata, any UTF-8.
-        text: Text,
+        text: Boxed<Text>,
     },
     /// Deletes a node and all beneath it.
     Drop {
@@ -44,34 +45,34 @@ pub enum EditCall {
     /// Writes a chunk of an array.
     Set {
         /// The array's path.
-        path: Path,
+        path: Boxed<Path>,
         /// The chunk's place in the grid.
-        index: Index,
+        index: Boxed<Index>,
         /// The chunk's bytes.
-        bytes: Bytes,
+        bytes: Boxed<Bytes>,
     },
     /// Writes a chunk of an array, all of whose bytes are the same.
     Fill {
         /// The array's path.
-        path: Path,
+        path: Boxed<Path>,
         /// The chunk's place in the grid.
-        index: Index,
+        index: Boxed<Index>,
         /// Each of its bytes.
         byte: u8,
     },
     /// Erases a chunk of an array.
     Unset {
         /// The array's path.
-        path: Path,
+        path: Boxed<Path>,
         /// The chunk's place in the grid.
-        index: Index,
+        index: Boxed<Index>,
     },
     /// Writes the value of a key of the Zarr store.
     KeySet {
         /// The key, any word.
-        key: Text,
+        key: Boxed<Text>,
         /// The value.
-        bytes: Bytes,
+        bytes: Boxed<Bytes>,
     },
     /// Erases a key of the Zarr store.
     KeyErase {
@@ -96,9 +97,9 @@ pub enum ReadCall {
     /// Shows a chunk of an array.
     Chunk {
         /// The array's path.
-        path: Path,
+        path: Boxed<Path>,
         /// The chunk's place in the grid.
-        index: Index,
+        index: Boxed<Index>,
     },
     /// Shows the value of a key of the Zarr store.
     KeyGet {
@@ -161,7 +162,7 @@ pub enum Call {
         message: Text,
     },
     /// A call on refs.
-    Ref(RefCall),
+    Ref(Boxed<RefCall>),
 }
 
 /// The classes of calls: a head takes all lines of a class, or none.

@@ -1,4 +1,5 @@
-use Rattle.std.proofs.Common.{arith}
+use Rattle.std.proofs.Common.{◌∙◌, ap, arith, sym}
+use Rattle.play_script.specs.declared.scripts.Call.TheVariants as call
 use Rattle.play_outcome.specs.declared.outcome.End.TheVariants.{Done}
 use Rattle.play_outcome.specs.Playing.{ended}
 use Rattle.play_refs.specs.inside.Working.{working_rest}
@@ -8,8 +9,10 @@ use Rattle.play_refs.proofs.lines.play_lines.Goals as goal
 pub returns-in-Ref-clause-leaves : goal.returns-in-Ref-clause-leaves
 returns-in-Ref-clause-leaves c =
     let body = c.args.body.now in
+    let own = c.deref.result.now in
+    let is = c.in-Ref.is ∙ ap call.Ref (sym c.deref.ensures) in
     let q = working_rest body c.begin_call.result in
-    c.loop-at.invariant.1 q (one_ref body c.loop-at.at c.index-body-at.result c.in-Ref.call c.args.shown.items q c.loop-at-test.true c.index-body-at.is c.in-Ref.is (c.begin_call.ensures.comes body))
+    c.loop-at.invariant.1 q (one_ref body c.loop-at.at c.index-body-at.result own c.args.shown.items q c.loop-at-test.true c.index-body-at.is is (c.begin_call.ensures.comes body))
 
 pub loop-at-preserved : goal.loop-at-preserved
 loop-at-preserved c =
