@@ -1,4 +1,3 @@
 pub mod Reading
 pub mod Apart
-pub mod Ties
 pub mod Listed

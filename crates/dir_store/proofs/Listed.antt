@@ -1,12 +1,9 @@
 -- The entries of objects that were found by their keys are a listing.
 use Rattle.std.proofs.Common.{◌≡◌, ℕ, zero, suc, ◌<◌, List, [], map, get_or, refl, sym, ◌∙◌, ap, Bool, true, false, subst}
 use Rattle.std.specs.Prelude.{Option, Some, None, option_map, slice_get, Result, Ok, Err, IfOk, MatchResult}
-use Rattle.std.specs.declared.cmp.Ordering.{Ordering}
 use Rattle.std.specs.declared.cmp.Ordering.TheVariants.{Less}
-use Rattle.std.specs.Ordering.{nat_cmp, ordering_then}
 use Rattle.std.specs.Map.{lookup}
 use Rattle.std.specs.BTreeMap.{BTreeMap, get, keys, is_at, IsOrdered, IsUnchanged, Updates}
-use Rattle.std.proofs.lemmas.Cmp.{nat_cmp_total, tied_itself}
 use Rattle.std.proofs.lemmas.Map.Entries.{btree_map_get_place}
 use Rattle.std.proofs.lemmas.Map.Keys.{Less-from_sorted}
 use Rattle.std.proofs.lemmas.Option.{slice_get-map, slice_get_within, get_or_from_slice_get}
@@ -14,12 +11,12 @@ use Rattle.store_api.specs.declared.keys.Key.{Key}
 use Rattle.store_api.specs.declared.keys.Part.{Part}
 use Rattle.store_api.specs.declared.events.Entry.{Entry}
 use Rattle.store_api.specs.Machine.{part_of, listing_cmp}
-use Rattle.store_api.specs.Orders.{place_of, key_cmp, key_total}
+use Rattle.store_api.specs.Orders.{key_cmp, key_total}
 use Rattle.store_api.proofs.Slots.{same_key-true}
+use Rattle.store_api.proofs.Ties.{same-tie, within-part, mapped}
 use Rattle.dir_store.specs.declared.files.Measures.{Measures}
 use Rattle.dir_store.specs.Listings.{IsListed}
 use Rattle.dir_store.specs.inside.Finding.{IsOfPart, entry_of}
-use Rattle.dir_store.proofs.Ties.{same-tie}
 
 abbrev no_entries : List Entry
 no_entries = []
@@ -54,14 +51,6 @@ inserted part m n key v is ordered of updates = record { ordered = ordered; part
     decide q w true same e = ap part_of (sym (same_key-true key q (sym (same-tie key q) ∙ same))) ∙ of
     decide q w false other e = is.parts q w (sym (updates.2 q other) ∙ e)
 
--- an element of a list of values, and what it is the value of
-mapped : {A B : Type 0} (f : A → B) (xs : List A) (k : ℕ) (y : B) → slice_get (map f xs) k ≡ Some y → (x : A) × (slice_get xs k ≡ Some x) × (y ≡ f x)
-mapped {A} {B} f xs k y e = decide (slice_get xs k) refl
-  where
-    decide : (o : Option A) → slice_get xs k ≡ o → (x : A) × (slice_get xs k ≡ Some x) × (y ≡ f x)
-    decide None is = let bad : None ≡ Some y = ap (λ (o : Option A). option_map f o) (sym is) ∙ (sym (slice_get-map f xs k) ∙ e) in cc
-    decide (Some x) is = let same : Some (f x) ≡ Some y = ap (λ (o : Option A). option_map f o) (sym is) ∙ (sym (slice_get-map f xs k) ∙ e) in (x, is, cc)
-
 -- what is told of a list is told of it behind a conversion
 pub told : {A E F : Type 0} (P : A → Type 0) (Q : F → Type 0) (made : Result A E) (r : Result A F) → MatchResult r (λ v. made ≡ Ok v) Q → IfOk made P → IfOk r P
 told P Q made (Ok v) is p = subst (λ m. IfOk m P) is p
@@ -72,13 +61,6 @@ module _ (part : Part) (found : BTreeMap Key Measures) (is : IsOfPart part found
   parts k e at =
       let row = mapped entry_of found.entries k e at in
       ap (λ (x : Entry). part_of x.key) row.2 ∙ is.parts row.0.0 row.0.1 (btree_map_get_place key_total found k row.0.0 row.0.1 is.ordered row.1)
-
-  within-part : (a b : Key) → part_of a ≡ part → part_of b ≡ part → key_cmp a b ≡ Less → listing_cmp a b ≡ Less
-  within-part a b p q less =
-      sym (ap (λ (o : Ordering). ordering_then o (listing_cmp a b)) (tied_itself nat_cmp_total (place_of part)))
-      ∙ (ap (λ (x : Part). ordering_then (nat_cmp (place_of x) (place_of part)) (listing_cmp a b)) (sym p)
-      ∙ (ap (λ (x : Part). ordering_then (nat_cmp (place_of (part_of a)) (place_of x)) (listing_cmp a b)) (sym q)
-      ∙ less))
 
   ups : (j k : ℕ) (d e : Entry) → j < k → slice_get (map entry_of found.entries) j ≡ Some d → slice_get (map entry_of found.entries) k ≡ Some e → listing_cmp d.key e.key ≡ Less
   ups j k d e l at-j at-k =
@@ -96,7 +78,7 @@ module _ (part : Part) (found : BTreeMap Key Measures) (is : IsOfPart part found
       let part-b : part_of b ≡ part = is.parts b second.0.1 (btree_map_get_place key_total found k b second.0.1 is.ordered second.1) in
       ap (λ (x : Entry). listing_cmp x.key e.key) first.2
       ∙ (ap (λ (x : Entry). listing_cmp a x.key) second.2
-      ∙ within-part a b part-a part-b less-keys)
+      ∙ within-part part a b part-a part-b less-keys)
 
   pub listed : IsListed part (map entry_of found.entries)
   listed = record { parts = parts; ascending = ups }

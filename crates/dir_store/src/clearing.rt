@@ -1,12 +1,11 @@
 //! What a program that was cut off has left: files aside, and entries of folders that aren't flushed.
 
 use crate::files::{flush_folder_at, is_missing, or_failed, or_no_memory};
-use crate::listing::fault_of;
+use crate::listing::{fault_of, named};
 use crate::names::{aside_folder, is_aside};
 use std::alloc::Global;
 use std::fs;
-use std::fs::ReadDir;
-use std::io::ErrorKind;
+use std::fs::{DirEntry, ReadDir};
 use std::rt::Files;
 use store_api::StoreFault;
 
@@ -39,41 +38,62 @@ fn remove_aside<R: Files>(
     or_failed(fs::remove_file(rt, path.as_str()))
 }
 
-/// Removes the files that were left aside.
+/// Removes what an entry of the folder of files aside names, if it is one.
+fn remove_entry<R: Files + Drop>(
+    rt: &R,
+    alloc: Global,
+    folder: &str,
+    entry: std::io::Result<DirEntry<R, Global>>,
+) -> Result<(), StoreFault> {
+    match named(entry)? {
+        Some(entry) => remove_aside(rt, alloc, folder, entry.file_name()),
+        None => Ok(()),
+    }
+}
+
+/// Removes the files that were left aside in this folder.
 fn remove_asides<R: Files + AllocGlobal + Clone + Drop>(
     rt: &R,
-    root: &str,
+    folder: &str,
 ) -> Result<(), StoreFault> {
-    let alloc = rt.alloc();
-    let folder = or_no_memory(aside_folder(alloc, root))?;
-    let Some(listing) = entries(rt, folder.as_str())? else {
+    let Some(listing) = entries(rt, folder)? else {
         return Ok(());
     };
     for entry in listing {
-        match entry {
-            Ok(entry) => remove_aside(rt, alloc, folder.as_str(), entry.file_name())?,
-            Err(error) if error.kind() == ErrorKind::InvalidFilename => {}
-            Err(error) => return Err(fault_of(error.kind())),
-        }
+        remove_entry(rt, rt.alloc(), folder, entry)?;
     }
     Ok(())
 }
 
-/// Flushes the folders of refs.
-fn flush_refs<R: Files + AllocGlobal + Clone + Drop>(rt: &R, root: &str) -> Result<(), StoreFault> {
-    let alloc = rt.alloc();
-    let folder = or_no_memory(format!(in alloc; "{root}/refs"))?;
-    let Some(listing) = entries(rt, folder.as_str())? else {
+/// Flushes the folder that an entry names, if it is one.
+fn flush_entry<R: Files + Drop>(
+    rt: &R,
+    entry: std::io::Result<DirEntry<R, Global>>,
+) -> Result<(), StoreFault> {
+    match named(entry)? {
+        Some(entry) => flush_folder_at(rt, entry.path().as_str()),
+        None => Ok(()),
+    }
+}
+
+/// Flushes the folders in this folder.
+fn flush_folders<R: Files + AllocGlobal + Clone + Drop>(
+    rt: &R,
+    folder: &str,
+) -> Result<(), StoreFault> {
+    let Some(listing) = entries(rt, folder)? else {
         return Ok(());
     };
     for entry in listing {
-        match entry {
-            Ok(entry) => flush_folder_at(rt, entry.path().as_str())?,
-            Err(error) if error.kind() == ErrorKind::InvalidFilename => {}
-            Err(error) => return Err(fault_of(error.kind())),
-        }
+        flush_entry(rt, entry)?;
     }
     Ok(())
+}
+
+/// Flushes a folder of the directory.
+fn flush_part<R: Files + AllocGlobal>(rt: &R, root: &str, folder: &str) -> Result<(), StoreFault> {
+    let path = or_no_memory(format!(in rt.alloc(); "{root}/{folder}"))?;
+    flush_folder_at(rt, path.as_str())
 }
 
 /// Removes what was left aside, and flushes to disk which files and folders the directory holds. So
@@ -82,11 +102,12 @@ pub(crate) fn clear<R: Files + AllocGlobal + Clone + Drop>(
     rt: &R,
     root: &str,
 ) -> Result<(), StoreFault> {
-    remove_asides(rt, root)?;
-    flush_refs(rt, root)?;
+    let asides = or_no_memory(aside_folder(rt.alloc(), root))?;
+    remove_asides(rt, asides.as_str())?;
+    let refs = or_no_memory(format!(in rt.alloc(); "{root}/refs"))?;
+    flush_folders(rt, refs.as_str())?;
     for folder in FOLDERS {
-        let path = or_no_memory(format!(in rt.alloc(); "{root}/{folder}"))?;
-        flush_folder_at(rt, path.as_str())?;
+        flush_part(rt, root, folder)?;
     }
     flush_folder_at(rt, root)
 }

@@ -115,19 +115,21 @@ fn folder_of(path: &str) -> &str {
     }
 }
 
+/// Flushes to disk what lies at a path.
+fn flush<R: Files>(rt: &R, path: &str) -> Result<(), StoreFault> {
+    let file = or_failed(fs::open(rt, path))?;
+    or_failed(file.sync_all())
+}
+
 /// Flushes to disk which files the folder of a path holds.
 fn flush_folder<R: Files>(rt: &R, path: &str) -> Result<(), StoreFault> {
-    let folder = or_failed(fs::open(rt, folder_of(path)))?;
-    or_failed(folder.sync_all())
+    flush(rt, folder_of(path))
 }
 
 /// Flushes to disk which files the folder at a path holds, if one is there.
 pub(crate) fn flush_folder_at<R: Files>(rt: &R, path: &str) -> Result<(), StoreFault> {
     match fs::metadata(rt, path) {
-        Ok(metadata) if metadata.is_dir() => {
-            let folder = or_failed(fs::open(rt, path))?;
-            or_failed(folder.sync_all())
-        }
+        Ok(metadata) if metadata.is_dir() => flush(rt, path),
         Ok(_) => Ok(()),
         Err(error) if is_missing(error.kind()) => Ok(()),
         Err(_) => Err(StoreFault::Failed),
@@ -187,6 +189,24 @@ fn write_aside<R: Files>(
     Ok(aside)
 }
 
+/// Moves a file that lies aside to a path where none is, or removes it and tells the version that
+/// stands there.
+fn move_new<R: Files>(rt: &R, aside: &str, path: &str) -> Result<Option<Version>, StoreFault> {
+    let linked = fs::hard_link(rt, aside, path);
+    or_failed(fs::remove_file(rt, aside))?;
+    match linked {
+        Ok(()) => {
+            flush_folder(rt, path)?;
+            Ok(None)
+        }
+        Err(error) if error.kind() == ErrorKind::AlreadyExists => match standing(rt, path)? {
+            Some(version) => Ok(Some(version)),
+            None => Err(StoreFault::Failed),
+        },
+        Err(_) => Err(StoreFault::Failed),
+    }
+}
+
 /// Makes a file of these bytes where none is, or tells the version that stands there.
 pub(crate) fn make_file<R: Files>(
     rt: &R,
@@ -200,19 +220,16 @@ pub(crate) fn make_file<R: Files>(
     }
     make_folders(rt, root, path)?;
     let aside = write_aside(rt, alloc, root, bytes)?;
-    let linked = fs::hard_link(rt, aside.as_str(), path);
-    or_failed(fs::remove_file(rt, aside.as_str()))?;
-    match linked {
-        Ok(()) => {
-            flush_folder(rt, path)?;
-            Ok(None)
-        }
-        Err(error) if error.kind() == ErrorKind::AlreadyExists => match standing(rt, path)? {
-            Some(version) => Ok(Some(version)),
-            None => Err(StoreFault::Failed),
-        },
-        Err(_) => Err(StoreFault::Failed),
+    move_new(rt, aside.as_str(), path)
+}
+
+/// Moves a file that lies aside over the one at a path, or removes it.
+fn move_over<R: Files>(rt: &R, aside: &str, path: &str) -> Result<(), StoreFault> {
+    if fs::rename(rt, aside, path).is_err() {
+        let _ = fs::remove_file(rt, aside);
+        return Err(StoreFault::Failed);
     }
+    flush_folder(rt, path)
 }
 
 /// Puts a file of these bytes in the place of the one with this version.
@@ -231,11 +248,7 @@ pub(crate) fn replace_file<R: Files>(
         return Ok(Change::Moved(found));
     }
     let aside = write_aside(rt, alloc, root, bytes)?;
-    if fs::rename(rt, aside.as_str(), path).is_err() {
-        let _ = fs::remove_file(rt, aside.as_str());
-        return Err(StoreFault::Failed);
-    }
-    flush_folder(rt, path)?;
+    move_over(rt, aside.as_str(), path)?;
     Ok(Change::Made)
 }
 

@@ -1,6 +1,7 @@
 //! Listings of the directory.
 
-ghost use Rattle.std.specs.Prelude.{◌≡◌, IfOk, map};
+ghost use Rattle.std.specs.Prelude.{◌≡◌, IfOk, IfSome, map};
+ghost use Rattle.store_api.specs.Machine.{part_of};
 ghost use Rattle.dir_store.specs.Listings.{IsListed};
 ghost use Rattle.dir_store.specs.inside.Finding.{IsOfPart, entry_of};
 
@@ -9,7 +10,7 @@ use crate::names::{key_of, path_of};
 use std::alloc::{AllocError, Global};
 use std::collections::BTreeMap;
 use std::fs;
-use std::fs::DirEntry;
+use std::fs::{DirEntry, ReadDir};
 use std::io::ErrorKind;
 use std::rt::Files;
 use store_api::{Entries, Entry, Key, Part, StoreFault};
@@ -37,6 +38,17 @@ pub(crate) fn fault_of(kind: ErrorKind) -> StoreFault {
     }
 }
 
+/// An entry of a folder, if its name is text.
+pub(crate) fn named<R: Files>(
+    entry: std::io::Result<DirEntry<R, Global>>,
+) -> Result<Option<DirEntry<R, Global>>, StoreFault> {
+    match entry {
+        Ok(entry) => Ok(Some(entry)),
+        Err(error) if error.kind() == ErrorKind::InvalidFilename => Ok(None),
+        Err(error) => Err(fault_of(error.kind())),
+    }
+}
+
 /// Adds the object of this name, where it is one of the part and lies in the directory.
 fn add_file<R: Files>(
     rt: &R,
@@ -52,17 +64,46 @@ fn add_file<R: Files>(
     let Some(key) = or_no_memory(key_of(alloc, name))? else {
         return Ok(());
     };
-    if key.part() != part {
-        return Ok(());
-    }
-    let path = or_no_memory(path_of(alloc, root, &key))?;
-    let Some(measures) = measures_of(rt, path.as_str())? else {
+    let Some(measures) = measures_at(rt, alloc, root, part, &key)? else {
         return Ok(());
     };
     match found.insert(key, measures) {
         Ok(_) => Ok(()),
         Err(_) => Err(StoreFault::NoMemory),
     }
+}
+
+/// The measures of an object of the part, if one lies in the directory. Keys of other parts have none.
+fn measures_at<R: Files>(
+    rt: &R,
+    alloc: Global,
+    root: &str,
+    part: Part,
+    key: &Key,
+) -> Result<Option<Measures>, StoreFault>
+    ensures { IfOk result (λ found. IfSome found (λ measures. part_of key.now ≡ part)) }
+{
+    if key.part() != part {
+        return Ok(None);
+    }
+    let path = or_no_memory(path_of(alloc, root, key))?;
+    measures_of(rt, path.as_str())
+}
+
+/// Adds the object of this name, if there was memory for the name.
+fn add_named<R: Files>(
+    rt: &R,
+    alloc: Global,
+    root: &str,
+    part: Part,
+    name: Result<String, AllocError>,
+    found: &mut Found,
+) -> Result<(), StoreFault>
+    requires { IsOfPart part found.now }
+    ensures { IsOfPart part found.new }
+{
+    let name = or_no_memory(name)?;
+    add_file(rt, alloc, root, part, name.as_str(), found)
 }
 
 /// Adds the objects that a file or a folder of the part's folder is or holds.
@@ -79,20 +120,55 @@ fn add_found<R: Files>(
 {
     let folder = folder_of(part);
     if part != Part::Branches && part != Part::Tags {
-        let name = or_no_memory(format!(in alloc; "{folder}/{file_name}"))?;
-        return add_file(rt, alloc, root, part, name.as_str(), found);
+        let name = format!(in alloc; "{folder}/{file_name}");
+        return add_named(rt, alloc, root, part, name, found);
     }
-    let name = or_no_memory(format!(in alloc; "{folder}/{file_name}/ref.json"))?;
-    add_file(rt, alloc, root, part, name.as_str(), found)?;
-    let name = or_no_memory(format!(in alloc; "{folder}/{file_name}/ref.json.deleted"))?;
-    add_file(rt, alloc, root, part, name.as_str(), found)
+    let name = format!(in alloc; "{folder}/{file_name}/ref.json");
+    add_named(rt, alloc, root, part, name, found)?;
+    let name = format!(in alloc; "{folder}/{file_name}/ref.json.deleted");
+    add_named(rt, alloc, root, part, name, found)
+}
+
+/// Adds the objects that an entry of the part's folder is or holds.
+fn add_entry<R: Files + Drop>(
+    rt: &R,
+    alloc: Global,
+    root: &str,
+    part: Part,
+    entry: std::io::Result<DirEntry<R, Global>>,
+    found: &mut Found,
+) -> Result<(), StoreFault>
+    requires { IsOfPart part found.now }
+    ensures { IsOfPart part found.new }
+{
+    match named(entry)? {
+        Some(entry) => add_found(rt, alloc, root, part, entry.file_name(), found),
+        None => Ok(()),
+    }
+}
+
+/// The objects of the part that these entries of its folder are or hold.
+fn found_in<R: Files + Clone + Drop>(
+    rt: &R,
+    alloc: Global,
+    root: &str,
+    part: Part,
+    listing: ReadDir<R, Global>,
+) -> Result<Found, StoreFault>
+    ensures { IfOk result (IsOfPart part) }
+{
+    let mut found = Found::new(alloc);
+    for entry in listing {
+        add_entry(rt, alloc, root, part, entry, &mut found)?;
+    }
+    Ok(found)
 }
 
 /// Entries in the order of their keys.
 fn entries_of(alloc: Global, found: Found) -> Result<Entries, AllocError>
     ensures { IfOk result (λ entries. entries ≡ map entry_of found.entries) }
 {
-    let mut entries = Vec::new(alloc);
+    let mut entries = Entries::new(alloc);
     for (key, measures) in found {
         entries.push(Entry {
             key,
@@ -100,7 +176,23 @@ fn entries_of(alloc: Global, found: Found) -> Result<Entries, AllocError>
             created: measures.changed,
         })?;
     }
-    Ok(Entries::from_vec(entries))
+    Ok(entries)
+}
+
+/// The entries of a part's folder, if it is there.
+fn entries_in<R: Files + AllocGlobal + Clone + Drop>(
+    rt: &R,
+    alloc: Global,
+    root: &str,
+    part: Part,
+) -> Result<Option<ReadDir<R, Global>>, StoreFault> {
+    let folder = folder_of(part);
+    let path = or_no_memory(format!(in alloc; "{root}/{folder}"))?;
+    match fs::read_dir(rt, path.as_str()) {
+        Ok(listing) => Ok(Some(listing)),
+        Err(error) if error.kind() == ErrorKind::NotFound => Ok(None),
+        Err(error) => Err(fault_of(error.kind())),
+    }
 }
 
 /// The objects of a part, in the order of their ids or names, a tag before its tombstone. Names that
@@ -113,20 +205,9 @@ pub(crate) fn list_files<R: Files + AllocGlobal + Clone + Drop>(
     ensures { IfOk result (IsListed part) }
 {
     let alloc = rt.alloc();
-    let folder = folder_of(part);
-    let path = or_no_memory(format!(in alloc; "{root}/{folder}"))?;
-    let mut found = Found::new(alloc);
-    let listing = match fs::read_dir(rt, path.as_str()) {
-        Ok(listing) => listing,
-        Err(error) if error.kind() == ErrorKind::NotFound => return Ok(Entries::new(alloc)),
-        Err(error) => return Err(fault_of(error.kind())),
+    let Some(listing) = entries_in(rt, alloc, root, part)? else {
+        return Ok(Entries::new(alloc));
     };
-    for entry in listing {
-        match entry {
-            Ok(entry) => add_found(rt, alloc, root, part, entry.file_name(), &mut found)?,
-            Err(error) if error.kind() == ErrorKind::InvalidFilename => {}
-            Err(error) => return Err(fault_of(error.kind())),
-        }
-    }
+    let found = found_in(rt, alloc, root, part, listing)?;
     or_no_memory(entries_of(alloc, found))
 }

@@ -1,4 +1,3 @@
-pub mod Ties
 pub mod Placing
 pub mod HeldLemmas
 pub mod Changing

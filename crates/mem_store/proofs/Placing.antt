@@ -12,7 +12,7 @@ use Rattle.store_api.specs.declared.keys.Part.{Part}
 use Rattle.store_api.specs.Machine.{part_of, same_key, listing_cmp}
 use Rattle.store_api.specs.Orders.{place_of, key_cmp}
 use Rattle.mem_store.specs.Shelves.{shelf_at, place_on, place_at, IsSorted}
-use Rattle.mem_store.proofs.Ties.{same-tie}
+use Rattle.store_api.proofs.Ties.{same-tie}
 
 set-here : {X : Type 0} (xs : List X) (i : ℕ) (x : X) → i < length xs → slice_get (set xs i x) i ≡ Some x
 set-here {X} xs i x l =

@@ -1,12 +1,9 @@
 -- The entries of a part's map are its listing.
-use Rattle.std.proofs.Common.{◌≡◌, ℕ, ◌<◌, inl, inr, List, map, get_or, refl, sym, ◌∙◌, ap, arith}
+use Rattle.std.proofs.Common.{◌≡◌, ℕ, ◌<◌, inl, inr, List, get_or, refl, sym, ◌∙◌, ap, arith}
 use Rattle.std.specs.Prelude.{Option, Some, None, option_map, slice_get, Result, Ok, Err, IfOk}
-use Rattle.std.specs.declared.cmp.Ordering.{Ordering}
 use Rattle.std.specs.declared.cmp.Ordering.TheVariants.{Less}
-use Rattle.std.specs.Ordering.{nat_cmp, ordering_then}
 use Rattle.std.specs.BTreeMap.{BTreeMap, get, keys, is_at, IsOrdered}
 use Rattle.std.proofs.lemmas.Bool.{cases_eq}
-use Rattle.std.proofs.lemmas.Cmp.{nat_cmp_total, tied_itself}
 use Rattle.std.proofs.lemmas.Map.Entries.{place_from_lookup, btree_map_get_place}
 use Rattle.std.proofs.lemmas.Map.Keys.{Less-from_sorted}
 use Rattle.std.proofs.lemmas.Option.{slice_get-map, slice_get_within, get_or_from_slice_get}
@@ -18,10 +15,10 @@ use Rattle.store_api.specs.declared.events.Event.{Event}
 use Rattle.store_api.specs.Machine.{Stored, found, part_of, listing_cmp, IsEntry, HasEntry, IsListing}
 use Rattle.store_api.specs.Orders.{place_of, key_cmp, key_total}
 use Rattle.store_api.proofs.Slots.{same_key-true}
+use Rattle.store_api.proofs.Ties.{same-tie, within-part, mapped}
 use Rattle.mem_store.specs.Shelves.{shelf_at, place_on, place_at, IsSorted}
 use Rattle.mem_store.specs.Logs.{put_in, puts_in}
 use Rattle.mem_store.specs.Listed.{entry_in, entries_in}
-use Rattle.mem_store.proofs.Ties.{same-tie}
 
 part-same : (a b : Part) → place_of a ≡ place_of b → a ≡ b
 part-same Snapshots Snapshots e = refl
@@ -31,14 +28,6 @@ part-same Chunks Chunks e = refl
 part-same Branches Branches e = refl
 part-same Tags Tags e = refl
 part-same _ _ e = absurd (omega (arith, e))
-
--- an element of a list of values, and what it is the value of
-mapped : {A B : Type 0} (f : A → B) (xs : List A) (k : ℕ) (y : B) → slice_get (map f xs) k ≡ Some y → (x : A) × (slice_get xs k ≡ Some x) × (y ≡ f x)
-mapped {A} {B} f xs k y e = decide (slice_get xs k) refl
-  where
-    decide : (o : Option A) → slice_get xs k ≡ o → (x : A) × (slice_get xs k ≡ Some x) × (y ≡ f x)
-    decide None is = let bad : None ≡ Some y = ap (λ (o : Option A). option_map f o) (sym is) ∙ (sym (slice_get-map f xs k) ∙ e) in cc
-    decide (Some x) is = let same : Some (f x) ≡ Some y = ap (λ (o : Option A). option_map f o) (sym is) ∙ (sym (slice_get-map f xs k) ∙ e) in (x, is, cc)
 
 -- the map of a part in an index that tells what stands after a journal
 pub record IsShelf (journal : List Event) (shelves : List (BTreeMap Key ℕ)) (part : Part) (shelf : BTreeMap Key ℕ) : Type 0 where
@@ -95,13 +84,6 @@ module _ (journal : List Event) (shelves : List (BTreeMap Key ℕ)) (part : Part
           let bad : None ≡ Some s = ap (puts_in journal) (sym (placed key of ∙ none)) ∙ (is.indexed key ∙ e) in cc
       decide (Some v) some = has key v some
 
-  within-part : (a b : Key) → part_of a ≡ part → part_of b ≡ part → key_cmp a b ≡ Less → listing_cmp a b ≡ Less
-  within-part a b p q less =
-      sym (ap (λ (o : Ordering). ordering_then o (listing_cmp a b)) (tied_itself nat_cmp_total (place_of part)))
-      ∙ (ap (λ (x : Part). ordering_then (nat_cmp (place_of x) (place_of part)) (listing_cmp a b)) (sym p)
-      ∙ (ap (λ (x : Part). ordering_then (nat_cmp (place_of (part_of a)) (place_of x)) (listing_cmp a b)) (sym q)
-      ∙ less))
-
   ups : (j k : ℕ) (d e : Entry) → j < k → slice_get (entries_in journal shelf.entries) j ≡ Some d → slice_get (entries_in journal shelf.entries) k ≡ Some e → listing_cmp d.key e.key ≡ Less
   ups j k d e l at-j at-k =
       let first = mapped (entry_in journal) shelf.entries j d at-j in
@@ -118,7 +100,7 @@ module _ (journal : List Event) (shelves : List (BTreeMap Key ℕ)) (part : Part
       let part-b : part_of b ≡ part = part-is b second.0.1 (btree_map_get_place key_total shelf k b second.0.1 is.ordered second.1) in
       ap (λ (x : Entry). listing_cmp x.key e.key) first.2
       ∙ (ap (λ (x : Entry). listing_cmp a x.key) second.2
-      ∙ within-part a b part-a part-b less-keys)
+      ∙ within-part part a b part-a part-b less-keys)
 
   pub listing-shelf : IsListing (found journal) part (entries_in journal shelf.entries)
   listing-shelf = record { right = rights; whole = wholes; ascending = ups }

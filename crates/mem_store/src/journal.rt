@@ -1,6 +1,8 @@
 //! The journal, and which puts stand after it.
 
-ghost use Rattle.std.specs.Prelude.{◌≡◌, IfOk};
+ghost use Rattle.std.specs.Prelude.{◌≡◌, ◌<◌, length, vec_capacity, vec_len, IfOk, OnErr, OnOk};
+ghost use Rattle.store_api.specs.declared.keys.Key.{Key as Name};
+ghost use Rattle.mem_store.specs.Places.{place_in, place_after};
 
 use crate::answers::Held;
 use crate::events::EventRef;
@@ -83,7 +85,7 @@ impl Journal {
     fn entries(&self, alloc: Global, rows: Iter<'_, Key, u64>) -> Result<Entries, AllocError>
         ensures { IfOk result (λ entries. entries ≡ entries_in self.now rows.entry) }
     {
-        let mut list = Vec::new(alloc);
+        let mut list = Entries::new(alloc);
         for (key, place) in rows {
             let put = self.put(*place);
             list.push(Entry {
@@ -92,7 +94,7 @@ impl Journal {
                 created: put.created,
             })?;
         }
-        Ok(Entries::from_vec(list))
+        Ok(list)
     }
 
     /// The listing of a part.
@@ -118,9 +120,11 @@ impl Journal {
         ensures err { OnErr result (self.new ≡ self.old) }
         ensures clock { OnErr result (clock.new ≡ clock.old) }
     {
-        self.logs.reserve(1)?;
-        let place = self.logs.len() as u64;
-        self.index.follow(alloc, &op, answer.is_done(), place)?;
+        let done = answer.is_done();
+        if let Err(error) = make_room(&mut self.logs, &mut self.index, alloc, &op, done) {
+            drop((op, answer));
+            return Err(error);
+        }
         let time = clock.now().max(last_time(&self.logs));
         let log = Logged {
             client,
@@ -135,11 +139,29 @@ impl Journal {
     }
 }
 
+/// Takes the memory for one more event: there is room for it, and the index is as it is after it.
+/// Without memory nothing has changed.
+fn make_room(
+    logs: &mut Vec<Logged>,
+    index: &mut Index,
+    alloc: Global,
+    op: &Op,
+    done: bool,
+) -> Result<(), AllocError>
+    ensures room { OnOk result (vec_len logs.new < vec_capacity logs.new) }
+    ensures logs { logs.new.items ≡ logs.old.items }
+    ensures ok { OnOk result ((q : Name) → place_in index.new q ≡ place_after (length logs.old.items) op.now done q (place_in index.old q)) }
+    ensures err { OnErr result ((q : Name) → place_in index.new q ≡ place_in index.old q) }
+{
+    logs.reserve(1)?;
+    index.follow(alloc, op, done, logs.len() as u64)
+}
+
 /// A copy of entries.
 pub(crate) fn copy(alloc: Global, entries: &[Entry]) -> Result<Entries, AllocError>
     ensures { IfOk result (λ copy. copy ≡ entries.now) }
 {
-    let mut list = Vec::new(alloc);
+    let mut list = Entries::new(alloc);
     for entry in entries {
         list.push(Entry {
             key: entry.key.copy(alloc)?,
@@ -147,5 +169,5 @@ pub(crate) fn copy(alloc: Global, entries: &[Entry]) -> Result<Entries, AllocErr
             created: entry.created,
         })?;
     }
-    Ok(Entries::from_vec(list))
+    Ok(list)
 }

@@ -27,19 +27,19 @@ impl<C: Clock> Failing for MemStore<C> {
 
     fn make(&mut self, op: &OpRef<'_>) -> Result<Reply, StoreFault> {
         match op {
-            OpRef::Get { key } => Ok(Reply::Got(self.get(key)?)),
-            OpRef::PutNew { key, bytes, why } => Ok(Reply::New(self.put_new(key, bytes, *why)?)),
+            OpRef::Get { key } => self.get(key).map(Reply::Got),
+            OpRef::PutNew { key, bytes, why } => self.put_new(key, bytes, *why).map(Reply::New),
             OpRef::PutOver {
                 key,
                 bytes,
                 old,
                 why,
-            } => Ok(Reply::Over(self.put_over(key, bytes, *old, *why)?)),
-            OpRef::Remove { key, why } => Ok(Reply::Gone(self.remove(key, *why)?)),
-            OpRef::RemoveAt { key, old, why } => Ok(Reply::GoneAt(self.remove_at(
-                key, *old, *why,
-            )?)),
-            OpRef::List { part } => Ok(Reply::Listed(self.list(*part)?)),
+            } => self.put_over(key, bytes, *old, *why).map(Reply::Over),
+            OpRef::Remove { key, why } => self.remove(key, *why).map(Reply::Gone),
+            OpRef::RemoveAt { key, old, why } => {
+                self.remove_at(key, *old, *why).map(Reply::GoneAt)
+            }
+            OpRef::List { part } => self.list(*part).map(Reply::Listed),
         }
     }
 

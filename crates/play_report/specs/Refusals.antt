@@ -6,9 +6,8 @@ use Rattle.flat_tables.specs.declared.header.Kind.TheVariants as kinds
 use Rattle.zarr_meta.specs.Shown.{text_of}
 use Rattle.zarr_tree.specs.declared.edit.Frozen.{Frozen}
 use Rattle.zarr_tree.specs.declared.edit.Frozen.TheVariants as frozen
-use Rattle.zarr_tree.specs.declared.cases.Case.{Case}
-use Rattle.zarr_tree.specs.declared.cases.Case.TheVariants as case
 use Rattle.zarr_tree.specs.declared.cases.Conflict.{Conflict}
+use Rattle.zarr_tree.specs.Cases.{number}
 use Rattle.store_api.specs.declared.events.Version.{Version}
 use Rattle.store_api.specs.declared.machines.Refusal.{Refusal}
 use Rattle.store_api.specs.declared.machines.Refusal.TheVariants as R
@@ -34,19 +33,6 @@ kind_text kinds.Snapshot = codes "snapshot"
 kind_text kinds.Manifest = codes "manifest"
 kind_text kinds.Log = codes "log"
 
--- the number of a kind of conflicts
-abbrev pub case_number : Case → ℕ
-case_number case.NewNodeConflictsWithExistingNode = 1
-case_number case.NewNodeInInvalidGroup = 2
-case_number case.ZarrMetadataDoubleUpdate = 3
-case_number case.ZarrMetadataUpdateOfDeletedArray = 4
-case_number case.ZarrMetadataUpdateOfDeletedGroup = 5
-case_number case.ChunkDoubleUpdate = 6
-case_number case.ChunksUpdatedInDeletedArray = 7
-case_number case.ChunksUpdatedInUpdatedArray = 8
-case_number case.DeleteOfUpdatedArray = 9
-case_number case.DeleteOfUpdatedGroup = 10
-
 -- further numbers of an index, each behind a comma
 abbrev pub more_numbers : List ℕ → List ℕ
 more_numbers [] = []
@@ -63,7 +49,7 @@ place_text None = []
 place_text (Some index) = codes ":" ++ index_text index
 
 abbrev pub conflict_text : Conflict → List ℕ
-conflict_text c = decimal (case_number c.case) ++ codes ":" ++ c.path ++ place_text c.index
+conflict_text c = decimal (number c.case) ++ codes ":" ++ c.path ++ place_text c.index
 
 -- conflicts, each behind a space
 abbrev pub conflicts_text : List Conflict → List ℕ

@@ -1,10 +1,10 @@
 //! The texts of refusals.
 #![tactic(auto, using(crate::proofs::Drafting::drafting))]
 
-ghost use Rattle.std.specs.Prelude.{◌≡◌, IfOk, OnOk, codes, decimal, length, vec_capacity};
+ghost use Rattle.std.specs.Prelude.{◌≡◌, IfOk, IfSome, OnOk, codes, decimal, length, vec_capacity};
 ghost use Rattle.ice_ids.specs.Text.{id12_text};
 ghost use Rattle.play_report.specs.Words.{◌space◌};
-ghost use Rattle.play_report.specs.Refusals.{case_number, conflict_text, conflicts_text, frozen_text, index_text, kind_text, more_numbers, place_text, refusal_text, version_text};
+ghost use Rattle.play_report.specs.Refusals.{conflict_text, conflicts_text, frozen_text, index_text, kind_text, more_numbers, place_text, refusal_text, version_text};
 ghost use Rattle.play_report.specs.inside.Drafts.{added};
 ghost use Rattle.store_api.specs.declared.machines.Refusal.TheVariants.{Conflict as Lost, Left, Moved};
 
@@ -12,9 +12,10 @@ use crate::drafts::Draft;
 use flat_tables::Kind;
 use ice_ids::Id12;
 use std::alloc::{AllocError, Global};
+use std::fmt;
 use store_api::{Refusal, Version};
 use zarr_path::Index;
-use zarr_tree::{Case, Conflict, Frozen};
+use zarr_tree::{Conflict, Frozen};
 
 /// The version that stood at a ref, and `-` where none did.
 fn add_version(out: &mut Draft, found: Option<Version>) -> Result<(), AllocError>
@@ -47,24 +48,6 @@ fn kind_text(kind: Kind) -> &'static str
         Kind::Snapshot => "snapshot",
         Kind::Manifest => "manifest",
         Kind::Log => "log",
-    }
-}
-
-/// The number of a kind of conflicts.
-fn case_number(case: Case) -> u8
-    ensures { result ≡ case_number case }
-{
-    match case {
-        Case::NewNodeConflictsWithExistingNode => 1,
-        Case::NewNodeInInvalidGroup => 2,
-        Case::ZarrMetadataDoubleUpdate => 3,
-        Case::ZarrMetadataUpdateOfDeletedArray => 4,
-        Case::ZarrMetadataUpdateOfDeletedGroup => 5,
-        Case::ChunkDoubleUpdate => 6,
-        Case::ChunksUpdatedInDeletedArray => 7,
-        Case::ChunksUpdatedInUpdatedArray => 8,
-        Case::DeleteOfUpdatedArray => 9,
-        Case::DeleteOfUpdatedGroup => 10,
     }
 }
 
@@ -106,7 +89,7 @@ fn add_place(out: &mut Draft, index: &Option<Index>) -> Result<(), AllocError>
 fn add_conflict(out: &mut Draft, conflict: &Conflict) -> Result<(), AllocError>
     ensures { OnOk result (out.new ≡ added out.old (conflict_text conflict.now)) }
 {
-    write!(out, "{}:", case_number(conflict.case))?;
+    write!(out, "{}:", conflict.case.number())?;
     out.add(conflict.path.as_str().as_bytes())?;
     add_place(out, &conflict.index)
 }
@@ -146,6 +129,17 @@ fn add_lost(out: &mut Draft, old: Version, found: Option<Version>) -> Result<(),
     add_version(out, found)
 }
 
+/// A word, and a value behind a space.
+pub(crate) fn add_told<D: fmt::Display + Drop>(
+    out: &mut Draft,
+    word: &str,
+    value: D,
+) -> Result<(), AllocError>
+    ensures { OnOk result (IfSome (D.output value) (λ text. out.new ≡ added out.old (word.now space text))) }
+{
+    write!(out, "{word} {value}")
+}
+
 /// The text of a refusal: its word, and behind it, after spaces, what it tells. A ref that was found absent is told as `-`.
 pub fn add_refusal(out: &mut Draft, why: &Refusal) -> Result<(), AllocError>
     ensures { OnOk result (out.new ≡ added out.old (refusal_text why.now)) }
@@ -155,33 +149,33 @@ pub fn add_refusal(out: &mut Draft, why: &Refusal) -> Result<(), AllocError>
         Refusal::NoNode => out.add(b"nonode"),
         Refusal::NodeExists => out.add(b"nodeexists"),
         Refusal::NoParent => out.add(b"noparent"),
-        Refusal::BadMeta(fault) => write!(out, "badmeta {fault}"),
-        Refusal::FrozenField(part) => write!(out, "frozen {}", frozen_text(*part)),
+        Refusal::BadMeta(fault) => add_told(out, "badmeta", fault),
+        Refusal::FrozenField(part) => add_told(out, "frozen", frozen_text(*part)),
         Refusal::OutOfGrid => out.add(b"outofgrid"),
         Refusal::ChunkLength { want, got } => write!(out, "chunklength {want} {got}"),
         Refusal::NotArray => out.add(b"notarray"),
         Refusal::ReadOnly => out.add(b"readonly"),
         Refusal::Full => out.add(b"full"),
-        Refusal::Missing(key) => write!(out, "missing {key}"),
-        Refusal::BadFile(key, _) => write!(out, "badfile {key}"),
+        Refusal::Missing(key) => add_told(out, "missing", key),
+        Refusal::BadFile(key, _) => add_told(out, "badfile", key),
         Refusal::TooDeep => out.add(b"toodeep"),
         Refusal::StoreFault => out.add(b"storefault"),
-        Refusal::IdTaken(key) => write!(out, "idtaken {key}"),
+        Refusal::IdTaken(key) => add_told(out, "idtaken", key),
         Refusal::NoMemory => out.add(b"nomemory"),
         Refusal::IdsSpent => out.add(b"idsspent"),
         Refusal::BadKey => out.add(b"badkey"),
         Refusal::Conflict { old, found } => add_lost(out, *old, *found),
         Refusal::NothingToCommit => out.add(b"nothing"),
-        Refusal::TooLarge(kind) => write!(out, "toolarge {}", kind_text(*kind)),
-        Refusal::InDoubt { snapshot } => write!(out, "indoubt {snapshot}"),
+        Refusal::TooLarge(kind) => add_told(out, "toolarge", kind_text(*kind)),
+        Refusal::InDoubt { snapshot } => add_told(out, "indoubt", snapshot),
         Refusal::Left { at, conflicts } => add_left(out, *at, conflicts.as_slice()),
-        Refusal::NotAncestor { head } => write!(out, "notancestor {head}"),
-        Refusal::RefExists(version) => write!(out, "refexists {}", version.0),
+        Refusal::NotAncestor { head } => add_told(out, "notancestor", head),
+        Refusal::RefExists(version) => add_told(out, "refexists", version.0),
         Refusal::NoSnapshot => out.add(b"nosnapshot"),
         Refusal::TagGone => out.add(b"taggone"),
         Refusal::MainKept => out.add(b"mainkept"),
         Refusal::Moved { found } => add_moved(out, *found),
-        Refusal::CutoffAhead { now } => write!(out, "cutoffahead {now}"),
+        Refusal::CutoffAhead { now } => add_told(out, "cutoffahead", now),
     }
 }
 

@@ -1,14 +1,15 @@
 //! What stands in a report, line by line, behind the first word of the line.
 #![tactic(auto, using(crate::proofs::Drafting::drafting))]
 
-ghost use Rattle.std.specs.Prelude.{◌≡◌, ◌<◌, OnOk, map};
+ghost use Rattle.std.specs.Prelude.{◌≡◌, ◌<◌, ◌++◌, OnOk, codes, decimal, map};
+ghost use Rattle.play_report.specs.Words.{◌space◌};
 ghost use Rattle.std.specs.Char.{digit_char};
 ghost use Rattle.std.specs.List.{flat_map};
 ghost use Rattle.play_report.specs.Report.{node_kind, printed, byte_text, bytes_text, value_text, shown_text, end_text, ref_text};
 ghost use Rattle.play_report.specs.inside.Drafts.{added};
 
 use crate::drafts::Draft;
-use crate::refusals::add_refusal;
+use crate::refusals::{add_refusal, add_told};
 use ice_base::Bytes;
 use play_outcome::{End, RefLine, Shown};
 use std::alloc::AllocError;
@@ -84,25 +85,33 @@ fn add_value(out: &mut Draft, value: &Option<Bytes>) -> Result<(), AllocError>
     }
 }
 
+/// The line of a task, and a word, with a space behind each.
+fn add_head(out: &mut Draft, line: u32, word: &str) -> Result<(), AllocError>
+    ensures { OnOk result (out.new ≡ added out.old (decimal line space word.now ++ codes " ")) }
+{
+    write!(out, "{line} {word} ")
+}
+
 /// What a task showed.
 pub fn add_shown(out: &mut Draft, shown: &Shown) -> Result<(), AllocError>
     ensures { OnOk result (out.new ≡ added out.old (shown_text shown.now)) }
 {
     match shown {
         Shown::Node { line, array, path } => {
-            write!(out, "{line} list {} {}", node_kind(*array), path.as_str())
+            add_head(out, *line, "list")?;
+            add_told(out, node_kind(*array), path.as_str())
         }
         Shown::Meta { line, text } => {
-            write!(out, "{line} meta ")?;
+            add_head(out, *line, "meta")?;
             add_printed(out, text.as_slice())
         }
         Shown::Chunk { line, bytes } => {
-            write!(out, "{line} chunk ")?;
+            add_head(out, *line, "chunk")?;
             add_bytes(out, bytes.as_slice())
         }
         Shown::Fill { line } => write!(out, "{line} fill"),
         Shown::Key { line, bytes } => {
-            write!(out, "{line} zget ")?;
+            add_head(out, *line, "zget")?;
             add_value(out, bytes)
         }
         Shown::Log {
@@ -111,7 +120,8 @@ pub fn add_shown(out: &mut Draft, shown: &Shown) -> Result<(), AllocError>
             flushed_at,
             message,
         } => {
-            write!(out, "{line} log {id} {flushed_at} ")?;
+            add_head(out, *line, "log")?;
+            write!(out, "{id} {flushed_at} ")?;
             add_printed(out, message.as_str().as_bytes())
         }
     }

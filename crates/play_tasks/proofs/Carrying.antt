@@ -1,5 +1,5 @@
 -- What a client minds at each of its operations, and what that carries to the end of its play.
-use Rattle.std.proofs.Common.{List, [], ◌∷◌, ◌++◌, ℕ, refl, sym, ◌∙◌, ap, subst, append_assoc}
+use Rattle.std.proofs.Common.{List, ◌++◌, ℕ, refl}
 use Rattle.ice_ids.specs.declared.Id12.{Id12}
 use Rattle.ice_ids.specs.declared.drawing.AnyIds.{AnyIds}
 use Rattle.store_api.specs.declared.keys.Key.{Key}
@@ -7,19 +7,17 @@ use Rattle.store_api.specs.declared.keys.Key.TheVariants.{Snapshot, Manifest, Tx
 use Rattle.store_api.specs.declared.keys.Why.{Why}
 use Rattle.store_api.specs.declared.events.Op.{Op}
 use Rattle.store_api.specs.declared.events.Op.TheVariants.{Get, PutNew, PutOver, Remove, RemoveAt, List as ListPart}
-use Rattle.store_api.specs.declared.events.Reply.{Reply}
 use Rattle.store_api.specs.declared.events.Event.{Event}
 use Rattle.store_api.specs.Journal.{Each, IsGood}
-use Rattle.store_api.specs.Callers.{Caller, Makes, own_event}
+use Rattle.store_api.specs.Callers.{Caller}
 use Rattle.store_api.specs.Program.{Prog, Done, Ask as Ask_next, Keeps, Leads}
 use Rattle.store_api.specs.Plays.{Play, Ended, Ask, Or, PlayKeeps, PlayLeads, Stays}
-use Rattle.store_api.proofs.Journals.{Each-append, Each-one}
 use Rattle.store_api.proofs.Programs.{Leads-weaker}
 use Rattle.session.specs.Sessions.{SessionState}
 use Rattle.commit_path.specs.Owed.{Sessions, OwesOver, OwesSnap, OwesNew, OwesPutOver, Owes, IsCareful}
 use Rattle.store_api.specs.Telling.{ChangedNothing}
-use Rattle.commit_path.specs.Single.{PutsSnapshot, PutsNone, HasPutNone}
-use Rattle.commit_path.proofs.Singling.{HasPutNone-others}
+use Rattle.commit_path.specs.Single.{PutsSnapshot, HasPutNone}
+use Rattle.commit_path.proofs.Singling.{HasPutNone-makes}
 use Rattle.store_api.proofs.Telling.{makes-keeps}
 use Rattle.rebase.proofs.Kept.{stays-makes}
 use Rattle.play_tasks.specs.Solving.{MayEnd}
@@ -144,16 +142,6 @@ module _ (ids : AnyIds) (mine more : Sessions) (journal : List Event) (f : (s : 
   careful-more client op c = record { polite = c.polite; owes = owes op c.owes }
 
 -- ---- a program that puts no snapshot
-HasPutNone-makes : (by : Caller) (start : List Event) (op : Op) (reply : Reply) (old new : List Event) → (m : Makes by op reply old new) → ¬ PutsSnapshot op → HasPutNone by.number start old → HasPutNone by.number start new
-HasPutNone-makes by start op reply old new m none c =
-    let w = subst (λ (h : List Event). HasPutNone by.number start h) (sym m.waits.is) (HasPutNone-others by start old m.waits.between m.waits.others c) in
-    let event : Event = own_event by op reply m.time in
-    record {
-      more = w.more ++ event ∷ [];
-      is = m.is ∙ (ap (λ (h : List Event). h ++ event ∷ []) w.is ∙ append_assoc start w.more (event ∷ []));
-      each = Each-append (PutsNone by.number) start w.more (event ∷ []) w.each (Each-one (PutsNone by.number) (start ++ w.more) event (λ k. none));
-    }
-
 pub puts-none : {A : Type 0} (by : Caller) (start : List Event) (p : Prog A) (journal : List Event) → Keeps (λ h client op. ¬ PutsSnapshot op) by p journal → HasPutNone by.number start journal → Leads (λ a h. HasPutNone by.number start h) by p journal
 unfolding Keeps Leads
 puts-none by start (Done a) journal k c = c

@@ -18,9 +18,16 @@ enum Player<'a> {
 
 /// One task: it opens a session, plays the task's lines on it, and commits, or it calls on refs. Each step makes one
 /// operation of the store, and the local work that follows from its answer.
-#[derive(Drop)]
 pub struct Worker<'a> {
     player: Player<'a>,
+}
+
+// Written out, so that its proof stands here and not in each crate that drops a worker.
+impl Drop for Worker<'_> {
+    fn drop(self) {
+        let Worker { player } = self;
+        drop(player);
+    }
 }
 
 impl<'a> Worker<'a> {
@@ -69,7 +76,8 @@ impl<'a> Worker<'a> {
         requires { HasEnded (worker_rest self) }
         ensures { worker_rest self.entry ≡ Ended result }
     {
-        match self.player {
+        let Worker { player } = self;
+        match player {
             Player::Session(worker) => worker.into_outcome(),
             Player::Refs(worker) => worker.into_outcome(),
         }

@@ -20,8 +20,8 @@ use Rattle.store_api.specs.declared.machines.Refusal.{Refusal}
 use Rattle.store_api.specs.declared.machines.Refusal.TheVariants as R
 use Rattle.store_api.specs.Journal.{Each}
 use Rattle.store_api.specs.Callers.{Caller, IsOther, Makes, own_event}
-use Rattle.store_api.specs.Telling.{GetsOf, RefWasBad, SnapshotWasBad, WasFailure, WasReadAs, WasRef}
-use Rattle.store_api.proofs.Happening.{WasGot-append, WasAbsent-append}
+use Rattle.store_api.specs.Telling.{GetsOf, RefWasBad, WasFailure, WasReadAs, WasRef}
+use Rattle.store_api.proofs.Happening.{WasGot-append, WasAbsent-append, RefWasBad-append, SnapshotWasBad-append}
 use Rattle.session.specs.Sessions.{SessionState, branch_of}
 use Rattle.rebase.specs.declared.machine.Rebased.{Rebased}
 use Rattle.rebase.specs.declared.machine.Rebased.TheVariants.{Moved, UpToDate}
@@ -38,14 +38,8 @@ module _ (client : ℕ) (start journal more : List Event) where
   pub ref-append : (key : Key) (version : Version) (id : Id12) → WasRef client key version id start journal → WasRef client key version id start (journal ++ more)
   ref-append key version id r = record { bytes = r.bytes; got = WasGot-append client key r.bytes version.0 start journal more r.got; names = r.names }
 
-  ref_bad-append : (ref key : Key) (bad : Bad) → RefWasBad client ref key bad start journal → RefWasBad client ref key bad start (journal ++ more)
-  ref_bad-append ref key bad w = record { key_is = w.key_is; bytes = w.bytes; version = w.version; got = WasGot-append client ref w.bytes w.version start journal more w.got; unread = w.unread }
-
   read-append : (id : Id12) (f : SnapshotFile) → WasReadAs client id f start journal → WasReadAs client id f start (journal ++ more)
   read-append id f r = record { bytes = r.bytes; version = r.version; got = WasGot-append client (Snapshot id) r.bytes r.version start journal more r.got; read = r.read }
-
-  bad-append : (id : Id12) (key : Key) (bad : Bad) → SnapshotWasBad client id key bad start journal → SnapshotWasBad client id key bad start (journal ++ more)
-  bad-append id key bad w = record { key_is = w.key_is; bytes = w.bytes; version = w.version; got = WasGot-append client (Snapshot id) w.bytes w.version start journal more w.got; unread = w.unread }
 
   pub walked-append : (base below head : Id12) (fs : List SnapshotFile) → WasWalked client base below head fs start journal → WasWalked client base below head fs start (journal ++ more)
   walked-append base below head fs w = record {
@@ -136,7 +130,7 @@ module _ (client : ℕ) (start journal more : List Event) where
   })
 
   snapshot_bad-append : (s : SessionState) (key : Key) (bad : Bad) → SnapshotIsBad client s key bad start journal → SnapshotIsBad client s key bad start (journal ++ more)
-  snapshot_bad-append s key bad w = record { head = w.head; next = w.next; seen = w.seen; came = came-append s w.head w.next w.seen w.came; cause = bad-append w.next key bad w.cause }
+  snapshot_bad-append s key bad w = record { head = w.head; next = w.next; seen = w.seen; came = came-append s w.head w.next w.seen w.came; cause = SnapshotWasBad-append client w.next key bad start journal more w.cause }
 
   log_bad-append : (policy : Policy) (s : SessionState) (key : Key) (bad : Bad) → LogIsBad client policy s key bad start journal → LogIsBad client policy s key bad start (journal ++ more)
   log_bad-append policy s key bad w = record {
@@ -170,7 +164,7 @@ module _ (by : Caller) (policy : Policy) (s : SessionState) (start journal more 
       → RefWasBad by.number (Branch (branch_of s)) key bad start journal ⊎ (SnapshotIsBad by.number s key bad start journal ⊎ (LogIsBad by.number policy s key bad start journal ⊎ WasHidden by.number policy s key bad start journal))
       → RefWasBad by.number (Branch (branch_of s)) key bad start (journal ++ more)
       ⊎ (SnapshotIsBad by.number s key bad start (journal ++ more) ⊎ (LogIsBad by.number policy s key bad start (journal ++ more) ⊎ WasHidden by.number policy s key bad start (journal ++ more)))
-  bad-kept key bad (inl w) = inl (ref_bad-append by.number start journal more (Branch (branch_of s)) key bad w)
+  bad-kept key bad (inl w) = inl (RefWasBad-append by.number (Branch (branch_of s)) key bad start journal more w)
   bad-kept key bad (inr (inl w)) = inr (inl (snapshot_bad-append by.number start journal more s key bad w))
   bad-kept key bad (inr (inr (inl w))) = inr (inr (inl (log_bad-append by.number start journal more policy s key bad w)))
   bad-kept key bad (inr (inr (inr w))) = inr (inr (inr (hidden-append by.number start journal more policy s key bad w)))

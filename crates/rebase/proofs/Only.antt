@@ -16,7 +16,8 @@ use Rattle.zarr_tree.specs.Changes.{Changes}
 use Rattle.zarr_tree.specs.Conflicts.{without}
 use Rattle.zarr_changes.proofs.EntryLaws.{index_total}
 use Rattle.conflicts.specs.declared.solving.Policy.{Policy}
-use Rattle.conflicts.specs.Order.{number, IndexPrecedes, Precedes, Ascend}
+use Rattle.zarr_tree.specs.Cases.{number}
+use Rattle.conflicts.specs.Order.{IndexPrecedes, Precedes, Ascend}
 use Rattle.conflicts.proofs.Members.{In, in-contains, contains-in}
 use Rattle.rebase.specs.Along.{Link}
 use Rattle.rebase.specs.AlongLaws.{NoneStays, TheseStay, IsHidden, Passes, PassesAll, StaysAt, HidesAt, OnlyLaw}

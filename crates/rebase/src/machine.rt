@@ -198,11 +198,11 @@ impl Rebase {
         ensures listed { IfErr result MayRefuseRebase }
     {
         if named.id != self.session().base() {
-            self.state = Rebasing::Snapshot(Walk {
+            self.state.follow(Rebasing::Snapshot(Walk {
                 named,
                 above: Items::new(self.alloc),
                 next: named.id,
-            });
+            }));
             return Ok(Next::Again);
         }
         let Some(writer) = self.session.take() else {
@@ -245,7 +245,8 @@ impl Rebase {
             });
         };
         if parent == self.session().base() {
-            self.state = Rebasing::Log(first_solving(walk, loaded));
+            self.state
+                .follow(Rebasing::Log(first_solving(walk, loaded)));
             return Ok(Next::Again);
         }
         let Ok(()) = walk.above.push(loaded) else {
@@ -255,7 +256,7 @@ impl Rebase {
             return Err(Refusal::TooDeep);
         }
         walk.next = parent;
-        self.state = Rebasing::Snapshot(walk);
+        self.state.follow(Rebasing::Snapshot(walk));
         Ok(Next::Again)
     }
 
@@ -336,14 +337,14 @@ impl Rebase {
         let Some(oldest) = later.pop() else {
             return self.finish(named, commit, held, count);
         };
-        self.state = Rebasing::Log(Solving {
+        self.state.follow(Rebasing::Log(Solving {
             named,
             oldest,
             later: Items::from_vec(later),
             before: Some(commit),
             held,
             count,
-        });
+        }));
         Ok(Next::Again)
     }
 

@@ -4,6 +4,7 @@ use ice_ids::Id12;
 use ice_items::Items;
 use repo_objects::Loaded;
 use repo_read::Resolved;
+use std::mem;
 use zarr_changes::ChangeSet;
 
 /// A walk from the branch's snapshot down to the commit whose parent is the session's base.
@@ -45,4 +46,19 @@ pub enum Rebasing {
     Log(Solving),
     /// The machine has ended.
     Ended,
+}
+
+impl Rebasing {
+    ghost use Rattle.std.specs.Prelude.{◌≡◌};
+
+    /// The operation that comes next, where none did.
+    pub(crate) fn follow(&mut self, next: Rebasing)
+        requires { self.old ≡ Rebasing.Ended }
+        ensures { self.new ≡ next }
+    {
+        match mem::replace(self, next) {
+            Rebasing::Ended => {}
+            _ => unreachable!(),
+        }
+    }
 }

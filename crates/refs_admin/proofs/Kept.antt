@@ -20,18 +20,18 @@ use Rattle.store_api.specs.declared.machines.Refusal.TheVariants as R
 use Rattle.store_api.specs.Journal.{Each}
 use Rattle.store_api.specs.Callers.{Caller, IsOther}
 use Rattle.store_api.specs.Telling.{HasOwn, MadeGets, MadeOne, RefWasBad, SnapshotWasBad, WasAbsent, WasFailure, WasPresent, WasSnapshot}
-use Rattle.store_api.proofs.Happening.{HasOwn-append, WasGot-append, WasAbsent-append}
+use Rattle.store_api.proofs.Happening.{HasOwn-append, WasAbsent-append, RefWasBad-append, SnapshotWasBad-append}
 use Rattle.repo_read.specs.declared.resolving.At.{At}
 use Rattle.repo_read.specs.declared.resolving.Named.{Named}
 use Rattle.refs_admin.specs.declared.log.LogLine.{LogLine}
-use Rattle.repo_read.specs.Naming.{WasResolved, WasNothing, WasUnnamed, key_of}
-use Rattle.refs_admin.specs.Telling.{GetsTarget, IsOfMaking, WasAimed, TargetWasAbsent, TargetWasBad, MakingRefused}
+use Rattle.repo_read.specs.Naming.{WasResolved, WasNothing, WasUnnamed, key_of, TargetWasAbsent, TargetWasBad}
+use Rattle.refs_admin.specs.Telling.{GetsTarget, IsOfMaking, WasAimed, MakingRefused}
 use Rattle.refs_admin.specs.BranchTelling.{creates, BranchNewTells, BranchWasAt, ResetRefused, IsOfReset, resets, BranchResetTells, DropRefused, IsOfDrop, removes, BranchDropTells}
 use Rattle.refs_admin.specs.TagTelling.{TagWasThere, TombstoneWasNotGot, tags, TagNewTells, TagWasRead, HadTombstone, IsOfBurying, buries, TagDropTells}
 use Rattle.refs_admin.specs.InitTelling.{HasInitial, puts_initial, puts_main, InitTells}
 use Rattle.refs_admin.specs.LogTelling.{WasWalked, HeadWasAbsent, ChainIsBad, IsOfLog, LogSays, LogTells}
 use Rattle.repo_read.proofs.Own.{MadeGets-append, MadeOne-append, others-get}
-use Rattle.repo_read.proofs.NamingTold.{WasPresent-append, RefWasBad-append, WasNothing-append, WasFailure-append}
+use Rattle.repo_read.proofs.NamingTold.{WasPresent-append, TargetWasAbsent-append, TargetWasBad-append, WasNothing-append, WasFailure-append}
 use Rattle.repo_read.proofs.Namings.{WasRef-append, WasResolved-append}
 use Rattle.refs_admin.proofs.Targets.{WasSnapshot-append}
 use Rattle.refs_admin.proofs.Lines.{leading-append}
@@ -60,7 +60,7 @@ module _ (by : Caller) (start journal more : List Event) (others : Each (IsOther
   ref-bad ref key bad w = RefWasBad-append by.number ref key bad start journal more w
 
   snapshot-bad : (id : Id12) (key : Key) (bad : Bad) → SnapshotWasBad by.number id key bad start journal → SnapshotWasBad by.number id key bad start (journal ++ more)
-  snapshot-bad id key bad w = record { key_is = w.key_is; bytes = w.bytes; version = w.version; got = WasGot-append by.number (Snapshot id) w.bytes w.version start journal more w.got; unread = w.unread }
+  snapshot-bad id key bad w = SnapshotWasBad-append by.number id key bad start journal more w
 
   -- ---- names
   resolved : (at : At) (named : Named) → WasResolved by.number at named start journal → WasResolved by.number at named start (journal ++ more)
@@ -77,10 +77,10 @@ module _ (by : Caller) (start journal more : List Event) (others : Each (IsOther
   aimed at w = record { named = w.named; resolved = resolved at w.named w.resolved; target = target w.named.id w.target }
 
   target-absent : (at : At) → TargetWasAbsent by.number at start journal → TargetWasAbsent by.number at start (journal ++ more)
-  target-absent at w = record { named = w.named; resolved = resolved at w.named w.resolved; absent = WasAbsent-append by.number (Snapshot w.named.id) start journal more w.absent }
+  target-absent at w = TargetWasAbsent-append by.number at start journal more w
 
   target-bad : (at : At) (key : Key) (bad : Bad) → TargetWasBad by.number at key bad start journal → TargetWasBad by.number at key bad start (journal ++ more)
-  target-bad at key bad w = record { named = w.named; resolved = resolved at w.named w.resolved; unread = snapshot-bad w.named.id key bad w.unread }
+  target-bad at key bad w = TargetWasBad-append by.number at key bad start journal more w
 
   making-bad : (at : At) (key : Key) (bad : Bad) → WasUnnamed by.number at key bad start journal ⊎ TargetWasBad by.number at key bad start journal → WasUnnamed by.number at key bad start (journal ++ more) ⊎ TargetWasBad by.number at key bad start (journal ++ more)
   making-bad at key bad (inl w) = inl (ref-bad (key_of at) key bad w)

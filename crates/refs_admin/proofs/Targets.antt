@@ -30,8 +30,7 @@ use Rattle.repo_read.specs.declared.resolving.At.{At}
 use Rattle.repo_read.specs.declared.resolving.Named.{Named}
 use Rattle.repo_read.specs.Resolving.{but_refused}
 use Rattle.refs_admin.specs.Targets.{no_snapshot, target_told, target_program}
-use Rattle.repo_read.specs.Naming.{WasResolved}
-use Rattle.refs_admin.specs.Telling.{TargetWasAbsent, TargetWasBad}
+use Rattle.repo_read.specs.Naming.{WasResolved, TargetWasAbsent, TargetWasBad}
 use Rattle.repo_read.proofs.Own.{MadeGets-get, made-more}
 use Rattle.repo_read.proofs.Replies.{got-cases}
 use Rattle.repo_read.proofs.Namings.{got-made, absent-made, failed-made, WasResolved-makes}

@@ -77,21 +77,17 @@ walk-went (suc left) lines id reply s a t q result l f =
     let here = subst (λ (n : ℕ). Lands (walk_behind n (lines ++ line_of s ∷ []) s.parent) q result) (omega arith) l in
     snapshot-went id reply (λ s. walk_behind left (lines ++ line_of s ∷ []) s.parent) a s t q result here f
 
--- no further snapshot may be read, but there is one
-pub walk-deep : (left : ℕ) (lines : List LogLine) (parent : Option Id12) (id : Id12) → left ≡ 0 → parent ≡ Some id → walk_behind left lines parent ≡ Done (Err R.TooDeep)
+-- no further snapshot may be read
+pub walk-deep : (left : ℕ) (lines : List LogLine) (id : Id12) → left ≡ 0 → log_walk left lines id ≡ Done (Err R.TooDeep)
 unfolding log_walk
-walk-deep left lines None id z e = absurd (cc)
-walk-deep zero lines (Some own) id z e = refl
-walk-deep (suc left) lines (Some own) id z e = absurd (cc)
+walk-deep zero lines id z = refl
+walk-deep (suc left) lines id z = absurd (cc)
 
--- the parent is read next
-pub walk-next : (left : ℕ) (lines new : List LogLine) (parent : Option Id12) (id : Id12) → (left ≡ 0 → ⊥) → parent ≡ Some id → new ≡ lines → (walk_behind left lines parent ≡ log_walk left new id) × IsAsk (log_walk left new id)
+-- a further one is read next
+pub walk-next : (left : ℕ) (lines : List LogLine) (id : Id12) → (left ≡ 0 → ⊥) → IsAsk (log_walk left lines id)
 unfolding log_walk
-walk-next left lines new None id z e n = absurd (cc)
-walk-next zero lines new (Some own) id z e n = absurd (z refl)
-walk-next (suc left) lines new (Some own) id z e n =
-    let o : own ≡ id = cc in
-    (ap (λ (i : Id12). log_walk (suc left) lines i) o ∙ ap (λ (s : List LogLine). log_walk (suc left) s id) (sym n), tt)
+walk-next zero lines id n = absurd (n refl)
+walk-next (suc left) lines id n = tt
 
 -- ---- the head
 first-of : {A : Type 0} (f : Refusal → Refusal) (p : Program A) → IsAsk (refused_first f p) → IsAsk p

@@ -18,8 +18,8 @@ use Rattle.store_api.specs.declared.machines.Refusal.TheVariants as R
 use Rattle.store_api.specs.Machine.{found, version_at}
 use Rattle.store_api.specs.Telling.{GetsOf, HasMovedOn, MadeGets, MadeOne, RefWasBad, StandsAt, WasAbsent, WasFailure, WasRef}
 use Rattle.repo_read.specs.declared.resolving.At.{At}
-use Rattle.repo_read.specs.Naming.{WasNothing, WasUnnamed, IsNaming}
-use Rattle.refs_admin.specs.Telling.{GetsTarget, WasAimed, TargetWasAbsent, TargetWasBad, IsOfMaking, MakingRefused}
+use Rattle.repo_read.specs.Naming.{WasNothing, WasUnnamed, IsNaming, TargetWasAbsent, TargetWasBad}
+use Rattle.refs_admin.specs.Telling.{GetsTarget, WasAimed, IsOfMaking, MakingRefused}
 
 -- ---- a new branch
 -- a put of a new branch with a reference to a snapshot

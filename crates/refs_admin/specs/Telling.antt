@@ -2,36 +2,22 @@
 -- `start` is the journal at the call. (Icechunk specification version 1, "Reference Files", "Tags".)
 use Rattle.std.specs.Prelude.{◌≡◌, ◌⊎◌, ℕ, List}
 use Rattle.ice_ids.specs.declared.Id12.{Id12}
-use Rattle.repo_objects.specs.declared.bad.Bad.{Bad}
-use Rattle.store_api.specs.declared.keys.Key.{Key}
 use Rattle.store_api.specs.declared.keys.Key.TheVariants.{Snapshot}
 use Rattle.store_api.specs.declared.events.Op.{Op}
 use Rattle.store_api.specs.declared.events.Op.TheVariants.{Get}
 use Rattle.store_api.specs.declared.events.Event.{Event}
 use Rattle.store_api.specs.declared.machines.Refusal.{Refusal}
 use Rattle.store_api.specs.declared.machines.Refusal.TheVariants as R
-use Rattle.store_api.specs.Telling.{WasAbsent, WasSnapshot, SnapshotWasBad, GetsOf}
+use Rattle.store_api.specs.Telling.{WasSnapshot, GetsOf}
 use Rattle.repo_read.specs.declared.resolving.At.{At}
 use Rattle.repo_read.specs.declared.resolving.Named.{Named}
-use Rattle.repo_read.specs.Naming.{WasResolved, WasNothing, WasUnnamed, IsNaming}
+use Rattle.repo_read.specs.Naming.{WasResolved, WasNothing, WasUnnamed, TargetWasAbsent, TargetWasBad, IsNaming}
 
 -- What was named is there and readable, as the client's own gets were answered.
 pub record WasAimed (client : ℕ) (at : At) (start journal : List Event) : Type 0 where
   pub named : Named
   pub resolved : WasResolved client at named start journal
   pub target : WasSnapshot client named.id start journal
-
--- the snapshot that was named is absent
-pub record TargetWasAbsent (client : ℕ) (at : At) (start journal : List Event) : Type 0 where
-  pub named : Named
-  pub resolved : WasResolved client at named start journal
-  pub absent : WasAbsent client (Snapshot named.id) start journal
-
--- ... or can't be read
-pub record TargetWasBad (client : ℕ) (at : At) (key : Key) (bad : Bad) (start journal : List Event) : Type 0 where
-  pub named : Named
-  pub resolved : WasResolved client at named start journal
-  pub unread : SnapshotWasBad client named.id key bad start journal
 
 -- a get of the snapshot that was named
 abbrev pub GetsTarget : ℕ → At → List Event → List Event → Op → Type 0

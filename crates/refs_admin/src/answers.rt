@@ -4,7 +4,7 @@ ghost use Rattle.std.specs.Prelude.{◌≡◌, IfErr, IfOk};
 ghost use Rattle.ref_file.specs.Refs.{ref_bytes};
 ghost use Rattle.repo_read.specs.Answers.{Answers};
 ghost use Rattle.store_api.specs.Driving.{bytes_of};
-ghost use Rattle.refs_admin.specs.Targets.{target_told};
+ghost use Rattle.refs_admin.specs.Targets.{no_snapshot, target_told};
 ghost use Rattle.refs_admin.specs.Branches.{created, moved, dropped};
 ghost use Rattle.refs_admin.specs.Tags.{taken, buried};
 ghost use Rattle.refs_admin.specs.inside.Working.{MayRefuseTarget};
@@ -33,8 +33,17 @@ pub(crate) fn target_told(alloc: Global, id: Id12, reply: Reply) -> Result<Loade
 {
     match snapshot_told(alloc, id, reply) {
         Ok(loaded) => Ok(loaded),
-        Err(Refusal::Missing(_)) => Err(Refusal::NoSnapshot),
-        Err(refusal) => Err(refusal),
+        Err(refusal) => Err(no_snapshot(refusal)),
+    }
+}
+
+/// Why a ref isn't set to a snapshot that can't be read: where it is absent, there is no such snapshot.
+fn no_snapshot(refusal: Refusal) -> Refusal
+    ensures { result ≡ no_snapshot refusal }
+{
+    match refusal {
+        Refusal::Missing(_) => Refusal::NoSnapshot,
+        refusal => refusal,
     }
 }
 

@@ -111,10 +111,11 @@ impl BranchNew {
         ensures falls { branch_new_left self.new < resolving_left resolving + 2 }
         ensures listed { IfErr result MayRefuseNew }
     {
-        self.state = match resolving.on_reply(self.alloc, reply)? {
+        let next = match resolving.on_reply(self.alloc, reply)? {
             Resolution::Known(named) => Creating::Target(named.id),
             Resolution::Asks(resolving) => Creating::Resolving(resolving),
         };
+        put_back(&mut self.state, next);
         Ok(Next::Again)
     }
 
@@ -125,8 +126,19 @@ impl BranchNew {
         ensures falls { branch_new_left self.new < 2 }
         ensures listed { IfErr result MayRefuseNew }
     {
-        let _target = target_told(self.alloc, id, reply)?;
-        self.state = Creating::Branch(id);
+        drop(target_told(self.alloc, id, reply)?);
+        put_back(&mut self.state, Creating::Branch(id));
         Ok(Next::Again)
+    }
+}
+
+/// Puts the next state where the machine has ended.
+fn put_back(state: &mut Creating, next: Creating)
+    requires { state.old ≡ Creating.Ended }
+    ensures { state.new ≡ next }
+{
+    match mem::replace(state, next) {
+        Creating::Ended => {}
+        _ => unreachable!(),
     }
 }

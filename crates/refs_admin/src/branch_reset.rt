@@ -119,10 +119,11 @@ impl BranchReset {
         ensures falls { branch_reset_left self.new < resolving_left resolving + 3 }
         ensures listed { IfErr result MayRefuseReset }
     {
-        self.state = match resolving.on_reply(self.alloc, reply)? {
+        let next = match resolving.on_reply(self.alloc, reply)? {
             Resolution::Known(named) => Moving::Branch(named.id),
             Resolution::Asks(resolving) => Moving::Resolving(resolving),
         };
+        put_back(&mut self.state, next);
         Ok(Next::Again)
     }
 
@@ -134,7 +135,7 @@ impl BranchReset {
         ensures listed { IfErr result MayRefuseReset }
     {
         let read = ref_told(self.alloc, &self.name, reply)?;
-        self.state = Moving::Target(id, read.version);
+        put_back(&mut self.state, Moving::Target(id, read.version));
         Ok(Next::Again)
     }
 
@@ -145,8 +146,19 @@ impl BranchReset {
         ensures falls { branch_reset_left self.new < 2 }
         ensures listed { IfErr result MayRefuseReset }
     {
-        let _target = target_told(self.alloc, id, reply)?;
-        self.state = Moving::Over(id, version);
+        drop(target_told(self.alloc, id, reply)?);
+        put_back(&mut self.state, Moving::Over(id, version));
         Ok(Next::Again)
+    }
+}
+
+/// Puts the next state where the machine has ended.
+fn put_back(state: &mut Moving, next: Moving)
+    requires { state.old ≡ Moving.Ended }
+    ensures { state.new ≡ next }
+{
+    match mem::replace(state, next) {
+        Moving::Ended => {}
+        _ => unreachable!(),
     }
 }

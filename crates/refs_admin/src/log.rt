@@ -5,6 +5,7 @@ ghost use Rattle.repo_read.specs.Chains.{most_snapshots};
 ghost use Rattle.store_api.specs.Program.{IsAsk, Lands, Steps, is_fault};
 ghost use Rattle.store_api.specs.Driving.{Awaits, Took, op_of};
 ghost use Rattle.store_api.specs.declared.events.Op.TheVariants as Op;
+ghost use Rattle.store_api.specs.declared.machines.Refusal.TheVariants as Refusal;
 ghost use Rattle.repo_read.specs.Resolving.{no_ref};
 ghost use Rattle.refs_admin.specs.Logs.{log_program, line_of, MayRefuseLog};
 ghost use Rattle.repo_read.specs.Seeking.{resolution_left, resolving_left};
@@ -79,6 +80,15 @@ impl Walk {
             lines: LogLines::new(alloc),
             left: MOST_SNAPSHOTS,
         }
+    }
+
+    /// With the line of a snapshot that was read behind the others.
+    fn with_line(mut self, alloc: Global, loaded: &Loaded) -> Result<Walk, AllocError>
+        ensures lines { IfOk result (λ walk. walk.lines ≡ self.lines ++ line_of loaded.now ∷ []) }
+        ensures left { IfOk result (λ walk. walk.left ≡ self.left) }
+    {
+        self.lines.push(line_of(alloc, loaded)?)?;
+        Ok(self)
     }
 
     /// The get that comes next.
@@ -161,10 +171,11 @@ impl Log {
         ensures falls { log_left self.new < resolving_left resolving + most_snapshots }
         ensures listed { IfErr result MayRefuseLog }
     {
-        self.state = match resolving.on_reply(self.alloc, reply)? {
+        let next = match resolving.on_reply(self.alloc, reply)? {
             Resolution::Known(named) => Logging::Chain(Walk::begin(self.alloc, named.id)),
             Resolution::Asks(resolving) => Logging::Resolving(resolving),
         };
+        put_back(&mut self.state, next);
         Ok(Next::Again)
     }
 
@@ -189,33 +200,41 @@ impl Log {
         ensures listed { IfErr result MayRefuseLog }
     {
         let loaded = snapshot_told(self.alloc, walk.next, reply)?;
-        self.on_snapshot(walk, loaded)
+        self.on_snapshot(walk, &loaded)
     }
 
     /// Goes on with the parent of a snapshot that was read.
-    fn on_snapshot(&mut self, mut walk: Walk, loaded: Loaded) -> Result<Next<LogLines>, Refusal>
+    fn on_snapshot(&mut self, walk: Walk, loaded: &Loaded) -> Result<Next<LogLines>, Refusal>
         requires left { 0 < walk.left }
         requires ended { self.old.state ≡ Logging.Ended }
-        ensures lands { Lands (walk_behind (walk.left - 1) (walk.lines ++ line_of loaded ∷ []) loaded.parent) (log_rest self.new) result }
+        ensures lands { Lands (walk_behind (walk.left - 1) (walk.lines ++ line_of loaded.now ∷ []) loaded.now.parent) (log_rest self.new) result }
         ensures falls { log_left self.new < walk.left }
         ensures faultless { IfErr result (λ refusal. is_fault refusal ≡ false) }
         ensures listed { IfErr result MayRefuseLog }
     {
-        let Ok(line) = line_of(self.alloc, &loaded) else {
+        let Ok(walk) = walk.with_line(self.alloc, loaded) else {
             return Err(Refusal::NoMemory);
         };
-        let Ok(()) = walk.lines.push(line) else {
-            return Err(Refusal::NoMemory);
-        };
-        let Some(id) = loaded.file().parent else {
-            return Ok(Next::Ready(walk.lines));
-        };
+        match loaded.file().parent {
+            Some(id) => self.onto(walk, id),
+            None => Ok(Next::Ready(walk.lines)),
+        }
+    }
+
+    /// Goes on with a snapshot, if one more may be read.
+    fn onto(&mut self, mut walk: Walk, id: Id12) -> Result<Next<LogLines>, Refusal>
+        requires left { 0 < walk.left }
+        requires ended { self.old.state ≡ Logging.Ended }
+        ensures lands { Lands (log_walk (walk.left - 1) walk.lines id) (log_rest self.new) result }
+        ensures falls { log_left self.new < walk.left }
+        ensures refused { IfErr result (λ refusal. refusal ≡ Refusal.TooDeep) }
+    {
         walk.left -= 1;
         if walk.left == 0 {
             return Err(Refusal::TooDeep);
         }
         walk.next = id;
-        self.state = Logging::Chain(walk);
+        put_back(&mut self.state, Logging::Chain(walk));
         Ok(Next::Again)
     }
 }
@@ -250,5 +269,16 @@ fn no_ref(refusal: Refusal) -> Refusal
     match refusal {
         Refusal::Missing(_) => Refusal::NoRef,
         refusal => refusal,
+    }
+}
+
+/// Puts the next state where the machine has ended.
+fn put_back(state: &mut Logging, next: Logging)
+    requires { state.old ≡ Logging.Ended }
+    ensures { state.new ≡ next }
+{
+    match mem::replace(state, next) {
+        Logging::Ended => {}
+        _ => unreachable!(),
     }
 }

@@ -71,16 +71,19 @@ impl Machine for TagNew {
 
     fn answer(&mut self, reply: Reply) -> Result<Next<()>, Refusal> {
         let state = mem::replace(&mut self.state, Tagging::Ended);
-        match (state, reply) {
-            (Tagging::Resolving(resolving), reply) => self.on_resolving(resolving, reply),
-            (Tagging::Target(id), reply) => self.on_target(id, reply),
-            (Tagging::Tag(_), Reply::New(New::Done { .. })) => Ok(Next::Ready(())),
-            (Tagging::Tag(_), Reply::New(New::Present { version, .. })) => {
-                self.state = Tagging::Tombstone(version);
-                Ok(Next::Again)
-            }
-            (Tagging::Tombstone(version), reply) => Err(taken(version, reply)),
-            _ => Err(Refusal::StoreFault),
+        match state {
+            Tagging::Resolving(resolving) => self.on_resolving(resolving, reply),
+            Tagging::Target(id) => self.on_target(id, reply),
+            Tagging::Tag(_) => match reply {
+                Reply::New(New::Done { .. }) => Ok(Next::Ready(())),
+                Reply::New(New::Present { version, .. }) => {
+                    put_back(&mut self.state, Tagging::Tombstone(version));
+                    Ok(Next::Again)
+                }
+                _ => Err(Refusal::StoreFault),
+            },
+            Tagging::Tombstone(version) => Err(taken(version, reply)),
+            Tagging::Ended => unreachable!(),
         }
     }
 
@@ -122,10 +125,11 @@ impl TagNew {
         ensures falls { tag_new_left self.new < resolving_left resolving + 3 }
         ensures listed { IfErr result MayRefuseTag }
     {
-        self.state = match resolving.on_reply(self.alloc, reply)? {
+        let next = match resolving.on_reply(self.alloc, reply)? {
             Resolution::Known(named) => Tagging::Target(named.id),
             Resolution::Asks(resolving) => Tagging::Resolving(resolving),
         };
+        put_back(&mut self.state, next);
         Ok(Next::Again)
     }
 
@@ -136,8 +140,19 @@ impl TagNew {
         ensures falls { tag_new_left self.new < 3 }
         ensures listed { IfErr result MayRefuseTag }
     {
-        let _target = target_told(self.alloc, id, reply)?;
-        self.state = Tagging::Tag(id);
+        drop(target_told(self.alloc, id, reply)?);
+        put_back(&mut self.state, Tagging::Tag(id));
         Ok(Next::Again)
+    }
+}
+
+/// Puts the next state where the machine has ended.
+fn put_back(state: &mut Tagging, next: Tagging)
+    requires { state.old ≡ Tagging.Ended }
+    ensures { state.new ≡ next }
+{
+    match mem::replace(state, next) {
+        Tagging::Ended => {}
+        _ => unreachable!(),
     }
 }

@@ -4,7 +4,8 @@ ghost use Rattle.std.specs.Prelude.{◌≡◌, ◌<◌, ◌≤◌, ◌+◌, ◌-
 ghost use Rattle.store_api.specs.Machine.{same_key};
 ghost use Rattle.store_api.specs.Program.{IsAsk, Steps, Lands, is_fault};
 ghost use Rattle.repository.specs.Refs.{refs_program, read_each, read_branches, on_got, line_of, live, is_gone, MayRefuseRefs};
-ghost use Rattle.repository.specs.Reading.{refs_rest, refs_left, no_length, first_and_live, Answers, AddsLine};
+ghost use Rattle.store_api.specs.Driving.{Awaits, Took};
+ghost use Rattle.repository.specs.Reading.{reading_rest, reading_left, refs_rest, refs_left, no_length, first_and_live, Answers, AddsLine};
 
 use ice_base::RefName;
 use ice_ids::Id12;
@@ -73,16 +74,10 @@ impl Machine for ReadRefs {
         match (state, reply) {
             (Reading::Branches, Reply::Listed(listed)) => Ok(self.on_branches(listed.entries, 0)),
             (Reading::Branch { entries, place }, Reply::Got(got)) => {
-                let key = &entries.as_slice()[place].key;
-                add_ref(self.alloc, &mut self.lines, key, got)?;
-                Ok(self.on_branches(entries, place + 1))
+                self.on_branch(entries, place, got)
             }
             (Reading::Tags, Reply::Listed(listed)) => Ok(self.on_tags(listed.entries, 0)),
-            (Reading::Tag { entries, place }, Reply::Got(got)) => {
-                let key = &entries.as_slice()[place].key;
-                add_ref(self.alloc, &mut self.lines, key, got)?;
-                Ok(self.on_tags(entries, place + 1))
-            }
+            (Reading::Tag { entries, place }, Reply::Got(got)) => self.on_tag(entries, place, got),
             _ => Err(Refusal::StoreFault),
         }
     }
@@ -114,6 +109,40 @@ impl ReadRefs {
         ensures listed { IfErr result MayRefuseRefs }
     {
         drive(self, store)
+    }
+
+    fn on_branch(
+        &mut self,
+        entries: Entries,
+        place: usize,
+        got: Got,
+    ) -> Result<Next<RefLines>, Refusal>
+        requires ended { self.old.state ≡ Reading.Ended }
+        requires awaited { Awaits (reading_rest self.old.lines (Reading.Branch entries place)) (Reply.Got got) }
+        ensures took { Took (reading_rest self.old.lines (Reading.Branch entries place)) (Reply.Got got) (refs_rest self.new) result }
+        ensures falls { refs_left self.new < reading_left (Reading.Branch entries place) }
+        ensures listed { IfErr result MayRefuseRefs }
+    {
+        let key = &entries.as_slice()[place].key;
+        add_ref(self.alloc, &mut self.lines, key, got)?;
+        Ok(self.on_branches(entries, place + 1))
+    }
+
+    fn on_tag(
+        &mut self,
+        entries: Entries,
+        place: usize,
+        got: Got,
+    ) -> Result<Next<RefLines>, Refusal>
+        requires ended { self.old.state ≡ Reading.Ended }
+        requires awaited { Awaits (reading_rest self.old.lines (Reading.Tag entries place)) (Reply.Got got) }
+        ensures took { Took (reading_rest self.old.lines (Reading.Tag entries place)) (Reply.Got got) (refs_rest self.new) result }
+        ensures falls { refs_left self.new < reading_left (Reading.Tag entries place) }
+        ensures listed { IfErr result MayRefuseRefs }
+    {
+        let key = &entries.as_slice()[place].key;
+        add_ref(self.alloc, &mut self.lines, key, got)?;
+        Ok(self.on_tags(entries, place + 1))
     }
 
     /// Goes on with the branches from this place of the listing, and behind them with the tags.

@@ -2,7 +2,7 @@
 use Rattle.std.specs.Prelude.{◌≡◌, ℕ, ◌+◌, ◌-◌, ◌≤◌, ◌^◌, List, ◌∷◌, length, drop, Result, Ok, Err}
 use Rattle.ice_ids.specs.declared.Id8.{Id8}
 use Rattle.store_api.specs.declared.machines.Refusal.{Refusal}
-use Rattle.store_api.specs.declared.machines.Refusal.TheVariants.{Missing, BadFile, StoreFault, NoMemory}
+use Rattle.store_api.specs.declared.machines.Refusal.TheVariants.{NoMemory}
 use Rattle.store_api.specs.Program.{Done, IsAsk}
 use Rattle.store_api.specs.Running.{Program}
 use Rattle.session.specs.declared.chunks.Value.{Value}
@@ -47,14 +47,6 @@ abbrev pub Gets : (program : Program Value) → SessionState → Result Getting 
 Gets p s (Ok (Ready t value)) = (p ≡ Done (Ok value)) × (t ≡ s)
 Gets p s (Ok (Again m)) = (get_rest m ≡ p) × IsAsk p × (get_session m ≡ s)
 Gets p s (Err refused) = GetRefused p s refused.0 refused.1
-
--- the refusals of the machine
-abbrev pub MayRefuseGet : Refusal → Type 0
-MayRefuseGet (Missing key) = Unit {0}
-MayRefuseGet (BadFile key bad) = Unit {0}
-MayRefuseGet StoreFault = Unit {0}
-MayRefuseGet NoMemory = Unit {0}
-MayRefuseGet _ = ⊥
 
 -- a machine has so few steps left
 abbrev pub IsShort : Getting → Type 0

@@ -7,7 +7,8 @@ ghost use Rattle.held_manifest.specs.Places.{place_seen};
 ghost use Rattle.store_api.specs.Program.{IsAsk, Steps};
 ghost use Rattle.store_api.specs.Driving.{Awaits, Took};
 ghost use Rattle.session.specs.Chunks.{get_program, read_at, read_listed, read_object, read_own, read_place};
-ghost use Rattle.session.specs.Getting.{get_rest, get_left, get_session, Gets, IsShort, MayRefuseGet};
+ghost use Rattle.repo_read.specs.Programs.{MayRefuseObject};
+ghost use Rattle.session.specs.Getting.{get_rest, get_left, get_session, Gets, IsShort};
 ghost use Rattle.session.specs.inside.Working.{Begins, LandsCalmly};
 
 use crate::Session;
@@ -149,7 +150,7 @@ impl Machine for GetChunk {
 
     ghost keeps = { λ old new. get_session new ≡ get_session old };
 
-    ghost may_refuse = { MayRefuseGet };
+    ghost may_refuse = { MayRefuseObject };
 
     #[tactic(auto, unfolding(crate::specs::Chunks::read_listed))]
     fn request(&self) -> Result<Request<'_>, AllocError> {
@@ -193,7 +194,7 @@ impl GetChunk {
         ensures step { Steps (S.view store.old) (S.view store.new) (get_rest self.old) (get_rest self.new) result }
         ensures falls { get_left self.new < get_left self.old }
         ensures session { get_session self.new ≡ get_session self.old }
-        ensures listed { IfErr result MayRefuseGet }
+        ensures listed { IfErr result MayRefuseObject }
     {
         drive(self, store)
     }
@@ -212,7 +213,7 @@ impl GetChunk {
         ensures took { Took (read_listed self.old.want self.old.node self.old.index (id ∷ drop at ids)) reply (get_rest self.new) result }
         ensures falls { get_left self.new < length ids - at + 2 }
         ensures kept { get_session self.new ≡ get_session self.old }
-        ensures listed { IfErr result MayRefuseGet }
+        ensures listed { IfErr result MayRefuseObject }
     {
         let held = manifest_told(id, reply)?;
         match held.seek(self.node, &self.index) {
@@ -227,7 +228,7 @@ impl GetChunk {
         ensures took { LandsCalmly (read_place self.old.want manifest (place_seen place.entry)) (get_rest self.new) result }
         ensures falls { get_left self.new < 2 }
         ensures kept { get_session self.new ≡ get_session self.old }
-        ensures listed { IfErr result MayRefuseGet }
+        ensures listed { IfErr result MayRefuseObject }
     {
         let bytes = match place {
             PlaceView::Inline(bytes) => bytes,
@@ -249,7 +250,7 @@ impl GetChunk {
         ensures took { LandsCalmly (read_listed self.old.want self.old.node self.old.index (drop at ids)) (get_rest self.new) result }
         ensures falls { get_left self.new < length ids - at + 2 }
         ensures kept { get_session self.new ≡ get_session self.old }
-        ensures listed { IfErr result MayRefuseGet }
+        ensures listed { IfErr result MayRefuseObject }
     {
         let Some(id) = id_at(&ids, at) else {
             return Ok(Next::Ready(Value::Fill));
@@ -272,7 +273,7 @@ impl GetChunk {
         ensures took { Took (read_object self.old.want id offset length) reply (get_rest self.new) result }
         ensures falls { get_left self.new < 1 }
         ensures kept { get_session self.new ≡ get_session self.old }
-        ensures listed { IfErr result MayRefuseGet }
+        ensures listed { IfErr result MayRefuseObject }
     {
         let bytes = object_told(self.want, id, offset, length, reply)?;
         Ok(Next::Ready(Value::Held(bytes)))

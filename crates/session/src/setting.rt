@@ -179,14 +179,13 @@ impl Machine for SetChunk {
         ensures listed { IfErr result MayRefuseSet }
         ensures held { OnErr result (set_session self.new ≡ set_session self.old) }
     {
-        let state = mem::replace(&mut self.state, Putting::Ended);
-        match (state, reply) {
+        match (mem::replace(&mut self.state, Putting::Ended), reply) {
             (Putting::Object(session), Reply::New(new)) => self.on_put(session, new),
-            (Putting::Object(session), _) => {
-                self.state = Putting::Refused(session);
+            (Putting::Object(session), Reply::Failed { done: _ }) => {
+                self.state.hold(session);
                 Err(Refusal::StoreFault)
             }
-            _ => Err(Refusal::StoreFault),
+            _ => unreachable!(),
         }
     }
 
@@ -197,8 +196,9 @@ impl Machine for SetChunk {
         ensures kept { Unit {0} }
         ensures held { set_session self.new ≡ set_session self.old }
     {
-        if let Putting::Object(session) = mem::replace(&mut self.state, Putting::Ended) {
-            self.state = Putting::Refused(session);
+        match mem::replace(&mut self.state, Putting::Ended) {
+            Putting::Object(session) => self.state.hold(session),
+            _ => unreachable!(),
         }
     }
 
@@ -215,7 +215,7 @@ impl SetChunk {
         ensures held { OnErr result (set_session self.new ≡ Some session) }
     {
         if let New::Present { version: _, now: _ } = new {
-            self.state = Putting::Refused(session);
+            self.state.hold(session);
             return Err(Refusal::IdTaken(Key::Chunk(self.id)));
         }
         let place = Place::Object {
@@ -226,7 +226,7 @@ impl SetChunk {
         match session.enter(&self.path, &self.index, place) {
             Ok(()) => Ok(Next::Ready(session)),
             Err(_) => {
-                self.state = Putting::Refused(session);
+                self.state.hold(session);
                 Err(Refusal::NoMemory)
             }
         }

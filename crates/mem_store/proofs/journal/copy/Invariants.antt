@@ -2,4 +2,4 @@ use Rattle.std.proofs.Common.{◌≡◌, take}
 use Rattle.mem_store.proofs.journal.copy.Given as goal
 
 abbrev pub invariant-loop-entry : goal.invariant-loop-entry
-invariant-loop-entry l = l.list.items ≡ take l.entry-index l.entries
+invariant-loop-entry l = l.list ≡ take l.entry-index l.entries

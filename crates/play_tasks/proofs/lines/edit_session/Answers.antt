@@ -20,19 +20,19 @@ pub returns-in-Group-clause-local : goal.returns-in-Group-clause-local
 returns-in-Group-clause-local c = ap is_local c.without_id.ensures ∙ added-local group_fault c.args.session.now c.add_group.new.self c.in-Group.path group_text c.add_group.result c.add_group.ensures
 
 pub returns-in-Array-clause-local : goal.returns-in-Array-clause-local
-returns-in-Array-clause-local c = ap is_local c.without_id-in-Array.ensures ∙ added-local array_fault c.args.session.now c.add_array.new.self c.in-Array.path c.as_bytes.result.now c.add_array.result c.add_array.ensures
+returns-in-Array-clause-local c = ap is_local c.without_id-in-Array.ensures ∙ added-local array_fault c.args.session.now c.add_array.new.self c.deref.result.now c.as_bytes.result.now c.add_array.result c.add_array.ensures
 
 pub returns-in-Make-clause-local : goal.returns-in-Make-clause-local
-returns-in-Make-clause-local c = ap is_local c.without_id-in-Make.ensures ∙ added-local node_fault c.args.session.now c.add_node.new.self c.in-Make.path c.as_bytes-in-Make.result.now c.add_node.result c.add_node.ensures
+returns-in-Make-clause-local c = ap is_local c.without_id-in-Make.ensures ∙ added-local node_fault c.args.session.now c.add_node.new.self c.deref-in-Make.result.now c.as_bytes-in-Make.result.now c.add_node.result c.add_node.ensures
 
 pub returns-in-Meta-clause-local : goal.returns-in-Meta-clause-local
-returns-in-Meta-clause-local c = set-local c.args.session.now c.set_meta.new.self c.in-Meta.path c.as_bytes-in-Meta.result.now c.set_meta.result c.set_meta.ensures
+returns-in-Meta-clause-local c = set-local c.args.session.now c.set_meta.new.self c.deref-in-Meta.result.now c.as_bytes-in-Meta.result.now c.set_meta.result c.set_meta.ensures
 
 pub returns-in-Drop-clause-local : goal.returns-in-Drop-clause-local
 returns-in-Drop-clause-local c = drop-local c.args.session.now c.drop_node.new.self c.in-Drop.path c.drop_node.result c.drop_node.ensures
 
 pub returns-in-Unset-clause-local : goal.returns-in-Unset-clause-local
-returns-in-Unset-clause-local c = unset-local c.args.session.now c.unset_chunk.new.self c.in-Unset.path c.in-Unset.index c.unset_chunk.result c.unset_chunk.ensures
+returns-in-Unset-clause-local c = unset-local c.args.session.now c.unset_chunk.new.self c.deref-in-Unset.result.now c.deref-in-Unset-2.result.now c.unset_chunk.result c.unset_chunk.ensures
 
 pub returns-in-KeyErase-clause-local : goal.returns-in-KeyErase-clause-local
 returns-in-KeyErase-clause-local c = erase-local c.args.session.now c.key_erase.new.session c.as_str-in-KeyErase.result.now c.key_erase.result c.key_erase.ensures

@@ -1,9 +1,8 @@
-use Rattle.std.proofs.Common.{◌≡◌, ℕ, List, inl, inr, refl, sym, subst}
-use Rattle.zarr_path.specs.Keys.{key_of}
+use Rattle.std.proofs.Common.{◌≡◌, ℕ, List, inl, inr, refl, sym, ◌∙◌, ap, subst}
 use Rattle.session.specs.Sessions.{SessionState}
 use Rattle.play_script.specs.declared.scripts.EditCall.{EditCall}
-use Rattle.play_script.specs.declared.scripts.EditCall.TheVariants.{Group, Array, Make, Meta, Drop, Unset, KeyErase}
-use Rattle.play_tasks.specs.Lines.{Deed, Goes, Sets, edit_deed, key_set_deed, edited, silent}
+use Rattle.play_script.specs.declared.scripts.EditCall.TheVariants.{Group, Array, Make, Meta, Drop, Set, Fill, Unset, KeySet, KeyErase}
+use Rattle.play_tasks.specs.Lines.{Deed, Goes, edit_deed, edited, silent}
 use Rattle.play_tasks.specs.inside.Working.{LineComes, CallComes}
 use Rattle.play_tasks.proofs.lines.play_edit.Goals as goal
 
@@ -40,16 +39,24 @@ pub returns-in-Group-clause-bounded : goal.returns-in-Group-clause-bounded
 returns-in-Group-clause-bounded c = c.play_change.ensures.bounded c.args.at
 
 pub returns-in-Fill-clause-comes : goal.returns-in-Fill-clause-comes
-returns-in-Fill-clause-comes c = subst (λ (x : EditCall). CallComes c.args.line c.args.at c.args.shown.items c.args.session (edit_deed x c.args.session) c.play_fill.result) (sym c.in-Fill.is) c.play_fill.ensures.comes
+returns-in-Fill-clause-comes c =
+    let path = c.deref-in-Fill.result.now in
+    let is = c.in-Fill.is ∙ (ap (λ (p : List ℕ). Fill p c.in-Fill.index c.in-Fill.byte) (sym c.deref-in-Fill.ensures) ∙ ap (λ (i : List ℕ). Fill path i c.in-Fill.byte) (sym c.deref-in-Fill-2.ensures)) in
+    subst (λ (x : EditCall). CallComes c.args.line c.args.at c.args.shown.items c.args.session (edit_deed x c.args.session) c.play_fill.result) (sym is) c.play_fill.ensures.comes
 
 pub returns-in-Set-clause-comes : goal.returns-in-Set-clause-comes
 returns-in-Set-clause-comes c = λ access.
     let s = c.args.session in
-    subst (λ (x : EditCall). LineComes access c.args.line c.args.at c.args.shown.items s (edit_deed x s) c.play_set.result) (sym c.in-Set.is)
-    (subst (λ (bytes : List ℕ). LineComes access c.args.line c.args.at c.args.shown.items s (Sets c.in-Set.path c.in-Set.index bytes) c.play_set.result) c.as_slice.ensures.value (c.play_set.ensures.comes access))
+    let path = c.deref.result.now in
+    let index = c.deref-in-Set.result.now in
+    let held = sym (c.as_slice.ensures.value ∙ c.deref-in-Set-2.ensures) in
+    let is = c.in-Set.is ∙ (ap (λ (p : List ℕ). Set p c.in-Set.index c.in-Set.bytes) (sym c.deref.ensures) ∙ (ap (λ (i : List ℕ). Set path i c.in-Set.bytes) (sym c.deref-in-Set.ensures) ∙ ap (λ (b : List ℕ). Set path index b) held)) in
+    subst (λ (x : EditCall). LineComes access c.args.line c.args.at c.args.shown.items s (edit_deed x s) c.play_set.result) (sym is) (c.play_set.ensures.comes access)
 
 pub returns-in-KeySet-clause-comes : goal.returns-in-KeySet-clause-comes
 returns-in-KeySet-clause-comes c = λ access.
     let s = c.args.session in
-    subst (λ (x : EditCall). LineComes access c.args.line c.args.at c.args.shown.items s (edit_deed x s) c.play_key_set.result) (sym c.in-KeySet.is)
-    (subst (λ (bytes : List ℕ). LineComes access c.args.line c.args.at c.args.shown.items s (key_set_deed bytes (key_of c.in-KeySet.key) s) c.play_key_set.result) c.as_slice-in-KeySet.ensures.value (c.play_key_set.ensures.comes access))
+    let key = c.deref-in-KeySet.result.now in
+    let held = sym (c.as_slice-in-KeySet.ensures.value ∙ c.deref-in-KeySet-2.ensures) in
+    let is = c.in-KeySet.is ∙ (ap (λ (k : List ℕ). KeySet k c.in-KeySet.bytes) (sym c.deref-in-KeySet.ensures) ∙ ap (λ (b : List ℕ). KeySet key b) held) in
+    subst (λ (x : EditCall). LineComes access c.args.line c.args.at c.args.shown.items s (edit_deed x s) c.play_key_set.result) (sym is) (c.play_key_set.ensures.comes access)

@@ -1,13 +1,16 @@
-use Rattle.std.proofs.Common.{◌≡◌, ℕ, inl, inr, refl, sym, subst}
+use Rattle.std.proofs.Common.{◌≡◌, ℕ, List, inl, inr, refl, sym, ◌∙◌, ap, subst}
 use Rattle.session.specs.Sessions.{SessionState}
 use Rattle.play_script.specs.declared.scripts.ReadCall.{ReadCall}
-use Rattle.play_script.specs.declared.scripts.ReadCall.TheVariants.{List as List_call, Get}
+use Rattle.play_script.specs.declared.scripts.ReadCall.TheVariants.{List as List_call, Get, Chunk}
 use Rattle.play_tasks.specs.Lines.{Deed, Goes, read_deed, read_by, still}
 use Rattle.play_tasks.specs.inside.Working.{CallComes}
 use Rattle.play_tasks.proofs.lines.play_read.Goals as goal
 
 pub returns-in-Chunk-clause-comes : goal.returns-in-Chunk-clause-comes
-returns-in-Chunk-clause-comes c = subst (λ (x : ReadCall). CallComes c.args.line c.args.at c.args.shown.items c.args.session (read_deed c.args.line x c.args.session) c.play_get.result) (sym c.in-Chunk.is) c.play_get.ensures.comes
+returns-in-Chunk-clause-comes c =
+    let path = c.deref.result.now in
+    let is = c.in-Chunk.is ∙ (ap (λ (p : List ℕ). Chunk p c.in-Chunk.index) (sym c.deref.ensures) ∙ ap (λ (i : List ℕ). Chunk path i) (sym c.deref-in-Chunk.ensures)) in
+    subst (λ (x : ReadCall). CallComes c.args.line c.args.at c.args.shown.items c.args.session (read_deed c.args.line x c.args.session) c.play_get.result) (sym is) c.play_get.ensures.comes
 
 pub returns-in-KeyGet-clause-comes : goal.returns-in-KeyGet-clause-comes
 returns-in-KeyGet-clause-comes c = subst (λ (x : ReadCall). CallComes c.args.line c.args.at c.args.shown.items c.args.session (read_deed c.args.line x c.args.session) c.play_key_get.result) (sym c.in-KeyGet.is) c.play_key_get.ensures.comes

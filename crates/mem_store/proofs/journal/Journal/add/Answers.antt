@@ -17,12 +17,10 @@ invariant_of-self-2 g c = λ key.
     let items : c.push.new.self.items ≡ logs ++ log ∷ [] = search rules in
     let more : told c.push.new.self.items ≡ j ++ event ∷ [] = ap (λ (xs : List Logged). told xs) items ∙ told-append [] logs log in
     let at : Option ℕ = place_in c.self.inside.index key in
-    let len : c.len-place.result ≡ length logs = search rules in
-    let place : c.len-place.result ≡ length j = len ∙ sym (length-told logs) in
-    let done : c.is_done.result ≡ was_done event.reply = c.is_done.ensures ∙ sym (done-reply j log.time log.op log.answer) in
-    let left : place_in c.follow.new.self key ≡ place_after (length j) event.op (was_done event.reply) key at =
-    c.in_ok-follow.ensures.ok key ∙ (ap (λ (n : ℕ). place_after n c.args.op c.is_done.result key at) place ∙ ap (λ (b : Bool). place_after (length j) c.args.op b key at) done) in
-    ap (λ (xs : List Event). puts_in xs (place_in c.follow.new.self key)) more
+    let done : c.is_done-done.result ≡ was_done event.reply = c.is_done-done.ensures ∙ sym (done-reply j log.time log.op log.answer) in
+    let left : place_in c.make_room.new.index key ≡ place_after (length j) event.op (was_done event.reply) key at =
+    c.in_default.ensures.ok key ∙ (ap (λ (n : ℕ). place_after n c.args.op c.is_done-done.result key at) (sym (length-told logs)) ∙ ap (λ (b : Bool). place_after (length j) c.args.op b key at) done) in
+    ap (λ (xs : List Event). puts_in xs (place_in c.make_room.new.index key)) more
     ∙ (ap (λ (o : Option ℕ). puts_in (j ++ event ∷ []) o) left
     ∙ (indexed-more j event key at (c.self.invariant key)
     ∙ ap (λ (xs : List Event). found xs key) (sym more)))

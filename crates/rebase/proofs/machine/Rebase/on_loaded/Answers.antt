@@ -6,9 +6,9 @@ use Rattle.rebase.proofs.Rebases.{oldest-lands, deep-lands, parent-lands, state-
 use Rattle.rebase.proofs.machine.Rebase.on_loaded.Goals as goal
 
 pub returns-then-eq-clause-lands : goal.returns-then-eq-clause-lands
-returns-then-eq-clause-lands c =
-    oldest-lands c.args.self.now.policy c.args.self.now.session c.session.result.now c.args.walk c.args.loaded c.in-Some.parent c.first_solving.result c.session.ensures
-    (sym (ap (λ (f : SnapshotFile). f.parent) c.file.ensures.value) ∙ c.in-Some.is) (ap (λ (base : Id12). same_id12 c.in-Some.parent base) (sym c.base.ensures) ∙ sym c.eq.ensures ∙ c.if-eq.true) c.first_solving.ensures
+returns-then-eq-clause-lands c = rw c.follow.ensures
+    (oldest-lands c.args.self.now.policy c.args.self.now.session c.session.result.now c.args.walk c.args.loaded c.in-Some.parent c.first_solving.result c.session.ensures
+    (sym (ap (λ (f : SnapshotFile). f.parent) c.file.ensures.value) ∙ c.in-Some.is) (ap (λ (base : Id12). same_id12 c.in-Some.parent base) (sym c.base.ensures) ∙ sym c.eq.ensures ∙ c.if-eq.true) c.first_solving.ensures)
 
 pub returns-then-len-clause-lands : goal.returns-then-len-clause-lands
 returns-then-len-clause-lands c = (
@@ -18,7 +18,7 @@ returns-then-len-clause-lands c = (
 )
 
 pub returns-clause-lands : goal.returns-clause-lands
-returns-clause-lands c =
-    parent-lands c.args.self.now.policy c.args.self.now.session c.session.result.now c.args.walk c.args.loaded c.in-Some.parent c.push.new.self c.session.ensures
+returns-clause-lands c = rw c.follow-2.ensures
+    (parent-lands c.args.self.now.policy c.args.self.now.session c.session.result.now c.args.walk c.args.loaded c.in-Some.parent c.push.new.self c.session.ensures
     (sym (ap (λ (f : SnapshotFile). f.parent) c.file.ensures.value) ∙ c.in-Some.is) (ap (λ (base : Id12). same_id12 c.in-Some.parent base) (sym c.base.ensures) ∙ sym c.eq.ensures ∙ c.if-eq.false) c.in-Ok.ensures.ok c.requires.left
-    (λ e. c.if-len.false (c.len.ensures ∙ e))
+    (λ e. c.if-len.false (c.len.ensures ∙ e)))

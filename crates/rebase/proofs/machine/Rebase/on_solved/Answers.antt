@@ -15,6 +15,6 @@ returns-in_default-clause-lands c =
     c.finish.ensures.lands
 
 pub returns-clause-lands : goal.returns-clause-lands
-returns-clause-lands c =
-    later-lands c.args.self.now.policy c.args.self.now.session c.args.named c.args.count c.args.commit c.in-Some.oldest c.args.later c.from_vec.result c.args.held c.requires.live
-    (sym c.into_vec-later.ensures ∙ c.pop.ensures.items ∙ ap (λ o. c.pop.new.self.items ++ option_to_list o) c.in-Some.is ∙ ap (λ (xs : List SnapshotFile). xs ++ c.in-Some.oldest ∷ []) (sym c.from_vec.ensures))
+returns-clause-lands c = rw c.follow.ensures
+    (later-lands c.args.self.now.policy c.args.self.now.session c.args.named c.args.count c.args.commit c.in-Some.oldest c.args.later c.from_vec.result c.args.held c.requires.live
+    (sym c.into_vec-later.ensures ∙ c.pop.ensures.items ∙ ap (λ o. c.pop.new.self.items ++ option_to_list o) c.in-Some.is ∙ ap (λ (xs : List SnapshotFile). xs ++ c.in-Some.oldest ∷ []) (sym c.from_vec.ensures)))

@@ -1,5 +1,5 @@
 use Rattle.dir_store.specs.inside.Finding.{IsOfPart}
-use Rattle.dir_store.proofs.listing.list_files.Given as goal
+use Rattle.dir_store.proofs.listing.found_in.Given as goal
 
 abbrev pub invariant-loop-entry : goal.invariant-loop-entry
 invariant-loop-entry g l = record {
