@@ -2,8 +2,9 @@
 
 ghost use Rattle.std.specs.Prelude.{◌≤◌};
 
+use crate::directories::{Directory, branch};
 use dir_store::{DirStore, content_version, open};
-use ice_base::{RefName, TickClock};
+use ice_base::TickClock;
 use ice_ids::Id12;
 use std::alloc::{Allocator, Global};
 use std::cell::Cell;
@@ -178,8 +179,8 @@ struct Keys {
 fn make_keys(rt: HostRuntime) -> Result<Keys, Fail> {
     Ok(Keys {
         snapshot: Key::Snapshot(Id12::INITIAL),
-        main: Key::Branch(RefName::read(rt.alloc(), "main")?),
-        other: Key::Branch(RefName::read(rt.alloc(), "other")?),
+        main: branch(rt.alloc(), "main")?,
+        other: branch(rt.alloc(), "other")?,
     })
 }
 
@@ -201,111 +202,170 @@ fn failures<T: Drop>(done: Result<T, StoreFault>) -> u64
     }
 }
 
-/// Makes each operation, and tells how many failed.
-fn work(store: &mut DirStore<Breaking<'_>, TickClock>, keys: &Keys) -> u64 {
+type Broken<'a> = DirStore<Breaking<'a>, TickClock>;
+
+/// Writes, and tells how many writes failed.
+fn write(store: &mut Broken<'_>, keys: &Keys) -> u64
+    ensures { result ≤ 4 }
+{
     let one = content_version(b"one");
-    let made = content_version(b"made");
     failures(store.put_new(&keys.snapshot, b"whole", Why::Init))
         + failures(store.put_over(&keys.main, b"two", one, Why::Commit))
         + failures(store.put_new(&keys.main, b"never", Why::Create))
-        + failures(store.get(&keys.main))
         + failures(store.put_new(&keys.other, b"made", Why::Create))
+}
+
+/// Reads, and tells how many reads failed.
+fn read(store: &mut Broken<'_>, keys: &Keys) -> u64
+    ensures { result ≤ 3 }
+{
+    failures(store.get(&keys.main))
         + failures(store.list(Part::Branches))
         + failures(store.list(Part::Snapshots))
-        + failures(store.remove_at(&keys.other, made, Why::Drop))
+}
+
+/// Removes, and tells how many removals failed.
+fn remove(store: &mut Broken<'_>, keys: &Keys) -> u64
+    ensures { result ≤ 2 }
+{
+    let made = content_version(b"made");
+    failures(store.remove_at(&keys.other, made, Why::Drop))
         + failures(store.remove(&keys.snapshot, Why::Collect))
+}
+
+/// What nine operations came to where a call breaks.
+#[derive(Clone, Copy)]
+struct Came {
+    broke: bool,
+    failed: u64,
+    faults: u64,
+    operations: u64,
+}
+
+impl Came {
+    /// Whether the broken call, and no other, was counted as a failure.
+    fn is_counted(self) -> bool {
+        let broken = if self.broke { 1 } else { 0 };
+        self.failed == broken && self.faults == broken && self.operations == 9
+    }
+}
+
+/// Makes the operations in a fresh directory, with this call broken.
+fn work(
+    rt: HostRuntime,
+    path: &str,
+    keys: &Keys,
+    broken: u64,
+    for_good: bool,
+) -> Result<Came, Fail> {
+    begin(rt, path, keys)?;
+    let calls = Cell::new(0);
+    let files = Breaking {
+        rt,
+        calls: &calls,
+        broken,
+        for_good,
+    };
+    let mut store = DirStore::at(files, path, TickClock::new())?;
+    let failed = write(&mut store, keys) + read(&mut store, keys) + remove(&mut store, keys);
+    Ok(Came {
+        broke: calls.get() > broken,
+        failed,
+        faults: store.faults(),
+        operations: store.operations(),
+    })
 }
 
 #[test]
 fn each_failed_call_is_counted(rt: HostRuntime) -> Result<(), Fail> {
     let keys = make_keys(rt)?;
     for broken in 1..MOST {
-        begin(rt, "failing_calls", &keys)?;
-        let calls = Cell::new(0);
-        let files = Breaking {
-            rt,
-            calls: &calls,
-            broken,
-            for_good: false,
-        };
-        let mut store = DirStore::at(files, "failing_calls", TickClock::new())?;
-        let failed = work(&mut store, &keys);
-        let broke = calls.get() > broken;
-        assert_eq!(rt; failed, if broke { 1 } else { 0 });
-        assert_eq!(rt; store.faults(), failed);
-        assert_eq!(rt; store.operations(), 9);
-        if !broke {
-            fs::remove_dir_all(&rt, "failing_calls")?;
-            return Ok(());
+        let came = work(rt, "failing_calls", &keys, broken, false)?;
+        assert!(rt; came.is_counted(), "{broken}");
+        if !came.broke {
+            return Ok(fs::remove_dir_all(&rt, "failing_calls")?);
         }
     }
     Err(Fail::new("too many calls"))
 }
 
-/// Whether a key has one of these contents, or, where that may be, none.
-fn has_one_of(
-    store: &mut DirStore<HostRuntime, TickClock>,
-    key: &Key,
-    contents: &[&[u8]],
-    absent: bool,
-) -> Result<bool, Fail> {
-    Ok(match store.get(key)? {
+/// Whether these contents are among some, or, where that may be, there are none.
+fn is_one_of(got: &Got, contents: &[&[u8]], absent: bool) -> bool {
+    match got {
         Got::Absent { .. } => absent,
         Got::Found { bytes, .. } => contents.contains(&bytes.as_slice()),
-    })
+    }
+}
+
+/// Whether each key has one of the contents that it may have.
+fn is_whole(store: &mut Directory, keys: &Keys) -> Result<bool, StoreFault> {
+    let main = store.get(&keys.main)?;
+    let snapshot = store.get(&keys.snapshot)?;
+    let other = store.get(&keys.other)?;
+    Ok(
+        is_one_of(&main, &[b"one", b"two"], false)
+            && is_one_of(&snapshot, &[b"whole"], true)
+            && is_one_of(&other, &[b"made"], true),
+    )
+}
+
+/// Whether a branch is there, and can be put over.
+fn moves(store: &mut Directory, main: &Key) -> Result<bool, StoreFault> {
+    let Got::Found { version, .. } = store.get(main)? else {
+        return Ok(false);
+    };
+    let over = store.put_over(main, b"three", version, Why::Commit)?;
+    Ok(matches!(over, Over::Done { .. }))
 }
 
 /// Whether what a program that was cut off has left is whole, and can be gone on with.
 fn goes_on(rt: HostRuntime, path: &str, keys: &Keys) -> Result<bool, Fail> {
     let mut opened = open(rt, path, TickClock::new())?;
-    let store = &mut opened.store;
-    let main = has_one_of(store, &keys.main, &[b"one", b"two"], false)?;
-    let snapshot = has_one_of(store, &keys.snapshot, &[b"whole"], true)?;
-    let other = has_one_of(store, &keys.other, &[b"made"], true)?;
-    let Got::Found { version, .. } = store.get(&keys.main)? else {
-        return Ok(false);
-    };
-    let over = store.put_over(&keys.main, b"three", version, Why::Commit)?;
-    Ok(main && snapshot && other && matches!(over, Over::Done { .. }))
+    Ok(is_whole(&mut opened.store, keys)? && moves(&mut opened.store, &keys.main)?)
+}
+
+/// How many files are left aside.
+fn left_aside(rt: HostRuntime, path: &str) -> Result<usize, Fail> {
+    Ok(fs::read_dir(&rt, path)?.count())
 }
 
 #[test]
 fn a_program_that_is_cut_off_leaves_whole_files(rt: HostRuntime) -> Result<(), Fail> {
     let keys = make_keys(rt)?;
     for broken in 1..MOST {
-        begin(rt, "cut_off", &keys)?;
-        let calls = Cell::new(0);
-        let files = Breaking {
-            rt,
-            calls: &calls,
-            broken,
-            for_good: true,
-        };
-        let mut store = DirStore::at(files, "cut_off", TickClock::new())?;
-        work(&mut store, &keys);
-        assert!(rt; goes_on(rt, "cut_off", &keys)?);
-        assert_eq!(rt; fs::read_dir(&rt, "cut_off/icerepo.new")?.count(), 0);
-        if calls.get() <= broken {
-            fs::remove_dir_all(&rt, "cut_off")?;
-            return Ok(());
+        let came = work(rt, "cut_off", &keys, broken, true)?;
+        assert!(rt; goes_on(rt, "cut_off", &keys)?, "{broken}");
+        assert!(rt; left_aside(rt, "cut_off/icerepo.new")? == 0, "{broken}");
+        if !came.broke {
+            return Ok(fs::remove_dir_all(&rt, "cut_off")?);
         }
     }
     Err(Fail::new("too many calls"))
+}
+
+/// Leaves a thousand files and more where files are put aside, and one that was never put there.
+fn litter(rt: HostRuntime) -> Result<(), Fail> {
+    for number in 0..1200u32 {
+        let path = format!(in rt.alloc(); "leftovers/icerepo.new/{number}")?;
+        fs::write(&rt, path.as_str(), "cut off")?;
+    }
+    Ok(fs::write(&rt, "leftovers/icerepo.new/readme", "mine")?)
+}
+
+/// Puts a branch.
+fn put(rt: HostRuntime, path: &str, key: &Key) -> Result<(), Fail> {
+    let mut store = DirStore::at(rt, path, TickClock::new())?;
+    store.put_new(key, b"made", Why::Create)?;
+    Ok(())
 }
 
 #[test]
 fn leftovers_never_stop_a_put(rt: HostRuntime) -> Result<(), Fail> {
     let keys = make_keys(rt)?;
     begin(rt, "leftovers", &keys)?;
-    for number in 0..1200u32 {
-        let path = format!(in rt.alloc(); "leftovers/icerepo.new/{number}")?;
-        fs::write(&rt, path.as_str(), "cut off")?;
-    }
-    fs::write(&rt, "leftovers/icerepo.new/readme", "mine")?;
-    let mut store = DirStore::at(rt, "leftovers", TickClock::new())?;
-    store.put_new(&keys.other, b"made", Why::Create)?;
+    litter(rt)?;
+    put(rt, "leftovers", &keys.other)?;
     assert!(rt; goes_on(rt, "leftovers", &keys)?);
-    assert_eq!(rt; fs::read_dir(&rt, "leftovers/icerepo.new")?.count(), 1);
-    fs::remove_dir_all(&rt, "leftovers")?;
-    Ok(())
+    assert!(rt; left_aside(rt, "leftovers/icerepo.new")? == 1);
+    Ok(fs::remove_dir_all(&rt, "leftovers")?)
 }

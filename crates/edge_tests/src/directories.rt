@@ -2,12 +2,12 @@ use dir_store::{Claim, DirStore, OpenFault, Opened, content_version, open};
 use ice_base::{RefName, TickClock};
 use ice_ids::Id12;
 use moments::WallClock;
+use std::alloc::{AllocError, Global};
 use std::fs;
 use std::test::Fail;
-use store_api::{Gone, GoneAt, Got, Key, New, Over, Part, Store, StoreFault, Why};
-use store_count::Counting;
+use store_api::{Counting, Entry, Key, Part, Reply, Store, StoreFault, Why};
 
-type Directory = DirStore<HostRuntime, TickClock>;
+pub(crate) type Directory = DirStore<HostRuntime, TickClock>;
 
 fn fresh(rt: HostRuntime, path: &str) -> Result<Directory, Fail> {
     let _ = fs::remove_dir_all(&rt, path);
@@ -15,127 +15,214 @@ fn fresh(rt: HostRuntime, path: &str) -> Result<Directory, Fail> {
     Ok(DirStore::at(rt, path, TickClock::new())?)
 }
 
-fn branch(rt: HostRuntime, name: &str) -> Result<Key, Fail> {
-    Ok(Key::Branch(RefName::read(rt.alloc(), name)?))
+fn remove(rt: HostRuntime, path: &str) -> Result<(), Fail> {
+    Ok(fs::remove_dir_all(&rt, path)?)
 }
 
-/// Whether a new key was put with this content.
-fn is_put(new: New, bytes: &[u8]) -> bool {
-    matches!(new, New::Done { version, .. } if version == content_version(bytes))
+pub(crate) fn branch(alloc: Global, name: &str) -> Result<Key, AllocError> {
+    match RefName::read(alloc, name) {
+        Ok(name) => Ok(Key::Branch(name)),
+        Err(_) => Err(AllocError),
+    }
 }
 
-/// Whether another content stood there.
-fn is_moved(over: Over, bytes: &[u8]) -> bool {
-    matches!(over, Over::Moved { found: Some(version), .. } if version == content_version(bytes))
+/// An operation on a key.
+#[derive(Clone, Copy)]
+enum Call {
+    Get,
+    /// A put of these bytes, where the key is free.
+    New(&'static [u8]),
+    /// A put of these bytes over those.
+    Over(&'static [u8], &'static [u8]),
+    Remove,
+    /// A removal of these bytes.
+    RemoveAt(&'static [u8]),
 }
 
+fn reply(store: &mut Directory, key: &Key, call: Call) -> Result<Reply, StoreFault> {
+    Ok(match call {
+        Call::Get => Reply::Got(store.get(key)?),
+        Call::New(bytes) => Reply::New(store.put_new(key, bytes, Why::Create)?),
+        Call::Over(bytes, old) => {
+            Reply::Over(store.put_over(key, bytes, content_version(old), Why::Commit)?)
+        }
+        Call::Remove => Reply::Gone(store.remove(key, Why::Drop)?),
+        Call::RemoveAt(old) => {
+            Reply::GoneAt(store.remove_at(key, content_version(old), Why::Drop)?)
+        }
+    })
+}
+
+/// What the operations on a key answer, a line each.
+fn told(
+    alloc: Global,
+    store: &mut Directory,
+    key: &Key,
+    calls: &[Call],
+) -> Result<String, AllocError> {
+    let mut told = String::new(alloc);
+    for call in calls {
+        let reply = reply(store, key, *call);
+        write!(told, "{reply:?}\n")?;
+    }
+    Ok(told)
+}
+
+/// What operations on a branch answer in a fresh directory.
+fn played(rt: HostRuntime, path: &str, calls: &[Call]) -> Result<String, Fail> {
+    let mut store = fresh(rt, path)?;
+    let main = branch(rt.alloc(), "main")?;
+    let told = told(rt.alloc(), &mut store, &main, calls)?;
+    remove(rt, path)?;
+    Ok(told)
+}
+
+/// A version is the first 8 bytes of the SHA-256 of the bytes, as Python's `hashlib` tells them.
 #[test]
 fn a_key_is_put_once(rt: HostRuntime) -> Result<(), Fail> {
-    let mut store = fresh(rt, "put_once")?;
-    let main = branch(rt, "main")?;
-    assert!(rt; is_put(store.put_new(&main, b"one", Why::Create)?, b"one"));
-    assert!(rt; !is_put(store.put_new(&main, b"two", Why::Create)?, b"two"));
-    let Got::Found { bytes, .. } = store.get(&main)? else {
-        return Err(Fail::new("absent"));
-    };
-    assert_eq!(rt; bytes.as_slice(), b"one".as_slice());
-    fs::remove_dir_all(&rt, "put_once")?;
+    let calls = [Call::New(b"one"), Call::New(b"two"), Call::Get];
+    let told = played(rt, "put_once", calls.as_slice())?;
+    let want = "Ok(New(Done { version: Version(8544106591765445504), now: 0 }))\n\
+        Ok(New(Present { version: Version(8544106591765445504), now: 1 }))\n\
+        Ok(Got(Found { bytes: Bytes { items: [111, 110, 101] }, version: Version(8544106591765445504), now: 2 }))\n";
+    assert!(rt; told.as_str() == want, "{told}");
     Ok(())
 }
 
 #[test]
 fn a_key_moves_at_its_version(rt: HostRuntime) -> Result<(), Fail> {
-    let mut store = fresh(rt, "moves")?;
-    let main = branch(rt, "main")?;
-    store.put_new(&main, b"one", Why::Create)?;
-    let one = content_version(b"one");
-    let over = store.put_over(&main, b"two", one, Why::Commit)?;
-    assert!(rt; matches!(over, Over::Done { .. }));
-    let over = store.put_over(&main, b"three", one, Why::Commit)?;
-    assert!(rt; is_moved(over, b"two"));
-    fs::remove_dir_all(&rt, "moves")?;
+    let calls = [
+        Call::New(b"one"),
+        Call::Over(b"two", b"one"),
+        Call::Over(b"three", b"one"),
+    ];
+    let told = played(rt, "moves", calls.as_slice())?;
+    let want = "Ok(New(Done { version: Version(8544106591765445504), now: 0 }))\n\
+        Ok(Over(Done { version: Version(4595022913070461154), now: 1 }))\n\
+        Ok(Over(Moved { found: Some(Version(4595022913070461154)), now: 2 }))\n";
+    assert!(rt; told.as_str() == want, "{told}");
     Ok(())
 }
 
 #[test]
 fn a_key_is_removed_at_its_version(rt: HostRuntime) -> Result<(), Fail> {
-    let mut store = fresh(rt, "removed")?;
-    let main = branch(rt, "main")?;
-    store.put_new(&main, b"one", Why::Create)?;
-    let gone = store.remove_at(&main, content_version(b"two"), Why::Drop)?;
-    assert!(rt; matches!(gone, GoneAt::Moved { found: Some(_), .. }));
-    let gone = store.remove_at(&main, content_version(b"one"), Why::Drop)?;
-    assert!(rt; matches!(gone, GoneAt::Done { .. }));
-    assert!(rt; matches!(store.remove(&main, Why::Drop)?, Gone::Absent { .. }));
-    fs::remove_dir_all(&rt, "removed")?;
+    let calls = [
+        Call::New(b"one"),
+        Call::RemoveAt(b"two"),
+        Call::RemoveAt(b"one"),
+        Call::Remove,
+    ];
+    let told = played(rt, "removed", calls.as_slice())?;
+    let want = "Ok(New(Done { version: Version(8544106591765445504), now: 0 }))\n\
+        Ok(GoneAt(Moved { found: Some(Version(8544106591765445504)), now: 1 }))\n\
+        Ok(GoneAt(Done { now: 2 }))\n\
+        Ok(Gone(Absent { now: 3 }))\n";
+    assert!(rt; told.as_str() == want, "{told}");
     Ok(())
+}
+
+/// The keys and the sizes of entries.
+fn entries_told(alloc: Global, entries: &[Entry]) -> Result<String, AllocError> {
+    let mut told = String::new(alloc);
+    for entry in entries {
+        write!(told, "{} {}\n", entry.key, entry.size)?;
+    }
+    Ok(told)
+}
+
+fn listed(alloc: Global, store: &mut Directory, part: Part) -> Result<String, Fail> {
+    let listed = store.list(part)?;
+    Ok(entries_told(alloc, listed.entries.as_slice())?)
+}
+
+fn with_two_snapshots(rt: HostRuntime, path: &str) -> Result<Directory, Fail> {
+    let mut store = fresh(rt, path)?;
+    store.put_new(&Key::Snapshot(Id12::INITIAL), b"first", Why::Init)?;
+    store.put_new(&Key::Snapshot(Id12([2; 12])), b"late", Why::Set)?;
+    Ok(store)
 }
 
 #[test]
 fn listings_are_in_order(rt: HostRuntime) -> Result<(), Fail> {
-    let mut store = fresh(rt, "listed")?;
-    store.put_new(&Key::Snapshot(Id12::INITIAL), b"first", Why::Init)?;
-    store.put_new(&Key::Snapshot(Id12([2; 12])), b"later", Why::Set)?;
-    let listed = store.list(Part::Snapshots)?;
-    let [first, second] = listed.entries.as_slice() else {
-        return Err(Fail::new("not two"));
-    };
-    assert!(rt; first.key == Key::Snapshot(Id12([2; 12])));
-    assert!(rt; second.key == Key::Snapshot(Id12::INITIAL));
-    assert_eq!(rt; second.size, 5);
-    fs::remove_dir_all(&rt, "listed")?;
+    let mut store = with_two_snapshots(rt, "listed")?;
+    let listed = listed(rt.alloc(), &mut store, Part::Snapshots)?;
+    let want = "snapshots/081040G2081040G20810 4\nsnapshots/1CECHNKREP0F1RSTCMT0 5\n";
+    assert!(rt; listed.as_str() == want, "{listed}");
+    remove(rt, "listed")
+}
+
+/// A directory with a branch, and with files and a folder that are no objects.
+fn with_a_branch(rt: HostRuntime, path: &str) -> Result<Directory, Fail> {
+    let mut store = fresh(rt, path)?;
+    let main = branch(rt.alloc(), "main")?;
+    store.put_new(&main, b"one", Why::Create)?;
+    Ok(store)
+}
+
+fn litter(rt: HostRuntime) -> Result<(), Fail> {
+    let aside = "passed_over/refs/branch.main/ref.json.0.new";
+    fs::write(&rt, aside, "cut off")?;
+    fs::write(&rt, "passed_over/refs/readme", "no object")?;
+    fs::create_dir_all(&rt, "passed_over/refs/branch.empty")?;
     Ok(())
 }
 
 #[test]
 fn listings_pass_over_what_is_no_object(rt: HostRuntime) -> Result<(), Fail> {
-    let mut store = fresh(rt, "passed_over")?;
-    let main = branch(rt, "main")?;
-    store.put_new(&main, b"one", Why::Create)?;
-    fs::write(
-        &rt,
-        "passed_over/refs/branch.main/ref.json.0.new",
-        "cut off",
-    )?;
-    fs::write(&rt, "passed_over/refs/readme", "no object")?;
-    fs::create_dir_all(&rt, "passed_over/refs/branch.empty")?;
-    assert_eq!(rt; store.list(Part::Branches)?.entries.len(), 1);
-    assert_eq!(rt; store.list(Part::Tags)?.entries.len(), 0);
-    assert_eq!(rt; store.list(Part::Chunks)?.entries.len(), 0);
-    fs::remove_dir_all(&rt, "passed_over")?;
-    Ok(())
+    let mut store = with_a_branch(rt, "passed_over")?;
+    litter(rt)?;
+    for (part, want) in [
+        (Part::Branches, "refs/branch.main/ref.json 3\n"),
+        (Part::Tags, ""),
+        (Part::Chunks, ""),
+    ] {
+        let listed = listed(rt.alloc(), &mut store, part)?;
+        assert!(rt; listed.as_str() == want, "{listed}");
+    }
+    remove(rt, "passed_over")
+}
+
+/// A directory with a file in the place of a folder.
+fn blocked(rt: HostRuntime, path: &str) -> Result<Directory, Fail> {
+    let store = fresh(rt, path)?;
+    fs::write(&rt, "failing/refs", "a file in the place of the folder")?;
+    Ok(store)
+}
+
+/// Whether a put and a listing fail, and are counted.
+fn both_fail(store: &mut Directory, key: &Key) -> bool {
+    let put = store.put_new(key, b"one", Why::Create).err();
+    let listed = store.list(Part::Branches).err();
+    (put, listed, store.faults()) == (Some(StoreFault::Failed), Some(StoreFault::Failed), 2)
 }
 
 #[test]
 fn failures_are_counted(rt: HostRuntime) -> Result<(), Fail> {
-    let missing = DirStore::at(rt, "not_there", TickClock::new());
-    assert!(rt; matches!(missing, Err(StoreFault::Failed)));
-    let mut store = fresh(rt, "failing")?;
-    fs::write(&rt, "failing/refs", "a file in the place of the folder")?;
-    let main = branch(rt, "main")?;
-    assert!(rt;
-        matches!(
-            store.put_new(&main, b"one", Why::Create),
-            Err(StoreFault::Failed)
-        )
-    );
-    assert!(rt; matches!(store.list(Part::Branches), Err(StoreFault::Failed)));
-    assert_eq!(rt; store.faults(), 2);
-    fs::remove_dir_all(&rt, "failing")?;
-    Ok(())
+    let missing = DirStore::at(rt, "not_there", TickClock::new()).err();
+    assert!(rt; missing == Some(StoreFault::Failed));
+    let mut store = blocked(rt, "failing")?;
+    let main = branch(rt.alloc(), "main")?;
+    assert!(rt; both_fail(&mut store, &main));
+    remove(rt, "failing")
+}
+
+fn opening_fault(rt: HostRuntime, path: &str) -> Option<OpenFault> {
+    open(rt, path, TickClock::new()).err()
+}
+
+/// What a second claim of a claimed directory, and an opening, are refused with.
+fn refused(rt: HostRuntime, path: &str) -> Result<(Option<OpenFault>, Option<OpenFault>), Fail> {
+    let _claim = Claim::of(&rt, path)?;
+    Ok((Claim::of(&rt, path).err(), opening_fault(rt, path)))
 }
 
 #[test]
 fn one_claim_at_a_time(rt: HostRuntime) -> Result<(), Fail> {
     let _store = fresh(rt, "claimed")?;
-    {
-        let _claim = Claim::of(&rt, "claimed")?;
-        assert!(rt; matches!(Claim::of(&rt, "claimed"), Err(OpenFault::Taken)));
-        assert!(rt; matches!(open(rt, "claimed", TickClock::new()), Err(OpenFault::Taken)));
-    }
+    let taken = Some(OpenFault::Taken);
+    assert!(rt; refused(rt, "claimed")? == (taken, taken));
     let _again = Claim::of(&rt, "claimed")?;
-    fs::remove_dir_all(&rt, "claimed")?;
-    Ok(())
+    remove(rt, "claimed")
 }
 
 #[test]
@@ -147,35 +234,37 @@ fn what_is_no_directory_is_not_opened(rt: HostRuntime) -> Result<(), Fail> {
         ("a_file", OpenFault::NotDirectory),
         ("a_file/beneath", OpenFault::NotDirectory),
     ] {
-        match open(rt, path, TickClock::new()) {
-            Ok(_) => return Err(Fail::new("opened")),
-            Err(told) => assert!(rt; told == fault),
-        }
+        assert!(rt; opening_fault(rt, path) == Some(fault), "{path}");
     }
     assert!(rt; !fs::exists(&rt, "not_there")?);
-    fs::remove_file(&rt, "a_file")?;
-    Ok(())
+    Ok(fs::remove_file(&rt, "a_file")?)
 }
 
 /// A store that may go to another thread counts its operations.
-fn count<S: Counting + Send>(store: &mut S) -> u64 {
+fn count<S: Counting + Send>(store: &S) -> u64 {
     store.operations()
+}
+
+type Machine = WallClock<HostRuntime>;
+
+/// How many operations are counted of three.
+fn counted(store: &mut DirStore<HostRuntime, Machine>, key: &Key) -> Result<u64, StoreFault> {
+    store.put_new(key, b"one", Why::Create)?;
+    store.get(key)?;
+    store.list(Part::Tags)?;
+    Ok(count(store))
+}
+
+fn opened(rt: HostRuntime, path: &str) -> Result<Opened<HostRuntime, Machine>, Fail> {
+    let _ = fresh(rt, path)?;
+    Ok(open(rt, path, WallClock::new(rt))?)
 }
 
 #[test]
 fn operations_are_counted(rt: HostRuntime) -> Result<(), Fail> {
-    let _ = fresh(rt, "counted")?;
-    let Opened {
-        claim: _claim,
-        mut store,
-        seed,
-    } = open(rt, "counted", WallClock::new(rt))?;
-    assert!(rt; seed != [0; 32]);
-    let main = branch(rt, "main")?;
-    store.put_new(&main, b"one", Why::Create)?;
-    store.get(&main)?;
-    store.list(Part::Tags)?;
-    assert_eq!(rt; count(&mut store), 3);
-    fs::remove_dir_all(&rt, "counted")?;
-    Ok(())
+    let mut opened = opened(rt, "counted")?;
+    assert!(rt; opened.seed != [0; 32]);
+    let main = branch(rt.alloc(), "main")?;
+    assert!(rt; counted(&mut opened.store, &main)? == 3);
+    remove(rt, "counted")
 }

@@ -1,65 +1,85 @@
 use command_words::{Command, Place, Topic, UsageFault, Word, WordsFault, place_of, read_words};
+use std::alloc::{AllocError, Global};
 use std::test::Fail;
 
+fn word(alloc: Global, text: &str) -> Result<Word, AllocError> {
+    Ok(Word::new(String::from_str(alloc, text)?))
+}
+
 /// The words of a line, separated by spaces.
-fn words(rt: HostRuntime, line: &str) -> Result<Vec<Word>, Fail> {
-    let alloc = rt.alloc();
+fn words(alloc: Global, line: &str) -> Result<Vec<Word>, AllocError> {
     let mut list = Vec::new(alloc);
     for text in line.split_whitespace() {
-        list.push(Word::new(String::from_str(alloc, text)?))?;
+        list.push(word(alloc, text)?)?;
     }
     Ok(list)
 }
 
+/// What the words of a line say.
+fn said(alloc: Global, line: &str) -> Result<Result<Command, WordsFault>, AllocError> {
+    let list = words(alloc, line)?;
+    Ok(read_words(alloc, list.as_slice()))
+}
+
+/// Whether the words of a line name this place.
+fn is_at(alloc: Global, line: &str, place: Place<'_>) -> Result<bool, AllocError> {
+    let list = words(alloc, line)?;
+    Ok(place_of(alloc, list.as_slice()) == Ok(place))
+}
+
+const WRONG: Result<Command, WordsFault> = Err(WordsFault::Usage(UsageFault::Words));
+
+const UNKNOWN: Result<Command, WordsFault> = Err(WordsFault::Usage(UsageFault::Unknown));
+
+const LINES: [(&str, Result<Command, WordsFault>); 23] = [
+    ("", Err(WordsFault::Usage(UsageFault::NoCommand))),
+    ("run", UNKNOWN),
+    ("-h", UNKNOWN),
+    ("play", Ok(Command::Play)),
+    ("play --dir d", Ok(Command::Play)),
+    ("play --dir=", Ok(Command::Play)),
+    ("play --", Ok(Command::Play)),
+    ("play --help", Ok(Command::Help(Topic::Play))),
+    ("play --dir d -h", Ok(Command::Help(Topic::Play))),
+    ("play x", WRONG),
+    ("play --dir", WRONG),
+    ("play --dir a --dir b", WRONG),
+    ("grow 1", Ok(Command::Grow(1))),
+    ("grow +5", Ok(Command::Grow(5))),
+    ("grow --dir=d 060", Ok(Command::Grow(60))),
+    ("grow --help", Ok(Command::Help(Topic::Grow))),
+    ("grow", WRONG),
+    ("grow 0", WRONG),
+    ("grow 61", WRONG),
+    ("grow 5 6", WRONG),
+    ("--help", Ok(Command::Help(Topic::Program))),
+    ("--help play", WRONG),
+    ("--version", Ok(Command::Version)),
+];
+
 #[test]
 fn words_are_read(rt: HostRuntime) -> Result<(), Fail> {
-    let wrong = Err(WordsFault::Usage(UsageFault::Words));
-    let unknown = Err(WordsFault::Usage(UsageFault::Unknown));
-    for (line, want) in [
-        ("", Err(WordsFault::Usage(UsageFault::NoCommand))),
-        ("run", unknown),
-        ("-h", unknown),
-        ("play", Ok(Command::Play)),
-        ("play --dir d", Ok(Command::Play)),
-        ("play --dir=", Ok(Command::Play)),
-        ("play --", Ok(Command::Play)),
-        ("play --help", Ok(Command::Help(Topic::Play))),
-        ("play --dir d -h", Ok(Command::Help(Topic::Play))),
-        ("play x", wrong),
-        ("play --dir", wrong),
-        ("play --dir a --dir b", wrong),
-        ("grow 1", Ok(Command::Grow(1))),
-        ("grow +5", Ok(Command::Grow(5))),
-        ("grow --dir=d 060", Ok(Command::Grow(60))),
-        ("grow --help", Ok(Command::Help(Topic::Grow))),
-        ("grow", wrong),
-        ("grow 0", wrong),
-        ("grow 61", wrong),
-        ("grow 5 6", wrong),
-        ("--help", Ok(Command::Help(Topic::Program))),
-        ("--help play", wrong),
-        ("--version", Ok(Command::Version)),
-    ] {
-        let list = words(rt, line)?;
-        assert_eq!(rt; read_words(rt.alloc(), list.as_slice()), want, "{line}");
+    for row in &LINES {
+        assert!(rt; said(rt.alloc(), row.0)? == row.1, "{}", row.0);
     }
     Ok(())
 }
 
+const PLACES: [(&str, Place<'static>); 8] = [
+    ("", Place::Memory),
+    ("play", Place::Memory),
+    ("play --dir d", Place::Dir("d")),
+    ("play --dir=", Place::Dir("")),
+    ("play --dir d x", Place::Memory),
+    ("grow 5 --dir d", Place::Dir("d")),
+    ("grow 0 --dir d", Place::Memory),
+    ("--version --dir d", Place::Memory),
+];
+
 #[test]
 fn places_are_told(rt: HostRuntime) -> Result<(), Fail> {
-    for (line, want) in [
-        ("", Place::Memory),
-        ("play", Place::Memory),
-        ("play --dir d", Place::Dir("d")),
-        ("play --dir=", Place::Dir("")),
-        ("play --dir d x", Place::Memory),
-        ("grow 5 --dir d", Place::Dir("d")),
-        ("grow 0 --dir d", Place::Memory),
-        ("--version --dir d", Place::Memory),
-    ] {
-        let list = words(rt, line)?;
-        assert_eq!(rt; place_of(rt.alloc(), list.as_slice()), Ok(want), "{line}");
+    for row in &PLACES {
+        assert!(rt; is_at(rt.alloc(), row.0, row.1)?, "{}", row.0);
     }
     Ok(())
 }
