@@ -1,10 +1,8 @@
 -- Two parts of a run, joined.
-use Rattle.std.proofs.Common.{◌≡◌, ◌≢◌, ◌⊎◌, inl, inr, ⊎_elim, ℕ, zero, suc, ◌+◌, ◌<◌, ◌≤◌, Bool, true, false, List, [], ◌∷◌, ◌++◌, length, refl, sym, ◌∙◌, ap, subst, append-nil, append_assoc, arith, max, map, Option, ne_eqb, eq-eqb, eqb-true}
+use Rattle.std.proofs.Common.{◌≡◌, ◌≢◌, ◌⊎◌, inl, inr, ⊎_elim, ℕ, zero, suc, ◌+◌, ◌<◌, ◌≤◌, Bool, true, false, List, [], ◌∷◌, ◌++◌, length, refl, sym, ◌∙◌, ap, subst, append-nil, append_assoc, arith, max, map, ne_eqb, eq-eqb, eqb-true}
 use Rattle.std.specs.Prelude.{◌==◌, IsTrue, IfSome, All, Some, slice_get, nat_lt, if◌then◌else◌}
-use Rattle.std.proofs.lemmas.Option.{slice_get_within}
 use Rattle.std.proofs.lemmas.List.{map-append}
-use Rattle.std.proofs.lemmas.List.Elements.{All-nil, All-cons, All-append, All-head, All-tail, All-weaker, filter-append}
-use Rattle.ice_base.specs.Ends.{Rose}
+use Rattle.std.proofs.lemmas.List.Elements.{All-nil, All-append, All-head, All-tail, All-weaker, filter-append}
 use Rattle.ice_base.proofs.Counts.{Rose-after}
 use Rattle.ice_ids.specs.declared.drawing.Draw.{Draw}
 use Rattle.turn_cell.specs.declared.known.Known.{Known}
@@ -15,14 +13,14 @@ use Rattle.turn_cell.proofs.Growth.{one_of}
 use Rattle.shared_store.specs.Told.{client_of}
 use Rattle.store_api.specs.declared.events.Event.{Event}
 use Rattle.store_api.specs.Journal.{Each, IsGood}
-use Rattle.store_api.specs.Callers.{Caller, IsOther, owns, only}
+use Rattle.store_api.specs.Callers.{IsOther, only}
 use Rattle.store_api.specs.Program.{events_of}
 use Rattle.store_api.specs.Plays.{Play}
 use Rattle.store_api.proofs.Journals.{Each-append, Each-back, Each-both, Each-weaker, Each-none}
 use Rattle.play_script.specs.declared.scripts.Task.{Task}
 use Rattle.play_outcome.specs.declared.outcome.Outcome.{Outcome}
 use Rattle.play_outcome.specs.Ending.{is_failed}
-use Rattle.play_tasks.specs.Tasks.{ids_at, Stands, AllStand, AllBlame, AllTold, TellsAt, IsOfClient}
+use Rattle.play_tasks.specs.Tasks.{ids_at, AllStand, AllBlame, TellsAt}
 use Rattle.play_tasks.specs.Played.{PlaysTo}
 use Rattle.play_tasks.specs.Laws.{OutcomeLaw}
 use Rattle.play_tasks.specs.declared.worker.Worker.{Worker}
@@ -30,7 +28,7 @@ use Rattle.play_tasks.specs.Workers.{worker_rest}
 use Rattle.play_run.proofs.Rounds.{size_map}
 use Rattle.play_run.proofs.Turning.{only-other}
 use Rattle.play_at_once.specs.inside.Stepping.{Blames, IsKnown, IsAt, Tells}
-use Rattle.play_at_once.specs.inside.Forking.{HasPlaces, IsSet, IsSetAt, CanGo, CanGoAt, IsBack, RanOne, IsAmong, AllTell, RanAll}
+use Rattle.play_at_once.specs.inside.Forking.{HasPlaces, CanGo, CanGoAt, IsBack, RanOne, IsAmong, AllTell, RanAll}
 
 -- ---- lists
 cancel : (xs ys zs : List Event) → xs ++ ys ≡ xs ++ zs → ys ≡ zs

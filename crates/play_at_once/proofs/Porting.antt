@@ -1,26 +1,24 @@
 -- A worker over a port, as its pass tells it.
-use Rattle.std.proofs.Common.{◌≡◌, ℕ, ◌+◌, ◌<◌, ◌≤◌, Bool, true, false, List, [], ◌++◌, refl, sym, ◌∙◌, ap, subst, append-nil, arith, Option, None, Some}
-use Rattle.std.specs.Prelude.{IsTrue, IfSome, nat_le, nat_lt, ◌&&◌, slice_get}
+use Rattle.std.proofs.Common.{◌≡◌, ℕ, ◌+◌, ◌<◌, ◌≤◌, Bool, true, false, List, [], refl, sym, ◌∙◌, ap, subst, append-nil, arith, Option, None, Some}
+use Rattle.std.specs.Prelude.{IfSome, nat_le, ◌&&◌}
 use Rattle.std.proofs.lemmas.Bool.Decides.{nat_tests}
-use Rattle.ice_ids.specs.declared.drawing.Draw.{Draw}
-use Rattle.turn_cell.specs.declared.known.Known.{Known}
 use Rattle.turn_cell.specs.declared.known.Owners.{Owners}
 use Rattle.turn_cell.specs.declared.pass.Token.{Token}
 use Rattle.turn_cell.specs.Owners.{IsOwner}
 use Rattle.turn_cell.specs.Passes.{CellId, cell_of, known}
 use Rattle.shared_store.specs.Ports.{caller_of, port_view}
 use Rattle.store_api.specs.declared.events.Event.{Event}
-use Rattle.store_api.specs.Callers.{Caller, View, is_before, owns}
+use Rattle.store_api.specs.Callers.{Caller, is_before, owns}
 use Rattle.store_api.specs.Plays.{Play, Ended}
 use Rattle.store_api.proofs.Journals.{Each-weaker}
 use Rattle.play_script.specs.declared.scripts.Task.{Task}
 use Rattle.play_outcome.specs.declared.outcome.Outcome.{Outcome}
-use Rattle.play_tasks.specs.Tasks.{TellsAt, Stands}
+use Rattle.play_tasks.specs.Tasks.{TellsAt}
 use Rattle.play_tasks.specs.Played.{PlaysTo}
 use Rattle.play_tasks.proofs.Paths.{PlaysTo-ended}
 use Rattle.play_run.proofs.Rounds.{ended_told}
-use Rattle.play_at_once.specs.inside.Stepping.{IsClientAt, IsKnown, CanStep, Tells, Went}
-use Rattle.play_at_once.specs.inside.Forking.{CanGoAt, IsBack, RanOne}
+use Rattle.play_at_once.specs.inside.Stepping.{IsClientAt, IsKnown, CanStep, Went}
+use Rattle.play_at_once.specs.inside.Forking.{CanGoAt, RanOne}
 
 -- ---- owner numbers
 le-test : (a b : ℕ) → a ≤ b → nat_le a b ≡ true

@@ -1,8 +1,7 @@
 -- Steps of one worker among others.
-use Rattle.std.proofs.Common.{◌≡◌, ◌≢◌, ◌⊎◌, inl, inr, ℕ, ◌+◌, ◌≤◌, Bool, true, false, List, [], ◌∷◌, ◌++◌, refl, sym, ◌∙◌, ap, subst, append-nil, append_assoc, arith, ne_eqb}
-use Rattle.std.specs.Prelude.{IsTrue, All, ◌==◌}
-use Rattle.std.proofs.lemmas.List.Elements.{All-nil, All-cons, All-append, All-head, All-tail, filter-append}
-use Rattle.ice_base.specs.Ends.{Rose}
+use Rattle.std.proofs.Common.{◌≡◌, inl, inr, ℕ, ◌+◌, ◌≤◌, Bool, true, false, List, [], ◌∷◌, ◌++◌, refl, sym, ◌∙◌, ap, subst, append-nil, append_assoc, arith}
+use Rattle.std.specs.Prelude.{IsTrue, ◌==◌}
+use Rattle.std.proofs.lemmas.List.Elements.{All-nil, All-cons, All-append, filter-append}
 use Rattle.ice_base.proofs.Counts.{Rose-before}
 use Rattle.ice_ids.specs.declared.drawing.Draw.{Draw}
 use Rattle.store_api.specs.declared.events.Op.{Op}
@@ -12,7 +11,7 @@ use Rattle.store_api.specs.Machine.{IsAnswered}
 use Rattle.store_api.specs.Journal.{Each, IsGood}
 use Rattle.store_api.specs.Callers.{Caller, View, Waits, Makes, IsOther, own_event, owns, only}
 use Rattle.store_api.specs.Program.{events_of}
-use Rattle.store_api.specs.Plays.{Play, Ended, Ask, IsLive, PlayKeeps, PlayLeads, PlayIsPolite, Acts, Acted, Starved}
+use Rattle.store_api.specs.Plays.{Play, Ask, PlayIsPolite, Acts, Acted, Starved}
 use Rattle.store_api.proofs.Journals.{Each-one, Each-none, Each-append, Each-weaker}
 use Rattle.store_api.proofs.Programs.{Waits-fewer, Fewer, events_of-others, own-one}
 use Rattle.store_api.proofs.PlayLaws.{PlayKeeps-acts, PlayLeads-acts}
@@ -20,7 +19,7 @@ use Rattle.play_script.specs.declared.scripts.Task.{Task}
 use Rattle.play_outcome.specs.declared.outcome.Outcome.{Outcome}
 use Rattle.play_outcome.specs.Ending.{is_failed}
 use Rattle.play_tasks.specs.Owing.{IsDue}
-use Rattle.play_tasks.specs.Tasks.{ids_at, TellsAt, Stands, IsOfClient}
+use Rattle.play_tasks.specs.Tasks.{ids_at, TellsAt, Stands}
 use Rattle.play_tasks.specs.Played.{PlaysTo}
 use Rattle.play_tasks.specs.Laws.{OutcomeLaw}
 use Rattle.play_tasks.proofs.Paths.{PlaysTo-comes, PlaysTo-asked, PlaysTo-starved}

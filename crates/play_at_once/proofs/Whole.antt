@@ -1,8 +1,7 @@
 -- The whole run at once.
-use Rattle.std.proofs.Common.{◌≡◌, ◌≢◌, ℕ, ◌+◌, ◌<◌, ◌≤◌, Bool, true, false, List, [], ◌∷◌, ◌++◌, length, map, refl, sym, ◌∙◌, ap, subst, zero-add, arith}
+use Rattle.std.proofs.Common.{◌≡◌, ℕ, ◌+◌, ◌≤◌, Bool, true, false, List, [], ◌∷◌, ◌++◌, length, refl, sym, ◌∙◌, ap, subst, zero-add, arith}
 use Rattle.std.specs.Prelude.{IsTrue, All, Some, slice_get}
 use Rattle.std.proofs.lemmas.List.Elements.{All-nil, All-cons, All-weaker}
-use Rattle.ice_base.specs.Ends.{Rose}
 use Rattle.ice_base.proofs.Counts.{Rose-after}
 use Rattle.ice_ids.specs.declared.drawing.Draw.{Draw}
 use Rattle.turn_cell.specs.declared.known.Known.{Known}
@@ -12,14 +11,13 @@ use Rattle.shared_store.specs.Told.{told}
 use Rattle.store_api.specs.declared.events.Event.{Event}
 use Rattle.store_api.specs.Journal.{Each}
 use Rattle.store_api.specs.Program.{events_of}
-use Rattle.store_api.specs.Plays.{Play, Ended, Comes}
+use Rattle.store_api.specs.Plays.{Play, Comes}
 use Rattle.store_api.proofs.Journals.{Each-weaker}
 use Rattle.play_script.specs.declared.scripts.Task.{Task}
 use Rattle.play_script.specs.Well.{IsWellTask}
 use Rattle.play_outcome.specs.declared.outcome.Outcome.{Outcome}
-use Rattle.play_outcome.specs.Ending.{is_failed}
 use Rattle.play_tasks.specs.Playing.{task_play}
-use Rattle.play_tasks.specs.Tasks.{ids_at, AllStand, AllBlame, AllTold, IsOfClient}
+use Rattle.play_tasks.specs.Tasks.{ids_at, AllBlame, AllTold, IsOfClient}
 use Rattle.play_tasks.specs.Played.{PlaysTo, IsByTask, AllPlayed}
 use Rattle.play_tasks.specs.Laws.{TaskLaw}
 use Rattle.play_tasks.proofs.Paths.{PlaysTo-comes}
@@ -28,7 +26,7 @@ use Rattle.play_run.specs.Order.{Begin}
 use Rattle.play_run.proofs.Paths.{begun_at}
 use Rattle.play_run.proofs.Rounds.{AllStand-begin, begun_size, none_blamed}
 use Rattle.play_at_once.specs.Running.{RanAtOnce}
-use Rattle.play_at_once.specs.inside.Stepping.{Blames, IsKnown}
+use Rattle.play_at_once.specs.inside.Stepping.{IsKnown}
 use Rattle.play_at_once.specs.inside.Forking.{CanGo, HasPlaces, IsAmong, AllTell, RanAll}
 
 -- what holds of each event holds of all

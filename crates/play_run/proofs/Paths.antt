@@ -1,5 +1,5 @@
 -- What each worker played by turns.
-use Rattle.std.proofs.Common.{◌≡◌, ◌≢◌, ℕ, zero, suc, ◌+◌, ◌≤◌, inl, inr, Bool, true, false, List, [], ◌∷◌, ◌++◌, refl, sym, ◌∙◌, ap, subst, length, arith, add-zero, zero-add, ne_eqb, eq-eqb, eqb-true, length-set}
+use Rattle.std.proofs.Common.{◌≡◌, ◌≢◌, ℕ, zero, suc, ◌+◌, inl, inr, Bool, true, false, List, [], ◌∷◌, ◌++◌, refl, sym, ◌∙◌, ap, subst, length, arith, add-zero, zero-add, ne_eqb, eq-eqb, eqb-true, length-set}
 use Rattle.std.specs.Prelude.{◌==◌, All, Some, slice_get}
 use Rattle.std.specs.List.{AllZip}
 use Rattle.std.proofs.lemmas.Option.{slice_get_within}
@@ -15,7 +15,7 @@ use Rattle.play_tasks.specs.Playing.{task_play}
 use Rattle.play_tasks.specs.Tasks.{ids_at, plays_from}
 use Rattle.play_tasks.specs.Played.{PlaysTo, IsByTask, AllPlayed}
 use Rattle.play_tasks.proofs.Paths.{PlaysTo-ended, PlaysTo-comes, PlaysTo-asked, PlaysTo-starved}
-use Rattle.play_run.specs.Order.{Passed, WentOn, FellShort, Turned, InTurns, Begin}
+use Rattle.play_run.specs.Order.{Turned, InTurns, Begin}
 use Rattle.play_run.proofs.Places.{slice_get-set_same, slice_get-set_other}
 
 some_same : {X : Type 0} (x y : X) → Some x ≡ Some y → x ≡ y

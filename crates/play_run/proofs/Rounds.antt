@@ -9,7 +9,7 @@ use Rattle.std.proofs.lemmas.List.Elements.{AllZip-push, length_all_zip}
 use Rattle.std.proofs.lemmas.List.{replicate_more, take_more, length-take-le, map-append}
 use Rattle.store_api.specs.declared.events.Event.{Event}
 use Rattle.store_api.specs.Callers.{View, only}
-use Rattle.store_api.specs.Plays.{Play, Ended, HasEnded, Comes, PlayKeeps, PlayLeads}
+use Rattle.store_api.specs.Plays.{Play, Ended, HasEnded, Comes, PlayLeads}
 use Rattle.store_api.proofs.PlayLaws.{PlayKeeps-comes, PlayLeads-comes}
 use Rattle.ice_ids.specs.declared.drawing.Draw.{Draw}
 use Rattle.play_script.specs.declared.scripts.Task.{Task}

@@ -1,4 +1,4 @@
-use Rattle.std.proofs.Common.{rules, ◌≡◌, ℕ, ◌+◌, arith, ap, map, sym, ◌∙◌, subst, length, vec_len}
+use Rattle.std.proofs.Common.{rules, ◌≡◌, ◌+◌, arith, ap, map, sym, ◌∙◌, subst, vec_len}
 use Rattle.turn_cell.specs.declared.known.Known.{Known}
 use Rattle.turn_cell.specs.Passes.{known}
 use Rattle.store_api.specs.declared.events.Event.{Event}

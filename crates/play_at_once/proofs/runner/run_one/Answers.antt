@@ -1,8 +1,8 @@
-use Rattle.std.proofs.Common.{◌≡◌, sym, subst, ◌∙◌}
+use Rattle.std.proofs.Common.{sym, subst}
 use Rattle.turn_cell.specs.declared.pass.Token.{Token}
 use Rattle.turn_cell.specs.Passes.{known}
 use Rattle.shared_store.specs.Ports.{port_view}
-use Rattle.store_api.specs.Plays.{Play, Ended}
+use Rattle.store_api.specs.Plays.{Play}
 use Rattle.play_outcome.specs.declared.outcome.Outcome.{Outcome}
 use Rattle.play_tasks.specs.Workers.{worker_rest}
 use Rattle.play_at_once.specs.inside.Stepping.{Went}

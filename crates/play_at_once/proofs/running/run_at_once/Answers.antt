@@ -1,11 +1,8 @@
-use Rattle.std.proofs.Common.{◌≡◌, ◌<◌, ◌≤◌, ℕ, List, sym, ap, subst, ◌∙◌, map, length, arith, vec_len}
-use Rattle.turn_cell.specs.declared.known.Known.{Known}
+use Rattle.std.proofs.Common.{◌<◌, ℕ, sym, subst, ◌∙◌, map, arith}
 use Rattle.turn_cell.specs.Passes.{known}
 use Rattle.shared_store.specs.Told.{told}
-use Rattle.store_api.specs.declared.events.Event.{Event}
 use Rattle.play_tasks.specs.Workers.{worker_rest}
 use Rattle.play_run.proofs.Rounds.{workers_size}
-use Rattle.play_at_once.specs.inside.Forking.{CanGo}
 use Rattle.play_at_once.proofs.Whole.{ran-whole, told-whole, size-whole, blamed-whole, CanGo-begin}
 use Rattle.play_at_once.proofs.running.run_at_once.Goals as goal
 

@@ -1,4 +1,4 @@
-use Rattle.std.proofs.Common.{ap, sym, subst, List, map, take, [], ◌∷◌, ◌++◌, ◌+◌}
+use Rattle.std.proofs.Common.{sym, subst, List, map, take, ◌+◌}
 use Rattle.ice_ids.specs.declared.drawing.AnyIds.{AnyIds}
 use Rattle.store_api.specs.Plays.{Comes}
 use Rattle.play_tasks.specs.declared.worker.Worker.{Worker}
