@@ -116,7 +116,7 @@ tables_field s fs a e is = ap (λ s. (part_of s).field a e) is ∙ ap (λ (p : P
 
 -- ---- the slot that a loop has come to
 
-at_slot : (slots : List Slot) (i : ℕ) (s : Slot) → i < length slots → s ≡ get_or slots i s → drop i slots ≡ s ∷ drop (i + 1) slots
+pub at_slot : (slots : List Slot) (i : ℕ) (s : Slot) → i < length slots → s ≡ get_or slots i s → drop i slots ≡ s ∷ drop (i + 1) slots
 at_slot slots i s lt is = drop_more slots i s lt ∙ ap (λ x. x ∷ drop (i + 1) slots) (sym is)
 
 one_end_cases : (b : Bool) (ps : List Part) (x y : ℕ) → cond b x y ≤ cond b (fields_end ps x) (fields_end ps y)
@@ -219,6 +219,39 @@ begun old new front rest whole is parts =
     let n : length new ≡ length old + length front = ap length is ∙ length-append old front in
     let e : new ++ rest (length new) ≡ old ++ whole = rw (parts, n, is) (append_assoc old front (rest (length old + length front))) in
     record { bytes = e; len = omega (arith, ap length e, length-append new (rest (length new)), length-append old whole) }
+
+-- the table that a loop has come to
+at_flat : (flats : List Flat) (i : ℕ) (f : Flat) → i < length flats → f ≡ get_or flats i f → drop i flats ≡ f ∷ drop (i + 1) flats
+at_flat flats i f lt is = drop_more flats i f lt ∙ ap (λ x. x ∷ drop (i + 1) flats) (sym is)
+
+pub flats_left : (flats : List Flat) (i : ℕ) (f : Flat) → i < length flats → f ≡ get_or flats i f → length (drop i flats) ≡ length (drop (i + 1) flats) + 1
+flats_left flats i f lt is = ap length (at_flat flats i f lt is) ∙ omega arith
+
+pub blocks_long : (flats : List Flat) (i : ℕ) (f : Flat) (e : ℕ) → i < length flats → f ≡ get_or flats i f
+    → length (blocks (map layout (drop i flats)) e) ≡ length ((layout f).bytes e) + length (blocks (map layout (drop (i + 1) flats)) (e + length ((layout f).bytes e)))
+blocks_long flats i f e lt is =
+    ap (λ fs. length (blocks (map layout fs) e)) (at_flat flats i f lt is) ∙ length-append ((layout f).bytes e) (blocks (map layout (drop (i + 1) flats)) (e + length ((layout f).bytes e)))
+
+-- one more offset was appended
+pub offset_more : (flats : List Flat) (i : ℕ) (f : Flat) (out new : List ℕ) (a e place next : ℕ) → i < length flats → f ≡ get_or flats i f
+    → place ≡ (layout f).place e → next ≡ e + length ((layout f).bytes e) → new ≡ out ++ to_le_bytes w32 (place - a)
+    → new ++ offsets (map layout (drop (i + 1) flats)) (a + 4) next ≡ out ++ offsets (map layout (drop i flats)) a e
+offset_more flats i f out new a e place next lt is placed ends grown =
+    rw (grown, placed, ends) (append_assoc out (to_le_bytes w32 ((layout f).place e - a)) (offsets (map layout (drop (i + 1) flats)) (a + 4) (e + length ((layout f).bytes e))))
+    ∙ ap (λ fs. out ++ offsets (map layout fs) a e) (sym (at_flat flats i f lt is))
+
+-- one more slot's bytes were appended, and one more table
+pub beneath_begun : (slots : List Slot) (i : ℕ) (s : Slot) (out new : List ℕ) → i < length slots → s ≡ get_or slots i s → new ≡ out ++ (part_of s).beneath (length out)
+    → Begun out new (λ e. all_beneath (map part_of (drop (i + 1) slots)) e) (all_beneath (map part_of (drop i slots)) (length out))
+beneath_begun slots i s out new lt is grown =
+    begun out new ((part_of s).beneath (length out)) (λ e. all_beneath (map part_of (drop (i + 1) slots)) e) (all_beneath (map part_of (drop i slots)) (length out)) grown
+    (ap (λ ss. all_beneath (map part_of ss) (length out)) (at_slot slots i s lt is))
+
+pub blocks_begun : (flats : List Flat) (i : ℕ) (f : Flat) (out new : List ℕ) → i < length flats → f ≡ get_or flats i f → new ≡ out ++ (layout f).bytes (length out)
+    → Begun out new (λ e. blocks (map layout (drop (i + 1) flats)) e) (blocks (map layout (drop i flats)) (length out))
+blocks_begun flats i f out new lt is grown =
+    begun out new ((layout f).bytes (length out)) (λ e. blocks (map layout (drop (i + 1) flats)) e) (blocks (map layout (drop i flats)) (length out)) grown
+    (ap (λ fs. blocks (map layout fs) (length out)) (at_flat flats i f lt is))
 
 -- ---- strings
 

@@ -8,3 +8,4 @@ pub mod Listed
 pub mod NodesSized
 pub mod Sized
 pub mod WrittenBytes
+mod Rests

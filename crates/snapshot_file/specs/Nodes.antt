@@ -1,6 +1,7 @@
 -- What the tables of a snapshot's nodes say. (Icechunk specification version 1, "Snapshot"; which slot has what is own.)
 use Rattle.std.specs.Prelude.{ℕ, ◌==◌, if◌then◌else◌, List, [], map, take, drop, Option, Some, None, Result, Ok, Err}
 use Rattle.std.specs.Int.{w32, w64, from_le_bytes}
+use Rattle.ice_ids.specs.declared.Id8.{Id8}
 use Rattle.zarr_path.specs.Paths.{is_path}
 use Rattle.flat_tables.specs.declared.fault.FileFault.{FileFault}
 use Rattle.flat_tables.specs.declared.fault.FileFault.TheVariants as faults
@@ -73,6 +74,13 @@ proper_path at path = if is_path path then Ok path else Err (faults.Path at)
 abbrev pub known_kind : ℕ → Option NodeKind → Result NodeKind FileFault
 known_kind at None = Err (faults.NodeKind at)
 known_kind at (Some kind) = Ok kind
+
+-- node number `at` by what its slots have: its path, then its type
+abbrev pub row_of : ℕ → Id8 → (path text : List ℕ) → Option NodeKind → Result NodeRow FileFault
+row_of at id path text kind = do
+  _ ← proper_path at path
+  known ← known_kind at kind
+  Ok (record { id = id; path = path; user_data = text; kind = known })
 
 -- table NodeSnapshot, of node number `at`: all its slots, then its path, then its type
 unfoldable pub node_of : ℕ → TableIn → Result NodeRow FileFault

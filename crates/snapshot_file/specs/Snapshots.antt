@@ -88,6 +88,21 @@ unless_unlisted (Some at) snapshot = Err (faults.Unlisted at)
 abbrev pub id_if : Option (List ℕ) → Option Id12
 id_if id = option_map (λ bytes. record { 0 = bytes }) id
 
+-- the snapshot that it followed
+abbrev pub parent_of : TableIn → Result (Option Id12) FileFault
+parent_of t = do
+  parent ← flat (struct_of t 1 12)
+  Ok (id_if parent)
+
+-- the slots behind the nodes: when it was flushed, the message, no properties, and the manifest files
+unfoldable pub rest_of : TableIn → Result (ℕ × (List ℕ × List ManifestInfo)) FileFault
+rest_of t = do
+  flushed_at ← required 3 (scalar_of t 3 8)
+  message ← required 4 (text_of t 4)
+  _ ← properties_of t
+  files ← files_of t
+  Ok (flushed_at, (message, files))
+
 -- table Snapshot: what the payload says, or its first fault
 unfoldable pub payload_of : List ℕ → Result SnapshotFile FileFault
 payload_of payload = do

@@ -15,6 +15,7 @@ mod node_writing;
 mod nodes;
 mod numbers;
 mod reading;
+mod slots;
 mod snapshot;
 mod sources;
 mod writing;

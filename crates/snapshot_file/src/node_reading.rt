@@ -1,14 +1,16 @@
 ghost use Rattle.std.specs.Prelude.{◌≡◌, ◌<◌, Ok, map};
 ghost use Rattle.flat_tables.specs.Places.{items_of};
 ghost use Rattle.flat_tables.specs.Rows.{Reads, required};
-ghost use Rattle.snapshot_file.specs.Nodes.{dimension_of, extent_of, manifest_of, manifest_at, manifests_in, manifests_of, name_at, names_in, names_of, shape_of, array_of, kind_of, proper_path, node_of, node_at};
+ghost use Rattle.snapshot_file.specs.Nodes.{dimension_of, extent_of, manifest_of, manifest_at, manifests_in, manifests_of, name_at, names_in, names_of, shape_of, array_of, kind_of, proper_path, row_of, node_of, node_at};
 
 use crate::lists::{Extents, Names, Shape};
 use crate::nodes::{ManifestRef, NodeKind, NodeRow};
 use crate::numbers;
+use crate::slots::{number_in, table_in, text_in, vector_in};
 use file_fields::{id8_of, id12_of};
-use flat_tables::{FileFault, FlatFault, Table, Vector};
+use flat_tables::{FileFault, Table, Vector};
 use ice_base::{Bytes, Text};
+use ice_ids::Id8;
 use ice_items::Items;
 use std::alloc::Global;
 use zarr_path::{Path, PathFault};
@@ -43,9 +45,7 @@ fn manifest_of(alloc: Global, table: &Table) -> Result<ManifestRef, FileFault>
     ensures { Reads (λ x. x) result (manifest_of table.now) }
 {
     let id = id12_of(table, 0)?;
-    let Some(vector) = table.vector(1, 8)? else {
-        return Err(FileFault::Flat(FlatFault::Missing { slot: 1 }));
-    };
+    let vector = vector_in(table, 1, 8)?;
     let extents = extents_in(alloc, &vector)?;
     Ok(ManifestRef { id, extents })
 }
@@ -126,10 +126,8 @@ fn names_of(alloc: Global, table: &Table) -> Result<Option<Names>, FileFault>
 fn shape_of(alloc: Global, table: &Table) -> Result<Shape, FileFault>
     ensures { Reads (λ x. x) result (shape_of table.now) }
 {
-    match table.vector(0, 16)? {
-        None => Err(FileFault::Flat(FlatFault::Missing { slot: 0 })),
-        Some(vector) => dimensions_in(alloc, &vector),
-    }
+    let vector = vector_in(table, 0, 16)?;
+    dimensions_in(alloc, &vector)
 }
 
 /// The array that a table has.
@@ -170,36 +168,63 @@ fn path_of(alloc: Global, at: usize, text: &str) -> Result<Path, FileFault>
     }
 }
 
+/// A node at a path.
+fn row_at(
+    alloc: Global,
+    id: Id8,
+    path: Path,
+    bytes: &[u8],
+    kind: NodeKind,
+) -> Result<NodeRow, FileFault>
+    ensures { Reads (λ x. x) result (Ok (record { id = id; path = path; user_data = bytes.now; kind = kind })) }
+{
+    match Bytes::of(alloc, bytes) {
+        Ok(user_data) => Ok(NodeRow {
+            id,
+            path,
+            user_data,
+            kind,
+        }),
+        Err(_) => {
+            drop(kind);
+            Err(FileFault::NoMemory)
+        }
+    }
+}
+
+/// Node number `at`, by what its slots have.
+fn row_of(
+    alloc: Global,
+    at: usize,
+    id: Id8,
+    text: &str,
+    bytes: &[u8],
+    kind: Option<NodeKind>,
+) -> Result<NodeRow, FileFault>
+    ensures { Reads (λ x. x) result (row_of at id text.now bytes.now kind) }
+{
+    match (path_of(alloc, at, text), kind) {
+        (Ok(path), Some(kind)) => row_at(alloc, id, path, bytes, kind),
+        (Ok(_), None) => Err(FileFault::NodeKind { at }),
+        (Err(fault), kind) => {
+            drop(kind);
+            Err(fault)
+        }
+    }
+}
+
 /// Node number `at`, which a table has.
 #[tactic(auto, unfolding(crate::specs::Nodes::node_of))]
 fn node_of(alloc: Global, at: usize, table: &Table) -> Result<NodeRow, FileFault>
     ensures { Reads (λ x. x) result (node_of at table.now) }
 {
     let id = id8_of(table, 0)?;
-    let Some(text) = table.text(1)? else {
-        return Err(FileFault::Flat(FlatFault::Missing { slot: 1 }));
-    };
-    let Some(vector) = table.vector(2, 1)? else {
-        return Err(FileFault::Flat(FlatFault::Missing { slot: 2 }));
-    };
-    let Some(node_type) = table.scalar(3, 1)? else {
-        return Err(FileFault::Flat(FlatFault::Missing { slot: 3 }));
-    };
-    let Some(data) = table.table(4)? else {
-        return Err(FileFault::Flat(FlatFault::Missing { slot: 4 }));
-    };
+    let text = text_in(table, 1)?;
+    let vector = vector_in(table, 2, 1)?;
+    let node_type = number_in(table, 3, 1)?;
+    let data = table_in(table, 4)?;
     let kind = kind_of(alloc, node_type, &data)?;
-    let path = path_of(alloc, at, text)?;
-    let Some(kind) = kind else {
-        return Err(FileFault::NodeKind { at });
-    };
-    let user_data = Bytes::of(alloc, vector.all())?;
-    Ok(NodeRow {
-        id,
-        path,
-        user_data,
-        kind,
-    })
+    row_of(alloc, at, id, text, vector.all(), kind)
 }
 
 /// Node number `at`, to which that element leads.

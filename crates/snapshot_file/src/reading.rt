@@ -2,15 +2,16 @@ ghost use Rattle.std.specs.Prelude.{◌≡◌, ◌<◌, not, Bool, None, length,
 ghost use Rattle.flat_tables.specs.Step.{Gives};
 ghost use Rattle.flat_tables.specs.Places.{struct_of, text_of};
 ghost use Rattle.flat_tables.specs.Rows.{Ascends, Reads, follows, flat, required};
-ghost use Rattle.snapshot_file.specs.Snapshots.{node_key, file_key, nodes_in, nodes_of, properties_of, files_in, files_of, is_listed, all_listed, first_unlisted, id_if, payload_of, snapshot_of};
+ghost use Rattle.snapshot_file.specs.Snapshots.{node_key, file_key, nodes_in, nodes_of, properties_of, files_in, files_of, is_listed, all_listed, first_unlisted, parent_of, rest_of, payload_of, snapshot_of};
 ghost use Rattle.snapshot_file.specs.Layout.{IsWritable};
 
 use crate::node_reading::node_at;
 use crate::nodes::{ManifestRef, NodeRow};
 use crate::numbers::info_of;
+use crate::slots::{number_in, text_in, vector_in};
 use crate::snapshot::{ManifestInfo, NODE_LIMIT, SnapshotFile};
 use file_fields::{id12, id12_of, payload_in};
-use flat_tables::{FileFault, FlatFault, Kind, Table, Vector};
+use flat_tables::{FileFault, Kind, Table, Vector};
 use ice_base::Text;
 use ice_ids::Id12;
 use ice_items::Items;
@@ -45,6 +46,7 @@ fn nodes_in(alloc: Global, vector: &Vector) -> Result<Items<NodeRow>, FileFault>
     for at in 0..vector.len() {
         let node = node_at(alloc, vector, at)?;
         if !node_follows(nodes.last(), &node) {
+            drop(node);
             return Err(FileFault::Order { slot: 2, at });
         }
         nodes.push(node)?;
@@ -57,9 +59,7 @@ fn nodes_in(alloc: Global, vector: &Vector) -> Result<Items<NodeRow>, FileFault>
 fn nodes_of(alloc: Global, table: &Table) -> Result<Items<NodeRow>, FileFault>
     ensures { Reads (λ x. x) result (nodes_of table.now) }
 {
-    let Some(vector) = table.vector(2, 4)? else {
-        return Err(FileFault::Flat(FlatFault::Missing { slot: 2 }));
-    };
+    let vector = vector_in(table, 2, 4)?;
     if vector.len() > NODE_LIMIT {
         return Err(FileFault::Limit);
     }
@@ -140,6 +140,41 @@ pub fn first_unlisted(files: &[ManifestInfo], nodes: &[NodeRow]) -> Option<usize
     nodes.iter().position(|node| !all_listed(files, node))
 }
 
+/// The id of the snapshot that it followed, if there is one.
+fn parent_of(table: &Table) -> Result<Option<Id12>, FileFault>
+    ensures { Reads (λ x. x) result (parent_of table.now) }
+{
+    match table.bytes(1, 12)? {
+        None => Ok(None),
+        Some(bytes) => Ok(Some(id12(bytes))),
+    }
+}
+
+/// What stands in the slots behind the nodes.
+#[derive(Drop)]
+struct Rest<'a> {
+    flushed_at: u64,
+    message: &'a str,
+    manifest_files: Items<ManifestInfo>,
+}
+
+/// The slots behind the nodes.
+#[tactic(auto, unfolding(crate::specs::Snapshots::rest_of))]
+fn rest_of<'a>(alloc: Global, table: &Table<'a>) -> Result<Rest<'a>, FileFault>
+    ensures value { Reads (λ rest. (rest.flushed_at, (rest.message.now, rest.manifest_files))) result (rest_of table.now) }
+    ensures ascend { IfOk result (λ rest. Ascends file_key None rest.manifest_files) }
+{
+    let flushed_at = number_in(table, 3, 8)?;
+    let message = text_in(table, 4)?;
+    properties_of(table)?;
+    let manifest_files = files_of(alloc, table)?;
+    Ok(Rest {
+        flushed_at,
+        message,
+        manifest_files,
+    })
+}
+
 /// What a payload says.
 #[tactic(auto, unfolding(crate::specs::Snapshots::payload_of))]
 fn payload_of(alloc: Global, payload: &[u8]) -> Result<SnapshotFile, FileFault>
@@ -147,30 +182,20 @@ fn payload_of(alloc: Global, payload: &[u8]) -> Result<SnapshotFile, FileFault>
 {
     let table = Table::root(payload)?;
     let id = id12_of(&table, 0)?;
-    let parent = match table.bytes(1, 12)? {
-        None => None,
-        Some(bytes) => Some(id12(bytes)),
-    };
+    let parent = parent_of(&table)?;
     let nodes = nodes_of(alloc, &table)?;
-    let Some(flushed_at) = table.scalar(3, 8)? else {
-        return Err(FileFault::Flat(FlatFault::Missing { slot: 3 }));
-    };
-    let Some(message) = table.text(4)? else {
-        return Err(FileFault::Flat(FlatFault::Missing { slot: 4 }));
-    };
-    properties_of(&table)?;
-    let manifest_files = files_of(alloc, &table)?;
-    if let Some(at) = first_unlisted(manifest_files.as_slice(), nodes.as_slice()) {
+    let rest = rest_of(alloc, &table)?;
+    if let Some(at) = first_unlisted(rest.manifest_files.as_slice(), nodes.as_slice()) {
         return Err(FileFault::Unlisted { at });
     }
-    let message = Text::of(alloc, message)?;
+    let message = Text::of(alloc, rest.message)?;
     Ok(SnapshotFile {
         id,
         parent,
         nodes,
-        flushed_at,
+        flushed_at: rest.flushed_at,
         message,
-        manifest_files,
+        manifest_files: rest.manifest_files,
     })
 }
 

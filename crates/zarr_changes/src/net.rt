@@ -1,18 +1,21 @@
 //! What changes touch of their base.
 
 ghost use Rattle.std.specs.Prelude.{◌≡◌, [], IfOk, OnOk};
+ghost use Rattle.std.specs.FinMap.{entries};
+ghost use Rattle.zarr_tree.specs.Nodes.{is_array};
 ghost use Rattle.zarr_tree.specs.Rows.{node_found};
-ghost use Rattle.zarr_tree.specs.Held.{gone_rows, updated_rows, touched};
+ghost use Rattle.zarr_tree.specs.Held.{ids_of, gone_rows, updated_rows, written_rows, touched};
 ghost use Rattle.zarr_tree.specs.Touched.{is_untouched};
-ghost use Rattle.zarr_changes.specs.inside.Touching.{no_kinds, with_kind, IsOf, is_updated, touches_own};
+ghost use Rattle.zarr_changes.specs.inside.Touching.{no_kinds, with_kind, IsOf, AreOf, chunk_lists, is_updated, touches_own};
 
 use crate::added::AddedRows;
 use crate::ids::IdSet;
 use crate::kinds::is_group;
 use crate::set::ChangeSet;
 use crate::written::chunk_lists;
+use ice_items::Items;
 use std::alloc::{AllocError, Global};
-use zarr_tree::{Found, Touched, TreeLike};
+use zarr_tree::{ArrayChunks, Found, Ids, Touched, TreeLike};
 
 /// The ids of groups, and those of arrays.
 #[derive(Drop)]
@@ -42,6 +45,22 @@ impl Kinds {
             self.arrays.insert(found.id)
         }
     }
+
+    /// The ids as lists.
+    fn listed(&self, alloc: Global) -> Result<KindLists, AllocError>
+        ensures { IfOk result (λ ids. (ids.groups ≡ self.now.groups) × (ids.arrays ≡ self.now.arrays)) }
+    {
+        let groups = self.groups.items(alloc)?;
+        let arrays = self.arrays.items(alloc)?;
+        Ok(KindLists { groups, arrays })
+    }
+}
+
+/// The ids of groups, and those of arrays, each as a list.
+#[derive(Drop)]
+pub(crate) struct KindLists {
+    groups: Ids,
+    arrays: Ids,
 }
 
 /// The ids of added nodes.
@@ -103,23 +122,55 @@ impl ChangeSet {
         Ok(kinds)
     }
 
+    /// The ids of added nodes, as lists.
+    fn added_lists(&self, alloc: Global) -> Result<KindLists, AllocError>
+        ensures { IfOk result (λ ids. AreOf ids (entries self.now.added)) }
+    {
+        kinds_of(alloc, self.added.rows())?.listed(alloc)
+    }
+
+    /// The ids of nodes of the base that are gone, as lists.
+    fn deleted_lists<B: TreeLike>(&self, alloc: Global, base: &B) -> Result<KindLists, AllocError>
+        ensures { IfOk result (λ ids. AreOf ids (gone_rows self.now (B.nodes base.now))) }
+    {
+        self.deleted(alloc, base)?.listed(alloc)
+    }
+
+    /// The ids of nodes of the base that stay with other metadata, as lists.
+    fn updated_lists<B: TreeLike>(&self, alloc: Global, base: &B) -> Result<KindLists, AllocError>
+        ensures { IfOk result (λ ids. AreOf ids (updated_rows self.now (B.nodes base.now))) }
+    {
+        self.updated(alloc, base)?.listed(alloc)
+    }
+
+    /// The arrays of the overlay that have entries, and the indices of those.
+    fn updated_chunks<B: TreeLike>(
+        &self,
+        alloc: Global,
+        base: &B,
+    ) -> Result<Items<ArrayChunks>, AllocError>
+        ensures { IfOk result (λ arrays. arrays ≡ chunk_lists self.now.chunks (ids_of is_array (written_rows self.now (B.nodes base.now)))) }
+    {
+        let arrays = self.written(alloc, base)?.arrays.items(alloc)?;
+        chunk_lists(alloc, &self.entries, arrays.as_slice())
+    }
+
     /// The net changes: what the set touches of the base.
     pub fn net<B: TreeLike>(&self, alloc: Global, base: &B) -> Result<Touched, AllocError>
         ensures { IfOk result (λ lists. lists ≡ touched self.now (B.nodes base.now)) }
     {
-        let new = kinds_of(alloc, self.added.rows())?;
-        let deleted = self.deleted(alloc, base)?;
-        let updated = self.updated(alloc, base)?;
-        let written = self.written(alloc, base)?;
-        let arrays = written.arrays.items(alloc)?;
+        let new = self.added_lists(alloc)?;
+        let deleted = self.deleted_lists(alloc, base)?;
+        let updated = self.updated_lists(alloc, base)?;
+        let updated_chunks = self.updated_chunks(alloc, base)?;
         Ok(Touched {
-            new_groups: new.groups.items(alloc)?,
-            new_arrays: new.arrays.items(alloc)?,
-            deleted_groups: deleted.groups.items(alloc)?,
-            deleted_arrays: deleted.arrays.items(alloc)?,
-            updated_arrays: updated.arrays.items(alloc)?,
-            updated_groups: updated.groups.items(alloc)?,
-            updated_chunks: chunk_lists(alloc, &self.entries, arrays.as_slice())?,
+            new_groups: new.groups,
+            new_arrays: new.arrays,
+            deleted_groups: deleted.groups,
+            deleted_arrays: deleted.arrays,
+            updated_arrays: updated.arrays,
+            updated_groups: updated.groups,
+            updated_chunks,
         })
     }
 

@@ -10,6 +10,7 @@ use Rattle.zarr_tree.specs.Held.{Held, Entry, Rows, meta_in, nodes_over, ids_of,
 use Rattle.ice_ids.specs.declared.Id8.{Id8}
 use Rattle.zarr_tree.specs.declared.lists.ArrayChunks.{ArrayChunks}
 use Rattle.zarr_changes.specs.declared.net.Kinds.{Kinds}
+use Rattle.zarr_changes.specs.declared.net.KindLists.{KindLists}
 use Rattle.zarr_changes.specs.Edits.{with_id}
 use Rattle.zarr_changes.specs.Sets.{has_chunks}
 
@@ -30,6 +31,10 @@ with_kinds kinds (row ∷ rows) = with_kinds (with_kind kinds row.1) rows
 -- these are the ids of the rows, by their kinds
 abbrev pub IsOf : Kinds → Rows → Type 0
 IsOf kinds rows = (kinds.groups ≡ ids_of is_group rows) × (kinds.arrays ≡ ids_of is_array rows)
+
+-- these lists are the ids of the rows, by their kinds
+abbrev pub AreOf : KindLists → Rows → Type 0
+AreOf ids rows = (ids.groups ≡ ids_of is_group rows) × (ids.arrays ≡ ids_of is_array rows)
 
 -- whether a row has metadata
 abbrev pub has_metadata : Rows → Bool

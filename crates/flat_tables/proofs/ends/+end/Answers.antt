@@ -1,9 +1,9 @@
-use Rattle.std.proofs.Common.{rules, arith, ◌≡◌, ◌+◌, ◌*◌, length, map, ap, sym, subst, ◌∙◌}
+use Rattle.std.proofs.Common.{rules, arith, ◌≡◌, ◌+◌, ◌*◌, ◌<◌, get_or, length, map, ap, sym, subst, ◌∙◌}
 use Rattle.std.specs.Prelude.{IsTrue}
 use Rattle.std.specs.String.{string_bytes}
 use Rattle.flat_tables.specs.Layout.{gap_to, fields_end, all_beneath, blocks, table_place}
 use Rattle.flat_tables.specs.Trees.{layout, part_of, is_writable_slot, capped}
-use Rattle.flat_tables.proofs.Lengths.{slots_writable, slots_few, each_table_writable, flat_length, structs_beneath, tables_beneath, text_beneath, capped_on}
+use Rattle.flat_tables.proofs.Lengths.{slots_writable, slots_few, each_table_writable, flat_length, structs_beneath, tables_beneath, text_beneath, capped_on, beneath_on, blocks_on}
 use Rattle.flat_tables.proofs.ends.+end.Goals as goal
 
 pub table_end-slots_end-requires-clause-writable : goal.table_end-slots_end-requires-clause-writable
@@ -50,3 +50,25 @@ beneath_end-loop-flat-init t c =
       small = omega (arith, c.offsets_end-end.ensures);
       writable = rw c.deref-flat-items.ensures.value (each_table_writable flats (subst (λ s. IsTrue (is_writable_slot s)) c.in-Tables.is c.requires));
     }
+
+pub table_end-loop-slot-preserved : goal.table_end-loop-slot-preserved
+table_end-loop-slot-preserved t c =
+    let flat = c.args.flat.now in
+    let slots = flat.slots.items in
+    let i = c.loop-slot.slot-index in
+    let s = c.slot-item.result in
+    let items : c.deref-slot-items.result.now ≡ slots = c.deref-slot-items.ensures.value in
+    let lt : i < length slots = omega (arith, ap length items, c.loop-slot-test.true) in
+    let is : s ≡ get_or slots i s = c.slot-item.is ∙ ap (λ xs. get_or xs i s) items in
+    record {
+      so_far = beneath_on slots i s c.loop-slot.end (capped (c.args.from + length ((layout flat).bytes c.args.from))) lt is c.loop-slot.invariant.so_far c.beneath_end-end.result c.beneath_end-end.ensures;
+      small = omega (arith, c.beneath_end-end.ensures);
+      writable = c.loop-slot.invariant.writable;
+    }
+
+pub beneath_end-loop-flat-preserved : goal.beneath_end-loop-flat-preserved
+beneath_end-loop-flat-preserved t c = record {
+  so_far = blocks_on c.deref-flat-items.result.now c.loop-flat.flat-index c.flat-item.result c.loop-flat.end (capped (c.args.from + length ((part_of c.args.slot.now).beneath c.args.from))) c.loop-flat-test.true c.flat-item.is c.loop-flat.invariant.so_far c.table_end-end.result c.table_end-end.ensures;
+  small = omega (arith, c.table_end-end.ensures);
+  writable = c.loop-flat.invariant.writable;
+}

@@ -1,8 +1,8 @@
-use Rattle.std.proofs.Common.{arith, ◌≡◌, length, map, ap, subst, ◌∙◌, ◌++◌}
+use Rattle.std.proofs.Common.{arith, ◌≡◌, ◌<◌, get_or, length, map, ap, subst, ◌∙◌, ◌++◌}
 use Rattle.std.specs.Prelude.{IsTrue}
 use Rattle.flat_tables.specs.Layout.{all_beneath, blocks, table_head, tables_head}
 use Rattle.flat_tables.specs.Trees.{layout, part_of, is_writable_slot}
-use Rattle.flat_tables.proofs.Lengths.{slots_writable, slots_few, each_table_writable, flat_length, structs_beneath, text_beneath, tables_beneath_is, table_split, begun}
+use Rattle.flat_tables.proofs.Lengths.{slots_writable, slots_few, each_table_writable, flat_length, structs_beneath, text_beneath, tables_beneath_is, table_split, begun, beneath_begun, blocks_begun}
 use Rattle.flat_tables.proofs.writing.+put.Goals as goal
 
 pub put_beneath-put_vector-requires-clause-fits : goal.put_beneath-put_vector-requires-clause-fits
@@ -46,3 +46,27 @@ put_table-loop-slot-init t c =
 
 pub put_beneath-put_text-requires : goal.put_beneath-put_text-requires
 put_beneath-put_text-requires t c = rw c.as_bytes.ensures.value (omega (arith, text_beneath c.args.slot.now c.in-Text.text (length c.args.out.now.items) c.in-Text.is, c.requires.fits))
+
+pub put_table-loop-slot-preserved : goal.put_table-loop-slot-preserved
+put_table-loop-slot-preserved t c =
+    let slots = c.args.flat.now.slots.items in
+    let i = c.loop-slot.slot-index in
+    let s = c.slot-item.result in
+    let items : c.deref-slot-items.result.now ≡ slots = c.deref-slot-items.ensures.value in
+    let lt : i < length slots = omega (arith, ap length items, c.loop-slot-test.true) in
+    let is : s ≡ get_or slots i s = c.slot-item.is ∙ ap (λ xs. get_or xs i s) items in
+    let b = beneath_begun slots i s c.loop-slot.out.items c.put_beneath.new.out.items lt is c.in_ok-put_beneath.ensures in
+    record {
+      bytes = b.bytes ∙ c.loop-slot.invariant.bytes;
+      fits = omega (arith, b.len, c.loop-slot.invariant.fits);
+      writable = c.loop-slot.invariant.writable;
+    }
+
+pub put_beneath-loop-flat-preserved : goal.put_beneath-loop-flat-preserved
+put_beneath-loop-flat-preserved t c =
+    let b = blocks_begun c.deref-flat-items.result.now c.loop-flat.flat-index c.flat-item.result c.loop-flat.out.items c.put_table-in-loop-flat.new.out.items c.loop-flat-test.true c.flat-item.is c.in_ok-put_table-in-Tables.ensures in
+    record {
+      bytes = b.bytes ∙ c.loop-flat.invariant.bytes;
+      fits = omega (arith, b.len, c.loop-flat.invariant.fits);
+      writable = c.loop-flat.invariant.writable;
+    }
