@@ -2,7 +2,8 @@
 # Tries the program over directories: run ./icerepo once before, since nothing is built here. Where ICE_PROGRAM names
 # another program, that one is tried. Needs sh, coreutils, findutils, grep and sed.
 
-program=${ICE_PROGRAM:-$(CDPATH='' cd -P -- "$(dirname "$0")/.." && pwd -P)/crates/ice_cli/out/ice_cli}
+here=$(CDPATH='' cd -P -- "$(dirname "$0")" && pwd -P)
+program=${ICE_PROGRAM:-${here%/*}/crates/ice_cli/out/ice_cli}
 [ -x "$program" ] || { echo 'directory: there is no program yet; run ./icerepo once' >&2; exit 1; }
 room=$(mktemp -d "${TMPDIR:-/tmp}/directory-XXXXXX") || exit
 failed=0
@@ -65,11 +66,11 @@ for path in missing file file/beneath '' missing/beneath; do
         file*) why="it isn't a directory" ;;
         *) why='nothing is there' ;;
     esac
-    same "the path '$path'" "icerepo: no store: $why|8|" "$(call play --dir "$path")"
+    same "the path '$path'" "icerepo: no store: \"$path\": $why|8|" "$(call play --dir "$path")"
 done
 same 'nothing is made' 'd file given other printed said ' "$(rm came; ls | tr '\n' ' ')"
 same 'wrong words come first' 'icerepo: usage|2|' "$(call play --dir)"
-same 'grow, too' 'icerepo: no store: nothing is there|8|' "$(call grow 1 --dir missing)"
+same 'grow, too' 'icerepo: no store: "missing": nothing is there|8|' "$(call grow 1 --dir missing)"
 same 'a refused script' 'icerepo: script line 1: word|3|' "$(call play --dir d)"
 
 # Another program has claimed it: it has opened the directory as soon as the file of the claim is locked.
@@ -84,7 +85,7 @@ while [ ! -e claimed/icerepo.lock ] && [ "$tries" -lt 100 ]; do
     tries=$((tries + 1))
 done
 sleep 0.2
-same 'a second program' 'icerepo: no store: another program uses it|8|' "$(call play --dir claimed)"
+same 'a second program' 'icerepo: no store: "claimed": another program uses it|8|' "$(call play --dir claimed)"
 same 'it has done nothing' '' "$(contents claimed)"
 cat given >&3
 exec 3>&-
@@ -133,13 +134,15 @@ printf 'task a write main 0 fail\ngroup /new\ncommit never\ntask r read tag v1\n
     ) <given
     echo $?
 } | cat >printed
-same 'a full directory' "a refused 3 storefault|r 5 chunk 0102|r done|branch main $head|tag v1 $head|icerepo: store fault|6|" "$(tr '\n' '|' <printed)"
+same 'a full directory' "a refused 3 storefault|r 5 chunk 0102|r done|branch main $head|tag v1 $head|icerepo: write \"d/\$KEY\": File too large (os error 27)|icerepo: store fault|6|" "$(sed 's|"d/[^"]*"|"d/$KEY"|' printed | tr '\n' '|')"
 same 'it stands as it did' "$before" "$(contents d)"
 
 # A script that is made from a number.
 mkdir grown
 : >given
 same 'a grown script' 'tasks 2 committed 2 refused 0 events 16|0|' "$(call grow 1 --dir grown)"
+
+. "$here/odd_files.sh"
 
 [ "$failed" = 0 ] && echo 'directory: all well'
 [ "$failed" = 0 ]

@@ -1,6 +1,6 @@
 -- The entries of objects that were found by their keys are a listing.
 use Rattle.std.proofs.Common.{◌≡◌, ℕ, zero, suc, ◌<◌, List, [], map, get_or, refl, sym, ◌∙◌, ap, Bool, true, false, subst}
-use Rattle.std.specs.Prelude.{Option, Some, None, option_map, slice_get, Result, Ok, Err, IfOk, MatchResult}
+use Rattle.std.specs.Prelude.{Option, Some, None, option_map, slice_get}
 use Rattle.std.specs.declared.cmp.Ordering.TheVariants.{Less}
 use Rattle.std.specs.Map.{lookup}
 use Rattle.std.specs.BTreeMap.{BTreeMap, get, keys, is_at, IsOrdered, IsUnchanged, Updates}
@@ -14,7 +14,7 @@ use Rattle.store_api.specs.Machine.{part_of, listing_cmp}
 use Rattle.store_api.specs.Orders.{key_cmp, key_total}
 use Rattle.store_api.proofs.Slots.{same_key-true}
 use Rattle.store_api.proofs.Ties.{same-tie, within-part, mapped}
-use Rattle.dir_store.specs.declared.files.Measures.{Measures}
+use Rattle.dir_store.specs.declared.listing.Measures.{Measures}
 use Rattle.dir_store.specs.Listings.{IsListed}
 use Rattle.dir_store.specs.inside.Finding.{IsOfPart, entry_of}
 
@@ -50,11 +50,6 @@ inserted part m n key v is ordered of updates = record { ordered = ordered; part
     decide : (q : Key) (w : Measures) (b : Bool) → is_at (key_cmp key) q ≡ b → get key_cmp n q ≡ Some w → part_of q ≡ part
     decide q w true same e = ap part_of (sym (same_key-true key q (sym (same-tie key q) ∙ same))) ∙ of
     decide q w false other e = is.parts q w (sym (updates.2 q other) ∙ e)
-
--- what is told of a list is told of it behind a conversion
-pub told : {A E F : Type 0} (P : A → Type 0) (Q : F → Type 0) (made : Result A E) (r : Result A F) → MatchResult r (λ v. made ≡ Ok v) Q → IfOk made P → IfOk r P
-told P Q made (Ok v) is p = subst (λ m. IfOk m P) is p
-told P Q made (Err e) is p = tt
 
 module _ (part : Part) (found : BTreeMap Key Measures) (is : IsOfPart part found) where
   parts : (k : ℕ) (e : Entry) → slice_get (map entry_of found.entries) k ≡ Some e → part_of e.key ≡ part

@@ -31,7 +31,7 @@ abbrev pub operations_of : {R C : Type 0} → DirStore R C → ℕ
 operations_of s = s.operations
 
 abbrev pub root_of : {R C : Type 0} → DirStore R C → List ℕ
-root_of s = string_bytes s.root
+root_of s = string_bytes s.folder.path
 
 abbrev pub clock_of : {R C : Type 0} → DirStore R C → C
 clock_of s = s.clock

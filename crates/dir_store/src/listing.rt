@@ -5,7 +5,8 @@ ghost use Rattle.store_api.specs.Machine.{part_of};
 ghost use Rattle.dir_store.specs.Listings.{IsListed};
 ghost use Rattle.dir_store.specs.inside.Finding.{IsOfPart, entry_of};
 
-use crate::files::{Measures, measures_of, or_no_memory};
+use crate::faults::{Call, Cause, FileFault, failed};
+use crate::looks::{Kind, done_in_memory, file_at, in_memory, look};
 use crate::names::{key_of, path_of};
 use std::alloc::{AllocError, Global};
 use std::collections::BTreeMap;
@@ -13,13 +14,44 @@ use std::fs;
 use std::fs::{DirEntry, ReadDir};
 use std::io::ErrorKind;
 use std::rt::Files;
-use store_api::{Entries, Entry, Key, Part, StoreFault};
+use store_api::{Entries, Entry, Key, Part};
+
+/// The length of a file in bytes and the time of its last change, in microseconds.
+#[derive(Clone, Copy, Debug)]
+pub(crate) struct Measures {
+    pub(crate) size: u64,
+    pub(crate) changed: u64,
+}
+
+/// Why a part can't be listed, and at which path in its folder, where it is one there.
+#[derive(Drop)]
+pub(crate) struct ListFault {
+    pub(crate) fault: FileFault,
+    pub(crate) path: Option<String>,
+}
+
+impl From<FileFault> for ListFault {
+    fn from(fault: FileFault) -> ListFault {
+        ListFault { fault, path: None }
+    }
+}
+
+/// What was done at a path in the part's folder.
+fn located<T>(path: String, done: Result<T, FileFault>) -> Result<T, ListFault> {
+    match done {
+        Ok(value) => Ok(value),
+        Err(fault) => Err(ListFault {
+            fault,
+            path: Some(path),
+        }),
+    }
+}
 
 /// The objects that are found so far, by their keys.
 type Found = BTreeMap<Key, Measures>;
 
 /// The folder of a part.
-fn folder_of(part: Part) -> &'static str {
+pub(crate) fn folder_of(part: Part) -> &'static str {
     match part {
         Part::Snapshots => "snapshots",
         Part::Manifests => "manifests",
@@ -29,23 +61,14 @@ fn folder_of(part: Part) -> &'static str {
     }
 }
 
-/// What an error tells where memory is taken and nothing is changed.
-pub(crate) fn fault_of(kind: ErrorKind) -> StoreFault {
-    if kind == ErrorKind::OutOfMemory {
-        StoreFault::NoMemory
-    } else {
-        StoreFault::Failed
-    }
-}
-
 /// An entry of a folder, if its name is text.
 pub(crate) fn named<R: Files>(
     entry: std::io::Result<DirEntry<R, Global>>,
-) -> Result<Option<DirEntry<R, Global>>, StoreFault> {
+) -> Result<Option<DirEntry<R, Global>>, FileFault> {
     match entry {
         Ok(entry) => Ok(Some(entry)),
         Err(error) if error.kind() == ErrorKind::InvalidFilename => Ok(None),
-        Err(error) => Err(fault_of(error.kind())),
+        Err(error) => done_in_memory(Call::List, Err(error)),
     }
 }
 
@@ -57,11 +80,11 @@ fn add_file<R: Files>(
     part: Part,
     name: &str,
     found: &mut Found,
-) -> Result<(), StoreFault>
+) -> Result<(), ListFault>
     requires { IsOfPart part found.now }
     ensures { IsOfPart part found.new }
 {
-    let Some(key) = or_no_memory(key_of(alloc, name))? else {
+    let Some(key) = in_memory(key_of(alloc, name))? else {
         return Ok(());
     };
     let Some(measures) = measures_at(rt, alloc, root, part, &key)? else {
@@ -69,7 +92,7 @@ fn add_file<R: Files>(
     };
     match found.insert(key, measures) {
         Ok(_) => Ok(()),
-        Err(_) => Err(StoreFault::NoMemory),
+        Err(_) => Err(ListFault::from(FileFault::NoMemory)),
     }
 }
 
@@ -80,14 +103,19 @@ fn measures_at<R: Files>(
     root: &str,
     part: Part,
     key: &Key,
-) -> Result<Option<Measures>, StoreFault>
+) -> Result<Option<Measures>, ListFault>
     ensures { IfOk result (λ found. IfSome found (λ measures. part_of key.now ≡ part)) }
 {
     if key.part() != part {
         return Ok(None);
     }
-    let path = or_no_memory(path_of(alloc, root, key))?;
-    measures_of(rt, path.as_str())
+    let path = in_memory(path_of(alloc, root, key))?;
+    let found = file_at(rt, root, path.as_str());
+    let found = located(path, found)?;
+    Ok(found.map(|seen| Measures {
+        size: seen.size,
+        changed: seen.changed,
+    }))
 }
 
 /// Adds the object of this name, if there was memory for the name.
@@ -98,11 +126,11 @@ fn add_named<R: Files>(
     part: Part,
     name: Result<String, AllocError>,
     found: &mut Found,
-) -> Result<(), StoreFault>
+) -> Result<(), ListFault>
     requires { IsOfPart part found.now }
     ensures { IsOfPart part found.new }
 {
-    let name = or_no_memory(name)?;
+    let name = in_memory(name)?;
     add_file(rt, alloc, root, part, name.as_str(), found)
 }
 
@@ -114,7 +142,7 @@ fn add_found<R: Files>(
     part: Part,
     file_name: &str,
     found: &mut Found,
-) -> Result<(), StoreFault>
+) -> Result<(), ListFault>
     requires { IsOfPart part found.now }
     ensures { IsOfPart part found.new }
 {
@@ -137,7 +165,7 @@ fn add_entry<R: Files + Drop>(
     part: Part,
     entry: std::io::Result<DirEntry<R, Global>>,
     found: &mut Found,
-) -> Result<(), StoreFault>
+) -> Result<(), ListFault>
     requires { IsOfPart part found.now }
     ensures { IsOfPart part found.new }
 {
@@ -154,7 +182,7 @@ fn found_in<R: Files + Clone + Drop>(
     root: &str,
     part: Part,
     listing: ReadDir<R, Global>,
-) -> Result<Found, StoreFault>
+) -> Result<Found, ListFault>
     ensures { IfOk result (IsOfPart part) }
 {
     let mut found = Found::new(alloc);
@@ -185,23 +213,24 @@ fn entries_in<R: Files + AllocGlobal + Clone + Drop>(
     alloc: Global,
     root: &str,
     part: Part,
-) -> Result<Option<ReadDir<R, Global>>, StoreFault> {
+) -> Result<Option<ReadDir<R, Global>>, FileFault> {
     let folder = folder_of(part);
-    let path = or_no_memory(format!(in alloc; "{root}/{folder}"))?;
-    match fs::read_dir(rt, path.as_str()) {
-        Ok(listing) => Ok(Some(listing)),
-        Err(error) if error.kind() == ErrorKind::NotFound => Ok(None),
-        Err(error) => Err(fault_of(error.kind())),
+    let path = in_memory(format!(in alloc; "{root}/{folder}"))?;
+    let path = path.as_str();
+    match look(rt, path)? {
+        None => Ok(None),
+        Some(seen) if seen.kind != Kind::Folder => Err(failed(Call::List, Cause::NotFolder)),
+        Some(_) => Ok(Some(done_in_memory(Call::List, fs::read_dir(rt, path))?)),
     }
 }
 
 /// The objects of a part, in the order of their ids or names, a tag before its tombstone. Names that
-/// are no key are passed over.
+/// are no key are passed over; what has a key's name and is no plain file is a fault.
 pub(crate) fn list_files<R: Files + AllocGlobal + Clone + Drop>(
     rt: &R,
     root: &str,
     part: Part,
-) -> Result<Entries, StoreFault>
+) -> Result<Entries, ListFault>
     ensures { IfOk result (IsListed part) }
 {
     let alloc = rt.alloc();
@@ -209,5 +238,8 @@ pub(crate) fn list_files<R: Files + AllocGlobal + Clone + Drop>(
         return Ok(Entries::new(alloc));
     };
     let found = found_in(rt, alloc, root, part, listing)?;
-    or_no_memory(entries_of(alloc, found))
+    match entries_of(alloc, found) {
+        Ok(entries) => Ok(entries),
+        Err(_) => Err(ListFault::from(FileFault::NoMemory)),
+    }
 }

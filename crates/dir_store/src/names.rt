@@ -128,7 +128,8 @@ pub(crate) fn aside_of(alloc: Global, root: &str, number: u32) -> Result<String,
     Ok(aside)
 }
 
-/// Whether a file in the folder of files aside may be one of them, by its name.
+/// Whether a name in the folder of files aside is one that is given there: a number below 2^32, without
+/// a sign or needless zeros.
 pub(crate) fn is_aside(name: &str) -> bool {
-    name.parse::<u32>().is_ok()
+    matches!(name.as_bytes(), [b'0'] | [b'1'..=b'9', ..]) && name.parse::<u32>().is_ok()
 }

@@ -5,6 +5,8 @@ ghost use Rattle.dir_store.specs.Store.{IsNewIn};
 
 use crate::claims::Claim;
 use crate::faults::OpenFault;
+use crate::looks::in_memory;
+use crate::losing::is_main_lost;
 use crate::seeds::random_seed;
 use crate::store::DirStore;
 use ice_base::Clock;
@@ -20,6 +22,8 @@ pub struct Opened<R, C> {
     pub store: DirStore<R, C>,
     /// 32 random bytes, for the drawing of ids.
     pub seed: [u8; 32],
+    /// Whether the branch `main` isn't there, though other refs or snapshots are.
+    pub main_is_lost: bool,
 }
 
 /// Opens the directory at this path: it is listed, and then claimed, so that no other program that
@@ -33,6 +37,12 @@ pub fn open<R: Files<File = File> + AllocGlobal + Clone + Drop, C: Clock + Drop>
 {
     let claim = Claim::of(&rt, path)?;
     let seed = random_seed(&rt)?;
-    let store = DirStore::at(rt, path, clock)?;
-    Ok(Opened { claim, store, seed })
+    let main_is_lost = is_main_lost(&rt, path)?;
+    let store = in_memory(DirStore::of_listed(rt, path, clock))?;
+    Ok(Opened {
+        claim,
+        store,
+        seed,
+        main_is_lost,
+    })
 }

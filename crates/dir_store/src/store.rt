@@ -5,13 +5,13 @@ ghost use Rattle.store_api.specs.Callers.{Called, Counted, as_client};
 ghost use Rattle.dir_store.specs.Store.{view_of, client_of, faults_of, operations_of, clock_of, IsNewIn, IsMade, IsRightGot, IsRightNew, IsRightOver, IsRightGoneAt, time_of_got, time_of_new, time_of_over, time_of_gone, time_of_gone_at};
 ghost use Rattle.dir_store.specs.Listings.{IsListed};
 
-use crate::files;
-use crate::files::{Change, or_no_memory};
-use crate::listing::{fault_of, list_files};
-use crate::names::path_of;
+use crate::files::Change;
+use crate::folder::{FirstFault, Folder};
 use crate::versions::content_version;
 use ice_base::Clock;
+use std::alloc::AllocError;
 use std::fs;
+use std::io::ErrorKind;
 use std::rt::Files;
 use store_api::{
     Base, Gone, GoneAt, Got, Key, Listed, New, Op, Over, Part, Reply, Store, StoreFault, Version,
@@ -29,8 +29,7 @@ use store_api::{
 /// is cut off may leave files aside, which are no objects, and which the next claim removes.
 #[derive(Drop)]
 pub struct DirStore<R, C> {
-    rt: R,
-    root: String,
+    folder: Folder<R>,
     clock: C,
     client: u32,
     faults: u64,
@@ -43,13 +42,25 @@ impl<R: Files + AllocGlobal + Clone + Drop, C: Clock + Drop> DirStore<R, C> {
     pub fn at(rt: R, path: &str, clock: C) -> Result<DirStore<R, C>, StoreFault>
         ensures { IfOk result (IsNewIn path.now clock) }
     {
-        let root = or_no_memory(String::from_str(rt.alloc(), path))?;
         if let Err(error) = fs::read_dir(&rt, path) {
-            return Err(fault_of(error.kind()));
+            return Err(if error.kind() == ErrorKind::OutOfMemory {
+                StoreFault::NoMemory
+            } else {
+                StoreFault::Failed
+            });
         }
+        match DirStore::of_listed(rt, path, clock) {
+            Ok(store) => Ok(store),
+            Err(_) => Err(StoreFault::NoMemory),
+        }
+    }
+
+    /// The store in the directory at this path, which was listed, for the client 0.
+    pub(crate) fn of_listed(rt: R, path: &str, clock: C) -> Result<DirStore<R, C>, AllocError>
+        ensures { IfOk result (IsNewIn path.now clock) }
+    {
         Ok(DirStore {
-            rt,
-            root,
+            folder: Folder::at(rt, path)?,
             clock,
             client: 0,
             faults: 0,
@@ -73,11 +84,9 @@ impl<R: Files + AllocGlobal + Clone + Drop, C: Clock> DirStore<R, C> {
         self.operations
     }
 
-    /// The path of an object.
-    fn path(&self, key: &Key) -> Result<String, StoreFault>
-        ensures { IfErr result (λ fault. fault ≡ StoreFault.NoMemory) }
-    {
-        or_no_memory(path_of(self.rt.alloc(), self.root.as_str(), key))
+    /// The first call on files that failed, if one has.
+    pub fn first_fault(&self) -> Option<&FirstFault> {
+        self.folder.first_fault()
     }
 
     /// What was done. It is counted, unless memory was wanting, and so is a failure.
@@ -109,8 +118,8 @@ impl<R: Files + AllocGlobal + Clone + Drop, C: Clock> Store for DirStore<R, C> {
         ensures made { IsMade result (operations_of self.old) (operations_of self.new) }
         ensures time { IfOk result (λ got. C.gives (clock_of self.old) (time_of_got got) (clock_of self.new)) }
     {
-        let path = self.path(key)?;
-        let read = files::read_file(&self.rt, self.rt.alloc(), path.as_str());
+        let path = self.folder.path(key)?;
+        let read = self.folder.read(path);
         let found = self.counted(read)?;
         let now = self.clock.now();
         Ok(match found {
@@ -132,14 +141,8 @@ impl<R: Files + AllocGlobal + Clone + Drop, C: Clock> Store for DirStore<R, C> {
         ensures made { IsMade result (operations_of self.old) (operations_of self.new) }
         ensures time { IfOk result (λ new. C.gives (clock_of self.old) (time_of_new new) (clock_of self.new)) }
     {
-        let path = self.path(key)?;
-        let made = files::make_file(
-            &self.rt,
-            self.rt.alloc(),
-            self.root.as_str(),
-            path.as_str(),
-            bytes,
-        );
+        let path = self.folder.path(key)?;
+        let made = self.folder.make(path, bytes);
         let found = self.counted(made)?;
         let now = self.clock.now();
         Ok(match found {
@@ -163,15 +166,8 @@ impl<R: Files + AllocGlobal + Clone + Drop, C: Clock> Store for DirStore<R, C> {
         ensures made { IsMade result (operations_of self.old) (operations_of self.new) }
         ensures time { IfOk result (λ over. C.gives (clock_of self.old) (time_of_over over) (clock_of self.new)) }
     {
-        let path = self.path(key)?;
-        let replaced = files::replace_file(
-            &self.rt,
-            self.rt.alloc(),
-            self.root.as_str(),
-            path.as_str(),
-            bytes,
-            old,
-        );
+        let path = self.folder.path(key)?;
+        let replaced = self.folder.replace(path, bytes, old);
         let change = self.counted(replaced)?;
         let now = self.clock.now();
         Ok(match change {
@@ -188,8 +184,8 @@ impl<R: Files + AllocGlobal + Clone + Drop, C: Clock> Store for DirStore<R, C> {
         ensures made { IsMade result (operations_of self.old) (operations_of self.new) }
         ensures time { IfOk result (λ gone. C.gives (clock_of self.old) (time_of_gone gone) (clock_of self.new)) }
     {
-        let path = self.path(key)?;
-        let removed = files::remove_file(&self.rt, path.as_str());
+        let path = self.folder.path(key)?;
+        let removed = self.folder.remove(path);
         let was_there = self.counted(removed)?;
         let now = self.clock.now();
         Ok(if was_there {
@@ -205,8 +201,8 @@ impl<R: Files + AllocGlobal + Clone + Drop, C: Clock> Store for DirStore<R, C> {
         ensures made { IsMade result (operations_of self.old) (operations_of self.new) }
         ensures time { IfOk result (λ gone. C.gives (clock_of self.old) (time_of_gone_at gone) (clock_of self.new)) }
     {
-        let path = self.path(key)?;
-        let removed = files::remove_version(&self.rt, path.as_str(), old);
+        let path = self.folder.path(key)?;
+        let removed = self.folder.remove_version(path, old);
         let change = self.counted(removed)?;
         let now = self.clock.now();
         Ok(match change {
@@ -221,7 +217,7 @@ impl<R: Files + AllocGlobal + Clone + Drop, C: Clock> Store for DirStore<R, C> {
         ensures made { IsMade result (operations_of self.old) (operations_of self.new) }
         ensures time { IfOk result (λ listed. C.gives (clock_of self.old) listed.now (clock_of self.new)) }
     {
-        let listing = list_files(&self.rt, self.root.as_str(), part);
+        let listing = self.folder.list(part);
         let entries = self.counted(listing)?;
         let now = self.clock.now();
         Ok(Listed { entries, now })

@@ -15,12 +15,21 @@ use std::test::Fail;
 use std::{fs, io};
 use store_api::{Got, Key, Over, Part, Store, StoreFault, Why};
 
+/// The number of the calls so far, and of the last call that made a folder in the directory itself, and
+/// that flushed it.
+#[derive(Clone, Copy, Default)]
+struct Calls {
+    made: u64,
+    flushed: u64,
+    count: u64,
+}
+
 /// Files of the system. A call breaks: that one alone, or all from it on, as where a program is cut
 /// off there.
 #[derive(Clone, Copy)]
 struct Breaking<'a> {
     rt: HostRuntime,
-    calls: &'a Cell<u64>,
+    calls: &'a Cell<Calls>,
     broken: u64,
     for_good: bool,
 }
@@ -28,12 +37,28 @@ struct Breaking<'a> {
 impl<'a> Breaking<'a> {
     /// Counts a call, and fails where it breaks.
     fn call(&self) -> io::Result<()> {
-        let number = self.calls.get();
-        self.calls.set(number.saturating_add(1));
+        let mut calls = self.calls.get();
+        let number = calls.count;
+        calls.count = number.saturating_add(1);
+        self.calls.set(calls);
         if number == self.broken || (self.for_good && number > self.broken) {
             return Err(io::Error::from(ErrorKind::StorageFull));
         }
         Ok(())
+    }
+
+    /// Notes that this call made a folder in the directory.
+    fn note_made(&self) {
+        let mut calls = self.calls.get();
+        calls.made = calls.count;
+        self.calls.set(calls);
+    }
+
+    /// Notes that this call flushed the directory.
+    fn note_flushed(&self) {
+        let mut calls = self.calls.get();
+        calls.flushed = calls.count;
+        self.calls.set(calls);
     }
 }
 
@@ -42,6 +67,7 @@ impl<'a> Breaking<'a> {
 struct BreakingFile<'a> {
     file: File,
     files: Breaking<'a>,
+    is_root: bool,
 }
 
 impl<'a> Read for BreakingFile<'a> {
@@ -85,7 +111,11 @@ impl<'a> OpenFile for BreakingFile<'a> {
     }
 
     fn sync_all(&self) -> io::Result<()> {
-        self.files.call()
+        self.files.call()?;
+        if self.is_root {
+            self.files.note_flushed();
+        }
+        Ok(())
     }
 
     fn sync_data(&self) -> io::Result<()> {
@@ -111,6 +141,7 @@ impl<'a> Files for Breaking<'a> {
         Ok(BreakingFile {
             file: self.rt.open_file(how, path)?,
             files: *self,
+            is_root: !path.contains('/'),
         })
     }
 
@@ -146,7 +177,9 @@ impl<'a> Files for Breaking<'a> {
 
     fn create_dir(&self, path: &str) -> io::Result<()> {
         self.call()?;
-        Files::create_dir(&self.rt, path)
+        Files::create_dir(&self.rt, path)?;
+        self.note_made();
+        Ok(())
     }
 
     fn remove_dir(&self, path: &str) -> io::Result<()> {
@@ -259,7 +292,7 @@ fn work(
     for_good: bool,
 ) -> Result<Came, Fail> {
     begin(rt, path, keys)?;
-    let calls = Cell::new(0);
+    let calls = Cell::new(Calls::default());
     let files = Breaking {
         rt,
         calls: &calls,
@@ -269,7 +302,7 @@ fn work(
     let mut store = DirStore::at(files, path, TickClock::new())?;
     let failed = write(&mut store, keys) + read(&mut store, keys) + remove(&mut store, keys);
     Ok(Came {
-        broke: calls.get() > broken,
+        broke: calls.get().count > broken,
         failed,
         faults: store.faults(),
         operations: store.operations(),
@@ -368,4 +401,37 @@ fn leftovers_never_stop_a_put(rt: HostRuntime) -> Result<(), Fail> {
     assert!(rt; goes_on(rt, "leftovers", &keys)?);
     assert!(rt; left_aside(rt, "leftovers/icerepo.new")? == 1);
     Ok(fs::remove_dir_all(&rt, "leftovers")?)
+}
+
+/// Puts two snapshots in an empty directory, with this call broken: whether the call was made, and
+/// whether the second put was done and the directory flushed behind the last folder made in it.
+fn put_two(rt: HostRuntime, path: &str, broken: u64) -> Result<(bool, bool), Fail> {
+    let _ = fs::remove_dir_all(&rt, path);
+    fs::create_dir_all(&rt, path)?;
+    let calls = Cell::new(Calls::default());
+    let files = Breaking {
+        rt,
+        calls: &calls,
+        broken,
+        for_good: false,
+    };
+    let mut store = DirStore::at(files, path, TickClock::new())?;
+    let broke = store
+        .put_new(&Key::Snapshot(Id12([1; 12])), b"one", Why::Set)
+        .is_err();
+    let put = store.put_new(&Key::Snapshot(Id12([2; 12])), b"two", Why::Set);
+    let calls = calls.get();
+    Ok((broke, put.is_ok() && calls.made < calls.flushed))
+}
+
+#[test]
+fn a_folder_is_made_once_it_is_flushed(rt: HostRuntime) -> Result<(), Fail> {
+    for broken in 1..MOST {
+        let (broke, flushed) = put_two(rt, "flushed", broken)?;
+        if !broke {
+            return Ok(fs::remove_dir_all(&rt, "flushed")?);
+        }
+        assert!(rt; flushed, "{broken}");
+    }
+    Err(Fail::new("too many calls"))
 }

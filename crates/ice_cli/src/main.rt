@@ -2,14 +2,15 @@
 //! that is made from a number, over a store in memory or in a directory; or it says what it is.
 #![tactic(auto)]
 
+mod directory;
 mod running;
+mod streams;
 
 use command_words::{Place, place_of};
-use dir_store::{OpenFault, Opened, open};
-use ice_ids::Draw;
-use moments::WallClock;
-use running::{end_without_store, in_memory, run_over};
+use directory::in_directory;
+use running::in_memory;
 use std::process::ExitCode;
+use streams::keep_numbers;
 use top_call::{Status, end, given_words};
 
 fn main(rt: HostRuntime) -> ExitCode {
@@ -19,18 +20,9 @@ fn main(rt: HostRuntime) -> ExitCode {
     };
     match place_of(rt.alloc(), &words) {
         Ok(Place::Memory) => in_memory(&rt, &words),
-        Ok(Place::Dir(path)) => match open(rt, path, WallClock::new(rt)) {
-            Ok(opened) => {
-                let seed = opened.seed;
-                let Opened {
-                    claim: _claim,
-                    store,
-                    ..
-                } = opened;
-                run_over(&rt, &words, Draw::Stream(seed), store)
-            }
-            Err(OpenFault::NoMemory) => end(&rt, &Status::NoMemory),
-            Err(fault) => end_without_store(&rt, fault),
+        Ok(Place::Dir(path)) => match keep_numbers(&rt) {
+            Ok(_kept) => in_directory(&rt, &words, path),
+            Err(status) => end(&rt, &status),
         },
         Err(_) => end(&rt, &Status::NoMemory),
     }

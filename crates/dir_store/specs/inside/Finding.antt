@@ -6,7 +6,7 @@ use Rattle.store_api.specs.declared.keys.Part.{Part}
 use Rattle.store_api.specs.declared.events.Entry.{Entry}
 use Rattle.store_api.specs.Machine.{part_of}
 use Rattle.store_api.specs.Orders.{key_cmp}
-use Rattle.dir_store.specs.declared.files.Measures.{Measures}
+use Rattle.dir_store.specs.declared.listing.Measures.{Measures}
 
 -- all keys are of the part
 pub record IsOfPart (part : Part) (found : BTreeMap Key Measures) : Type 0 where

@@ -1,0 +1,51 @@
+//! Whether the branch `main` was lost.
+
+use crate::faults::FileFault;
+use crate::listing::list_files;
+use crate::looks::{in_memory, look};
+use ice_ids::Id12;
+use std::rt::Files;
+use store_api::{Entries, Key, Part};
+
+/// Whether one of these isn't the snapshot that a new repository begins with.
+fn is_used(entries: &Entries) -> bool {
+    for entry in entries.as_slice() {
+        match &entry.key {
+            Key::Snapshot(id) if *id == Id12::INITIAL => {}
+            _ => return true,
+        }
+    }
+    false
+}
+
+/// Whether a part holds more than a new repository does. Where it can't be listed that isn't known.
+fn holds_more<R: Files + AllocGlobal + Clone + Drop>(
+    rt: &R,
+    root: &str,
+    part: Part,
+) -> Result<bool, FileFault> {
+    match list_files(rt, root, part) {
+        Ok(entries) => Ok(is_used(&entries)),
+        Err(refused) => match refused.fault {
+            FileFault::Failed(_) => Ok(false),
+            FileFault::NoMemory => Err(FileFault::NoMemory),
+        },
+    }
+}
+
+/// Whether nothing lies at the place of the branch `main`, though other refs or snapshots are there.
+pub(crate) fn is_main_lost<R: Files + AllocGlobal + Clone + Drop>(
+    rt: &R,
+    root: &str,
+) -> Result<bool, FileFault> {
+    let main = in_memory(format!(in rt.alloc(); "{root}/refs/branch.main/ref.json"))?;
+    if look(rt, main.as_str())?.is_some() {
+        return Ok(false);
+    }
+    for part in [Part::Branches, Part::Tags, Part::Snapshots] {
+        if holds_more(rt, root, part)? {
+            return Ok(true);
+        }
+    }
+    Ok(false)
+}

@@ -1,0 +1,92 @@
+//! Runs of the program over a directory.
+
+ghost use Rattle.std.specs.Prelude.{◌≡◌};
+ghost use Rattle.std.specs.Process.{exit_status};
+
+use crate::running::run_over;
+use command_words::Word;
+use dir_store::{DirStore, OpenFault, Opened, open};
+use ice_ids::Draw;
+use moments::WallClock;
+use std::fs::File;
+use std::process::ExitCode;
+use std::rt::{Clock, Files};
+use std::sync::Wait;
+use std::thread::Threads;
+use top_call::{Status, end};
+
+/// Says on standard error that there is no store to work on, at which path and why, and gives the exit code.
+pub fn end_without_store<R: Eprint>(rt: &R, path: &str, fault: OpenFault) -> ExitCode
+    ensures { exit_status result ≡ 8 }
+{
+    let _ = eprintln!(rt; "icerepo: no store: {path:?}: {fault}");
+    ExitCode::from(8)
+}
+
+/// Says on standard error that the branch `main` isn't there, where that is so of a used repository.
+fn tell_loss<R: Eprint>(rt: &R, main_is_lost: bool) {
+    if main_is_lost {
+        let _ = eprintln!(rt;
+            "icerepo: the branch main isn't there, but other refs or snapshots are"
+        );
+    }
+}
+
+/// Says on standard error which call on files failed first, if one did.
+fn tell_fault<R: Eprint, F: Files + AllocGlobal + Clone + Drop, C: ice_base::Clock>(
+    rt: &R,
+    store: &DirStore<F, C>,
+) {
+    if let Some(first) = store.first_fault() {
+        let _ = eprintln!(rt; "icerepo: {first}");
+    }
+}
+
+/// Does what the words say over an opened directory.
+fn over_opened<
+    R: Input
+        + Print
+        + Eprint
+        + AllocGlobal
+        + Files<File = File>
+        + Clock
+        + Threads
+        + Wait
+        + Send
+        + Sync
+        + Copy
+        + Drop,
+>(rt: &R, words: &[Word], opened: Opened<R, WallClock<R>>) -> ExitCode {
+    let Opened {
+        claim: _claim,
+        store,
+        seed,
+        main_is_lost,
+    } = opened;
+    tell_loss(rt, main_is_lost);
+    let ended = run_over(rt, words, Draw::Stream(seed), store);
+    tell_fault(rt, &ended.store);
+    end(rt, &ended.status)
+}
+
+/// Does what the words say over the directory at this path.
+pub fn in_directory<
+    R: Input
+        + Print
+        + Eprint
+        + AllocGlobal
+        + Files<File = File>
+        + Clock
+        + Threads
+        + Wait
+        + Send
+        + Sync
+        + Copy
+        + Drop,
+>(rt: &R, words: &[Word], path: &str) -> ExitCode {
+    match open(*rt, path, WallClock::new(*rt)) {
+        Ok(opened) => over_opened(rt, words, opened),
+        Err(OpenFault::NoMemory) => end(rt, &Status::NoMemory),
+        Err(fault) => end_without_store(rt, path, fault),
+    }
+}
