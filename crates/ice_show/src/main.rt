@@ -4,6 +4,7 @@
 
 mod answering;
 mod changing;
+mod conflicting;
 mod counted;
 mod files;
 mod grids;
@@ -13,10 +14,11 @@ mod loads;
 mod manifests;
 mod metas;
 mod parts;
+mod ref_calls;
 mod refusals;
-mod scripts;
 mod snapshots;
 mod store_keys;
+mod storing;
 mod texts;
 mod told;
 mod words;

@@ -19,8 +19,8 @@ mod reports;
 #[cfg(test)]
 mod sessions;
 #[cfg(test)]
-mod shelf;
-#[cfg(test)]
 mod tables;
 #[cfg(test)]
 mod turns;
+#[cfg(test)]
+mod untold;

@@ -1,105 +1,51 @@
-//! Branches, tags and logs, over a store in memory.
+//! A ref that is dropped while all are read.
 
-use ice_base::{RefName, TickClock};
+use crate::untold::Untold;
+use ice_base::RefName;
 use ice_ids::Id12;
-use mem_store::MemStore;
-use refs_admin::{
-    drop_branch, drop_tag, make_branch, make_repository, make_tag, read_log, set_branch,
-};
-use repo_read::At;
-use std::alloc::Global;
+use play_outcome::RefLine;
+use ref_file::ref_write;
+use repository::{begin, read_refs};
+use std::alloc::{AllocError, Global};
 use std::test::Fail;
-use store_api::{Refusal, Version};
+use store_api::{Key, Store, StoreFault, Why};
 
-type Memory = MemStore<TickClock>;
-
-fn name(alloc: Global, text: &str) -> Result<RefName, Fail> {
-    Ok(RefName::read(alloc, text)?)
+fn branch(alloc: Global, name: &str) -> Result<Key, AllocError> {
+    match RefName::read(alloc, name) {
+        Ok(name) => Ok(Key::Branch(name)),
+        Err(_) => Err(AllocError),
+    }
 }
 
-fn at(alloc: Global, text: &str) -> Result<At, Fail> {
-    Ok(At::Branch(name(alloc, text)?))
+/// A repository with the branches `late` and `main`, the first of which is dropped behind a listing.
+fn begun(alloc: Global) -> Option<Untold> {
+    let mut store = Untold::new(alloc, branch(alloc, "late").ok());
+    begin(alloc, &mut store).ok()?;
+    Some(store)
 }
 
-fn begun(alloc: Global) -> Memory {
-    let mut store = MemStore::new(alloc, TickClock::new());
-    let _made = make_repository(alloc, &mut store);
-    store
-}
-
-/// A repository is made once.
-#[test]
-fn a_second_beginning(rt: HostRuntime) -> Result<(), Fail> {
-    let mut store = MemStore::new(rt.alloc(), TickClock::new());
-    assert!(rt; make_repository(rt.alloc(), &mut store).is_ok());
-    let again = make_repository(rt.alloc(), &mut store);
-    assert!(rt; matches!(again, Err(Refusal::RefExists(Version(1)))));
+fn put_late(alloc: Global, store: &mut Untold) -> Result<(), StoreFault> {
+    let late = branch(alloc, "late").or(Err(StoreFault::NoMemory))?;
+    store.put_new(&late, &ref_write(Id12::INITIAL), Why::Create)?;
     Ok(())
 }
 
-/// A branch is made, made again, set and dropped; `main` is kept.
-#[test]
-fn branches(rt: HostRuntime) -> Result<(), Fail> {
-    let alloc = rt.alloc();
-    let mut store = begun(alloc);
-    let again = make_branch(
-        alloc,
-        name(alloc, "main")?,
-        At::Snapshot(Id12::INITIAL),
-        &mut store,
-    );
-    assert!(rt; matches!(again, Err(Refusal::RefExists(Version(1)))));
-    let made = make_branch(alloc, name(alloc, "late")?, at(alloc, "main")?, &mut store);
-    assert!(rt; made.is_ok());
-    let set = set_branch(alloc, name(alloc, "main")?, at(alloc, "late")?, &mut store);
-    assert!(rt; set.is_ok());
-    let nowhere = set_branch(
-        alloc,
-        name(alloc, "main")?,
-        At::Snapshot(Id12([1; 12])),
-        &mut store,
-    );
-    assert!(rt; matches!(nowhere, Err(Refusal::NoSnapshot)));
-    assert!(rt; drop_branch(alloc, name(alloc, "late")?, &mut store).is_ok());
-    let gone = drop_branch(alloc, name(alloc, "late")?, &mut store);
-    assert!(rt; matches!(gone, Err(Refusal::NoRef)));
-    let kept = drop_branch(alloc, name(alloc, "main")?, &mut store);
-    assert!(rt; matches!(kept, Err(Refusal::MainKept)));
-    Ok(())
+fn is_main(lines: &[RefLine]) -> bool {
+    match lines {
+        [line] => !line.tag && line.name.as_str() == "main" && line.id == Id12::INITIAL,
+        _ => false,
+    }
 }
 
-/// A tag is made once, dropped once, and not made again.
 #[test]
-fn tags(rt: HostRuntime) -> Result<(), Fail> {
-    let alloc = rt.alloc();
-    let mut store = begun(alloc);
-    let made = make_tag(alloc, name(alloc, "t")?, at(alloc, "main")?, &mut store);
-    assert!(rt; made.is_ok());
-    let again = make_tag(alloc, name(alloc, "t")?, at(alloc, "main")?, &mut store);
-    assert!(rt; matches!(again, Err(Refusal::RefExists(Version(4)))));
-    assert!(rt; drop_tag(alloc, name(alloc, "t")?, &mut store).is_ok());
-    let gone = drop_tag(alloc, name(alloc, "t")?, &mut store);
-    assert!(rt; matches!(gone, Err(Refusal::NoRef)));
-    let dropped = make_tag(alloc, name(alloc, "t")?, at(alloc, "main")?, &mut store);
-    assert!(rt; matches!(dropped, Err(Refusal::TagGone)));
-    let log = read_log(alloc, At::Tag(name(alloc, "t")?), &mut store);
-    assert!(rt; matches!(log, Err(Refusal::NoRef)));
-    Ok(())
-}
-
-/// The log of an empty repository has one line.
-#[test]
-fn a_log(rt: HostRuntime) -> Result<(), Fail> {
-    let alloc = rt.alloc();
-    let mut store = begun(alloc);
-    let Ok(lines) = read_log(alloc, at(alloc, "main")?, &mut store) else {
-        panic!(rt; "refused");
+fn a_ref_that_is_gone_is_passed_over(rt: HostRuntime) -> Result<(), Fail> {
+    let Some(mut store) = begun(rt.alloc()) else {
+        return Err(Fail::new("not begun"));
     };
-    let lines = lines.as_slice();
-    assert_eq!(rt; lines.len(), 1);
-    assert!(rt; lines[0].id.0 == Id12::INITIAL.0 && lines[0].flushed_at == 0);
-    assert_eq!(rt; lines[0].message.as_str(), "Repository initialized");
-    let gone = read_log(alloc, At::Snapshot(Id12([1; 12])), &mut store);
-    assert!(rt; matches!(gone, Err(Refusal::NoRef)));
+    put_late(rt.alloc(), &mut store)?;
+    let Ok(lines) = read_refs(rt.alloc(), &mut store) else {
+        return Err(Fail::new("refused"));
+    };
+    assert!(rt; is_main(lines.as_slice()));
     Ok(())
 }
