@@ -2,6 +2,7 @@
 
 use crate::changing::tell_changes;
 use crate::conflicting::{tell_conflicts, tell_solved};
+use crate::ends::{tell_byte_list, tell_input, tell_output};
 use crate::files::{tell_header, tell_header_of, tell_log, tell_log_again};
 use crate::grids::{tell_grid, tell_in_grid};
 use crate::loads::{tell_known_log, tell_known_ref, tell_loaded};
@@ -9,6 +10,8 @@ use crate::manifests::{tell_manifest, tell_manifest_again};
 use crate::metas::{tell_json, tell_member, tell_meta, tell_meta_text, tell_number, tell_plain};
 use crate::ref_calls::tell_refs;
 use crate::refusals::tell_refusal;
+use crate::reports::tell_report;
+use crate::scripts::tell_script;
 use crate::snapshots::{tell_initial, tell_snapshot, tell_snapshot_again};
 use crate::store_keys::{tell_object, tell_same};
 use crate::storing::tell_store;
@@ -54,6 +57,7 @@ fn tell_known(alloc: Global, kind: &str, bytes: &[u8]) -> Result<String, NoAnswe
         "loaded" => tell_loaded(alloc, bytes),
         "known_log" => tell_known_log(alloc, bytes),
         "known_ref" => tell_known_ref(alloc, bytes),
+        "script" => tell_script(alloc, bytes),
         _ => tell_text(alloc, kind, text_of(bytes)?),
     }
 }
@@ -92,11 +96,25 @@ fn tell_written(alloc: Global, kind: &str, text: &str) -> Result<String, NoAnswe
         "header_of" => tell_header_of(alloc, text),
         "initial_snapshot" => tell_initial(alloc),
         "plain_meta" => tell_plain(alloc, text),
+        _ => tell_ends(alloc, kind, text),
+    }
+}
+
+/// What is told of ends of byte streams, of what stores and reports call things, and of reports.
+fn tell_ends(alloc: Global, kind: &str, text: &str) -> Result<String, NoAnswer> {
+    match kind {
+        "input" => tell_input(alloc, text),
+        "output" => tell_output(alloc, text),
+        "byte_list" => tell_byte_list(alloc, text),
+        "object" => tell_object(alloc, text),
+        "same_object" => tell_same(alloc, text),
+        "refusal" => tell_refusal(alloc, text),
+        "report" => tell_report(alloc, text),
         _ => tell_calls(alloc, kind, text),
     }
 }
 
-/// What is told of calls, and of what stores and reports call things.
+/// What is told of calls.
 fn tell_calls(alloc: Global, kind: &str, text: &str) -> Result<String, NoAnswer> {
     match kind {
         "changes" => tell_changes(alloc, text),
@@ -104,9 +122,6 @@ fn tell_calls(alloc: Global, kind: &str, text: &str) -> Result<String, NoAnswer>
         "solved" => tell_solved(alloc, text),
         "store" => tell_store(alloc, text),
         "refs" => tell_refs(alloc, text),
-        "object" => tell_object(alloc, text),
-        "same_object" => tell_same(alloc, text),
-        "refusal" => tell_refusal(alloc, text),
         _ => Err(NoAnswer::Words),
     }
 }

@@ -202,7 +202,7 @@ fn id_refusal_of(name: &str, word: &str) -> Result<Refusal, NoAnswer> {
 }
 
 /// The refusal of this name in the code, with what it says behind it.
-fn refusal_of(alloc: Global, text: &str) -> Result<Refusal, NoAnswer> {
+pub fn refusal_of(alloc: Global, text: &str) -> Result<Refusal, NoAnswer> {
     let (name, rest) = first_word(text);
     let (first, more) = first_word(rest);
     match name {

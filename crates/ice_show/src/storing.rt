@@ -160,10 +160,13 @@ fn push_calls<S: Failing>(
     Ok(())
 }
 
-/// The event at a place.
+/// Whose the event at a place is, when it was, and what it answered.
 fn event_told(alloc: Global, store: &Memory, place: u32) -> Result<String, AllocError> {
-    let event = store.event(place as usize);
-    format!(in alloc; "{event:?}")
+    let Some(event) = store.event(place as usize) else {
+        return String::from_str(alloc, "no event");
+    };
+    let (client, time) = (event.client, event.time);
+    format!(in alloc; "client {client} time {time} {:?}", event.reply)
 }
 
 /// The version at which an object stands.

@@ -15,8 +15,6 @@ mod rebases;
 #[cfg(test)]
 mod refs;
 #[cfg(test)]
-mod reports;
-#[cfg(test)]
 mod sessions;
 #[cfg(test)]
 mod tables;

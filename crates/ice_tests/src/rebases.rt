@@ -5,13 +5,12 @@ ghost use Rattle.store_api.specs.Program.{IsAsk};
 ghost use Rattle.commit_path.specs.Committing.{commit_rest};
 ghost use Rattle.rebase.specs.Rebasing.{rebase_rest};
 
-use crate::untold::{Untold, opened};
+use crate::untold::{Untold, begun, opened};
 use commit_path::{Commit, Tried};
 use conflicts::{Pick, Policy};
 use ice_base::Text;
 use ice_ids::Draw;
 use rebase::{Rebase, Rebased};
-use repository::begin;
 use session::Session;
 use std::alloc::{AllocError, Global};
 use store_api::{Refusal, run_machine};
@@ -33,25 +32,31 @@ fn text(alloc: Global, number: u32) -> Result<String, AllocError> {
     format!(in alloc; "/{number}")
 }
 
-fn add_group(alloc: Global, session: &mut Session, number: u32) -> Option<()> {
-    let text = text(alloc, number).ok()?;
-    let path = Path::read(alloc, &text).ok()?;
-    session.add_group(&path, GROUP).is_ok().then_some(())
+fn path(alloc: Global, number: u32) -> Option<Path> {
+    Path::read(alloc, text(alloc, number).ok()?.as_str()).ok()
 }
 
-/// Adds groups with these numbers.
-fn add_groups(alloc: Global, session: &mut Session, from: u32, to: u32) -> Option<()> {
+/// Whether the group with this number was added.
+fn adds_group(session: &mut Session, path: &Path) -> bool {
+    session.add_group(path, GROUP).is_ok()
+}
+
+/// Whether groups with these numbers were added.
+fn adds_groups(alloc: Global, session: &mut Session, from: u32, to: u32) -> bool {
     for number in from..to {
-        add_group(alloc, session, number)?;
+        let added = path(alloc, number).is_some_and(|path| adds_group(session, &path));
+        if !added {
+            return false;
+        }
     }
-    Some(())
+    true
 }
 
 /// A session over what `main` names, with this client's ids, to which groups with these numbers were added.
 fn grown(alloc: Global, client: u32, from: u32, to: u32, store: &mut Untold) -> Option<Session> {
     let mut session = opened(alloc, Draw::Count.ids(client), store)?;
-    add_groups(alloc, &mut session, from, to)?;
-    Some(session)
+    let added = adds_groups(alloc, &mut session, from, to);
+    added.then_some(session)
 }
 
 /// A commit that has begun.
@@ -62,28 +67,54 @@ fn started(alloc: Global, session: Session) -> Option<Commit>
     Commit::start(alloc, session, message).ok()
 }
 
-/// The session of a commit that came to this, if it was as wanted.
-fn session_of(commit: Commit, tried: Tried, wants_done: bool) -> Option<Session> {
-    if matches!(tried, Tried::Done(_)) == wants_done {
-        Some(commit.into_parts().0)
-    } else {
-        None
+/// What a commit came to.
+#[derive(Clone, Copy, Debug, PartialEq, Eq)]
+enum Ending {
+    Done,
+    Lost,
+    Refused,
+}
+
+fn ending(tried: &Result<Tried, Refusal>) -> Ending {
+    match tried {
+        Ok(Tried::Done(_)) => Ending::Done,
+        Ok(Tried::Lost { .. }) => Ending::Lost,
+        Err(_) => Ending::Refused,
     }
 }
 
-/// The session of a commit that took effect, or of one that was lost.
-fn tried(alloc: Global, session: Session, store: &mut Untold, wants_done: bool) -> Option<Session> {
+/// What a commit comes to.
+fn run(commit: &mut Commit, store: &mut Untold) -> Ending
+    requires { IsAsk (commit_rest commit.old) }
+{
+    let tried = run_machine(commit, store);
+    let ending = ending(&tried);
+    drop(tried);
+    ending
+}
+
+/// The session of a commit that was made, if it came to this.
+fn tried(alloc: Global, session: Session, store: &mut Untold, want: Ending) -> Option<Session> {
     let mut commit = started(alloc, session)?;
-    let tried = run_machine(&mut commit, store).ok()?;
-    session_of(commit, tried, wants_done)
+    let ending = run(&mut commit, store);
+    let session = commit.into_parts().0;
+    (ending == want).then_some(session)
 }
 
-/// Over how many commits a session was rebased.
-fn count(rebased: Rebased) -> u32 {
-    match rebased {
-        Rebased::Moved(_, count) => count,
-        Rebased::UpToDate(_) => 0,
-    }
+/// Whether a commit of the session took effect.
+fn commits(alloc: Global, session: Session, store: &mut Untold) -> bool {
+    let session = tried(alloc, session, store, Ending::Done);
+    let done = session.is_some();
+    drop(session);
+    done
+}
+
+/// What a rebase comes to: over how many commits, if it isn't refused.
+#[derive(Clone, Copy, Debug, PartialEq, Eq)]
+enum Carried {
+    Over(u32),
+    Full,
+    Refused,
 }
 
 /// A rebase that has begun.
@@ -93,46 +124,79 @@ fn rebasing(alloc: Global, session: Session) -> Option<Rebase>
     Rebase::start(alloc, session, POLICY).ok()
 }
 
-/// Over how many commits the session is rebased, or why it isn't.
-fn carried(alloc: Global, session: Session, store: &mut Untold) -> Option<Result<u32, Refusal>> {
+fn carried(rebased: &Result<Rebased, Refusal>) -> Carried {
+    match rebased {
+        Ok(Rebased::Moved(_, count)) => Carried::Over(*count),
+        Ok(Rebased::UpToDate(_)) => Carried::Over(0),
+        Err(Refusal::Full) => Carried::Full,
+        Err(_) => Carried::Refused,
+    }
+}
+
+/// What a rebase that has begun comes to.
+fn finished(rebase: &mut Rebase, store: &mut Untold) -> Carried
+    requires { IsAsk (rebase_rest rebase.old) }
+{
+    let rebased = run_machine(rebase, store);
+    let carried = carried(&rebased);
+    drop(rebased);
+    carried
+}
+
+/// What a rebase of the session comes to.
+fn rebased(alloc: Global, session: Session, store: &mut Untold) -> Option<Carried> {
     let mut rebase = rebasing(alloc, session)?;
-    Some(run_machine(&mut rebase, store).map(count))
+    let carried = finished(&mut rebase, store);
+    drop(rebase);
+    Some(carried)
 }
 
-/// Commits a tree of so many groups.
-fn make_base(alloc: Global, nodes: u32, store: &mut Untold) -> Option<()> {
-    begin(alloc, store).ok()?;
-    let session = grown(alloc, 1, 0, nodes, store)?;
-    let _ = tried(alloc, session, store, true)?;
-    Some(())
+/// Whether a tree of so many groups was committed.
+fn has_base(alloc: Global, nodes: u32, store: &mut Untold) -> bool {
+    match grown(alloc, 1, 0, nodes, store) {
+        Some(session) => commits(alloc, session, store),
+        None => false,
+    }
 }
 
-/// Two sessions begin at one tree, and each adds a group. The first one is committed, and the other one loses.
+/// Whether another session adds a group, and commits.
+fn other_commits(alloc: Global, store: &mut Untold) -> bool {
+    match grown(alloc, 2, 70_000, 70_001, store) {
+        Some(session) => commits(alloc, session, store),
+        None => false,
+    }
+}
+
+/// A session that began at the tree and adds a group, but loses, since another one was committed meanwhile.
 fn loser(alloc: Global, store: &mut Untold) -> Option<Session> {
-    let first = grown(alloc, 2, 70_000, 70_001, store)?;
-    let second = grown(alloc, 3, 80_000, 80_001, store)?;
-    let _ = tried(alloc, first, store, true)?;
-    tried(alloc, second, store, false)
+    let session = grown(alloc, 3, 80_000, 80_001, store)?;
+    if other_commits(alloc, store) {
+        tried(alloc, session, store, Ending::Lost)
+    } else {
+        None
+    }
 }
 
 /// What a rebase of the session comes to that lost over a tree of so many groups.
-fn second_loses(alloc: Global, nodes: u32) -> Option<Result<u32, Refusal>> {
-    let mut store = Untold::new(alloc, None);
-    make_base(alloc, nodes, &mut store)?;
+fn second_loses(alloc: Global, nodes: u32) -> Option<Carried> {
+    let mut store = begun(alloc, None)?;
+    if !has_base(alloc, nodes, &mut store) {
+        return None;
+    }
     let session = loser(alloc, &mut store)?;
-    carried(alloc, session, &mut store)
+    rebased(alloc, session, &mut store)
 }
 
 /// A tree has at most 65,536 nodes: where two sessions add the last one, the second isn't rebased.
 #[test]
 fn a_full_tree(rt: HostRuntime) {
     let full = second_loses(rt.alloc(), 65_535);
-    assert!(rt; matches!(full, Some(Err(Refusal::Full))));
+    assert!(rt; full == Some(Carried::Full));
 }
 
 /// Where there is room for both, it is rebased over the first one's commit.
 #[test]
 fn a_tree_with_room(rt: HostRuntime) {
     let moved = second_loses(rt.alloc(), 100);
-    assert!(rt; matches!(moved, Some(Ok(1))));
+    assert!(rt; moved == Some(Carried::Over(1)));
 }

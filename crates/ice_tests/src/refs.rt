@@ -1,33 +1,32 @@
 //! A ref that is dropped while all are read.
 
-use crate::untold::Untold;
+use crate::untold::{Untold, begun};
 use ice_base::RefName;
 use ice_ids::Id12;
-use play_outcome::RefLine;
+use play_outcome::{RefLine, RefLines};
 use ref_file::ref_write;
-use repository::{begin, read_refs};
-use std::alloc::{AllocError, Global};
-use std::test::Fail;
-use store_api::{Key, Store, StoreFault, Why};
+use repository::read_refs;
+use std::alloc::Global;
+use store_api::{Key, Refusal, Store, Why};
 
-fn branch(alloc: Global, name: &str) -> Result<Key, AllocError> {
-    match RefName::read(alloc, name) {
-        Ok(name) => Ok(Key::Branch(name)),
-        Err(_) => Err(AllocError),
-    }
+/// The key of the branch `late`.
+fn late(alloc: Global) -> Option<Key> {
+    RefName::read(alloc, "late").ok().map(Key::Branch)
+}
+
+/// Whether a branch was put.
+fn puts(store: &mut Untold, key: &Key) -> bool {
+    store
+        .put_new(key, &ref_write(Id12::INITIAL), Why::Create)
+        .is_ok()
 }
 
 /// A repository with the branches `late` and `main`, the first of which is dropped behind a listing.
-fn begun(alloc: Global) -> Option<Untold> {
-    let mut store = Untold::new(alloc, branch(alloc, "late").ok());
-    begin(alloc, &mut store).ok()?;
-    Some(store)
-}
-
-fn put_late(alloc: Global, store: &mut Untold) -> Result<(), StoreFault> {
-    let late = branch(alloc, "late").or(Err(StoreFault::NoMemory))?;
-    store.put_new(&late, &ref_write(Id12::INITIAL), Why::Create)?;
-    Ok(())
+fn two_branches(alloc: Global) -> Option<Untold> {
+    let late_one = late(alloc)?;
+    let mut store = begun(alloc, late(alloc))?;
+    let put = puts(&mut store, &late_one);
+    put.then_some(store)
 }
 
 fn is_main(lines: &[RefLine]) -> bool {
@@ -37,15 +36,22 @@ fn is_main(lines: &[RefLine]) -> bool {
     }
 }
 
+fn are_main(lines: Result<RefLines, Refusal>) -> bool {
+    match lines {
+        Ok(lines) => is_main(lines.as_slice()),
+        Err(_) => false,
+    }
+}
+
+/// Whether `main` alone is read.
+fn reads_main(alloc: Global) -> Option<bool> {
+    let mut store = two_branches(alloc)?;
+    let lines = read_refs(alloc, &mut store);
+    drop(store);
+    Some(are_main(lines))
+}
+
 #[test]
-fn a_ref_that_is_gone_is_passed_over(rt: HostRuntime) -> Result<(), Fail> {
-    let Some(mut store) = begun(rt.alloc()) else {
-        return Err(Fail::new("not begun"));
-    };
-    put_late(rt.alloc(), &mut store)?;
-    let Ok(lines) = read_refs(rt.alloc(), &mut store) else {
-        return Err(Fail::new("refused"));
-    };
-    assert!(rt; is_main(lines.as_slice()));
-    Ok(())
+fn a_ref_that_is_gone_is_passed_over(rt: HostRuntime) {
+    assert!(rt; reads_main(rt.alloc()) == Some(true));
 }

@@ -1,47 +1,53 @@
 //! Sessions whose ids run out.
 
-use crate::untold::{Untold, opened};
+use crate::untold::{begun, opened};
 use ice_ids::{AnyIds, CountIds};
-use repository::begin;
 use session::Session;
-use std::alloc::{AllocError, Global};
-use std::test::Fail;
+use std::alloc::Global;
 use store_api::Refusal;
 use zarr_path::Path;
 
 const GROUP: &[u8] = br#"{"zarr_format":3,"node_type":"group"}"#;
 
 /// A session to write on `main` of an empty repository, if it was opened.
-fn begun(alloc: Global, ids: AnyIds) -> Option<Session> {
-    let mut store = Untold::new(alloc, None);
-    begin(alloc, &mut store).ok()?;
+fn session(alloc: Global, ids: AnyIds) -> Option<Session> {
+    let mut store = begun(alloc, None)?;
     opened(alloc, ids, &mut store)
 }
 
-fn path(alloc: Global, text: &str) -> Result<Path, AllocError> {
-    match Path::read(alloc, text) {
-        Ok(path) => Ok(path),
-        Err(_) => Err(AllocError),
-    }
+fn is_spent(added: Result<(), Refusal>) -> bool {
+    matches!(added, Err(Refusal::IdsSpent))
 }
 
 /// Whether a group is refused for want of an id, and there is none.
 fn is_refused(session: &mut Session, path: &Path) -> bool {
-    let refused = matches!(session.add_group(path, GROUP), Err(Refusal::IdsSpent));
-    refused && matches!(session.get_meta(path), Err(Refusal::NoNode))
+    is_spent(session.add_group(path, GROUP)) && is_absent(session, path)
+}
+
+fn is_absent(session: &Session, path: &Path) -> bool {
+    matches!(session.get_meta(path), Err(Refusal::NoNode))
+}
+
+/// Whether the root is added and found, and a group beneath it is refused.
+fn takes_one(session: &mut Session, root: &Path, beneath: &Path) -> bool {
+    session.add_group(root, GROUP).is_ok()
+        && is_refused(session, beneath)
+        && session.get_meta(root).is_ok()
+}
+
+/// Whether a session with one id left takes it for the first group, and refuses the second one.
+fn took_the_last(alloc: Global) -> Option<bool> {
+    let ids = AnyIds::Count(CountIds::at(1, 4_294_967_294));
+    let root = Path::read(alloc, "/").ok()?;
+    let beneath = Path::read(alloc, "/a").ok()?;
+    let mut session = session(alloc, ids)?;
+    let took = takes_one(&mut session, &root, &beneath);
+    drop(session);
+    Some(took)
 }
 
 /// One id is left: the first group takes it, and the second one is refused.
 #[test]
-fn the_last_id(rt: HostRuntime) -> Result<(), Fail> {
-    let ids = AnyIds::Count(CountIds::at(1, 4_294_967_294));
-    let Some(mut session) = begun(rt.alloc(), ids) else {
-        return Err(Fail::new("not opened"));
-    };
-    let root = path(rt.alloc(), "/")?;
-    let beneath = path(rt.alloc(), "/a")?;
-    assert!(rt; session.add_group(&root, GROUP).is_ok());
-    assert!(rt; is_refused(&mut session, &beneath));
-    assert!(rt; session.get_meta(&root).is_ok());
-    Ok(())
+fn the_last_id(rt: HostRuntime) {
+    assert!(rt; took_the_last(rt.alloc()) == Some(true));
 }

@@ -1,11 +1,14 @@
 //! A store in memory that tells no journal.
 
-ghost use Rattle.std.specs.Prelude.{false, []};
+ghost use Rattle.std.specs.Prelude.{false, [], IfSome};
 ghost use Rattle.store_api.specs.Callers.{only};
+ghost use Rattle.store_api.specs.Program.{IsAsk};
+ghost use Rattle.session.specs.Opening.{open_rest};
 
 use ice_base::{RefName, TickClock};
 use ice_ids::AnyIds;
 use mem_store::MemStore;
+use repository::begin;
 use session::{Open, Session};
 use std::alloc::Global;
 use store_api::{
@@ -67,9 +70,25 @@ impl Store for Untold {
     }
 }
 
+/// Such a store with a repository in it, if one was begun.
+pub fn begun(alloc: Global, late: Option<Key>) -> Option<Untold> {
+    let mut store = Untold::new(alloc, late);
+    let begun = begin(alloc, &mut store).is_ok();
+    begun.then_some(store)
+}
+
 /// A session to write on `main`, which draws these ids, if it was opened.
 pub fn opened(alloc: Global, ids: AnyIds, store: &mut Untold) -> Option<Session> {
+    let mut open = opening(alloc, ids)?;
+    let opened = run_machine(&mut open, store);
+    drop(open);
+    opened.ok()
+}
+
+/// The opening of a session to write on `main`.
+fn opening(alloc: Global, ids: AnyIds) -> Option<Open>
+    ensures { IfSome result (λ machine. IsAsk (open_rest machine)) }
+{
     let main = RefName::main(alloc).ok()?;
-    let mut open = Open::write(alloc, main, ids).ok()?;
-    run_machine(&mut open, store).ok()
+    Open::write(alloc, main, ids).ok()
 }
