@@ -75,7 +75,7 @@ enum Ending {
     Refused,
 }
 
-fn ending(tried: &Result<Tried, Refusal>) -> Ending {
+fn ending_of(tried: &Result<Tried, Refusal>) -> Ending {
     match tried {
         Ok(Tried::Done(_)) => Ending::Done,
         Ok(Tried::Lost { .. }) => Ending::Lost,
@@ -88,7 +88,7 @@ fn run(commit: &mut Commit, store: &mut Untold) -> Ending
     requires { IsAsk (commit_rest commit.old) }
 {
     let tried = run_machine(commit, store);
-    let ending = ending(&tried);
+    let ending = ending_of(&tried);
     drop(tried);
     ending
 }
@@ -124,7 +124,7 @@ fn rebasing(alloc: Global, session: Session) -> Option<Rebase>
     Rebase::start(alloc, session, POLICY).ok()
 }
 
-fn carried(rebased: &Result<Rebased, Refusal>) -> Carried {
+fn carried_of(rebased: &Result<Rebased, Refusal>) -> Carried {
     match rebased {
         Ok(Rebased::Moved(_, count)) => Carried::Over(*count),
         Ok(Rebased::UpToDate(_)) => Carried::Over(0),
@@ -138,7 +138,7 @@ fn finished(rebase: &mut Rebase, store: &mut Untold) -> Carried
     requires { IsAsk (rebase_rest rebase.old) }
 {
     let rebased = run_machine(rebase, store);
-    let carried = carried(&rebased);
+    let carried = carried_of(&rebased);
     drop(rebased);
     carried
 }

@@ -1,7 +1,7 @@
 //! Sessions whose ids run out.
 
 use crate::untold::{begun, opened};
-use ice_ids::{AnyIds, CountIds};
+use ice_ids::{AnyIds, CountIds, Id8};
 use session::Session;
 use std::alloc::Global;
 use store_api::Refusal;
@@ -15,7 +15,7 @@ fn session(alloc: Global, ids: AnyIds) -> Option<Session> {
     opened(alloc, ids, &mut store)
 }
 
-fn is_spent(added: Result<(), Refusal>) -> bool {
+fn is_spent(added: Result<Id8, Refusal>) -> bool {
     matches!(added, Err(Refusal::IdsSpent))
 }
 
