@@ -8,12 +8,8 @@ mod ids;
 mod laws;
 mod lists;
 mod looking;
-#[cfg(test)]
-mod shelf;
 mod sides;
 mod solving;
-#[cfg(test)]
-mod tests;
 
 pub use detecting::detect;
 pub use laws::{ascend_law, commuting_law, exact_law, given_law, solved_law};

@@ -47,13 +47,19 @@ fn push_list(told: &mut String, list: &str, ids: &Ids) -> Result<(), AllocError>
     push_ids(told, list, ids.as_slice())
 }
 
+/// Appends the chunks of an array.
+fn push_array(told: &mut String, array: &ArrayChunks) -> Result<(), AllocError> {
+    write!(told, "\n  updated_chunks {}", array.node)?;
+    for index in array.chunks.as_slice() {
+        write!(told, " {:?}", index.parts())?;
+    }
+    Ok(())
+}
+
 /// Appends the chunks of arrays.
 fn push_chunks(told: &mut String, arrays: &[ArrayChunks]) -> Result<(), AllocError> {
     for array in arrays {
-        write!(told, "\n  updated_chunks {}", array.node)?;
-        for index in array.chunks.as_slice() {
-            write!(told, " {:?}", index.parts())?;
-        }
+        push_array(told, array)?;
     }
     Ok(())
 }
@@ -70,16 +76,23 @@ pub fn push_lists(told: &mut String, lists: &Touched) -> Result<(), AllocError> 
 }
 
 /// What a transaction log says.
-pub fn log_told(alloc: Global, log: &TxnFile) -> Result<String, AllocError> {
+fn log_text(alloc: Global, log: &TxnFile) -> Result<String, AllocError> {
     let mut told = format!(in alloc; "log {}", log.id)?;
     push_lists(&mut told, &log.lists)?;
     Ok(told)
 }
 
+/// What a transaction log says; it is let go.
+pub fn log_told(alloc: Global, log: TxnFile) -> Result<String, NoAnswer> {
+    let told = log_text(alloc, &log);
+    drop(log);
+    Ok(told?)
+}
+
 /// What the file of a transaction log says.
 pub fn tell_log(alloc: Global, file: &[u8]) -> Result<String, NoAnswer> {
     match txn_file::read(alloc, file) {
-        Ok(log) => Ok(log_told(alloc, &log)?),
+        Ok(log) => log_told(alloc, log),
         Err(fault) => fault_told(alloc, fault),
     }
 }
@@ -88,7 +101,11 @@ pub fn tell_log(alloc: Global, file: &[u8]) -> Result<String, NoAnswer> {
 pub fn tell_log_again(alloc: Global, file: &[u8]) -> Result<String, NoAnswer> {
     txn_file::laws::ordered_law();
     match txn_file::read(alloc, file) {
-        Ok(log) => written_again(alloc, file, txn_file::write(alloc, &log)),
+        Ok(log) => {
+            let written = txn_file::write(alloc, &log);
+            drop(log);
+            written_again(alloc, file, written)
+        }
         Err(fault) => fault_told(alloc, fault),
     }
 }

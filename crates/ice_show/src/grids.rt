@@ -2,10 +2,10 @@
 
 ghost use Rattle.std.specs.Prelude.{◌≤◌, All, IsTrue};
 
-use crate::words::{NoAnswer, first_word, indices_of, numbers_of, said, two_words};
+use crate::texts::index_of;
+use crate::words::{NoAnswer, first_word, numbers_of, said, two_words};
 use std::alloc::Global;
 use zarr_grid::{grid, in_grid};
-use zarr_path::Index;
 
 /// How many chunks lie along each dimension.
 pub fn tell_grid(alloc: Global, text: &str) -> Result<String, NoAnswer> {
@@ -35,6 +35,6 @@ pub fn tell_in_grid(alloc: Global, text: &str) -> Result<String, NoAnswer> {
     if shape.len() != chunks.len() || !are_positive(&chunks) {
         return Err(NoAnswer::Words);
     }
-    let index = Index::from_parts(indices_of(alloc, index)?);
+    let index = index_of(alloc, index)?;
     Ok(String::from_str(alloc, said(in_grid(&shape, &chunks, &index)))?)
 }

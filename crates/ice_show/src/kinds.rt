@@ -1,15 +1,20 @@
 //! The kinds of cases.
 
 use crate::changing::tell_changes;
+use crate::conflicting::{tell_conflicts, tell_solved};
+use crate::ends::{tell_byte_list, tell_input, tell_output};
 use crate::files::{tell_header, tell_header_of, tell_log, tell_log_again};
 use crate::grids::{tell_grid, tell_in_grid};
 use crate::loads::{tell_known_log, tell_known_ref, tell_loaded};
 use crate::manifests::{tell_manifest, tell_manifest_again};
 use crate::metas::{tell_json, tell_member, tell_meta, tell_meta_text, tell_number, tell_plain};
+use crate::ref_calls::tell_refs;
 use crate::refusals::tell_refusal;
+use crate::reports::tell_report;
 use crate::scripts::tell_script;
 use crate::snapshots::{tell_initial, tell_snapshot, tell_snapshot_again};
 use crate::store_keys::{tell_object, tell_same};
+use crate::storing::tell_store;
 use crate::texts::{
     tell_draw, tell_draw_at, tell_draw_stream, tell_id, tell_id_of, tell_indices, tell_key,
     tell_keys, tell_name, tell_names, tell_node_id, tell_path, tell_paths, tell_ref, tell_ref_of,
@@ -22,13 +27,12 @@ pub fn tell(alloc: Global, kind: &str, bytes: &[u8]) -> Result<String, NoAnswer>
     match kind {
         "id" => tell_id(alloc, bytes),
         "node_id" => tell_node_id(alloc, bytes),
+        "ref" => tell_ref(alloc, bytes),
         "json" => tell_json(alloc, bytes),
         "number" => tell_number(alloc, bytes),
         "member_a" => tell_member(alloc, bytes),
         "meta" => tell_meta(alloc, bytes),
         "meta_text" => tell_meta_text(alloc, bytes),
-        "ref" => tell_ref(alloc, bytes),
-        "header" => tell_header(alloc, bytes),
         _ => tell_file(alloc, kind, bytes),
     }
 }
@@ -36,12 +40,20 @@ pub fn tell(alloc: Global, kind: &str, bytes: &[u8]) -> Result<String, NoAnswer>
 /// What is told of a file.
 fn tell_file(alloc: Global, kind: &str, bytes: &[u8]) -> Result<String, NoAnswer> {
     match kind {
+        "header" => tell_header(alloc, bytes),
         "snapshot" => tell_snapshot(alloc, bytes),
         "snapshot_again" => tell_snapshot_again(alloc, bytes),
         "manifest" => tell_manifest(alloc, bytes),
         "manifest_again" => tell_manifest_again(alloc, bytes),
         "log" => tell_log(alloc, bytes),
         "log_again" => tell_log_again(alloc, bytes),
+        _ => tell_known(alloc, kind, bytes),
+    }
+}
+
+/// What is told of a file that is read as an object, and of a script.
+fn tell_known(alloc: Global, kind: &str, bytes: &[u8]) -> Result<String, NoAnswer> {
+    match kind {
         "loaded" => tell_loaded(alloc, bytes),
         "known_log" => tell_known_log(alloc, bytes),
         "known_ref" => tell_known_ref(alloc, bytes),
@@ -59,28 +71,57 @@ fn tell_text(alloc: Global, kind: &str, text: &str) -> Result<String, NoAnswer> 
         "draw_stream" => tell_draw_stream(alloc, text),
         "name" => tell_name(alloc, text),
         "names" => tell_names(alloc, text),
+        _ => tell_place(alloc, kind, text),
+    }
+}
+
+/// What is told of a path, a key or an index.
+fn tell_place(alloc: Global, kind: &str, text: &str) -> Result<String, NoAnswer> {
+    match kind {
         "path" => tell_path(alloc, text),
         "paths" => tell_paths(alloc, text),
         "key" => tell_key(alloc, text),
         "keys" => tell_keys(alloc, text),
         "indices" => tell_indices(alloc, text),
-        "ref_of" => tell_ref_of(alloc, text),
-        "header_of" => tell_header_of(alloc, text),
-        "initial_snapshot" => tell_initial(alloc),
-        _ => tell_words(alloc, kind, text),
+        "grid" => tell_grid(alloc, text),
+        "in_grid" => tell_in_grid(alloc, text),
+        _ => tell_written(alloc, kind, text),
     }
 }
 
-/// What is told of words.
-fn tell_words(alloc: Global, kind: &str, text: &str) -> Result<String, NoAnswer> {
+/// What is told of what is written for words.
+fn tell_written(alloc: Global, kind: &str, text: &str) -> Result<String, NoAnswer> {
     match kind {
+        "ref_of" => tell_ref_of(alloc, text),
+        "header_of" => tell_header_of(alloc, text),
+        "initial_snapshot" => tell_initial(alloc),
         "plain_meta" => tell_plain(alloc, text),
-        "grid" => tell_grid(alloc, text),
-        "in_grid" => tell_in_grid(alloc, text),
-        "changes" => tell_changes(alloc, text),
+        _ => tell_ends(alloc, kind, text),
+    }
+}
+
+/// What is told of ends of byte streams, of what stores and reports call things, and of reports.
+fn tell_ends(alloc: Global, kind: &str, text: &str) -> Result<String, NoAnswer> {
+    match kind {
+        "input" => tell_input(alloc, text),
+        "output" => tell_output(alloc, text),
+        "byte_list" => tell_byte_list(alloc, text),
         "object" => tell_object(alloc, text),
-        "refusal" => tell_refusal(alloc, text),
         "same_object" => tell_same(alloc, text),
+        "refusal" => tell_refusal(alloc, text),
+        "report" => tell_report(alloc, text),
+        _ => tell_calls(alloc, kind, text),
+    }
+}
+
+/// What is told of calls.
+fn tell_calls(alloc: Global, kind: &str, text: &str) -> Result<String, NoAnswer> {
+    match kind {
+        "changes" => tell_changes(alloc, text),
+        "conflicts" => tell_conflicts(alloc, text),
+        "solved" => tell_solved(alloc, text),
+        "store" => tell_store(alloc, text),
+        "refs" => tell_refs(alloc, text),
         _ => Err(NoAnswer::Words),
     }
 }

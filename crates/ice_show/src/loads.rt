@@ -3,10 +3,10 @@
 use crate::files::log_told;
 use crate::metas::meta_fault_told;
 use crate::words::NoAnswer;
-use ice_ids::Id12;
+use ice_ids::{Id8, Id12};
 use repo_objects::{Bad, Loaded, Unread, log_read, ref_read};
 use std::alloc::{AllocError, Global};
-use zarr_meta::View;
+use zarr_meta::{MetaFault, View};
 use zarr_tree::{Found, TreeLike};
 
 /// What is told of a node that was found.
@@ -20,54 +20,91 @@ pub fn node_told(alloc: Global, found: Found<'_>) -> Result<String, AllocError> 
     }
 }
 
+/// Why a node's text isn't its metadata.
+fn bad_node_told(alloc: Global, at: usize, fault: &MetaFault) -> Result<String, AllocError> {
+    let fault = meta_fault_told(alloc, fault)?;
+    format!(in alloc; "node {at} {fault}")
+}
+
 /// Why bytes aren't what their key asks for.
 fn bad_told(alloc: Global, bad: &Bad) -> Result<String, AllocError> {
     match bad {
         Bad::WrongId(id) => format!(in alloc; "another id, {id}"),
-        Bad::Node { at, fault } => {
-            let fault = meta_fault_told(alloc, fault)?;
-            format!(in alloc; "node {at} {fault}")
-        }
+        Bad::Node { at, fault } => bad_node_told(alloc, *at, fault),
         bad => format!(in alloc; "{bad:?}"),
     }
 }
 
 /// Why an object isn't read.
-fn unread_told(alloc: Global, unread: &Unread) -> Result<String, NoAnswer> {
+fn unread_text(alloc: Global, unread: &Unread) -> Result<String, NoAnswer> {
     match unread {
         Unread::Bad(bad) => Ok(bad_told(alloc, bad)?),
         Unread::NoMemory => Err(NoAnswer::NoMemory),
     }
 }
 
+/// Why an object isn't read; the cause is let go.
+fn unread_told(alloc: Global, unread: Unread) -> Result<String, NoAnswer> {
+    let told = unread_text(alloc, &unread);
+    drop(unread);
+    told
+}
+
+/// Whether the node that is found at a path has this id.
+fn has(loaded: &Loaded, path: &str, id: Id8) -> bool {
+    match loaded.find(path) {
+        Some(there) => there.id == id,
+        None => false,
+    }
+}
+
+/// Appends a node of a snapshot, and whether it is found at its path.
+fn push_row(
+    alloc: Global,
+    told: &mut String,
+    loaded: &Loaded,
+    path: &str,
+    found: Found<'_>,
+) -> Result<(), AllocError> {
+    let node = node_told(alloc, found)?;
+    write!(told, "{path} {node}")?;
+    if has(loaded, path, found.id) {
+        return Ok(());
+    }
+    told.push_str(" not found")
+}
+
 /// The nodes of a snapshot, and whether each is found at its path.
-fn loaded_told(alloc: Global, loaded: &Loaded) -> Result<String, AllocError> {
+fn loaded_text(alloc: Global, loaded: &Loaded) -> Result<String, AllocError> {
     let mut told = format!(in alloc; "{} nodes", loaded.len())?;
     for at in 0..loaded.len() {
         let (path, found) = loaded.row(at);
-        let node = node_told(alloc, found)?;
-        write!(told, "\n  {at} {path} {node}")?;
-        match loaded.find(path) {
-            Some(there) if there.id == found.id => {}
-            _ => told.push_str(" not found")?,
-        }
+        write!(told, "\n  {at} ")?;
+        push_row(alloc, &mut told, loaded, path, found)?;
     }
     Ok(told)
+}
+
+/// The nodes of a snapshot; it is let go.
+fn loaded_told(alloc: Global, loaded: Loaded) -> Result<String, NoAnswer> {
+    let told = loaded_text(alloc, &loaded);
+    drop(loaded);
+    Ok(told?)
 }
 
 /// The nodes of the snapshot for which a file stands.
 pub fn tell_loaded(alloc: Global, file: &[u8]) -> Result<String, NoAnswer> {
     match Loaded::read(alloc, Id12::INITIAL, file) {
-        Ok(loaded) => Ok(loaded_told(alloc, &loaded)?),
-        Err(unread) => unread_told(alloc, &unread),
+        Ok(loaded) => loaded_told(alloc, loaded),
+        Err(unread) => unread_told(alloc, unread),
     }
 }
 
 /// The transaction log for which a file stands.
 pub fn tell_known_log(alloc: Global, file: &[u8]) -> Result<String, NoAnswer> {
     match log_read(alloc, Id12::INITIAL, file) {
-        Ok(log) => Ok(log_told(alloc, &log)?),
-        Err(unread) => unread_told(alloc, &unread),
+        Ok(log) => log_told(alloc, log),
+        Err(unread) => unread_told(alloc, unread),
     }
 }
 
@@ -75,6 +112,6 @@ pub fn tell_known_log(alloc: Global, file: &[u8]) -> Result<String, NoAnswer> {
 pub fn tell_known_ref(alloc: Global, file: &[u8]) -> Result<String, NoAnswer> {
     match ref_read(alloc, file) {
         Ok(id) => Ok(id.to_string(alloc)?),
-        Err(unread) => unread_told(alloc, &unread),
+        Err(unread) => unread_told(alloc, unread),
     }
 }

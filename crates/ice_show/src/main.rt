@@ -4,7 +4,9 @@
 
 mod answering;
 mod changing;
+mod conflicting;
 mod counted;
+mod ends;
 mod files;
 mod grids;
 mod kept;
@@ -13,10 +15,13 @@ mod loads;
 mod manifests;
 mod metas;
 mod parts;
+mod ref_calls;
 mod refusals;
+mod reports;
 mod scripts;
 mod snapshots;
 mod store_keys;
+mod storing;
 mod texts;
 mod told;
 mod words;

@@ -1,8 +1,8 @@
 //! What refusals are called in a report.
 
 use crate::store_keys::{id_of, key_of};
-use crate::texts::path_of;
-use crate::words::{NoAnswer, first_word, indices_of, number_of};
+use crate::texts::{index_of, path_of};
+use crate::words::{NoAnswer, first_word, number_of};
 use flat_tables::Kind;
 use ice_items::Items;
 use ref_file::RefFault;
@@ -10,7 +10,7 @@ use repo_objects::Bad;
 use std::alloc::Global;
 use store_api::{Refusal, Version};
 use zarr_meta::MetaFault;
-use zarr_path::{Index, Path};
+use zarr_path::Index;
 use zarr_tree::{Case, Conflict, Frozen};
 
 /// The version that a word says; `-` is an absent branch.
@@ -51,6 +51,13 @@ fn case_of(word: &str) -> Result<Case, NoAnswer> {
         "ZarrMetadataDoubleUpdate" => Ok(Case::ZarrMetadataDoubleUpdate),
         "ZarrMetadataUpdateOfDeletedArray" => Ok(Case::ZarrMetadataUpdateOfDeletedArray),
         "ZarrMetadataUpdateOfDeletedGroup" => Ok(Case::ZarrMetadataUpdateOfDeletedGroup),
+        _ => later_case_of(word),
+    }
+}
+
+/// The kind of conflicts of this name in the code, from the sixth on.
+fn later_case_of(word: &str) -> Result<Case, NoAnswer> {
+    match word {
         "ChunkDoubleUpdate" => Ok(Case::ChunkDoubleUpdate),
         "ChunksUpdatedInDeletedArray" => Ok(Case::ChunksUpdatedInDeletedArray),
         "ChunksUpdatedInUpdatedArray" => Ok(Case::ChunksUpdatedInUpdatedArray),
@@ -60,41 +67,52 @@ fn case_of(word: &str) -> Result<Case, NoAnswer> {
     }
 }
 
-/// The path of a conflict, and its index behind a `=`, if it has one.
-fn place_of(alloc: Global, text: &str) -> Result<(Path, Option<Index>), NoAnswer> {
+/// The index of a conflict's chunk, if it has one.
+fn some_index_of(alloc: Global, word: Option<&str>) -> Result<Option<Index>, NoAnswer> {
+    match word {
+        Some(word) => Ok(Some(index_of(alloc, word)?)),
+        None => Ok(None),
+    }
+}
+
+/// A path, and what stands behind a `=`.
+fn place_of(text: &str) -> (&str, Option<&str>) {
     match text.split_once('=') {
-        Some((path, index)) => {
-            let index = Index::from_parts(indices_of(alloc, index)?);
-            Ok((path_of(alloc, path)?, Some(index)))
-        }
-        None => Ok((path_of(alloc, text)?, None)),
+        Some((path, index)) => (path, Some(index)),
+        None => (text, None),
     }
 }
 
 /// The conflict that a word like `ChunkDoubleUpdate=/x=0,1` says.
 fn conflict_of(alloc: Global, word: &str) -> Result<Conflict, NoAnswer> {
     let (case, place) = word.split_once('=').ok_or(NoAnswer::Words)?;
-    let case = case_of(case)?;
-    let (path, index) = place_of(alloc, place)?;
-    Ok(Conflict { case, path, index })
+    let (path, index) = place_of(place);
+    Ok(Conflict {
+        case: case_of(case)?,
+        path: path_of(alloc, path)?,
+        index: some_index_of(alloc, index)?,
+    })
 }
 
-/// The conflicts with the commit of this id that stay.
-fn left_of(alloc: Global, id: &str, words: &str) -> Result<Refusal, NoAnswer> {
+/// The conflicts of words.
+fn conflicts_of(alloc: Global, words: &str) -> Result<Items<Conflict>, NoAnswer> {
     let mut conflicts = Items::new(alloc);
     for word in words.split(' ') {
         conflicts.push(conflict_of(alloc, word)?)?;
     }
-    Ok(Refusal::Left {
-        at: id_of(id)?,
-        conflicts,
-    })
+    Ok(conflicts)
 }
 
-/// The refusal of this name in the code, with nothing behind it.
-fn bare_of(name: &str) -> Result<Refusal, NoAnswer> {
+/// The conflicts with the commit of this id that stay.
+fn left_of(alloc: Global, id: &str, words: &str) -> Result<Refusal, NoAnswer> {
+    let at = id_of(id)?;
+    let conflicts = conflicts_of(alloc, words)?;
+    Ok(Refusal::Left { at, conflicts })
+}
+
+/// The refusal of a call at a node, of this name in the code.
+fn node_refusal_of(name: &str) -> Result<Refusal, NoAnswer> {
     match name {
-        "NoRef" => Ok(Refusal::NoRef),
         "NoNode" => Ok(Refusal::NoNode),
         "NodeExists" => Ok(Refusal::NodeExists),
         "NoParent" => Ok(Refusal::NoParent),
@@ -102,51 +120,64 @@ fn bare_of(name: &str) -> Result<Refusal, NoAnswer> {
         "NotArray" => Ok(Refusal::NotArray),
         "ReadOnly" => Ok(Refusal::ReadOnly),
         "Full" => Ok(Refusal::Full),
-        "TooDeep" => Ok(Refusal::TooDeep),
-        "StoreFault" => Ok(Refusal::StoreFault),
-        "NoMemory" => Ok(Refusal::NoMemory),
-        "IdsSpent" => Ok(Refusal::IdsSpent),
         "BadKey" => Ok(Refusal::BadKey),
-        "NothingToCommit" => Ok(Refusal::NothingToCommit),
+        _ => ref_refusal_of(name),
+    }
+}
+
+/// The refusal of a call on refs, or of a commit, of this name in the code.
+fn ref_refusal_of(name: &str) -> Result<Refusal, NoAnswer> {
+    match name {
+        "NoRef" => Ok(Refusal::NoRef),
         "NoSnapshot" => Ok(Refusal::NoSnapshot),
         "TagGone" => Ok(Refusal::TagGone),
         "MainKept" => Ok(Refusal::MainKept),
+        "TooDeep" => Ok(Refusal::TooDeep),
+        "NothingToCommit" => Ok(Refusal::NothingToCommit),
+        _ => want_of(name),
+    }
+}
+
+/// The refusal for want of something, of this name in the code.
+fn want_of(name: &str) -> Result<Refusal, NoAnswer> {
+    match name {
+        "StoreFault" => Ok(Refusal::StoreFault),
+        "NoMemory" => Ok(Refusal::NoMemory),
+        "IdsSpent" => Ok(Refusal::IdsSpent),
         _ => Err(NoAnswer::Words),
     }
 }
 
-/// The refusal of this name in the code, with more than one word behind it.
-fn refusal_of(alloc: Global, text: &str) -> Result<Refusal, NoAnswer> {
-    let (name, rest) = first_word(text);
-    let (first, more) = first_word(rest);
-    let (second, _) = first_word(more);
+/// The refusal of this name in the code, with the key of an object behind it.
+fn key_refusal_of(alloc: Global, name: &str, key: &str) -> Result<Refusal, NoAnswer> {
+    let key = key_of(alloc, key)?;
     match name {
-        "BadMeta" => Ok(Refusal::BadMeta(MetaFault::NodeType)),
-        "FrozenField" => Ok(Refusal::FrozenField(frozen_of(first)?)),
-        "ChunkLength" => Ok(Refusal::ChunkLength {
-            want: number_of(first)?,
-            got: number_of(second)?,
-        }),
-        "Missing" => Ok(Refusal::Missing(key_of(alloc, rest)?)),
-        "BadFile" => Ok(Refusal::BadFile(key_of(alloc, rest)?, Bad::Ref(RefFault::Json))),
-        "IdTaken" => Ok(Refusal::IdTaken(key_of(alloc, rest)?)),
-        "Conflict" => Ok(Refusal::Conflict {
-            old: Version(number_of(first)?),
-            found: found_of(second)?,
-        }),
-        "Left" => left_of(alloc, first, more),
-        _ => later_of(name, first),
+        "Missing" => Ok(Refusal::Missing(key)),
+        "IdTaken" => Ok(Refusal::IdTaken(key)),
+        _ => Ok(Refusal::BadFile(key, Bad::Ref(RefFault::Json))),
     }
 }
 
-/// The refusal of this name in the code, with one word behind it.
-fn later_of(name: &str, word: &str) -> Result<Refusal, NoAnswer> {
+/// The refusal of this name in the code, with two words behind it.
+fn pair_refusal_of(name: &str, first: &str, second: &str) -> Result<Refusal, NoAnswer> {
+    let old = number_of(first)?;
     match name {
-        "TooLarge" => Ok(Refusal::TooLarge(kind_of(word)?)),
-        "InDoubt" => Ok(Refusal::InDoubt {
-            snapshot: id_of(word)?,
+        "ChunkLength" => Ok(Refusal::ChunkLength {
+            want: old,
+            got: number_of(second)?,
         }),
-        "NotAncestor" => Ok(Refusal::NotAncestor { head: id_of(word)? }),
+        _ => Ok(Refusal::Conflict {
+            old: Version(old),
+            found: found_of(second)?,
+        }),
+    }
+}
+
+/// The refusal of this name in the code, with one number or word behind it.
+fn word_refusal_of(name: &str, word: &str) -> Result<Refusal, NoAnswer> {
+    match name {
+        "FrozenField" => Ok(Refusal::FrozenField(frozen_of(word)?)),
+        "TooLarge" => Ok(Refusal::TooLarge(kind_of(word)?)),
         "RefExists" => Ok(Refusal::RefExists(Version(number_of(word)?))),
         "Moved" => Ok(Refusal::Moved {
             found: found_of(word)?,
@@ -154,16 +185,45 @@ fn later_of(name: &str, word: &str) -> Result<Refusal, NoAnswer> {
         "CutoffAhead" => Ok(Refusal::CutoffAhead {
             now: number_of(word)?,
         }),
-        _ => bare_of(name),
+        _ => id_refusal_of(name, word),
+    }
+}
+
+/// The refusal of this name in the code, with an id behind it, or with nothing.
+fn id_refusal_of(name: &str, word: &str) -> Result<Refusal, NoAnswer> {
+    match name {
+        "InDoubt" => Ok(Refusal::InDoubt {
+            snapshot: id_of(word)?,
+        }),
+        "NotAncestor" => Ok(Refusal::NotAncestor { head: id_of(word)? }),
+        "BadMeta" => Ok(Refusal::BadMeta(MetaFault::NodeType)),
+        _ => node_refusal_of(name),
+    }
+}
+
+/// The refusal of this name in the code, with what it says behind it.
+pub fn refusal_of(alloc: Global, text: &str) -> Result<Refusal, NoAnswer> {
+    let (name, rest) = first_word(text);
+    let (first, more) = first_word(rest);
+    match name {
+        "Missing" | "IdTaken" | "BadFile" => key_refusal_of(alloc, name, rest),
+        "ChunkLength" | "Conflict" => pair_refusal_of(name, first, first_word(more).0),
+        "Left" => left_of(alloc, first, more),
+        _ => word_refusal_of(name, first),
+    }
+}
+
+/// What a report calls a refusal; it is let go.
+fn refusal_told(alloc: Global, why: Refusal) -> Result<String, NoAnswer> {
+    let text = play_report::refusal_text(alloc, &why);
+    drop(why);
+    match String::from_utf8(text?) {
+        Ok(text) => Ok(text),
+        Err(_) => Err(NoAnswer::Words),
     }
 }
 
 /// What a report calls a refusal.
 pub fn tell_refusal(alloc: Global, text: &str) -> Result<String, NoAnswer> {
-    let why = refusal_of(alloc, text)?;
-    let text = play_report::refusal_text(alloc, &why)?;
-    match String::from_utf8(text) {
-        Ok(text) => Ok(text),
-        Err(_) => Err(NoAnswer::Words),
-    }
+    refusal_told(alloc, refusal_of(alloc, text)?)
 }

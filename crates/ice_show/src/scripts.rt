@@ -5,81 +5,130 @@ use crate::words::NoAnswer;
 use conflicts::{Pick, Policy};
 use ice_base::RefName;
 use play_script::{
-    Access, Call, EditCall, Head, Line, ReadCall, RefCall, Script, ScriptFault, Task,
+    Access, Call, EditCall, Head, Line, ReadCall, RefCall, Script, ScriptFault, Task, Turn,
 };
 use repo_read::At;
 use std::alloc::{AllocError, Global};
 use zarr_path::{Index, Path};
 
+/// Appends a call at a path.
+fn push_path(told: &mut String, call: &str, path: &Path) -> Result<(), AllocError> {
+    told.push_str(call)?;
+    told.push_str(path.as_str())
+}
+
+/// Appends a call at a path that gives a text.
+fn push_text(told: &mut String, call: &str, path: &Path, text: &str) -> Result<(), AllocError> {
+    push_path(told, call, path)?;
+    write!(told, " '{text}'")
+}
+
+/// Appends a call at a path that gives words.
+fn push_words(told: &mut String, call: &str, path: &Path, text: &str) -> Result<(), AllocError> {
+    push_path(told, call, path)?;
+    told.push(' ')?;
+    told.push_str(text)
+}
+
 /// Appends a call at a chunk.
 fn push_at(told: &mut String, call: &str, path: &Path, index: &Index) -> Result<(), AllocError> {
-    write!(told, "{call} {path}")?;
+    push_path(told, call, path)?;
     push_index(told, index)
+}
+
+/// Appends a set of a chunk.
+fn push_set(told: &mut String, path: &Path, index: &Index, bytes: &[u8]) -> Result<(), AllocError> {
+    push_at(told, "set ", path, index)?;
+    push_bytes(told, bytes)
+}
+
+/// Appends a fill of a chunk.
+fn push_fill(told: &mut String, path: &Path, index: &Index, byte: u8) -> Result<(), AllocError> {
+    push_at(told, "fill ", path, index)?;
+    write!(told, " with {byte}")
+}
+
+/// Appends a call at a key.
+fn push_key(told: &mut String, call: &str, key: &str) -> Result<(), AllocError> {
+    told.push_str(call)?;
+    told.push_str(key)
+}
+
+/// Appends a set of what a key stands for.
+fn push_key_set(told: &mut String, key: &str, bytes: &[u8]) -> Result<(), AllocError> {
+    push_key(told, "key ", key)?;
+    push_bytes(told, bytes)
 }
 
 /// Appends a change of the tree.
 fn push_edit(told: &mut String, edit: &EditCall) -> Result<(), AllocError> {
     match edit {
-        EditCall::Group { path } => write!(told, "group {path}"),
-        EditCall::Array { path, text } => write!(told, "array {} {}", path.as_str(), text.as_str()),
-        EditCall::Make { path, text } => write!(told, "make {} '{}'", path.as_str(), text.as_str()),
-        EditCall::Meta { path, text } => write!(told, "meta {} '{}'", path.as_str(), text.as_str()),
-        EditCall::Drop { path } => write!(told, "drop {path}"),
-        EditCall::Set { path, index, bytes } => {
-            push_at(told, "set", path, index)?;
-            push_bytes(told, bytes.as_slice())
-        }
-        EditCall::Fill { path, index, byte } => {
-            push_at(told, "fill", path, index)?;
-            write!(told, " with {byte}")
-        }
-        EditCall::Unset { path, index } => push_at(told, "unset", path, index),
-        EditCall::KeySet { key, bytes } => {
-            write!(told, "key {}", key.as_str())?;
-            push_bytes(told, bytes.as_slice())
-        }
-        EditCall::KeyErase { key } => write!(told, "no key {}", key.as_str()),
+        EditCall::Group { path } => push_path(told, "group ", path),
+        EditCall::Array { path, text } => push_words(told, "array ", path, text.as_str()),
+        EditCall::Make { path, text } => push_text(told, "make ", path, text.as_str()),
+        EditCall::Meta { path, text } => push_text(told, "meta ", path, text.as_str()),
+        EditCall::Drop { path } => push_path(told, "drop ", path),
+        EditCall::Set { path, index, bytes } => push_set(told, path, index, bytes.as_slice()),
+        EditCall::Fill { path, index, byte } => push_fill(told, path, index, *byte),
+        EditCall::Unset { path, index } => push_at(told, "unset ", path, index),
+        EditCall::KeySet { key, bytes } => push_key_set(told, key.as_str(), bytes.as_slice()),
+        EditCall::KeyErase { key } => push_key(told, "no key ", key.as_str()),
     }
 }
 
 /// Appends a look at the tree.
 fn push_read(told: &mut String, read: &ReadCall) -> Result<(), AllocError> {
     match read {
-        ReadCall::List { path } => write!(told, "list {path}"),
-        ReadCall::Get { path } => write!(told, "get {path}"),
-        ReadCall::Chunk { path, index } => push_at(told, "chunk", path, index),
-        ReadCall::KeyGet { key } => write!(told, "key {}", key.as_str()),
+        ReadCall::List { path } => push_path(told, "list ", path),
+        ReadCall::Get { path } => push_path(told, "get ", path),
+        ReadCall::Chunk { path, index } => push_at(told, "chunk ", path, index),
+        ReadCall::KeyGet { key } => push_key(told, "key ", key.as_str()),
     }
+}
+
+/// Appends a call on a ref.
+fn push_name(told: &mut String, call: &str, name: &RefName) -> Result<(), AllocError> {
+    told.push_str(call)?;
+    told.push_str(name.as_str())
 }
 
 /// Appends what names a snapshot.
 fn push_named(told: &mut String, at: &At) -> Result<(), AllocError> {
     match at {
-        At::Branch(name) => write!(told, "branch {name}"),
-        At::Tag(name) => write!(told, "tag {name}"),
+        At::Branch(name) => push_name(told, "branch ", name),
+        At::Tag(name) => push_name(told, "tag ", name),
         At::Snapshot(id) => write!(told, "id {id}"),
     }
 }
 
 /// Appends a call that lets a ref name a snapshot.
 fn push_ref_at(told: &mut String, call: &str, name: &RefName, at: &At) -> Result<(), AllocError> {
-    write!(told, "{call} {name} at ")?;
+    push_name(told, call, name)?;
+    told.push_str(" at ")?;
+    push_named(told, at)
+}
+
+/// Appends what a log is of.
+fn push_log(told: &mut String, at: &At) -> Result<(), AllocError> {
+    told.push_str("log of ")?;
     push_named(told, at)
 }
 
 /// Appends a call on refs.
 fn push_ref(told: &mut String, call: &RefCall) -> Result<(), AllocError> {
     match call {
-        RefCall::Branch { name, at } => push_ref_at(told, "branch", name, at),
-        RefCall::Reset { name, at } => push_ref_at(told, "reset", name, at),
-        RefCall::Unbranch { name } => write!(told, "no branch {name}"),
-        RefCall::Tag { name, at } => push_ref_at(told, "tag", name, at),
-        RefCall::Untag { name } => write!(told, "no tag {name}"),
-        RefCall::Log { at } => {
-            told.push_str("log of ")?;
-            push_named(told, at)
-        }
+        RefCall::Branch { name, at } => push_ref_at(told, "branch ", name, at),
+        RefCall::Reset { name, at } => push_ref_at(told, "reset ", name, at),
+        RefCall::Unbranch { name } => push_name(told, "no branch ", name),
+        RefCall::Tag { name, at } => push_ref_at(told, "tag ", name, at),
+        RefCall::Untag { name } => push_name(told, "no tag ", name),
+        RefCall::Log { at } => push_log(told, at),
     }
+}
+
+/// Appends a commit.
+fn push_commit(told: &mut String, message: &str) -> Result<(), AllocError> {
+    write!(told, "commit '{message}'")
 }
 
 /// Appends what a line calls.
@@ -87,7 +136,7 @@ fn push_call(told: &mut String, call: &Call) -> Result<(), AllocError> {
     match call {
         Call::Edit(edit) => push_edit(told, edit),
         Call::Read(read) => push_read(told, read),
-        Call::Commit { message } => write!(told, "commit '{}'", message.as_str()),
+        Call::Commit { message } => push_commit(told, message.as_str()),
         Call::Ref(call) => push_ref(told, call),
     }
 }
@@ -122,6 +171,23 @@ fn push_policy(told: &mut String, policy: &Policy) -> Result<(), AllocError> {
     Ok(())
 }
 
+/// Appends the branch that a task writes on, and how often it tries again.
+fn push_writes(
+    told: &mut String,
+    branch: &RefName,
+    tries: u8,
+    policy: &Policy,
+) -> Result<(), AllocError> {
+    write!(told, "writes {branch} {tries} ")?;
+    push_policy(told, policy)
+}
+
+/// Appends what a task reads at.
+fn push_reads(told: &mut String, at: &At) -> Result<(), AllocError> {
+    told.push_str("reads ")?;
+    push_named(told, at)
+}
+
 /// Appends what a task opens a session for.
 fn push_access(told: &mut String, access: &Access) -> Result<(), AllocError> {
     match access {
@@ -129,14 +195,16 @@ fn push_access(told: &mut String, access: &Access) -> Result<(), AllocError> {
             branch,
             tries,
             policy,
-        } => {
-            write!(told, "writes {branch} {tries} ")?;
-            push_policy(told, policy)
-        }
-        Access::Read { at } => {
-            told.push_str("reads ")?;
-            push_named(told, at)
-        }
+        } => push_writes(told, branch, *tries, policy),
+        Access::Read { at } => push_reads(told, at),
+    }
+}
+
+/// Appends what a task does.
+fn push_head(told: &mut String, head: &Head) -> Result<(), AllocError> {
+    match head {
+        Head::Session(access) => push_access(told, access),
+        Head::Refs => told.push_str("refs"),
     }
 }
 
@@ -144,34 +212,44 @@ fn push_access(told: &mut String, access: &Access) -> Result<(), AllocError> {
 fn push_tasks(told: &mut String, tasks: &[Task]) -> Result<(), AllocError> {
     for task in tasks {
         write!(told, "\n  {} {} ", task.line, task.name.as_str())?;
-        match &task.head {
-            Head::Session(access) => push_access(told, access)?,
-            Head::Refs => told.push_str("refs")?,
-        }
+        push_head(told, &task.head)?;
         push_lines(told, task.body.as_slice())?;
     }
     Ok(())
 }
 
+/// Appends turns.
+fn push_turns(told: &mut String, turns: &[Turn]) -> Result<(), AllocError> {
+    told.push_str("\n  turns")?;
+    for turn in turns {
+        let (client, count) = (turn.client, turn.count);
+        write!(told, " {client}*{count}")?;
+    }
+    Ok(())
+}
+
 /// What a script says.
-fn script_told(alloc: Global, script: &Script) -> Result<String, AllocError> {
+fn script_text(alloc: Global, script: &Script) -> Result<String, AllocError> {
     let tasks = script.tasks.as_slice();
     let mut told = format!(in alloc; "{} tasks", tasks.len())?;
     push_tasks(&mut told, tasks)?;
     if let Some(turns) = &script.turns {
-        told.push_str("\n  turns")?;
-        for turn in turns.as_slice() {
-            let (client, count) = (turn.client, turn.count);
-            write!(told, " {client}*{count}")?;
-        }
+        push_turns(&mut told, turns.as_slice())?;
     }
     Ok(told)
+}
+
+/// What a script says; it is let go.
+fn script_told(alloc: Global, script: Script) -> Result<String, NoAnswer> {
+    let told = script_text(alloc, &script);
+    drop(script);
+    Ok(told?)
 }
 
 /// What a text of tasks and turns says.
 pub fn tell_script(alloc: Global, text: &[u8]) -> Result<String, NoAnswer> {
     match Script::read(alloc, text) {
-        Ok(script) => Ok(script_told(alloc, &script)?),
+        Ok(script) => script_told(alloc, script),
         Err(ScriptFault::At { line, kind }) => Ok(format!(in alloc; "line {line}: {kind}")?),
         Err(ScriptFault::NoMemory) => Err(NoAnswer::NoMemory),
     }

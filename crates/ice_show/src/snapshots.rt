@@ -3,7 +3,10 @@
 use crate::files::written_again;
 use crate::told::{digits, fault_told, push_names};
 use crate::words::NoAnswer;
-use snapshot_file::{INITIAL_FILE, ManifestInfo, ManifestRef, NodeKind, NodeRow, SnapshotFile};
+use ice_ids::Id12;
+use snapshot_file::{
+    INITIAL_FILE, ManifestInfo, ManifestRef, Names, NodeKind, NodeRow, SnapshotFile,
+};
 use std::alloc::{AllocError, Global};
 
 /// Appends the manifests of an array.
@@ -13,6 +16,14 @@ fn push_manifests(told: &mut String, manifests: &[ManifestRef]) -> Result<(), Al
         write!(told, "\n    manifest {} extents {extents:?}", manifest.id)?;
     }
     Ok(())
+}
+
+/// Appends the names of dimensions, if an array has them.
+fn push_some_names(told: &mut String, names: &Option<Names>) -> Result<(), AllocError> {
+    match names {
+        Some(names) => push_names(told, names.as_slice()),
+        None => Ok(()),
+    }
 }
 
 /// Appends what a node is.
@@ -25,19 +36,22 @@ fn push_kind(told: &mut String, kind: &NodeKind) -> Result<(), AllocError> {
             manifests,
         } => {
             write!(told, " array shape {:?}", shape.as_slice())?;
-            if let Some(names) = names {
-                push_names(told, names.as_slice())?;
-            }
+            push_some_names(told, names)?;
             push_manifests(told, manifests.as_slice())
         }
     }
 }
 
+/// Appends the id of a node, its path and its text.
+fn push_node(alloc: Global, told: &mut String, node: &NodeRow) -> Result<(), AllocError> {
+    let text = digits(alloc, node.user_data.as_slice())?;
+    write!(told, "\n  node {} {} text '{text}'", node.id, node.path)
+}
+
 /// Appends nodes.
 fn push_nodes(alloc: Global, told: &mut String, nodes: &[NodeRow]) -> Result<(), AllocError> {
     for node in nodes {
-        let text = digits(alloc, node.user_data.as_slice())?;
-        write!(told, "\n  node {} {} text '{text}'", node.id, node.path)?;
+        push_node(alloc, told, node)?;
         push_kind(told, &node.kind)?;
     }
     Ok(())
@@ -52,28 +66,36 @@ fn push_files(told: &mut String, files: &[ManifestInfo]) -> Result<(), AllocErro
     Ok(())
 }
 
-/// What a snapshot says.
-fn snapshot_told(alloc: Global, snapshot: &SnapshotFile) -> Result<String, AllocError> {
-    let mut told = format!(in alloc; "snapshot {}", snapshot.id)?;
-    match snapshot.parent {
-        Some(parent) => write!(told, " parent {parent}")?,
-        None => told.push_str(" no parent")?,
+/// Appends the snapshot that one followed.
+fn push_parent(told: &mut String, parent: Option<Id12>) -> Result<(), AllocError> {
+    match parent {
+        Some(parent) => write!(told, " parent {parent}"),
+        None => told.push_str(" no parent"),
     }
-    let flushed_at = snapshot.flushed_at;
-    write!(
-        told,
-        " flushed {flushed_at} message '{}'",
-        snapshot.message.as_str()
-    )?;
+}
+
+/// What a snapshot says.
+fn snapshot_text(alloc: Global, snapshot: &SnapshotFile) -> Result<String, AllocError> {
+    let mut told = format!(in alloc; "snapshot {}", snapshot.id)?;
+    push_parent(&mut told, snapshot.parent)?;
+    let (flushed_at, message) = (snapshot.flushed_at, snapshot.message.as_str());
+    write!(told, " flushed {flushed_at} message '{message}'")?;
     push_nodes(alloc, &mut told, snapshot.nodes.as_slice())?;
     push_files(&mut told, snapshot.manifest_files.as_slice())?;
     Ok(told)
 }
 
+/// What a snapshot says; it is let go.
+fn snapshot_told(alloc: Global, snapshot: SnapshotFile) -> Result<String, NoAnswer> {
+    let told = snapshot_text(alloc, &snapshot);
+    drop(snapshot);
+    Ok(told?)
+}
+
 /// What the file of a snapshot says.
 pub fn tell_snapshot(alloc: Global, file: &[u8]) -> Result<String, NoAnswer> {
     match snapshot_file::read(alloc, file) {
-        Ok(snapshot) => Ok(snapshot_told(alloc, &snapshot)?),
+        Ok(snapshot) => snapshot_told(alloc, snapshot),
         Err(fault) => fault_told(alloc, fault),
     }
 }
@@ -81,14 +103,19 @@ pub fn tell_snapshot(alloc: Global, file: &[u8]) -> Result<String, NoAnswer> {
 /// The file of a snapshot, read and written again.
 pub fn tell_snapshot_again(alloc: Global, file: &[u8]) -> Result<String, NoAnswer> {
     match snapshot_file::read(alloc, file) {
-        Ok(snapshot) => written_again(alloc, file, snapshot_file::write(alloc, &snapshot)),
+        Ok(snapshot) => {
+            let written = snapshot_file::write(alloc, &snapshot);
+            drop(snapshot);
+            written_again(alloc, file, written)
+        }
         Err(fault) => fault_told(alloc, fault),
     }
 }
 
 /// The initial snapshot, and its file.
 pub fn tell_initial(alloc: Global) -> Result<String, NoAnswer> {
-    let told = snapshot_told(alloc, &snapshot_file::initial(alloc)?)?;
-    let file = digits(alloc, &INITIAL_FILE)?;
-    Ok(format!(in alloc; "{told}\n  {file}")?)
+    let mut told = snapshot_told(alloc, snapshot_file::initial(alloc)?)?;
+    told.push_str("\n  ")?;
+    told.push_str(digits(alloc, &INITIAL_FILE)?.as_str())?;
+    Ok(told)
 }

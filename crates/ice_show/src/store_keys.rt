@@ -1,18 +1,11 @@
 //! The keys of objects in a store.
 
+use crate::texts::name_of;
 use crate::words::{NoAnswer, first_word, said};
 use ice_base::RefName;
 use ice_ids::Id12;
-use std::alloc::Global;
+use std::alloc::{AllocError, Global};
 use store_api::Key;
-
-/// The name of a ref.
-fn name_of(alloc: Global, text: &str) -> Result<RefName, NoAnswer> {
-    match RefName::read(alloc, text) {
-        Ok(name) => Ok(name),
-        Err(_) => Err(NoAnswer::Words),
-    }
-}
 
 /// The id of an object.
 pub fn id_of(text: &str) -> Result<Id12, NoAnswer> {
@@ -22,32 +15,69 @@ pub fn id_of(text: &str) -> Result<Id12, NoAnswer> {
     }
 }
 
-/// The key that words like `snapshot ID` or `tag NAME` say.
-pub fn key_of(alloc: Global, text: &str) -> Result<Key, NoAnswer> {
-    let (kind, rest) = first_word(text);
+/// The key of this kind with an id.
+fn id_key_of(kind: &str, id: Id12) -> Result<Key, NoAnswer> {
     match kind {
-        "snapshot" => Ok(Key::Snapshot(id_of(rest)?)),
-        "manifest" => Ok(Key::Manifest(id_of(rest)?)),
-        "log" => Ok(Key::Txn(id_of(rest)?)),
-        "chunk" => Ok(Key::Chunk(id_of(rest)?)),
-        "branch" => Ok(Key::Branch(name_of(alloc, rest)?)),
-        "tag" => Ok(Key::Tag(name_of(alloc, rest)?)),
-        "tombstone" => Ok(Key::TagGone(name_of(alloc, rest)?)),
+        "snapshot" => Ok(Key::Snapshot(id)),
+        "manifest" => Ok(Key::Manifest(id)),
+        "log" => Ok(Key::Txn(id)),
+        "chunk" => Ok(Key::Chunk(id)),
         _ => Err(NoAnswer::Words),
     }
 }
 
+/// The key of this kind with a name.
+fn name_key_of(kind: &str, name: RefName) -> Key {
+    match kind {
+        "branch" => Key::Branch(name),
+        "tag" => Key::Tag(name),
+        _ => Key::TagGone(name),
+    }
+}
+
+/// The key that words like `snapshot ID` or `tag NAME` say.
+pub fn key_of(alloc: Global, text: &str) -> Result<Key, NoAnswer> {
+    let (kind, rest) = first_word(text);
+    match kind {
+        "branch" | "tag" | "tombstone" => Ok(name_key_of(kind, name_of(alloc, rest)?)),
+        _ => id_key_of(kind, id_of(rest)?),
+    }
+}
+
+/// A copy of the key of words.
+fn copied_key(alloc: Global, text: &str) -> Result<Key, NoAnswer> {
+    let key = key_of(alloc, text)?;
+    let copy = key.copy(alloc);
+    drop(key);
+    Ok(copy?)
+}
+
+/// What an object is called, and the part of the store that it belongs to; its key is let go.
+fn key_told(alloc: Global, key: Key) -> Result<String, AllocError> {
+    let part = key.part();
+    let told = format!(in alloc; "{key} in {part:?}");
+    drop(key);
+    told
+}
+
 /// What an object is called, and the part of the store that it belongs to.
 pub fn tell_object(alloc: Global, text: &str) -> Result<String, NoAnswer> {
-    let key = key_of(alloc, text)?.copy(alloc)?;
-    let part = key.part();
-    Ok(format!(in alloc; "{key} in {part:?}")?)
+    Ok(key_told(alloc, copied_key(alloc, text)?)?)
+}
+
+/// Whether a key is that of words.
+fn is_same(alloc: Global, first: &Key, second: &str) -> Result<bool, NoAnswer> {
+    let second = copied_key(alloc, second)?;
+    let is_same = first.same(&second);
+    drop(second);
+    Ok(is_same)
 }
 
 /// Whether two keys are the same; a comma stands between them.
 pub fn tell_same(alloc: Global, text: &str) -> Result<String, NoAnswer> {
     let (first, second) = text.split_once(", ").ok_or(NoAnswer::Words)?;
     let first = key_of(alloc, first)?;
-    let second = key_of(alloc, second)?.copy(alloc)?;
-    Ok(String::from_str(alloc, said(first.same(&second)))?)
+    let is_same = is_same(alloc, &first, second);
+    drop(first);
+    Ok(String::from_str(alloc, said(is_same?))?)
 }

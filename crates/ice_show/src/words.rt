@@ -31,6 +31,14 @@ pub fn first_word(text: &str) -> (&str, &str) {
     }
 }
 
+/// A text up to a mark, and what stands behind it, if anything does.
+pub fn parted<'a>(text: &'a str, mark: &str) -> (&'a str, &'a str) {
+    match text.split_once(mark) {
+        Some((before, behind)) => (before, behind),
+        None => (text, ""),
+    }
+}
+
 /// Two words.
 pub fn two_words(text: &str) -> (&str, &str) {
     let (first, rest) = first_word(text);

@@ -1,25 +1,19 @@
 //! Rebases, over a store in memory that tells no journal.
 
-ghost use Rattle.std.specs.Prelude.{IfOk, IfSome, false, []};
-ghost use Rattle.store_api.specs.Callers.{only};
+ghost use Rattle.std.specs.Prelude.{IfSome};
 ghost use Rattle.store_api.specs.Program.{IsAsk};
 ghost use Rattle.commit_path.specs.Committing.{commit_rest};
 ghost use Rattle.rebase.specs.Rebasing.{rebase_rest};
 
+use crate::untold::{Untold, begun, opened};
 use commit_path::{Commit, Tried};
 use conflicts::{Pick, Policy};
-use ice_base::{RefName, Text, TickClock};
+use ice_base::Text;
 use ice_ids::Draw;
-use mem_store::MemStore;
 use rebase::{Rebase, Rebased};
-use repository::begin;
-use session::{Open, Session};
+use session::Session;
 use std::alloc::{AllocError, Global};
-use std::test::Fail;
-use store_api::{
-    Gone, GoneAt, Got, Key, Listed, New, Over, Part, Refusal, Store, StoreFault, Version, Why,
-    run_machine,
-};
+use store_api::{Refusal, run_machine};
 use zarr_path::Path;
 
 const GROUP: &[u8] = br#"{"zarr_format":3,"node_type":"group"}"#;
@@ -30,130 +24,97 @@ const POLICY: Policy = Policy {
     drop_groups: false,
 };
 
-/// A store in memory that tells nothing of its journal.
-#[derive(Drop)]
-struct Untold {
-    memory: MemStore<TickClock>,
+/// The root has the number 0, and each number above a group beneath it.
+fn text(alloc: Global, number: u32) -> Result<String, AllocError> {
+    if number == 0 {
+        return String::from_str(alloc, "/");
+    }
+    format!(in alloc; "/{number}")
 }
 
-impl Store for Untold {
-    ghost view = { λ s. record { caller = only false 0; seen = []; faults = 0 } };
-
-    fn get(&mut self, key: &Key) -> Result<Got, StoreFault> {
-        self.memory.get(key)
-    }
-
-    fn put_new(&mut self, key: &Key, bytes: &[u8], why: Why) -> Result<New, StoreFault> {
-        self.memory.put_new(key, bytes, why)
-    }
-
-    fn put_over(
-        &mut self,
-        key: &Key,
-        bytes: &[u8],
-        old: Version,
-        why: Why,
-    ) -> Result<Over, StoreFault> {
-        self.memory.put_over(key, bytes, old, why)
-    }
-
-    fn remove(&mut self, key: &Key, why: Why) -> Result<Gone, StoreFault> {
-        self.memory.remove(key, why)
-    }
-
-    fn remove_at(&mut self, key: &Key, old: Version, why: Why) -> Result<GoneAt, StoreFault> {
-        self.memory.remove_at(key, old, why)
-    }
-
-    fn list(&mut self, part: Part) -> Result<Listed, StoreFault> {
-        self.memory.list(part)
-    }
+fn path(alloc: Global, number: u32) -> Option<Path> {
+    Path::read(alloc, text(alloc, number).ok()?.as_str()).ok()
 }
 
-/// A session to write on `main`, which draws this client's ids, if it was opened.
-fn opened(alloc: Global, client: u32, store: &mut Untold) -> Result<Option<Session>, AllocError> {
-    let mut open = Open::write(alloc, RefName::main(alloc)?, Draw::Count.ids(client))?;
-    Ok(run_machine(&mut open, store).ok())
+/// Whether the group with this number was added.
+fn adds_group(session: &mut Session, path: &Path) -> bool {
+    session.add_group(path, GROUP).is_ok()
 }
 
-/// Whether groups with these numbers were added beneath the root.
-fn add_groups(alloc: Global, session: &mut Session, from: u32, to: u32) -> Result<bool, Fail> {
+/// Whether groups with these numbers were added.
+fn adds_groups(alloc: Global, session: &mut Session, from: u32, to: u32) -> bool {
     for number in from..to {
-        let text = format!(in alloc; "/{number}")?;
-        let path = Path::read(alloc, &text)?;
-        if session.add_group(&path, GROUP).is_err() {
-            return Ok(false);
+        let added = path(alloc, number).is_some_and(|path| adds_group(session, &path));
+        if !added {
+            return false;
         }
     }
-    Ok(true)
+    true
 }
 
-/// A session over what `main` names, to which groups with these numbers were added.
-fn with_groups(
-    alloc: Global,
-    client: u32,
-    from: u32,
-    to: u32,
-    store: &mut Untold,
-) -> Result<Option<Session>, Fail> {
-    let Some(mut session) = opened(alloc, client, store)? else {
-        return Ok(None);
-    };
-    if add_groups(alloc, &mut session, from, to)? {
-        Ok(Some(session))
-    } else {
-        Ok(None)
-    }
+/// A session over what `main` names, with this client's ids, to which groups with these numbers were added.
+fn grown(alloc: Global, client: u32, from: u32, to: u32, store: &mut Untold) -> Option<Session> {
+    let mut session = opened(alloc, Draw::Count.ids(client), store)?;
+    let added = adds_groups(alloc, &mut session, from, to);
+    added.then_some(session)
 }
 
 /// A commit that has begun.
-fn started(alloc: Global, session: Session) -> Result<Option<Commit>, AllocError>
-    ensures { IfOk result (λ commit. IfSome commit (λ c. IsAsk (commit_rest c))) }
+fn started(alloc: Global, session: Session) -> Option<Commit>
+    ensures { IfSome result (λ commit. IsAsk (commit_rest commit)) }
 {
-    Ok(Commit::start(alloc, session, Text::of(alloc, "x")?).ok())
+    let message = Text::of(alloc, "x").ok()?;
+    Commit::start(alloc, session, message).ok()
 }
 
-/// What a commit came to, with its session.
-fn finished(commit: Commit, store: &mut Untold) -> Option<(Tried, Session)>
-    requires { IsAsk (commit_rest commit) }
-{
-    let mut commit = commit;
-    let tried = run_machine(&mut commit, store).ok()?;
-    let (session, _message) = commit.into_parts();
-    Some((tried, session))
+/// What a commit came to.
+#[derive(Clone, Copy, Debug, PartialEq, Eq)]
+enum Ending {
+    Done,
+    Lost,
+    Refused,
 }
 
-/// What a commit of the session came to, with the session.
-fn tried(
-    alloc: Global,
-    session: Session,
-    store: &mut Untold,
-) -> Result<Option<(Tried, Session)>, AllocError> {
-    match started(alloc, session)? {
-        Some(commit) => Ok(finished(commit, store)),
-        None => Ok(None),
-    }
-}
-
-/// Whether it took effect.
-fn is_done(tried: &Option<(Tried, Session)>) -> bool {
-    matches!(tried, Some((Tried::Done(_), _)))
-}
-
-/// The session whose commit was lost.
-fn lost(tried: Option<(Tried, Session)>) -> Option<Session> {
+fn ending_of(tried: &Result<Tried, Refusal>) -> Ending {
     match tried {
-        Some((Tried::Lost { .. }, session)) => Some(session),
-        _ => None,
+        Ok(Tried::Done(_)) => Ending::Done,
+        Ok(Tried::Lost { .. }) => Ending::Lost,
+        Err(_) => Ending::Refused,
     }
 }
 
-/// Over how many commits a session was rebased.
-fn count(rebased: Rebased) -> u32 {
-    match rebased {
-        Rebased::Moved(_, count) => count,
-        Rebased::UpToDate(_) => 0,
-    }
+/// What a commit comes to.
+fn run(commit: &mut Commit, store: &mut Untold) -> Ending
+    requires { IsAsk (commit_rest commit.old) }
+{
+    let tried = run_machine(commit, store);
+    let ending = ending_of(&tried);
+    drop(tried);
+    ending
+}
+
+/// The session of a commit that was made, if it came to this.
+fn tried(alloc: Global, session: Session, store: &mut Untold, want: Ending) -> Option<Session> {
+    let mut commit = started(alloc, session)?;
+    let ending = run(&mut commit, store);
+    let session = commit.into_parts().0;
+    (ending == want).then_some(session)
+}
+
+/// Whether a commit of the session took effect.
+fn commits(alloc: Global, session: Session, store: &mut Untold) -> bool {
+    let session = tried(alloc, session, store, Ending::Done);
+    let done = session.is_some();
+    drop(session);
+    done
+}
+
+/// What a rebase comes to: over how many commits, if it isn't refused.
+#[derive(Clone, Copy, Debug, PartialEq, Eq)]
+enum Carried {
+    Over(u32),
+    Full,
+    Refused,
 }
 
 /// A rebase that has begun.
@@ -163,62 +124,79 @@ fn rebasing(alloc: Global, session: Session) -> Option<Rebase>
     Rebase::start(alloc, session, POLICY).ok()
 }
 
-/// Over how many commits the session is rebased, or why it isn't.
-fn carried(alloc: Global, session: Session, store: &mut Untold) -> Option<Result<u32, Refusal>> {
+fn carried_of(rebased: &Result<Rebased, Refusal>) -> Carried {
+    match rebased {
+        Ok(Rebased::Moved(_, count)) => Carried::Over(*count),
+        Ok(Rebased::UpToDate(_)) => Carried::Over(0),
+        Err(Refusal::Full) => Carried::Full,
+        Err(_) => Carried::Refused,
+    }
+}
+
+/// What a rebase that has begun comes to.
+fn finished(rebase: &mut Rebase, store: &mut Untold) -> Carried
+    requires { IsAsk (rebase_rest rebase.old) }
+{
+    let rebased = run_machine(rebase, store);
+    let carried = carried_of(&rebased);
+    drop(rebased);
+    carried
+}
+
+/// What a rebase of the session comes to.
+fn rebased(alloc: Global, session: Session, store: &mut Untold) -> Option<Carried> {
     let mut rebase = rebasing(alloc, session)?;
-    Some(run_machine(&mut rebase, store).map(count))
+    let carried = finished(&mut rebase, store);
+    drop(rebase);
+    Some(carried)
 }
 
-/// Whether a tree of a root and groups with numbers below this one was committed.
-fn has_base(alloc: Global, nodes: u32, store: &mut Untold) -> Result<bool, Fail> {
-    if begin(alloc, store).is_err() {
-        return Ok(false);
+/// Whether a tree of so many groups was committed.
+fn has_base(alloc: Global, nodes: u32, store: &mut Untold) -> bool {
+    match grown(alloc, 1, 0, nodes, store) {
+        Some(session) => commits(alloc, session, store),
+        None => false,
     }
-    let Some(mut session) = opened(alloc, 1, store)? else {
-        return Ok(false);
-    };
-    let root = Path::root(alloc)?;
-    if session.add_group(&root, GROUP).is_err() || !add_groups(alloc, &mut session, 1, nodes)? {
-        return Ok(false);
-    }
-    Ok(is_done(&tried(alloc, session, store)?))
 }
 
-/// Two sessions begin at a tree of so many groups, and each adds one more. The first one is
-/// committed, and the other one loses: what its rebase comes to.
-fn second_loses(alloc: Global, nodes: u32) -> Result<Option<Result<u32, Refusal>>, Fail> {
-    let mut store = Untold {
-        memory: MemStore::new(alloc, TickClock::new()),
-    };
-    if !has_base(alloc, nodes, &mut store)? {
-        return Ok(None);
+/// Whether another session adds a group, and commits.
+fn other_commits(alloc: Global, store: &mut Untold) -> bool {
+    match grown(alloc, 2, 70_000, 70_001, store) {
+        Some(session) => commits(alloc, session, store),
+        None => false,
     }
-    let first = with_groups(alloc, 2, 70_000, 70_001, &mut store)?;
-    let second = with_groups(alloc, 3, 80_000, 80_001, &mut store)?;
-    let (Some(first), Some(second)) = (first, second) else {
-        return Ok(None);
-    };
-    if !is_done(&tried(alloc, first, &mut store)?) {
-        return Ok(None);
+}
+
+/// A session that began at the tree and adds a group, but loses, since another one was committed meanwhile.
+fn loser(alloc: Global, store: &mut Untold) -> Option<Session> {
+    let session = grown(alloc, 3, 80_000, 80_001, store)?;
+    if other_commits(alloc, store) {
+        tried(alloc, session, store, Ending::Lost)
+    } else {
+        None
     }
-    match lost(tried(alloc, second, &mut store)?) {
-        Some(session) => Ok(carried(alloc, session, &mut store)),
-        None => Ok(None),
+}
+
+/// What a rebase of the session comes to that lost over a tree of so many groups.
+fn second_loses(alloc: Global, nodes: u32) -> Option<Carried> {
+    let mut store = begun(alloc, None)?;
+    if !has_base(alloc, nodes, &mut store) {
+        return None;
     }
+    let session = loser(alloc, &mut store)?;
+    rebased(alloc, session, &mut store)
 }
 
 /// A tree has at most 65,536 nodes: where two sessions add the last one, the second isn't rebased.
 #[test]
-fn a_full_tree(rt: HostRuntime) -> Result<(), Fail> {
-    let full = second_loses(rt.alloc(), 65_535)?;
-    assert!(rt; matches!(full, Some(Err(Refusal::Full))));
-    Ok(())
+fn a_full_tree(rt: HostRuntime) {
+    let full = second_loses(rt.alloc(), 65_535);
+    assert!(rt; full == Some(Carried::Full));
 }
 
 /// Where there is room for both, it is rebased over the first one's commit.
 #[test]
-fn a_tree_with_room(rt: HostRuntime) -> Result<(), Fail> {
-    let moved = second_loses(rt.alloc(), 100)?;
-    assert!(rt; matches!(moved, Some(Ok(1))));
-    Ok(())
+fn a_tree_with_room(rt: HostRuntime) {
+    let moved = second_loses(rt.alloc(), 100);
+    assert!(rt; moved == Some(Carried::Over(1)));
 }

@@ -1,105 +1,57 @@
-//! Branches, tags and logs, over a store in memory.
+//! A ref that is dropped while all are read.
 
-use ice_base::{RefName, TickClock};
+use crate::untold::{Untold, begun};
+use ice_base::RefName;
 use ice_ids::Id12;
-use mem_store::MemStore;
-use refs_admin::{
-    drop_branch, drop_tag, make_branch, make_repository, make_tag, read_log, set_branch,
-};
-use repo_read::At;
+use play_outcome::{RefLine, RefLines};
+use ref_file::ref_write;
+use repository::read_refs;
 use std::alloc::Global;
-use std::test::Fail;
-use store_api::{Refusal, Version};
+use store_api::{Key, Refusal, Store, Why};
 
-type Memory = MemStore<TickClock>;
-
-fn name(alloc: Global, text: &str) -> Result<RefName, Fail> {
-    Ok(RefName::read(alloc, text)?)
+/// The key of the branch `late`.
+fn late(alloc: Global) -> Option<Key> {
+    RefName::read(alloc, "late").ok().map(Key::Branch)
 }
 
-fn at(alloc: Global, text: &str) -> Result<At, Fail> {
-    Ok(At::Branch(name(alloc, text)?))
-}
-
-fn begun(alloc: Global) -> Memory {
-    let mut store = MemStore::new(alloc, TickClock::new());
-    let _made = make_repository(alloc, &mut store);
+/// Whether a branch was put.
+fn puts(store: &mut Untold, key: &Key) -> bool {
     store
+        .put_new(key, &ref_write(Id12::INITIAL), Why::Create)
+        .is_ok()
 }
 
-/// A repository is made once.
-#[test]
-fn a_second_beginning(rt: HostRuntime) -> Result<(), Fail> {
-    let mut store = MemStore::new(rt.alloc(), TickClock::new());
-    assert!(rt; make_repository(rt.alloc(), &mut store).is_ok());
-    let again = make_repository(rt.alloc(), &mut store);
-    assert!(rt; matches!(again, Err(Refusal::RefExists(Version(1)))));
-    Ok(())
+/// A repository with the branches `late` and `main`, the first of which is dropped behind a listing.
+fn two_branches(alloc: Global) -> Option<Untold> {
+    let late_one = late(alloc)?;
+    let mut store = begun(alloc, late(alloc))?;
+    let put = puts(&mut store, &late_one);
+    put.then_some(store)
 }
 
-/// A branch is made, made again, set and dropped; `main` is kept.
-#[test]
-fn branches(rt: HostRuntime) -> Result<(), Fail> {
-    let alloc = rt.alloc();
-    let mut store = begun(alloc);
-    let again = make_branch(
-        alloc,
-        name(alloc, "main")?,
-        At::Snapshot(Id12::INITIAL),
-        &mut store,
-    );
-    assert!(rt; matches!(again, Err(Refusal::RefExists(Version(1)))));
-    let made = make_branch(alloc, name(alloc, "late")?, at(alloc, "main")?, &mut store);
-    assert!(rt; made.is_ok());
-    let set = set_branch(alloc, name(alloc, "main")?, at(alloc, "late")?, &mut store);
-    assert!(rt; set.is_ok());
-    let nowhere = set_branch(
-        alloc,
-        name(alloc, "main")?,
-        At::Snapshot(Id12([1; 12])),
-        &mut store,
-    );
-    assert!(rt; matches!(nowhere, Err(Refusal::NoSnapshot)));
-    assert!(rt; drop_branch(alloc, name(alloc, "late")?, &mut store).is_ok());
-    let gone = drop_branch(alloc, name(alloc, "late")?, &mut store);
-    assert!(rt; matches!(gone, Err(Refusal::NoRef)));
-    let kept = drop_branch(alloc, name(alloc, "main")?, &mut store);
-    assert!(rt; matches!(kept, Err(Refusal::MainKept)));
-    Ok(())
+fn is_main(lines: &[RefLine]) -> bool {
+    match lines {
+        [line] => !line.tag && line.name.as_str() == "main" && line.id == Id12::INITIAL,
+        _ => false,
+    }
 }
 
-/// A tag is made once, dropped once, and not made again.
-#[test]
-fn tags(rt: HostRuntime) -> Result<(), Fail> {
-    let alloc = rt.alloc();
-    let mut store = begun(alloc);
-    let made = make_tag(alloc, name(alloc, "t")?, at(alloc, "main")?, &mut store);
-    assert!(rt; made.is_ok());
-    let again = make_tag(alloc, name(alloc, "t")?, at(alloc, "main")?, &mut store);
-    assert!(rt; matches!(again, Err(Refusal::RefExists(Version(4)))));
-    assert!(rt; drop_tag(alloc, name(alloc, "t")?, &mut store).is_ok());
-    let gone = drop_tag(alloc, name(alloc, "t")?, &mut store);
-    assert!(rt; matches!(gone, Err(Refusal::NoRef)));
-    let dropped = make_tag(alloc, name(alloc, "t")?, at(alloc, "main")?, &mut store);
-    assert!(rt; matches!(dropped, Err(Refusal::TagGone)));
-    let log = read_log(alloc, At::Tag(name(alloc, "t")?), &mut store);
-    assert!(rt; matches!(log, Err(Refusal::NoRef)));
-    Ok(())
+fn are_main(lines: Result<RefLines, Refusal>) -> bool {
+    match lines {
+        Ok(lines) => is_main(lines.as_slice()),
+        Err(_) => false,
+    }
 }
 
-/// The log of an empty repository has one line.
+/// Whether `main` alone is read.
+fn reads_main(alloc: Global) -> Option<bool> {
+    let mut store = two_branches(alloc)?;
+    let lines = read_refs(alloc, &mut store);
+    drop(store);
+    Some(are_main(lines))
+}
+
 #[test]
-fn a_log(rt: HostRuntime) -> Result<(), Fail> {
-    let alloc = rt.alloc();
-    let mut store = begun(alloc);
-    let Ok(lines) = read_log(alloc, at(alloc, "main")?, &mut store) else {
-        panic!(rt; "refused");
-    };
-    let lines = lines.as_slice();
-    assert_eq!(rt; lines.len(), 1);
-    assert!(rt; lines[0].id.0 == Id12::INITIAL.0 && lines[0].flushed_at == 0);
-    assert_eq!(rt; lines[0].message.as_str(), "Repository initialized");
-    let gone = read_log(alloc, At::Snapshot(Id12([1; 12])), &mut store);
-    assert!(rt; matches!(gone, Err(Refusal::NoRef)));
-    Ok(())
+fn a_ref_that_is_gone_is_passed_over(rt: HostRuntime) {
+    assert!(rt; reads_main(rt.alloc()) == Some(true));
 }

@@ -1,46 +1,53 @@
 //! Sessions whose ids run out.
 
-use ice_base::{RefName, TickClock};
-use ice_ids::{AnyIds, CountIds};
-use mem_store::MemStore;
-use repository::begin;
-use session::{Open, Session};
+use crate::untold::{begun, opened};
+use ice_ids::{AnyIds, CountIds, Id8};
+use session::Session;
 use std::alloc::Global;
-use std::test::Fail;
-use store_api::{Next, Refusal};
+use store_api::Refusal;
 use zarr_path::Path;
 
 const GROUP: &[u8] = br#"{"zarr_format":3,"node_type":"group"}"#;
 
-/// A session to write on `main` of an empty repository, if it was opened by two steps.
-fn opened(alloc: Global, ids: AnyIds) -> Result<Option<Session>, Fail> {
-    let mut store = MemStore::new(alloc, TickClock::new());
-    if begin(alloc, &mut store).is_err() {
-        return Ok(None);
-    }
-    let mut open = Open::write(alloc, RefName::main(alloc)?, ids)?;
-    let Ok(Next::Again) = open.step(&mut store) else {
-        return Ok(None);
-    };
-    match open.step(&mut store) {
-        Ok(Next::Ready(session)) => Ok(Some(session)),
-        _ => Ok(None),
-    }
+/// A session to write on `main` of an empty repository, if it was opened.
+fn session(alloc: Global, ids: AnyIds) -> Option<Session> {
+    let mut store = begun(alloc, None)?;
+    opened(alloc, ids, &mut store)
+}
+
+fn is_spent(added: Result<Id8, Refusal>) -> bool {
+    matches!(added, Err(Refusal::IdsSpent))
+}
+
+/// Whether a group is refused for want of an id, and there is none.
+fn is_refused(session: &mut Session, path: &Path) -> bool {
+    is_spent(session.add_group(path, GROUP)) && is_absent(session, path)
+}
+
+fn is_absent(session: &Session, path: &Path) -> bool {
+    matches!(session.get_meta(path), Err(Refusal::NoNode))
+}
+
+/// Whether the root is added and found, and a group beneath it is refused.
+fn takes_one(session: &mut Session, root: &Path, beneath: &Path) -> bool {
+    session.add_group(root, GROUP).is_ok()
+        && is_refused(session, beneath)
+        && session.get_meta(root).is_ok()
+}
+
+/// Whether a session with one id left takes it for the first group, and refuses the second one.
+fn took_the_last(alloc: Global) -> Option<bool> {
+    let ids = AnyIds::Count(CountIds::at(1, 4_294_967_294));
+    let root = Path::read(alloc, "/").ok()?;
+    let beneath = Path::read(alloc, "/a").ok()?;
+    let mut session = session(alloc, ids)?;
+    let took = takes_one(&mut session, &root, &beneath);
+    drop(session);
+    Some(took)
 }
 
 /// One id is left: the first group takes it, and the second one is refused.
 #[test]
-fn the_last_id(rt: HostRuntime) -> Result<(), Fail> {
-    let ids = AnyIds::Count(CountIds::at(1, 4_294_967_294));
-    let Some(mut session) = opened(rt.alloc(), ids)? else {
-        panic!(rt; "not opened");
-    };
-    let root = Path::read(rt.alloc(), "/")?;
-    let beneath = Path::read(rt.alloc(), "/a")?;
-    assert!(rt; session.add_group(&root, GROUP).is_ok());
-    let refused = session.add_group(&beneath, GROUP);
-    assert!(rt; matches!(refused, Err(Refusal::IdsSpent)));
-    assert!(rt; session.get_meta(&root).is_ok());
-    assert!(rt; matches!(session.get_meta(&beneath), Err(Refusal::NoNode)));
-    Ok(())
+fn the_last_id(rt: HostRuntime) {
+    assert!(rt; took_the_last(rt.alloc()) == Some(true));
 }

@@ -1,5 +1,5 @@
 use Rattle.std.proofs.Common.{length}
-use Rattle.ice_show.proofs.changing.Changed.push_rows.Given as goal
+use Rattle.ice_show.proofs.changing.push_rows_of.Given as goal
 
 abbrev pub decreases-loop-path : goal.decreases-loop-path
 decreases-loop-path l = length l.rows

@@ -1,0 +1,157 @@
+//! Reports of runs. ` | ` stands between the opening, the tasks and the refs. A task is a name, what it showed and how it ended:
+//! `c - refused 10 NoNode`; `a 2=/,13:array=/a/b done` showed a group and an array in the lines 2 and 13. `; ` stands between
+//! tasks, and `, ` between refs like `tag v 1=1CECHNKREP0F1RSTCMT0`. In the place of an opening that went well stands `-`, and a
+//! refusal may stand in that of the refs, behind `!`.
+
+use crate::refusals::refusal_of;
+use crate::store_keys::id_of;
+use crate::texts::{name_of, path_of};
+use crate::words::{NoAnswer, first_word, parted, small_number_of, text_of};
+use play_outcome::{End, Outcome, RefLine, RefLines, Shown, Shows};
+use play_report::report;
+use std::alloc::{AllocError, Global};
+use store_api::Refusal;
+
+/// The node that a word like `13:array=/a/b` shows.
+fn node_of(alloc: Global, word: &str) -> Result<Shown, NoAnswer> {
+    let (place, path) = parted(word, "=");
+    let (line, kind) = parted(place, ":");
+    let line = small_number_of(line)?;
+    let array = kind == "array";
+    let path = path_of(alloc, path)?;
+    Ok(Shown::Node { line, array, path })
+}
+
+/// The nodes that words with commas between them show; `-` shows none.
+fn shows_of(alloc: Global, words: &str) -> Result<Shows, NoAnswer> {
+    let mut shows = Shows::new(alloc);
+    if words == "-" {
+        return Ok(shows);
+    }
+    for word in words.split(',') {
+        shows.push(node_of(alloc, word)?)?;
+    }
+    Ok(shows)
+}
+
+/// The refusal of a task, in a line.
+fn refused_of(alloc: Global, words: &str) -> Result<End, NoAnswer> {
+    let (line, rest) = first_word(words);
+    let line = small_number_of(line)?;
+    let why = refusal_of(alloc, rest)?;
+    Ok(End::Refused { line, why })
+}
+
+/// How a task ended.
+fn end_of(alloc: Global, words: &str) -> Result<End, NoAnswer> {
+    let (kind, rest) = first_word(words);
+    match kind {
+        "committed" => Ok(End::Committed(id_of(rest)?)),
+        "done" => Ok(End::Done),
+        "refused" => refused_of(alloc, rest),
+        _ => Err(NoAnswer::Words),
+    }
+}
+
+/// What a task showed, and how it ended.
+fn outcome_of(alloc: Global, words: &str) -> Result<Outcome, NoAnswer> {
+    let (shown, end) = first_word(words);
+    let shown = shows_of(alloc, shown)?;
+    let end = end_of(alloc, end)?;
+    Ok(Outcome { shown, end })
+}
+
+/// What the tasks showed, and how they ended. Of one with nothing but a name there is nothing.
+fn outcomes_of(alloc: Global, tasks: &str) -> Result<Vec<Outcome>, NoAnswer> {
+    let mut outcomes = Vec::new(alloc);
+    for task in tasks.split("; ") {
+        let words = first_word(task).1;
+        if !words.is_empty() {
+            outcomes.push(outcome_of(alloc, words)?)?;
+        }
+    }
+    Ok(outcomes)
+}
+
+/// The names of the tasks.
+fn names_of<'a>(alloc: Global, tasks: &'a str) -> Result<Vec<&'a [u8]>, AllocError> {
+    let mut names = Vec::new(alloc);
+    for task in tasks.split("; ") {
+        names.push(first_word(task).0.as_bytes())?;
+    }
+    Ok(names)
+}
+
+/// A ref, and the snapshot that it names.
+fn ref_of(alloc: Global, words: &str) -> Result<RefLine, NoAnswer> {
+    let (kind, rest) = first_word(words);
+    let (name, id) = parted(rest, "=");
+    let tag = kind == "tag";
+    let id = id_of(id)?;
+    let name = name_of(alloc, name)?;
+    Ok(RefLine { tag, name, id })
+}
+
+/// Refs, and the snapshots that they name.
+fn lines_of(alloc: Global, words: &str) -> Result<RefLines, NoAnswer> {
+    let mut lines = RefLines::new(alloc);
+    for word in words.split(", ") {
+        lines.push(ref_of(alloc, word)?)?;
+    }
+    Ok(lines)
+}
+
+/// What came of the opening.
+fn opening_of(alloc: Global, words: &str) -> Result<Result<(), Refusal>, NoAnswer> {
+    if words == "-" {
+        return Ok(Ok(()));
+    }
+    Ok(Err(refusal_of(alloc, words)?))
+}
+
+/// What came of the closing reading.
+fn refs_of(alloc: Global, words: &str) -> Result<Result<RefLines, Refusal>, NoAnswer> {
+    match words.strip_prefix('!') {
+        Some(words) => Ok(Err(refusal_of(alloc, words)?)),
+        None => Ok(Ok(lines_of(alloc, words)?)),
+    }
+}
+
+/// The report with the refs of words.
+fn text_of_refs(
+    alloc: Global,
+    names: &[&[u8]],
+    opening: &Result<(), Refusal>,
+    outcomes: &[Outcome],
+    refs: &str,
+) -> Result<Vec<u8>, NoAnswer> {
+    let refs = refs_of(alloc, refs)?;
+    let text = report(alloc, names, opening, outcomes, &refs);
+    drop(refs);
+    Ok(text?)
+}
+
+/// The report with the opening and the refs of words.
+fn text_of_ends(
+    alloc: Global,
+    names: &[&[u8]],
+    outcomes: &[Outcome],
+    opening: &str,
+    refs: &str,
+) -> Result<Vec<u8>, NoAnswer> {
+    let opening = opening_of(alloc, opening)?;
+    let text = text_of_refs(alloc, names, &opening, outcomes, refs);
+    drop(opening);
+    text
+}
+
+/// A report.
+pub fn tell_report(alloc: Global, text: &str) -> Result<String, NoAnswer> {
+    let (opening, rest) = parted(text, " | ");
+    let (tasks, refs) = parted(rest, " | ");
+    let names = names_of(alloc, tasks)?;
+    let outcomes = outcomes_of(alloc, tasks)?;
+    let bytes = text_of_ends(alloc, &names, &outcomes, opening, refs)?;
+    let text = text_of(&bytes)?;
+    Ok(format!(in alloc; "{text:?}")?)
+}

@@ -1,0 +1,94 @@
+//! A store in memory that tells no journal.
+
+ghost use Rattle.std.specs.Prelude.{false, [], IfSome};
+ghost use Rattle.store_api.specs.Callers.{only};
+ghost use Rattle.store_api.specs.Program.{IsAsk};
+ghost use Rattle.session.specs.Opening.{open_rest};
+
+use ice_base::{RefName, TickClock};
+use ice_ids::AnyIds;
+use mem_store::MemStore;
+use repository::begin;
+use session::{Open, Session};
+use std::alloc::Global;
+use store_api::{
+    Gone, GoneAt, Got, Key, Listed, New, Over, Part, Store, StoreFault, Version, Why, run_machine,
+};
+
+/// A store in memory that tells nothing of its journal. Behind each listing it drops what stands at a key, if one is named.
+#[derive(Drop)]
+pub struct Untold {
+    pub memory: MemStore<TickClock>,
+    pub late: Option<Key>,
+}
+
+impl Untold {
+    /// A store with no objects.
+    pub fn new(alloc: Global, late: Option<Key>) -> Untold {
+        Untold {
+            memory: MemStore::new(alloc, TickClock::new()),
+            late,
+        }
+    }
+}
+
+impl Store for Untold {
+    ghost view = { λ s. record { caller = only false 0; seen = []; faults = 0 } };
+
+    fn get(&mut self, key: &Key) -> Result<Got, StoreFault> {
+        self.memory.get(key)
+    }
+
+    fn put_new(&mut self, key: &Key, bytes: &[u8], why: Why) -> Result<New, StoreFault> {
+        self.memory.put_new(key, bytes, why)
+    }
+
+    fn put_over(
+        &mut self,
+        key: &Key,
+        bytes: &[u8],
+        old: Version,
+        why: Why,
+    ) -> Result<Over, StoreFault> {
+        self.memory.put_over(key, bytes, old, why)
+    }
+
+    fn remove(&mut self, key: &Key, why: Why) -> Result<Gone, StoreFault> {
+        self.memory.remove(key, why)
+    }
+
+    fn remove_at(&mut self, key: &Key, old: Version, why: Why) -> Result<GoneAt, StoreFault> {
+        self.memory.remove_at(key, old, why)
+    }
+
+    fn list(&mut self, part: Part) -> Result<Listed, StoreFault> {
+        let listed = self.memory.list(part);
+        if let Some(late) = &self.late {
+            let _ = self.memory.remove(late, Why::Drop);
+        }
+        listed
+    }
+}
+
+/// Such a store with a repository in it, if one was begun.
+pub fn begun(alloc: Global, late: Option<Key>) -> Option<Untold> {
+    let mut store = Untold::new(alloc, late);
+    let begun = begin(alloc, &mut store).is_ok();
+    begun.then_some(store)
+}
+
+/// A session to write on `main`, which draws these ids, if it was opened.
+pub fn opened(alloc: Global, ids: AnyIds, store: &mut Untold) -> Option<Session> {
+    let mut open = opening(alloc, ids)?;
+    let opened = run_machine(&mut open, store);
+    drop(open);
+    opened.ok()
+}
+
+/// The opening of a session to write on `main`.
+fn opening(alloc: Global, ids: AnyIds) -> Option<Open>
+    ensures { IfSome result (λ machine. IsAsk (open_rest machine)) }
+{
+    let main = RefName::main(alloc).ok()?;
+    Open::write(alloc, main, ids).ok()
+}
