@@ -3,4 +3,4 @@ use Rattle.ice_runs.proofs.run.ran.Goals as goal
 
 pub run-ended-requires-clause-good : goal.run-ended-requires-clause-good
 unfolding Each
-run-ended-requires-clause-good g c κs within = rw c.new-store.ensures.inner (rw c.new-memory.ensures.journal (λ tells. tt))
+run-ended-requires-clause-good g c κs within = rw c.new-store.ensures.journal (λ tells. tt)
