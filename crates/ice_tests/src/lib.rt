@@ -1,12 +1,22 @@
-//! Tests of what no row of a program's input can show: threads, stores and clocks of a test's own, many nodes or events, and
-//! calls that take values which no file or text stands for. Each module has the tests of one crate; the tests of values are the
-//! rows of `ice_show`.
+//! Tests of what no row of a program's input can show: threads, stores, clocks, readers and files of a test's own, many nodes or
+//! events, and calls that take values which no file or text stands for. Each module has the tests of one crate, or of a run
+//! that crosses all; the tests of values are the rows of `ice_show`, and whole runs are the cases of `ice_faults`.
 #![tactic(auto)]
 
+#[cfg(test)]
+mod at_once;
+#[cfg(test)]
+mod breaking;
+#[cfg(test)]
+mod cutoffs;
+#[cfg(test)]
+mod directories;
 #[cfg(test)]
 mod ends;
 #[cfg(test)]
 mod grids;
+#[cfg(test)]
+mod grown;
 #[cfg(test)]
 mod manifests;
 #[cfg(test)]
@@ -16,6 +26,8 @@ mod rebases;
 #[cfg(test)]
 mod refs;
 #[cfg(test)]
+mod runs;
+#[cfg(test)]
 mod sessions;
 #[cfg(test)]
 mod tables;
@@ -23,3 +35,5 @@ mod tables;
 mod turns;
 #[cfg(test)]
 mod untold;
+#[cfg(test)]
+mod words;

@@ -1,7 +1,7 @@
 //! A store in memory that tells no journal.
 
-ghost use Rattle.std.specs.Prelude.{false, [], IfSome};
-ghost use Rattle.store_api.specs.Callers.{only};
+ghost use Rattle.std.specs.Prelude.{false, refl, [], IfSome};
+ghost use Rattle.mem_store.specs.Memory.{sole, client_of};
 ghost use Rattle.store_api.specs.Program.{IsAsk};
 ghost use Rattle.session.specs.Opening.{open_rest};
 
@@ -12,10 +12,12 @@ use repository::begin;
 use session::{Open, Session};
 use std::alloc::Global;
 use store_api::{
-    Gone, GoneAt, Got, Key, Listed, New, Over, Part, Store, StoreFault, Version, Why, run_machine,
+    Base, Counting, Gone, GoneAt, Got, Key, Listed, New, Over, Part, Store, StoreFault, Version,
+    Why, run_machine,
 };
 
-/// A store in memory that tells nothing of its journal. Behind each listing it drops what stands at a key, if one is named.
+/// A store in memory that tells nothing of its journal, so that a call over it asks nothing of what was done before. Behind
+/// each listing it drops what stands at a key, if one is named.
 #[derive(Drop)]
 pub struct Untold {
     pub memory: MemStore<TickClock>,
@@ -33,7 +35,7 @@ impl Untold {
 }
 
 impl Store for Untold {
-    ghost view = { λ s. record { caller = only false 0; seen = []; faults = 0 } };
+    ghost view = { λ s. record { caller = record (sole (client_of s.memory)) { tells = false }; seen = []; faults = 0 } };
 
     fn get(&mut self, key: &Key) -> Result<Got, StoreFault> {
         self.memory.get(key)
@@ -67,6 +69,24 @@ impl Store for Untold {
             let _ = self.memory.remove(late, Why::Drop);
         }
         listed
+    }
+}
+
+impl Base for Untold {
+    ghost tells = { false };
+
+    fn set_client(&mut self, client: u32) {
+        self.memory.set_client(client);
+    }
+
+    ghost told = { λ s. refl };
+
+    ghost alone = { λ s. record { low = refl; end = refl } };
+}
+
+impl Counting for Untold {
+    fn operations(&self) -> u64 {
+        self.memory.number_of_events() as u64
     }
 }
 

@@ -1,5 +1,5 @@
 use Rattle.store_api.specs.Journal.{Each}
-use Rattle.ice_runs.proofs.run.ran.Goals as goal
+use Rattle.ice_tests.proofs.runs.ran.Goals as goal
 
 pub run-ended-requires-clause-good : goal.run-ended-requires-clause-good
 unfolding Each
