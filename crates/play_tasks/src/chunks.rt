@@ -42,7 +42,10 @@ fn after_call(
             shown,
             set,
         }),
-        Err((_, why)) => Step::Stop(refuse(line, shown, why)),
+        Err((session, why)) => {
+            drop(session);
+            Step::Stop(refuse(line, shown, why))
+        }
     }
 }
 
@@ -90,8 +93,12 @@ fn chunk_len(session: &Session, path: &Path) -> u64
     ensures { result ≡ length_at (get (nodes_seen session.now) path.now) }
 {
     grid_law();
-    let Ok(meta) = session.get_meta(path) else {
-        return 0;
+    let meta = match session.get_meta(path) {
+        Ok(meta) => meta,
+        Err(why) => {
+            drop(why);
+            return 0;
+        }
     };
     let View::Array(array) = &meta.view else {
         return 0;
@@ -124,6 +131,7 @@ pub(crate) fn play_fill(
 {
     let len = chunk_len(&session, path) as usize;
     let Ok(bytes) = repeated(alloc, byte, len) else {
+        drop(session);
         return Step::Stop(refuse(line, shown, Refusal::NoMemory));
     };
     play_set(line, at, path, index, &bytes, session, shown)
@@ -153,13 +161,16 @@ fn key_shown(line: u32, value: KeyValue) -> Shown
 }
 
 /// Shows one thing more.
-fn show(value: Shown, shown: &mut Vec<Shown>) -> Result<(), AllocError>
+pub(crate) fn show(value: Shown, shown: &mut Vec<Shown>) -> Result<(), AllocError>
     ensures ok { OnOk result (shown.new.items ≡ shown.old.items ++ value ∷ []) }
     ensures err { OnErr result (shown.new.items ≡ shown.old.items) }
 {
     match shown.push(value) {
         Ok(()) => Ok(()),
-        Err(_) => Err(AllocError),
+        Err(failed) => {
+            drop(failed);
+            Err(AllocError)
+        }
     }
 }
 
@@ -196,7 +207,10 @@ pub(crate) fn play_get(
         Ok(Getting::Ready(session, value)) => {
             match show(value_shown(line, value), &mut shown) {
                 Ok(()) => Step::On { session, shown },
-                Err(_) => Step::Stop(refuse(line, shown, Refusal::NoMemory)),
+                Err(_) => {
+                    drop(session);
+                    Step::Stop(refuse(line, shown, Refusal::NoMemory))
+                }
             }
         }
         Ok(Getting::Again(get)) => Step::Stop(Working::Getting {
@@ -206,7 +220,10 @@ pub(crate) fn play_get(
             shown,
             get,
         }),
-        Err((_, why)) => Step::Stop(refuse(line, shown, why)),
+        Err((session, why)) => {
+            drop(session);
+            Step::Stop(refuse(line, shown, why))
+        }
     }
 }
 
@@ -226,7 +243,10 @@ pub(crate) fn play_key_get(
     match key_get(alloc, session, key.as_str()) {
         Ok(KeyGetting::Ready(session, value)) => match show(key_shown(line, value), &mut shown) {
             Ok(()) => Step::On { session, shown },
-            Err(_) => Step::Stop(refuse(line, shown, Refusal::NoMemory)),
+            Err(_) => {
+                drop(session);
+                Step::Stop(refuse(line, shown, Refusal::NoMemory))
+            }
         },
         Ok(KeyGetting::Again(get)) => Step::Stop(Working::Getting {
             line,
@@ -235,6 +255,9 @@ pub(crate) fn play_key_get(
             shown,
             get,
         }),
-        Err((_, why)) => Step::Stop(refuse(line, shown, why)),
+        Err((session, why)) => {
+            drop(session);
+            Step::Stop(refuse(line, shown, why))
+        }
     }
 }

@@ -77,7 +77,10 @@ pub(crate) fn begin_commit(
             shown,
             commit,
         },
-        Err((_, why)) => stop(line, shown, why),
+        Err((session, why)) => {
+            drop(session);
+            stop(line, shown, why)
+        }
     }
 }
 
@@ -96,6 +99,7 @@ fn after_loss(
     ensures falls { (lines : ℕ) → working_left lines result ≤ tries.left * try_steps }
 {
     if tries.left == 0 {
+        drop(commit);
         return stop(line, shown, Refusal::Conflict { old, found });
     }
     let (session, message) = commit.into_parts();
@@ -111,7 +115,11 @@ fn after_loss(
             message,
             rebase,
         },
-        Err((_, why)) => stop(line, shown, why),
+        Err((session, why)) => {
+            drop(session);
+            drop(message);
+            stop(line, shown, why)
+        }
     }
 }
 
@@ -138,16 +146,22 @@ fn after_committing(
             shown,
             commit,
         },
-        Ok(Next::Ready(Tried::Done(committed))) => Working::Ended {
-            outcome: Outcome {
-                shown,
-                end: End::Committed(committed.id),
-            },
-        },
+        Ok(Next::Ready(Tried::Done(committed))) => {
+            drop(commit);
+            Working::Ended {
+                outcome: Outcome {
+                    shown,
+                    end: End::Committed(committed.id),
+                },
+            }
+        }
         Ok(Next::Ready(Tried::Lost { old, found, .. })) => {
             after_loss(alloc, line, tries, shown, commit, old, found)
         }
-        Err(why) => stop(line, shown, why),
+        Err(why) => {
+            drop(commit);
+            stop(line, shown, why)
+        }
     }
 }
 
@@ -186,10 +200,15 @@ fn after_rebasing(
             rebase,
         },
         Ok(Next::Ready(rebased)) => {
+            drop(rebase);
             let session = rebased_session(rebased);
             begin_commit(alloc, line, tries, shown, message, session)
         }
-        Err(why) => stop(line, shown, why),
+        Err(why) => {
+            drop(rebase);
+            drop(message);
+            stop(line, shown, why)
+        }
     }
 }
 

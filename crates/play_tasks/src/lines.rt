@@ -6,7 +6,7 @@ ghost use Rattle.session.specs.Editing.{listed, text_at};
 ghost use Rattle.play_tasks.specs.Lines.{node_shown, nodes_shown, meta_shown, deed, edit_deed, read_deed, Goes, Commits, edited, silent, still, read_by};
 ghost use Rattle.play_tasks.specs.inside.Working.{is_clean, is_well, is_local, without_id, working_rest, working_left, most_steps, lines_from, Edits, Looks, LineComes, CallComes, IsBounded};
 
-use crate::chunks::{play_fill, play_get, play_key_get, play_key_set, play_set};
+use crate::chunks::{play_fill, play_get, play_key_get, play_key_set, play_set, show};
 use crate::commits::{begin_commit, tries_for};
 use crate::working::{SessionTask, Step, Working};
 use ice_base::Text;
@@ -42,7 +42,7 @@ fn show_nodes(line: u32, nodes: Vec<Listing>, shown: &mut Vec<Shown>) -> Result<
     let before = shown.len();
     for node in nodes {
         let Listing { path, array } = node;
-        if shown.push(Shown::Node { line, array, path }).is_err() {
+        if show(Shown::Node { line, array, path }, shown).is_err() {
             shown.truncate(before);
             return Err(AllocError);
         }
@@ -82,7 +82,7 @@ fn show_meta(
     let Ok(text) = meta.text.copy(alloc) else {
         return Err(Refusal::NoMemory);
     };
-    match shown.push(Shown::Meta { line, text }) {
+    match show(Shown::Meta { line, text }, shown) {
         Ok(()) => Ok(()),
         Err(_) => Err(Refusal::NoMemory),
     }
@@ -132,7 +132,10 @@ fn play_change(
 {
     match edit_session(alloc, edit, &mut session) {
         Ok(()) => Step::On { session, shown },
-        Err(why) => Step::Stop(refuse(line, shown, why)),
+        Err(why) => {
+            drop(session);
+            Step::Stop(refuse(line, shown, why))
+        }
     }
 }
 
@@ -199,7 +202,10 @@ fn play_look(
 {
     match look(alloc, line, read, &session, &mut shown) {
         Ok(()) => Step::On { session, shown },
-        Err(why) => Step::Stop(refuse(line, shown, why)),
+        Err(why) => {
+            drop(session);
+            Step::Stop(refuse(line, shown, why))
+        }
     }
 }
 
@@ -237,6 +243,7 @@ fn play_commit(
     ensures bounded { (at : ℕ) → IsBounded at result }
 {
     let Ok(message) = message.copy(alloc) else {
+        drop(session);
         return Step::Stop(refuse(line, shown, Refusal::NoMemory));
     };
     let tries = tries_for(access);
@@ -299,6 +306,7 @@ pub(crate) fn play_lines(
             Step::Stop(working) => return working,
         }
     }
+    drop(session);
     Working::Ended {
         outcome: Outcome {
             shown: Shows::from_vec(shown),

@@ -100,7 +100,7 @@ impl<'a> SessionWorker<'a> {
         let next = step_on(self.alloc, &self.task, state, store);
         let ended = mem::replace(&mut self.state, next);
         match ended {
-            Working::Ended { outcome: _outcome } => {}
+            Working::Ended { outcome } => drop(outcome),
             _ => unreachable!(),
         }
     }

@@ -35,8 +35,14 @@ fn after_opening(
 {
     match answer {
         Ok(Next::Again) => Working::Opening { opener },
-        Ok(Next::Ready(session)) => play_lines(alloc, task, 0, session, Vec::new(alloc)),
-        Err(why) => refuse(task.line, Vec::new(alloc), why),
+        Ok(Next::Ready(session)) => {
+            drop(opener);
+            play_lines(alloc, task, 0, session, Vec::new(alloc))
+        }
+        Err(why) => {
+            drop(opener);
+            refuse(task.line, Vec::new(alloc), why)
+        }
     }
 }
 
@@ -63,8 +69,14 @@ fn after_setting(
             shown,
             set,
         },
-        Ok(Next::Ready(session)) => play_lines(alloc, task, at, session, shown),
-        Err(why) => refuse(line, shown, why),
+        Ok(Next::Ready(session)) => {
+            drop(set);
+            play_lines(alloc, task, at, session, shown)
+        }
+        Err(why) => {
+            drop(set);
+            refuse(line, shown, why)
+        }
     }
 }
 
@@ -97,11 +109,17 @@ fn after_getting(
             };
         }
         Ok(Next::Ready(value)) => value,
-        Err(why) => return refuse(line, shown, why),
+        Err(why) => {
+            drop(get);
+            return refuse(line, shown, why);
+        }
     };
     match show_value(asked, line, value, &mut shown) {
         Ok(()) => play_lines(alloc, task, at, get.into_session(), shown),
-        Err(_) => refuse(line, shown, Refusal::NoMemory),
+        Err(_) => {
+            drop(get);
+            refuse(line, shown, Refusal::NoMemory)
+        }
     }
 }
 

@@ -47,7 +47,10 @@ fn group_meta(alloc: Global, text: &[u8]) -> Result<Meta, Refusal>
     let meta = node_meta(alloc, text)?;
     match meta.view {
         View::Group => Ok(meta),
-        View::Array(_) => Err(Refusal::BadMeta(MetaFault::NodeType)),
+        View::Array(_) => {
+            drop(meta);
+            Err(Refusal::BadMeta(MetaFault::NodeType))
+        }
     }
 }
 
@@ -57,7 +60,10 @@ fn array_meta(alloc: Global, text: &[u8]) -> Result<Meta, Refusal>
 {
     let meta = node_meta(alloc, text)?;
     match meta.view {
-        View::Group => Err(Refusal::BadMeta(MetaFault::NodeType)),
+        View::Group => {
+            drop(meta);
+            Err(Refusal::BadMeta(MetaFault::NodeType))
+        }
         View::Array(_) => Ok(meta),
     }
 }
@@ -68,9 +74,11 @@ impl Session {
         ensures { Adds (entered self.old path.now meta.text) self.old result self.new }
     {
         if let Err(fault) = self.changes.may_add(&self.loaded, path) {
+            drop(meta);
             return Err(refusal_of_edit(fault));
         }
         let Some(id) = self.ids.next8() else {
+            drop(meta);
             return Err(Refusal::IdsSpent);
         };
         if let Err(fault) = self.changes.add(self.alloc, &self.loaded, path, id, meta) {

@@ -78,7 +78,10 @@ fn first_listed(ids: Items<Id12>) -> First
 {
     match id_at(&ids, 0) {
         Some(id) => First::Reads(Reading::Manifest { id, ids, at: 1 }),
-        None => First::Told(Value::Fill),
+        None => {
+            drop(ids);
+            First::Told(Value::Fill)
+        }
     }
 }
 
@@ -115,6 +118,7 @@ impl Session {
             First::Reads(state) => state,
         };
         let Ok(index) = index.copy(self.alloc) else {
+            drop(state);
             return Err((self, Refusal::NoMemory));
         };
         Ok(Getting::Again(GetChunk {
@@ -174,7 +178,7 @@ impl Machine for GetChunk {
     }
 
     fn stop(&mut self) {
-        self.state = Reading::Ended;
+        drop(mem::replace(&mut self.state, Reading::Ended));
     }
 
     ghost may_starve = { tt };
@@ -185,7 +189,15 @@ impl GetChunk {
     pub fn into_session(self) -> Session
         ensures { result ≡ get_session self }
     {
-        self.session
+        let GetChunk {
+            session,
+            index,
+            state,
+            ..
+        } = self;
+        drop(index);
+        drop(state);
+        session
     }
 
     /// One operation of the store.
@@ -215,10 +227,24 @@ impl GetChunk {
         ensures kept { get_session self.new ≡ get_session self.old }
         ensures listed { IfErr result MayRefuseObject }
     {
-        let held = manifest_told(id, reply)?;
+        let held = match manifest_told(id, reply) {
+            Ok(held) => held,
+            Err(why) => {
+                drop(ids);
+                return Err(why);
+            }
+        };
         match held.seek(self.node, &self.index) {
-            Some(place) => self.on_place(id, place),
-            None => self.on_none(ids, at),
+            Some(place) => {
+                let next = self.on_place(id, place);
+                drop(held);
+                drop(ids);
+                next
+            }
+            None => {
+                drop(held);
+                self.on_none(ids, at)
+            }
         }
     }
 
@@ -233,7 +259,7 @@ impl GetChunk {
         let bytes = match place {
             PlaceView::Inline(bytes) => bytes,
             PlaceView::Object { id, offset, length } => {
-                self.state = Reading::Object { id, offset, length };
+                self.state.follow(Reading::Object { id, offset, length });
                 return Ok(Next::Again);
             }
         };
@@ -253,10 +279,11 @@ impl GetChunk {
         ensures listed { IfErr result MayRefuseObject }
     {
         let Some(id) = id_at(&ids, at) else {
+            drop(ids);
             return Ok(Next::Ready(Value::Fill));
         };
         let at = at + 1;
-        self.state = Reading::Manifest { id, ids, at };
+        self.state.follow(Reading::Manifest { id, ids, at });
         Ok(Next::Again)
     }
 

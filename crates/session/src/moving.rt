@@ -10,6 +10,7 @@ ghost use Rattle.session.specs.Sessions.{moved_to, tip_at};
 use crate::Session;
 use ice_ids::Id12;
 use repo_objects::Loaded;
+use std::mem;
 use store_api::Version;
 use zarr_changes::ChangeSet;
 
@@ -43,9 +44,9 @@ impl Session {
     {
         self.renew(version);
         self.base = id;
-        self.loaded = loaded;
+        drop(mem::replace(&mut self.loaded, loaded));
         if let Some(changes) = changes {
-            self.changes = changes;
+            drop(mem::replace(&mut self.changes, changes));
         }
     }
 

@@ -59,7 +59,7 @@ impl Machine for Open {
     }
 
     fn stop(&mut self) {
-        self.state = Opening::Ended;
+        drop(mem::replace(&mut self.state, Opening::Ended));
     }
 
     ghost may_starve = { tt };
@@ -117,10 +117,11 @@ impl Open {
         ensures falls { open_left self.new < resolving_left resolving + 1 }
         ensures listed { IfErr result MayRefuseBase }
     {
-        self.state = match resolving.on_reply(self.alloc, reply)? {
+        let next = match resolving.on_reply(self.alloc, reply)? {
             Resolution::Known(named) => Opening::Base(named),
             Resolution::Asks(resolving) => Opening::Naming(resolving),
         };
+        self.state.follow(next);
         Ok(Next::Again)
     }
 
@@ -133,6 +134,7 @@ impl Open {
     {
         let loaded = base_told(self.alloc, &self.at, named.id, reply)?;
         let Ok(tip) = self.tip(named) else {
+            drop(loaded);
             return Err(Refusal::NoMemory);
         };
         let session = Session::begin(self.alloc, tip, self.ids, named.id, loaded);

@@ -3,6 +3,7 @@
 use crate::chunks::Value;
 use ice_ids::Id12;
 use ice_items::Items;
+use std::mem;
 
 /// The operation that comes next.
 #[derive(Debug, Drop)]
@@ -27,6 +28,21 @@ pub enum Reading {
     },
     /// The machine has ended.
     Ended,
+}
+
+impl Reading {
+    ghost use Rattle.std.specs.Prelude.{◌≡◌};
+
+    /// The operation that comes next, where none did.
+    pub(crate) fn follow(&mut self, next: Reading)
+        requires { self.old ≡ Reading.Ended }
+        ensures { self.new ≡ next }
+    {
+        match mem::replace(self, next) {
+            Reading::Ended => {}
+            _ => unreachable!(),
+        }
+    }
 }
 
 /// How a reading begins.

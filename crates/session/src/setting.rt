@@ -1,6 +1,6 @@
 //! Setting chunks.
 
-ghost use Rattle.std.specs.Prelude.{◌≡◌, ◌<◌, nat_le, length, true, None, Some, IfErr, IsSome, IsTrue, OnErr};
+ghost use Rattle.std.specs.Prelude.{◌≡◌, ◌<◌, nat_le, length, true, None, Some, IfErr, IfOk, IsSome, IsTrue, OnErr};
 ghost use Rattle.ice_ids.specs.Drawing.{drawn12};
 ghost use Rattle.manifest_file.specs.declared.manifest.Place.TheVariants.{Object as Is_object};
 ghost use Rattle.store_api.specs.Program.{IsAsk, IsDone, Steps, NextIsPolite};
@@ -18,7 +18,7 @@ use crate::putting::Putting;
 use ice_base::Bytes;
 use ice_ids::{Id12, Ids};
 use manifest_file::Place;
-use std::alloc::AllocError;
+use std::alloc::{AllocError, Global};
 use std::mem;
 use store_api::{
     Key, Machine, New, Next, Payload, Refusal, Reply, Request, Store, StoreFault, Why, ask,
@@ -47,6 +47,21 @@ pub struct SetChunk {
     bytes: Bytes,
     id: Id12,
     state: Putting,
+}
+
+/// Copies of a chunk's place and of its bytes.
+fn copies(
+    alloc: Global,
+    path: &Path,
+    index: &Index,
+    bytes: &[u8],
+) -> Result<(Path, Index, Bytes), AllocError>
+    ensures { IfOk result (λ held. held ≡ (path.now, index.now, bytes.now)) }
+{
+    let path = path.copy(alloc)?;
+    let index = index.copy(alloc)?;
+    let bytes = Bytes::of(alloc, bytes)?;
+    Ok((path, index, bytes))
 }
 
 impl Session {
@@ -90,13 +105,7 @@ impl Session {
         let Some(id) = self.ids.next12() else {
             return Err((self, Refusal::IdsSpent));
         };
-        let Ok(bytes) = Bytes::of(self.alloc, bytes) else {
-            return Err((self, Refusal::NoMemory));
-        };
-        let Ok(path) = path.copy(self.alloc) else {
-            return Err((self, Refusal::NoMemory));
-        };
-        let Ok(index) = index.copy(self.alloc) else {
+        let Ok((path, index, bytes)) = copies(self.alloc, path, index, bytes) else {
             return Err((self, Refusal::NoMemory));
         };
         Ok(Setting::Again(SetChunk {

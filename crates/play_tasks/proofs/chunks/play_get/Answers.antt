@@ -16,9 +16,9 @@ returns-in-Ok-Again-clause-comes c = λ access task.
     let is = subst (λ (x : Getting). Gets p s (Ok x)) c.in-Ok-Again.field-0-is c.in-Ok-Again.ensures.read in
     inl (get-began c.args.line c.args.shown.items p (get_rest get) s (get_session get) (lines_from task c.args.at) is.0 is.1 is.2)
 
-pub returns-clause-clean : goal.returns-clause-clean
-returns-clause-clean c =
+pub returns-in-Err-clause-clean : goal.returns-in-Err-clause-clean
+returns-in-Err-clause-clean c =
     let s = c.args.session in
     let p = get_program s c.args.path.now c.args.index.now in
     well_refused c.refuse-in-Err.result c.args.line c.args.shown.items c.in-Err.why c.refuse-in-Err.ensures
-    (calm-why p c.in-Err.why (get-calm s c.args.path.now c.args.index.now) (get-why p s c.in-Err.field-0-0 c.in-Err.why c.in-Err.ensures.read))
+    (calm-why p c.in-Err.why (get-calm s c.args.path.now c.args.index.now) (get-why p s c.in-Err.session c.in-Err.why c.in-Err.ensures.read))

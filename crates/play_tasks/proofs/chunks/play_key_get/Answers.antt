@@ -35,21 +35,21 @@ returns-in-Ok-Again-clause-comes c = λ access task.
     let is = subst (λ (x : KeyGetting). Gets (key_get_program s c.args.key.now) s (Ok x)) c.in-Ok-Again.field-0-is told in
     inl (key-asks access c.args.line c.args.shown.items s (get_session get) c.args.key.now (get_rest get) (lines_from task c.args.at) is.0 is.1 is.2)
 
-pub returns-clause-comes : goal.returns-clause-comes
-returns-clause-comes c = λ access task.
+pub returns-in-Err-clause-comes : goal.returns-in-Err-clause-comes
+returns-in-Err-clause-comes c = λ access task.
     let s = c.args.session in
     let key = c.args.key.now in
     let line = c.args.line in
     let shown = c.args.shown.items in
     let why = c.in-Err.why in
-    let told = subst (λ (k : List ℕ). GetRefused (key_get_program s k) s c.in-Err.field-0-0 why) c.as_str.ensures c.in-Err.ensures.read in
+    let told = subst (λ (k : List ℕ). GetRefused (key_get_program s k) s c.in-Err.session why) c.as_str.ensures c.in-Err.ensures.read in
     subst (λ (x : Working). Comes (Or (play_deed access line shown s (key_get_deed line (key_of key) s) (lines_from task c.args.at)) (refused line shown NoMemory)) (working_rest task x)) (sym c.refuse-in-Err.ensures)
-    (key-refused access line shown s c.in-Err.field-0-0 key why (lines_from task c.args.at) told)
+    (key-refused access line shown s c.in-Err.session key why (lines_from task c.args.at) told)
 
-pub returns-clause-clean : goal.returns-clause-clean
-returns-clause-clean c =
+pub returns-in-Err-clause-clean : goal.returns-in-Err-clause-clean
+returns-in-Err-clause-clean c =
     let s = c.args.session in
     let key = c.as_str.result.now in
     let p = key_get_program s key in
     well_refused c.refuse-in-Err.result c.args.line c.args.shown.items c.in-Err.why c.refuse-in-Err.ensures
-    (calm-why p c.in-Err.why (key-get-calm s key) (key-get-why p s c.in-Err.field-0-0 c.in-Err.why c.in-Err.ensures.read))
+    (calm-why p c.in-Err.why (key-get-calm s key) (key-get-why p s c.in-Err.session c.in-Err.why c.in-Err.ensures.read))

@@ -10,4 +10,4 @@ returns-in_default-clause-took c =
 pub returns-clause-took : goal.returns-clause-took
 returns-clause-took c =
     let m = c.args.self.now in
-    ((listed_next m.want m.node m.index c.args.ids c.args.at c.in-Some.id (sym c.id_at.ensures.value ∙ c.in-Some.is), listed_ask m.want m.node m.index c.in-Some.id (drop (c.args.at + 1) c.args.ids)), tt)
+    rw c.follow.ensures ((listed_next m.want m.node m.index c.args.ids c.args.at c.in-Some.id (sym c.id_at.ensures.value ∙ c.in-Some.is), listed_ask m.want m.node m.index c.in-Some.id (drop (c.args.at + 1) c.args.ids)), tt)
