@@ -1,7 +1,7 @@
 //! Conflicts of two sides' changes of one tree, and what a policy solves of them. ` | ` stands between our changes and theirs.
 //! The tree has a root, an array `/a`, and a group `/g` with an array `/g/b` and a group `/g/h`.
 
-use crate::changing::Changed;
+use crate::changing::{changes_of, initial};
 use crate::words::{NoAnswer, first_word};
 use changed_snapshot::{Stamp, write_over};
 use conflicts::{ChunkPlace, Pick, Policy, Solved, detect, keys_at, solve};
@@ -33,49 +33,84 @@ fn file_under(alloc: Global, base: &Loaded, set: &ChangeSet) -> Result<Bytes, No
         return Err(NoAnswer::Words);
     }
     let message = Text::of(alloc, "")?;
-    write_over(alloc, base, set, &[], STAMP, &message).map_err(|_| NoAnswer::NoMemory)
+    match write_over(alloc, base, set, &[], STAMP, &message) {
+        Ok(file) => Ok(file),
+        Err(_) => Err(NoAnswer::NoMemory),
+    }
 }
 
 /// The snapshot under changes, without their chunks.
-fn loaded_under(alloc: Global, changed: &Changed) -> Result<Loaded, NoAnswer> {
-    let file = file_under(alloc, &changed.base, &changed.set)?;
-    Loaded::read(alloc, Id12::INITIAL, file.as_slice()).map_err(|_| NoAnswer::NoMemory)
+fn loaded_under(alloc: Global, base: &Loaded, set: &ChangeSet) -> Result<Loaded, NoAnswer> {
+    let file = file_under(alloc, base, set)?;
+    match Loaded::read(alloc, Id12::INITIAL, file.as_slice()) {
+        Ok(loaded) => Ok(loaded),
+        Err(_) => Err(NoAnswer::NoMemory),
+    }
+}
+
+/// A snapshot under the changes of words.
+fn changed(alloc: Global, base: &Loaded, words: &str) -> Result<Loaded, NoAnswer> {
+    let set = changes_of(alloc, base, words)?;
+    let changed = loaded_under(alloc, base, &set);
+    drop(set);
+    changed
 }
 
 /// The tree.
 fn tree(alloc: Global) -> Result<Loaded, NoAnswer> {
-    let mut changed = Changed::initial(alloc)?;
-    changed.change_all(alloc, TREE)?;
-    let tree = loaded_under(alloc, &changed);
-    drop(changed);
+    let initial = initial(alloc)?;
+    let tree = changed(alloc, &initial, TREE);
+    drop(initial);
     tree
 }
 
-/// The tree and one side's changes of it.
-fn side(alloc: Global, words: &str) -> Result<Changed, NoAnswer> {
-    let mut changed = Changed::of(alloc, tree(alloc)?);
-    changed.change_all(alloc, words)?;
-    Ok(changed)
-}
-
-/// The conflicts of our changes with theirs.
-fn found(alloc: Global, ours: &Changed, theirs: &Changed) -> Result<Items<Conflict>, NoAnswer> {
+/// The conflicts of our changes of a tree with theirs.
+fn found(
+    alloc: Global,
+    tree: &Loaded,
+    ours: &ChangeSet,
+    theirs: &ChangeSet,
+) -> Result<Items<Conflict>, NoAnswer> {
     ordered_law::<Place>();
-    let touched = theirs.set.net(alloc, &theirs.base)?;
-    let after = loaded_under(alloc, theirs)?;
-    let found = detect(alloc, &ours.set, &touched, &ours.base, &after);
+    let touched = theirs.net(alloc, tree)?;
+    let after = loaded_under(alloc, tree, theirs)?;
+    let found = detect(alloc, ours, &touched, tree, &after);
     drop(after);
     Ok(found?)
+}
+
+/// The conflicts of our changes with theirs, in words.
+fn found_with(
+    alloc: Global,
+    tree: &Loaded,
+    ours: &ChangeSet,
+    theirs: &str,
+) -> Result<Items<Conflict>, NoAnswer> {
+    let theirs = changes_of(alloc, tree, theirs)?;
+    let found = found(alloc, tree, ours, &theirs);
+    drop(theirs);
+    found
+}
+
+/// The conflicts of our changes of a tree with theirs, both in words.
+fn found_in(
+    alloc: Global,
+    tree: &Loaded,
+    ours: &str,
+    theirs: &str,
+) -> Result<Items<Conflict>, NoAnswer> {
+    let ours = changes_of(alloc, tree, ours)?;
+    let found = found_with(alloc, tree, &ours, theirs);
+    drop(ours);
+    found
 }
 
 /// The conflicts of our changes with theirs, both in words.
 fn conflicts_of(alloc: Global, text: &str) -> Result<Items<Conflict>, NoAnswer> {
     let (ours, theirs) = text.split_once(" | ").ok_or(NoAnswer::Words)?;
-    let ours = side(alloc, ours)?;
-    let theirs = side(alloc, theirs)?;
-    let found = found(alloc, &ours, &theirs);
-    drop(ours);
-    drop(theirs);
+    let tree = tree(alloc)?;
+    let found = found_in(alloc, &tree, ours, theirs);
+    drop(tree);
     found
 }
 

@@ -120,11 +120,19 @@ pub fn tell_meta_text(alloc: Global, text: &[u8]) -> Result<String, NoAnswer> {
     }
 }
 
+/// A fill value.
+fn fill_of(word: &str) -> Result<i128, NoAnswer> {
+    match word.parse::<i128>() {
+        Ok(fill) => Ok(fill),
+        Err(_) => Err(NoAnswer::Words),
+    }
+}
+
 /// The shortest text of an array of a type, from words for its shape, its chunks and its fill value.
 fn plain_told(alloc: Global, kind: IntKind, words: &str) -> Result<String, NoAnswer> {
     let (shape, rest) = first_word(words);
     let (chunks, fill) = first_word(rest);
-    let fill = fill.parse::<i128>().map_err(|_| NoAnswer::Words)?;
+    let fill = fill_of(fill)?;
     let shape = numbers_of(alloc, shape)?;
     let chunks = numbers_of(alloc, chunks)?;
     match Meta::plain_array(alloc, kind, &shape, &chunks, fill) {

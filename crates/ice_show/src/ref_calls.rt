@@ -38,10 +38,10 @@ fn refusal_told(alloc: Global, why: Refusal) -> Result<String, AllocError> {
     told
 }
 
-fn done_told(alloc: Global, done: Result<(), Refusal>) -> Result<String, AllocError> {
+fn done_told(alloc: Global, done: Result<(), Refusal>) -> Result<String, NoAnswer> {
     match done {
-        Ok(()) => String::from_str(alloc, "done"),
-        Err(why) => refusal_told(alloc, why),
+        Ok(()) => Ok(String::from_str(alloc, "done")?),
+        Err(why) => Ok(refusal_told(alloc, why)?),
     }
 }
 
@@ -85,12 +85,11 @@ fn all_refs_told(alloc: Global, store: &mut Memory) -> Result<String, AllocError
 /// Makes a ref, or sets it.
 fn set_told(alloc: Global, store: &mut Memory, word: &str, rest: &str) -> Result<String, NoAnswer> {
     let (name, at) = named_of(alloc, rest)?;
-    let done = match word {
-        "make_branch" => make_branch(alloc, name, at, store),
-        "set_branch" => set_branch(alloc, name, at, store),
-        _ => make_tag(alloc, name, at, store),
-    };
-    Ok(done_told(alloc, done)?)
+    match word {
+        "make_branch" => done_told(alloc, make_branch(alloc, name, at, store)),
+        "set_branch" => done_told(alloc, set_branch(alloc, name, at, store)),
+        _ => done_told(alloc, make_tag(alloc, name, at, store)),
+    }
 }
 
 /// Drops a ref.
@@ -101,19 +100,18 @@ fn dropped_told(
     name: &str,
 ) -> Result<String, NoAnswer> {
     let name = name_of(alloc, name)?;
-    let done = match word {
-        "drop_branch" => drop_branch(alloc, name, store),
-        _ => drop_tag(alloc, name, store),
-    };
-    Ok(done_told(alloc, done)?)
+    match word {
+        "drop_branch" => done_told(alloc, drop_branch(alloc, name, store)),
+        _ => done_told(alloc, drop_tag(alloc, name, store)),
+    }
 }
 
 /// What a call answers.
 fn ref_call_told(alloc: Global, store: &mut Memory, call: &str) -> Result<String, NoAnswer> {
     let (word, rest) = first_word(call);
     match word {
-        "begin" => Ok(done_told(alloc, begin(alloc, store))?),
-        "make_repository" => Ok(done_told(alloc, make_repository(alloc, store))?),
+        "begin" => done_told(alloc, begin(alloc, store)),
+        "make_repository" => done_told(alloc, make_repository(alloc, store)),
         "make_branch" | "set_branch" | "make_tag" => set_told(alloc, store, word, rest),
         "drop_branch" | "drop_tag" => dropped_told(alloc, store, word, rest),
         "log" => log_told(alloc, store, rest),
