@@ -13,7 +13,7 @@ use ice_ids::Id8;
 use ice_items::Items;
 use std::alloc::{AllocError, Global};
 use std::marker::Model;
-use zarr_changes::{ChangeSet, ChunkKey, IdSet};
+use zarr_changes::{ChangeKeys, ChangeSet, ChunkKey, IdSet};
 use zarr_path::Path;
 use zarr_tree::{Touched, TreeLike};
 
@@ -55,6 +55,30 @@ fn arrays_of(alloc: Global, chunks: &[ChunkKey]) -> Result<IdSet, AllocError>
         set.insert(*id)?;
     }
     Ok(set)
+}
+
+/// What is looked up of our changes by id.
+#[derive(Drop)]
+struct OwnSets {
+    dropped: IdSet,
+    metas: IdSet,
+    arrays: IdSet,
+}
+
+/// The nodes of keys that are dropped, those with other metadata, and the arrays of chunks.
+fn sets_of(alloc: Global, keys: &ChangeKeys) -> Result<OwnSets, AllocError>
+    ensures dropped { IfOk result (λ sets. (id : TheId) → lists sets.dropped id ≡ lists keys.now.dropped id) }
+    ensures metas { IfOk result (λ sets. (id : TheId) → lists sets.metas id ≡ lists keys.now.metas id) }
+    ensures arrays { IfOk result (λ sets. (id : TheId) → lists sets.arrays id ≡ list_any (λ key. same_id8 key.0 id) keys.now.chunks) }
+{
+    let dropped = set_of(alloc, keys.dropped.as_slice())?;
+    let metas = set_of(alloc, keys.metas.as_slice())?;
+    let arrays = arrays_of(alloc, keys.chunks.as_slice())?;
+    Ok(OwnSets {
+        dropped,
+        metas,
+        arrays,
+    })
 }
 
 /// Pushes a node's path, if the node is listed as new.
@@ -102,17 +126,19 @@ impl<'a, B: TreeLike, U: TreeLike> Sides<'a, B, U> {
         requires { IsOrdered theirs.now }
         ensures { IfOk result (λ s. s ≡ record { held = mine.now; theirs = theirs.now; before = B.nodes before.now; after = U.nodes after.now }) }
     {
+        let news = new_paths(alloc, theirs, after)?;
         let keys = mine.keys(alloc)?;
+        let sets = sets_of(alloc, &keys)?;
         Ok(Sides {
             mine,
             theirs,
             before,
             after,
-            dropped: set_of(alloc, keys.dropped.as_slice())?,
-            metas: set_of(alloc, keys.metas.as_slice())?,
-            arrays: arrays_of(alloc, keys.chunks.as_slice())?,
+            dropped: sets.dropped,
+            metas: sets.metas,
+            arrays: sets.arrays,
             added: keys.added,
-            news: new_paths(alloc, theirs, after)?,
+            news,
         })
     }
 }

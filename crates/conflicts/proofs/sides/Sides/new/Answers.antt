@@ -9,10 +9,10 @@ use Rattle.conflicts.proofs.sides.Sides.new.Goals as goal
 
 pub invariant_of-result : goal.invariant_of-result
 invariant_of-result g c = record {
-  dropped = λ id. c.in_ok-set_of.ensures id ∙ ap (λ ids. lists ids id) (c.as_slice.ensures ∙ ap (λ (keys : ChangeKeys). keys.dropped) c.in_ok-keys.ensures);
-  metas = λ id. c.in_ok-set_of-2.ensures id ∙ ap (λ ids. lists ids id) (c.as_slice-2.ensures ∙ ap (λ (keys : ChangeKeys). keys.metas) c.in_ok-keys.ensures) ∙ meta-keys c.args.mine.now.metas id;
-  arrays = λ id. c.in_ok-arrays_of.ensures id ∙ ap (λ (chunks : List (Id8 × List ℕ)). list_any (λ (key : Id8 × List ℕ). same_id8 key.0 id) chunks) (c.as_slice-3.ensures ∙ ap (λ (keys : ChangeKeys). keys.chunks) c.in_ok-keys.ensures) ∙ chunk-keys c.args.mine.now.chunks id;
+  dropped = λ id. c.in_ok-sets.ensures.dropped id ∙ ap (λ (keys : ChangeKeys). lists keys.dropped id) c.in_ok-keys.ensures;
+  metas = λ id. c.in_ok-sets.ensures.metas id ∙ ap (λ (keys : ChangeKeys). lists keys.metas id) c.in_ok-keys.ensures ∙ meta-keys c.args.mine.now.metas id;
+  arrays = λ id. c.in_ok-sets.ensures.arrays id ∙ ap (λ (keys : ChangeKeys). list_any (λ (key : Id8 × List ℕ). same_id8 key.0 id) keys.chunks) c.in_ok-keys.ensures ∙ chunk-keys c.args.mine.now.chunks id;
   added = ap (λ (keys : ChangeKeys). keys.added) c.in_ok-keys.ensures;
-  news = c.in_ok-new_paths.ensures;
+  news = c.in_ok-news.ensures;
   ordered = c.requires;
 }
