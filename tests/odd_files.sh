@@ -33,7 +33,8 @@ odd() {
     esac
 }
 
-# The call of the program, which has ended soon, and has little memory.
+# The call of the program, which has ended soon, and has little memory: ICE_MEMORY in KiB, where that is set, as for a
+# program that was built with a sanitizer, which wants more than there is.
 soon() {
     (
         ulimit -v "${ICE_MEMORY:-4000000}"
@@ -187,7 +188,7 @@ same 'one that was cut off at its beginning' 0 "$(cat said)"
 # Calls of the system that fail.
 if strace -o /dev/null true 2>/dev/null; then
     # The flush that a new folder's name needs fails once: what is told as done afterwards has made up for it.
-    printf 'task n write main 0 fail\ngroup /\narray /z uint8 1200 600 0\ncommit z\nturns\n' >given
+    printf 'task n write main 0 fail\ngroup /\narray /z uint8 1200 600 0\narray /s uint8 4 2 0\nset /s 0 0102\ncommit z\n' >given
     mkdir flushed
     call play --dir flushed >/dev/null
     printf 'task a write main 0 fail\nfill /z 0 07\ncommit one\ntask b write main 0 fail\nfill /z 1 08\ncommit two\nturns\n' >given

@@ -6,16 +6,17 @@ ghost use Rattle.dir_store.specs.Store.{IsMoved};
 use crate::faults::{Call, Cause, FileFault, failed, refused};
 use crate::looks::{
     Kind, MOST, Seen, done, file_at, folder_at, folder_of, in_memory, is_missing, look, open_seen,
+    plain_at,
 };
 use crate::names::{aside_folder, aside_of};
 use crate::versions::version_of_digest;
 use ice_base::Bytes;
 use sha2::{Digest, Sha256};
 use std::alloc::Global;
-use std::fs;
 use std::fs::{OpenFile, OpenOptions};
 use std::io::{ErrorKind, Read, Write};
 use std::rt::Files;
+use std::{fs, io};
 use store_api::Version;
 
 /// How many bytes are read at once.
@@ -110,13 +111,18 @@ pub(crate) fn read_file<R: Files>(
     Ok(Some(bytes_of(&mut file, alloc)?))
 }
 
+/// The version of the file that was seen at a path.
+fn version_at<R: Files>(rt: &R, path: &str, seen: &Seen) -> Result<Version, FileFault> {
+    let mut file = opened(rt, path, seen)?;
+    version_of(&mut file)
+}
+
 /// The version of the file at an object's path, if one is there. It takes no memory.
 fn standing<R: Files>(rt: &R, root: &str, path: &str) -> Result<Option<Version>, FileFault> {
-    let Some(seen) = file_at(rt, root, path)? else {
-        return Ok(None);
-    };
-    let mut file = opened(rt, path, &seen)?;
-    Ok(Some(version_of(&mut file)?))
+    match file_at(rt, root, path)? {
+        Some(seen) => Ok(Some(version_at(rt, path, &seen)?)),
+        None => Ok(None),
+    }
 }
 
 /// Flushes to disk which files this very directory holds, wherever its path leads.
@@ -143,21 +149,35 @@ fn flush_folder<R: Files>(rt: &R, root: &str, path: &str) -> Result<(), FileFaul
     }
 }
 
-/// Makes a folder where nothing is, and flushes to disk that it is there. Where something else is, the
-/// cause is this one.
-fn make_folder<R: Files>(rt: &R, root: &str, folder: &str, cause: Cause) -> Result<(), FileFault> {
+/// The folder that lies at a path, if anything does. Where that is something else, the cause is this one.
+fn seen_folder<R: Files>(rt: &R, folder: &str, cause: Cause) -> Result<Option<Seen>, FileFault> {
     match look(rt, folder)? {
-        Some(seen) if seen.kind == Kind::Folder => Ok(()),
-        Some(_) => Err(failed(Call::MakeFolder, cause)),
-        None => {
-            done(Call::MakeFolder, fs::create_dir(rt, folder))?;
-            flush_folder(rt, root, folder)
-        }
+        Some(seen) if seen.kind != Kind::Folder => Err(failed(Call::MakeFolder, cause)),
+        found => Ok(found),
     }
 }
 
-/// Makes the folders in the directory that a path lies in, where they aren't there: one or two.
-fn make_folders<R: Files>(rt: &R, root: &str, path: &str) -> Result<(), FileFault> {
+/// Makes a folder where nothing is, and flushes to disk that it is there.
+fn make_folder<R: Files>(
+    rt: &R,
+    root: &str,
+    folder: &str,
+    cause: Cause,
+) -> Result<Seen, FileFault> {
+    if let Some(seen) = seen_folder(rt, folder, cause)? {
+        return Ok(seen);
+    }
+    done(Call::MakeFolder, fs::create_dir(rt, folder))?;
+    flush_folder(rt, root, folder)?;
+    match seen_folder(rt, folder, cause)? {
+        Some(seen) => Ok(seen),
+        None => Err(failed(Call::MakeFolder, Cause::Changed)),
+    }
+}
+
+/// Makes the folders in the directory that a path lies in, where they aren't there: one or two. It gives
+/// the last.
+fn make_folders<R: Files>(rt: &R, root: &str, path: &str) -> Result<Seen, FileFault> {
     let folder = folder_of(path);
     let above = folder_of(folder);
     if above != root {
@@ -208,27 +228,33 @@ fn write_aside<R: Files>(
     }
 }
 
-/// Moves a file that lies aside to a path where none is, or removes it and tells the version that
-/// stands there.
+/// The version of the file at a path whose folders are there, if one is there.
+fn version_in<R: Files>(rt: &R, path: &str) -> Result<Option<Version>, FileFault> {
+    match plain_at(rt, path)? {
+        Some(seen) => Ok(Some(version_at(rt, path, &seen)?)),
+        None => Ok(None),
+    }
+}
+
+/// Ends the move of a file that lay aside to a path in a folder that was seen: it is linked there, or
+/// something stands there, whose version is told.
 fn move_new<R: Files>(
     rt: &R,
-    root: &str,
     aside: &str,
     path: &str,
+    folder: &Seen,
+    linked: io::Result<()>,
 ) -> Result<Option<Version>, FileFault> {
-    let linked = fs::hard_link(rt, aside, path);
     done(Call::Remove, fs::remove_file(rt, aside))?;
     match linked {
         Ok(()) => {
-            flush_folder(rt, root, path)?;
+            flush_seen(rt, folder_of(path), folder)?;
             Ok(None)
         }
-        Err(error) if error.kind() == ErrorKind::AlreadyExists => {
-            match standing(rt, root, path)? {
-                Some(version) => Ok(Some(version)),
-                None => Err(failed(Call::Link, Cause::Changed)),
-            }
-        }
+        Err(error) if error.kind() == ErrorKind::AlreadyExists => match version_in(rt, path)? {
+            Some(version) => Ok(Some(version)),
+            None => Err(failed(Call::Link, Cause::Changed)),
+        },
         Err(error) => Err(refused(Call::Link, &error)),
     }
 }
@@ -241,12 +267,13 @@ pub(crate) fn make_file<R: Files>(
     path: &str,
     bytes: &[u8],
 ) -> Result<Option<Version>, FileFault> {
-    if let Some(version) = standing(rt, root, path)? {
+    let folder = make_folders(rt, root, path)?;
+    if let Some(version) = version_in(rt, path)? {
         return Ok(Some(version));
     }
-    make_folders(rt, root, path)?;
     let aside = write_aside(rt, alloc, root, bytes)?;
-    move_new(rt, root, aside.as_str(), path)
+    let linked = fs::hard_link(rt, aside.as_str(), path);
+    move_new(rt, aside.as_str(), path, &folder, linked)
 }
 
 /// Moves a file that lies aside over the one at a path, or removes it.

@@ -122,14 +122,20 @@ fn is_reached<R: Files>(rt: &R, root: &str, path: &str) -> Result<bool, FileFaul
     is_folder(rt, folder)
 }
 
-/// The plain file that lies at an object's path, if anything does.
-pub(crate) fn file_at<R: Files>(rt: &R, root: &str, path: &str) -> Result<Option<Seen>, FileFault> {
-    if !is_reached(rt, root, path)? {
-        return Ok(None);
-    }
+/// The plain file that lies at a path, if anything does.
+pub(crate) fn plain_at<R: Files>(rt: &R, path: &str) -> Result<Option<Seen>, FileFault> {
     match look(rt, path)? {
         Some(seen) if seen.kind != Kind::File => Err(failed(Call::Look, Cause::NotFile)),
         found => Ok(found),
+    }
+}
+
+/// The plain file that lies at an object's path, if anything does.
+pub(crate) fn file_at<R: Files>(rt: &R, root: &str, path: &str) -> Result<Option<Seen>, FileFault> {
+    if is_reached(rt, root, path)? {
+        plain_at(rt, path)
+    } else {
+        Ok(None)
     }
 }
 
