@@ -65,17 +65,26 @@ fn has_all(alloc: Global, held: &Held) -> Result<bool, AllocError> {
     Ok(true)
 }
 
+/// Whether each of the chunks is found, time and again.
+fn has_all_often(alloc: Global, held: &Held) -> Result<bool, AllocError> {
+    for _ in 0..ROUNDS {
+        if !has_all(alloc, held)? {
+            return Ok(false);
+        }
+    }
+    Ok(true)
+}
+
+/// The manifest of these chunks, held.
+fn held(alloc: Global) -> Option<Held> {
+    let file = file(alloc).ok()??;
+    hold(file).ok()
+}
+
 /// A chunk is found by halves: a walk over the chunks would make more than 100,000,000,000 turns here.
 #[test]
 fn many_entries(rt: HostRuntime) -> Result<(), Fail> {
-    let Some(file) = file(rt.alloc())? else {
-        panic!(rt; "no manifest");
-    };
-    let Ok(held) = hold(file) else {
-        panic!(rt; "not held");
-    };
-    for _ in 0..ROUNDS {
-        assert!(rt; has_all(rt.alloc(), &held)?);
-    }
+    let held = held(rt.alloc()).ok_or("no manifest")?;
+    assert!(rt; has_all_often(rt.alloc(), &held)?);
     Ok(())
 }

@@ -33,19 +33,22 @@ fn text(alloc: Global, number: u32) -> Result<String, AllocError> {
 }
 
 fn path(alloc: Global, number: u32) -> Option<Path> {
-    Path::read(alloc, text(alloc, number).ok()?.as_str()).ok()
+    let text = text(alloc, number).ok()?;
+    Path::read(alloc, text.as_str()).ok()
 }
 
 /// Whether the group with this number was added.
-fn adds_group(session: &mut Session, path: &Path) -> bool {
-    session.add_group(path, GROUP).is_ok()
+fn adds_group(alloc: Global, session: &mut Session, number: u32) -> bool {
+    match path(alloc, number) {
+        Some(path) => session.add_group(&path, GROUP).is_ok(),
+        None => false,
+    }
 }
 
 /// Whether groups with these numbers were added.
 fn adds_groups(alloc: Global, session: &mut Session, from: u32, to: u32) -> bool {
     for number in from..to {
-        let added = path(alloc, number).is_some_and(|path| adds_group(session, &path));
-        if !added {
+        if !adds_group(alloc, session, number) {
             return false;
         }
     }

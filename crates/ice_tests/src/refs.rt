@@ -11,7 +11,10 @@ use store_api::{Key, Refusal, Store, Why};
 
 /// The key of the branch `late`.
 fn late(alloc: Global) -> Option<Key> {
-    RefName::read(alloc, "late").ok().map(Key::Branch)
+    match RefName::read(alloc, "late") {
+        Ok(name) => Some(Key::Branch(name)),
+        Err(_) => None,
+    }
 }
 
 /// Whether a branch was put.

@@ -10,7 +10,7 @@ use zarr_path::Path;
 const GROUP: &[u8] = br#"{"zarr_format":3,"node_type":"group"}"#;
 
 /// A session to write on `main` of an empty repository, if it was opened.
-fn session(alloc: Global, ids: AnyIds) -> Option<Session> {
+fn with_ids(alloc: Global, ids: AnyIds) -> Option<Session> {
     let mut store = begun(alloc, None)?;
     opened(alloc, ids, &mut store)
 }
@@ -40,7 +40,7 @@ fn took_the_last(alloc: Global) -> Option<bool> {
     let ids = AnyIds::Count(CountIds::at(1, 4_294_967_294));
     let root = Path::read(alloc, "/").ok()?;
     let beneath = Path::read(alloc, "/a").ok()?;
-    let mut session = session(alloc, ids)?;
+    let mut session = with_ids(alloc, ids)?;
     let took = takes_one(&mut session, &root, &beneath);
     drop(session);
     Some(took)
