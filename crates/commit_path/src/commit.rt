@@ -90,7 +90,10 @@ fn write_log(alloc: Global, session: &Writer, id: Id12) -> Result<Bytes, Refusal
     let Ok(lists) = session.as_session().net() else {
         return Err(Refusal::NoMemory);
     };
-    match txn_file::write(alloc, &TxnFile { id, lists }) {
+    let log = TxnFile { id, lists };
+    let written = txn_file::write(alloc, &log);
+    drop(log);
+    match written {
         Ok(file) => Ok(Bytes::from_vec(file)),
         Err(fault) => Err(unwritten(Kind::Log, fault)),
     }
@@ -171,7 +174,11 @@ impl Machine for Commit {
             (Committing::Log { id, file: _ }, Reply::New(new)) => self.on_log(id, new),
             (Committing::Snapshot { id, file: _ }, Reply::New(new)) => self.on_snapshot(id, new),
             (Committing::Branch { id, file: _ }, Reply::Over(over)) => self.on_branch(id, over),
-            _ => Err(Refusal::StoreFault),
+            (state, reply) => {
+                drop(state);
+                drop(reply);
+                Err(Refusal::StoreFault)
+            }
         }
     }
 
@@ -182,7 +189,7 @@ impl Machine for Commit {
         ensures kept { IsDrawn (session_in self.old) (session_in self.new) }
         ensures message { message_in self.new ≡ message_in self.old }
     {
-        self.state = Committing::Ended;
+        drop(mem::replace(&mut self.state, Committing::Ended));
     }
 
     ghost may_starve = { tt };
@@ -202,7 +209,7 @@ impl Commit {
             return Err(Refusal::IdsSpent);
         };
         let file = write_log(self.alloc, &self.session, id)?;
-        self.state = Committing::Log { id, file };
+        self.state.follow(Committing::Log { id, file });
         Ok(())
     }
 
@@ -227,7 +234,7 @@ impl Commit {
             return Err(Refusal::IdsSpent);
         };
         let (manifest, file) = made(self.alloc, id, rank, array)?;
-        self.state = Committing::New { manifest, file };
+        self.state.follow(Committing::New { manifest, file });
         Ok(())
     }
 
@@ -280,7 +287,7 @@ impl Commit {
             let Ok(manifest) = manifests[got.len()].copy(self.alloc) else {
                 return Err(Refusal::NoMemory);
             };
-            self.state = Committing::Old { manifest, got };
+            self.state.follow(Committing::Old { manifest, got });
             return Ok(true);
         }
         self.write_array(&got)
@@ -466,7 +473,11 @@ impl Commit {
         };
         match commit.go_on() {
             Ok(()) => Ok(commit),
-            Err(why) => Err((commit.session.into_session(), why)),
+            Err(why) => {
+                let (session, message) = commit.into_parts();
+                drop(message);
+                Err((session, why))
+            }
         }
     }
 
@@ -475,7 +486,16 @@ impl Commit {
         ensures session { result.0 ≡ session_in self }
         ensures message { result.1 ≡ message_in self }
     {
-        (self.session.into_session(), self.message)
+        let Commit {
+            session,
+            message,
+            arrays,
+            state,
+            ..
+        } = self;
+        drop(arrays);
+        drop(state);
+        (session.into_session(), message)
     }
 
     /// One operation of the store.

@@ -5,6 +5,7 @@ use held_manifest::Held;
 use ice_base::Bytes;
 use ice_ids::Id12;
 use snapshot_file::{Extents, ManifestRef};
+use std::mem;
 
 /// Manifests that were got, each with its extents in the list.
 pub type Got = Vec<(Extents, Held)>;
@@ -24,4 +25,19 @@ pub enum Committing {
     Branch { id: Id12, file: Bytes },
     /// The machine has ended.
     Ended,
+}
+
+impl Committing {
+    ghost use Rattle.std.specs.Prelude.{◌≡◌};
+
+    /// The operation that comes next, where none did.
+    pub(crate) fn follow(&mut self, next: Committing)
+        requires { self.old ≡ Committing.Ended }
+        ensures { self.new ≡ next }
+    {
+        match mem::replace(self, next) {
+            Committing::Ended => {}
+            _ => unreachable!(),
+        }
+    }
 }

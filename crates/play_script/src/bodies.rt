@@ -6,7 +6,7 @@ ghost use Rattle.play_script.specs.Places.{access_takes, head_takes, is_commit, 
 
 use crate::faults::{ScriptKind, both, only_if};
 use crate::forms::form_in;
-use crate::scripts::{Access, Call, Class, Head, Line, Lines, Script, Task, Tasks};
+use crate::scripts::{Access, Call, Class, Head, Line, Script, Task, Tasks};
 use std::alloc::{AllocError, Global};
 
 fn access_takes(access: &Access, class: Class) -> bool
@@ -56,20 +56,14 @@ pub fn is_open(script: &Script) -> bool
 fn with_more(task: Task, more: Line) -> Result<Task, AllocError>
     ensures { IfOk result (λ t. t ≡ record task { body = task.body ++ more ∷ [] }) }
 {
-    let Task {
-        name,
-        line,
-        head,
-        body,
-    } = task;
-    let mut body = body.into_vec();
-    body.push(more)?;
-    Ok(Task {
-        name,
-        line,
-        head,
-        body: Lines::from_vec(body),
-    })
+    let mut task = task;
+    match task.body.push(more) {
+        Ok(()) => Ok(task),
+        Err(error) => {
+            drop(task);
+            Err(error)
+        }
+    }
 }
 
 /// The tasks with one more line in the last one.
@@ -85,7 +79,10 @@ fn onto_last(tasks: Vec<Task>, more: Line) -> Result<Vec<Task>, AllocError>
             tasks.push(task)?;
             Ok(tasks)
         }
-        None => Ok(tasks),
+        None => {
+            drop(more);
+            Ok(tasks)
+        }
     }
 }
 
@@ -121,6 +118,9 @@ pub fn body_line(
             let script = with_line(script, number, call)?;
             Ok(Ok(script))
         }
-        Err(kind) => Ok(Err(kind)),
+        Err(kind) => {
+            drop(script);
+            Ok(Err(kind))
+        }
     }
 }

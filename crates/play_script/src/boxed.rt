@@ -7,9 +7,17 @@ use std::marker::Model;
 use std::ops::Deref;
 
 /// A value in memory of its own, so that what holds it stays small. Contracts see the value itself.
-#[derive(Debug, Drop)]
+#[derive(Debug)]
 pub struct Boxed<T> {
     place: Box<T>,
+}
+
+// Written out, so that what holds a value lets go of it by one call.
+impl<T: Drop> Drop for Boxed<T> {
+    fn drop(self) {
+        let Boxed { place } = self;
+        drop(place);
+    }
 }
 
 impl<T> Model for Boxed<T> {

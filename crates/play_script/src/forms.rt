@@ -4,7 +4,8 @@ ghost use Rattle.std.specs.Prelude.{◌≡◌, IfOk, Ok};
 ghost use Rattle.play_script.specs.Words.{seen};
 ghost use Rattle.play_script.specs.declared.scripts.Call.TheVariants as Call;
 ghost use Rattle.play_script.specs.declared.scripts.Class.TheVariants as Class;
-ghost use Rattle.play_script.specs.Values.{text_of};
+ghost use Rattle.play_script.specs.Parts.{◌&◌};
+ghost use Rattle.play_script.specs.Values.{text_of, path_of, index_of, bytes_of};
 ghost use Rattle.play_script.specs.Forms.{taken, lone_path, path_and_text, array_of, path_and_array, path_and_index, chunk_and_bytes, chunk_and_byte, lone_key, key_and_bytes, node_edit_of, chunk_edit_of, key_edit_of, edit_of, read_of, commit_of, ref_of, form, form_of};
 
 use crate::arrays::array_text;
@@ -19,12 +20,46 @@ use std::alloc::{AllocError, Global};
 use zarr_path::{Index, Path};
 
 /// A body line by its first word.
-#[derive(Debug, Drop)]
+#[derive(Drop)]
 pub struct Form {
     /// Its class.
     pub class: Class,
     /// What it calls, or what is wrong with its words.
     pub call: Result<Call, ScriptKind>,
+}
+
+/// The path that a word is, in memory of its own.
+fn boxed_path(alloc: Global, word: &str) -> Result<Result<Boxed<Path>, ScriptKind>, AllocError>
+    ensures { IfOk result (λ r. r ≡ path_of word.now) }
+{
+    boxed(alloc, path_in(alloc, word)?)
+}
+
+/// The bytes that a word stands for, in memory of their own.
+fn boxed_bytes(alloc: Global, word: &str) -> Result<Result<Boxed<Bytes>, ScriptKind>, AllocError>
+    ensures { IfOk result (λ r. r ≡ bytes_of word.now) }
+{
+    boxed(alloc, bytes_in(alloc, word)?)
+}
+
+/// The index that a word lists, in memory of its own.
+fn boxed_index(alloc: Global, word: &str) -> Result<Result<Boxed<Index>, ScriptKind>, AllocError>
+    ensures { IfOk result (λ r. r ≡ index_of word.now) }
+{
+    boxed(alloc, index_in(alloc, word)?)
+}
+
+/// The place of a chunk, by two words.
+fn chunk_in(
+    alloc: Global,
+    path: &str,
+    index: &str,
+) -> Result<Result<(Boxed<Path>, Boxed<Index>), ScriptKind>, AllocError>
+    ensures { IfOk result (λ r. r ≡ (path_of path.now & index_of index.now)) }
+{
+    let path = boxed_path(alloc, path)?;
+    let index = boxed_index(alloc, index)?;
+    Ok(both(path, index))
 }
 
 /// The one path that is left of a line.
@@ -59,7 +94,7 @@ fn path_and_text(
     let Some((path, rest)) = next(rest) else {
         return Ok(Err(ScriptKind::Word));
     };
-    let path = boxed(alloc, path_in(alloc, path)?)?;
+    let path = boxed_path(alloc, path)?;
     let text = boxed(alloc, rest_text(alloc, rest)?)?;
     Ok(both(path, text))
 }
@@ -95,7 +130,7 @@ fn path_and_array(
     let Some((path, data_type, shape, chunks, fill)) = five(rest) else {
         return Ok(Err(ScriptKind::Word));
     };
-    let path = boxed(alloc, path_in(alloc, path)?)?;
+    let path = boxed_path(alloc, path)?;
     let text = boxed(alloc, array_in(alloc, data_type, shape, chunks, fill)?)?;
     Ok(both(path, text))
 }
@@ -108,12 +143,10 @@ fn path_and_index(
 ) -> Result<Result<(Boxed<Path>, Boxed<Index>), ScriptKind>, AllocError>
     ensures { IfOk result (λ r. r ≡ path_and_index (seen rest.entry)) }
 {
-    let Some((path, index)) = two(rest) else {
-        return Ok(Err(ScriptKind::Word));
-    };
-    let path = boxed(alloc, path_in(alloc, path)?)?;
-    let index = boxed(alloc, index_in(alloc, index)?)?;
-    Ok(both(path, index))
+    match two(rest) {
+        Some((path, index)) => chunk_in(alloc, path, index),
+        None => Ok(Err(ScriptKind::Word)),
+    }
 }
 
 /// A path, the index of a chunk, and bytes.
@@ -127,10 +160,9 @@ fn chunk_and_bytes(
     let Some((path, index, bytes)) = three(rest) else {
         return Ok(Err(ScriptKind::Word));
     };
-    let path = boxed(alloc, path_in(alloc, path)?)?;
-    let index = boxed(alloc, index_in(alloc, index)?)?;
-    let bytes = boxed(alloc, bytes_in(alloc, bytes)?)?;
-    Ok(both(both(path, index), bytes))
+    let chunk = chunk_in(alloc, path, index)?;
+    let bytes = boxed_bytes(alloc, bytes)?;
+    Ok(both(chunk, bytes))
 }
 
 /// A path, the index of a chunk, and one byte.
@@ -144,9 +176,8 @@ fn chunk_and_byte(
     let Some((path, index, byte)) = three(rest) else {
         return Ok(Err(ScriptKind::Word));
     };
-    let path = boxed(alloc, path_in(alloc, path)?)?;
-    let index = boxed(alloc, index_in(alloc, index)?)?;
-    Ok(both(both(path, index), byte_in(byte)))
+    let chunk = chunk_in(alloc, path, index)?;
+    Ok(both(chunk, byte_in(byte)))
 }
 
 /// The one key that is left of a line.
@@ -172,7 +203,7 @@ fn key_and_bytes(
         return Ok(Err(ScriptKind::Word));
     };
     let key = Boxed::new(alloc, text_in(alloc, key)?)?;
-    match boxed(alloc, bytes_in(alloc, bytes)?)? {
+    match boxed_bytes(alloc, bytes)? {
         Ok(bytes) => Ok(Ok((key, bytes))),
         Err(kind) => Ok(Err(kind)),
     }

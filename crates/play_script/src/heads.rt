@@ -7,7 +7,7 @@ ghost use Rattle.play_script.specs.Places.{most_tasks, is_passed, ends_task, has
 use crate::bodies::is_open;
 use crate::faults::{ScriptKind, both, only_if};
 use crate::openings::head_in;
-use crate::scripts::{Head, Lines, Script, Task, Tasks};
+use crate::scripts::{Head, Lines, Script, Task};
 use crate::values::{TaskName, task_name_in};
 use crate::words::{cut_line, first_word, next};
 use std::alloc::{AllocError, Global};
@@ -65,18 +65,20 @@ fn with_task(
     ensures value { IfOk result (λ s. s ≡ with_task script line name head) }
     ensures few { IfOk result (λ s. length s.tasks ≡ length script.tasks + 1) }
 {
-    let Script { tasks, turns } = script;
-    let mut tasks = tasks.into_vec();
-    tasks.push(Task {
+    let mut script = script;
+    let task = Task {
         name,
         line,
         head,
-        body: Lines::from_vec(Vec::new(alloc)),
-    })?;
-    Ok(Script {
-        tasks: Tasks::from_vec(tasks),
-        turns,
-    })
+        body: Lines::new(alloc),
+    };
+    match script.tasks.push(task) {
+        Ok(()) => Ok(script),
+        Err(error) => {
+            drop(script);
+            Err(error)
+        }
+    }
 }
 
 /// Whether a head stands at its place: before the turns, and with a line behind it where it is that of refs.
@@ -131,7 +133,10 @@ fn task_line(
             let script = with_task(alloc, script, number, name, head)?;
             Ok(Ok(script))
         }
-        Err(kind) => Ok(Err(kind)),
+        Err(kind) => {
+            drop(script);
+            Ok(Err(kind))
+        }
     }
 }
 

@@ -26,6 +26,6 @@ returns-in-Ok-go_on-clause-starts c =
 pub returns-in-Err-clause-starts : goal.returns-in-Err-clause-starts
 returns-in-Err-clause-starts c =
     let r = c.in-Err.ensures.reaches in (
-      subst (λ (x : SessionState). IsDrawn x c.into_session.result) c.new-session.ensures (subst (IsDrawn c.new-session.result) (sym c.into_session.ensures) c.in-Err.ensures.kept),
+      subst (λ (x : SessionState). IsDrawn x c.into_parts-session.result.0) c.new-session.ensures (subst (IsDrawn c.new-session.result) (sym c.into_parts-session.ensures.session) c.in-Err.ensures.kept),
       λ n. begins c.args.session c.new-session.result c.args.message c.new.result c.in-Ok.arrays c.new-session.ensures (sym c.writes.ensures ∙ c.if-not-writes.false) (sym c.is_unchanged.ensures ∙ c.if-is_unchanged.false) c.new.ensures.news c.new.ensures.left c.in-Ok.ensures ∙ r.1 n,
     )

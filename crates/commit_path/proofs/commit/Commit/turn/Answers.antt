@@ -13,7 +13,7 @@ pub returns-then-len-manifests-clause-turns : goal.returns-then-len-manifests-cl
 returns-then-len-manifests-clause-turns c =
     let s = c.args.self.now in
     let own = c.manifests-manifests.ensures ∙ ap (λ (x : SessionState). own_manifests x.rows c.in-Some.array.now.path c.in-Some.array.now.node) c.as_session-session.ensures in
-    (turn-more s.session s.message (written_in s) s.arrays.left c.in-Some.array.now c.args.got.items c.manifests-manifests.result.now c.len-then-len-manifests.result c.in-Ok.manifest c.in-Some.ensures own (omega (arith, c.args.got.ok.0)) (omega arith) (subst (λ (x : ManifestRef). x ≡ slice_index_or c.manifests-manifests.result.now c.len-then-len-manifests.result x) (sym c.in-Ok.ensures) c.index-manifests-len.is), tt)
+    rw c.follow.ensures (turn-more s.session s.message (written_in s) s.arrays.left c.in-Some.array.now c.args.got.items c.manifests-manifests.result.now c.len-then-len-manifests.result c.in-Ok.manifest c.in-Some.ensures own (omega (arith, c.args.got.ok.0)) (omega arith) (subst (λ (x : ManifestRef). x ≡ slice_index_or c.manifests-manifests.result.now c.len-then-len-manifests.result x) (sym c.in-Ok.ensures) c.index-manifests-len.is), tt)
 
 pub returns-clause-turns : goal.returns-clause-turns
 returns-clause-turns c =
