@@ -95,7 +95,7 @@ impl Machine for Rebase {
         ensures kept { Unit {0} }
         ensures session { rebase_session self.new ≡ rebase_session self.old }
     {
-        self.state = Rebasing::Ended;
+        drop(mem::replace(&mut self.state, Rebasing::Ended));
     }
 
     ghost may_starve = { tt };
@@ -128,7 +128,8 @@ impl Rebase {
         requires { IsSome (rebase_session self) }
         ensures { rebase_session self ≡ Some result }
     {
-        let Rebase { session, .. } = self;
+        let Rebase { session, state, .. } = self;
+        drop(state);
         match session {
             Some(writer) => writer.into_session(),
             None => unreachable!(),
@@ -224,7 +225,10 @@ impl Rebase {
     {
         match snapshot_told(self.alloc, walk.next, reply) {
             Ok(loaded) => self.on_loaded(walk, loaded),
-            Err(why) => Err(why),
+            Err(why) => {
+                drop(walk);
+                Err(why)
+            }
         }
     }
 
@@ -240,9 +244,10 @@ impl Rebase {
         ensures listed { IfErr result MayRefuseRebase }
     {
         let Some(parent) = loaded.file().parent else {
-            return Err(Refusal::NotAncestor {
-                head: walk.named.id,
-            });
+            let head = walk.named.id;
+            drop(walk);
+            drop(loaded);
+            return Err(Refusal::NotAncestor { head });
         };
         if parent == self.session().base() {
             self.state
@@ -250,9 +255,11 @@ impl Rebase {
             return Ok(Next::Again);
         }
         let Ok(()) = walk.above.push(loaded) else {
+            drop(walk);
             return Err(Refusal::NoMemory);
         };
         if walk.above.len() == MOST_SNAPSHOTS as usize {
+            drop(walk);
             return Err(Refusal::TooDeep);
         }
         walk.next = parent;
@@ -272,8 +279,15 @@ impl Rebase {
         ordered_law();
         touched_law();
         match log_told(self.alloc, solving.oldest.file().id, reply) {
-            Ok(log) => self.on_lists(solving, &log.lists),
-            Err(why) => Err(why),
+            Ok(log) => {
+                let answer = self.on_lists(solving, &log.lists);
+                drop(log);
+                answer
+            }
+            Err(why) => {
+                drop(solving);
+                Err(why)
+            }
         }
     }
 
@@ -300,19 +314,27 @@ impl Rebase {
             lists,
         ) {
             Ok(out) => out,
-            Err(why) => return Err(why),
+            Err(why) => {
+                drop(solving);
+                return Err(why);
+            }
         };
         let Solving {
             named,
             oldest,
             later,
-            before: _,
+            before,
             held,
             count,
         } = solving;
+        drop(before);
         let Ok(held) = without(self.alloc, session.changes(), held, out.as_slice()) else {
+            drop(oldest);
+            drop(later);
+            drop(out);
             return Err(Refusal::NoMemory);
         };
+        drop(out);
         self.on_solved(named, oldest, later, held, count)
     }
 
@@ -365,6 +387,8 @@ impl Rebase {
         ensures listed { IfErr result MayRefuseRebase }
     {
         if is_too_full(held_of(self.session(), &held), &head) {
+            drop(head);
+            drop(held);
             return Err(Refusal::Full);
         }
         let Some(writer) = self.session.take() else {
