@@ -23,6 +23,22 @@ fn read_told(alloc: Global, read: Result<Bytes, InputFault>) -> Result<String, N
     }
 }
 
+/// A read of a source, up to a bound.
+fn bounded_told(alloc: Global, source: &mut ByteSource, bound: &str) -> Result<String, NoAnswer> {
+    let most = number_of(bound)? as usize;
+    read_told(alloc, read_input(alloc, source, most))
+}
+
+/// Reads of a source, up to each of some bounds.
+fn reads_told(alloc: Global, source: &mut ByteSource, bounds: &str) -> Result<String, NoAnswer> {
+    let mut told = String::from_str(alloc, "read")?;
+    for bound in bounds.split(',') {
+        told.push(' ')?;
+        told.push_str(bounded_told(alloc, source, bound)?.as_str())?;
+    }
+    Ok(told)
+}
+
 /// The numbers of the calls that fail, and what stands behind them.
 fn planned_of(alloc: Global, text: &str) -> Result<(Vec<u64>, &str), NoAnswer> {
     let (faults, rest) = first_word(text);
@@ -34,13 +50,7 @@ pub fn tell_input(alloc: Global, text: &str) -> Result<String, NoAnswer> {
     let (bounds, rest) = first_word(text);
     let (faults, bytes) = planned_of(alloc, rest)?;
     let mut source = ByteSource::new(bytes.as_bytes().to_vec(alloc)?, faults);
-    let mut told = String::from_str(alloc, "read")?;
-    for bound in bounds.split(',') {
-        let read = read_input(alloc, &mut source, number_of(bound)? as usize);
-        told.push(' ')?;
-        told.push_str(read_told(alloc, read)?.as_str())?;
-    }
-    Ok(told)
+    reads_told(alloc, &mut source, bounds)
 }
 
 /// Writes texts with commas between them, and appends what each comes to.

@@ -38,8 +38,7 @@ fn shows_of(alloc: Global, words: &str) -> Result<Shows, NoAnswer> {
 fn refused_of(alloc: Global, words: &str) -> Result<End, NoAnswer> {
     let (line, rest) = first_word(words);
     let line = small_number_of(line)?;
-    let why = refusal_of(alloc, rest)?;
-    Ok(End::Refused { line, why })
+    refusal_of(alloc, rest).map(|why| End::Refused { line, why })
 }
 
 /// How a task ended.
@@ -106,14 +105,14 @@ fn opening_of(alloc: Global, words: &str) -> Result<Result<(), Refusal>, NoAnswe
     if words == "-" {
         return Ok(Ok(()));
     }
-    Ok(Err(refusal_of(alloc, words)?))
+    refusal_of(alloc, words).map(Err)
 }
 
 /// What came of the closing reading.
 fn refs_of(alloc: Global, words: &str) -> Result<Result<RefLines, Refusal>, NoAnswer> {
     match words.strip_prefix('!') {
-        Some(words) => Ok(Err(refusal_of(alloc, words)?)),
-        None => Ok(Ok(lines_of(alloc, words)?)),
+        Some(words) => refusal_of(alloc, words).map(Err),
+        None => lines_of(alloc, words).map(Ok),
     }
 }
 
