@@ -8,9 +8,7 @@ use command_words::Word;
 use dir_store::{DirStore, OpenFault, Opened, open};
 use ice_ids::Draw;
 use moments::WallClock;
-use std::fs::File;
 use std::process::ExitCode;
-use std::rt::{Clock, Files};
 use std::sync::Wait;
 use std::thread::Threads;
 use top_call::{Status, end};
@@ -33,30 +31,21 @@ fn tell_loss<R: Eprint>(rt: &R, main_is_lost: bool) {
 }
 
 /// Says on standard error which call on files failed first, if one did.
-fn tell_fault<R: Eprint, F: Files + AllocGlobal + Clone + Drop, C: ice_base::Clock>(
-    rt: &R,
-    store: &DirStore<F, C>,
-) {
+fn tell_fault<R: Eprint>(rt: &R, store: &DirStore<HostRuntime, WallClock<HostRuntime>>) {
     if let Some(first) = store.first_fault() {
         let _ = eprintln!(rt; "icerepo: {first}");
     }
 }
 
+/// A directory of the system that is opened.
+type Directory = Opened<HostRuntime, WallClock<HostRuntime>>;
+
 /// Does what the words say over an opened directory.
-fn over_opened<
-    R: Input
-        + Print
-        + Eprint
-        + AllocGlobal
-        + Files<File = File>
-        + Clock
-        + Threads
-        + Wait
-        + Send
-        + Sync
-        + Copy
-        + Drop,
->(rt: &R, words: &[Word], opened: Opened<R, WallClock<R>>) -> ExitCode {
+fn over_opened<R: Input + Print + Eprint + AllocGlobal + Threads + Wait + Sync + Copy + Drop>(
+    rt: &R,
+    words: &[Word],
+    opened: Directory,
+) -> ExitCode {
     let Opened {
         claim: _claim,
         store,
@@ -69,22 +58,14 @@ fn over_opened<
     end(rt, &ended.status)
 }
 
-/// Does what the words say over the directory at this path.
-pub fn in_directory<
-    R: Input
-        + Print
-        + Eprint
-        + AllocGlobal
-        + Files<File = File>
-        + Clock
-        + Threads
-        + Wait
-        + Send
-        + Sync
-        + Copy
-        + Drop,
->(rt: &R, words: &[Word], path: &str) -> ExitCode {
-    match open(*rt, path, WallClock::new(*rt)) {
+/// Does what the words say over the directory of the system at this path.
+pub fn in_directory<R: Input + Print + Eprint + AllocGlobal + Threads + Wait + Sync + Copy + Drop>(
+    rt: &R,
+    system: HostRuntime,
+    words: &[Word],
+    path: &str,
+) -> ExitCode {
+    match open(system, path, WallClock::new(system)) {
         Ok(opened) => over_opened(rt, words, opened),
         Err(OpenFault::NoMemory) => end(rt, &Status::NoMemory),
         Err(fault) => end_without_store(rt, path, fault),

@@ -21,7 +21,7 @@ fn main(rt: HostRuntime) -> ExitCode {
     match place_of(rt.alloc(), &words) {
         Ok(Place::Memory) => in_memory(&rt, &words),
         Ok(Place::Dir(path)) => match keep_numbers(&rt) {
-            Ok(_kept) => in_directory(&rt, &words, path),
+            Ok(_kept) => in_directory(&rt, rt, &words, path),
             Err(status) => end(&rt, &status),
         },
         Err(_) => end(&rt, &Status::NoMemory),

@@ -1,6 +1,6 @@
 use Rattle.store_api.specs.Journal.{Each}
 use Rattle.ice_cli.proofs.running.in_memory.Goals as goal
 
-pub run_over-requires-clause-good : goal.run_over-requires-clause-good
+pub run_over-ended-requires-clause-good : goal.run_over-ended-requires-clause-good
 unfolding Each
-run_over-requires-clause-good g c κs = rw c.new-store.ensures.journal (λ lives tells. tt)
+run_over-ended-requires-clause-good g c κs = rw c.new-store.ensures.journal (λ lives tells. tt)
