@@ -9,7 +9,7 @@ use repo_read::At;
 use zarr_path::{Index, Path};
 
 /// What a line calls that changes the tree of its task's session.
-#[derive(Debug, Drop)]
+#[derive(Drop)]
 pub enum EditCall {
     /// Adds a group.
     Group {
@@ -82,7 +82,7 @@ pub enum EditCall {
 }
 
 /// What a line calls that shows something and changes nothing.
-#[derive(Debug, Drop)]
+#[derive(Drop)]
 pub enum ReadCall {
     /// Lists the nodes strictly beneath a path.
     List {
@@ -109,7 +109,7 @@ pub enum ReadCall {
 }
 
 /// What a line calls that makes, moves or drops a ref, or reads a log. It needs no session.
-#[derive(Debug, Drop)]
+#[derive(Drop)]
 pub enum RefCall {
     /// Makes a branch.
     Branch {
@@ -150,7 +150,7 @@ pub enum RefCall {
 }
 
 /// What a body line calls.
-#[derive(Debug, Drop)]
+#[derive(Drop)]
 pub enum Call {
     /// A change of the session's tree.
     Edit(EditCall),
@@ -179,7 +179,7 @@ pub enum Class {
 }
 
 /// A body line.
-#[derive(Debug, Drop)]
+#[derive(Drop)]
 pub struct Line {
     /// Its number in the script, from 1.
     pub number: u32,
@@ -191,7 +191,7 @@ pub struct Line {
 pub type Lines = Items<Line>;
 
 /// What a task opens a session for.
-#[derive(Debug, Drop)]
+#[derive(Drop)]
 pub enum Access {
     /// To edit a branch, and to commit on it.
     Write {
@@ -210,7 +210,7 @@ pub enum Access {
 }
 
 /// How a task begins.
-#[derive(Debug, Drop)]
+#[derive(Drop)]
 pub enum Head {
     /// The task opens a session.
     Session(Access),
@@ -219,7 +219,7 @@ pub enum Head {
 }
 
 /// What one client does.
-#[derive(Debug, Drop)]
+#[derive(Drop)]
 pub struct Task {
     /// Its name, which no other task of the script has.
     pub name: TaskName,
@@ -247,7 +247,7 @@ pub struct Turn {
 pub type Turns = Items<Turn>;
 
 /// Tasks, and the turns that they take where the script names them.
-#[derive(Debug, Drop)]
+#[derive(Drop)]
 pub struct Script {
     /// The tasks.
     pub tasks: Tasks,

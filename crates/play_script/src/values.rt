@@ -18,7 +18,7 @@ use std::marker::Model;
 use zarr_path::{Index, Path, PathFault};
 
 /// The name of a task: 1 to 16 bytes of `a` to `z`, `0` to `9` and `_`. Contracts see it as the bytes of its text.
-#[derive(Debug, Drop)]
+#[derive(Drop)]
 pub struct TaskName {
     text: String,
 }
