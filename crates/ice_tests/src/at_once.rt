@@ -86,7 +86,14 @@ fn two_workers_meet(rt: HostRuntime) -> Result<(), Fail> {
         met: AtomicU64::new(0),
     };
     let script = "task a write main 0 fail\ngroup /\ntask b write main 0 fail\ngroup /\n";
-    let (report, _) = ran(&rt, alloc, script, Draw::Count, Untold::new(alloc, None), &gate)?;
+    let (report, _) = ran(
+        &rt,
+        alloc,
+        script,
+        Draw::Count,
+        Untold::new(alloc, None),
+        &gate,
+    )?;
     assert_eq!(rt; gate.met.load(Ordering::SeqCst), 2);
     assert_eq!(rt;
         report.as_str(),
@@ -176,7 +183,14 @@ fn commits(alloc: Global, tasks: u32) -> Result<String, Fail> {
 fn sixty_four_commit_at_once(rt: HostRuntime) -> Result<(), Fail> {
     let alloc = rt.alloc();
     let root = "task a write main 0 fail\ngroup /\ncommit root\n";
-    let (_, begun) = ran(&rt, alloc, root, Draw::Count, Untold::new(alloc, None), &OpenGate)?;
+    let (_, begun) = ran(
+        &rt,
+        alloc,
+        root,
+        Draw::Count,
+        Untold::new(alloc, None),
+        &OpenGate,
+    )?;
     let script = commits(alloc, 64)?;
     let draw = Draw::Stream([7; 32]);
     let (report, ended) = ran(&rt, alloc, &script, draw, begun.store, &OpenGate)?;
