@@ -194,7 +194,8 @@ fn sixty_four_commit_at_once(rt: HostRuntime) -> Result<(), Fail> {
     let script = commits(alloc, 64)?;
     let draw = Draw::Stream([7; 32]);
     let (report, ended) = ran(&rt, alloc, &script, draw, begun.store, &OpenGate)?;
-    let mut memory = ended.store.memory;
+    let Ended { store, .. } = ended;
+    let mut memory = store.into_memory();
     let entries = entries(alloc, &memory)?;
     let committed = report.matches(" committed ").count();
     let refused = report.matches(" refused ").count();

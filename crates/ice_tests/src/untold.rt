@@ -32,6 +32,11 @@ impl Untold {
             late,
         }
     }
+
+    /// The store beneath, which tells its journal.
+    pub fn into_memory(self) -> MemStore<TickClock> {
+        self.memory
+    }
 }
 
 impl Store for Untold {
