@@ -8,7 +8,7 @@ use mem_store::{EventRef, MemStore, ReplyRef};
 use play_at_once::{Gate, OpenGate};
 use ref_file::ref_read;
 use snapshot_file::SnapshotFile;
-use std::alloc::Global;
+use std::alloc::{AllocError, Global};
 use std::hint::spin_loop;
 use std::sync::Wait;
 use std::sync::atomic::{AtomicU64, Ordering};
@@ -160,11 +160,64 @@ fn snapshot_at(
 /// Whether the nodes of a snapshot stand at exactly these paths.
 fn has_paths(snapshot: &SnapshotFile, paths: &[String]) -> bool {
     let nodes = snapshot.nodes.as_slice();
-    nodes.len() == paths.len()
-        && nodes
-            .iter()
-            .zip(paths.iter())
-            .all(|(node, path)| node.path.as_str() == path.as_str())
+    if nodes.len() != paths.len() {
+        return false;
+    }
+    for (node, path) in nodes.iter().zip(paths.iter()) {
+        if node.path.as_str() != path.as_str() {
+            return false;
+        }
+    }
+    true
+}
+
+/// Whether a commit was put over the one before it, if there is one, which is its snapshot's parent.
+fn follows(snapshot: &SnapshotFile, entry: &Entry, last: Option<&Entry>) -> bool {
+    match last {
+        Some(last) => entry.old == last.version && snapshot.parent == Some(last.snapshot),
+        None => true,
+    }
+}
+
+/// Whether a commit follows on the one before it, and its tree has exactly these paths.
+fn is_in_line(
+    alloc: Global,
+    memory: &mut MemStore<TickClock>,
+    entry: &Entry,
+    last: Option<&Entry>,
+    paths: &[String],
+) -> Result<bool, Fail> {
+    let snapshot = snapshot_at(alloc, memory, entry.snapshot)?;
+    let is = follows(&snapshot, entry, last) && has_paths(&snapshot, paths);
+    drop(snapshot);
+    Ok(is)
+}
+
+/// Adds the path of the group that a task of this client adds, in order.
+fn add_path(alloc: Global, paths: &mut Vec<String>, client: u32) -> Result<(), AllocError> {
+    paths.push(format!(in alloc; "/{client}")?)?;
+    paths.sort()
+}
+
+/// Whether each commit follows on the one before it, and adds its task's group to that one's tree. The first one, of the root
+/// alone, isn't of these tasks.
+fn are_one_list(
+    alloc: Global,
+    memory: &mut MemStore<TickClock>,
+    entries: &[Entry],
+) -> Result<bool, Fail> {
+    let mut paths = vec![in alloc; String::from_str(alloc, "/")?]?;
+    let mut last: Option<&Entry> = None;
+    for entry in entries {
+        if last.is_some() {
+            add_path(alloc, &mut paths, entry.client)?;
+        }
+        if !is_in_line(alloc, memory, entry, last, paths.as_slice())? {
+            return Ok(false);
+        }
+        last = Some(entry);
+    }
+    Ok(true)
 }
 
 /// A script of so many tasks, each of which adds a group that bears its number, and commits.
@@ -177,46 +230,42 @@ fn commits(alloc: Global, tasks: u32) -> Result<String, Fail> {
     Ok(script)
 }
 
-/// Each commit was put over the one before it, which is its snapshot's parent, and adds its task's group to that one's tree.
-/// The first one, of the root alone, isn't of these tasks.
+/// A store on which the root was committed.
+fn with_root<R: Threads + Wait + Sync>(rt: &R, alloc: Global) -> Result<Untold, Fail> {
+    let root = "task a write main 0 fail\ngroup /\ncommit root\n";
+    let store = Untold::new(alloc, None);
+    let (report, ended) = ran(rt, alloc, root, Draw::Count, store, &OpenGate)?;
+    drop(report);
+    Ok(ended.store)
+}
+
+/// How many tasks committed, as their report tells, where each of so many was committed or refused.
+fn committed_in(report: &str, tasks: usize) -> Option<usize> {
+    let committed = report.matches(" committed ").count();
+    let refused = report.matches(" refused ").count();
+    (committed.checked_add(refused) == Some(tasks)).then_some(committed)
+}
+
+/// Whether the journal behind the root's commit has so many commits, in one list.
+fn has_one_list(alloc: Global, store: Untold, committed: usize) -> Result<bool, Fail> {
+    let mut memory = store.into_memory();
+    let entries = entries(alloc, &memory)?;
+    let is = entries.len().checked_sub(1) == Some(committed)
+        && are_one_list(alloc, &mut memory, &entries)?;
+    drop(memory);
+    Ok(is)
+}
+
+/// The journal has one list for the branch, as long as the report tells.
 #[test]
 fn sixty_four_commit_at_once(rt: HostRuntime) -> Result<(), Fail> {
     let alloc = rt.alloc();
-    let root = "task a write main 0 fail\ngroup /\ncommit root\n";
-    let (_, begun) = ran(
-        &rt,
-        alloc,
-        root,
-        Draw::Count,
-        Untold::new(alloc, None),
-        &OpenGate,
-    )?;
+    let store = with_root(&rt, alloc)?;
     let script = commits(alloc, 64)?;
     let draw = Draw::Stream([7; 32]);
-    let (report, ended) = ran(&rt, alloc, &script, draw, begun.store, &OpenGate)?;
-    let Ended { store, .. } = ended;
-    let mut memory = store.into_memory();
-    let entries = entries(alloc, &memory)?;
-    let committed = report.matches(" committed ").count();
-    let refused = report.matches(" refused ").count();
-    assert_eq!(rt; committed.checked_add(refused), Some(64));
-    assert_eq!(rt; entries.len(), 1 + committed);
-    let mut paths = vec![in alloc; String::from_str(alloc, "/")?]?;
-    let mut last: Option<Entry> = None;
-    for entry in entries.iter() {
-        let snapshot = snapshot_at(alloc, &mut memory, entry.snapshot)?;
-        if let Some(last) = last {
-            assert_eq!(rt; entry.old, last.version);
-            assert_eq!(rt; snapshot.parent, Some(last.snapshot));
-            paths.push(format!(in alloc; "/{}", entry.client)?)?;
-            paths.sort()?;
-        }
-        assert!(rt;
-            has_paths(&snapshot, paths.as_slice()),
-            "of {}",
-            entry.client
-        );
-        last = Some(*entry);
-    }
+    let (report, ended) = ran(&rt, alloc, &script, draw, store, &OpenGate)?;
+    let committed = committed_in(&report, 64);
+    assert!(rt; committed.is_some());
+    assert!(rt; has_one_list(alloc, ended.store, committed.unwrap_or(0))?);
     Ok(())
 }

@@ -309,17 +309,27 @@ fn work(
     })
 }
 
-#[test]
-fn each_failed_call_is_counted(rt: HostRuntime) -> Result<(), Fail> {
-    let keys = make_keys(rt)?;
+/// Breaks each call in turn, until none is left to break: the first whose failure isn't counted, if there is one.
+fn first_uncounted(rt: HostRuntime, keys: &Keys) -> Result<Option<u64>, Fail> {
     for broken in 1..MOST {
-        let came = work(rt, "failing_calls", &keys, broken, false)?;
-        assert!(rt; came.is_counted(), "{broken}");
+        let came = work(rt, "failing_calls", keys, broken, false)?;
+        if !came.is_counted() {
+            return Ok(Some(broken));
+        }
         if !came.broke {
-            return Ok(fs::remove_dir_all(&rt, "failing_calls")?);
+            return Ok(None);
         }
     }
     Err(Fail::new("too many calls"))
+}
+
+#[test]
+fn each_failed_call_is_counted(rt: HostRuntime) -> Result<(), Fail> {
+    let keys = make_keys(rt)?;
+    let uncounted = first_uncounted(rt, &keys);
+    drop(keys);
+    assert_eq!(rt; uncounted?, None);
+    Ok(fs::remove_dir_all(&rt, "failing_calls")?)
 }
 
 /// Whether these contents are among some, or, where that may be, there are none.
@@ -362,18 +372,28 @@ fn left_aside(rt: HostRuntime, path: &str) -> Result<usize, Fail> {
     Ok(fs::read_dir(&rt, path)?.count())
 }
 
-#[test]
-fn a_program_that_is_cut_off_leaves_whole_files(rt: HostRuntime) -> Result<(), Fail> {
-    let keys = make_keys(rt)?;
+/// Cuts a program off at each call in turn, until none is left: the first call behind which what is left isn't whole, or
+/// something is left aside, if there is one.
+fn first_broken(rt: HostRuntime, keys: &Keys) -> Result<Option<u64>, Fail> {
     for broken in 1..MOST {
-        let came = work(rt, "cut_off", &keys, broken, true)?;
-        assert!(rt; goes_on(rt, "cut_off", &keys)?, "{broken}");
-        assert!(rt; left_aside(rt, "cut_off/icerepo.new")? == 0, "{broken}");
+        let came = work(rt, "cut_off", keys, broken, true)?;
+        if !goes_on(rt, "cut_off", keys)? || left_aside(rt, "cut_off/icerepo.new")? > 0 {
+            return Ok(Some(broken));
+        }
         if !came.broke {
-            return Ok(fs::remove_dir_all(&rt, "cut_off")?);
+            return Ok(None);
         }
     }
     Err(Fail::new("too many calls"))
+}
+
+#[test]
+fn a_program_that_is_cut_off_leaves_whole_files(rt: HostRuntime) -> Result<(), Fail> {
+    let keys = make_keys(rt)?;
+    let broken = first_broken(rt, &keys);
+    drop(keys);
+    assert_eq!(rt; broken?, None);
+    Ok(fs::remove_dir_all(&rt, "cut_off")?)
 }
 
 /// Leaves a thousand files and more where files are put aside, and one that was never put there.
@@ -392,13 +412,20 @@ fn put(rt: HostRuntime, path: &str, key: &Key) -> Result<(), Fail> {
     Ok(())
 }
 
+/// Whether a put is done beside leftovers, and what is there then can be gone on with.
+fn puts_beside_litter(rt: HostRuntime, keys: &Keys) -> Result<bool, Fail> {
+    begin(rt, "leftovers", keys)?;
+    litter(rt)?;
+    put(rt, "leftovers", &keys.other)?;
+    goes_on(rt, "leftovers", keys)
+}
+
 #[test]
 fn leftovers_never_stop_a_put(rt: HostRuntime) -> Result<(), Fail> {
     let keys = make_keys(rt)?;
-    begin(rt, "leftovers", &keys)?;
-    litter(rt)?;
-    put(rt, "leftovers", &keys.other)?;
-    assert!(rt; goes_on(rt, "leftovers", &keys)?);
+    let goes_on = puts_beside_litter(rt, &keys);
+    drop(keys);
+    assert!(rt; goes_on?);
     assert!(rt; left_aside(rt, "leftovers/icerepo.new")? == 1);
     Ok(fs::remove_dir_all(&rt, "leftovers")?)
 }
