@@ -32,6 +32,16 @@ contents() {
     find "$1" -type f ! -name icerepo.lock -exec sha256sum {} + | sort
 }
 
+# Waits until a program that was begun has claimed a directory, for some seconds at most.
+wait_for_claim() {
+    tries=0
+    while [ ! -e "$1/icerepo.lock" ] && [ "$tries" -lt 100 ]; do
+        sleep 0.05
+        tries=$((tries + 1))
+    done
+    sleep 0.2
+}
+
 # The smallest commit, twice: ids are drawn at random, and the second task finds the first one's group.
 printf 'task a write main 0 fail\ngroup /\ncommit first\n' >given
 mkdir d
@@ -79,12 +89,7 @@ mkdir claimed
 "$program" play --dir claimed <script >first 2>&1 &
 exec 3>script
 printf 'task a write main 0 fail\ngroup /\ncommit first\n' >given
-tries=0
-while [ ! -e claimed/icerepo.lock ] && [ "$tries" -lt 100 ]; do
-    sleep 0.05
-    tries=$((tries + 1))
-done
-sleep 0.2
+wait_for_claim claimed
 same 'a second program' 'icerepo: no store: "claimed": another program uses it|8|' "$(call play --dir claimed)"
 same 'it has done nothing' '' "$(contents claimed)"
 cat given >&3

@@ -156,12 +156,7 @@ rm odd/icerepo.lock
 "$program" play --dir odd <script >/dev/null 2>&1 &
 killed=$!
 exec 3>script
-tries=0
-while [ ! -e odd/icerepo.lock ] && [ "$tries" -lt 100 ]; do
-    sleep 0.05
-    tries=$((tries + 1))
-done
-sleep 0.2
+wait_for_claim odd
 same 'a program at work' 'icerepo: no store: "odd": another program uses it|8|' "$(call play --dir odd)"
 kill -9 "$killed"
 wait "$killed" 2>/dev/null
