@@ -213,4 +213,9 @@ if strace -o /dev/null true 2>/dev/null; then
     printf '' >given
     strace -f -o trace -e trace=openat,open "$program" play --dir d <given >/dev/null 2>&1
     same 'the directory is listed once' 1 "$(grep O_DIRECTORY trace | grep -c '"d/*"')"
+
+    # A run that commits lists the refs and what lies aside, and no folder of other objects, however many there are.
+    printf 'task a write main 0 fail\ngroup /beside\ncommit beside\n' >given
+    strace -f -o trace -e trace=openat,open "$program" play --dir d <given >/dev/null 2>&1
+    same 'what a commit lists' 'd/|d/icerepo.new/|d/refs/|' "$(sed -n 's/.*"\(d\/[^"]*\)".*O_DIRECTORY.*/\1/p' trace | sort -u | tr '\n' '|')"
 fi

@@ -46,8 +46,8 @@ use Rattle.changed_snapshot.proofs.Named.{rows_named}
 
 module _ {P : Type 0} where
   -- under any changes on nodes lists stay in order, and all that is named is listed
-  pub writable_over : (s : SnapshotFile) (h : Held P) (news : List NewList) (stamp : Stamp) (message : List ℕ) → IsWritable s → len (nodes_over h (nodes_in s.nodes)) ≤ most_nodes → IsWritable (snapshot_over h news s.nodes s.manifest_files stamp message)
-  writable_over s h news stamp message can few = record {
+  pub writable_over : (s : SnapshotFile) (h : Held P) (news : List NewList) (stamp : Stamp) (message : List ℕ) (props : List (List ℕ × List ℕ)) → IsWritable s → len (nodes_over h (nodes_in s.nodes)) ≤ most_nodes → IsWritable (snapshot_over h news s.nodes s.manifest_files stamp message props)
+  writable_over s h news stamp message props can few = record {
     few = subst (λ n. n ≤ most_nodes) (sym (rows_many h news s.nodes)) few;
     nodes = rows_ascend h news s.nodes;
     files = filter_ascends file_key _ None (files_with s.manifest_files news) (files_ascend (infos_of news ++ s.manifest_files));
@@ -181,7 +181,7 @@ pub fine-law : FineLaw
 fine-law s h proper adds sets = fine_over h s.nodes proper.sized.nodes (are_good 0 s.nodes proper.texts) adds sets
 
 pub proper-law : ProperLaw
-proper-law s h news stamp message proper adds sets sized stamped utf8 few =
+proper-law s h news stamp message props proper adds sets sized stamped utf8 are few =
     let good = are_good 0 s.nodes proper.texts in
     record {
       sized = record {
@@ -190,8 +190,9 @@ proper-law s h news stamp message proper adds sets sized stamped utf8 few =
         nodes = nodes_over_are h s.nodes proper.sized.nodes good adds sets news sized;
         flushed_at = stamped.flushed_at;
         message = utf8;
+        props = are;
         files = filter_all IsInfo (λ (file : ManifestInfo). names_in (rows_over h news s.nodes) file.id) (files_with s.manifest_files news) (infos_with s.manifest_files news proper.sized.files sized);
       };
-      writable = writable_over s h news stamp message proper.writable few;
+      writable = writable_over s h news stamp message props proper.writable few;
       texts = none_bad 0 (rows_over h news s.nodes) (good_over h s.nodes proper.sized.nodes good adds sets news);
     }

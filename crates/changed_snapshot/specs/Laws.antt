@@ -19,6 +19,7 @@ use Rattle.manifest_index.specs.Merging.{merged}
 use Rattle.snapshot_file.specs.declared.nodes.ManifestRef.{ManifestRef}
 use Rattle.snapshot_file.specs.declared.nodes.NodeRow.{NodeRow}
 use Rattle.snapshot_file.specs.declared.snapshot.SnapshotFile.{SnapshotFile}
+use Rattle.snapshot_file.specs.Props.{AreProps}
 use Rattle.snapshot_file.specs.Layout.{IsExtent}
 use Rattle.repo_objects.specs.Trees.{Puts, NamesManifest, bytes_at, nodes_in, listed, tree_under}
 use Rattle.repo_objects.specs.Laws.{IsProper}
@@ -119,5 +120,5 @@ AreSized news = AllByRecursion (λ new. IfSome new.manifest IsSized) news
 
 -- So can the snapshot under them, where it has no more nodes than a tree may have.
 abbrev pub ProperLaw : Type 0
-ProperLaw = (s : SnapshotFile) (h : Held Place) (news : List NewList) (stamp : Stamp) (message : List ℕ) → IsProper s → AddsFine h → SetsFine h → AreSized news → IsStamp stamp → IsUtf8 message → len (nodes_over h (nodes_in s.nodes)) ≤ most_nodes
-    → IsProper (snapshot_over h news s.nodes s.manifest_files stamp message)
+ProperLaw = (s : SnapshotFile) (h : Held Place) (news : List NewList) (stamp : Stamp) (message : List ℕ) (props : List (List ℕ × List ℕ)) → IsProper s → AddsFine h → SetsFine h → AreSized news → IsStamp stamp → IsUtf8 message → AreProps props → len (nodes_over h (nodes_in s.nodes)) ≤ most_nodes
+    → IsProper (snapshot_over h news s.nodes s.manifest_files stamp message props)

@@ -109,12 +109,13 @@ files_over files rows = filter (λ file. names_in rows file.id) files
 -- ---- the snapshot
 
 -- the snapshot of a base's rows and manifests under what is held, with the new lists
-abbrev pub snapshot_over : {P : Type 0} → Held P → List NewList → List NodeRow → List ManifestInfo → Stamp → (message : List ℕ) → SnapshotFile
-snapshot_over h news rows files stamp message = record {
+abbrev pub snapshot_over : {P : Type 0} → Held P → List NewList → List NodeRow → List ManifestInfo → Stamp → (message : List ℕ) → (props : List (List ℕ × List ℕ)) → SnapshotFile
+snapshot_over h news rows files stamp message props = record {
   id = stamp.id;
   parent = Some stamp.parent;
   nodes = rows_over h news rows;
   flushed_at = stamp.flushed_at;
   message = message;
+  props = props;
   manifest_files = files_over (files_with files news) (rows_over h news rows);
 }

@@ -17,7 +17,7 @@ use ice_base::{Bytes, Text};
 use ice_ids::Id12;
 use ice_items::Items;
 use repo_objects::Loaded;
-use snapshot_file::{Extents, SnapshotHead, write_rows};
+use snapshot_file::{Extents, Props, SnapshotHead, write_rows};
 use std::alloc::Global;
 use zarr_changes::ChangeSet;
 use zarr_path::Path;
@@ -58,7 +58,8 @@ pub struct NewList {
 /// The new lists of a commit, in the strict order of their paths' bytes.
 pub type NewLists = Items<NewList>;
 
-/// The file of the snapshot of a base under changes, with these new lists of manifests and this message. It asks that there
+/// The file of the snapshot of a base under changes, with these new lists of manifests, this message and these
+/// properties. It asks that there
 /// are no more nodes than a tree may have, and that the lists stand in the order of their paths' bytes. (Icechunk
 /// specification version 1, "Snapshots".)
 ///
@@ -72,10 +73,11 @@ pub fn write_over(
     news: &[NewList],
     stamp: Stamp,
     message: &Text,
+    props: &Props,
 ) -> Result<Bytes, WriteFault>
     requires few { len (nodes_over changes.now (nodes_in base.now.nodes)) ≤ most_nodes }
     requires lists { Ascends list_key None news.now }
-    ensures { Writes result (snapshot_bytes (snapshot_over changes.now news.now base.now.nodes base.now.manifest_files stamp message.now)) }
+    ensures { Writes result (snapshot_bytes (snapshot_over changes.now news.now base.now.nodes base.now.manifest_files stamp message.now props.now)) }
 {
     let rows = rows_over(alloc, base, changes, news)?;
     let files = files_with(alloc, base.file().manifest_files.as_slice(), news)?;
@@ -85,6 +87,7 @@ pub fn write_over(
         parent: Some(stamp.parent),
         flushed_at: stamp.flushed_at,
         message,
+        props,
         manifest_files: &manifest_files,
     };
     Ok(Bytes::from_vec(write_rows(alloc, &head, &rows)?))

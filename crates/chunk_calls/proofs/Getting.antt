@@ -23,14 +23,14 @@ use Rattle.repo_objects.specs.Readings.{manifest_by, read_manifest, read_inline,
 use Rattle.repo_objects.specs.Trees.{Puts, NamesManifest, part_of, bytes_at, manifest_put, or_empty, listed}
 use Rattle.changed_snapshot.specs.Rows.{own_manifests}
 use Rattle.changed_snapshot.specs.Laws.{KeepsFrozen}
-use Rattle.store_api.specs.declared.keys.Key.{Key}
-use Rattle.store_api.specs.declared.keys.Key.TheVariants.{Manifest, Chunk}
-use Rattle.store_api.specs.declared.events.Version.{Version}
-use Rattle.store_api.specs.declared.events.Op.TheVariants.{Get}
-use Rattle.store_api.specs.declared.events.Got.TheVariants.{Found, Absent}
-use Rattle.store_api.specs.declared.events.Reply.{Reply}
-use Rattle.store_api.specs.declared.events.Reply.TheVariants.{Got as Is_got, Failed}
-use Rattle.store_api.specs.declared.events.Event.{Event}
+use Rattle.object_store.specs.declared.keys.Key.{Key}
+use Rattle.object_store.specs.declared.keys.Key.TheVariants.{Manifest, Chunk}
+use Rattle.object_store.specs.declared.events.Version.{Version}
+use Rattle.object_store.specs.declared.events.Op.TheVariants.{Get}
+use Rattle.object_store.specs.declared.events.Got.TheVariants.{Found, Absent}
+use Rattle.object_store.specs.declared.events.Reply.{Reply}
+use Rattle.object_store.specs.declared.events.Reply.TheVariants.{Got as Is_got, Failed}
+use Rattle.object_store.specs.declared.events.Event.{Event}
 use Rattle.store_api.specs.declared.machines.Refusal.{Refusal}
 use Rattle.store_api.specs.Callers.{Caller, Makes}
 use Rattle.store_api.specs.Program.{Leads}
@@ -48,8 +48,10 @@ use Rattle.commit_path.specs.Single.{PutsSnapshot}
 use Rattle.commit_path.specs.Laws.{SessionLaw}
 use Rattle.store_api.proofs.Telling.{get-had, makes-keeps}
 use Rattle.store_api.proofs.Happening.{got-made, absent-made, failed-made}
-use Rattle.chunk_calls.specs.Told.{value_of, IsOfLength, IsOfGet, GetTells}
+use Rattle.chunk_calls.specs.Told.{value_of, IsPartOf, IsOfGet, GetTells}
 use Rattle.chunk_calls.specs.Laws.{GetLaw}
+use Rattle.commit_path.proofs.Listing.{more-makes}
+use Rattle.chunk_calls.proofs.Lasting.{part-append}
 use Rattle.chunk_calls.proofs.Growing.{Surely, Surely-makes}
 use Rattle.chunk_calls.proofs.Gets.{gets-keep, got-nothing, gets-stay, held_of, get-gets}
 use Rattle.chunk_calls.proofs.Seen.{IsThere, there, listed_chunk, by-entry, by-base, AllNamed, own-named}
@@ -65,22 +67,8 @@ part-read want offset size bytes part e = elim (nat_le (offset + size) (length b
   | false ↦ λ d. cc
 ] e
 
-part-unfit : (want offset size : ℕ) (bytes : List ℕ) (bad : Bad) → read_chunk want offset size bytes ≡ Err bad → IsOfLength bad
-part-unfit want offset size bytes bad e = by_test (nat_le (offset + size) (length bytes) && (size == want)) bad e
-  where
-    by_test : (b : Bool) (x : Bad) → cond b (Ok (take size (drop offset bytes))) (Err (BadChunk want (length (take size (drop offset bytes))))) ≡ Err x → IsOfLength x
-    by_test true x d = cc
-    by_test false x d = let same : BadChunk want (length (take size (drop offset bytes))) ≡ x = cc in subst IsOfLength same tt
-
 inline-read : (want : ℕ) (bytes got : List ℕ) → read_inline want bytes ≡ Ok got → bytes ≡ got
 inline-read want bytes got e = elim (length bytes == want) as (λ b. cond b (Ok bytes) (Err (BadChunk want (length bytes))) ≡ Ok got → bytes ≡ got) [ true ↦ λ d. cc | false ↦ λ d. cc ] e
-
-inline-unfit : (want : ℕ) (bytes : List ℕ) (bad : Bad) → read_inline want bytes ≡ Err bad → IsOfLength bad
-inline-unfit want bytes bad e = by_test (length bytes == want) bad e
-  where
-    by_test : (b : Bool) (x : Bad) → cond b (Ok bytes) (Err (BadChunk want (length bytes))) ≡ Err x → IsOfLength x
-    by_test true x d = cc
-    by_test false x d = let same : BadChunk want (length bytes) ≡ x = cc in subst IsOfLength same tt
 
 module _ (L : SessionLaw) (by : Caller) (s : SessionState) (path index : List ℕ) (start : List Event) where
   abbrev Told : Result Value Refusal → List Event → Type 0
@@ -107,41 +95,57 @@ module _ (L : SessionLaw) (by : Caller) (s : SessionState) (path index : List �
   value-told value journal k = ((k.is, k.nothing), k.opened)
 
   -- ---- an object
-  module _ (want : ℕ) (id : Id12) (offset size : ℕ) where
+  module _ (at : ChunkAt) (id : Id12) (offset size : ℕ) where
+    -- the chunk is said to be in this part
+    abbrev Part : List Event → Type 0
+    Part journal = IsPartOf by.number s path index at id offset size start journal
+
+    part-makes : (reply : Reply) (old new : List Event) → Makes by (Get (Chunk id)) reply old new → Part old → Part new
+    part-makes reply old new m p = more-makes Part (λ journal more x. part-append by.number s path index start journal more at id offset size x) by (Get (Chunk id)) reply old new m p
+
+    of-get : (journal : List Event) → Part journal → IsOfGet by.number s path index start journal (Get (Chunk id))
+    of-get journal p = inr (id, record { at = at; offset = offset; size = size; part = p }, refl)
+
     abbrev place : Place
     place = Object id offset size
 
-    part-told : (bytes : List ℕ) (version : Version) (now : ℕ) (old new : List Event) → Known (λ puts. bytes_at puts place) old → Makes by (Get (Chunk id)) (Is_got (Found bytes version now)) old new
-        → (r : Result (List ℕ) Bad) → read_chunk want offset size bytes ≡ r → Leads Told by (held_of (at_key (Chunk id) r)) new
+    part-told : (bytes : List ℕ) (version : Version) (now : ℕ) (old new : List Event) → Part old → Known (λ puts. bytes_at puts place) old → Makes by (Get (Chunk id)) (Is_got (Found bytes version now)) old new
+        → (r : Result (List ℕ) Bad) → read_chunk at.bytes offset size bytes ≡ r → Leads Told by (held_of (at_key (Chunk id) r)) new
     unfolding Leads
-    part-told bytes version now old new k m (Ok part) e =
+    part-told bytes version now old new p k m (Ok part) e =
         let k' = Known-makes (λ puts. bytes_at puts place) (Chunk id) (Is_got (Found bytes version now)) old new m k in
         let had = get-had by (Chunk id) bytes version now old new m in
         value-told (Held part) new (record {
           is = λ once puts x keeps.
               k'.is once puts x keeps
               ∙ ap (option_and_then (part_of offset size)) (x.chunks id bytes had.last)
-              ∙ part-read want offset size bytes part e;
+              ∙ part-read at.bytes offset size bytes part e;
           opened = k'.opened;
           nothing = k'.nothing;
         })
-    part-told bytes version now old new k m (Err bad) e =
+    part-told bytes version now old new p k m (Err bad) e =
         let k' = Known-makes (λ puts. bytes_at puts place) (Chunk id) (Is_got (Found bytes version now)) old new m k in
-        ((record { of_get = inr (id, refl); bytes = bytes; version = version.0; got = got-made by start (Chunk id) bytes version now old new m k.nothing; unfit = part-unfit want offset size bytes bad e }, k'.nothing), k'.opened)
+        ((record { bytes = bytes; version = version.0; got = got-made by start (Chunk id) bytes version now old new m k.nothing; unfit = record { at = at; offset = offset; size = size; part = part-makes (Is_got (Found bytes version now)) old new m p; unfit = e } }, k'.nothing), k'.opened)
 
-    object-told : (reply : Reply) (old new : List Event) → Known (λ puts. bytes_at puts place) old → Makes by (Get (Chunk id)) reply old new → Leads Told by (held_of (object_told want id offset size reply)) new
+    object-told : (reply : Reply) (old new : List Event) → Part old → Known (λ puts. bytes_at puts place) old → Makes by (Get (Chunk id)) reply old new → Leads Told by (held_of (object_told at.bytes id offset size reply)) new
     unfolding Leads
-    object-told (Is_got (Found bytes version now)) old new k m = part-told bytes version now old new k m (read_chunk want offset size bytes) refl
-    object-told (Is_got (Absent now)) old new k m =
+    object-told (Is_got (Found bytes version now)) old new p k m = part-told bytes version now old new p k m (read_chunk at.bytes offset size bytes) refl
+    object-told (Is_got (Absent now)) old new p k m =
         let k' = Known-makes (λ puts. bytes_at puts place) (Chunk id) (Is_got (Absent now)) old new m k in
-        ((record { of_get = inr (id, refl); absent = absent-made by start (Chunk id) now old new m k.nothing }, k'.nothing), k'.opened)
-    object-told (Failed d) old new k m =
+        ((record { of_get = of-get new (part-makes (Is_got (Absent now)) old new m p); absent = absent-made by start (Chunk id) now old new m k.nothing }, k'.nothing), k'.opened)
+    object-told (Failed d) old new p k m =
         let k' = Known-makes (λ puts. bytes_at puts place) (Chunk id) (Failed d) old new m k in
-        (failed-made by (IsOfGet s) start (Get (Chunk id)) d old new (inr (id, refl)) m k.nothing, k'.opened)
-    object-told _ old new k m = let e = m.answered.answered in absurd (cc)
+        (failed-made by (IsOfGet by.number s path index start new) start (Get (Chunk id)) d old new (of-get new (part-makes (Failed d) old new m p)) m k.nothing, k'.opened)
+    object-told _ old new p k m = let e = m.answered.answered in absurd (cc)
 
   -- ---- manifests
-  module _ (want : ℕ) (node : Id8) where
+  module _ (at : ChunkAt) (found : chunk_found (nodes_seen s) path index ≡ Ok at) where
+    abbrev want : ℕ
+    want = at.bytes
+
+    abbrev node : Id8
+    node = at.node
+
     abbrev rest : List ManifestRef → Program Value
     rest ms = read_listed want node index (ids_within index ms)
 
@@ -155,22 +159,28 @@ module _ (L : SessionLaw) (by : Caller) (s : SessionState) (path index : List �
     abbrev Continues : List ManifestRef → Type 0
     Continues ms = (journal : List Event) → Known (λ puts. listed_chunk puts node index ms) journal → Leads Told by (rest ms) journal
 
-    inline-told : (m : ManifestRef) (bytes file : List ℕ) (version : ℕ) (journal : List Event) → NamesManifest s.rows m.id → WasGot by.number (Manifest m.id) file version start journal → Known (λ puts. Some bytes) journal
+    -- a manifest has these bytes as the chunk
+    record HasInline (manifest : Id12) (bytes file : List ℕ) : Type 0 where
+      held : ManifestFile
+      read : manifest_by manifest file ≡ Some held
+      has : entry_of node index held ≡ Some (Inline bytes)
+
+    inline-told : (m : ManifestRef) (bytes file : List ℕ) (version : ℕ) (journal : List Event) → NamesManifest s.rows m.id → WasGot by.number (Manifest m.id) file version start journal → HasInline m.id bytes file → Known (λ puts. Some bytes) journal
         → (r : Result (List ℕ) Bad) → read_inline want bytes ≡ r → Leads Told by (found_bytes (at_key (Manifest m.id) r)) journal
     unfolding Leads
-    inline-told m bytes file version journal named got k (Ok read) e =
+    inline-told m bytes file version journal named got h k (Ok read) e =
         let same = inline-read want bytes read e in
         value-told (Held read) journal (record { is = λ once puts x keeps. k.is once puts x keeps ∙ ap (λ (b : List ℕ). Some b) same; opened = k.opened; nothing = k.nothing })
-    inline-told m bytes file version journal named got k (Err bad) e =
-        ((record { of_get = inl (m.id, named, refl); bytes = file; version = version; got = got; unfit = inr (inline-unfit want bytes bad e) }, k.nothing), k.opened)
+    inline-told m bytes file version journal named got h k (Err bad) e =
+        ((record { bytes = file; version = version; got = got; unfit = (named, inr (record { at = at; found = found; file = h.held; read = h.read; held = bytes; has = h.has; unfit = e })) }, k.nothing), k.opened)
 
-    entry-told : (m : ManifestRef) (ms : List ManifestRef) → Continues ms → (file : List ℕ) (version : ℕ) (journal : List Event) → NamesManifest s.rows m.id → WasGot by.number (Manifest m.id) file version start journal
-        → (o : Option Place) → Known (first_chunk ms o) journal → Leads Told by (read_entry want m.id (rest ms) o) journal
+    entry-told : (m : ManifestRef) (ms : List ManifestRef) → Continues ms → (file : List ℕ) (version : ℕ) (journal : List Event) → NamesManifest s.rows m.id → WasGot by.number (Manifest m.id) file version start journal → (held : ManifestFile) → manifest_by m.id file ≡ Some held
+        → (o : Option Place) → entry_of node index held ≡ o → Known (first_chunk ms o) journal → Leads Told by (read_entry want m.id (rest ms) o) journal
     unfolding Leads
-    entry-told m ms go file version journal named got None k = go journal (record { is = k.is; opened = k.opened; nothing = k.nothing })
-    entry-told m ms go file version journal named got (Some (Inline bytes)) k = inline-told m bytes file version journal named got (record { is = k.is; opened = k.opened; nothing = k.nothing }) (read_inline want bytes) refl
-    entry-told m ms go file version journal named got (Some (Object id offset size)) k =
-        λ reply new n. object-told want id offset size reply journal new (record { is = k.is; opened = k.opened; nothing = k.nothing }) n
+    entry-told m ms go file version journal named got held read None e k = go journal (record { is = k.is; opened = k.opened; nothing = k.nothing })
+    entry-told m ms go file version journal named got held read (Some (Inline bytes)) e k = inline-told m bytes file version journal named got (record { held = held; read = read; has = e }) (record { is = k.is; opened = k.opened; nothing = k.nothing }) (read_inline want bytes) refl
+    entry-told m ms go file version journal named got held read (Some (Object id offset size)) e k =
+        λ reply new n. object-told at id offset size reply journal new (record { found = found; told = inr (record { manifest = m.id; named = named; bytes = file; version = version; got = got; file = held; read = read; has = e }) }) (record { is = k.is; opened = k.opened; nothing = k.nothing }) n
 
     file-told : (m : ManifestRef) (ms : List ManifestRef) → Continues ms → (bytes : List ℕ) (version : Version) (now : ℕ) (old new : List Event) → NamesManifest s.rows m.id → Known (got_chunk m ms) old → Makes by (Get (Manifest m.id)) (Is_got (Found bytes version now)) old new
         → (r : Result ManifestFile Bad) → read_manifest m.id bytes ≡ r → Leads Told by (on_answer (λ file. read_entry want m.id (rest ms) (entry_of node index file)) (at_key (Manifest m.id) r)) new
@@ -178,7 +188,7 @@ module _ (L : SessionLaw) (by : Caller) (s : SessionState) (path index : List �
     file-told m ms go bytes version now old new named k n (Ok file) e =
         let k' = Known-makes (got_chunk m ms) (Manifest m.id) (Is_got (Found bytes version now)) old new n k in
         let had = get-had by (Manifest m.id) bytes version now old new n in
-        entry-told m ms go bytes version.0 new named (got-made by start (Manifest m.id) bytes version now old new n k.nothing) (entry_of node index file) (record {
+        entry-told m ms go bytes version.0 new named (got-made by start (Manifest m.id) bytes version now old new n k.nothing) file (ap result_ok e) (entry_of node index file) refl (record {
           is = λ once puts x keeps.
               k'.is once puts x keeps
               ∙ ap (λ (o : Option ManifestFile). first_chunk ms (entry_of node index (or_empty m.id o)) puts) (x.manifests m.id file (ap (option_and_then (manifest_by m.id)) had.last ∙ ap result_ok e));
@@ -187,7 +197,7 @@ module _ (L : SessionLaw) (by : Caller) (s : SessionState) (path index : List �
         })
     file-told m ms go bytes version now old new named k n (Err bad) e =
         let k' = Known-makes (got_chunk m ms) (Manifest m.id) (Is_got (Found bytes version now)) old new n k in
-        ((record { of_get = inl (m.id, named, refl); bytes = bytes; version = version.0; got = got-made by start (Manifest m.id) bytes version now old new n k.nothing; unfit = inl e }, k'.nothing), k'.opened)
+        ((record { bytes = bytes; version = version.0; got = got-made by start (Manifest m.id) bytes version now old new n k.nothing; unfit = (named, inl e) }, k'.nothing), k'.opened)
 
     manifest-told : (m : ManifestRef) (ms : List ManifestRef) → Continues ms → (reply : Reply) (old new : List Event) → NamesManifest s.rows m.id → Known (got_chunk m ms) old → Makes by (Get (Manifest m.id)) reply old new
         → Leads Told by (on_answer (λ file. read_entry want m.id (rest ms) (entry_of node index file)) (manifest_told m.id reply)) new
@@ -198,7 +208,7 @@ module _ (L : SessionLaw) (by : Caller) (s : SessionState) (path index : List �
         ((record { of_get = inl (m.id, named, refl); absent = absent-made by start (Manifest m.id) now old new n k.nothing }, k'.nothing), k'.opened)
     manifest-told m ms go (Failed d) old new named k n =
         let k' = Known-makes (got_chunk m ms) (Manifest m.id) (Failed d) old new n k in
-        (failed-made by (IsOfGet s) start (Get (Manifest m.id)) d old new (inl (m.id, named, refl)) n k.nothing, k'.opened)
+        (failed-made by (IsOfGet by.number s path index start new) start (Get (Manifest m.id)) d old new (inl (m.id, named, refl)) n k.nothing, k'.opened)
     manifest-told m ms go _ old new named k n = let e = n.answered.answered in absurd (cc)
 
     -- the first of the manifests that has the chunk
@@ -225,19 +235,19 @@ module _ (L : SessionLaw) (by : Caller) (s : SessionState) (path index : List �
     fault-told (E.ChunkLength want got) e = (((E.ChunkLength want got, e, refl), c), o)
     fault-told E.NoMemory e = ((tt, c), o)
 
-    at-told : (at : ChunkAt) → IsThere s path index at → (entry : Option (Option Place)) → entry_in s.held.chunks at.node index ≡ entry → Leads Told by (read_at s path index at entry) journal
+    at-told : (at : ChunkAt) → chunk_found (nodes_seen s) path index ≡ Ok at → IsThere s path index at → (entry : Option (Option Place)) → entry_in s.held.chunks at.node index ≡ entry → Leads Told by (read_at s path index at entry) journal
     unfolding Leads
-    at-told at t (Some (Some (Inline bytes))) e = value-told (Held bytes) journal (record { is = λ once puts x keeps. by-entry s path index at t puts (Some (Some (Inline bytes))) e; opened = o; nothing = c })
-    at-told at t (Some (Some (Object id offset size))) e =
-        λ reply new n. object-told at.bytes id offset size reply journal new (record { is = λ once puts x keeps. by-entry s path index at t puts (Some (Some (Object id offset size))) e; opened = o; nothing = c }) n
-    at-told at t (Some None) e = value-told Fill journal (record { is = λ once puts x keeps. by-entry s path index at t puts (Some None) e; opened = o; nothing = c })
-    at-told at t None e =
-        listed-told at.bytes at.node (own_manifests s.rows path at.node) (own-named s.rows path at.node) journal (record { is = λ once puts x keeps. by-base s path index at t puts e keeps; opened = o; nothing = c })
+    at-told at f t (Some (Some (Inline bytes))) e = value-told (Held bytes) journal (record { is = λ once puts x keeps. by-entry s path index at t puts (Some (Some (Inline bytes))) e; opened = o; nothing = c })
+    at-told at f t (Some (Some (Object id offset size))) e =
+        λ reply new n. object-told at id offset size reply journal new (record { found = f; told = inl e }) (record { is = λ once puts x keeps. by-entry s path index at t puts (Some (Some (Object id offset size))) e; opened = o; nothing = c }) n
+    at-told at f t (Some None) e = value-told Fill journal (record { is = λ once puts x keeps. by-entry s path index at t puts (Some None) e; opened = o; nothing = c })
+    at-told at f t None e =
+        listed-told at f (own_manifests s.rows path at.node) (own-named s.rows path at.node) journal (record { is = λ once puts x keeps. by-base s path index at t puts e keeps; opened = o; nothing = c })
 
     found-told : (r : Result ChunkAt EditFault) → chunk_found (nodes_seen s) path index ≡ r → Leads Told by (read_found s path index r) journal
     unfolding Leads
     found-told (Err fault) e = fault-told fault e
-    found-told (Ok at) e = at-told at (there s path index at e) (entry_in s.held.chunks at.node index) refl
+    found-told (Ok at) e = at-told at e (there s path index at e) (entry_in s.held.chunks at.node index) refl
 
     get-told : Leads Told by (get_program s path index) journal
     unfolding get_program

@@ -1,12 +1,12 @@
 -- What is so of all that was put, whatever more is put.
 use Rattle.std.proofs.Common.{List, [], ◌++◌}
 use Rattle.repo_objects.specs.Trees.{Puts, Extends}
-use Rattle.store_api.specs.declared.events.Op.{Op}
-use Rattle.store_api.specs.declared.events.Reply.{Reply}
-use Rattle.store_api.specs.declared.events.Event.{Event}
+use Rattle.object_store.specs.declared.events.Op.{Op}
+use Rattle.object_store.specs.declared.events.Reply.{Reply}
+use Rattle.object_store.specs.declared.events.Event.{Event}
 use Rattle.store_api.specs.Journal.{Each, puts_of, IsFirst, IsOnce, IsGood, IsPolite}
 use Rattle.store_api.specs.Callers.{Caller, Makes}
-use Rattle.store_api.proofs.Journals.{Each-back}
+use Rattle.object_store.proofs.Journals.{Each-back}
 use Rattle.store_api.proofs.Telling.{makes-keeps}
 use Rattle.commit_path.proofs.Putting.{extends-more, puts-kept}
 

@@ -1,17 +1,21 @@
 -- What answers of sets and reads tell stays so, whatever others do.
 use Rattle.std.proofs.Common.{◌≡◌, ◌⊎◌, ◌≤◌, inl, inr, ℕ, List, ◌++◌, length}
 use Rattle.std.specs.Prelude.{Result, Ok, Err}
-use Rattle.manifest_file.specs.declared.manifest.Place.TheVariants.{Inline}
+use Rattle.ice_ids.specs.declared.Id12.{Id12}
+use Rattle.zarr_changes.specs.declared.chunks.ChunkAt.{ChunkAt}
+use Rattle.manifest_file.specs.declared.manifest.Place.{Place}
+use Rattle.manifest_file.specs.declared.manifest.Place.TheVariants.{Inline, Object}
 use Rattle.repo_objects.specs.declared.bad.Bad.{Bad}
 use Rattle.repo_objects.specs.Trees.{Puts}
 use Rattle.changed_snapshot.specs.Laws.{KeepsFrozen}
-use Rattle.store_api.specs.declared.keys.Key.{Key}
-use Rattle.store_api.specs.declared.keys.Key.TheVariants.{Chunk}
-use Rattle.store_api.specs.declared.keys.Why.TheVariants.{Set}
-use Rattle.store_api.specs.declared.events.Op.TheVariants.{PutNew}
-use Rattle.store_api.specs.declared.events.New.TheVariants.{Done as New_done, Present}
-use Rattle.store_api.specs.declared.events.Reply.TheVariants.{New as Is_new}
-use Rattle.store_api.specs.declared.events.Event.{Event}
+use Rattle.object_store.specs.declared.keys.Key.{Key}
+use Rattle.object_store.specs.declared.keys.Key.TheVariants.{Manifest, Chunk}
+use Rattle.object_store.specs.declared.keys.Why.TheVariants.{Set}
+use Rattle.object_store.specs.declared.events.Op.{Op}
+use Rattle.object_store.specs.declared.events.Op.TheVariants.{Get, PutNew}
+use Rattle.object_store.specs.declared.events.New.TheVariants.{Done as New_done, Present}
+use Rattle.object_store.specs.declared.events.Reply.TheVariants.{New as Is_new}
+use Rattle.object_store.specs.declared.events.Event.{Event}
 use Rattle.store_api.specs.declared.machines.Refusal.{Refusal}
 use Rattle.store_api.specs.declared.machines.Refusal.TheVariants as R
 use Rattle.store_api.specs.Journal.{Each, IsGood}
@@ -22,7 +26,7 @@ use Rattle.session.specs.Sessions.{SessionState, overlay}
 use Rattle.session.specs.Chunks.{most_inline, with_chunk}
 use Rattle.store_api.proofs.Happening.{ChangedNothing-others, HasOwn-append, WasGot-append, WasAbsent-append}
 use Rattle.commit_path.proofs.Lasting.{failed-others}
-use Rattle.chunk_calls.specs.Told.{WasPutOut, WasSet, WasObjectTaken, IsOfSet, SetRefused, SetTells, value_of, IsChunk, IsOfGet, WasNotThere, WasUnfit, GetRefused, GetTells}
+use Rattle.chunk_calls.specs.Told.{WasPutOut, WasSet, WasObjectTaken, IsOfSet, SetRefused, SetTells, value_of, IsChunk, WasToldPlace, IsPartOf, HasItsChunk, IsOfGet, WasNotThere, IsUnfit, WasUnfit, GetRefused, GetTells}
 use Rattle.chunk_calls.specs.Laws.{TellsLaw}
 use Rattle.chunk_calls.proofs.Growing.{Surely-append}
 
@@ -65,11 +69,33 @@ module _ (client : ℕ) (s : SessionState) (path index bytes : List ℕ) (start 
 
 -- ---- a read
 module _ (client : ℕ) (s : SessionState) (path index : List ℕ) (start journal more : List Event) where
-  missing-append : (key : Key) → WasNotThere client s key start journal → WasNotThere client s key start (journal ++ more)
-  missing-append key x = record { of_get = x.of_get; absent = WasAbsent-append client key start journal more x.absent }
+  told-append : (at : ChunkAt) (place : Place) → WasToldPlace client s index at place start journal → WasToldPlace client s index at place start (journal ++ more)
+  told-append at place x = record { manifest = x.manifest; named = x.named; bytes = x.bytes; version = x.version; got = WasGot-append client (Manifest x.manifest) x.bytes x.version start journal more x.got; file = x.file; read = x.read; has = x.has }
 
-  unfit-append : (key : Key) (bad : Bad) → WasUnfit client s key bad start journal → WasUnfit client s key bad start (journal ++ more)
-  unfit-append key bad x = record { of_get = x.of_get; bytes = x.bytes; version = x.version; got = WasGot-append client key x.bytes x.version start journal more x.got; unfit = x.unfit }
+  -- so it is of where the chunk is said to be
+  pub part-append : (at : ChunkAt) (id : Id12) (offset size : ℕ) → IsPartOf client s path index at id offset size start journal → IsPartOf client s path index at id offset size start (journal ++ more)
+  part-append at id offset size x = record {
+    found = x.found;
+    told = elim x.told [
+      | inl own ↦ inl own
+      | inr manifest ↦ inr (told-append at (Object id offset size) manifest)
+    ];
+  }
+
+  get-append : (op : Op) → IsOfGet client s path index start journal op → IsOfGet client s path index start (journal ++ more) op
+  get-append op (inl x) = inl x
+  get-append op (inr x) = inr (x.0, record { at = x.1.at; offset = x.1.offset; size = x.1.size; part = part-append x.1.at x.0 x.1.offset x.1.size x.1.part }, x.2)
+
+  missing-append : (key : Key) → WasNotThere client s path index key start journal → WasNotThere client s path index key start (journal ++ more)
+  missing-append key x = record { of_get = get-append (Get key) x.of_get; absent = WasAbsent-append client key start journal more x.absent }
+
+  fit-append : (key : Key) (bytes : List ℕ) (bad : Bad) → IsUnfit client s path index key bytes bad start journal → IsUnfit client s path index key bytes bad start (journal ++ more)
+  fit-append (Manifest id) bytes bad x = x
+  fit-append (Chunk id) bytes bad x = record { at = x.at; offset = x.offset; size = x.size; part = part-append x.at id x.offset x.size x.part; unfit = x.unfit }
+  fit-append _ bytes bad x = absurd x
+
+  unfit-append : (key : Key) (bad : Bad) → WasUnfit client s path index key bad start journal → WasUnfit client s path index key bad start (journal ++ more)
+  unfit-append key bad x = record { bytes = x.bytes; version = x.version; got = WasGot-append client key x.bytes x.version start journal more x.got; unfit = fit-append key x.bytes bad x.unfit }
 
   unread-append : (why : Refusal) → GetRefused client s path index start why journal → GetRefused client s path index start why (journal ++ more)
   unread-append (R.Missing key) x = missing-append key x
@@ -90,7 +116,9 @@ module _ (by : Caller) (s : SessionState) (path index : List ℕ) (start journal
 
   gets-others : (answer : Result Value Refusal) → GetTells by.number s path index start answer journal → GetTells by.number s path index start answer (journal ++ more)
   gets-others (Ok value) x = (IsChunk-append s path index value journal more (good-waits by journal more others) x.0, ChangedNothing-others by start journal more others x.1)
-  gets-others (Err R.StoreFault) x = failed-others by start journal more others (IsOfGet s) x
+  gets-others (Err R.StoreFault) x =
+      let f = failed-others by start journal more others (IsOfGet by.number s path index start journal) x in
+      record { op = f.op; of_kind = get-append by.number s path index start journal more f.op f.of_kind; done = f.done; own = f.own; once = f.once }
   gets-others (Err why) x = (unread-append by.number s path index start journal more why x.0, ChangedNothing-others by start journal more others x.1)
 
 pub tells-law : TellsLaw

@@ -3,5 +3,6 @@ pub mod Growing
 pub mod Gets
 pub mod Setting
 pub mod Seen
-pub mod Getting
 pub mod Lasting
+pub mod Getting
+pub mod OwnCalls

@@ -25,25 +25,25 @@ use Rattle.manifest_file.specs.declared.manifest.Place.{Place}
 use Rattle.manifest_file.specs.declared.manifest.Place.TheVariants.{Inline, Object}
 use Rattle.manifest_file.specs.Layout.{IsPlace}
 use Rattle.repo_objects.specs.Trees.{part_of, bytes_at}
-use Rattle.store_api.specs.declared.keys.Key.{Key}
-use Rattle.store_api.specs.declared.keys.Key.TheVariants.{Chunk, Branch}
-use Rattle.store_api.specs.declared.keys.Why.TheVariants.{Set}
-use Rattle.store_api.specs.declared.events.Version.{Version}
-use Rattle.store_api.specs.declared.events.Op.{Op}
-use Rattle.store_api.specs.declared.events.Op.TheVariants.{PutNew}
-use Rattle.store_api.specs.declared.events.New.TheVariants.{Done as New_done, Present}
-use Rattle.store_api.specs.declared.events.Reply.{Reply}
-use Rattle.store_api.specs.declared.events.Reply.TheVariants.{New as Is_new, Failed}
-use Rattle.store_api.specs.declared.events.Event.{Event}
+use Rattle.object_store.specs.declared.keys.Key.{Key}
+use Rattle.object_store.specs.declared.keys.Key.TheVariants.{Chunk, Branch}
+use Rattle.object_store.specs.declared.keys.Why.TheVariants.{Set}
+use Rattle.object_store.specs.declared.events.Version.{Version}
+use Rattle.object_store.specs.declared.events.Op.{Op}
+use Rattle.object_store.specs.declared.events.Op.TheVariants.{PutNew}
+use Rattle.object_store.specs.declared.events.New.TheVariants.{Done as New_done, Present}
+use Rattle.object_store.specs.declared.events.Reply.{Reply}
+use Rattle.object_store.specs.declared.events.Reply.TheVariants.{New as Is_new, Failed}
+use Rattle.object_store.specs.declared.events.Event.{Event}
 use Rattle.store_api.specs.declared.machines.Refusal.{Refusal}
 use Rattle.store_api.specs.declared.machines.Refusal.TheVariants as R
-use Rattle.store_api.specs.Machine.{Stored, Slot, slot_of, found, version_at, new_of}
+use Rattle.object_store.specs.Machine.{Stored, Slot, slot_of, found, version_at, new_of}
 use Rattle.store_api.specs.Journal.{WasPut, puts_of, IsOnce}
 use Rattle.store_api.specs.Callers.{Caller, Makes, own_event}
 use Rattle.store_api.specs.Program.{Done, Ask, Keeps, Leads}
 use Rattle.store_api.specs.Plays.{Stays}
 use Rattle.store_api.specs.Running.{Program}
-use Rattle.store_api.proofs.Slots.{effect-cases, slot-append_one, found-stood}
+use Rattle.object_store.proofs.Slots.{effect-cases, slot-append_one, found-stood}
 use Rattle.session.specs.Sessions.{SessionState, writes, nodes_seen}
 use Rattle.session.specs.Sources.{IsLater}
 use Rattle.session.specs.Editing.{refusal_of_edit}
@@ -57,7 +57,7 @@ use Rattle.commit_path.specs.Laws.{SessionLaw}
 use Rattle.store_api.proofs.Telling.{put-did, makes-keeps}
 use Rattle.commit_path.proofs.Sources.{later-later, later-drawn12}
 use Rattle.store_api.proofs.Happening.{own-made, ChangedNothing-makes, failed-made}
-use Rattle.chunk_calls.specs.Told.{IsOfSet, SetTells}
+use Rattle.chunk_calls.specs.Told.{NeedsObject, IsOfSet, SetTells}
 use Rattle.chunk_calls.specs.Laws.{SetLaw}
 use Rattle.chunk_calls.proofs.Entries.{both-true, entered}
 
@@ -174,9 +174,9 @@ module _ (s : SessionState) (path index bytes : List ℕ) where
   abbrev pub session_out : Id12 → SessionState
   session_out id = with_chunk (after_draw s) path index (Object id 0 (length bytes))
 
-  module _ (Q : Program SessionState → Type 0) (unwritten : writes s ≡ false → Q (Done (Err R.ReadOnly))) (faulty : (fault : EditFault) → refused ≡ Some fault → Q (Done (Err (refusal_of_edit fault)))) (short : writes s ≡ true → refused ≡ None → nat_le (length bytes) most_inline ≡ true → Q (Done (Ok (with_chunk s path index (Inline bytes))))) (spent : drawn12 s.ids ≡ None → Q (Done (Err R.IdsSpent))) (out : (id : Id12) → IsOut id → Q (Ask (object_put id) (after_object (session_out id) id))) where
+  module _ (Q : Program SessionState → Type 0) (unwritten : writes s ≡ false → Q (Done (Err R.ReadOnly))) (faulty : (fault : EditFault) → refused ≡ Some fault → Q (Done (Err (refusal_of_edit fault)))) (short : writes s ≡ true → refused ≡ None → nat_le (length bytes) most_inline ≡ true → Q (Done (Ok (with_chunk s path index (Inline bytes))))) (spent : NeedsObject s path index bytes → Q (Done (Err R.IdsSpent))) (out : (id : Id12) → IsOut id → Q (Ask (object_put id) (after_object (session_out id) id))) where
     by_draw : writes s ≡ true → refused ≡ None → nat_le (length bytes) most_inline ≡ false → (o : Option Id12) → drawn12 s.ids ≡ o → Q (put_object s path index bytes o)
-    by_draw w f l None d = spent d
+    by_draw w f l None d = spent (record { writes = w; taken = f; long = leb-false (length bytes) most_inline l; spent = d })
     by_draw w f l (Some id) d = out id (record { writes = w; fine = f; long = l; drawn = d })
 
     by_length : writes s ≡ true → refused ≡ None → (b : Bool) → nat_le (length bytes) most_inline ≡ b → Q (cond b (Done (Ok (with_chunk s path index (Inline bytes)))) (put_object s path index bytes (drawn12 s.ids)))
@@ -196,14 +196,14 @@ module _ (s : SessionState) (path index bytes : List ℕ) where
     set-cases = by_writes (writes s) refl
 
 -- ---- what it does
-object-keeps : (P : List Event → ℕ → Op → Type 0) (by : Caller) (t : SessionState) (id : Id12) (reply : Reply) (journal : List Event) → Keeps P by (after_object t id reply) journal
+pub object-keeps : (P : List Event → ℕ → Op → Type 0) (by : Caller) (t : SessionState) (id : Id12) (reply : Reply) (journal : List Event) → Keeps P by (after_object t id reply) journal
 unfolding Keeps
 object-keeps P by t id (Is_new (New_done version now)) journal = tt
 object-keeps P by t id (Is_new (Present version now)) journal = tt
 object-keeps P by t id _ journal = tt
 
 -- each operation is a put of an object under the next id drawn
-set-keeps : (P : List Event → ℕ → Op → Type 0) (by : Caller) (s : SessionState) (path index bytes : List ℕ) (journal : List Event) → ((id : Id12) → drawn12 s.ids ≡ Some id → P journal by.number (PutNew (Chunk id) bytes Set)) → Keeps P by (set_program s path index bytes) journal
+pub set-keeps : (P : List Event → ℕ → Op → Type 0) (by : Caller) (s : SessionState) (path index bytes : List ℕ) (journal : List Event) → ((id : Id12) → drawn12 s.ids ≡ Some id → P journal by.number (PutNew (Chunk id) bytes Set)) → Keeps P by (set_program s path index bytes) journal
 unfolding Keeps
 set-keeps P by s path index bytes journal p =
     set-cases s path index bytes (λ x. Keeps P by x journal) (λ w. tt) (λ fault f. tt) (λ w f l. tt) (λ d. tt)

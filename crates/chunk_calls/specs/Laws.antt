@@ -2,7 +2,7 @@
 use Rattle.std.specs.Prelude.{◌≡◌, ℕ, ◌++◌, nat_lt, true, List, Result, IfOk}
 use Rattle.std.specs.List.{list_all}
 use Rattle.ice_ids.specs.declared.drawing.AnyIds.{AnyIds}
-use Rattle.store_api.specs.declared.events.Event.{Event}
+use Rattle.object_store.specs.declared.events.Event.{Event}
 use Rattle.store_api.specs.declared.machines.Refusal.{Refusal}
 use Rattle.store_api.specs.Journal.{Each}
 use Rattle.store_api.specs.Callers.{Caller, IsOther}
@@ -14,6 +14,7 @@ use Rattle.session.specs.Sources.{IsLater}
 use Rattle.session.specs.Chunks.{set_program, get_program}
 use Rattle.commit_path.specs.Owed.{IsCareful}
 use Rattle.store_api.specs.Telling.{ChangedNothing}
+use Rattle.commit_path.specs.Own.{OwesOwn, Owns}
 use Rattle.commit_path.specs.Opened.{IsOpened}
 use Rattle.commit_path.specs.Spelled.{IsSpelled}
 use Rattle.commit_path.specs.Single.{PutsSnapshot}
@@ -35,6 +36,14 @@ GetLaw = (by : Caller) (ids : AnyIds) (s : SessionState) (path index : List ℕ)
     → Keeps (IsCareful ids (λ h t id. ⊥)) by (get_program s path index) journal × Keeps (λ h client op. ¬ PutsSnapshot op) by (get_program s path index) journal
     × Stays (ChangedNothing by.number start) by (get_program s path index) journal
     × Leads (λ answer h. GetTells by.number s path index start answer h × IsOpened s h) by (get_program s path index) journal
+
+-- Whatever others do, the object of a set is put where its client put none since `start`, if its source draws no id twice; and what the client
+-- owns with a session it owns behind a set, with the session that this leads to, and behind a read.
+pub record OwningCallsLaw : Type 0 where
+  pub sets : (by : Caller) (ids : AnyIds) (s : SessionState) (path index bytes : List ℕ) (start journal : List Event) → IsLater ids s.ids → Owns ids by.number s start journal
+      → Keeps (λ h client op. OwesOwn ids client start op h) by (set_program s path index bytes) journal × Leads (λ answer h. IfOk answer (λ t. Owns ids by.number t start h)) by (set_program s path index bytes) journal
+  pub gets : (by : Caller) (ids : AnyIds) (s : SessionState) (path index : List ℕ) (start journal : List Event) → Owns ids by.number s start journal
+      → Keeps (λ h client op. OwesOwn ids client start op h) by (get_program s path index) journal × Leads (λ answer h. Owns ids by.number s start h) by (get_program s path index) journal
 
 -- what answers tell stays so, whatever good events others make
 pub record TellsLaw : Type 0 where

@@ -1,6 +1,6 @@
 //! Laws of the calls on chunks, as the contracts of functions that do nothing.
 
-ghost use Rattle.chunk_calls.specs.Laws.{SetLaw, GetLaw, TellsLaw};
+ghost use Rattle.chunk_calls.specs.Laws.{SetLaw, GetLaw, OwningCallsLaw, TellsLaw};
 
 use commit_path::session_law;
 
@@ -20,6 +20,12 @@ pub fn get_law()
 {
     session_law();
 }
+
+/// Whatever others do, the object of a set is put where its client put none before, if its source draws no id twice; and what the
+/// client owns with a session it owns behind sets, its object among it, and behind reads.
+pub fn owning_calls_law()
+    ensures { OwningCallsLaw }
+{}
 
 /// What answers of sets and reads tell stays so, whatever good events others make.
 pub fn tells_law()

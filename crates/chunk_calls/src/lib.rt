@@ -3,4 +3,4 @@
 
 mod laws;
 
-pub use laws::{get_law, set_law, tells_law};
+pub use laws::{get_law, owning_calls_law, set_law, tells_law};

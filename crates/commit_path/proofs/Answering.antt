@@ -1,5 +1,5 @@
 -- What a commit does is polite and owed, and its answer tells the journal, whatever others do.
-use Rattle.std.proofs.Common.{◌≡◌, inl, inr, ℕ, ◌<◌, ◌^◌, Bool, true, false, cond, List, [], length, refl, sym, subst}
+use Rattle.std.proofs.Common.{◌≡◌, inl, inr, ℕ, ◌<◌, ◌^◌, Bool, true, false, cond, List, [], length, refl, sym, ap, subst, append-nil}
 use Rattle.std.specs.Prelude.{Option, Some, None, Result, Ok, Err}
 use Rattle.std.specs.Str.{IsUtf8}
 use Rattle.ice_ids.specs.declared.Id12.{Id12}
@@ -10,24 +10,24 @@ use Rattle.ice_ids.proofs.Drawn.{drawn12-IsId12}
 use Rattle.flat_tables.specs.declared.header.Kind.TheVariants as kinds
 use Rattle.zarr_tree.specs.Held.{touched}
 use Rattle.zarr_tree.specs.Touched.{is_untouched}
+use Rattle.zarr_changes.specs.declared.chunks.ChangedArray.{ChangedArray}
 use Rattle.zarr_changes.specs.Sets.{changed_arrays}
 use Rattle.snapshot_file.specs.Layout.{snapshot_bytes}
 use Rattle.txn_file.specs.Layout.{log_file}
 use Rattle.ref_file.specs.Refs.{ref_bytes}
-use Rattle.changed_snapshot.specs.declared.written.NewList.{NewList}
-use Rattle.store_api.specs.declared.keys.Key.TheVariants.{Snapshot, Manifest, Txn, Branch}
-use Rattle.store_api.specs.declared.keys.Why.TheVariants.{Set, Commit}
-use Rattle.store_api.specs.declared.events.Version.{Version}
-use Rattle.store_api.specs.declared.events.Op.{Op}
-use Rattle.store_api.specs.declared.events.Op.TheVariants.{PutNew}
-use Rattle.store_api.specs.declared.events.New.TheVariants.{Done as New_done, Present}
-use Rattle.store_api.specs.declared.events.Over.TheVariants.{Done as Over_done, Moved}
-use Rattle.store_api.specs.declared.events.Reply.{Reply}
-use Rattle.store_api.specs.declared.events.Reply.TheVariants.{New as Is_new, Over as Is_over, Failed}
-use Rattle.store_api.specs.declared.events.Event.{Event}
+use Rattle.object_store.specs.declared.keys.Key.TheVariants.{Snapshot, Txn, Branch}
+use Rattle.object_store.specs.declared.keys.Why.TheVariants.{Set, Commit}
+use Rattle.object_store.specs.declared.events.Version.{Version}
+use Rattle.object_store.specs.declared.events.Op.{Op}
+use Rattle.object_store.specs.declared.events.Op.TheVariants.{PutNew}
+use Rattle.object_store.specs.declared.events.New.TheVariants.{Done as New_done, Present}
+use Rattle.object_store.specs.declared.events.Over.TheVariants.{Done as Over_done, Moved}
+use Rattle.object_store.specs.declared.events.Reply.{Reply}
+use Rattle.object_store.specs.declared.events.Reply.TheVariants.{New as Is_new, Over as Is_over, Failed}
+use Rattle.object_store.specs.declared.events.Event.{Event}
 use Rattle.store_api.specs.declared.machines.Refusal.{Refusal}
 use Rattle.store_api.specs.declared.machines.Refusal.TheVariants as R
-use Rattle.store_api.specs.Machine.{found, version_at}
+use Rattle.object_store.specs.Machine.{found, version_at}
 use Rattle.store_api.specs.Journal.{IsOnce, IsPolite}
 use Rattle.store_api.specs.Callers.{Caller, Makes}
 use Rattle.store_api.specs.Program.{Done, Ask}
@@ -38,19 +38,21 @@ use Rattle.commit_path.specs.declared.commit.Tried.{Tried}
 use Rattle.commit_path.specs.declared.commit.Tried.TheVariants.{Done as Was_done, Lost}
 use Rattle.commit_path.specs.Committing.{Written, commit_program, arrays_program, unwritten, after_arrays, write_all, put_log, after_log, after_snapshot, put_branch, after_branch, log_for, snap_for, is_long}
 use Rattle.commit_path.specs.Owed.{Sessions, IsMade, IsCareful}
-use Rattle.commit_path.specs.Answered.{commits_over, WasLogged, WasSnapped, WerePut, TookEffect, WasMoved, WasTaken, IsOfCommit, CommitTells}
+use Rattle.commit_path.specs.Answered.{commits_over, WasLogged, WasSnapped, WereWritten, TookEffect, WasMoved, WasTaken, IsOfCommit, CommitTells}
 use Rattle.store_api.specs.Telling.{ChangedNothing}
 use Rattle.commit_path.specs.Opened.{IsOpened}
 use Rattle.commit_path.specs.Spelled.{IsSpelled}
-use Rattle.commit_path.proofs.Sources.{later-same, later-later, later-drawn12, object-drawn, object-later}
+use Rattle.commit_path.proofs.Sources.{later-later, later-drawn12, object-drawn, object-later}
 use Rattle.commit_path.proofs.Walks.{Walks, walks-done, walks-ask, walks-then}
 use Rattle.commit_path.proofs.Spelling.{Spellings}
 use Rattle.store_api.proofs.Telling.{put-did, put-time, makes-keeps}
 use Rattle.store_api.proofs.Happening.{ChangedNothing-makes, own-made, HasOwn-makes, log-leaves, snapshot-leaves, over-same, over-done, over-moved, moved-leaves, moved-later, stands-as, new-present, changed-once, failed-made}
 use Rattle.commit_path.proofs.Knowing.{IsOpened-append, tip-named}
-use Rattle.commit_path.proofs.Having.{Wrote, Wrote-makes}
+use Rattle.commit_path.proofs.Listing.{more-makes, WereWritten-append}
+use Rattle.commit_path.proofs.Minding.{IsMinded, own-commit}
+use Rattle.commit_path.proofs.Having.{Wrote, none-written, Wrote-makes}
 use Rattle.commit_path.proofs.Writing.{arrays-walks}
-use Rattle.commit_path.proofs.Owing.{Logged, Snapped, Logged-append, log-logged, read, new-own, new-sized, snap-did, over-careful, snap-careful, log-careful, made-now, made-stable}
+use Rattle.commit_path.proofs.Owing.{Logged, Snapped, Logged-append, log-logged, read, new-sized, snap-did, over-careful, snap-careful, log-careful, made-now, made-stable}
 
 -- ---- a commit
 -- the client's own puts of its log and of its snapshot stay its own
@@ -69,14 +71,9 @@ WasSnapped-makes by start id message time op reply old new m p = record {
   own = HasOwn-makes by start op (PutNew (Snapshot id) p.bytes Set) reply (Is_new (New_done p.version p.now)) old new m p.own;
 }
 
-WerePut-makes : (by : Caller) (start : List Event) (news : List NewList) (op : Op) (reply : Reply) (old new : List Event) → Makes by op reply old new → WerePut by.number news start old → WerePut by.number news start new
-WerePut-makes by start news op reply old new m p list manifest c e =
-    let was = p list manifest c e in
-    record { bytes = was.bytes; version = was.version; now = was.now; own = HasOwn-makes by start op (PutNew (Manifest manifest.id) was.bytes Set) reply (Is_new (New_done was.version was.now)) old new m was.own }
-
 module _ (L : Spellings) (by : Caller) (ids : AnyIds) (mine : Sessions) (s : SessionState) (message : List ℕ) (later : IsLater ids s.ids) (w : IsSpelled s) (m : IsUtf8 message) (start : List Event) where
   abbrev Careful : List Event → ℕ → Op → Type 0
-  Careful = IsCareful ids mine
+  Careful = IsMinded ids mine s start
 
   abbrev Nothing : List Event → Type 0
   Nothing = ChangedNothing by.number start
@@ -87,7 +84,7 @@ module _ (L : Spellings) (by : Caller) (ids : AnyIds) (mine : Sessions) (s : Ses
   abbrev Ready : Written → List Event → Type 0
   Ready x journal = Wrote s by.number start (changed_arrays s.held (base_nodes s)) x journal
 
-  module _ (x : Written) (id : Id12) (own : (journal : List Event) → mine journal s id) (is_id : IsId12 id) (drawn : MayDrawObject s.ids id) (logs : is_long (log_file (log_for s id)) ≡ false) (may_write : writes s ≡ true) where
+  module _ (x : Written) (id : Id12) (own : (journal : List Event) → mine journal s id) (is_id : IsId12 id) (drawn : MayDrawObject s.ids id) (now_drawn : drawn12 x.ids ≡ Some id) (logs : is_long (log_file (log_for s id)) ≡ false) (may_write : writes s ≡ true) where
     abbrev next : AnyIds
     next = after12 x.ids
 
@@ -109,8 +106,8 @@ module _ (L : Spellings) (by : Caller) (ids : AnyIds) (mine : Sessions) (s : Ses
     may : MayDrawObject ids id
     may = object-later ids s.ids id later drawn
 
-    were-put : (journal : List Event) → Ready x journal → WerePut by.number x.news start journal
-    were-put journal k list manifest c e = (new-own s by.number start journal (changed_arrays s.held (base_nodes s)) x.news k.lists list manifest c e).own
+    written-by : (journal : List Event) → Ready x journal → WereWritten by.number s x.news id start journal
+    written-by journal k = record { listed = k.listed; drawn = subst (λ (i : AnyIds). drawn12 i ≡ Some id) k.behind now_drawn }
 
     -- what is known after each step
     record AfterLog (time : ℕ) (journal : List Event) : Type 0 where
@@ -142,7 +139,7 @@ module _ (L : Spellings) (by : Caller) (ids : AnyIds) (mine : Sessions) (s : Ses
           drawn = drawn;
           written = record {
             news = x.news;
-            manifests = WerePut-makes by start x.news over_put (Is_over (Over_done version now)) old new n (were-put old a.ready);
+            manifests = more-makes (WereWritten by.number s x.news id start) (WereWritten-append by.number s x.news id start) by over_put (Is_over (Over_done version now)) old new n (written-by old a.ready);
             time = flushed;
             log = WasLogged-makes by start id flushed over_put (Is_over (Over_done version now)) old new n a.log;
             snapshot = WasSnapped-makes by start id message flushed over_put (Is_over (Over_done version now)) old new n a.snapshot;
@@ -155,12 +152,15 @@ module _ (L : Spellings) (by : Caller) (ids : AnyIds) (mine : Sessions) (s : Ses
     moved-told there now old new k n =
         let differs = over-moved (length n.middle) n.time (version_of s) (found n.middle (Branch (branch_of s))) there now (over-same _ _ n.answered.answered) in
         let o' = subst (λ (h : List Event). IsOpened s h) (sym n.waits.is) (IsOpened-append s old n.waits.between (good-waits by old n.waits.between n.waits.others) k.opened) in
-        let tip = tip-named n.middle s.base s.tip may_write o'.named in
+        let tip = tip-named n.middle s.base s.origin may_write o'.named in
         record {
           old_is = refl;
           next_is = later-later s.ids x.ids (after12 x.ids) k.ids (later-drawn12 x.ids);
           id = id;
           drawn = drawn;
+          news = x.news;
+          manifests = more-makes (WereWritten by.number s x.news id start) (WereWritten-append by.number s x.news id start) by over_put (Is_over (Moved there now)) old new n (written-by old k);
+          behind = ap after12 k.behind;
           bytes = ref_bytes id;
           names = L.reference.written id is_id;
           now = now;
@@ -177,7 +177,8 @@ module _ (L : Spellings) (by : Caller) (ids : AnyIds) (mine : Sessions) (s : Ses
 
     branch-walks : (flushed : ℕ) (journal : List Event) → AfterSnapshot flushed journal → Walks Careful Nothing Told by (put_branch s id next) journal
     branch-walks flushed journal a =
-        walks-ask Careful Nothing Told by over_put (after_branch s id next) journal (over-careful L by ids mine s message start x id own is_id may w m logs may_write flushed journal a.ready a.logged a.snapped) a.ready.nothing
+        walks-ask Careful Nothing Told by over_put (after_branch s id next) journal
+        (over-careful L by ids mine s message start x id own is_id may w m logs may_write flushed journal a.ready a.logged a.snapped, own-commit L by.number s message start x id flushed journal a.ready a.snapped is_id a.log a.snapshot) a.ready.nothing
         (λ reply new n. (λ off. absurd cc, branch-told flushed reply journal new a n))
 
     -- ---- the snapshot
@@ -232,9 +233,9 @@ module _ (L : Spellings) (by : Caller) (ids : AnyIds) (mine : Sessions) (s : Ses
     snapshot-walks : (flushed : ℕ) → flushed < 2 ^ 64 → (journal : List Event) → AfterLog flushed journal → (long : Bool) → is_long (snap_bytes flushed) ≡ long
         → Walks Careful Nothing Told by (cond long (Done (Err (R.TooLarge kinds.Snapshot))) (Ask (snap_put flushed) (after_snapshot s id next))) journal
     snapshot-walks flushed f journal a true e =
-        walks-done Careful Nothing Told by (Err (R.TooLarge kinds.Snapshot)) journal (record { id = id; drawn = drawn; news = x.news; manifests = were-put journal a.ready; time = flushed; log = a.log; long = e }, a.ready.nothing)
+        walks-done Careful Nothing Told by (Err (R.TooLarge kinds.Snapshot)) journal (record { id = id; news = x.news; manifests = written-by journal a.ready; time = flushed; log = a.log; long = e }, a.ready.nothing)
     snapshot-walks flushed f journal a false e =
-        walks-ask Careful Nothing Told by (snap_put flushed) (after_snapshot s id next) journal (snap-careful-now flushed f e journal a) a.ready.nothing
+        walks-ask Careful Nothing Told by (snap_put flushed) (after_snapshot s id next) journal (snap-careful-now flushed f e journal a, tt) a.ready.nothing
         (λ reply new n. (λ off. snap-nothing flushed reply journal new a.ready.nothing n, snapshot-told flushed f e reply journal new a n))
 
     -- ---- the log
@@ -269,7 +270,7 @@ module _ (L : Spellings) (by : Caller) (ids : AnyIds) (mine : Sessions) (s : Ses
 
     log-walks : (journal : List Event) → Ready x journal → Walks Careful Nothing Told by (Ask (PutNew (Txn id) (log_file (log_for s id)) Set) (after_log s message x.news id (after12 x.ids))) journal
     log-walks journal k =
-        walks-ask Careful Nothing Told by log_put (after_log s message x.news id next) journal (log-careful L by ids mine s message start x id own is_id may w m logs journal) k.nothing
+        walks-ask Careful Nothing Told by log_put (after_log s message x.news id next) journal (log-careful L by ids mine s message start x id own is_id may w m logs journal, tt) k.nothing
         (λ reply new n. (λ off. log-nothing reply journal new k.nothing n, log-told reply journal new k n))
 
   -- ---- behind the arrays
@@ -277,22 +278,25 @@ module _ (L : Spellings) (by : Caller) (ids : AnyIds) (mine : Sessions) (s : Ses
     by_length : (id : Id12) → drawn12 x.ids ≡ Some id → (long : Bool) → is_long (log_file (log_for s id)) ≡ long
         → Walks Careful Nothing Told by (cond long (Done (Err (R.TooLarge kinds.Log))) (Ask (PutNew (Txn id) (log_file (log_for s id)) Set) (after_log s message x.news id (after12 x.ids)))) journal
     by_length id e true l = walks-done Careful Nothing Told by (Err (R.TooLarge kinds.Log)) journal (record { id = id; drawn = object-drawn s.ids x.ids id k.ids e; long = l }, k.nothing)
-    by_length id e false l = let drawn = object-drawn s.ids x.ids id k.ids e in log-walks x id (λ h. draws h id drawn) (drawn12-IsId12 x.ids id e) drawn l may_write journal k
+    by_length id e false l = let drawn = object-drawn s.ids x.ids id k.ids e in log-walks x id (λ h. draws h id drawn) (drawn12-IsId12 x.ids id e) drawn e l may_write journal k
+
+    abbrev arrays : List ChangedArray
+    arrays = changed_arrays s.held (base_nodes s)
 
     by_draw : (o : Option Id12) → drawn12 x.ids ≡ o → Walks Careful Nothing Told by (put_log s message x.news o (after12 x.ids)) journal
-    by_draw None e = walks-done Careful Nothing Told by (Err R.IdsSpent) journal (record { later = x.ids; is_later = k.ids; spent = e }, k.nothing)
+    by_draw None e = walks-done Careful Nothing Told by (Err R.IdsSpent) journal (record { front = arrays; left = []; are = append-nil arrays; news = x.news; listed = k.listed; needs = tt; spent = subst (λ (i : AnyIds). drawn12 i ≡ None) k.behind e }, k.nothing)
     by_draw (Some id) e = by_length id e (is_long (log_file (log_for s id))) refl
 
   -- Whatever others do, each operation of a commit is polite and owed; wherever it may find no memory, its client has changed no branch;
   -- and its answer tells the journal so.
-  pub commit-walks : ((h : List Event) (id : Id12) → MayDrawObject s.ids id → mine h s id) → (journal : List Event) → IsOpened s journal → ChangedNothing by.number start journal → Walks (IsCareful ids mine) (ChangedNothing by.number start) (CommitTells by.number s message start) by (commit_program s message) journal
+  pub commit-walks : ((h : List Event) (id : Id12) → MayDrawObject s.ids id → mine h s id) → (journal : List Event) → IsOpened s journal → ChangedNothing by.number start journal → Walks (IsMinded ids mine s start) (ChangedNothing by.number start) (CommitTells by.number s message start) by (commit_program s message) journal
   unfolding commit_program
   commit-walks draws journal o c = by_tests (writes s) refl (is_untouched (touched s.held (base_nodes s))) refl
     where
       all : writes s ≡ true → Walks Careful Nothing Told by (write_all s message) journal
       all may_write =
           walks-then Careful Nothing (Ready) (λ why h. Told (Err why) h) Told by (arrays_program s.rows s.held.chunks (changed_arrays s.held (base_nodes s)) (unwritten s)) (after_arrays s message) journal
-          (arrays-walks L by ids mine s message later w start [] (changed_arrays s.held (base_nodes s)) (unwritten s) journal refl (record { opened = o; nothing = c; ids = later-same s.ids; lists = tt }))
+          (arrays-walks L by ids mine s message later w start [] (changed_arrays s.held (base_nodes s)) (unwritten s) journal refl (none-written by s start journal o c))
           (λ x h k. by_draw draws may_write x h k (drawn12 x.ids) refl)
           (λ why h e. e)
 

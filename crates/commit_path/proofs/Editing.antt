@@ -34,7 +34,7 @@ use Rattle.zarr_changes.proofs.DropLaws.{drop-law}
 use Rattle.manifest_file.specs.declared.manifest.Place.{Place}
 use Rattle.manifest_file.specs.declared.manifest.Place.TheVariants.{Object}
 use Rattle.changed_snapshot.specs.Laws.{IsFineNode}
-use Rattle.store_api.specs.declared.events.Event.{Event}
+use Rattle.object_store.specs.declared.events.Event.{Event}
 use Rattle.store_api.specs.declared.machines.Refusal.{Refusal}
 use Rattle.store_api.specs.Journal.{puts_of, IsOnce}
 use Rattle.session.specs.Sessions.{SessionState, writes, base_nodes, nodes_seen}
@@ -102,6 +102,15 @@ node-added fault s t path text id tells e =
     let by_tree = taken (add_refusal (nodes_seen s) path) _ (id, t) by_text.1 in
     let by_draw : Drew s t path text id = drew s t path text id (drawn8 s.ids) refl by_tree.1 in
     record { metadata = no_fault fault text tells by_text.0; allowed = by_tree.0; drawn = by_draw.drawn; is = by_draw.is }
+
+-- what an added node leaves, whatever its text
+pub node-is : (fault : Result View MetaFault → Option MetaFault) (s t : SessionState) (path text : List ℕ) (id : Id8) → added fault s path text ≡ Ok (id, t) → t ≡ with_node s path text id
+unfolding added
+node-is fault s t path text id e =
+    let by_text = good (fault (meta_of text)) _ (id, t) (written (writes s) _ (id, t) e) in
+    let by_tree = taken (add_refusal (nodes_seen s) path) _ (id, t) by_text.1 in
+    let by_draw : Drew s t path text id = drew s t path text id (drawn8 s.ids) refl by_tree.1 in
+    by_draw.is
 
 pub record TextSet (s t : SessionState) (path text : List ℕ) : Type 0 where
   pub metadata : is_metadata text ≡ true
@@ -255,7 +264,7 @@ sized-fewer old new f z node i entry e = z node i entry (f node i entry e)
 pub fewer-opened : (s : SessionState) (h : Held Place) (ids : AnyIds) (journal : List Event) → AreFewer s.held.chunks h.chunks → IsOpened s journal → IsOpened (record s { held = h; ids = ids }) journal
 fewer-opened s h ids journal f o = opened-by s h ids journal o (λ node i id offset size e. o.objects node i id offset size (f node i (Some (Object id offset size)) e)) (λ once node i place e. o.chunks once node i place (f node i (Some place) e))
 
-same-fewer : (old new : List (Entry Place)) → new ≡ old → AreFewer old new
+pub same-fewer : (old new : List (Entry Place)) → new ≡ old → AreFewer old new
 same-fewer old new same node i x e = ap (λ (rows : List (Entry Place)). entry_in rows node i) (sym same) ∙ e
 
 pub added-spelled : (s t : SessionState) (path text : List ℕ) (id : Id8) → Added s t path text id → is_path path ≡ true → is_utf8 path ≡ true → IsSpelled s → IsSpelled t
@@ -274,7 +283,7 @@ same_chunks h p text (Some m) u = refl
 same_chunks h p text None (Some m) = refl
 same_chunks h p text None None = refl
 
-text-fewer : (s : SessionState) (path text : List ℕ) → AreFewer s.held.chunks (with_text_at s.held (base_nodes s) path text).chunks
+pub text-fewer : (s : SessionState) (path text : List ℕ) → AreFewer s.held.chunks (with_text_at s.held (base_nodes s) path text).chunks
 text-fewer s path text = same-fewer s.held.chunks (with_text_at s.held (base_nodes s) path text).chunks (same_chunks s.held path text (get s.held.added path) (get (nodes_over s.held (base_nodes s)) path))
 
 pub set-spelled : (s t : SessionState) (path text : List ℕ) → TextSet s t path text → IsSpelled s → IsSpelled t
@@ -289,7 +298,7 @@ set-spelled s t path text a w =
 pub set-opened : (s t : SessionState) (path text : List ℕ) (journal : List Event) → TextSet s t path text → IsOpened s journal → IsOpened t journal
 set-opened s t path text journal a o = subst (λ (x : SessionState). IsOpened x journal) (sym a.is) (fewer-opened s (with_text_at s.held (base_nodes s) path text) s.ids journal (text-fewer s path text) o)
 
-drop-fewer : (s : SessionState) (path : List ℕ) → AreFewer s.held.chunks (without_node s.held (base_nodes s) path).chunks
+pub drop-fewer : (s : SessionState) (path : List ℕ) → AreFewer s.held.chunks (without_node s.held (base_nodes s) path).chunks
 drop-fewer s path = filter-fewer (λ node j. not (has_id_within (nodes_over s.held (base_nodes s)) path node)) s.held.chunks
 
 pub dropped-spelled : (s t : SessionState) (path : List ℕ) → Dropped s t path → IsSpelled s → IsSpelled t

@@ -1,10 +1,10 @@
 -- Programs that make gets alone.
 use Rattle.std.proofs.Common.{◌≡◌, ℕ, List, ◌++◌, refl, subst}
-use Rattle.store_api.specs.declared.keys.Key.{Key}
-use Rattle.store_api.specs.declared.events.Op.{Op}
-use Rattle.store_api.specs.declared.events.Op.TheVariants.{Get}
-use Rattle.store_api.specs.declared.events.Reply.{Reply}
-use Rattle.store_api.specs.declared.events.Event.{Event}
+use Rattle.object_store.specs.declared.keys.Key.{Key}
+use Rattle.object_store.specs.declared.events.Op.{Op}
+use Rattle.object_store.specs.declared.events.Op.TheVariants.{Get}
+use Rattle.object_store.specs.declared.events.Reply.{Reply}
+use Rattle.object_store.specs.declared.events.Event.{Event}
 use Rattle.store_api.specs.Journal.{Each, IsGood, IsPolite}
 use Rattle.store_api.specs.Callers.{Caller, Makes}
 use Rattle.store_api.specs.Program.{Prog, Done, Ask, bind, Keeps, Leads}

@@ -1,5 +1,5 @@
 -- What is known of manifests that were got, and of new lists that were written, whatever good events come.
-use Rattle.std.proofs.Common.{◌≡◌, inl, inr, ℕ, zero, suc, nat_eq, slice_index_or, ◌<◌, ◌^◌, true, false, cond, List, [], ◌∷◌, ◌++◌, length, refl, subst, arith}
+use Rattle.std.proofs.Common.{◌≡◌, ◌⊎◌, inl, inr, ℕ, zero, suc, nat_eq, slice_index_or, ◌<◌, ◌^◌, true, false, cond, List, [], ◌∷◌, ◌++◌, length, refl, subst, arith}
 use Rattle.std.specs.Prelude.{nat_lt, Option, Some, None}
 use Rattle.std.specs.List.{AllZip, Contains}
 use Rattle.std.proofs.lemmas.Bool.Decides.{nat_tests}
@@ -7,35 +7,37 @@ use Rattle.std.proofs.lemmas.List.Elements.{Contains-append_right}
 use Rattle.ice_ids.specs.declared.Id8.{Id8}
 use Rattle.ice_ids.specs.declared.Id12.{Id12}
 use Rattle.flat_tables.specs.File.{file_limit}
+use Rattle.zarr_tree.specs.Held.{Entry, entry_in}
 use Rattle.manifest_file.specs.declared.manifest.Place.{Place}
+use Rattle.manifest_file.specs.declared.manifest.Place.TheVariants.{Object}
+use Rattle.manifest_file.specs.declared.manifest.ManifestFile.{ManifestFile}
 use Rattle.manifest_file.specs.Manifests.{refs_limit}
 use Rattle.held_manifest.specs.LookUp.{Listed, chunk_place}
 use Rattle.snapshot_file.specs.declared.nodes.ManifestRef.{ManifestRef}
-use Rattle.store_api.specs.declared.keys.Key.TheVariants.{Manifest}
-use Rattle.store_api.specs.declared.keys.Why.TheVariants.{Set}
-use Rattle.store_api.specs.declared.events.Op.{Op}
-use Rattle.store_api.specs.declared.events.Op.TheVariants.{PutNew}
-use Rattle.store_api.specs.declared.events.New.TheVariants.{Done as New_done}
-use Rattle.store_api.specs.declared.events.Reply.{Reply}
-use Rattle.store_api.specs.declared.events.Reply.TheVariants.{New as Is_new}
-use Rattle.store_api.specs.declared.events.Event.{Event}
+use Rattle.repo_objects.specs.Trees.{Extends, NamesManifest, NamesChunk, manifest_put}
+use Rattle.object_store.specs.declared.keys.Key.TheVariants.{Manifest}
+use Rattle.object_store.specs.declared.events.Op.{Op}
+use Rattle.object_store.specs.declared.events.Reply.{Reply}
+use Rattle.object_store.specs.declared.events.Event.{Event}
 use Rattle.store_api.specs.Journal.{Each, WasPut, StoodAt, puts_of, IsOnce, IsPolite, IsGood}
 use Rattle.store_api.specs.Callers.{Caller, Makes}
-use Rattle.store_api.proofs.Slots.{WasPut-append, StoodAt-append}
+use Rattle.object_store.proofs.Slots.{WasPut-append, StoodAt-append}
 use Rattle.session.specs.Sessions.{SessionState}
 use Rattle.zarr_changes.specs.declared.chunks.ChangedArray.{ChangedArray}
 use Rattle.changed_snapshot.specs.declared.written.NewManifest.{NewManifest}
 use Rattle.changed_snapshot.specs.declared.written.NewList.{NewList}
 use Rattle.changed_snapshot.specs.Laws.{IsSized}
 use Rattle.session.specs.Sources.{IsLater, MayDrawObject}
-use Rattle.commit_path.specs.Committing.{Written}
-use Rattle.commit_path.specs.Answered.{WasRead, WereRead, WasManifestPut}
+use Rattle.commit_path.specs.Committing.{Written, unwritten}
+use Rattle.commit_path.specs.Own.{PutItself}
+use Rattle.commit_path.specs.Answered.{WasRead, WereRead, ids_behind, AreInTurn, WereListed}
 use Rattle.store_api.specs.Telling.{ChangedNothing}
 use Rattle.commit_path.specs.Opened.{IsOpened}
 use Rattle.commit_path.proofs.Putting.{puts-kept}
 use Rattle.commit_path.proofs.Rewriting.{IsRead, AreRead, Rewritten, rewritten-extends, zip-weaker, Among}
 use Rattle.store_api.proofs.Telling.{makes-keeps}
-use Rattle.store_api.proofs.Happening.{HasOwn-append, WasGot-append}
+use Rattle.commit_path.proofs.Sources.{later-same}
+use Rattle.commit_path.proofs.Listing.{more-makes, PutItself-append, WasRead-append, WereListed-append}
 use Rattle.commit_path.proofs.Knowing.{once-front, IsOpened-append}
 
 -- ---- what is known of a manifest that was got
@@ -43,9 +45,6 @@ pub record IsGot (client : ℕ) (start journal : List Event) (m : ManifestRef) (
   pub told : WasRead client start journal m l
   pub stood : StoodAt journal (Manifest m.id) told.version told.bytes
   pub now : IsOnce journal → IsRead (puts_of journal) m l
-
-abbrev pub WasRead-append : (client : ℕ) (start journal more : List Event) (m : ManifestRef) (l : Listed) → WasRead client start journal m l → WasRead client start (journal ++ more) m l
-WasRead-append client start journal more m l r = record { bytes = r.bytes; version = r.version; got = WasGot-append client (Manifest m.id) r.bytes r.version start journal more r.got; read = r.read; extents = r.extents }
 
 pub IsGot-append : (client : ℕ) (start journal more : List Event) → Each IsGood journal more → (m : ManifestRef) (l : Listed) → IsGot client start journal m l → IsGot client start (journal ++ more) m l
 IsGot-append client start journal more g m l r = record {
@@ -87,9 +86,42 @@ got-for client start journal (m ∷ ms) (y ∷ ys) z l a = elim a [
 ]
 
 -- ---- what is known of a new list
+-- an entry of the session has the object
+pub record IsInEntries (entries : List (Entry Place)) (object : Id12) : Type 0 where
+  pub node : Id8
+  pub index : List ℕ
+  pub offset : ℕ
+  pub size : ℕ
+  pub entry : entry_in entries node index ≡ Some (Some (Object object offset size))
+
+-- a manifest that the base names does
+pub record IsInBase (s : SessionState) (journal : List Event) (object : Id12) : Type 0 where
+  pub manifest : Id12
+  pub named : NamesManifest s.rows manifest
+  pub file : ManifestFile
+  pub put : manifest_put (puts_of journal) manifest ≡ Some file
+  pub names : NamesChunk file object
+
+-- each object of a new manifest is the session's, or the base's
+pub record IsFilled (s : SessionState) (journal : List Event) (m : NewManifest) : Type 0 where
+  pub file : ManifestFile
+  pub put : manifest_put (puts_of journal) m.id ≡ Some file
+  pub chunks : (object : Id12) → NamesChunk file object → IsInEntries s.held.chunks object ⊎ IsInBase s journal object
+
+filled-extends : (s : SessionState) (journal more : List Event) (m : NewManifest) → Extends (puts_of journal) (puts_of (journal ++ more)) → IsFilled s journal m → IsFilled s (journal ++ more) m
+filled-extends s journal more m x f = record {
+  file = f.file;
+  put = x.manifests m.id f.file f.put;
+  chunks = λ object n. elim (f.chunks object n) [
+    | inl own ↦ inl own
+    | inr old ↦ inr (record { manifest = old.manifest; named = old.named; file = old.file; put = x.manifests old.manifest old.file old.put; names = old.names })
+  ];
+}
+
 pub record IsOwnNew (s : SessionState) (client : ℕ) (start journal : List Event) (m : NewManifest) : Type 0 where
   pub put : WasPut journal (Manifest m.id)
-  pub own : WasManifestPut client m.id start journal
+  pub own : PutItself client (Manifest m.id) start journal
+  pub filled : IsOnce journal → IsFilled s journal m
   pub drawn : MayDrawObject s.ids m.id
   pub sized : IsSized m
 
@@ -98,13 +130,10 @@ pub record IsNewFor (s : SessionState) (client : ℕ) (start journal : List Even
   pub known : (m : NewManifest) → n.manifest ≡ Some m → IsOwnNew s client start journal m
   pub list : IsOnce journal → Rewritten (puts_of journal) s.rows s.held.chunks a n.manifest
 
-pub WasManifestPut-append : (client : ℕ) (id : Id12) (start journal more : List Event) → WasManifestPut client id start journal → WasManifestPut client id start (journal ++ more)
-WasManifestPut-append client id start journal more p = record { bytes = p.bytes; version = p.version; now = p.now; own = HasOwn-append client (PutNew (Manifest id) p.bytes Set) (Is_new (New_done p.version p.now)) start journal more p.own }
-
 pub IsNewFor-append : (s : SessionState) (client : ℕ) (start journal more : List Event) → Each IsGood journal more → (a : ChangedArray) (n : NewList) → IsNewFor s client start journal a n → IsNewFor s client start (journal ++ more) a n
 IsNewFor-append s client start journal more g a n k = record {
   path = k.path;
-  known = λ m e. let o = k.known m e in record { put = WasPut-append journal more (Manifest m.id) o.put; own = WasManifestPut-append client m.id start journal more o.own; drawn = o.drawn; sized = o.sized };
+  known = λ m e. let o = k.known m e in record { put = WasPut-append journal more (Manifest m.id) o.put; own = PutItself-append client (Manifest m.id) start journal more o.own; filled = λ once. filled-extends s journal more m (puts-kept journal more g once) (o.filled (once-front journal more once)); drawn = o.drawn; sized = o.sized };
   list = λ once. rewritten-extends (puts_of journal) (puts_of (journal ++ more)) (puts-kept journal more g once) s.rows s.held.chunks a n.manifest (k.list (once-front journal more once));
 }
 
@@ -120,6 +149,13 @@ pub record Wrote (s : SessionState) (client : ℕ) (start : List Event) (arrays 
   pub nothing : ChangedNothing client start journal
   pub ids : IsLater s.ids x.ids
   pub lists : AreNewFor s client start arrays x.news journal
+  pub listed : WereListed client s arrays x.news start journal
+  pub behind : x.ids ≡ ids_behind s.ids x.news
+
+-- nothing is written yet
+pub none-written : (by : Caller) (s : SessionState) (start journal : List Event) → IsOpened s journal → ChangedNothing by.number start journal → Wrote s by.number start [] (unwritten s) journal
+unfolding ids_behind AreInTurn
+none-written by s start journal o c = record { opened = o; nothing = c; ids = later-same s.ids; lists = tt; listed = record { lists = tt; turn = tt }; behind = refl }
 
 -- an own event that leaves the branches
 pub Wrote-makes : (by : Caller) (s : SessionState) (start : List Event) (arrays : List ChangedArray) (x : Written) (op : Op) (reply : Reply) (old new : List Event) → IsPolite old op → (n : Makes by op reply old new) → ChangedNothing by.number start new → Wrote s by.number start arrays x old → Wrote s by.number start arrays x new
@@ -128,6 +164,8 @@ Wrote-makes by s start arrays x op reply old new polite n nothing k = record {
   nothing = nothing;
   ids = k.ids;
   lists = makes-keeps (AreNewFor s by.number start arrays x.news) (AreNewFor-append s by.number start arrays x.news) by op reply old new polite n k.lists;
+  listed = more-makes (WereListed by.number s arrays x.news start) (WereListed-append by.number s arrays x.news start) by op reply old new n k.listed;
+  behind = k.behind;
 }
 
 -- the one array of a manifest

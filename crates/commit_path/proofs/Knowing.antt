@@ -1,18 +1,20 @@
 -- What a session knows of the journal, whatever good events come.
 use Rattle.std.proofs.Common.{◌≡◌, ℕ, true, List, [], ◌++◌, ◌∙◌, ap}
-use Rattle.std.specs.Prelude.{Option, Some, None, is_some, option_map}
+use Rattle.std.specs.Prelude.{Option, Some, None, option_map}
 use Rattle.ice_ids.specs.declared.Id12.{Id12}
 use Rattle.snapshot_file.specs.declared.nodes.NodeRow.{NodeRow}
 use Rattle.repo_objects.specs.Trees.{tree_under}
-use Rattle.store_api.specs.declared.keys.Key.TheVariants.{Snapshot, Chunk, Branch}
-use Rattle.store_api.specs.declared.events.Event.{Event}
-use Rattle.store_api.specs.Machine.{last_put}
+use Rattle.object_store.specs.declared.keys.Key.TheVariants.{Snapshot, Chunk, Branch}
+use Rattle.object_store.specs.declared.events.Event.{Event}
+use Rattle.object_store.specs.Machine.{last_put}
 use Rattle.store_api.specs.Journal.{Each, WasPut, puts_of, rows_of, tree_of, snap_in, IsFirst, IsOnce, IsGood}
-use Rattle.store_api.proofs.Journals.{Each-back}
-use Rattle.store_api.proofs.Slots.{WasPut-append, StoodAt-append}
+use Rattle.object_store.proofs.Journals.{Each-back}
+use Rattle.object_store.proofs.Slots.{WasPut-append, StoodAt-append}
 use Rattle.store_api.proofs.Standing.{by-rows, rows-stay, HadRows-append}
-use Rattle.session.specs.declared.tip.Tip.{Tip}
-use Rattle.session.specs.Sessions.{SessionState, tip_branch, tip_version, tip_at}
+use Rattle.session.specs.declared.origin.Tip.{Tip}
+use Rattle.session.specs.declared.origin.Origin.{Origin}
+use Rattle.session.specs.declared.origin.Origin.TheVariants.{Writes, ReadsBranch, ReadsTag, ReadsId}
+use Rattle.session.specs.Sessions.{SessionState, tip_branch, tip_version, tip_in, tip_of, writes_in, origin_at}
 use Rattle.commit_path.specs.Opened.{BranchNamed, IsTip, IsOpened}
 use Rattle.commit_path.proofs.Putting.{puts-kept, chunks-extend}
 
@@ -39,19 +41,23 @@ IsTip-append journal more base None n = tt
 IsTip-append journal more base (Some tip) n = BranchNamed-append journal more tip.branch tip.version.0 base n
 
 -- one that writes has it
-pub tip-named : (journal : List Event) (base : Id12) (tip : Option Tip) → is_some tip ≡ true → IsTip journal base tip → BranchNamed journal (tip_branch tip) (tip_version tip) base
-tip-named journal base None e n = cc
-tip-named journal base (Some tip) e n = n
+pub tip-named : (journal : List Event) (base : Id12) (origin : Origin) → writes_in origin ≡ true → IsTip journal base (tip_in origin) → BranchNamed journal (tip_branch (tip_in origin)) (tip_version (tip_in origin)) base
+tip-named journal base (Writes tip) e n = n
+tip-named journal base (ReadsBranch tip) e n = n
+tip-named journal base (ReadsTag name) e n = cc
+tip-named journal base ReadsId e n = cc
 
 -- at another version
-pub tip-moved : (journal : List Event) (base : Id12) (version : ℕ) (tip : Option Tip) → BranchNamed journal (tip_branch tip) version base → IsTip journal base (tip_at version tip)
-tip-moved journal base version None n = tt
-tip-moved journal base version (Some tip) n = n
+pub tip-moved : (journal : List Event) (base : Id12) (version : ℕ) (origin : Origin) → BranchNamed journal (tip_branch (tip_in origin)) version base → IsTip journal base (tip_in (origin_at version origin))
+tip-moved journal base version (Writes tip) n = n
+tip-moved journal base version (ReadsBranch tip) n = n
+tip-moved journal base version (ReadsTag name) n = tt
+tip-moved journal base version ReadsId n = tt
 
 -- ---- all that a session knows
 pub IsOpened-append : (s : SessionState) (journal more : List Event) → Each IsGood journal more → IsOpened s journal → IsOpened s (journal ++ more)
 IsOpened-append s journal more g o = record {
-  named = IsTip-append journal more s.base s.tip o.named;
+  named = IsTip-append journal more s.base (tip_of s) o.named;
   put = WasPut-append journal more (Snapshot s.base) o.put;
   had = HadRows-append journal more s.base s.rows o.had;
   rows = rows-kept journal more s.base s.rows o.put g o.rows;

@@ -4,20 +4,19 @@ use Rattle.std.specs.Prelude.{Option, Result, Ok, Err}
 use Rattle.ice_ids.specs.declared.Id12.{Id12}
 use Rattle.flat_tables.specs.declared.header.Kind.{Kind}
 use Rattle.flat_tables.specs.declared.header.Kind.TheVariants as kinds
-use Rattle.held_manifest.specs.LookUp.{Listed}
-use Rattle.snapshot_file.specs.declared.nodes.ManifestRef.{ManifestRef}
+use Rattle.zarr_changes.specs.declared.chunks.ChangedArray.{ChangedArray}
 use Rattle.changed_snapshot.specs.declared.written.NewList.{NewList}
 use Rattle.changed_snapshot.specs.Rows.{own_manifests}
-use Rattle.store_api.specs.declared.keys.Key.{Key}
-use Rattle.store_api.specs.declared.keys.Key.TheVariants.{Snapshot, Manifest, Txn}
-use Rattle.store_api.specs.declared.keys.Why.TheVariants.{Set}
-use Rattle.store_api.specs.declared.events.Version.{Version}
-use Rattle.store_api.specs.declared.events.Op.{Op}
-use Rattle.store_api.specs.declared.events.Op.TheVariants.{PutNew}
-use Rattle.store_api.specs.declared.events.New.TheVariants.{Done as New_done, Present}
-use Rattle.store_api.specs.declared.events.Over.TheVariants.{Done as Over_done, Moved}
-use Rattle.store_api.specs.declared.events.Reply.TheVariants.{New as Is_new, Over as Is_over, Failed}
-use Rattle.store_api.specs.declared.events.Event.{Event}
+use Rattle.object_store.specs.declared.keys.Key.{Key}
+use Rattle.object_store.specs.declared.keys.Key.TheVariants.{Snapshot, Manifest, Txn}
+use Rattle.object_store.specs.declared.keys.Why.TheVariants.{Set}
+use Rattle.object_store.specs.declared.events.Version.{Version}
+use Rattle.object_store.specs.declared.events.Op.{Op}
+use Rattle.object_store.specs.declared.events.Op.TheVariants.{PutNew}
+use Rattle.object_store.specs.declared.events.New.TheVariants.{Done as New_done, Present}
+use Rattle.object_store.specs.declared.events.Over.TheVariants.{Done as Over_done, Moved}
+use Rattle.object_store.specs.declared.events.Reply.TheVariants.{New as Is_new, Over as Is_over, Failed}
+use Rattle.object_store.specs.declared.events.Event.{Event}
 use Rattle.store_api.specs.declared.machines.Refusal.{Refusal}
 use Rattle.store_api.specs.declared.machines.Refusal.TheVariants as R
 use Rattle.store_api.specs.Journal.{Each}
@@ -28,11 +27,10 @@ use Rattle.ice_ids.specs.declared.drawing.AnyIds.{AnyIds}
 use Rattle.commit_path.specs.declared.commit.Committed.{Committed}
 use Rattle.commit_path.specs.declared.commit.Tried.{Tried}
 use Rattle.commit_path.specs.declared.commit.Tried.TheVariants.{Done as Was_done, Lost}
-use Rattle.commit_path.specs.Answered.{commits_over, WasLogged, WasSnapped, WasManifestPut, WerePut, WasRead, WereRead, TookEffect, WasMoved, WasTaken, IsOfCommit, IsLong, CommitRefused, CommitTells}
+use Rattle.commit_path.specs.Answered.{commits_over, WasLogged, WasSnapped, WereWritten, TookEffect, WasMoved, WasTaken, IsOfCommit, IsLong, NeedsId, HasNoId, CommitRefused, CommitTells}
 use Rattle.store_api.specs.Telling.{ChangedOnce, WasFailed}
-use Rattle.commit_path.proofs.Rewriting.{zip-weaker}
 use Rattle.store_api.proofs.Happening.{ChangedNothing-others, HasOwn-append, WasGot-append, WasAbsent-append}
-use Rattle.commit_path.proofs.Having.{WasRead-append, WasManifestPut-append}
+use Rattle.commit_path.proofs.Listing.{WereRead-append, WereListed-append, WereWritten-append}
 use Rattle.commit_path.proofs.Owing.{made-stable}
 
 module _ (by : Caller) (start journal more : List Event) (others : Each (IsOther by) journal more) where
@@ -57,11 +55,8 @@ module _ (by : Caller) (start journal more : List Event) (others : Each (IsOther
     own = HasOwn-append by.number (PutNew (Snapshot id) p.bytes Set) (Is_new (New_done p.version p.now)) start journal more p.own;
   }
 
-  manifest-others : (id : Id12) → WasManifestPut by.number id start journal → WasManifestPut by.number id start (journal ++ more)
-  manifest-others id p = WasManifestPut-append by.number id start journal more p
-
-  were-others : (news : List NewList) → WerePut by.number news start journal → WerePut by.number news start (journal ++ more)
-  were-others news p list manifest c e = manifest-others manifest.id (p list manifest c e)
+  written-others : (s : SessionState) (news : List NewList) (id : Id12) → WereWritten by.number s news id start journal → WereWritten by.number s news id start (journal ++ more)
+  written-others s news id w = WereWritten-append by.number s news id start journal more w
 
   effect-others : (s : SessionState) (message : List ℕ) (made : Committed) → TookEffect by.number s message made start journal → TookEffect by.number s message made start (journal ++ more)
   effect-others s message made t = record {
@@ -75,7 +70,7 @@ module _ (by : Caller) (start journal more : List Event) (others : Each (IsOther
     drawn = t.drawn;
     written = record {
       news = t.written.news;
-      manifests = were-others t.written.news t.written.manifests;
+      manifests = written-others s t.written.news made.id t.written.manifests;
       time = t.written.time;
       log = logged-others made.id t.written.time t.written.log;
       snapshot = snapped-others made.id message t.written.time t.written.snapshot;
@@ -90,6 +85,9 @@ module _ (by : Caller) (start journal more : List Event) (others : Each (IsOther
     next_is = t.next_is;
     id = t.id;
     drawn = t.drawn;
+    news = t.news;
+    manifests = written-others s t.news t.id t.manifests;
+    behind = t.behind;
     bytes = t.bytes;
     names = t.names;
     now = t.now;
@@ -110,18 +108,22 @@ module _ (by : Caller) (start journal more : List Event) (others : Each (IsOther
     there = t.there;
   }
 
-  read-others : (manifests : List ManifestRef) (old : List Listed) → WereRead by.number manifests old start journal → WereRead by.number manifests old start (journal ++ more)
-  read-others manifests old r = zip-weaker (WasRead by.number start journal) (WasRead by.number start (journal ++ more)) (WasRead-append by.number start journal more) manifests old r
-
   long-others : (s : SessionState) (message : List ℕ) (kind : Kind) → IsLong by.number s message kind start journal → IsLong by.number s message kind start (journal ++ more)
-  long-others s message kinds.Manifest t = record { array = t.array; among = t.among; old = t.old; read = read-others (own_manifests s.rows t.array.path t.array.node) t.old t.read; refs = t.refs; merged = t.merged; id = t.id; cause = t.cause }
+  long-others s message kinds.Manifest t = record { array = t.array; among = t.among; old = t.old; read = WereRead-append by.number (own_manifests s.rows t.array.path t.array.node) t.old start journal more t.read; refs = t.refs; merged = t.merged; id = t.id; cause = t.cause }
   long-others s message kinds.Log t = t
-  long-others s message kinds.Snapshot t = record { id = t.id; drawn = t.drawn; news = t.news; manifests = were-others t.news t.manifests; time = t.time; log = logged-others t.id t.time t.log; long = t.long }
+  long-others s message kinds.Snapshot t = record { id = t.id; news = t.news; manifests = written-others s t.news t.id t.manifests; time = t.time; log = logged-others t.id t.time t.log; long = t.long }
+
+  needs-others : (s : SessionState) (left : List ChangedArray) → NeedsId by.number s left start journal → NeedsId by.number s left start (journal ++ more)
+  needs-others s [] n = n
+  needs-others s (a ∷ left) n = record { old = n.old; read = WereRead-append by.number (own_manifests s.rows a.path a.node) n.old start journal more n.read; refs = n.refs; merged = n.merged }
+
+  spent-others : (s : SessionState) → HasNoId by.number s start journal → HasNoId by.number s start (journal ++ more)
+  spent-others s t = record { front = t.front; left = t.left; are = t.are; news = t.news; listed = WereListed-append by.number s t.front t.news start journal more t.listed; needs = needs-others s t.left t.needs; spent = t.spent }
 
   refused-others : (s : SessionState) (message : List ℕ) (why : Refusal) → CommitRefused by.number s message start why journal → CommitRefused by.number s message start why (journal ++ more)
   refused-others s message R.ReadOnly t = t
   refused-others s message R.NothingToCommit t = t
-  refused-others s message R.IdsSpent t = t
+  refused-others s message R.IdsSpent t = spent-others s t
   refused-others s message (R.TooLarge kind) t = long-others s message kind t
   refused-others s message (R.Missing key) t = record { manifest = t.manifest; named = t.named; key_is = t.key_is; absent = WasAbsent-append by.number (Manifest t.manifest) start journal more t.absent }
   refused-others s message (R.BadFile key bad) t = record { manifest = t.manifest; named = t.named; key_is = t.key_is; bytes = t.bytes; version = t.version; got = WasGot-append by.number (Manifest t.manifest) t.bytes t.version start journal more t.got; unread = t.unread }

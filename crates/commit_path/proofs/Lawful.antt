@@ -1,15 +1,17 @@
 -- The laws of openings and commits.
 use Rattle.std.proofs.Common.{◌≡◌, refl, List, ◌++◌, Result, Ok, Err}
 use Rattle.std.specs.Prelude.{IfOk}
-use Rattle.store_api.specs.declared.events.Event.{Event}
+use Rattle.object_store.specs.declared.events.Event.{Event}
 use Rattle.store_api.specs.declared.machines.Refusal.{Refusal}
 use Rattle.store_api.specs.Journal.{Each}
 use Rattle.store_api.specs.Callers.{Caller, IsOther}
 use Rattle.store_api.specs.Program.{Leads}
-use Rattle.store_api.proofs.Programs.{Leads-weaker, good-waits}
+use Rattle.store_api.proofs.Programs.{Keeps-weaker, Leads-weaker, good-waits}
 use Rattle.session.specs.Sessions.{SessionState}
 use Rattle.session.specs.Opening.{Asked, open_program}
-use Rattle.commit_path.specs.Owed.{Sessions}
+use Rattle.commit_path.specs.Owed.{Sessions, IsCareful}
+use Rattle.commit_path.specs.Committing.{commit_program}
+use Rattle.commit_path.proofs.Minding.{IsMinded}
 use Rattle.store_api.specs.Telling.{ChangedNothing}
 use Rattle.commit_path.specs.Opened.{OpeningTells}
 use Rattle.commit_path.specs.Spelled.{IsSpelled}
@@ -63,7 +65,7 @@ pub commit-law : Spellings → CommitLaw
 commit-law L by ids s message start journal later m w o c =
     let mine : Sessions = λ h t id. (t ≡ s) × MayDrawObject s.ids id in
     let all = commit-walks L by ids mine s message later w m start (λ h id drawn. (refl, drawn)) journal o c in
-    (all.keeps, all.stays, all.leads)
+    (Keeps-weaker (IsMinded ids mine s start) (IsCareful ids mine) (λ h client op k. k.0) by (commit_program s message) journal all.keeps, all.stays, all.leads)
 
 OpeningTells-others : (by : Caller) (a : Asked) (answer : Result SessionState Refusal) (start journal more : List Event) → Each (IsOther by) journal more → OpeningTells by.number a start answer journal → OpeningTells by.number a start answer (journal ++ more)
 OpeningTells-others by a (Ok s) start journal more others t = (WasBegun-append by.number a s start journal more t.0, IsOpened-append s journal more (good-waits by journal more others) t.1, ChangedNothing-others by start journal more others t.2)

@@ -10,10 +10,12 @@ pub mod Spelling
 pub mod Named
 pub mod Chunking
 pub mod Knowing
+pub mod Listing
 pub mod Having
-pub mod Writing
 pub mod Differing
 pub mod Owing
+pub mod Minding
+pub mod Writing
 pub mod Answering
 pub mod Lasting
 pub mod Gets
@@ -25,4 +27,6 @@ pub mod Singling
 pub mod Entries
 pub mod Editing
 pub mod Setting
+pub mod OwnPuts
+pub mod OwnKept
 pub mod Lawful

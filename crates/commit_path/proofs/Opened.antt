@@ -1,6 +1,6 @@
 -- What an opening keeps, and what a session knows that was opened.
 use Rattle.std.proofs.Common.{◌≡◌, ℕ, ◌+◌, ◌≤◌, Bool, true, false, cond, List, [], ◌∷◌, map, length, refl, sym, ◌∙◌, ap, subst, arith}
-use Rattle.std.specs.Prelude.{Option, Some, None, if◌then◌else◌, option_map, Result, Ok, Err}
+use Rattle.std.specs.Prelude.{Option, Some, None, option_map, Result, Ok, Err}
 use Rattle.std.specs.Option.{option_or}
 use Rattle.std.specs.Result.{result_ok}
 use Rattle.std.specs.FinMap.{FinMap, get, len, contains_key, from_entries, get-empty, len-empty, len-insert}
@@ -24,13 +24,13 @@ use Rattle.snapshot_file.specs.Snapshots.{node_limit}
 use Rattle.repo_objects.specs.declared.bad.Bad.{Bad}
 use Rattle.repo_objects.specs.Readings.{read_snapshot, read_ref, ref_of}
 use Rattle.repo_objects.specs.Trees.{node_of, nodes_in}
-use Rattle.store_api.specs.declared.keys.Key.TheVariants.{Snapshot, Branch, Tag, TagGone}
-use Rattle.store_api.specs.declared.events.Version.{Version}
-use Rattle.store_api.specs.declared.events.Op.TheVariants.{Get}
-use Rattle.store_api.specs.declared.events.Got.TheVariants.{Found, Absent}
-use Rattle.store_api.specs.declared.events.Reply.{Reply}
-use Rattle.store_api.specs.declared.events.Reply.TheVariants.{Got as Is_got, Failed}
-use Rattle.store_api.specs.declared.events.Event.{Event}
+use Rattle.object_store.specs.declared.keys.Key.TheVariants.{Snapshot, Branch, Tag, TagGone}
+use Rattle.object_store.specs.declared.events.Version.{Version}
+use Rattle.object_store.specs.declared.events.Op.TheVariants.{Get}
+use Rattle.object_store.specs.declared.events.Got.TheVariants.{Found, Absent}
+use Rattle.object_store.specs.declared.events.Reply.{Reply}
+use Rattle.object_store.specs.declared.events.Reply.TheVariants.{Got as Is_got, Failed}
+use Rattle.object_store.specs.declared.events.Event.{Event}
 use Rattle.store_api.specs.declared.machines.Refusal.{Refusal}
 use Rattle.store_api.specs.declared.machines.Refusal.TheVariants.{NoRef, Missing, StoreFault}
 use Rattle.store_api.specs.Journal.{StoodAt, snap_in}
@@ -45,8 +45,8 @@ use Rattle.repo_read.specs.declared.resolving.Named.{Named}
 use Rattle.repo_read.specs.Answers.{at_key, resolved_at, ref_told}
 use Rattle.repo_read.specs.Resolving.{alone, tag_told, tombstone_told, tombstone_program, resolve_at_program, no_ref, but_refused, base_told}
 use Rattle.repo_read.proofs.Replies.{got-cases}
-use Rattle.session.specs.Sessions.{SessionState}
-use Rattle.session.specs.Opening.{Asked, open_program, base_program, begun, tip_named, tip_for}
+use Rattle.session.specs.Sessions.{SessionState, tip_in}
+use Rattle.session.specs.Opening.{Asked, open_program, base_program, begun, origin_named, origin_for}
 use Rattle.commit_path.specs.Owed.{Sessions, IsCareful}
 use Rattle.commit_path.specs.Spelled.{IsSpelled}
 use Rattle.commit_path.specs.Opened.{IsTip, IsOpened}
@@ -164,31 +164,29 @@ abbrev pub Opens : Result SessionState Refusal → List Event → Type 0
 Opens (Ok s) journal = IsReady s journal
 Opens (Err why) journal = Unit {0}
 
--- what is known of a name: where a session writes to a branch, it is known of its tip
+-- what is known of a name: of a branch, that it stood so
 abbrev Tipped : (may_write : Bool) → At → Result Named Refusal → List Event → Type 0
-Tipped may_write at (Ok named) journal = IsTip journal named.id (if may_write then tip_named at named.version else None)
+Tipped may_write at (Ok named) journal = IsTip journal named.id (tip_in (origin_named may_write at named.version))
 Tipped may_write at (Err why) journal = Unit {0}
 
 -- what is so of each answer
-leads-any : {A : Type 0} (Q : A → List Event → Type 0) → ((a : A) (h : List Event) → Q a h) → (by : Caller) (p : Prog A) (journal : List Event) → Leads Q by p journal
+pub leads-any : {A : Type 0} (Q : A → List Event → Type 0) → ((a : A) (h : List Event) → Q a h) → (by : Caller) (p : Prog A) (journal : List Event) → Leads Q by p journal
 unfolding Leads
 leads-any Q all by (Done a) journal = all a journal
 leads-any Q all by (Ask op k) journal = λ reply new m. leads-any Q all by (k reply) new
 
 tag-tipped : (may_write : Bool) (name : List ℕ) (r : Result Named Refusal) (h : List Event) → Tipped may_write (At.Tag name) r h
-tag-tipped true name (Ok named) h = tt
-tag-tipped false name (Ok named) h = tt
+tag-tipped may_write name (Ok named) h = tt
 tag-tipped may_write name (Err why) h = tt
 
 id-tipped : (may_write : Bool) (id : Id12) (r : Result Named Refusal) (h : List Event) → Tipped may_write (At.Snapshot id) r h
-id-tipped true id (Ok named) h = tt
-id-tipped false id (Ok named) h = tt
+id-tipped may_write id (Ok named) h = tt
 id-tipped may_write id (Err why) h = tt
 
 module _ (by : Caller) (may_write : Bool) where
   branch-tipped : (name bytes : List ℕ) (version : Version) (id : Id12) (h : List Event) (b : Bool) → StoodAt h (Branch name) version.0 bytes → ref_of bytes ≡ Some id → Tipped b (At.Branch name) (Ok (record { id = id; version = Some version })) h
   branch-tipped name bytes version id h true s e = record { bytes = bytes; stood = s; names = e }
-  branch-tipped name bytes version id h false s e = tt
+  branch-tipped name bytes version id h false s e = record { bytes = bytes; stood = s; names = e }
 
   branch-read : (name bytes : List ℕ) (version : Version) (h : List Event) → StoodAt h (Branch name) version.0 bytes → (r : Result Id12 Bad) → read_ref bytes ≡ r → Leads (Tipped may_write (At.Branch name)) by (on_answer branch_named (resolved_at version (at_key (Branch name) r))) h
   unfolding Leads
@@ -210,7 +208,7 @@ module _ (by : Caller) (may_write : Bool) where
   naming-tips (At.Snapshot id) journal = id-tipped may_write id (Ok (alone id)) journal
 
 module _ (L : Spellings) (by : Caller) (a : Asked) where
-  at-base : (named : Named) (bytes : List ℕ) (version : ℕ) (journal : List Event) → IsTip journal named.id (tip_for a named) → Had journal (Snapshot named.id) bytes version
+  at-base : (named : Named) (bytes : List ℕ) (version : ℕ) (journal : List Event) → IsTip journal named.id (tip_in (origin_for a named)) → Had journal (Snapshot named.id) bytes version
       → (r : Result SnapshotFile Bad) → read_snapshot named.id bytes ≡ r → Leads Opens by (after_base a named (at_key (Snapshot named.id) r)) journal
   unfolding Leads
   at-base named bytes version journal t h (Err bad) e = tt
@@ -249,10 +247,10 @@ module _ (L : Spellings) (by : Caller) (a : Asked) where
   told-opens : (named : Named) (told r : Result SnapshotFile Refusal) (journal : List Event) → told ≡ r → Leads Opens by (after_base a named r) journal → Leads Opens by (after_base a named told) journal
   told-opens named told r journal e l = subst (λ (x : Result SnapshotFile Refusal). Leads Opens by (after_base a named x) journal) (sym e) l
 
-  base-opens : (named : Named) (reply : Reply) (old new : List Event) → IsTip old named.id (tip_for a named) → Makes by (Get (Snapshot named.id)) reply old new → Leads Opens by (after_base a named (base_told a.at named.id reply)) new
+  base-opens : (named : Named) (reply : Reply) (old new : List Event) → IsTip old named.id (tip_in (origin_for a named)) → Makes by (Get (Snapshot named.id)) reply old new → Leads Opens by (after_base a named (base_told a.at named.id reply)) new
   base-opens named reply old new t m = got-cases by old new (λ r. Leads Opens by (after_base a named (base_told a.at named.id r)) new) (Snapshot named.id)
       (λ bytes version now n.
-      let t' = makes-keeps (λ h. IsTip h named.id (tip_for a named)) (λ h more g. IsTip-append h more named.id (tip_for a named)) by (Get (Snapshot named.id)) (Is_got (Found bytes version now)) old new tt n t in
+      let t' = makes-keeps (λ h. IsTip h named.id (tip_in (origin_for a named))) (λ h more g. IsTip-append h more named.id (tip_in (origin_for a named))) by (Get (Snapshot named.id)) (Is_got (Found bytes version now)) old new tt n t in
       told-opens named (base_told a.at named.id (Is_got (Found bytes version now))) (at_key (Snapshot named.id) (read_snapshot named.id bytes)) new (base-found a.at named.id bytes version now (read_snapshot named.id bytes) refl)
       (at-base named bytes version.0 new t' (get-had by (Snapshot named.id) bytes version now old new n) (read_snapshot named.id bytes) refl))
       (λ now n. absent-opens named a.at now new)

@@ -26,18 +26,18 @@ use Rattle.changed_snapshot.specs.declared.written.NewManifest.{NewManifest}
 use Rattle.changed_snapshot.specs.declared.written.NewList.{NewList}
 use Rattle.changed_snapshot.specs.Rows.{rows_over}
 use Rattle.changed_snapshot.specs.Laws.{AreMerged, IsSized, AreSized}
-use Rattle.store_api.specs.declared.keys.Key.TheVariants.{Snapshot, Manifest, Txn, Branch}
-use Rattle.store_api.specs.declared.keys.Why.TheVariants.{Set, Commit}
-use Rattle.store_api.specs.declared.events.Version.{Version}
-use Rattle.store_api.specs.declared.events.Op.{Op}
-use Rattle.store_api.specs.declared.events.Op.TheVariants.{Get, PutNew, PutOver, List as ListPart}
-use Rattle.store_api.specs.declared.events.New.TheVariants.{Done as New_done}
-use Rattle.store_api.specs.declared.events.Reply.TheVariants.{New as Is_new}
-use Rattle.store_api.specs.declared.events.Event.{Event}
-use Rattle.store_api.specs.Machine.{version_at}
-use Rattle.store_api.specs.Journal.{Each, WasPut, puts_of, rows_of, tree_of, snap_in, snap_made, lists_of, log_made, IsOnce, ParentPut, ManifestsKnown, IsPolite, IsGood}
+use Rattle.object_store.specs.declared.keys.Key.TheVariants.{Snapshot, Manifest, Txn, Branch}
+use Rattle.object_store.specs.declared.keys.Why.TheVariants.{Set, Commit}
+use Rattle.object_store.specs.declared.events.Version.{Version}
+use Rattle.object_store.specs.declared.events.Op.{Op}
+use Rattle.object_store.specs.declared.events.Op.TheVariants.{Get, PutNew, PutOver, List as ListPart}
+use Rattle.object_store.specs.declared.events.New.TheVariants.{Done as New_done}
+use Rattle.object_store.specs.declared.events.Reply.TheVariants.{New as Is_new}
+use Rattle.object_store.specs.declared.events.Event.{Event}
+use Rattle.object_store.specs.Machine.{version_at}
+use Rattle.store_api.specs.Journal.{Each, WasPut, puts_of, rows_of, tree_of, snap_in, snap_made, lists_of, log_made, IsOnce, HadParent, ParentPut, ManifestsKnown, IsPolite, IsGood}
 use Rattle.store_api.specs.Callers.{Caller, Makes}
-use Rattle.store_api.proofs.Slots.{WasPut-append}
+use Rattle.object_store.proofs.Slots.{WasPut-append}
 use Rattle.store_api.proofs.Standing.{snap_made-append, log_made-append, snap_made-put, IsPolite-append}
 use Rattle.session.specs.Sessions.{SessionState, branch_of, version_of, writes, base_nodes, base_tree}
 use Rattle.session.specs.Sources.{MayDrawObject}
@@ -63,6 +63,7 @@ pub record Logged (s : SessionState) (id : Id12) (journal : List Event) : Type 0
 -- it has put its snapshot
 pub record Snapped (s : SessionState) (message : List ℕ) (news : List NewList) (flushed : ℕ) (id : Id12) (journal : List Event) : Type 0 where
   pub put : WasPut journal (Snapshot id)
+  pub child : HadParent journal id s.base
   pub made : IsOnce journal → snap_made journal id ≡ Some (snap_for s message news id flushed)
   pub rows : IsOnce journal → rows_of journal id ≡ Some (snap_for s message news id flushed).nodes
 
@@ -170,6 +171,7 @@ module _ (L : Spellings) where
     pub snap-snapped : (journal : List Event) → DidPut journal (Snapshot id) (snapshot_bytes (snap_for s message news id flushed)) → Snapped s message news flushed id journal
     snap-snapped journal d = record {
       put = d.put;
+      child = record { version = d.version; bytes = snapshot_bytes snap; stood = d.stood; snap = snap; read = read; parent_is = refl };
       made = λ once. ap (snap_in id) (d.first once) ∙ read;
       rows = λ once. ap (λ (o : Option SnapshotFile). option_map (λ (x : SnapshotFile). x.nodes) o) (ap (snap_in id) d.last ∙ read);
     }
@@ -217,32 +219,36 @@ module _ (L : Spellings) where
     pub over-careful : writes s ≡ true → (flushed : ℕ) (journal : List Event) → Wrote s by.number start (changed_arrays s.held (base_nodes s)) x journal → Logged s id journal → Snapped s message x.news flushed id journal → IsCareful ids mine journal by.number (PutOver (Branch (branch_of s)) (ref_bytes id) (version_at (version_of s)) Commit)
     over-careful may_write flushed journal k l p =
         let o = k.opened in
-        let tip = tip-named journal s.base s.tip may_write o.named in
+        let tip = tip-named journal s.base s.origin may_write o.named in
         record {
           polite = record {
             names = record { id = id; reference = L.reference.written id is_id; put = p.put };
             cause = inr (
               refl,
-              λ once. record {
+              record {
                 base = s.base;
                 named_by = tip.bytes;
                 named = tip.stood;
                 names = tip.names;
                 base_put = o.put;
-                snap = snap_for s message x.news id flushed;
-                made = p.made once;
-                parent = refl;
-                log = touched s.held (base_nodes s);
-                logged = l.made once;
-                differs = λ t u et wf eu.
-                    let merged = lists-merged s by.number start x journal k once (puts_of journal) (extends-same (puts_of journal)) in
-                    let st : Some (base_tree (puts_of journal) s) ≡ Some t = sym (tree-by_rows journal s.base s.rows (o.rows once)) ∙ et in
-                    let su : Some (snap_tree (puts_of journal) s x.news) ≡ Some u = sym (tree-by_rows journal id (rows_over s.held x.news s.rows) (p.rows once)) ∙ eu in
-                    let t_is : base_tree (puts_of journal) s ≡ t = cc in
-                    let u_is : snap_tree (puts_of journal) s x.news ≡ u = cc in
-                    subst (λ (y : Tree). DiffersIn (touched s.held (base_nodes s)) y u) t_is
-                    (subst (λ (y : Tree). DiffersIn (touched s.held (base_nodes s)) (base_tree (puts_of journal) s) y) u_is
-                    (differs-over (puts_of journal) s x.news w merged (subst IsWellFormed (sym t_is) wf)));
+                child = p.child;
+                log_put = l.put;
+                once = λ once. record {
+                  snap = snap_for s message x.news id flushed;
+                  made = p.made once;
+                  parent = refl;
+                  log = touched s.held (base_nodes s);
+                  logged = l.made once;
+                  differs = λ t u et wf eu.
+                      let merged = lists-merged s by.number start x journal k once (puts_of journal) (extends-same (puts_of journal)) in
+                      let st : Some (base_tree (puts_of journal) s) ≡ Some t = sym (tree-by_rows journal s.base s.rows (o.rows once)) ∙ et in
+                      let su : Some (snap_tree (puts_of journal) s x.news) ≡ Some u = sym (tree-by_rows journal id (rows_over s.held x.news s.rows) (p.rows once)) ∙ eu in
+                      let t_is : base_tree (puts_of journal) s ≡ t = cc in
+                      let u_is : snap_tree (puts_of journal) s x.news ≡ u = cc in
+                      subst (λ (y : Tree). DiffersIn (touched s.held (base_nodes s)) y u) t_is
+                      (subst (λ (y : Tree). DiffersIn (touched s.held (base_nodes s)) (base_tree (puts_of journal) s) y) u_is
+                      (differs-over (puts_of journal) s x.news w merged (subst IsWellFormed (sym t_is) wf)));
+                };
               },
             );
           };

@@ -5,9 +5,9 @@ use Rattle.zarr_tree.specs.Held.{Entry}
 use Rattle.manifest_file.specs.declared.manifest.Place.{Place}
 use Rattle.manifest_file.specs.declared.manifest.Place.TheVariants.{Inline, Object}
 use Rattle.repo_objects.specs.Trees.{Puts, bytes_at, part_of, Extends}
-use Rattle.store_api.specs.declared.events.Event.{Event}
+use Rattle.object_store.specs.declared.events.Event.{Event}
 use Rattle.store_api.specs.Journal.{Each, puts_of, IsFirst, IsOnce, IsGood}
-use Rattle.store_api.proofs.Journals.{Each-back}
+use Rattle.object_store.proofs.Journals.{Each-back}
 use Rattle.store_api.proofs.Standing.{puts-stay}
 use Rattle.commit_path.specs.Owed.{HasChunks}
 

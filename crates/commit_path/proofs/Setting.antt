@@ -20,7 +20,7 @@ use Rattle.manifest_file.specs.declared.manifest.Place.TheVariants.{Inline, Obje
 use Rattle.manifest_file.specs.Layout.{IsPlace}
 use Rattle.repo_objects.specs.Trees.{Puts, bytes_at}
 use Rattle.ice_base.specs.Lists.{IsBytes}
-use Rattle.store_api.specs.declared.events.Event.{Event}
+use Rattle.object_store.specs.declared.events.Event.{Event}
 use Rattle.store_api.specs.declared.machines.Refusal.TheVariants as R
 use Rattle.store_api.specs.Journal.{puts_of}
 use Rattle.store_api.specs.Program.{Done}

@@ -27,19 +27,19 @@ use Rattle.flat_tables.specs.declared.header.Kind.TheVariants as kinds
 use Rattle.snapshot_file.specs.Layout.{snapshot_bytes}
 use Rattle.txn_file.specs.Layout.{log_file}
 use Rattle.ref_file.specs.Refs.{ref_bytes}
-use Rattle.store_api.specs.declared.keys.Key.TheVariants.{Snapshot, Manifest, Branch, Txn}
-use Rattle.store_api.specs.declared.keys.Why.{Why}
-use Rattle.store_api.specs.declared.keys.Why.TheVariants.{Set, Commit}
-use Rattle.store_api.specs.declared.events.Op.{Op}
-use Rattle.store_api.specs.declared.events.Op.TheVariants.{Get, PutNew, PutOver}
-use Rattle.store_api.specs.declared.events.New.TheVariants.{Done as New_done, Present}
-use Rattle.store_api.specs.declared.events.Over.TheVariants.{Done as Over_done, Moved}
-use Rattle.store_api.specs.declared.events.Reply.{Reply}
-use Rattle.store_api.specs.declared.events.Reply.TheVariants.{New as Is_new, Over as Is_over}
-use Rattle.store_api.specs.declared.events.Event.{Event}
+use Rattle.object_store.specs.declared.keys.Key.TheVariants.{Snapshot, Manifest, Branch, Txn}
+use Rattle.object_store.specs.declared.keys.Why.{Why}
+use Rattle.object_store.specs.declared.keys.Why.TheVariants.{Set, Commit}
+use Rattle.object_store.specs.declared.events.Op.{Op}
+use Rattle.object_store.specs.declared.events.Op.TheVariants.{Get, PutNew, PutOver}
+use Rattle.object_store.specs.declared.events.New.TheVariants.{Done as New_done, Present}
+use Rattle.object_store.specs.declared.events.Over.TheVariants.{Done as Over_done, Moved}
+use Rattle.object_store.specs.declared.events.Reply.{Reply}
+use Rattle.object_store.specs.declared.events.Reply.TheVariants.{New as Is_new, Over as Is_over}
+use Rattle.object_store.specs.declared.events.Event.{Event}
 use Rattle.store_api.specs.declared.machines.Refusal.{Refusal}
 use Rattle.store_api.specs.declared.machines.Refusal.TheVariants.{ReadOnly, NothingToCommit, IdsSpent, IdTaken, TooLarge, StoreFault}
-use Rattle.store_api.specs.Machine.{version_at}
+use Rattle.object_store.specs.Machine.{version_at}
 use Rattle.store_api.specs.Journal.{Each}
 use Rattle.store_api.specs.Telling.{GetsAlone, IsGet, MadeGets}
 use Rattle.store_api.specs.Callers.{Caller, IsOther, Makes, own_event}
@@ -48,7 +48,7 @@ use Rattle.store_api.proofs.Happening.{ChangedNothing-none}
 use Rattle.store_api.proofs.Programs.{Leads-weaker}
 use Rattle.store_api.proofs.Telling.{put-time}
 use Rattle.commit_path.proofs.Walks.{Walks, Ends, walks-done, walks-ask, walks-then}
-use Rattle.store_api.proofs.Journals.{Each-append, Each-weaker, Each-one, Each-none}
+use Rattle.object_store.proofs.Journals.{Each-append, Each-weaker, Each-one, Each-none}
 use Rattle.repo_read.specs.Answers.{manifest_told}
 use Rattle.repo_read.specs.Programs.{manifest_program}
 use Rattle.session.specs.Sessions.{SessionState, branch_of, version_of, writes, base_nodes}
@@ -60,7 +60,7 @@ use Rattle.commit_path.specs.Answered.{CommitTells}
 use Rattle.commit_path.specs.Opened.{IsOpened}
 use Rattle.commit_path.specs.Single.{PutsSnapshot, PutsNone, HasPutNone, IsAlike, PutsAlike, HasPutAlike, SingleLaw}
 use Rattle.commit_path.specs.Spelled.{IsSpelled}
-use Rattle.commit_path.proofs.Having.{Wrote}
+use Rattle.commit_path.proofs.Having.{Wrote, none-written}
 use Rattle.commit_path.proofs.Gets.{gets-keep_each, gets-hold}
 use Rattle.commit_path.proofs.Opened.{open-gets}
 use Rattle.commit_path.proofs.Owing.{new-sized, read}
@@ -235,7 +235,7 @@ module _ (by : Caller) (s : SessionState) (start : List Event) where
     arrays-sized : (journal : List Event) → IsOpened s journal → PutAlike journal → Walks Alike Anywhere Sized by (arrays_program s.rows s.held.chunks (changed_arrays s.held (base_nodes s)) (unwritten s)) journal
     arrays-sized journal o c =
         let arrays : List ChangedArray = changed_arrays s.held (base_nodes s) in
-        let all = arrays-walks L by s.ids (λ h t id. Unit {0}) s message (later-same s.ids) w journal [] arrays (unwritten s) journal refl (record { opened = o; nothing = ChangedNothing-none by.number journal; ids = later-same s.ids; lists = tt }) in
+        let all = arrays-walks L by s.ids (λ h t id. Unit {0}) s message (later-same s.ids) w journal [] arrays (unwritten s) journal refl (none-written by s journal journal o (ChangedNothing-none by.number journal)) in
         let still = arrays-still s.rows s.held.chunks arrays (unwritten s) journal c in
         let program = arrays_program s.rows s.held.chunks arrays (unwritten s) in
         record { keeps = still.keeps; stays = still.stays; leads = Leads-weaker _ Sized (sized-both journal) by program journal (Leads-both _ Still by program journal all.leads still.leads) }

@@ -1,6 +1,6 @@
 -- Wherever an opening may find no memory, its client has changed no branch.
 use Rattle.std.proofs.Common.{List}
-use Rattle.store_api.specs.declared.events.Event.{Event}
+use Rattle.object_store.specs.declared.events.Event.{Event}
 use Rattle.store_api.specs.Callers.{Caller}
 use Rattle.store_api.specs.Plays.{Stays}
 use Rattle.session.specs.Opening.{Asked, open_program}

@@ -23,13 +23,13 @@ use Rattle.zarr_changes.specs.Sets.{chunks_of, changed_arrays}
 use Rattle.changed_snapshot.specs.declared.written.NewManifest.{NewManifest}
 use Rattle.changed_snapshot.specs.declared.written.NewList.{NewList}
 use Rattle.changed_snapshot.specs.Rows.{own_manifests}
-use Rattle.store_api.specs.declared.keys.Key.TheVariants.{Manifest as Manifest_key, Txn}
-use Rattle.store_api.specs.declared.keys.Why.TheVariants.{Set}
-use Rattle.store_api.specs.declared.events.Op.TheVariants.{Get, PutNew}
-use Rattle.store_api.specs.declared.events.Version.{Version}
-use Rattle.store_api.specs.declared.events.New.{New as TheNew}
-use Rattle.store_api.specs.declared.events.New.TheVariants.{Done as New_done}
-use Rattle.store_api.specs.declared.events.Reply.TheVariants.{New as Is_new}
+use Rattle.object_store.specs.declared.keys.Key.TheVariants.{Manifest as Manifest_key, Txn}
+use Rattle.object_store.specs.declared.keys.Why.TheVariants.{Set}
+use Rattle.object_store.specs.declared.events.Op.TheVariants.{Get, PutNew}
+use Rattle.object_store.specs.declared.events.Version.{Version}
+use Rattle.object_store.specs.declared.events.New.{New as TheNew}
+use Rattle.object_store.specs.declared.events.New.TheVariants.{Done as New_done}
+use Rattle.object_store.specs.declared.events.Reply.TheVariants.{New as Is_new}
 use Rattle.store_api.specs.declared.machines.Refusal.{Refusal}
 use Rattle.store_api.specs.declared.machines.Refusal.TheVariants.{ReadOnly, NothingToCommit, IdsSpent, TooLarge, NoMemory}
 use Rattle.store_api.specs.Program.{Done, Ask, bind}
@@ -40,9 +40,9 @@ use Rattle.session.specs.Sessions.{SessionState, writes, base_nodes}
 use Rattle.commit_path.specs.declared.commit.Commit.{Commit}
 use Rattle.commit_path.specs.declared.committing.Committing.TheVariants.{Ended}
 use Rattle.commit_path.specs.Arrays.{ArraysState}
-use Rattle.commit_path.specs.Committing.{Answer, Written, is_long, manifest_for, with_manifest, after_manifest, put_manifest, write_array, old_program, arrays_program, log_for, after_log, put_log, after_arrays, unwritten, write_all, commit_program, array_behind, manifests_behind, arrays_behind, old_rest, new_behind, written_in, IsDrawn, MayRefuseStart, MayRefuseCommit}
+use Rattle.commit_path.specs.Committing.{Answer, Written, is_long, manifest_for, new_manifest, with_manifest, after_manifest, put_manifest, write_array, old_program, arrays_program, log_for, after_log, put_log, after_arrays, unwritten, write_all, commit_program, array_behind, manifests_behind, arrays_behind, old_rest, new_behind, written_in, IsDrawn, MayRefuseStart, MayRefuseCommit}
 use Rattle.commit_path.specs.inside.Lists.{IsFirst, IsRank, closed_at}
-use Rattle.commit_path.specs.inside.Working.{info_of, merged_behind, got_behind, MayRefuseOwn}
+use Rattle.commit_path.specs.inside.Working.{merged_behind, got_behind, MayRefuseOwn}
 
 -- ---- the log
 pub log-reaches : (s t : SessionState) (message : List ℕ) (news : List NewList) (id : Id12) (file : List ℕ) → t ≡ record s { ids = after12 s.ids } → drawn12 s.ids ≡ Some id → file ≡ log_file (log_for t id) → is_long (log_file (log_for t id)) ≡ false
@@ -61,14 +61,14 @@ is-few : (n : ℕ) → n ≤ refs_limit → nat_lt refs_limit n ≡ false
 is-few n h = grind (arith, nat_tests)
 
 pub manifest-reaches : (s t : SessionState) (message : List ℕ) (news : List NewList) (arrays : List ChangedArray) (rank : ℕ) (refs : ArrayRefs) (id : Id12) (manifest : NewManifest) (file : List ℕ) → IsRank arrays rank → t ≡ record s { ids = after12 s.ids }
-    → length refs.refs ≤ refs_limit → drawn12 s.ids ≡ Some id → manifest ≡ info_of id rank refs → file ≡ file_bytes (manifest_for id refs) → is_long (file_bytes (manifest_for id refs)) ≡ false
+    → length refs.refs ≤ refs_limit → drawn12 s.ids ≡ Some id → manifest ≡ new_manifest id rank refs → file ≡ file_bytes (manifest_for id refs) → is_long (file_bytes (manifest_for id refs)) ≡ false
     → merged_behind s message (record { news = news; ids = s.ids }) arrays (Some refs) ≡ Ask (PutNew (Manifest_key manifest.id) file Set) (new_behind t message (record { news = news; ids = t.ids }) arrays manifest)
 manifest-reaches s t message news [] rank refs id manifest file r same few drawn info made short = absurd r
 manifest-reaches s t message news (a ∷ more) rank refs id manifest file r same few drawn info made short =
     ap (λ (b : Bool). goes (if b then Done (Err (TooLarge kinds.Manifest)) else put_manifest before a refs (drawn12 s.ids))) (is-few (length refs.refs) few)
     ∙ (ap (λ (o : Option Id12). goes (put_manifest before a refs o)) drawn
     ∙ (ap (λ (b : Bool). goes (if b then Done (Err (TooLarge kinds.Manifest)) else Ask (PutNew (Manifest_key id) (file_bytes (manifest_for id refs)) Set) (after_manifest (with_manifest before a refs id) id))) short
-    ∙ (ap (λ (m : NewManifest). puts (record s { ids = after12 s.ids }) m (file_bytes (manifest_for id refs))) (ap (λ (k : ℕ). info_of id k refs) (sym r) ∙ sym info)
+    ∙ (ap (λ (m : NewManifest). puts (record s { ids = after12 s.ids }) m (file_bytes (manifest_for id refs))) (ap (λ (k : ℕ). new_manifest id k refs) (sym r) ∙ sym info)
     ∙ (ap (puts (record s { ids = after12 s.ids }) manifest) (sym made)
     ∙ ap (λ (x : SessionState). puts x manifest file) (sym same)))))
   where
@@ -198,5 +198,6 @@ pub record GoesOn (old now : Commit) : Type 0 where
   pub ended : now.state ≡ Ended
   pub same : arrays_behind old.session old.message (written_in old) old.arrays.left [] ≡ arrays_behind now.session now.message (written_in now) now.arrays.left []
   pub drawn : IsDrawn old.session now.session
+  pub kept_ids : now.session.ids ≡ old.session.ids
   pub message : now.message ≡ old.message
   pub fewer : length now.arrays.left ≤ length old.arrays.left

@@ -1,12 +1,12 @@
 -- What holds of a program's operations, of where it waits, and of its answers, all at once.
 use Rattle.std.proofs.Common.{◌≡◌, ℕ, false, List}
 use Rattle.std.specs.Prelude.{Result, Ok, Err}
-use Rattle.store_api.specs.declared.events.Op.{Op}
-use Rattle.store_api.specs.declared.events.Reply.{Reply}
-use Rattle.store_api.specs.declared.events.Event.{Event}
+use Rattle.object_store.specs.declared.events.Op.{Op}
+use Rattle.object_store.specs.declared.events.Reply.{Reply}
+use Rattle.object_store.specs.declared.events.Event.{Event}
 use Rattle.store_api.specs.declared.machines.Refusal.{Refusal}
 use Rattle.store_api.specs.Callers.{Caller, Makes}
-use Rattle.store_api.specs.Program.{Prog, Done, Ask, bind, Keeps, Leads, is_over}
+use Rattle.store_api.specs.Program.{Prog, Done, Ask, bind, Keeps, Leads, moves_branch}
 use Rattle.store_api.specs.Plays.{Stays}
 use Rattle.store_api.specs.Running.{Program, on_answer, ◌>>=◌}
 use Rattle.store_api.proofs.Programs.{Keeps-bind, Leads-bind}
@@ -27,7 +27,7 @@ module _ {A : Type 0} (P : List Event → ℕ → Op → Type 0) (N : List Event
   unfolding Keeps Stays Leads
   walks-done a journal q = record { keeps = tt; stays = tt; leads = q }
 
-  pub walks-ask : (op : Op) (next : Reply → Prog A) (journal : List Event) → P journal by.number op → N journal → ((reply : Reply) (new : List Event) → Makes by op reply journal new → (is_over op ≡ false → N new) × Walks P N Q by (next reply) new) → Walks P N Q by (Ask op next) journal
+  pub walks-ask : (op : Op) (next : Reply → Prog A) (journal : List Event) → P journal by.number op → N journal → ((reply : Reply) (new : List Event) → Makes by op reply journal new → (moves_branch op ≡ false → N new) × Walks P N Q by (next reply) new) → Walks P N Q by (Ask op next) journal
   unfolding Keeps Stays Leads
   walks-ask op next journal p n w = record {
     keeps = (p, λ reply new m. (w reply new m).1.keeps);

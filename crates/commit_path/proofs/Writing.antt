@@ -22,21 +22,21 @@ use Rattle.manifest_index.specs.Merging.{Change, merged, IsMerged, merged_array}
 use Rattle.snapshot_file.specs.declared.nodes.ManifestRef.{ManifestRef}
 use Rattle.repo_objects.specs.declared.bad.Bad.{Bad}
 use Rattle.repo_objects.specs.Readings.{read_manifest, manifest_by}
-use Rattle.repo_objects.specs.Trees.{NamesManifest}
-use Rattle.store_api.specs.declared.keys.Key.TheVariants.{Manifest}
-use Rattle.store_api.specs.declared.keys.Why.TheVariants.{Set}
-use Rattle.store_api.specs.declared.events.Version.{Version}
-use Rattle.store_api.specs.declared.events.Op.{Op}
-use Rattle.store_api.specs.declared.events.Op.TheVariants.{Get, PutNew}
-use Rattle.store_api.specs.declared.events.Got.TheVariants.{Found, Absent}
-use Rattle.store_api.specs.declared.events.New.TheVariants.{Done as New_done, Present}
-use Rattle.store_api.specs.declared.events.Reply.{Reply}
-use Rattle.store_api.specs.declared.events.Reply.TheVariants.{Got as Is_got, New as Is_new, Failed}
-use Rattle.store_api.specs.declared.events.Event.{Event}
+use Rattle.repo_objects.specs.Trees.{NamesManifest, NamesChunk}
+use Rattle.object_store.specs.declared.keys.Key.TheVariants.{Manifest}
+use Rattle.object_store.specs.declared.keys.Why.TheVariants.{Set}
+use Rattle.object_store.specs.declared.events.Version.{Version}
+use Rattle.object_store.specs.declared.events.Op.{Op}
+use Rattle.object_store.specs.declared.events.Op.TheVariants.{Get, PutNew}
+use Rattle.object_store.specs.declared.events.Got.TheVariants.{Found, Absent}
+use Rattle.object_store.specs.declared.events.New.TheVariants.{Done as New_done, Present}
+use Rattle.object_store.specs.declared.events.Reply.{Reply}
+use Rattle.object_store.specs.declared.events.Reply.TheVariants.{Got as Is_got, New as Is_new, Failed}
+use Rattle.object_store.specs.declared.events.Event.{Event}
 use Rattle.store_api.specs.declared.machines.Refusal.{Refusal}
 use Rattle.store_api.specs.declared.machines.Refusal.TheVariants as R
-use Rattle.store_api.specs.Machine.{found}
-use Rattle.store_api.specs.Journal.{IsPolite, ChunksKnown}
+use Rattle.object_store.specs.Machine.{found}
+use Rattle.store_api.specs.Journal.{IsOnce, IsPolite, ChunksKnown}
 use Rattle.store_api.specs.Callers.{Caller, Makes}
 use Rattle.store_api.specs.Program.{Done, Ask}
 use Rattle.repo_read.specs.Answers.{at_key, manifest_told}
@@ -49,8 +49,9 @@ use Rattle.manifest_index.specs.Extents.{extents_for}
 use Rattle.session.specs.Sources.{IsLater, MayDrawObject}
 use Rattle.repo_read.specs.Programs.{manifest_program}
 use Rattle.commit_path.specs.Committing.{Written, manifest_for, with_list, with_manifest, after_manifest, put_manifest, write_array, old_program, array_program, arrays_program, is_long}
-use Rattle.commit_path.specs.Owed.{Sessions, IsCareful}
-use Rattle.commit_path.specs.Answered.{IsOfCommit, CommitTells}
+use Rattle.commit_path.specs.Owed.{Sessions}
+use Rattle.commit_path.specs.Own.{PutsItself}
+use Rattle.commit_path.specs.Answered.{IsManifestOf, IsListed, ids_behind, IsNext, WereListed, IsOfCommit, CommitTells}
 use Rattle.store_api.specs.Telling.{ChangedNothing}
 use Rattle.commit_path.specs.Opened.{IsOpened}
 use Rattle.commit_path.specs.Spelled.{IsSpelled}
@@ -62,11 +63,13 @@ use Rattle.commit_path.proofs.Named.{own-named, own-sized}
 use Rattle.commit_path.proofs.Chunking.{IsFrom, all-from, IsFineOld, proper-new, extents-fine}
 use Rattle.store_api.proofs.Telling.{DidPut, get-had, put-did, makes-keeps}
 use Rattle.store_api.proofs.Happening.{own-made, ChangedNothing-makes, manifest-leaves, stands-as, new-present, failed-made, got-nothing, got-made, absent-made}
-use Rattle.commit_path.proofs.Having.{IsGot, WereGot, WereGot-append, got-told, got-read, there, here, got-for, IsOwnNew, IsNewFor, Wrote, Wrote-makes, one-among, no-chunks, small-file, small-refs, too-many}
+use Rattle.commit_path.proofs.Listing.{ids-push, turn-push}
+use Rattle.commit_path.proofs.Minding.{IsMinded}
+use Rattle.commit_path.proofs.Having.{IsInEntries, IsInBase, IsGot, WereGot, WereGot-append, got-told, got-read, there, here, got-for, IsOwnNew, IsNewFor, Wrote, Wrote-makes, one-among, no-chunks, small-file, small-refs, too-many}
 
 module _ (L : Spellings) (by : Caller) (ids : AnyIds) (mine : Sessions) (s : SessionState) (message : List ℕ) (later : IsLater ids s.ids) (w : IsSpelled s) (start : List Event) where
   abbrev Careful : List Event → ℕ → Op → Type 0
-  Careful = IsCareful ids mine
+  Careful = IsMinded ids mine s start
 
   abbrev Nothing : List Event → Type 0
   Nothing = ChangedNothing by.number start
@@ -120,7 +123,7 @@ module _ (L : Spellings) (by : Caller) (ids : AnyIds) (mine : Sessions) (s : Ses
 
     manifest-walks : (refs : List ManifestRef) (seen : List Listed) (m : ManifestRef) (journal : List Event) → NamesManifest s.rows m.id → Seen refs seen journal → Walks Careful Nothing (Ends (SeenMore refs seen m) Refused) by (manifest_program m.id) journal
     manifest-walks refs seen m journal named k =
-        walks-ask Careful Nothing (Ends (SeenMore refs seen m) Refused) by (Get (Manifest m.id)) (λ reply. Done (manifest_told m.id reply)) journal (record { polite = tt; owes = tt }) k.1.nothing
+        walks-ask Careful Nothing (Ends (SeenMore refs seen m) Refused) by (Get (Manifest m.id)) (λ reply. Done (manifest_told m.id reply)) journal (record { polite = tt; owes = tt }, tt) k.1.nothing
         (λ reply new n. (λ off. got-nothing by start (Manifest m.id) reply journal new n k.1.nothing, file-told refs seen m reply journal new named k n))
 
     pub old-walks : (refs front more : List ManifestRef) (seen : List Listed) (journal : List Event) → front ++ more ≡ refs → ((m : ManifestRef) → Contains more m → NamesManifest s.rows m.id) → Seen front seen journal → Walks Careful Nothing (Ends (Seen refs) Refused) by (old_program more seen) journal
@@ -133,7 +136,7 @@ module _ (L : Spellings) (by : Caller) (ids : AnyIds) (mine : Sessions) (s : Ses
         (λ why h e. e)
 
   -- ---- an array's manifest is put
-  module _ (arrays : List ChangedArray) (x : Written) (a : ChangedArray) (among : Contains (changed_arrays s.held (base_nodes s)) a) (old : List Listed) where
+  module _ (arrays : List ChangedArray) (x : Written) (a : ChangedArray) (among : Contains (changed_arrays s.held (base_nodes s)) a) (others : List ChangedArray) (split : arrays ++ a ∷ others ≡ changed_arrays s.held (base_nodes s)) (old : List Listed) where
     abbrev Own : List ManifestRef
     Own = own_manifests s.rows a.path a.node
 
@@ -160,9 +163,17 @@ module _ (L : Spellings) (by : Caller) (ids : AnyIds) (mine : Sessions) (s : Ses
           extents = subst (AllByRecursion _) (sym g.got.told.extents) (own-sized s w a.path a.node g.ref g.among);
         }
 
+    -- one more list
+    listed-push : (journal : List Event) → WereGot by.number start Own old journal → WereListed by.number s arrays x.news start journal → (m : Option NewManifest) → IsManifestOf by.number a.rank (merged_array a.rank a.node old change) m start journal → IsNext (ids_behind s.ids x.news) m
+        → WereListed by.number s (arrays ++ a ∷ []) (x.news ++ record { path = a.path; manifest = m } ∷ []) start journal
+    listed-push journal z l m is next = record {
+      lists = zip-push (IsListed by.number s start journal) arrays x.news a (record { path = a.path; manifest = m }) l.lists (record { path = refl; old = old; read = got-told by.number start journal Own old z; manifest = is });
+      turn = turn-push s.ids x.news (record { path = a.path; manifest = m }) l.turn next;
+    }
+
     -- the list of an array without chunks
-    none-walks : (journal : List Event) → WereGot by.number start Own old journal → Knows arrays x journal → ((i : List ℕ) → merged a.rank a.node old change i ≡ None) → Walks Careful Nothing Ended by (Done (Ok (with_list x a None))) journal
-    none-walks journal z k none_left =
+    none-walks : (journal : List Event) → WereGot by.number start Own old journal → Knows arrays x journal → merged_array a.rank a.node old change ≡ None → ((i : List ℕ) → merged a.rank a.node old change i ≡ None) → Walks Careful Nothing Ended by (Done (Ok (with_list x a None))) journal
+    none-walks journal z k is none_left =
         walks-done Careful Nothing Ended by (Ok (with_list x a None)) journal
         (record {
           opened = k.opened;
@@ -173,9 +184,11 @@ module _ (L : Spellings) (by : Caller) (ids : AnyIds) (mine : Sessions) (s : Ses
             known = λ m e. cc;
             list = λ once. record { old = old; new = []; was = got-read by.number start journal Own old z once; is = tt; same = λ i. no-chunks a.rank a.node i ∙ sym (none_left i) };
           });
+          listed = listed-push journal z k.listed None (subst (λ (o : Option ArrayRefs). IsManifestOf by.number a.rank o None start journal) (sym is) tt) tt;
+          behind = k.behind ∙ sym (ids-push s.ids x.news (record { path = a.path; manifest = None }));
         })
 
-    module _ (array : ArrayRefs) (is : IsMerged a.rank a.node old change (Some array)) (lists : IsNewList a.rank a.node old change (Some array)) (few : nat_lt refs_limit (length array.refs) ≡ false) (id : Id12) (drawn : drawn12 x.ids ≡ Some id) (short : is_long (file_bytes (manifest_for id array)) ≡ false) where
+    module _ (array : ArrayRefs) (is_array : merged_array a.rank a.node old change ≡ Some array) (is : IsMerged a.rank a.node old change (Some array)) (lists : IsNewList a.rank a.node old change (Some array)) (few : nat_lt refs_limit (length array.refs) ≡ false) (id : Id12) (drawn : drawn12 x.ids ≡ Some id) (short : is_long (file_bytes (manifest_for id array)) ≡ false) where
       abbrev bytes : List ℕ
       bytes = file_bytes (manifest_for id array)
 
@@ -210,6 +223,24 @@ module _ (L : Spellings) (by : Caller) (ids : AnyIds) (mine : Sessions) (s : Ses
                 })
           ]
 
+      -- each object of the new manifest is the session's, or the base's
+      chunk-from : (journal : List Event) → WereGot by.number start Own old journal → IsOnce journal → (object : Id12) → NamesChunk (manifest_for id array) object → IsInEntries s.held.chunks object ⊎ IsInBase s journal object
+      chunk-from journal z once object n =
+          let same : array ≡ n.array = one-among array n.array n.among in
+          let from : IsFrom a.node s.held.chunks old n.chunk.index n.chunk.place = All-contains (λ (r : ChunkRef). IsFrom a.node s.held.chunks old r.index r.place) array.refs n.chunk (All-from_recursion _ array.refs (all-from a.rank a.node s.held.chunks old array is)) (subst (λ (y : ArrayRefs). Contains y.refs n.chunk) (sym same) n.has) in
+          elim from [
+            | inl e ↦ inl (record { node = a.node; index = n.chunk.index; offset = n.offset; size = n.size; entry = e ∙ ap (λ (p : Place). Some (Some p)) n.is })
+            | inr f ↦
+                let g = got-for by.number start journal Own old z f.listed f.among in
+                inr (record {
+                  manifest = g.ref.id;
+                  named = own-named s.rows a.path a.node g.ref g.among;
+                  file = f.listed.1;
+                  put = (g.got.now once).put;
+                  names = record { array = f.array; among = f.array_in; chunk = f.chunk; has = f.chunk_in; offset = n.offset; size = n.size; is = f.place_is ∙ n.is };
+                })
+          ]
+
       put-polite : (journal : List Event) → WereGot by.number start Own old journal → IsOpened s journal → IsPolite journal (PutNew (Manifest id) (file_bytes (manifest_for id array)) Set)
       put-polite journal z o = subst (ChunksKnown journal) (sym (read journal z)) (chunk-known journal z o)
 
@@ -224,6 +255,7 @@ module _ (L : Spellings) (by : Caller) (ids : AnyIds) (mine : Sessions) (s : Ses
           let d : DidPut new (Manifest id) bytes = put-did by (Manifest id) bytes Set version now before new (λ j first free. first.0 free) n in
           let k' = Wrote-makes by s start arrays x put reply before new polite n (put-nothing reply before new n k.nothing) k in
           let z' = makes-keeps (WereGot by.number start Own old) (WereGot-append by.number start Own old) by put reply before new polite n z in
+          let itself : PutsItself by.number (Manifest id) bytes start new = record { version = version; now = now; own = own-made by start put reply before new n k.nothing } in
           record {
             opened = k'.opened;
             nothing = k'.nothing;
@@ -232,7 +264,8 @@ module _ (L : Spellings) (by : Caller) (ids : AnyIds) (mine : Sessions) (s : Ses
               path = refl;
               known = λ m e. let same : new_manifest ≡ m = cc in subst (IsOwnNew s by.number start new) same (record {
                 put = d.put;
-                own = record { bytes = bytes; version = version; now = now; own = own-made by start put reply before new n k.nothing };
+                own = record { bytes = bytes; put = itself };
+                filled = λ once. record { file = manifest_for id array; put = ap (option_and_then (manifest_by id)) d.last ∙ read before z; chunks = chunk-from new z' once };
                 drawn = may-draw k.ids;
                 sized = record {
                   id = drawn12-IsId12 x.ids id drawn;
@@ -249,6 +282,8 @@ module _ (L : Spellings) (by : Caller) (ids : AnyIds) (mine : Sessions) (s : Ses
                 same = λ i. lists id i;
               };
             });
+            listed = listed-push new z' k'.listed (Some new_manifest) (subst (λ (o : Option ArrayRefs). IsManifestOf by.number a.rank o (Some new_manifest) start new) (sym is_array) (refl, itself)) (subst (λ (i : AnyIds). drawn12 i ≡ Some id) k.behind drawn);
+            behind = ap after12 k.behind ∙ sym (ids-push s.ids x.news (record { path = a.path; manifest = Some new_manifest }));
           }
 
       put-told : (reply : Reply) (before new : List Event) → WereGot by.number start Own old before → Knows arrays x before → Makes by put reply before new → Walks Careful Nothing Ended by (after_manifest (with_manifest x a array id) id reply) new
@@ -274,7 +309,7 @@ module _ (L : Spellings) (by : Caller) (ids : AnyIds) (mine : Sessions) (s : Ses
       put-walks : (journal : List Event) → WereGot by.number start Own old journal → Knows arrays x journal → Walks Careful Nothing Ended by (Ask (PutNew (Manifest id) (file_bytes (manifest_for id array)) Set) (after_manifest (with_manifest x a array id) id)) journal
       put-walks journal z k =
           walks-ask Careful Nothing Ended by put (after_manifest (with_manifest x a array id) id) journal
-          (record { polite = put-polite journal z k.opened; owes = object-later ids s.ids id later (may-draw k.ids) }) k.nothing
+          (record { polite = put-polite journal z k.opened; owes = object-later ids s.ids id later (may-draw k.ids) }, tt) k.nothing
           (λ reply new n. (λ off. put-nothing reply journal new n k.nothing, put-told reply journal new z k n))
 
     -- ---- too many chunks, no id, or too long a file
@@ -285,10 +320,14 @@ module _ (L : Spellings) (by : Caller) (ids : AnyIds) (mine : Sessions) (s : Ses
       by_length : (few : nat_lt refs_limit (length array.refs) ≡ false) (id : Id12) (drawn : drawn12 x.ids ≡ Some id) (b : Bool) → is_long (file_bytes (manifest_for id array)) ≡ b
           → Walks Careful Nothing Ended by (cond b (Done (Err (R.TooLarge kinds.Manifest))) (Ask (PutNew (Manifest id) (file_bytes (manifest_for id array)) Set) (after_manifest (with_manifest x a array id) id))) journal
       by_length few id drawn true e = too_many id (inr (object-drawn s.ids x.ids id k.ids drawn, e))
-      by_length few id drawn false e = put-walks array is lists few id drawn e journal z k
+      by_length few id drawn false e = put-walks array is_array is lists few id drawn e journal z k
 
       by_draw : (few : nat_lt refs_limit (length array.refs) ≡ false) (o : Option Id12) → drawn12 x.ids ≡ o → Walks Careful Nothing Ended by (put_manifest x a array o) journal
-      by_draw few None e = walks-done Careful Nothing Ended by (Err R.IdsSpent) journal (record { later = x.ids; is_later = k.ids; spent = e }, k.nothing)
+      by_draw few None e =
+          walks-done Careful Nothing Ended by (Err R.IdsSpent) journal (
+            record { front = arrays; left = a ∷ others; are = split; news = x.news; listed = k.listed; needs = record { old = old; read = got-told by.number start journal Own old z; refs = array; merged = is_array }; spent = subst (λ (i : AnyIds). drawn12 i ≡ None) k.behind e },
+            k.nothing,
+          )
       by_draw few (Some id) e = by_length few id e (is_long (file_bytes (manifest_for id array))) refl
 
       by_number : (b : Bool) → nat_lt refs_limit (length array.refs) ≡ b → Walks Careful Nothing Ended by (cond b (Done (Err (R.TooLarge kinds.Manifest))) (put_manifest x a array (drawn12 x.ids))) journal
@@ -299,7 +338,7 @@ module _ (L : Spellings) (by : Caller) (ids : AnyIds) (mine : Sessions) (s : Ses
     write-walks journal z k = by_array (merged_array a.rank a.node old change) refl
       where
         by_array : (o : Option ArrayRefs) → merged_array a.rank a.node old change ≡ o → Walks Careful Nothing Ended by (write_array x a o) journal
-        by_array None e = none-walks journal z k (subst (IsNewList a.rank a.node old change) e (L.lists a.rank a.node old change))
+        by_array None e = none-walks journal z k e (subst (IsNewList a.rank a.node old change) e (L.lists a.rank a.node old change))
         by_array (Some array) e =
             by_number array e (subst (IsMerged a.rank a.node old change) e (L.merged.merged a.rank a.node old change)) (subst (IsNewList a.rank a.node old change) e (L.lists a.rank a.node old change)) journal z k
             (nat_lt refs_limit (length array.refs)) refl
@@ -308,11 +347,11 @@ module _ (L : Spellings) (by : Caller) (ids : AnyIds) (mine : Sessions) (s : Ses
   abbrev changed : List ChangedArray
   changed = changed_arrays s.held (base_nodes s)
 
-  array-walks : (arrays : List ChangedArray) (x : Written) (a : ChangedArray) (journal : List Event) → Contains (changed_arrays s.held (base_nodes s)) a → Knows arrays x journal → Walks Careful Nothing (Ends (Knows (arrays ++ a ∷ [])) Refused) by (array_program s.rows s.held.chunks x a) journal
-  array-walks arrays x a journal among k =
+  array-walks : (arrays others : List ChangedArray) (x : Written) (a : ChangedArray) (journal : List Event) → arrays ++ a ∷ others ≡ changed_arrays s.held (base_nodes s) → Contains (changed_arrays s.held (base_nodes s)) a → Knows arrays x journal → Walks Careful Nothing (Ends (Knows (arrays ++ a ∷ [])) Refused) by (array_program s.rows s.held.chunks x a) journal
+  array-walks arrays others x a journal split among k =
       walks-then Careful Nothing (Seen arrays x (own_manifests s.rows a.path a.node)) Refused (Ends (Knows (arrays ++ a ∷ [])) Refused) by (old_program (own_manifests s.rows a.path a.node) []) (λ old. write_array x a (merged_array a.rank a.node old (chunks_of s.held.chunks a.node))) journal
       (old-walks arrays x (own_manifests s.rows a.path a.node) [] (own_manifests s.rows a.path a.node) [] journal refl (own-named s.rows a.path a.node) (tt, k))
-      (λ old h q. write-walks arrays x a among old h q.0 q.1)
+      (λ old h q. write-walks arrays x a among others split old h q.0 q.1)
       (λ why h e. e)
 
   pub arrays-walks : (arrays more : List ChangedArray) (x : Written) (journal : List Event) → arrays ++ more ≡ changed_arrays s.held (base_nodes s) → Knows arrays x journal → Walks Careful Nothing (Ends (Knows (changed_arrays s.held (base_nodes s))) Refused) by (arrays_program s.rows s.held.chunks more x) journal
@@ -320,6 +359,6 @@ module _ (L : Spellings) (by : Caller) (ids : AnyIds) (mine : Sessions) (s : Ses
   arrays-walks arrays [] x journal split k = walks-done Careful Nothing (Ends (Knows changed) Refused) by (Ok x) journal (subst (λ (l : List ChangedArray). Knows l x journal) (sym (append-nil arrays) ∙ split) k)
   arrays-walks arrays (a ∷ more) x journal split k =
       walks-then Careful Nothing (Knows (arrays ++ a ∷ [])) Refused (Ends (Knows changed) Refused) by (array_program s.rows s.held.chunks x a) (arrays_program s.rows s.held.chunks more) journal
-      (array-walks arrays x a journal (subst (λ (l : List ChangedArray). Contains l a) split (Contains-append_right arrays (a ∷ more) a (here a more))) k)
+      (array-walks arrays more x a journal split (subst (λ (l : List ChangedArray). Contains l a) split (Contains-append_right arrays (a ∷ more) a (here a more))) k)
       (λ y h q. arrays-walks (arrays ++ a ∷ []) more y h (append_assoc arrays (a ∷ []) more ∙ split) q)
       (λ why h e. e)

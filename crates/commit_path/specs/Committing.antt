@@ -1,7 +1,7 @@
 -- The program of a commit: it writes a manifest for each array whose chunks changed, then puts the log, then the snapshot, then the
 -- branch over the version that the session had read. (Icechunk specification version 1, "Write New Snapshot"; which manifests are
 -- written is own.)
-use Rattle.std.specs.Prelude.{◌≡◌, ℕ, ◌+◌, ◌*◌, ◌^◌, nat_lt, if◌then◌else◌, Bool, false, List, [], ◌∷◌, ◌++◌, length, drop, Option, Some, None, Result, Ok, Err}
+use Rattle.std.specs.Prelude.{◌≡◌, ◌⊎◌, ℕ, ◌+◌, ◌*◌, ◌^◌, nat_lt, if◌then◌else◌, Bool, false, List, [], ◌∷◌, ◌++◌, length, drop, Option, Some, None, Result, Ok, Err}
 use Rattle.ice_ids.specs.declared.Id12.{Id12}
 use Rattle.ice_ids.specs.declared.drawing.AnyIds.{AnyIds}
 use Rattle.ice_ids.specs.Drawing.{drawn12, after12}
@@ -29,18 +29,18 @@ use Rattle.ref_file.specs.Refs.{ref_bytes}
 use Rattle.changed_snapshot.specs.declared.written.NewManifest.{NewManifest}
 use Rattle.changed_snapshot.specs.declared.written.NewList.{NewList}
 use Rattle.changed_snapshot.specs.Rows.{own_manifests, snapshot_over}
-use Rattle.store_api.specs.declared.keys.Key.TheVariants.{Snapshot as Snapshot_key, Manifest as Manifest_key, Txn, Branch as Branch_key}
-use Rattle.store_api.specs.declared.keys.Why.TheVariants.{Set, Commit as For_commit}
-use Rattle.store_api.specs.declared.events.Op.TheVariants.{PutNew, PutOver}
-use Rattle.store_api.specs.declared.events.New.TheVariants.{Done as New_done, Present}
-use Rattle.store_api.specs.declared.events.Over.TheVariants.{Done as Over_done, Moved}
-use Rattle.store_api.specs.declared.events.Reply.{Reply}
-use Rattle.store_api.specs.declared.events.Reply.TheVariants.{New as Is_new, Over as Is_over}
+use Rattle.object_store.specs.declared.keys.Key.TheVariants.{Snapshot as Snapshot_key, Manifest as Manifest_key, Txn, Branch as Branch_key}
+use Rattle.object_store.specs.declared.keys.Why.TheVariants.{Set, Commit as For_commit}
+use Rattle.object_store.specs.declared.events.Op.TheVariants.{PutNew, PutOver}
+use Rattle.object_store.specs.declared.events.New.TheVariants.{Done as New_done, Present}
+use Rattle.object_store.specs.declared.events.Over.TheVariants.{Done as Over_done, Moved}
+use Rattle.object_store.specs.declared.events.Reply.{Reply}
+use Rattle.object_store.specs.declared.events.Reply.TheVariants.{New as Is_new, Over as Is_over}
 use Rattle.store_api.specs.declared.machines.Next.{Next}
-use Rattle.store_api.specs.declared.machines.Next.TheVariants.{Ready}
+use Rattle.store_api.specs.declared.machines.Next.TheVariants.{Again, Ready}
 use Rattle.store_api.specs.declared.machines.Refusal.{Refusal}
 use Rattle.store_api.specs.declared.machines.Refusal.TheVariants.{ReadOnly, NothingToCommit, IdsSpent, TooLarge, Missing, BadFile, IdTaken, StoreFault, NoMemory}
-use Rattle.store_api.specs.Machine.{version_at}
+use Rattle.object_store.specs.Machine.{version_at}
 use Rattle.store_api.specs.Program.{Done, Ask, IsAsk, is_no_memory}
 use Rattle.store_api.specs.Running.{Program, ◌>>=◌}
 use Rattle.repo_read.specs.Programs.{manifest_program}
@@ -73,10 +73,13 @@ manifest_for id array = record { id = id; arrays = array ∷ [] }
 abbrev pub with_list : Written → ChangedArray → Option NewManifest → Written
 with_list w a manifest = record w { news = w.news ++ record { path = a.path; manifest = manifest } ∷ [] }
 
+-- what a list says of the manifest of one array
+abbrev pub new_manifest : Id12 → (rank : ℕ) → ArrayRefs → NewManifest
+new_manifest id rank array = record { id = id; extents = extents_for rank array.refs; size = length (file_bytes (manifest_for id array)); refs = length array.refs }
+
 -- a manifest that is written under an id that was drawn
 abbrev pub with_manifest : Written → ChangedArray → ArrayRefs → Id12 → Written
-with_manifest w a array id =
-    with_list (record w { ids = after12 w.ids }) a (Some (record { id = id; extents = extents_for a.rank array.refs; size = length (file_bytes (manifest_for id array)); refs = length array.refs }))
+with_manifest w a array id = with_list (record w { ids = after12 w.ids }) a (Some (new_manifest id a.rank array))
 
 abbrev pub after_manifest : Written → Id12 → Reply → Program Written
 after_manifest w id (Is_new (New_done version now)) = Done (Ok w)
@@ -114,9 +117,10 @@ arrays_program rows entries (a ∷ more) w = array_program rows entries w a >>= 
 abbrev pub log_for : SessionState → Id12 → TxnFile
 log_for s id = record { id = id; lists = touched s.held (base_nodes s) }
 
--- the snapshot of a commit: the base is its parent, its rows are the base's under the session's changes and the new lists
+-- the snapshot of a commit: the base is its parent, its rows are the base's under the session's changes and the new lists,
+-- and it has no properties
 abbrev pub snap_for : SessionState → (message : List ℕ) → List NewList → Id12 → (flushed : ℕ) → SnapshotFile
-snap_for s message news id flushed = snapshot_over s.held news s.rows s.files (record { id = id; parent = s.base; flushed_at = flushed }) message
+snap_for s message news id flushed = snapshot_over s.held news s.rows s.files (record { id = id; parent = s.base; flushed_at = flushed }) message []
 
 -- what was put over is the commit; or the branch had moved on, and these ids are the next to draw
 abbrev pub after_branch : SessionState → Id12 → (next : AnyIds) → Reply → Answer
@@ -221,6 +225,27 @@ pub record IsDrawn (old new : SessionState) : Type 0 where
   pub same : new ≡ record old { ids = new.ids }
   pub later : IsLater old.ids new.ids
 
+-- Of an operation that comes next an id was drawn for the object that it puts: for a new manifest, or for the log and the snapshot.
+abbrev pub ids_for : Committing → AnyIds → AnyIds
+ids_for (New manifest file) ids = after12 ids
+ids_for (Log id file) ids = after12 ids
+ids_for _ ids = ids
+
+-- what was drawn on the way to the next operation: where nothing comes next, one id at most
+abbrev pub DrewOwn : {A : Type 0} → Result A Refusal → Committing → (old new : AnyIds) → Type 0
+DrewOwn (Ok answer) next old new = new ≡ ids_for next old
+DrewOwn (Err why) next old new = (new ≡ old) ⊎ (new ≡ after12 old)
+
+-- What a step drew: one id for the object that is put next, and none where the commit is done, was lost, or is refused by what the store answered.
+-- Where there is no id, a file would be too long, or memory is wanting, one was drawn at most, for an object that isn't put.
+abbrev pub DrewFor : Result (Next Tried) Refusal → Committing → (old new : AnyIds) → Type 0
+DrewFor (Ok Again) next old new = new ≡ ids_for next old
+DrewFor (Ok (Ready answer)) next old new = new ≡ old
+DrewFor (Err IdsSpent) next old new = (new ≡ old) ⊎ (new ≡ after12 old)
+DrewFor (Err (TooLarge kind)) next old new = (new ≡ old) ⊎ (new ≡ after12 old)
+DrewFor (Err NoMemory) next old new = (new ≡ old) ⊎ (new ≡ after12 old)
+DrewFor (Err why) next old new = new ≡ old
+
 -- where the branch had moved on, the ids to draw next are those of the session
 abbrev pub IsLeft : Result (Next Tried) Refusal → SessionState → Type 0
 IsLeft (Ok (Ready (Lost old found next))) s = s.ids ≡ next
@@ -228,7 +253,7 @@ IsLeft _ s = Unit {0}
 
 -- the machine's own commit begins, or the session comes back
 abbrev pub CommitStarts : SessionState → (message : List ℕ) → Result Commit (SessionState × Refusal) → Type 0
-CommitStarts s message (Ok c) = (commit_rest c ≡ commit_program s message) × IsAsk (commit_rest c) × IsDrawn s (session_in c)
+CommitStarts s message (Ok c) = (commit_rest c ≡ commit_program s message) × IsAsk (commit_rest c) × IsDrawn s (session_in c) × (c.session.ids ≡ ids_for c.state s.ids)
 CommitStarts s message (Err refused) = IsDrawn s refused.0 × (is_no_memory refused.1 ≡ false → commit_program s message ≡ Done (Err refused.1))
 
 -- how many steps are left at most: an array has fewer than 2^64 manifests

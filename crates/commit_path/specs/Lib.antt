@@ -1,6 +1,7 @@
 pub mod Arrays
 pub mod Committing
 pub mod Owed
+pub mod Own
 pub mod Answered
 pub mod Opened
 pub mod Spelled

@@ -8,11 +8,11 @@ use Rattle.manifest_file.specs.declared.manifest.Place.{Place}
 use Rattle.manifest_file.specs.declared.manifest.Place.TheVariants.{Object}
 use Rattle.snapshot_file.specs.declared.snapshot.SnapshotFile.{SnapshotFile}
 use Rattle.repo_objects.specs.Readings.{snapshot_by, ref_of}
-use Rattle.store_api.specs.declared.keys.Key.{Key}
-use Rattle.store_api.specs.declared.keys.Key.TheVariants.{Snapshot, Chunk, Branch}
-use Rattle.store_api.specs.declared.events.Op.{Op}
-use Rattle.store_api.specs.declared.events.Op.TheVariants.{Get}
-use Rattle.store_api.specs.declared.events.Event.{Event}
+use Rattle.object_store.specs.declared.keys.Key.{Key}
+use Rattle.object_store.specs.declared.keys.Key.TheVariants.{Snapshot, Chunk, Branch}
+use Rattle.object_store.specs.declared.events.Op.{Op}
+use Rattle.object_store.specs.declared.events.Op.TheVariants.{Get}
+use Rattle.object_store.specs.declared.events.Event.{Event}
 use Rattle.store_api.specs.declared.machines.Refusal.{Refusal}
 use Rattle.store_api.specs.declared.machines.Refusal.TheVariants.{NoRef, Missing, BadFile, StoreFault, NoMemory}
 use Rattle.store_api.specs.Journal.{WasPut, StoodAt, HadRows, puts_of, rows_of, IsOnce}
@@ -20,8 +20,8 @@ use Rattle.store_api.specs.Telling.{ChangedNothing, WasAbsent, WasFailed, WasGot
 use Rattle.repo_read.specs.declared.resolving.At.{At}
 use Rattle.repo_read.specs.declared.resolving.Named.{Named}
 use Rattle.repo_read.specs.Naming.{WasResolved, WasNothing, WasUnnamed, IsNaming, TargetWasBad}
-use Rattle.session.specs.declared.tip.Tip.{Tip}
-use Rattle.session.specs.Sessions.{SessionState}
+use Rattle.session.specs.declared.origin.Tip.{Tip}
+use Rattle.session.specs.Sessions.{SessionState, tip_of}
 use Rattle.session.specs.Opening.{Asked, begun}
 use Rattle.commit_path.specs.Owed.{HasChunks}
 
@@ -36,15 +36,15 @@ pub record BranchNamed (journal : List Event) (branch : List ℕ) (version : ℕ
   pub stood : StoodAt journal (Branch branch) version bytes
   pub names : ref_of bytes ≡ Some base
 
--- so it was of the branch that a session writes to; one that only reads has none
+-- so it was of the branch that named a session's base, if one did
 abbrev pub IsTip : List Event → (base : Id12) → Option Tip → Type 0
 IsTip journal base None = Unit {0}
 IsTip journal base (Some tip) = BranchNamed journal tip.branch tip.version.0 base
 
--- A session's branch, if it writes, stood at its version, with a reference to its base; a put of the base had the session's rows; and the
+-- The branch that named a session's base, if one did, stood at its version, with a reference to its base; a put of the base had the session's rows; and the
 -- objects of its long chunks were put. Where nothing is put again, the rows are the base's, and the bytes of its chunks are there.
 pub record IsOpened (s : SessionState) (journal : List Event) : Type 0 where
-  pub named : IsTip journal s.base s.tip
+  pub named : IsTip journal s.base (tip_of s)
   pub put : WasPut journal (Snapshot s.base)
   pub had : HadRows journal s.base s.rows
   pub rows : IsOnce journal → rows_of journal s.base ≡ Some s.rows

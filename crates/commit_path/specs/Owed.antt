@@ -12,13 +12,13 @@ use Rattle.zarr_tree.specs.Held.{Entry, touched, entry_in}
 use Rattle.manifest_file.specs.declared.manifest.Place.{Place}
 use Rattle.snapshot_file.specs.declared.snapshot.SnapshotFile.{SnapshotFile}
 use Rattle.repo_objects.specs.Readings.{snapshot_by, ref_of}
-use Rattle.store_api.specs.declared.keys.Key.{Key}
-use Rattle.store_api.specs.declared.keys.Key.TheVariants.{Snapshot, Manifest, Txn, Chunk, Branch}
-use Rattle.store_api.specs.declared.keys.Why.{Why}
-use Rattle.store_api.specs.declared.keys.Why.TheVariants.{Commit}
-use Rattle.store_api.specs.declared.events.Op.{Op}
-use Rattle.store_api.specs.declared.events.Op.TheVariants.{Get, PutNew, PutOver, List as ListPart}
-use Rattle.store_api.specs.declared.events.Event.{Event}
+use Rattle.object_store.specs.declared.keys.Key.{Key}
+use Rattle.object_store.specs.declared.keys.Key.TheVariants.{Snapshot, Manifest, Txn, Chunk, Branch, Tag, TagGone, Lease}
+use Rattle.object_store.specs.declared.keys.Why.{Why}
+use Rattle.object_store.specs.declared.keys.Why.TheVariants.{Commit}
+use Rattle.object_store.specs.declared.events.Op.{Op}
+use Rattle.object_store.specs.declared.events.Op.TheVariants.{Get, PutNew, PutOver, Remove, RemoveAt, List as ListPart}
+use Rattle.object_store.specs.declared.events.Event.{Event}
 use Rattle.store_api.specs.Journal.{WasPut, puts_of, rows_of, snap_made, log_made, IsOnce, IsPolite, IsGood}
 use Rattle.session.specs.Sessions.{SessionState, branch_of, version_of, base_nodes, base_tree, changes_in, overlay}
 
@@ -94,12 +94,21 @@ OwesNew ids mine journal bytes (Snapshot id) = OwesSnap mine journal id bytes
 OwesNew ids mine journal bytes (Txn id) = MayDrawObject ids id
 OwesNew ids mine journal bytes (Manifest id) = MayDrawObject ids id
 OwesNew ids mine journal bytes (Chunk id) = MayDrawObject ids id
-OwesNew ids mine journal bytes _ = ⊥
+OwesNew ids mine journal bytes (Branch name) = ⊥
+OwesNew ids mine journal bytes (Tag name) = ⊥
+OwesNew ids mine journal bytes (TagGone name) = ⊥
+OwesNew ids mine journal bytes (Lease id) = ⊥
 
 -- what is put over is a branch
 abbrev pub OwesPutOver : Sessions → List Event → List ℕ → ℕ → Why → Key → Type 0
 OwesPutOver mine journal bytes old why (Branch name) = OwesOver mine journal name bytes old why
-OwesPutOver mine journal bytes old why _ = ⊥
+OwesPutOver mine journal bytes old why (Snapshot id) = ⊥
+OwesPutOver mine journal bytes old why (Manifest id) = ⊥
+OwesPutOver mine journal bytes old why (Txn id) = ⊥
+OwesPutOver mine journal bytes old why (Chunk id) = ⊥
+OwesPutOver mine journal bytes old why (Tag name) = ⊥
+OwesPutOver mine journal bytes old why (TagGone name) = ⊥
+OwesPutOver mine journal bytes old why (Lease id) = ⊥
 
 -- a client that opens sessions, edits and commits them reads, puts objects and puts branches over
 abbrev pub Owes : AnyIds → Sessions → List Event → Op → Type 0
@@ -107,7 +116,8 @@ Owes ids mine journal (Get key) = Unit {0}
 Owes ids mine journal (ListPart part) = Unit {0}
 Owes ids mine journal (PutNew key bytes why) = OwesNew ids mine journal bytes key
 Owes ids mine journal (PutOver key bytes old why) = OwesPutOver mine journal bytes old.0 why key
-Owes ids mine journal _ = ⊥
+Owes ids mine journal (Remove key why) = ⊥
+Owes ids mine journal (RemoveAt key old why) = ⊥
 
 -- each operation is polite, and owed
 pub record IsCareful (ids : AnyIds) (mine : Sessions) (journal : List Event) (client : ℕ) (op : Op) : Type 0 where

@@ -5,11 +5,12 @@ use Rattle.ice_ids.specs.declared.Id12.{Id12}
 use Rattle.snapshot_file.specs.declared.snapshot.SnapshotFile.{SnapshotFile}
 use Rattle.repo_objects.specs.Readings.{snapshot_by}
 use Rattle.repo_objects.specs.Trees.{nodes_in}
-use Rattle.store_api.specs.declared.keys.Key.TheVariants.{Snapshot}
-use Rattle.store_api.specs.declared.keys.Why.{Why}
-use Rattle.store_api.specs.declared.events.Op.{Op}
-use Rattle.store_api.specs.declared.events.Op.TheVariants.{PutNew}
-use Rattle.store_api.specs.declared.events.Event.{Event}
+use Rattle.object_store.specs.declared.keys.Key.{Key}
+use Rattle.object_store.specs.declared.keys.Key.TheVariants.{Snapshot, Manifest, Txn, Chunk, Branch, Tag, TagGone, Lease}
+use Rattle.object_store.specs.declared.keys.Why.{Why}
+use Rattle.object_store.specs.declared.events.Op.{Op}
+use Rattle.object_store.specs.declared.events.Op.TheVariants.{Get, PutNew, PutOver, Remove, RemoveAt, List as ListPart}
+use Rattle.object_store.specs.declared.events.Event.{Event}
 use Rattle.store_api.specs.Journal.{Each}
 use Rattle.store_api.specs.Callers.{Caller}
 use Rattle.store_api.specs.Program.{Keeps, Leads}
@@ -20,10 +21,25 @@ use Rattle.commit_path.specs.Opened.{IsOpened}
 use Rattle.commit_path.specs.Spelled.{IsSpelled}
 
 -- ---- no snapshot
--- a put of a snapshot, done or not
+-- the key is a snapshot's
+abbrev pub IsOfSnapshot : Key → Type 0
+IsOfSnapshot (Snapshot id) = Unit {0}
+IsOfSnapshot (Manifest id) = ⊥
+IsOfSnapshot (Txn id) = ⊥
+IsOfSnapshot (Chunk id) = ⊥
+IsOfSnapshot (Branch name) = ⊥
+IsOfSnapshot (Tag name) = ⊥
+IsOfSnapshot (TagGone name) = ⊥
+IsOfSnapshot (Lease id) = ⊥
+
+-- a put of a new snapshot, done or not
 abbrev pub PutsSnapshot : Op → Type 0
-PutsSnapshot (PutNew (Snapshot id) bytes why) = Unit {0}
-PutsSnapshot _ = ⊥
+PutsSnapshot (Get key) = ⊥
+PutsSnapshot (PutNew key bytes why) = IsOfSnapshot key
+PutsSnapshot (PutOver key bytes old why) = ⊥
+PutsSnapshot (Remove key why) = ⊥
+PutsSnapshot (RemoveAt key old why) = ⊥
+PutsSnapshot (ListPart part) = ⊥
 
 -- the event isn't the client's, or puts no snapshot
 abbrev pub PutsNone : ℕ → List Event → Event → Type 0

@@ -6,11 +6,11 @@ ghost use Rattle.manifest_file.specs.Manifests.{ref_key};
 ghost use Rattle.manifest_index.specs.Extents.{are_low};
 ghost use Rattle.store_api.specs.Program.{IsAsk, IsDone, Steps, NextIsPolite};
 ghost use Rattle.store_api.specs.Driving.{Awaits, Took, op_of};
-ghost use Rattle.store_api.specs.declared.events.Op.TheVariants as Op;
+ghost use Rattle.object_store.specs.declared.events.Op.TheVariants as Op;
 ghost use Rattle.snapshot_file.specs.Layout.{snapshot_bytes};
 ghost use Rattle.txn_file.specs.Layout.{log_file};
 ghost use Rattle.changed_snapshot.specs.declared.written.NewList.{NewList as TheList};
-ghost use Rattle.commit_path.specs.Committing.{log_for, snap_for, old_rest, new_behind, arrays_behind, written_in, after_arrays, after_log, after_snapshot, after_branch, commit_rest, commit_left, manifests_left, session_in, message_in, IsDrawn, IsLeft, CommitStarts, MayRefuseStart, MayRefuseCommit};
+ghost use Rattle.commit_path.specs.Committing.{log_for, snap_for, old_rest, new_behind, arrays_behind, written_in, after_arrays, after_log, after_snapshot, after_branch, commit_rest, commit_left, manifests_left, session_in, message_in, IsDrawn, DrewOwn, DrewFor, IsLeft, CommitStarts, MayRefuseStart, MayRefuseCommit};
 ghost use Rattle.commit_path.specs.inside.Lists.{IsRank};
 ghost use Rattle.commit_path.specs.inside.Working.{IsUnwritten, WritesFile, PassesUnless, got_behind, merged_behind, MayRefuseOwn, LandsCalmly, LandsSurely, Reaches, Turns};
 
@@ -26,7 +26,7 @@ use manifest_file::{ArrayRefs, REFS_LIMIT};
 use ref_file::ref_write;
 use repo_read::manifest_told;
 use session::Session;
-use snapshot_file::ManifestRef;
+use snapshot_file::{ManifestRef, Props};
 use std::alloc::{AllocError, Global};
 use std::mem;
 use store_api::{
@@ -99,8 +99,9 @@ fn write_log(alloc: Global, session: &Writer, id: Id12) -> Result<Bytes, Refusal
     }
 }
 
-/// The file of the snapshot.
+/// The file of the snapshot, which has no properties.
 fn write_snapshot(
+    alloc: Global,
     session: &Writer,
     id: Id12,
     flushed_at: u64,
@@ -110,7 +111,12 @@ fn write_snapshot(
     requires { Ascends (λ (l : TheList). l.path) None news.now }
     ensures { WritesFile Kind.Snapshot (snapshot_bytes (snap_for session.now message.now news.now id flushed_at)) result }
 {
-    match session.as_session().write(id, flushed_at, news, message) {
+    let props = Props::new(alloc);
+    let written = session
+        .as_session()
+        .write(id, flushed_at, news, message, &props);
+    drop(props);
+    match written {
         Ok(file) => Ok(file),
         Err(fault) => Err(unwritten(Kind::Snapshot, fault)),
     }
@@ -134,7 +140,7 @@ impl Machine for Commit {
 
     ghost left = { commit_left };
 
-    ghost keeps = { λ old new. IsDrawn (session_in old) (session_in new) };
+    ghost keeps = { λ result old new. IsDrawn (session_in old) (session_in new) };
 
     ghost may_refuse = { MayRefuseCommit };
 
@@ -163,6 +169,7 @@ impl Machine for Commit {
         ensures kept { IsDrawn (session_in self.old) (session_in self.new) }
         ensures listed { IfErr result MayRefuseCommit }
         ensures message { message_in self.new ≡ message_in self.old }
+        ensures drew { DrewFor result self.new.state self.old.session.ids self.new.session.ids }
         ensures left { IsLeft result (session_in self.new) }
     {
         let state = mem::replace(&mut self.state, Committing::Ended);
@@ -187,6 +194,7 @@ impl Machine for Commit {
         ensures ended { IsDone (commit_rest self.new) }
         ensures falls { commit_left self.new < commit_left self.old }
         ensures kept { IsDrawn (session_in self.old) (session_in self.new) }
+        ensures drew { self.new.session.ids ≡ self.old.session.ids }
         ensures message { message_in self.new ≡ message_in self.old }
     {
         drop(mem::replace(&mut self.state, Committing::Ended));
@@ -202,6 +210,7 @@ impl Commit {
         ensures reaches { Reaches (after_arrays self.old.session self.old.message (written_in self.old)) (commit_rest self.new) result }
         ensures falls { commit_left self.new ≤ length self.old.arrays.left * 2 ^ 65 + 3 }
         ensures kept { IsDrawn (session_in self.old) (session_in self.new) }
+        ensures drew { DrewOwn result self.new.state self.old.session.ids self.new.session.ids }
         ensures message { message_in self.new ≡ message_in self.old }
         ensures listed { IfErr result MayRefuseOwn }
     {
@@ -224,6 +233,7 @@ impl Commit {
         ensures reaches { Reaches (merged_behind self.old.session self.old.message (written_in self.old) self.old.arrays.left (Some array)) (commit_rest self.new) result }
         ensures falls { commit_left self.new ≤ length self.old.arrays.left * 2 ^ 65 + 4 }
         ensures kept { IsDrawn (session_in self.old) (session_in self.new) }
+        ensures drew { DrewOwn result self.new.state self.old.session.ids self.new.session.ids }
         ensures message { message_in self.new ≡ message_in self.old }
         ensures listed { IfErr result MayRefuseOwn }
     {
@@ -246,6 +256,7 @@ impl Commit {
         ensures passes { PassesUnless result self.old self.new }
         ensures falls { commit_left self.new ≤ length self.old.arrays.left * 2 ^ 65 + 4 }
         ensures kept { IsDrawn (session_in self.old) (session_in self.new) }
+        ensures drew { DrewOwn result self.new.state self.old.session.ids self.new.session.ids }
         ensures message { message_in self.new ≡ message_in self.old }
         ensures listed { IfErr result MayRefuseOwn }
     {
@@ -275,6 +286,7 @@ impl Commit {
         ensures falls { commit_left self.new ≤ length self.old.arrays.left * 2 ^ 65 + manifests_left self.old.session.rows self.old.arrays.left (length got.items) + 4 }
         ensures few { manifests_left self.old.session.rows self.old.arrays.left (length got.items) < 2 ^ 64 }
         ensures kept { IsDrawn (session_in self.old) (session_in self.new) }
+        ensures drew { DrewOwn result self.new.state self.old.session.ids self.new.session.ids }
         ensures message { message_in self.new ≡ message_in self.old }
         ensures listed { IfErr result MayRefuseOwn }
     {
@@ -299,6 +311,7 @@ impl Commit {
         ensures reaches { Reaches (arrays_behind self.old.session self.old.message (written_in self.old) self.old.arrays.left []) (commit_rest self.new) result }
         ensures falls { commit_left self.new ≤ length self.old.arrays.left * 2 ^ 65 + 2 ^ 64 + 4 }
         ensures kept { IsDrawn (session_in self.old) (session_in self.new) }
+        ensures drew { DrewOwn result self.new.state self.old.session.ids self.new.session.ids }
         ensures message { message_in self.new ≡ message_in self.old }
         ensures listed { IfErr result MayRefuseOwn }
     {
@@ -324,6 +337,7 @@ impl Commit {
         ensures falls { commit_left self.new < length self.old.arrays.left * 2 ^ 65 + manifests_left self.old.session.rows self.old.arrays.left (length got.items + 1) + 5 }
         ensures kept { IsDrawn (session_in self.old) (session_in self.new) }
         ensures message { message_in self.new ≡ message_in self.old }
+        ensures drew { DrewFor result self.new.state self.old.session.ids self.new.session.ids }
         ensures left { IsLeft result (session_in self.new) }
         ensures listed { IfErr result MayRefuseCommit }
     {
@@ -355,6 +369,7 @@ impl Commit {
         ensures falls { commit_left self.new < length self.old.arrays.left * 2 ^ 65 + 4 }
         ensures kept { IsDrawn (session_in self.old) (session_in self.new) }
         ensures message { message_in self.new ≡ message_in self.old }
+        ensures drew { DrewFor result self.new.state self.old.session.ids self.new.session.ids }
         ensures left { IsLeft result (session_in self.new) }
         ensures listed { IfErr result MayRefuseCommit }
     {
@@ -377,6 +392,7 @@ impl Commit {
         ensures falls { commit_left self.new < length self.old.arrays.left * 2 ^ 65 + 3 }
         ensures kept { IsDrawn (session_in self.old) (session_in self.new) }
         ensures message { message_in self.new ≡ message_in self.old }
+        ensures drew { DrewFor result self.new.state self.old.session.ids self.new.session.ids }
         ensures left { IsLeft result (session_in self.new) }
         ensures listed { IfErr result MayRefuseCommit }
     {
@@ -386,7 +402,14 @@ impl Commit {
                 return Err(Refusal::IdTaken(Key::Txn(id)));
             }
         };
-        match write_snapshot(&self.session, id, now, self.arrays.news(), &self.message) {
+        match write_snapshot(
+            self.alloc,
+            &self.session,
+            id,
+            now,
+            self.arrays.news(),
+            &self.message,
+        ) {
             Ok(file) => {
                 self.state = Committing::Snapshot { id, file };
                 Ok(Next::Again)
@@ -402,6 +425,7 @@ impl Commit {
         ensures falls { commit_left self.new < length self.old.arrays.left * 2 ^ 65 + 2 }
         ensures kept { IsDrawn (session_in self.old) (session_in self.new) }
         ensures message { message_in self.new ≡ message_in self.old }
+        ensures drew { DrewFor result self.new.state self.old.session.ids self.new.session.ids }
         ensures left { IsLeft result (session_in self.new) }
         ensures listed { IfErr result MayRefuseCommit }
     {
@@ -424,6 +448,7 @@ impl Commit {
         ensures falls { commit_left self.new < length self.old.arrays.left * 2 ^ 65 + 1 }
         ensures kept { IsDrawn (session_in self.old) (session_in self.new) }
         ensures message { message_in self.new ≡ message_in self.old }
+        ensures drew { DrewFor result self.new.state self.old.session.ids self.new.session.ids }
         ensures left { IsLeft result (session_in self.new) }
         ensures listed { IfErr result MayRefuseCommit }
     {
@@ -506,6 +531,7 @@ impl Commit {
         ensures falls { commit_left self.new < commit_left self.old }
         ensures session { IsDrawn (session_in self.old) (session_in self.new) }
         ensures message { message_in self.new ≡ message_in self.old }
+        ensures drew { DrewFor result self.new.state self.old.session.ids self.new.session.ids }
         ensures left { IsLeft result (session_in self.new) }
         ensures listed { IfErr result MayRefuseCommit }
     {

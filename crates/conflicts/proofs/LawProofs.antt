@@ -33,8 +33,8 @@ none-in : {A : Type 0} (xs : List A) (y : A) → xs ≡ [] → In xs y → ⊥
 none-in xs y e k = subst (λ zs. In zs y) e k
 
 pub commuting-law : CommutingLaw
-commuting-law bytes_at h d t s b none =
-    commute-law (changes_of bytes_at h) d t s b.well_formed b.ours b.others b.ours_apart b.others_apart b.touched
+commuting-law bytes_at h d t s b ours_apart others_apart none =
+    commute-law (changes_of bytes_at h) d t s b.well_formed b.ours b.others ours_apart others_apart b.touched
     (λ k p i x. none-in _ (made k p i) none (contains-in _ (made k p i) ((exact-law bytes_at h s t (apply d t) (made k p i)).1 x)))
 
 hard-stays : (policy : Policy) (k : Case) (i : Option (List ℕ)) → is_hard k ≡ true → case_stays policy k i ≡ true
@@ -52,7 +52,7 @@ hard-stays policy case.DeleteOfUpdatedGroup i h = cc
 pub solved-law : SolvedLaw
 solved-law bytes_at h d t s policy out b none =
     subst (λ c. IsNormal c (apply d t)) (sym (taken-law bytes_at h out))
-    (rebase-law (changes_of bytes_at h) d t s (lists_key out) b.well_formed b.ours b.others b.ours_apart b.others_apart b.touched
+    (rebase-law (changes_of bytes_at h) d t s (lists_key out) b.well_formed b.ours b.others b.unlike b.touched
     (λ k p i hard x. none-in _ (made k p i) none
     (filter-in (λ (y : Conflict). case_stays policy y.case y.index) _ (made k p i) (contains-in _ (made k p i) ((exact-law bytes_at h s t (apply d t) (made k p i)).1 x)) (hard-stays policy k i hard))))
 

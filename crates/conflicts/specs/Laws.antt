@@ -10,7 +10,7 @@ use Rattle.zarr_tree.specs.Changes.{Changes, apply, IsNormal}
 use Rattle.zarr_tree.specs.declared.lists.Touched.{Touched}
 use Rattle.zarr_tree.specs.Touched.{Touches, IsOrdered}
 use Rattle.zarr_tree.specs.Held.{Held, changes_of}
-use Rattle.zarr_tree.specs.Conflicts.{IsConflict, IsApart}
+use Rattle.zarr_tree.specs.Conflicts.{IsConflict, IsApart, AddsUnlike}
 use Rattle.zarr_changes.specs.Edits.{lists_key, without_chunks}
 use Rattle.conflicts.specs.declared.solving.Pick.TheVariants.{Theirs}
 use Rattle.conflicts.specs.declared.solving.Policy.{Policy}
@@ -31,13 +31,12 @@ ExactLaw = (bytes_at : Place → Option (List ℕ)) (h : Held Place) (s : Touche
 abbrev pub AscendLaw : Type 0
 AscendLaw = (s : Sides) → IsOrdered s.theirs → Ascend (found s)
 
--- another commit's changes d of a tree, which touch these lists, beside ours; neither side's added ids are the other's
+-- another commit's changes d of a tree, which touch these lists, beside ours; neither side adds an id that the other one adds
 pub record IsBeside (c d : Changes) (t : Tree) (s : Touched) : Type 0 where
   pub well_formed : IsWellFormed t
   pub ours : IsNormal c t
   pub others : IsNormal d t
-  pub ours_apart : IsApart c d
-  pub others_apart : IsApart d c
+  pub unlike : AddsUnlike c d
   pub touched : Touches d t s
 
 -- a policy gives up our entry for a chunk: under `Theirs`, where both sides wrote the chunk of a node that has this id in the tree
@@ -55,13 +54,13 @@ abbrev pub GivenLaw : Type 0
 GivenLaw = (bytes_at : Place → Option (List ℕ)) (h : Held Place) (s : Touched) (t u : Tree) (policy : Policy) (id : Id8) (i : List ℕ)
     → (lists_key (keys_in t.nodes (given_up policy (found (sides h s t u)))) id i ≡ true) ↔ IsGivenUp policy (changes_of bytes_at h) s t u id i
 
--- where nothing is found, our changes and theirs give one tree in either order, and it is well formed
+-- where nothing is found, and neither side drops an id that the other one adds, our changes and theirs give one tree in either order, and it is well formed
 abbrev pub CommutingLaw : Type 0
-CommutingLaw = (bytes_at : Place → Option (List ℕ)) (h : Held Place) (d : Changes) (t : Tree) (s : Touched) → IsBeside (changes_of bytes_at h) d t s
+CommutingLaw = (bytes_at : Place → Option (List ℕ)) (h : Held Place) (d : Changes) (t : Tree) (s : Touched) → IsBeside (changes_of bytes_at h) d t s → IsApart (changes_of bytes_at h) d → IsApart d (changes_of bytes_at h)
     → found (sides h s t (apply d t)) ≡ []
     → (apply (changes_of bytes_at h) (apply d t) ≡ apply d (apply (changes_of bytes_at h) t)) × IsWellFormed (apply (changes_of bytes_at h) (apply d t))
 
--- where no conflict stays, our changes without any entries that are taken out are normal for the later tree
+-- Where no conflict stays, our changes without any entries that are taken out are normal for the later tree. They may drop ids that the other commit adds.
 abbrev pub SolvedLaw : Type 0
 SolvedLaw = (bytes_at : Place → Option (List ℕ)) (h : Held Place) (d : Changes) (t : Tree) (s : Touched) (policy : Policy) (out : List (Id8 × List ℕ)) → IsBeside (changes_of bytes_at h) d t s
     → left_of policy (found (sides h s t (apply d t))) ≡ []

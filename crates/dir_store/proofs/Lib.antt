@@ -1,3 +1,5 @@
 pub mod Reading
 pub mod Apart
 pub mod Listed
+pub mod Answering
+pub mod Found

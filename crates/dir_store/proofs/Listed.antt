@@ -7,13 +7,13 @@ use Rattle.std.specs.BTreeMap.{BTreeMap, get, keys, is_at, IsOrdered, IsUnchange
 use Rattle.std.proofs.lemmas.Map.Entries.{btree_map_get_place}
 use Rattle.std.proofs.lemmas.Map.Keys.{Less-from_sorted}
 use Rattle.std.proofs.lemmas.Option.{slice_get-map, slice_get_within, get_or_from_slice_get}
-use Rattle.store_api.specs.declared.keys.Key.{Key}
-use Rattle.store_api.specs.declared.keys.Part.{Part}
-use Rattle.store_api.specs.declared.events.Entry.{Entry}
-use Rattle.store_api.specs.Machine.{part_of, listing_cmp}
-use Rattle.store_api.specs.Orders.{key_cmp, key_total}
-use Rattle.store_api.proofs.Slots.{same_key-true}
-use Rattle.store_api.proofs.Ties.{same-tie, within-part, mapped}
+use Rattle.object_store.specs.declared.keys.Key.{Key}
+use Rattle.object_store.specs.declared.keys.Part.{Part}
+use Rattle.object_store.specs.declared.events.Entry.{Entry}
+use Rattle.object_store.specs.Machine.{part_of, listing_cmp}
+use Rattle.object_store.specs.Orders.{key_cmp, key_total}
+use Rattle.object_store.proofs.Slots.{same_key-true}
+use Rattle.object_store.proofs.Ties.{same-tie, within-part, mapped}
 use Rattle.dir_store.specs.declared.listing.Measures.{Measures}
 use Rattle.dir_store.specs.Listings.{IsListed}
 use Rattle.dir_store.specs.inside.Finding.{IsOfPart, entry_of}

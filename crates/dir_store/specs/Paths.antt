@@ -4,9 +4,9 @@ use Rattle.std.specs.Prelude.{◌≡◌, ◌≢◌, ℕ, List, ◌++◌, codes, 
 use Rattle.std.specs.Fmt.{decimal}
 use Rattle.ice_ids.specs.Text.{IsId12}
 use Rattle.ice_base.specs.Names.{IsRefName}
-use Rattle.store_api.specs.declared.keys.Key.{Key}
-use Rattle.store_api.specs.declared.keys.Key.TheVariants.{Snapshot, Manifest, Txn, Chunk, Branch, Tag, TagGone}
-use Rattle.store_api.specs.Names.{key_name}
+use Rattle.object_store.specs.declared.keys.Key.{Key}
+use Rattle.object_store.specs.declared.keys.Key.TheVariants.{Snapshot, Manifest, Txn, Chunk, Branch, Tag, TagGone, Lease}
+use Rattle.object_store.specs.Names.{key_name}
 
 -- its id has 12 bytes, or its name is one of a ref
 abbrev pub IsKey : Key → Type 0
@@ -17,6 +17,7 @@ IsKey (Chunk id) = IsId12 id
 IsKey (Branch name) = IsRefName name
 IsKey (Tag name) = IsRefName name
 IsKey (TagGone name) = IsRefName name
+IsKey (Lease id) = IsId12 id
 
 -- the key with this name, or none where no key has it
 abbrev pub NamesKey : List ℕ → Option Key → Type 0

@@ -1,39 +1,46 @@
 -- The directory as a store: what is seen of it, and what its answers say of the bytes that they give or were given.
-use Rattle.std.specs.Prelude.{◌≡◌, ◌≢◌, ℕ, List, [], false, Some, None, Result, Ok, Err, string_bytes}
+use Rattle.std.specs.Prelude.{◌≡◌, ◌≢◌, ℕ, List, [], false, Some, None, Result, Ok, Err}
 use Rattle.ice_base.specs.Ends.{raised}
-use Rattle.store_api.specs.declared.events.StoreFault.{StoreFault}
-use Rattle.store_api.specs.declared.events.StoreFault.TheVariants.{Failed, NoMemory}
-use Rattle.store_api.specs.declared.events.Version.{Version}
-use Rattle.store_api.specs.declared.events.Got.{Got}
-use Rattle.store_api.specs.declared.events.Got.TheVariants as G
-use Rattle.store_api.specs.declared.events.New.{New}
-use Rattle.store_api.specs.declared.events.New.TheVariants as N
-use Rattle.store_api.specs.declared.events.Over.{Over}
-use Rattle.store_api.specs.declared.events.Over.TheVariants as O
-use Rattle.store_api.specs.declared.events.Gone.{Gone}
-use Rattle.store_api.specs.declared.events.Gone.TheVariants as R
-use Rattle.store_api.specs.declared.events.GoneAt.{GoneAt}
-use Rattle.store_api.specs.declared.events.GoneAt.TheVariants as A
-use Rattle.store_api.specs.Callers.{Caller, View}
-use Rattle.dir_store.specs.declared.files.Change.{Change}
-use Rattle.dir_store.specs.declared.files.Change.TheVariants as C
-use Rattle.dir_store.specs.declared.store.DirStore.{DirStore}
+use Rattle.object_store.specs.declared.events.StoreFault.{StoreFault}
+use Rattle.object_store.specs.declared.events.StoreFault.TheVariants.{Failed, NoMemory}
+use Rattle.object_store.specs.declared.events.Version.{Version}
+use Rattle.object_store.specs.declared.events.Got.{Got}
+use Rattle.object_store.specs.declared.events.Got.TheVariants as G
+use Rattle.object_store.specs.declared.events.New.{New}
+use Rattle.object_store.specs.declared.events.New.TheVariants as N
+use Rattle.object_store.specs.declared.events.Over.{Over}
+use Rattle.object_store.specs.declared.events.Over.TheVariants as O
+use Rattle.object_store.specs.declared.events.Gone.{Gone}
+use Rattle.object_store.specs.declared.events.Gone.TheVariants as R
+use Rattle.object_store.specs.declared.events.GoneAt.{GoneAt}
+use Rattle.object_store.specs.declared.events.GoneAt.TheVariants as A
+use Rattle.object_store.specs.Callers.{Caller, View}
+use Rattle.dir_store.specs.declared.store.FolderStore.{FolderStore}
+use Rattle.whole_files.specs.Places.{root_of as root_in, asides_of as asides_in}
 use Rattle.dir_store.specs.Versions.{version_of}
 
 -- ---- what is seen
-abbrev pub client_of : {R C : Type 0} → DirStore R C → ℕ
+abbrev pub client_of : {F C : Type 0} → FolderStore F C → ℕ
 client_of s = s.client
 
-abbrev pub faults_of : {R C : Type 0} → DirStore R C → ℕ
+abbrev pub faults_of : {F C : Type 0} → FolderStore F C → ℕ
 faults_of s = s.faults
 
-abbrev pub operations_of : {R C : Type 0} → DirStore R C → ℕ
+abbrev pub operations_of : {F C : Type 0} → FolderStore F C → ℕ
 operations_of s = s.operations
 
-abbrev pub root_of : {R C : Type 0} → DirStore R C → List ℕ
-root_of s = string_bytes s.folder.path
+abbrev pub root_of : {F C : Type 0} → FolderStore F C → List ℕ
+root_of s = root_in s.directory.places
 
-abbrev pub clock_of : {R C : Type 0} → DirStore R C → C
+-- the folder in which it writes files aside
+abbrev pub asides_of : {F C : Type 0} → FolderStore F C → List ℕ
+asides_of s = asides_in s.directory.places
+
+-- the folders and files that it stands on
+abbrev pub tree_of : {F C : Type 0} → FolderStore F C → F
+tree_of s = s.directory.tree
+
+abbrev pub clock_of : {F C : Type 0} → FolderStore F C → C
 clock_of s = s.clock
 
 -- a client that isn't told the journal and has every number
@@ -44,11 +51,11 @@ untold client = record { tells = false; number = client; low = 0; end = None; ho
 abbrev pub untold_view : ℕ → ℕ → View
 untold_view client faults = record { caller = untold client; seen = []; faults = faults }
 
-abbrev pub view_of : {R C : Type 0} → DirStore R C → View
+abbrev pub view_of : {F C : Type 0} → FolderStore F C → View
 view_of s = untold_view (client_of s) (faults_of s)
 
 -- in this directory, for the client 0, with no fault and no operation so far
-pub record IsNewIn {R C : Type 0} (path : List ℕ) (clock : C) (s : DirStore R C) : Type 0 where
+pub record IsNewIn {F C : Type 0} (path : List ℕ) (clock : C) (s : FolderStore F C) : Type 0 where
   pub root : root_of s ≡ path
   pub client : client_of s ≡ 0
   pub faults : faults_of s ≡ 0
@@ -79,10 +86,6 @@ IsRightOver bytes old (O.Moved found now) = found ≢ Some old
 abbrev pub IsRightGoneAt : Version → GoneAt → Type 0
 IsRightGoneAt old (A.Done now) = Unit {0}
 IsRightGoneAt old (A.Moved found now) = found ≢ Some old
-
-abbrev pub IsMoved : Version → Change → Type 0
-IsMoved old C.Made = Unit {0}
-IsMoved old (C.Moved found) = found ≢ Some old
 
 -- ---- the moment that an answer tells
 abbrev pub time_of_got : Got → ℕ

@@ -1,12 +1,12 @@
 //! The count of operations.
 
-use crate::store::DirStore;
+use crate::store::FolderStore;
+use folder::Folder;
 use ice_base::Clock;
-use std::rt::Files;
-use store_api::Counting;
+use object_store::CountingStore;
 
-impl<R: Files + AllocGlobal + Clone + Drop, C: Clock> Counting for DirStore<R, C> {
+impl<F: Folder, C: Clock> CountingStore for FolderStore<F, C> {
     fn operations(&self) -> u64 {
-        DirStore::operations(self)
+        FolderStore::operations(self)
     }
 }

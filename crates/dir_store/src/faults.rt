@@ -1,126 +1,11 @@
-//! Why a directory can't be used, and why a call on its files failed.
+//! Why a directory can't be used.
 
+ghost use Rattle.std.specs.Prelude.{◌≡◌, Ok, MatchResult};
+ghost use Rattle.folder.specs.declared.faults.FileFault.TheVariants as FileFault;
+
+use folder::{FileFault, Trouble};
+use std::alloc::AllocError;
 use std::fmt;
-use std::io::Error;
-
-/// A call on files.
-#[derive(Clone, Copy, Debug, PartialEq, Eq)]
-pub enum Call {
-    /// What lies at a path is asked.
-    Look,
-    /// A file or a folder is opened.
-    Open,
-    /// A file is read.
-    Read,
-    /// A file is written.
-    Write,
-    /// A file or a folder is flushed to disk.
-    Flush,
-    /// A folder is made.
-    MakeFolder,
-    /// A file is given a second name.
-    Link,
-    /// A file is moved.
-    Move,
-    /// A file is removed.
-    Remove,
-    /// A folder is listed.
-    List,
-    /// A file is locked.
-    Lock,
-}
-
-impl fmt::Display for Call {
-    fn fmt<W: fmt::Write>(&self, f: &mut fmt::Formatter<W>) -> fmt::Result {
-        f.write_str(match self {
-            Call::Look => "look at",
-            Call::Open => "open",
-            Call::Read => "read",
-            Call::Write => "write",
-            Call::Flush => "flush",
-            Call::MakeFolder => "make folder",
-            Call::Link => "link",
-            Call::Move => "move",
-            Call::Remove => "remove",
-            Call::List => "list",
-            Call::Lock => "lock",
-        })
-    }
-}
-
-/// Why a call failed.
-#[derive(Clone, Copy, Debug, PartialEq, Eq)]
-pub enum Cause {
-    /// The system refused it, by this number.
-    System(i32),
-    /// It was refused without a number.
-    Unnamed,
-    /// What lies there is no plain file.
-    NotFile,
-    /// What lies there is no folder.
-    NotFolder,
-    /// What lies in the place of a folder above it is none.
-    Unreached,
-    /// What lies in the place of the folder of files aside is no folder.
-    NoAside,
-    /// The file has more bytes than a file may have.
-    TooLong,
-    /// Something else lies there than a moment before.
-    Changed,
-}
-
-impl fmt::Display for Cause {
-    fn fmt<W: fmt::Write>(&self, f: &mut fmt::Formatter<W>) -> fmt::Result {
-        match self {
-            Cause::System(code) => write!(f, "{}", Error::from_raw_os_error(*code)),
-            Cause::Unnamed => f.write_str("it failed"),
-            Cause::NotFile => f.write_str("it is no plain file"),
-            Cause::NotFolder => f.write_str("it is no folder"),
-            Cause::Unreached => f.write_str("what should be its folder is no folder"),
-            Cause::NoAside => f.write_str("icerepo.new is no folder"),
-            Cause::TooLong => f.write_str("it is longer than a file may be"),
-            Cause::Changed => f.write_str("it was changed meanwhile"),
-        }
-    }
-}
-
-/// A call that failed, and why.
-#[derive(Clone, Copy, Debug, PartialEq, Eq)]
-pub struct Trouble {
-    /// The call.
-    pub call: Call,
-    /// Why it failed.
-    pub cause: Cause,
-}
-
-impl fmt::Display for Trouble {
-    fn fmt<W: fmt::Write>(&self, f: &mut fmt::Formatter<W>) -> fmt::Result {
-        let Trouble { call, cause } = *self;
-        write!(f, "{call}: {cause}")
-    }
-}
-
-/// Why something on files wasn't done.
-#[derive(Clone, Copy, Debug)]
-pub(crate) enum FileFault {
-    /// A call failed.
-    Failed(Trouble),
-    /// There was no memory.
-    NoMemory,
-}
-
-/// A call that failed for a cause of its own.
-pub(crate) fn failed(call: Call, cause: Cause) -> FileFault {
-    FileFault::Failed(Trouble { call, cause })
-}
-
-/// A call that the system refused.
-pub(crate) fn refused(call: Call, error: &Error) -> FileFault {
-    match error.raw_os_error() {
-        Some(code) => failed(call, Cause::System(code)),
-        None => failed(call, Cause::Unnamed),
-    }
-}
 
 /// Why a directory can't be used.
 #[derive(Clone, Copy, Debug, PartialEq, Eq)]
@@ -152,11 +37,27 @@ impl fmt::Display for OpenFault {
     }
 }
 
+impl From<Trouble> for OpenFault {
+    fn from(trouble: Trouble) -> OpenFault {
+        OpenFault::Failed(trouble)
+    }
+}
+
 impl From<FileFault> for OpenFault {
     fn from(fault: FileFault) -> OpenFault {
         match fault {
             FileFault::Failed(trouble) => OpenFault::Failed(trouble),
             FileFault::NoMemory => OpenFault::NoMemory,
         }
+    }
+}
+
+/// Want of memory.
+pub(crate) fn in_memory<T>(made: Result<T, AllocError>) -> Result<T, FileFault>
+    ensures value { MatchResult result (λ value. made ≡ Ok value) (λ fault. fault ≡ FileFault.NoMemory) }
+{
+    match made {
+        Ok(value) => Ok(value),
+        Err(_) => Err(FileFault::NoMemory),
     }
 }

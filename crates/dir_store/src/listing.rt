@@ -1,20 +1,19 @@
 //! Listings of the directory.
 
-ghost use Rattle.std.specs.Prelude.{◌≡◌, IfOk, IfSome, map};
-ghost use Rattle.store_api.specs.Machine.{part_of};
+ghost use Rattle.std.specs.Prelude.{◌≡◌, ◌++◌, Option, None, Ok, IfOk, IfSome, OnOk, IsTrue, MatchOption, map, codes, string_bytes};
+ghost use Rattle.folder.specs.Files.{Stored, IsFileSeen, TellsNames, HoldsNone};
+ghost use Rattle.object_store.specs.Machine.{part_of};
 ghost use Rattle.dir_store.specs.Listings.{IsListed};
-ghost use Rattle.dir_store.specs.inside.Finding.{IsOfPart, entry_of};
+ghost use Rattle.dir_store.specs.Contents.{object_at, ListsAll};
+ghost use Rattle.dir_store.specs.Paths.{path_in};
+ghost use Rattle.dir_store.specs.inside.Finding.{IsOfPart, entry_of, IsMeasuredBy, AllRight, AddsKey, AddsName, AddsTwo, AddsEntry, AllFound, folder_name};
 
-use crate::faults::{Call, Cause, FileFault, failed};
-use crate::looks::{Kind, done_in_memory, file_at, in_memory, look};
+use crate::faults::in_memory;
 use crate::names::{key_of, path_of};
+use folder::{FileFault, Folder, Seen, Trouble};
+use object_store::{Entries, Entry, Key, Part};
 use std::alloc::{AllocError, Global};
 use std::collections::BTreeMap;
-use std::fs;
-use std::fs::{DirEntry, ReadDir};
-use std::io::ErrorKind;
-use std::rt::Files;
-use store_api::{Entries, Entry, Key, Part};
 
 /// The length of a file in bytes and the time of its last change, in microseconds.
 #[derive(Clone, Copy, Debug)]
@@ -37,11 +36,13 @@ impl From<FileFault> for ListFault {
 }
 
 /// What was done at a path in the part's folder.
-fn located<T>(path: String, done: Result<T, FileFault>) -> Result<T, ListFault> {
+fn located<T>(path: String, done: Result<T, Trouble>) -> Result<T, ListFault>
+    ensures { IfOk result (λ value. done ≡ Ok value) }
+{
     match done {
         Ok(value) => Ok(value),
-        Err(fault) => Err(ListFault {
-            fault,
+        Err(trouble) => Err(ListFault {
+            fault: FileFault::from(trouble),
             path: Some(path),
         }),
     }
@@ -51,43 +52,89 @@ fn located<T>(path: String, done: Result<T, FileFault>) -> Result<T, ListFault> 
 type Found = BTreeMap<Key, Measures>;
 
 /// The folder of a part.
-pub(crate) fn folder_of(part: Part) -> &'static str {
+pub(crate) fn folder_of(part: Part) -> &'static str
+    ensures { result.now ≡ folder_name part }
+{
     match part {
         Part::Snapshots => "snapshots",
         Part::Manifests => "manifests",
         Part::Txns => "transactions",
         Part::Chunks => "chunks",
         Part::Branches | Part::Tags => "refs",
+        Part::Leases => "leases",
     }
 }
 
-/// An entry of a folder, if its name is text.
-pub(crate) fn named<R: Files>(
-    entry: std::io::Result<DirEntry<R, Global>>,
-) -> Result<Option<DirEntry<R, Global>>, FileFault> {
-    match entry {
-        Ok(entry) => Ok(Some(entry)),
-        Err(error) if error.kind() == ErrorKind::InvalidFilename => Ok(None),
-        Err(error) => done_in_memory(Call::List, Err(error)),
+/// The path of something in a folder.
+fn joined(alloc: Global, folder: &str, name: &str) -> Result<String, AllocError>
+    ensures { IfOk result (λ path. string_bytes path ≡ folder.now ++ codes "/" ++ name.now) }
+{
+    let mut path = String::from_str(alloc, folder)?;
+    path.push_str("/")?;
+    path.push_str(name)?;
+    Ok(path)
+}
+
+/// What was seen of a file, as its measures.
+fn measures_of(seen: Option<Seen>) -> Option<Measures>
+    ensures { (file : Option Stored) → IsFileSeen file seen → MatchOption result (file ≡ None) (λ measures. IsMeasuredBy measures file) }
+{
+    match seen {
+        Some(seen) => Some(Measures {
+            size: seen.size,
+            changed: seen.changed,
+        }),
+        None => None,
     }
 }
 
-/// Adds the object of this name, where it is one of the part and lies in the directory.
-fn add_file<R: Files>(
-    rt: &R,
+/// What is seen of an object's file, if one lies in the directory.
+fn seen_at<F: Folder>(
+    tree: &F,
+    alloc: Global,
+    root: &str,
+    key: &Key,
+) -> Result<Option<Seen>, ListFault>
+    ensures { IsTrue F.tells → IfOk result (IsFileSeen (F.files tree.now (path_in root.now key.now))) }
+{
+    let path = in_memory(path_of(alloc, root, key))?;
+    let found = tree.file(path.as_str());
+    located(path, found)
+}
+
+/// The measures of an object of the part, if one lies in the directory. Keys of other parts have none.
+fn measures_at<F: Folder>(
+    tree: &F,
     alloc: Global,
     root: &str,
     part: Part,
-    name: &str,
+    key: &Key,
+) -> Result<Option<Measures>, ListFault>
+    ensures of { IfOk result (λ found. IfSome found (λ measures. part_of key.now ≡ part)) }
+    ensures right { IsTrue F.tells → IfOk result (λ found. MatchOption found (part_of key.now ≡ part → F.files tree.now (path_in root.now key.now) ≡ None) (λ measures. IsMeasuredBy measures (F.files tree.now (path_in root.now key.now)))) }
+{
+    if key.part() != part {
+        return Ok(None);
+    }
+    Ok(measures_of(seen_at(tree, alloc, root, key)?))
+}
+
+/// Adds an object, where it is one of the part and lies in the directory.
+fn add_key<F: Folder>(
+    tree: &F,
+    alloc: Global,
+    root: &str,
+    part: Part,
+    key: Key,
     found: &mut Found,
 ) -> Result<(), ListFault>
-    requires { IsOfPart part found.now }
-    ensures { IsOfPart part found.new }
+    requires of { IsOfPart part found.old }
+    requires right { IsTrue F.tells → AllRight (F.files tree.now) root.now found.old }
+    ensures of { IsOfPart part found.new }
+    ensures right { IsTrue F.tells → AllRight (F.files tree.now) root.now found.new }
+    ensures adds { IsTrue F.tells → OnOk result (AddsKey (F.files tree.now) root.now part key found.old found.new) }
 {
-    let Some(key) = in_memory(key_of(alloc, name))? else {
-        return Ok(());
-    };
-    let Some(measures) = measures_at(rt, alloc, root, part, &key)? else {
+    let Some(measures) = measures_at(tree, alloc, root, part, &key)? else {
         return Ok(());
     };
     match found.insert(key, measures) {
@@ -96,98 +143,103 @@ fn add_file<R: Files>(
     }
 }
 
-/// The measures of an object of the part, if one lies in the directory. Keys of other parts have none.
-fn measures_at<R: Files>(
-    rt: &R,
+/// Adds the object of this name, where it is one of the part and lies in the directory.
+fn add_file<F: Folder>(
+    tree: &F,
     alloc: Global,
     root: &str,
     part: Part,
-    key: &Key,
-) -> Result<Option<Measures>, ListFault>
-    ensures { IfOk result (λ found. IfSome found (λ measures. part_of key.now ≡ part)) }
-{
-    if key.part() != part {
-        return Ok(None);
-    }
-    let path = in_memory(path_of(alloc, root, key))?;
-    let found = file_at(rt, root, path.as_str());
-    let found = located(path, found)?;
-    Ok(found.map(|seen| Measures {
-        size: seen.size,
-        changed: seen.changed,
-    }))
-}
-
-/// Adds the object of this name, if there was memory for the name.
-fn add_named<R: Files>(
-    rt: &R,
-    alloc: Global,
-    root: &str,
-    part: Part,
-    name: Result<String, AllocError>,
+    name: &str,
     found: &mut Found,
 ) -> Result<(), ListFault>
-    requires { IsOfPart part found.now }
-    ensures { IsOfPart part found.new }
+    requires of { IsOfPart part found.old }
+    requires right { IsTrue F.tells → AllRight (F.files tree.now) root.now found.old }
+    ensures of { IsOfPart part found.new }
+    ensures right { IsTrue F.tells → AllRight (F.files tree.now) root.now found.new }
+    ensures adds { IsTrue F.tells → OnOk result (AddsName (F.files tree.now) root.now part name.now found.old found.new) }
 {
-    let name = in_memory(name)?;
-    add_file(rt, alloc, root, part, name.as_str(), found)
+    match in_memory(key_of(alloc, name))? {
+        Some(key) => add_key(tree, alloc, root, part, key, found),
+        None => Ok(()),
+    }
+}
+
+/// Adds the object of this name in a folder, where it is one of the part and lies in the directory.
+fn add_in<F: Folder>(
+    tree: &F,
+    alloc: Global,
+    root: &str,
+    part: Part,
+    folder: &str,
+    name: &str,
+    found: &mut Found,
+) -> Result<(), ListFault>
+    requires of { IsOfPart part found.old }
+    requires right { IsTrue F.tells → AllRight (F.files tree.now) root.now found.old }
+    ensures of { IsOfPart part found.new }
+    ensures right { IsTrue F.tells → AllRight (F.files tree.now) root.now found.new }
+    ensures adds { IsTrue F.tells → OnOk result (AddsName (F.files tree.now) root.now part (folder.now ++ codes "/" ++ name.now) found.old found.new) }
+{
+    let path = in_memory(joined(alloc, folder, name))?;
+    add_file(tree, alloc, root, part, path.as_str(), found)
+}
+
+/// Adds the objects that a folder of refs holds.
+fn add_refs<F: Folder>(
+    tree: &F,
+    alloc: Global,
+    root: &str,
+    part: Part,
+    folder: &str,
+    found: &mut Found,
+) -> Result<(), ListFault>
+    requires of { IsOfPart part found.old }
+    requires right { IsTrue F.tells → AllRight (F.files tree.now) root.now found.old }
+    ensures of { IsOfPart part found.new }
+    ensures right { IsTrue F.tells → AllRight (F.files tree.now) root.now found.new }
+    ensures adds { IsTrue F.tells → OnOk result (AddsTwo (F.files tree.now) root.now part (folder.now ++ codes "/ref.json") (folder.now ++ codes "/ref.json.deleted") found.old found.new) }
+{
+    add_in(tree, alloc, root, part, folder, "ref.json", found)?;
+    add_in(tree, alloc, root, part, folder, "ref.json.deleted", found)
 }
 
 /// Adds the objects that a file or a folder of the part's folder is or holds.
-fn add_found<R: Files>(
-    rt: &R,
+fn add_found<F: Folder>(
+    tree: &F,
     alloc: Global,
     root: &str,
     part: Part,
     file_name: &str,
     found: &mut Found,
 ) -> Result<(), ListFault>
-    requires { IsOfPart part found.now }
-    ensures { IsOfPart part found.new }
+    requires of { IsOfPart part found.old }
+    requires right { IsTrue F.tells → AllRight (F.files tree.now) root.now found.old }
+    ensures of { IsOfPart part found.new }
+    ensures right { IsTrue F.tells → AllRight (F.files tree.now) root.now found.new }
+    ensures adds { IsTrue F.tells → OnOk result (AddsEntry (F.files tree.now) root.now part file_name.now found.old found.new) }
 {
-    let folder = folder_of(part);
-    if part != Part::Branches && part != Part::Tags {
-        let name = format!(in alloc; "{folder}/{file_name}");
-        return add_named(rt, alloc, root, part, name, found);
-    }
-    let name = format!(in alloc; "{folder}/{file_name}/ref.json");
-    add_named(rt, alloc, root, part, name, found)?;
-    let name = format!(in alloc; "{folder}/{file_name}/ref.json.deleted");
-    add_named(rt, alloc, root, part, name, found)
-}
-
-/// Adds the objects that an entry of the part's folder is or holds.
-fn add_entry<R: Files + Drop>(
-    rt: &R,
-    alloc: Global,
-    root: &str,
-    part: Part,
-    entry: std::io::Result<DirEntry<R, Global>>,
-    found: &mut Found,
-) -> Result<(), ListFault>
-    requires { IsOfPart part found.now }
-    ensures { IsOfPart part found.new }
-{
-    match named(entry)? {
-        Some(entry) => add_found(rt, alloc, root, part, entry.file_name(), found),
-        None => Ok(()),
+    let path = in_memory(joined(alloc, folder_of(part), file_name))?;
+    match part {
+        Part::Branches | Part::Tags => add_refs(tree, alloc, root, part, path.as_str(), found),
+        _ => add_file(tree, alloc, root, part, path.as_str(), found),
     }
 }
 
-/// The objects of the part that these entries of its folder are or hold.
-fn found_in<R: Files + Clone + Drop>(
-    rt: &R,
+/// The objects of the part that these names in its folder are or hold.
+fn found_in<F: Folder>(
+    tree: &F,
     alloc: Global,
     root: &str,
     part: Part,
-    listing: ReadDir<R, Global>,
+    names: &[String],
 ) -> Result<Found, ListFault>
-    ensures { IfOk result (IsOfPart part) }
+    ensures of { IfOk result (IsOfPart part) }
+    ensures right { IsTrue F.tells → IfOk result (AllRight (F.files tree.now) root.now) }
+    ensures all { IsTrue F.tells → IfOk result (AllFound (F.files tree.now) root.now part (map string_bytes names.now)) }
 {
     let mut found = Found::new(alloc);
-    for entry in listing {
-        add_entry(rt, alloc, root, part, entry, &mut found)?;
+    for name in names {
+        add_found(tree, alloc, root, part, name.as_str(), &mut found)?;
     }
     Ok(found)
 }
@@ -207,37 +259,34 @@ fn entries_of(alloc: Global, found: Found) -> Result<Entries, AllocError>
     Ok(entries)
 }
 
-/// The entries of a part's folder, if it is there.
-fn entries_in<R: Files + AllocGlobal + Clone + Drop>(
-    rt: &R,
+/// The names in a part's folder, if it is there.
+fn names_in<F: Folder>(
+    tree: &F,
     alloc: Global,
     root: &str,
     part: Part,
-) -> Result<Option<ReadDir<R, Global>>, FileFault> {
-    let folder = folder_of(part);
-    let path = in_memory(format!(in alloc; "{root}/{folder}"))?;
-    let path = path.as_str();
-    match look(rt, path)? {
-        None => Ok(None),
-        Some(seen) if seen.kind != Kind::Folder => Err(failed(Call::List, Cause::NotFolder)),
-        Some(_) => Ok(Some(done_in_memory(Call::List, fs::read_dir(rt, path))?)),
-    }
+) -> Result<Option<Vec<String>>, FileFault>
+    ensures { IsTrue F.tells → IfOk result (λ found. MatchOption found (HoldsNone (F.files tree.now) (root.now ++ codes "/" ++ folder_name part)) (λ names. TellsNames (F.files tree.now) (root.now ++ codes "/" ++ folder_name part) (map string_bytes names.items))) }
+{
+    let path = in_memory(joined(alloc, root, folder_of(part)))?;
+    tree.list(alloc, path.as_str())
 }
 
 /// The objects of a part, in the order of their ids or names, a tag before its tombstone. Names that
 /// are no key are passed over; what has a key's name and is no plain file is a fault.
-pub(crate) fn list_files<R: Files + AllocGlobal + Clone + Drop>(
-    rt: &R,
+pub(crate) fn list_files<F: Folder>(
+    tree: &F,
+    alloc: Global,
     root: &str,
     part: Part,
 ) -> Result<Entries, ListFault>
-    ensures { IfOk result (IsListed part) }
+    ensures listed { IfOk result (IsListed part) }
+    ensures all { IsTrue F.tells → IfOk result (ListsAll (object_at (F.files tree.now) root.now) part) }
 {
-    let alloc = rt.alloc();
-    let Some(listing) = entries_in(rt, alloc, root, part)? else {
+    let Some(names) = names_in(tree, alloc, root, part)? else {
         return Ok(Entries::new(alloc));
     };
-    let found = found_in(rt, alloc, root, part, listing)?;
+    let found = found_in(tree, alloc, root, part, names.as_slice())?;
     match entries_of(alloc, found) {
         Ok(entries) => Ok(entries),
         Err(_) => Err(ListFault::from(FileFault::NoMemory)),

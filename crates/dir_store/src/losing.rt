@@ -1,11 +1,11 @@
 //! Whether the branch `main` was lost.
 
-use crate::faults::FileFault;
+use crate::faults::in_memory;
 use crate::listing::list_files;
-use crate::looks::{in_memory, look};
+use folder::{FileFault, Folder};
 use ice_ids::Id12;
-use std::rt::Files;
-use store_api::{Entries, Key, Part};
+use object_store::{Entries, Key, Part};
+use std::alloc::Global;
 
 /// Whether one of these isn't the snapshot that a new repository begins with.
 fn is_used(entries: &Entries) -> bool {
@@ -19,12 +19,13 @@ fn is_used(entries: &Entries) -> bool {
 }
 
 /// Whether a part holds more than a new repository does. Where it can't be listed that isn't known.
-fn holds_more<R: Files + AllocGlobal + Clone + Drop>(
-    rt: &R,
+fn holds_more<F: Folder>(
+    tree: &F,
+    alloc: Global,
     root: &str,
     part: Part,
 ) -> Result<bool, FileFault> {
-    match list_files(rt, root, part) {
+    match list_files(tree, alloc, root, part) {
         Ok(entries) => Ok(is_used(&entries)),
         Err(refused) => match refused.fault {
             FileFault::Failed(_) => Ok(false),
@@ -34,16 +35,17 @@ fn holds_more<R: Files + AllocGlobal + Clone + Drop>(
 }
 
 /// Whether nothing lies at the place of the branch `main`, though other refs or snapshots are there.
-pub(crate) fn is_main_lost<R: Files + AllocGlobal + Clone + Drop>(
-    rt: &R,
+pub(crate) fn is_main_lost<F: Folder>(
+    tree: &F,
+    alloc: Global,
     root: &str,
 ) -> Result<bool, FileFault> {
-    let main = in_memory(format!(in rt.alloc(); "{root}/refs/branch.main/ref.json"))?;
-    if look(rt, main.as_str())?.is_some() {
+    let main = in_memory(format!(in alloc; "{root}/refs/branch.main/ref.json"))?;
+    if tree.look(main.as_str())?.is_some() {
         return Ok(false);
     }
     for part in [Part::Branches, Part::Tags, Part::Snapshots] {
-        if holds_more(rt, root, part)? {
+        if holds_more(tree, alloc, root, part)? {
             return Ok(true);
         }
     }

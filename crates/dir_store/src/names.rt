@@ -4,12 +4,12 @@ ghost use Rattle.std.specs.Prelude.{◌≡◌, ◌≢◌, ◌++◌, List, ℕ, I
 ghost use Rattle.ice_base.specs.Names.{IsRefName};
 ghost use Rattle.ice_ids.specs.declared.Id12.{Id12};
 ghost use Rattle.ice_ids.specs.Text.{IsId12, id12_text};
-ghost use Rattle.dir_store.specs.Paths.{NamesKey, aside_folder_in, aside_in, path_in};
+ghost use Rattle.dir_store.specs.Paths.{NamesKey, aside_folder_in, path_in};
 
 use ice_base::{NameFault, RefName};
 use ice_ids::Id12;
+use object_store::Key;
 use std::alloc::{AllocError, Global};
-use store_api::Key;
 
 /// Where the folder of files aside lies in a directory.
 const ASIDE: &str = "/icerepo.new";
@@ -89,6 +89,9 @@ pub fn key_of(alloc: Global, name: &str) -> Result<Option<Key>, AllocError>
     if let Some(id) = id_after(name, "chunks/") {
         return Ok(Some(Key::Chunk(id)));
     }
+    if let Some(id) = id_after(name, "leases/") {
+        return Ok(Some(Key::Lease(id)));
+    }
     if let Some(found) = name_between(alloc, name, "refs/branch.", "/ref.json")? {
         return Ok(Some(Key::Branch(found)));
     }
@@ -116,16 +119,6 @@ pub(crate) fn aside_folder(alloc: Global, root: &str) -> Result<String, AllocErr
     let mut folder = String::from_str(alloc, root)?;
     folder.push_str(ASIDE)?;
     Ok(folder)
-}
-
-/// The path of a file aside in this directory.
-pub(crate) fn aside_of(alloc: Global, root: &str, number: u32) -> Result<String, AllocError>
-    ensures { IfOk result (λ aside. string_bytes aside ≡ aside_in root.now number) }
-{
-    let mut aside = aside_folder(alloc, root)?;
-    aside.push_str("/")?;
-    write!(aside, "{number}")?;
-    Ok(aside)
 }
 
 /// Whether a name in the folder of files aside is one that is given there: a number below 2^32, without

@@ -4,11 +4,11 @@ ghost use Rattle.std.specs.Prelude.{IfOk};
 ghost use Rattle.dir_store.specs.Store.{IsNewIn};
 
 use crate::claims::Claim;
-use crate::faults::OpenFault;
-use crate::looks::in_memory;
+use crate::faults::{OpenFault, in_memory};
 use crate::losing::is_main_lost;
 use crate::seeds::random_seed;
-use crate::store::DirStore;
+use crate::store::{DirStore, of_listed};
+use folder::SystemFolder;
 use ice_base::Clock;
 use std::fs::File;
 use std::rt::Files;
@@ -37,8 +37,9 @@ pub fn open<R: Files<File = File> + AllocGlobal + Clone + Drop, C: Clock + Drop>
 {
     let claim = Claim::of(&rt, path)?;
     let seed = random_seed(&rt)?;
-    let main_is_lost = is_main_lost(&rt, path)?;
-    let store = in_memory(DirStore::of_listed(rt, path, clock))?;
+    let tree = in_memory(SystemFolder::at(in_memory(rt.clone())?, path))?;
+    let main_is_lost = is_main_lost(&tree, rt.alloc(), path)?;
+    let store = in_memory(of_listed(rt, path, clock))?;
     Ok(Opened {
         claim,
         store,

@@ -1,22 +1,25 @@
 //! The directory as a store.
 
-ghost use Rattle.std.specs.Prelude.{◌≡◌, refl, false, IfOk, IfErr};
-ghost use Rattle.store_api.specs.Callers.{Called, Counted, as_client};
-ghost use Rattle.dir_store.specs.Store.{view_of, client_of, faults_of, operations_of, clock_of, IsNewIn, IsMade, IsRightGot, IsRightNew, IsRightOver, IsRightGoneAt, time_of_got, time_of_new, time_of_over, time_of_gone, time_of_gone_at};
+ghost use Rattle.std.specs.Prelude.{◌≡◌, refl, false, IfOk, OnOk, IsTrue};
+ghost use Rattle.object_store.specs.Callers.{Called, Counted, as_client};
+ghost use Rattle.dir_store.specs.Store.{view_of, client_of, faults_of, operations_of, clock_of, tree_of, root_of, asides_of, IsNewIn, IsMade, IsRightGot, IsRightNew, IsRightOver, IsRightGoneAt, time_of_got, time_of_new, time_of_over, time_of_gone, time_of_gone_at};
 ghost use Rattle.dir_store.specs.Listings.{IsListed};
+ghost use Rattle.folder.specs.Files.{NoLooser};
+ghost use Rattle.whole_files.specs.Whole.{LooserAside};
+ghost use Rattle.dir_store.specs.Contents.{Answers, object_at, ListsAll};
 
-use crate::files::Change;
-use crate::folder::{FirstFault, Folder};
-use crate::versions::content_version;
+use crate::answers;
+use crate::directory::{Directory, FirstFault};
+use folder::{Folder, SystemFolder};
 use ice_base::Clock;
-use std::alloc::AllocError;
+use object_store::{
+    Gone, GoneAt, Got, Key, Listed, New, ObjectStore, Op, Over, Part, Reply, Rule, StoreFault,
+    Version, Viewed, WholeStore, Why,
+};
+use std::alloc::{AllocError, Global};
 use std::fs;
 use std::io::ErrorKind;
 use std::rt::Files;
-use store_api::{
-    Base, Gone, GoneAt, Got, Key, Listed, New, Op, Over, Part, Reply, Store, StoreFault, Version,
-    Why,
-};
 
 /// A store in a directory. What the directory holds is trusted: contracts speak of the caller, of the
 /// count of faults, and of what an answer says of the bytes that it gives or was given.
@@ -28,18 +31,21 @@ use store_api::{
 /// told by the content: where the same bytes are put again, they have the same version. A program that
 /// is cut off may leave files aside, which are no objects, and which the next claim removes.
 #[derive(Drop)]
-pub struct DirStore<R, C> {
-    folder: Folder<R>,
+pub struct FolderStore<F, C> {
+    directory: Directory<F>,
     clock: C,
     client: u32,
     faults: u64,
     operations: u64,
 }
 
-impl<R: Files + AllocGlobal + Clone + Drop, C: Clock + Drop> DirStore<R, C> {
+/// A store in a directory of the system.
+pub type DirStore<R, C> = FolderStore<SystemFolder<R>, C>;
+
+impl<R: Files + AllocGlobal + Clone + Drop, C: Clock + Drop> FolderStore<SystemFolder<R>, C> {
     /// The store in the directory at this path, for the client 0. `Failed` comes only where the
     /// directory can't be listed.
-    pub fn at(rt: R, path: &str, clock: C) -> Result<DirStore<R, C>, StoreFault>
+    pub fn at(rt: R, path: &str, clock: C) -> Result<FolderStore<SystemFolder<R>, C>, StoreFault>
         ensures { IfOk result (IsNewIn path.now clock) }
     {
         if let Err(error) = fs::read_dir(&rt, path) {
@@ -49,18 +55,38 @@ impl<R: Files + AllocGlobal + Clone + Drop, C: Clock + Drop> DirStore<R, C> {
                 StoreFault::Failed
             });
         }
-        match DirStore::of_listed(rt, path, clock) {
+        match of_listed(rt, path, clock) {
             Ok(store) => Ok(store),
             Err(_) => Err(StoreFault::NoMemory),
         }
     }
+}
 
-    /// The store in the directory at this path, which was listed, for the client 0.
-    pub(crate) fn of_listed(rt: R, path: &str, clock: C) -> Result<DirStore<R, C>, AllocError>
-        ensures { IfOk result (IsNewIn path.now clock) }
+/// The store in the directory at this path, which was listed, for the client 0.
+pub(crate) fn of_listed<R: Files + AllocGlobal + Clone + Drop, C: Clock + Drop>(
+    rt: R,
+    path: &str,
+    clock: C,
+) -> Result<FolderStore<SystemFolder<R>, C>, AllocError>
+    ensures { IfOk result (IsNewIn path.now clock) }
+{
+    let alloc = rt.alloc();
+    FolderStore::over(SystemFolder::at(rt, path)?, alloc, path, clock)
+}
+
+impl<F: Folder + Drop, C: Clock + Drop> FolderStore<F, C> {
+    /// The store in the directory at this path of a folder, for the client 0.
+    pub fn over(
+        tree: F,
+        alloc: Global,
+        path: &str,
+        clock: C,
+    ) -> Result<FolderStore<F, C>, AllocError>
+        ensures new { IfOk result (IsNewIn path.now clock) }
+        ensures tree { IfOk result (λ store. tree_of store ≡ tree) }
     {
-        Ok(DirStore {
-            folder: Folder::at(rt, path)?,
+        Ok(FolderStore {
+            directory: Directory::at(tree, alloc, path)?,
             clock,
             client: 0,
             faults: 0,
@@ -69,7 +95,7 @@ impl<R: Files + AllocGlobal + Clone + Drop, C: Clock + Drop> DirStore<R, C> {
     }
 }
 
-impl<R: Files + AllocGlobal + Clone + Drop, C: Clock> DirStore<R, C> {
+impl<F: Folder, C: Clock> FolderStore<F, C> {
     /// How many calls have failed, or the greatest u64.
     pub fn faults(&self) -> u64
         ensures { result ≡ faults_of self.now }
@@ -86,7 +112,7 @@ impl<R: Files + AllocGlobal + Clone + Drop, C: Clock> DirStore<R, C> {
 
     /// The first call on files that failed, if one has.
     pub fn first_fault(&self) -> Option<&FirstFault> {
-        self.folder.first_fault()
+        self.directory.first_fault()
     }
 
     /// What was done. It is counted, unless memory was wanting, and so is a failure.
@@ -96,6 +122,7 @@ impl<R: Files + AllocGlobal + Clone + Drop, C: Clock> DirStore<R, C> {
         ensures made { IsMade result (operations_of self.old) (operations_of self.new) }
         ensures client { client_of self.new ≡ client_of self.old }
         ensures clock { clock_of self.new ≡ clock_of self.old }
+        ensures directory { self.new.directory ≡ self.old.directory }
     {
         match done {
             Ok(_) => self.operations = self.operations.saturating_add(1),
@@ -109,49 +136,39 @@ impl<R: Files + AllocGlobal + Clone + Drop, C: Clock> DirStore<R, C> {
     }
 }
 
-impl<R: Files + AllocGlobal + Clone + Drop, C: Clock> Store for DirStore<R, C> {
+impl<F: Folder, C: Clock> Viewed for FolderStore<F, C> {
     ghost view = { λ s. view_of s };
+}
 
+impl<L: Rule, F: Folder, C: Clock> ObjectStore<L> for FolderStore<F, C> {
     fn get(&mut self, key: &Key) -> Result<Got, StoreFault>
-        ensures call { Called (λ got. Reply.Got got) (Op.Get key.now) result (view_of self.old) (view_of self.new) }
+        ensures call { Called L.may (λ got. Reply.Got got) (Op.Get key.now) result (view_of self.old) (view_of self.new) }
         ensures content { IfOk result IsRightGot }
+        ensures machine { IsTrue F.tells → Answers (λ got. Reply.Got got) time_of_got (root_of self.old) key.now (Op.Get key.now) result (F.files (tree_of self.old)) (F.files (tree_of self.new)) }
+        ensures tree { tree_of self.new ≡ tree_of self.old }
         ensures made { IsMade result (operations_of self.old) (operations_of self.new) }
         ensures time { IfOk result (λ got. C.gives (clock_of self.old) (time_of_got got) (clock_of self.new)) }
     {
-        let path = self.folder.path(key)?;
-        let read = self.folder.read(path);
+        let path = self.directory.path(key)?;
+        let read = self.directory.read(path);
         let found = self.counted(read)?;
         let now = self.clock.now();
-        Ok(match found {
-            None => Got::Absent { now },
-            Some(bytes) => {
-                let version = content_version(bytes.as_slice());
-                Got::Found {
-                    bytes,
-                    version,
-                    now,
-                }
-            }
-        })
+        Ok(answers::got(found, now))
     }
 
     fn put_new(&mut self, key: &Key, bytes: &[u8], why: Why) -> Result<New, StoreFault>
-        ensures call { Called (λ new. Reply.New new) (Op.PutNew key.now bytes.now why) result (view_of self.old) (view_of self.new) }
+        ensures call { Called L.may (λ new. Reply.New new) (Op.PutNew key.now bytes.now why) result (view_of self.old) (view_of self.new) }
         ensures content { IfOk result (IsRightNew bytes.now) }
+        ensures machine { IsTrue F.tells → Answers (λ new. Reply.New new) time_of_new (root_of self.old) key.now (Op.PutNew key.now bytes.now why) result (F.files (tree_of self.old)) (F.files (tree_of self.new)) }
+        ensures firm { IsTrue F.tells → OnOk result (LooserAside (asides_of self.old) (F.loose (tree_of self.old)) (F.loose (tree_of self.new))) }
         ensures made { IsMade result (operations_of self.old) (operations_of self.new) }
         ensures time { IfOk result (λ new. C.gives (clock_of self.old) (time_of_new new) (clock_of self.new)) }
     {
-        let path = self.folder.path(key)?;
-        let made = self.folder.make(path, bytes);
+        let path = self.directory.path(key)?;
+        let made = self.directory.make(path, bytes);
         let found = self.counted(made)?;
         let now = self.clock.now();
-        Ok(match found {
-            None => New::Done {
-                version: content_version(bytes),
-                now,
-            },
-            Some(version) => New::Present { version, now },
-        })
+        Ok(answers::new(found, bytes, now))
     }
 
     fn put_over(
@@ -161,70 +178,65 @@ impl<R: Files + AllocGlobal + Clone + Drop, C: Clock> Store for DirStore<R, C> {
         old: Version,
         why: Why,
     ) -> Result<Over, StoreFault>
-        ensures call { Called (λ over. Reply.Over over) (Op.PutOver key.now bytes.now old why) result (view_of self.old) (view_of self.new) }
+        ensures call { Called L.may (λ over. Reply.Over over) (Op.PutOver key.now bytes.now old why) result (view_of self.old) (view_of self.new) }
         ensures content { IfOk result (IsRightOver bytes.now old) }
+        ensures machine { IsTrue F.tells → Answers (λ over. Reply.Over over) time_of_over (root_of self.old) key.now (Op.PutOver key.now bytes.now old why) result (F.files (tree_of self.old)) (F.files (tree_of self.new)) }
+        ensures firm { IsTrue F.tells → OnOk result (LooserAside (asides_of self.old) (F.loose (tree_of self.old)) (F.loose (tree_of self.new))) }
         ensures made { IsMade result (operations_of self.old) (operations_of self.new) }
         ensures time { IfOk result (λ over. C.gives (clock_of self.old) (time_of_over over) (clock_of self.new)) }
     {
-        let path = self.folder.path(key)?;
-        let replaced = self.folder.replace(path, bytes, old);
+        let path = self.directory.path(key)?;
+        let replaced = self.directory.replace(path, bytes, old.0);
         let change = self.counted(replaced)?;
         let now = self.clock.now();
-        Ok(match change {
-            Change::Made => Over::Done {
-                version: content_version(bytes),
-                now,
-            },
-            Change::Moved(found) => Over::Moved { found, now },
-        })
+        Ok(answers::over(change, bytes, now))
     }
 
     fn remove(&mut self, key: &Key, why: Why) -> Result<Gone, StoreFault>
-        ensures call { Called (λ gone. Reply.Gone gone) (Op.Remove key.now why) result (view_of self.old) (view_of self.new) }
+        ensures call { Called L.may (λ gone. Reply.Gone gone) (Op.Remove key.now why) result (view_of self.old) (view_of self.new) }
+        ensures machine { IsTrue F.tells → Answers (λ gone. Reply.Gone gone) time_of_gone (root_of self.old) key.now (Op.Remove key.now why) result (F.files (tree_of self.old)) (F.files (tree_of self.new)) }
+        ensures firm { IsTrue F.tells → OnOk result (NoLooser (F.loose (tree_of self.old)) (F.loose (tree_of self.new))) }
         ensures made { IsMade result (operations_of self.old) (operations_of self.new) }
         ensures time { IfOk result (λ gone. C.gives (clock_of self.old) (time_of_gone gone) (clock_of self.new)) }
     {
-        let path = self.folder.path(key)?;
-        let removed = self.folder.remove(path);
+        let path = self.directory.path(key)?;
+        let removed = self.directory.remove(path);
         let was_there = self.counted(removed)?;
         let now = self.clock.now();
-        Ok(if was_there {
-            Gone::Done { now }
-        } else {
-            Gone::Absent { now }
-        })
+        Ok(answers::gone(was_there, now))
     }
 
     fn remove_at(&mut self, key: &Key, old: Version, why: Why) -> Result<GoneAt, StoreFault>
-        ensures call { Called (λ gone. Reply.GoneAt gone) (Op.RemoveAt key.now old why) result (view_of self.old) (view_of self.new) }
+        ensures call { Called L.may (λ gone. Reply.GoneAt gone) (Op.RemoveAt key.now old why) result (view_of self.old) (view_of self.new) }
         ensures content { IfOk result (IsRightGoneAt old) }
+        ensures machine { IsTrue F.tells → Answers (λ gone. Reply.GoneAt gone) time_of_gone_at (root_of self.old) key.now (Op.RemoveAt key.now old why) result (F.files (tree_of self.old)) (F.files (tree_of self.new)) }
+        ensures firm { IsTrue F.tells → OnOk result (NoLooser (F.loose (tree_of self.old)) (F.loose (tree_of self.new))) }
         ensures made { IsMade result (operations_of self.old) (operations_of self.new) }
         ensures time { IfOk result (λ gone. C.gives (clock_of self.old) (time_of_gone_at gone) (clock_of self.new)) }
     {
-        let path = self.folder.path(key)?;
-        let removed = self.folder.remove_version(path, old);
+        let path = self.directory.path(key)?;
+        let removed = self.directory.remove_version(path, old.0);
         let change = self.counted(removed)?;
         let now = self.clock.now();
-        Ok(match change {
-            Change::Made => GoneAt::Done { now },
-            Change::Moved(found) => GoneAt::Moved { found, now },
-        })
+        Ok(answers::gone_at(change, now))
     }
 
     fn list(&mut self, part: Part) -> Result<Listed, StoreFault>
-        ensures call { Called (λ listed. Reply.Listed listed) (Op.List part) result (view_of self.old) (view_of self.new) }
+        ensures call { Called L.may (λ listed. Reply.Listed listed) (Op.List part) result (view_of self.old) (view_of self.new) }
         ensures content { IfOk result (λ listed. IsListed part listed.entries) }
+        ensures machine { IsTrue F.tells → IfOk result (λ listed. ListsAll (object_at (F.files (tree_of self.old)) (root_of self.old)) part listed.entries) }
+        ensures tree { tree_of self.new ≡ tree_of self.old }
         ensures made { IsMade result (operations_of self.old) (operations_of self.new) }
         ensures time { IfOk result (λ listed. C.gives (clock_of self.old) listed.now (clock_of self.new)) }
     {
-        let listing = self.folder.list(part);
+        let listing = self.directory.list(part);
         let entries = self.counted(listing)?;
         let now = self.clock.now();
         Ok(Listed { entries, now })
     }
 }
 
-impl<R: Files + AllocGlobal + Clone + Drop, C: Clock> Base for DirStore<R, C> {
+impl<F: Folder, C: Clock> WholeStore for FolderStore<F, C> {
     ghost tells = { false };
 
     fn set_client(&mut self, client: u32)

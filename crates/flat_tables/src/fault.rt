@@ -35,10 +35,10 @@ pub enum FileFault {
     VirtualRef { at: usize },
     /// A chunk has both bytes of its own and an object, or neither.
     RefKind { at: usize },
+    /// A property's name or value is not one that a property may have.
+    Property { at: usize },
     /// An element of the vector in this slot does not stand after the one before.
     Order { slot: u16, at: usize },
-    /// The snapshot has properties.
-    Properties,
     /// A node names a manifest that is not among the snapshot's manifest files.
     Unlisted { at: usize },
     /// Memory ran out.

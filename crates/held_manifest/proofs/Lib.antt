@@ -5,3 +5,5 @@ pub mod Parts
 pub mod NoMemory
 pub mod Agreeing
 pub mod Within
+pub mod Walking
+pub mod Named

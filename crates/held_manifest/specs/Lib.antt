@@ -2,4 +2,5 @@ pub mod Places
 pub mod Views
 pub mod LookUp
 pub mod Files
+pub mod Objects
 pub mod Laws

@@ -14,7 +14,7 @@ use std::marker::Model;
 
 /// An array and its chunks, read in place. Contracts see it as the array that it stands for.
 #[derive(Drop)]
-pub(crate) struct ArrayView<'a> {
+pub struct ArrayView<'a> {
     node: Id8,
     refs: Refs<'a>,
 }
@@ -29,21 +29,21 @@ impl<'a> Model for ArrayView<'a> {
 
 impl<'a> ArrayView<'a> {
     /// The array, by its node's id.
-    fn id(&self) -> Id8
+    pub fn id(&self) -> Id8
         ensures { result ≡ self.now.node }
     {
         self.node
     }
 
     /// How many chunks it has.
-    fn len(&self) -> usize
+    pub fn len(&self) -> usize
         ensures { result ≡ length self.now.refs }
     {
         self.refs.len()
     }
 
     /// Its chunks.
-    fn into_refs(self) -> Refs<'a>
+    pub fn into_refs(self) -> Refs<'a>
         ensures { result ≡ self.entry.refs }
     {
         self.refs
@@ -91,7 +91,7 @@ fn array_at<'a>(vector: &Vector<'a>, at: usize, before: usize) -> Result<ArrayVi
 
 /// The arrays of a manifest, read in place. Contracts see them as the list of the arrays that they stand for.
 #[derive(Drop)]
-pub(crate) struct Arrays<'a> {
+pub struct Arrays<'a> {
     vector: Vector<'a>,
 }
 
@@ -137,7 +137,7 @@ pub(crate) fn held_arrays<'a>(vector: Vector<'a>) -> Arrays<'a>
 
 impl<'a> Arrays<'a> {
     /// How many arrays there are. They stand in the strict order of their nodes' ids.
-    fn len(&self) -> usize
+    pub fn len(&self) -> usize
         ensures count { result ≡ length self.now }
         ensures order { Ascends array_key None self.now }
     {
@@ -145,7 +145,7 @@ impl<'a> Arrays<'a> {
     }
 
     /// Array number `i`, in the order of the nodes' ids.
-    fn at(&self, i: usize) -> ArrayView<'a>
+    pub fn at(&self, i: usize) -> ArrayView<'a>
         requires { i < length self.now }
         ensures { slice_get self.now i ≡ Some result }
     {
@@ -157,7 +157,7 @@ impl<'a> Arrays<'a> {
     }
 
     /// The chunks of a node's array; `None` exactly where there is no such array. The search goes by halves.
-    pub(crate) fn node(&self, node: Id8) -> Option<Refs<'a>>
+    pub fn node(&self, node: Id8) -> Option<Refs<'a>>
         ensures { result ≡ refs_of_node node self.now }
     {
         let mut low = 0;

@@ -3,9 +3,11 @@ ghost use Rattle.manifest_file.specs.Manifests.{payload_of, manifest_of};
 ghost use Rattle.held_manifest.specs.Files.{Checks, Holds, RootOf, manifest_or_empty};
 ghost use Rattle.held_manifest.specs.Places.{place_seen};
 ghost use Rattle.held_manifest.specs.LookUp.{refs_of_node, entry_of};
+ghost use Rattle.held_manifest.specs.Objects.{objects_of};
 
 use crate::arrays::{Arrays, arrays_in, held_arrays};
 use crate::chunks::Refs;
+use crate::objects::Objects;
 use crate::places::PlaceView;
 use file_fields::{id12_of, payload_in};
 use flat_tables::{FileFault, FlatFault, Kind, Table};
@@ -84,7 +86,7 @@ impl Held {
     }
 
     /// The arrays.
-    fn arrays(&self) -> Arrays<'_>
+    pub fn arrays(&self) -> Arrays<'_>
         ensures { result ≡ self.now.arrays }
     {
         let table = root(self.file.as_slice());
@@ -98,6 +100,15 @@ impl Held {
     {
         self.arrays().node(node)
     }
+
+    /// The objects that the manifest's entries name, entry by entry in their order. It waits for the collection, which keeps
+    /// what manifests name.
+    pub fn objects(&self) -> Objects<'_>
+        ensures { result ≡ objects_of self.now }
+    {
+        Objects::new(self.arrays())
+    }
+
     /// Where the manifest has the chunk of a node at an index; `None` exactly where it has no such entry. The search goes
     /// by halves.
     pub fn seek(&self, node: Id8, index: &Index) -> Option<PlaceView<'_>>

@@ -1,7 +1,7 @@
 //! Manifests that are read in place: the file stays as it came, and its parts are found when they are asked for.
 //!
 //! [`hold`] takes a file that stands for a manifest and refuses another one with its first fault; no call takes memory.
-//! Arrays and chunks are found by halves.
+//! Arrays and chunks are found by halves. [`Held::objects`] walks over all that a manifest names.
 #![tactic(auto)]
 
 mod arrays;
@@ -10,9 +10,12 @@ mod held;
 mod indices;
 pub mod laws;
 mod looking;
+mod objects;
 mod places;
 
+pub use arrays::{ArrayView, Arrays};
 pub use chunks::{RefView, Refs};
 pub use held::{Held, hold};
 pub use looking::{chunk_place, is_within, look_up};
+pub use objects::Objects;
 pub use places::PlaceView;

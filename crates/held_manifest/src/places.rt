@@ -1,6 +1,8 @@
+ghost use Rattle.std.specs.Prelude.{◌≡◌};
 ghost use Rattle.flat_tables.specs.Step.{Gives};
 ghost use Rattle.manifest_file.specs.Manifests.{place_in};
 ghost use Rattle.held_manifest.specs.Places.{place_seen};
+ghost use Rattle.held_manifest.specs.Objects.{object_of};
 
 use file_fields::id12;
 use flat_tables::{FileFault, Table};
@@ -20,6 +22,18 @@ pub enum PlaceView<'a> {
         /// The number of the chunk's bytes.
         length: u64,
     },
+}
+
+impl<'a> PlaceView<'a> {
+    /// The object that has the bytes; `None` where they are in the manifest.
+    pub fn object(&self) -> Option<Id12>
+        ensures { result ≡ object_of (place_seen self.now) }
+    {
+        match *self {
+            PlaceView::Inline(_) => None,
+            PlaceView::Object { id, .. } => Some(id),
+        }
+    }
 }
 
 /// Where a table, which is element `at`, has its chunk.

@@ -5,22 +5,22 @@ use Rattle.ice_ids.specs.declared.Id12.{Id12}
 use Rattle.zarr_tree.specs.Trees.{Tree}
 use Rattle.zarr_tree.specs.Changes.{Changes, apply}
 use Rattle.repo_objects.specs.Readings.{ref_of}
-use Rattle.store_api.specs.declared.keys.Key.{Key}
-use Rattle.store_api.specs.declared.keys.Key.TheVariants.{Branch}
-use Rattle.store_api.specs.declared.keys.Why.{Why}
-use Rattle.store_api.specs.declared.keys.Why.TheVariants.{Commit as For_commit}
-use Rattle.store_api.specs.declared.events.Version.{Version}
-use Rattle.store_api.specs.declared.events.Op.{Op}
-use Rattle.store_api.specs.declared.events.Op.TheVariants.{Get, PutNew, PutOver, Remove, RemoveAt, List as ListPart}
-use Rattle.store_api.specs.declared.events.GoneAt.TheVariants.{Done as Gone_at_done, Moved as Gone_at_moved}
-use Rattle.store_api.specs.declared.events.Over.TheVariants.{Done as Over_done, Moved as Over_moved}
-use Rattle.store_api.specs.declared.events.Reply.{Reply}
-use Rattle.store_api.specs.declared.events.Reply.TheVariants.{Got as Is_got, New as Is_new, Over as Is_over, Gone as Is_gone, GoneAt as Is_gone_at, Listed as Is_listed, Failed}
-use Rattle.store_api.specs.declared.events.Event.{Event}
-use Rattle.store_api.specs.Machine.{Stored, Slot, slot_of, effect, leaves, put_at, where_free, where_old, found, over_of, gone_at_of, new_of, got_of, version_at, IsHonest, UnlessFailed, is_on, was_done}
-use Rattle.store_api.specs.Journal.{Each, StoodAt, IsGood, IsOnce, IsFirst, IsCommitOver, IsMoved, IsPolite, MayPutNew, MayPutOver, MayRemove, tree_of}
-use Rattle.store_api.proofs.Journals.{Each-append}
-use Rattle.store_api.proofs.Slots.{same_key-true, slot-append_one, slot-none, stood-is}
+use Rattle.object_store.specs.declared.keys.Key.{Key}
+use Rattle.object_store.specs.declared.keys.Key.TheVariants.{Branch}
+use Rattle.object_store.specs.declared.keys.Why.{Why}
+use Rattle.object_store.specs.declared.keys.Why.TheVariants.{Commit as For_commit}
+use Rattle.object_store.specs.declared.events.Version.{Version}
+use Rattle.object_store.specs.declared.events.Op.{Op}
+use Rattle.object_store.specs.declared.events.Op.TheVariants.{Get, PutNew, PutOver, Remove, RemoveAt, List as ListPart}
+use Rattle.object_store.specs.declared.events.GoneAt.TheVariants.{Done as Gone_at_done, Moved as Gone_at_moved}
+use Rattle.object_store.specs.declared.events.Over.TheVariants.{Done as Over_done, Moved as Over_moved}
+use Rattle.object_store.specs.declared.events.Reply.{Reply}
+use Rattle.object_store.specs.declared.events.Reply.TheVariants.{Got as Is_got, New as Is_new, Over as Is_over, Gone as Is_gone, GoneAt as Is_gone_at, Listed as Is_listed, Failed}
+use Rattle.object_store.specs.declared.events.Event.{Event}
+use Rattle.object_store.specs.Machine.{Stored, Slot, slot_of, effect, leaves, put_at, where_free, where_old, found, over_of, gone_at_of, new_of, got_of, version_at, IsHonest, UnlessFailed, is_on, was_done}
+use Rattle.store_api.specs.Journal.{Each, StoodAt, IsGood, IsOnce, IsFirst, IsCommitOver, IsMadeOver, IsMoved, IsPolite, MayPutNew, MayPutOver, MayRemove, tree_of}
+use Rattle.object_store.proofs.Journals.{Each-append}
+use Rattle.object_store.proofs.Slots.{same_key-true, slot-append_one, slot-none, stood-is}
 use Rattle.histories.specs.Repository.{Entry, RefHistory, last, Commit, Reset, Appended, Moved, answer_of, opened, created, at_version, after_answer, tree_at}
 use Rattle.histories.specs.Calls.{is_commit, call_of, called_if, entered, going, history_of, Spells, TellsCall, Agrees, AllHaveTheirTrees, LeadsThere, IsGiven, IsChild, IsCommitted, CommitsApply, StandsAs, HistoryLaw}
 
@@ -82,8 +82,8 @@ module _ (trees : Id12 → Option Tree) where
       let base : ref_of s.bytes ≡ Some p.base = subst (λ (b : List ℕ). ref_of b ≡ Some p.base) (sym bytes) p.names in
       cc
 
-  commit-child : (journal : List Event) (branch : List ℕ) (old : ℕ) (id parent : Id12) → (p : IsCommitOver journal branch old id) → p.base ≡ parent → IsChild journal id parent
-  commit-child journal branch old id parent p base = record { snap = p.snap; made = p.made; parent_is = p.parent ∙ ap (λ (i : Id12). Some i) base }
+  commit-child : (journal : List Event) (base id parent : Id12) → IsMadeOver journal base id → base ≡ parent → IsChild journal id parent
+  commit-child journal base id parent m is = record { snap = m.snap; made = m.made; parent_is = m.parent ∙ ap (λ (i : Id12). Some i) is }
 
   -- the tree of a commit over what stands
   commit-tree : (c : Changes) (journal : List Event) (branch : List ℕ) (old : ℕ) (id : Id12) (s : Stored) (x : Entry) → found journal (Branch branch) ≡ Some s → s.version ≡ old → ref_of s.bytes ≡ Some x.id → (p : IsCommitOver journal branch old id) → trees id ≡ option_map (apply c) (trees p.base) → trees id ≡ option_map (apply c) (trees x.id)
@@ -97,11 +97,12 @@ module _ (trees : Id12 → Option Tree) where
       | inl r ↦ rw (p.names.reference, r) (over-cases old.0 (found journal (Branch branch)) (last h) _ (put_at (length journal) time bytes (slot_of journal (Branch branch))) (slot_of journal (Branch branch)) h link.same link (λ s x e l v w n. record { same = (refl, p.names.reference); entries = (refl, link.entries) }))
       | inr r ↦
           let leads' : LeadsThere trees c journal (PutOver (Branch branch) bytes old For_commit) = subst (λ (w : Why). LeadsThere trees c journal (PutOver (Branch branch) bytes old w)) r.0 leads in
-          let over = r.1 once in
+          let over = r.1 in
+          let made = over.once once in
           rw (p.names.reference, r.0) (over-cases old.0 (found journal (Branch branch)) (last h) _ (put_at (length journal) time bytes (slot_of journal (Branch branch))) (slot_of journal (Branch branch)) h link.same link
           (λ s x e l v w n.
           let tree : x.tree ≡ trees x.id = last-tree h x link.entries l in
-          let here = leads' branch bytes old p.names.id refl p.names.reference over.base over.snap over.made over.parent in
+          let here = leads' branch bytes old p.names.id refl p.names.reference over.base made.snap made.made made.parent in
           record {
             same = (refl, p.names.reference);
             entries = (ap (λ (o : Option Entry). option_map (apply c) (tree_at o)) l ∙ ap (option_map (apply c)) tree ∙ sym (commit-tree c journal branch old.0 p.names.id s x e (v ∙ w) n over here), link.entries);
@@ -237,12 +238,12 @@ module _ (trees : Id12 → Option Tree) (given : ℕ → Changes) where
       committed polite x.0 x.1 x.2 x.3
     where
       leads' : IsCommitOver journal branch old.0 id → (p : IsCommitOver journal branch old.0 id) → trees id ≡ option_map (apply (given (length journal))) (trees p.base)
-      leads' q p = leads branch bytes old id op_is names p.base p.snap p.made p.parent
+      leads' q p = let m = p.once once in leads branch bytes old id op_is names p.base m.snap m.made m.parent
 
       over : IsMoved journal branch old.0 bytes For_commit → IsCommitOver journal branch old.0 id
       over m = elim m.cause [
         | inl r ↦ cc
-        | inr r ↦ let e = m.names.reference in let same : m.names.id ≡ id = cc in subst (λ (i : Id12). IsCommitOver journal branch old.0 i) same (r.1 once)
+        | inr r ↦ let e = m.names.reference in let same : m.names.id ≡ id = cc in subst (λ (i : Id12). IsCommitOver journal branch old.0 i) same r.1
       ]
 
       committed : IsMoved journal branch old.0 bytes For_commit → (x : Entry) → last (history_of trees given journal branch) ≡ Some x → s.version ≡ x.version → ref_of s.bytes ≡ Some x.id → IsCommitted trees given journal branch old.0 id
@@ -253,7 +254,7 @@ module _ (trees : Id12 → Option Tree) (given : ℕ → Changes) where
             before = x;
             is_last = l;
             version = sym v ∙ version;
-            child = commit-child trees journal branch old.0 id x.id p base;
+            child = commit-child trees journal p.base id x.id (p.once once) base;
             tree = commit-tree trees (given (length journal)) journal branch old.0 id s x stands version n p (leads' p p);
           }
 

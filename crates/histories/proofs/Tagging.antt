@@ -4,16 +4,16 @@ use Rattle.std.specs.Prelude.{Option, Some, None, option_map, bytes_eq}
 use Rattle.ice_ids.specs.declared.Id12.{Id12}
 use Rattle.zarr_tree.specs.Trees.{Tree}
 use Rattle.repo_objects.specs.Readings.{ref_of}
-use Rattle.store_api.specs.declared.keys.Key.{Key}
-use Rattle.store_api.specs.declared.keys.Key.TheVariants.{Tag, TagGone as Tombstone}
-use Rattle.store_api.specs.declared.keys.Why.{Why}
-use Rattle.store_api.specs.declared.events.Op.{Op}
-use Rattle.store_api.specs.declared.events.Op.TheVariants.{Get, PutNew, PutOver, Remove, RemoveAt, List as ListPart}
-use Rattle.store_api.specs.declared.events.Reply.TheVariants.{Got as Is_got, New as Is_new}
-use Rattle.store_api.specs.declared.events.Event.{Event}
-use Rattle.store_api.specs.Machine.{Stored, Slot, fresh_slot, slot_of, effect, leaves, put_at, where_free, found, first_put, new_of, got_of, IsHonest, UnlessFailed, is_on, was_done}
+use Rattle.object_store.specs.declared.keys.Key.{Key}
+use Rattle.object_store.specs.declared.keys.Key.TheVariants.{Tag, TagGone as Tombstone}
+use Rattle.object_store.specs.declared.keys.Why.{Why}
+use Rattle.object_store.specs.declared.events.Op.{Op}
+use Rattle.object_store.specs.declared.events.Op.TheVariants.{Get, PutNew, PutOver, Remove, RemoveAt, List as ListPart}
+use Rattle.object_store.specs.declared.events.Reply.TheVariants.{Got as Is_got, New as Is_new}
+use Rattle.object_store.specs.declared.events.Event.{Event}
+use Rattle.object_store.specs.Machine.{Stored, Slot, fresh_slot, slot_of, effect, leaves, put_at, where_free, found, first_put, new_of, got_of, IsHonest, UnlessFailed, is_on, was_done}
 use Rattle.store_api.specs.Journal.{Each, IsGood, IsPolite, WasPut, MayPutNew}
-use Rattle.store_api.proofs.Slots.{bytes-true, same_key-true, slot-append_one, slot-none, effect-cases, free-cases}
+use Rattle.object_store.proofs.Slots.{bytes-true, same_key-true, slot-append_one, slot-none, effect-cases, free-cases}
 use Rattle.histories.specs.Repository.{Entry}
 use Rattle.histories.specs.Calls.{HasItsTree, StandsAs}
 use Rattle.histories.specs.Tags.{TagState, Absent, Stands, Gone, made_as, TagCall, Open, Make, Drop, tag_called, GoesOnAs}

@@ -5,26 +5,35 @@ use Rattle.zarr_tree.specs.Trees.{Tree}
 use Rattle.zarr_tree.specs.Changes.{Changes, apply}
 use Rattle.snapshot_file.specs.declared.snapshot.SnapshotFile.{SnapshotFile as Snap}
 use Rattle.repo_objects.specs.Readings.{ref_of}
-use Rattle.store_api.specs.declared.keys.Key.TheVariants.{Branch}
-use Rattle.store_api.specs.declared.keys.Why.{Why}
-use Rattle.store_api.specs.declared.keys.Why.TheVariants.{Commit as For_commit}
-use Rattle.store_api.specs.declared.events.Version.{Version}
-use Rattle.store_api.specs.declared.events.Op.{Op}
-use Rattle.store_api.specs.declared.events.Op.TheVariants.{Get, PutNew, PutOver, Remove, RemoveAt, List as ListPart}
-use Rattle.store_api.specs.declared.events.Got.TheVariants.{Found, Absent}
-use Rattle.store_api.specs.declared.events.New.TheVariants.{Done as New_done, Present}
-use Rattle.store_api.specs.declared.events.Over.TheVariants.{Done as Over_done, Moved as Over_moved}
-use Rattle.store_api.specs.declared.events.GoneAt.TheVariants.{Done as Gone_at_done, Moved as Gone_at_moved}
-use Rattle.store_api.specs.declared.events.Reply.{Reply}
-use Rattle.store_api.specs.declared.events.Reply.TheVariants.{Got as Is_got, New as Is_new, Over as Is_over, GoneAt as Is_gone_at}
-use Rattle.store_api.specs.declared.events.Event.{Event}
-use Rattle.store_api.specs.Machine.{Stored, found, is_on, was_done, version_at, UnlessFailed}
+use Rattle.object_store.specs.declared.keys.Key.TheVariants.{Branch}
+use Rattle.object_store.specs.declared.keys.Why.{Why}
+use Rattle.object_store.specs.declared.keys.Why.TheVariants as For
+use Rattle.object_store.specs.declared.keys.Why.TheVariants.{Commit as For_commit}
+use Rattle.object_store.specs.declared.events.Version.{Version}
+use Rattle.object_store.specs.declared.events.Op.{Op}
+use Rattle.object_store.specs.declared.events.Op.TheVariants.{Get, PutNew, PutOver, Remove, RemoveAt, List as ListPart}
+use Rattle.object_store.specs.declared.events.Got.TheVariants.{Found, Absent}
+use Rattle.object_store.specs.declared.events.New.TheVariants.{Done as New_done, Present}
+use Rattle.object_store.specs.declared.events.Over.TheVariants.{Done as Over_done, Moved as Over_moved}
+use Rattle.object_store.specs.declared.events.GoneAt.TheVariants.{Done as Gone_at_done, Moved as Gone_at_moved}
+use Rattle.object_store.specs.declared.events.Reply.{Reply}
+use Rattle.object_store.specs.declared.events.Reply.TheVariants.{Got as Is_got, New as Is_new, Over as Is_over, GoneAt as Is_gone_at}
+use Rattle.object_store.specs.declared.events.Event.{Event}
+use Rattle.object_store.specs.Machine.{Stored, found, is_on, was_done, version_at, UnlessFailed}
 use Rattle.store_api.specs.Journal.{Each, IsGood, IsOnce, tree_of, snap_made}
 use Rattle.histories.specs.Repository.{Entry, RefHistory, last, Call, Open, Create, Commit, Reset, Drop, Answer, Opened, NoRef, RefExists, Appended, Moved, answer_of, called}
 
 abbrev pub is_commit : Why → Bool
-is_commit For_commit = true
-is_commit _ = false
+is_commit For.Commit = true
+is_commit For.Init = false
+is_commit For.Set = false
+is_commit For.Create = false
+is_commit For.Reset = false
+is_commit For.Drop = false
+is_commit For.Tag = false
+is_commit For.Collect = false
+is_commit For.Expire = false
+is_commit For.Lease = false
 
 -- the call that an operation on a branch decides, where c are the changes given for it
 abbrev pub call_of : Changes → Op → Option Call

@@ -4,17 +4,17 @@ use Rattle.ice_base.specs.Names.{same_name}
 use Rattle.ice_ids.specs.declared.Id12.{Id12}
 use Rattle.zarr_tree.specs.Trees.{Tree}
 use Rattle.repo_objects.specs.Readings.{ref_of}
-use Rattle.store_api.specs.declared.keys.Key.{Key}
-use Rattle.store_api.specs.declared.keys.Key.TheVariants.{Tag, TagGone as Tombstone}
-use Rattle.store_api.specs.declared.keys.Why.{Why}
-use Rattle.store_api.specs.declared.events.Op.{Op}
-use Rattle.store_api.specs.declared.events.Op.TheVariants.{Get, PutNew}
-use Rattle.store_api.specs.declared.events.Got.TheVariants.{Found, Absent as Got_absent}
-use Rattle.store_api.specs.declared.events.New.TheVariants.{Done as New_done, Present}
-use Rattle.store_api.specs.declared.events.Reply.{Reply}
-use Rattle.store_api.specs.declared.events.Reply.TheVariants.{Got as Is_got, New as Is_new}
-use Rattle.store_api.specs.declared.events.Event.{Event}
-use Rattle.store_api.specs.Machine.{Stored, found, was_done, version_at, UnlessFailed}
+use Rattle.object_store.specs.declared.keys.Key.{Key}
+use Rattle.object_store.specs.declared.keys.Key.TheVariants.{Snapshot, Manifest, Txn, Chunk, Branch, Tag, TagGone as Tombstone, Lease}
+use Rattle.object_store.specs.declared.keys.Why.{Why}
+use Rattle.object_store.specs.declared.events.Op.{Op}
+use Rattle.object_store.specs.declared.events.Op.TheVariants.{Get, PutNew, PutOver, Remove, RemoveAt, List as ListPart}
+use Rattle.object_store.specs.declared.events.Got.TheVariants.{Found, Absent as Got_absent}
+use Rattle.object_store.specs.declared.events.New.TheVariants.{Done as New_done, Present}
+use Rattle.object_store.specs.declared.events.Reply.{Reply}
+use Rattle.object_store.specs.declared.events.Reply.TheVariants.{Got as Is_got, New as Is_new}
+use Rattle.object_store.specs.declared.events.Event.{Event}
+use Rattle.object_store.specs.Machine.{Stored, found, was_done, version_at, UnlessFailed}
 use Rattle.store_api.specs.Journal.{Each, IsGood, IsGoodJournal, IsFirst, IsOnce, tree_of}
 use Rattle.histories.specs.Repository.{Entry}
 use Rattle.histories.specs.Calls.{TellsEntry, HasItsTree, StandsAs}
@@ -24,12 +24,21 @@ use Rattle.histories.specs.Tags.{TagState, Absent, Stands, Gone, made_as, TagCal
 abbrev pub put_call : List ℕ → Key → List ℕ → Option TagCall
 put_call name (Tag tag) bytes = if same_name tag name then option_map (λ id. Make id) (ref_of bytes) else None
 put_call name (Tombstone tag) bytes = if same_name tag name then Some Drop else None
-put_call name _ bytes = None
+put_call name (Snapshot id) bytes = None
+put_call name (Manifest id) bytes = None
+put_call name (Txn id) bytes = None
+put_call name (Chunk id) bytes = None
+put_call name (Branch branch) bytes = None
+put_call name (Lease id) bytes = None
 
 -- no other operation changes a tag
 abbrev pub tag_call : List ℕ → Op → Option TagCall
 tag_call name (PutNew key bytes why) = put_call name key bytes
-tag_call name _ = None
+tag_call name (Get key) = None
+tag_call name (PutOver key bytes old why) = None
+tag_call name (Remove key why) = None
+tag_call name (RemoveAt key old why) = None
+tag_call name (ListPart part) = None
 
 abbrev pub tag_called_if : (Id12 → Option Tree) → ℕ → Option TagCall → TagState → TagState
 tag_called_if trees n None s = s

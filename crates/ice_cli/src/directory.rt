@@ -4,8 +4,9 @@ ghost use Rattle.std.specs.Prelude.{◌≡◌};
 ghost use Rattle.std.specs.Process.{exit_status};
 
 use crate::running::run_over;
+use crate::system_store::SystemStore;
 use command_words::Word;
-use dir_store::{DirStore, OpenFault, Opened, open};
+use dir_store::{OpenFault, Opened, open};
 use ice_ids::Draw;
 use moments::WallClock;
 use std::process::ExitCode;
@@ -31,7 +32,7 @@ fn tell_loss<R: Eprint>(rt: &R, main_is_lost: bool) {
 }
 
 /// Says on standard error which call on files failed first, if one did.
-fn tell_fault<R: Eprint>(rt: &R, store: &DirStore<HostRuntime, WallClock<HostRuntime>>) {
+fn tell_fault<R: Eprint>(rt: &R, store: &SystemStore<HostRuntime, WallClock<HostRuntime>>) {
     if let Some(first) = store.first_fault() {
         let _ = eprintln!(rt; "icerepo: {first}");
     }
@@ -53,7 +54,7 @@ fn over_opened<R: Input + Print + Eprint + AllocGlobal + Threads + Wait + Sync +
         main_is_lost,
     } = opened;
     tell_loss(rt, main_is_lost);
-    let ended = run_over(rt, words, Draw::Stream(seed), store);
+    let ended = run_over(rt, words, Draw::Stream(seed), SystemStore::new(store));
     tell_fault(rt, &ended.store);
     end(rt, &ended.status)
 }

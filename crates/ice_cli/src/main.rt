@@ -5,6 +5,7 @@
 mod directory;
 mod running;
 mod streams;
+mod system_store;
 
 use command_words::{Place, place_of};
 use directory::in_directory;

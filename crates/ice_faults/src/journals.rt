@@ -15,6 +15,7 @@ fn part_name(part: Part) -> &'static str {
         Part::Chunks => "chunks",
         Part::Branches => "branches",
         Part::Tags => "tags",
+        Part::Leases => "leases",
     }
 }
 
@@ -30,6 +31,7 @@ fn why_name(why: Why) -> &'static str {
         Why::Tag => ", for tag",
         Why::Collect => ", for collect",
         Why::Expire => ", for expire",
+        Why::Lease => ", for lease",
     }
 }
 

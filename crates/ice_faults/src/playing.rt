@@ -12,7 +12,7 @@ use play_script::{Script, ScriptFault};
 use std::alloc::{AllocError, Global};
 use std::sync::Wait;
 use std::thread::Threads;
-use store_api::Counting;
+use store_api::CountingStore;
 use top_call::{Ended, Status, run};
 
 /// A store in memory of which planned calls fail.

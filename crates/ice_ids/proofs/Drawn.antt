@@ -1,6 +1,6 @@
 -- What is drawn: ids, by counting none of them twice, and never the initial id.
 use Rattle.std.proofs.Common.{◌≡◌, ◌≢◌, ℕ, zero, suc, ◌+◌, ◌-◌, ◌/◌, ◌^◌, ◌<◌, ◌≤◌, Bool, true, false, cond, take, drop, List, Option, Some, None, is_none, ◌==◌, unwrap_or, All, refl, sym, ap, ◌∙◌, subst, arith}
-use Rattle.std.specs.Int.{w32, w64, to_be_bytes, from_be_bytes, bytes_high_first, byte_at, to_le_bytes, bytes_low_first}
+use Rattle.std.specs.Int.{w32, w64, to_be_bytes, from_be_bytes, bytes_high_first, byte_at, bytes_low_first}
 use Rattle.std.proofs.lemmas.List.Elements.{All-nil, All-cons, All-append}
 use Rattle.std.proofs.lemmas.Nat.{from_be_bytes-to_be_bytes_4, from_be_bytes-to_be_bytes_8, mod_below}
 use Rattle.std.proofs.lemmas.Bool.{eqb-false}

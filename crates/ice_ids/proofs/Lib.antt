@@ -2,3 +2,4 @@ pub mod DigitLaws
 pub mod LetterLaws
 pub mod TextLaws
 pub mod Drawn
+pub mod SetLaws

@@ -1,5 +1,5 @@
 -- Drawing ids that were never drawn before (own).
-use Rattle.std.specs.Prelude.{ℕ, ◌+◌, ◌-◌, ◌*◌, ◌^◌, ◌==◌, ◌<◌, ◌≤◌, ◌≡◌, ◌≢◌, ◌++◌, Bool, if◌then◌else◌, List, Option, Some, None, is_none}
+use Rattle.std.specs.Prelude.{ℕ, ◌+◌, ◌-◌, ◌*◌, ◌^◌, ◌==◌, ◌≤◌, ◌≡◌, ◌≢◌, ◌++◌, Bool, if◌then◌else◌, List, Option, Some, None, is_none}
 use Rattle.std.specs.Int.{w32, w64, to_be_bytes, to_le_bytes}
 use Rattle.rand_chacha.specs.ChaCha.{ChaCha, key_of, next_word}
 use Rattle.ice_ids.specs.declared.Id12.{Id12}

@@ -1,12 +1,8 @@
 -- How each source of ids meets its laws: the impls cite these.
-use Rattle.std.specs.Prelude.{◌≡◌, ◌<◌, ◌+◌, ◌-◌, ◌^◌, ◌==◌, Bool, true, false, cond, T, Some, None, is_none, unwrap_or, drop}
-use Rattle.std.specs.Int.{w32, w64, from_be_bytes}
-use Rattle.std.proofs.Common.{refl, sym, ap, subst, ◌∙◌, lt_trans, pos_of_ne-zero}
-use Rattle.std.proofs.Math.Nat.{sub-add-eq, sub-pos_iff_lt}
-use Rattle.std.proofs.lemmas.Nat.{from_be_bytes-to_be_bytes_4, from_be_bytes-to_be_bytes_8}
-use Rattle.std.proofs.lemmas.Bool.{eqb-true, eqb-false, ltb-true}
-use Rattle.ice_ids.specs.declared.Id12.{Id12}
-use Rattle.ice_ids.specs.declared.Id8.{Id8}
+use Rattle.std.specs.Prelude.{◌≡◌, ◌+◌, ◌-◌, ◌^◌, ◌==◌, Bool, true, false, cond, Some, None, is_none}
+use Rattle.std.proofs.Common.{refl, sym, ap, ◌∙◌}
+use Rattle.std.proofs.Math.Nat.{sub-add-eq}
+use Rattle.std.proofs.lemmas.Bool.{eqb-true}
 use Rattle.ice_ids.specs.declared.drawing.CountIds.{CountIds}
 use Rattle.ice_ids.specs.declared.drawing.StreamIds.{StreamIds}
 use Rattle.ice_ids.specs.declared.drawing.AnyIds.TheVariants.{Count, Stream}

@@ -1,10 +1,11 @@
 //! Laws of ids: functions that do nothing, whose contracts are the laws.
 
-ghost use Rattle.std.specs.Prelude.{◌≡◌, ◌<◌, ◌+◌, ◌^◌, ℕ, List, Option, Some, Ok, length, All, true};
+ghost use Rattle.std.specs.Prelude.{◌≡◌, ◌↔◌, ◌<◌, ◌+◌, ◌^◌, ℕ, List, Option, Some, Ok, length, All, Contains, true};
 ghost use Rattle.ice_ids.specs.declared.Id12.{Id12};
 ghost use Rattle.ice_ids.specs.declared.Id8.{Id8};
 ghost use Rattle.ice_ids.specs.declared.drawing.AnyIds.{AnyIds};
 ghost use Rattle.ice_ids.specs.Text.{IsId12, IsId8, id12_text, id8_text, id12_of_text, id8_of_text, initial_id, id12_cmp, id8_cmp, same_id12, same_id8};
+ghost use Rattle.ice_ids.specs.Sets.{has_object};
 ghost use Rattle.ice_ids.specs.declared.drawing.Draw.TheVariants as Draw;
 ghost use Rattle.ice_ids.specs.Drawing.{IsSource, DrawsOnce, left_of, drawn12, after12, drawn8, after8};
 
@@ -50,4 +51,9 @@ pub fn drawn_ids()
 pub fn any_source<I: Ids>()
     ensures objects { IsSource I.left I.client I.drawn12 I.after12 }
     ensures nodes { IsSource I.left I.client I.drawn8 I.after8 }
+{}
+
+/// A set of objects has an id exactly where the list as which contracts see it has.
+pub fn object_sets()
+    ensures { (ids : List Id12) (id : Id12) → (has_object ids id ≡ true) ↔ Contains ids id }
 {}

@@ -1,4 +1,4 @@
-//! Ids of objects and nodes, their texts in base 32, and how new ids are drawn.
+//! Ids of objects and nodes, their texts in base 32, how new ids are drawn, and sets of ids of objects.
 #![tactic(auto)]
 
 ghost use Rattle.std.specs.Prelude.{◌≡◌, ◌<◌, List, ℕ, length, All};
@@ -9,9 +9,11 @@ use std::fmt;
 mod base32;
 mod drawing;
 pub mod laws;
+mod sets;
 
 use base32::{number_of_bytes, number_of_text, write_bytes, write_letters};
 pub use drawing::{AnyIds, CountIds, Draw, Ids, StreamIds};
+pub use sets::ObjectIds;
 
 /// The id of an object: a snapshot, a manifest, a transaction log or a chunk. Ids are ordered by
 /// their bytes. (Icechunk specification version 1, object ids.)

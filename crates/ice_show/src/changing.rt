@@ -13,7 +13,7 @@ use repo_objects::Loaded;
 use snapshot_file::INITIAL_FILE;
 use std::alloc::{AllocError, Global};
 use zarr_changes::{ChangeSet, Overlay};
-use zarr_meta::{IntKind, Meta};
+use zarr_meta::{IntKind, Meta, SharedMeta};
 use zarr_path::{Index, Path};
 use zarr_tree::EditFault;
 
@@ -75,7 +75,7 @@ fn add(alloc: Global, base: &Loaded, set: &mut ChangeSet, path: &str, node: &str
     let (number, kind) = parted(node, ":");
     let id = id_of(small_number_of(number)?);
     let path = path_of(alloc, path)?;
-    let meta = meta_of(alloc, kind, 4)?;
+    let meta = SharedMeta::new(alloc, meta_of(alloc, kind, 4)?)?;
     Ok(set.add(alloc, base, &path, id, meta))
 }
 
@@ -88,6 +88,7 @@ fn may_add(alloc: Global, base: &Loaded, set: &ChangeSet, path: &str) -> Edited 
 /// Gives the node of a word other metadata.
 fn set_meta(alloc: Global, base: &Loaded, set: &mut ChangeSet, word: &str) -> Edited {
     let (path, meta) = node_of(alloc, word, 6)?;
+    let meta = SharedMeta::new(alloc, meta)?;
     Ok(set.set_meta(alloc, base, &path, meta))
 }
 

@@ -10,6 +10,7 @@ use ice_ids::Id12;
 use ice_items::Items;
 use manifest_file::Place;
 use repo_objects::Loaded;
+use snapshot_file::Props;
 use std::alloc::{AllocError, Global};
 use zarr_changes::{ChangeSet, ChunkKey};
 use zarr_tree::{Conflict, ordered_law};
@@ -33,7 +34,8 @@ fn file_under(alloc: Global, base: &Loaded, set: &ChangeSet) -> Result<Bytes, No
         return Err(NoAnswer::Words);
     }
     let message = Text::of(alloc, "")?;
-    match write_over(alloc, base, set, &[], STAMP, &message) {
+    let props = Props::new(alloc);
+    match write_over(alloc, base, set, &[], STAMP, &message, &props) {
         Ok(file) => Ok(file),
         Err(_) => Err(NoAnswer::NoMemory),
     }

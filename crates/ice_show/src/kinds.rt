@@ -6,8 +6,9 @@ use crate::ends::{tell_byte_list, tell_input, tell_output};
 use crate::files::{tell_header, tell_header_of, tell_log, tell_log_again};
 use crate::grids::{tell_grid, tell_in_grid};
 use crate::loads::{tell_known_log, tell_known_ref, tell_loaded};
-use crate::manifests::{tell_manifest, tell_manifest_again};
+use crate::manifests::{tell_held, tell_manifest, tell_manifest_again};
 use crate::metas::{tell_json, tell_member, tell_meta, tell_meta_text, tell_number, tell_plain};
+use crate::props::tell_properties;
 use crate::ref_calls::tell_refs;
 use crate::refusals::tell_refusal;
 use crate::reports::tell_report;
@@ -51,12 +52,13 @@ fn tell_file(alloc: Global, kind: &str, bytes: &[u8]) -> Result<String, NoAnswer
     }
 }
 
-/// What is told of a file that is read as an object, and of a script.
+/// What is told of a file that is read as an object or in place, and of a script.
 fn tell_known(alloc: Global, kind: &str, bytes: &[u8]) -> Result<String, NoAnswer> {
     match kind {
         "loaded" => tell_loaded(alloc, bytes),
         "known_log" => tell_known_log(alloc, bytes),
         "known_ref" => tell_known_ref(alloc, bytes),
+        "held_manifest" => tell_held(alloc, bytes),
         "script" => tell_script(alloc, bytes),
         _ => tell_text(alloc, kind, text_of(bytes)?),
     }
@@ -95,6 +97,7 @@ fn tell_written(alloc: Global, kind: &str, text: &str) -> Result<String, NoAnswe
         "ref_of" => tell_ref_of(alloc, text),
         "header_of" => tell_header_of(alloc, text),
         "initial_snapshot" => tell_initial(alloc),
+        "properties" => tell_properties(alloc, text),
         "plain_meta" => tell_plain(alloc, text),
         _ => tell_ends(alloc, kind, text),
     }

@@ -2,6 +2,7 @@
 
 use crate::files::log_told;
 use crate::metas::meta_fault_told;
+use crate::props::push_props;
 use crate::words::NoAnswer;
 use ice_ids::{Id8, Id12};
 use repo_objects::{Bad, Loaded, Unread, log_read, ref_read};
@@ -74,7 +75,7 @@ fn push_row(
     told.push_str(" not found")
 }
 
-/// The nodes of a snapshot, and whether each is found at its path.
+/// The nodes of a snapshot, and whether each is found at its path, and its properties.
 fn loaded_text(alloc: Global, loaded: &Loaded) -> Result<String, AllocError> {
     let mut told = format!(in alloc; "{} nodes", loaded.len())?;
     for at in 0..loaded.len() {
@@ -82,17 +83,18 @@ fn loaded_text(alloc: Global, loaded: &Loaded) -> Result<String, AllocError> {
         write!(told, "\n  {at} ")?;
         push_row(alloc, &mut told, loaded, path, found)?;
     }
+    push_props(&mut told, &loaded.file().props)?;
     Ok(told)
 }
 
-/// The nodes of a snapshot; it is let go.
+/// The nodes and the properties of a snapshot; it is let go.
 fn loaded_told(alloc: Global, loaded: Loaded) -> Result<String, NoAnswer> {
     let told = loaded_text(alloc, &loaded);
     drop(loaded);
     Ok(told?)
 }
 
-/// The nodes of the snapshot for which a file stands.
+/// The nodes and the properties of the snapshot for which a file stands.
 pub fn tell_loaded(alloc: Global, file: &[u8]) -> Result<String, NoAnswer> {
     match Loaded::read(alloc, Id12::INITIAL, file) {
         Ok(loaded) => loaded_told(alloc, loaded),

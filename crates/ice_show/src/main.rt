@@ -15,6 +15,7 @@ mod loads;
 mod manifests;
 mod metas;
 mod parts;
+mod props;
 mod ref_calls;
 mod refusals;
 mod reports;

@@ -3,6 +3,9 @@
 use crate::files::written_again;
 use crate::told::{digits, fault_told};
 use crate::words::NoAnswer;
+use held_manifest::{Held, hold};
+use ice_base::Bytes;
+use ice_ids::ObjectIds;
 use manifest_file::{ChunkRef, ManifestFile, Place};
 use std::alloc::{AllocError, Global};
 
@@ -66,5 +69,42 @@ pub fn tell_manifest_again(alloc: Global, file: &[u8]) -> Result<String, NoAnswe
             written_again(alloc, file, written)
         }
         Err(fault) => fault_told(alloc, fault),
+    }
+}
+
+/// Appends the objects that a manifest names, entry by entry, and how many they are.
+fn push_objects(alloc: Global, told: &mut String, held: &Held) -> Result<(), AllocError> {
+    let mut known = ObjectIds::new(alloc);
+    for id in held.objects() {
+        let word = if known.insert(id)? { "" } else { " again" };
+        write!(told, "\n  object {id}{word}")?;
+    }
+    write!(told, "\n  in all {}", known.len())
+}
+
+/// How many chunks the arrays of a manifest have, and which objects it names.
+fn held_text(alloc: Global, held: &Held) -> Result<String, AllocError> {
+    let mut told = format!(in alloc; "manifest {}", held.id())?;
+    let arrays = held.arrays();
+    for i in 0..arrays.len() {
+        let array = arrays.at(i);
+        write!(told, "\n  array {} has {}", array.id(), array.len())?;
+    }
+    push_objects(alloc, &mut told, held)?;
+    Ok(told)
+}
+
+/// What a manifest that is read in place names; it is let go.
+fn held_told(alloc: Global, held: Held) -> Result<String, NoAnswer> {
+    let told = held_text(alloc, &held);
+    drop(held);
+    Ok(told?)
+}
+
+/// What the file of a manifest names, where it is read in place.
+pub fn tell_held(alloc: Global, file: &[u8]) -> Result<String, NoAnswer> {
+    match hold(Bytes::of(alloc, file)?) {
+        Ok(held) => held_told(alloc, held),
+        Err((_file, fault)) => fault_told(alloc, fault),
     }
 }

@@ -7,11 +7,12 @@ use flat_tables::Kind;
 use ice_items::Items;
 use ref_file::RefFault;
 use repo_objects::Bad;
+use snapshot_file::PropFault;
 use std::alloc::Global;
-use store_api::{Refusal, Version};
+use store_api::{Refusal, RegionFault, Version};
 use zarr_meta::MetaFault;
 use zarr_path::Index;
-use zarr_tree::{Case, Conflict, Frozen};
+use zarr_tree::{Case, Conflict, EditFault, Frozen};
 
 /// The version that a word says; `-` is an absent branch.
 fn found_of(word: &str) -> Result<Option<Version>, NoAnswer> {
@@ -29,6 +30,17 @@ fn frozen_of(word: &str) -> Result<Frozen, NoAnswer> {
         "DataType" => Ok(Frozen::DataType),
         "ChunkGrid" => Ok(Frozen::ChunkGrid),
         "Codecs" => Ok(Frozen::Codecs),
+        _ => Err(NoAnswer::Words),
+    }
+}
+
+/// The fault of a property of this name in the code.
+fn prop_of(word: &str) -> Result<PropFault, NoAnswer> {
+    match word {
+        "Name" => Ok(PropFault::Name),
+        "Value" => Ok(PropFault::Value),
+        "Twice" => Ok(PropFault::Twice),
+        "Many" => Ok(PropFault::Many),
         _ => Err(NoAnswer::Words),
     }
 }
@@ -113,13 +125,13 @@ fn left_of(alloc: Global, id: &str, words: &str) -> Result<Refusal, NoAnswer> {
 /// The refusal of a call at a node, of this name in the code.
 fn node_refusal_of(name: &str) -> Result<Refusal, NoAnswer> {
     match name {
-        "NoNode" => Ok(Refusal::NoNode),
-        "NodeExists" => Ok(Refusal::NodeExists),
-        "NoParent" => Ok(Refusal::NoParent),
-        "OutOfGrid" => Ok(Refusal::OutOfGrid),
-        "NotArray" => Ok(Refusal::NotArray),
+        "NoNode" => Ok(Refusal::Edit(EditFault::NoNode)),
+        "NodeExists" => Ok(Refusal::Edit(EditFault::NodeExists)),
+        "NoParent" => Ok(Refusal::Edit(EditFault::NoParent)),
+        "OutOfGrid" => Ok(Refusal::Edit(EditFault::OutOfGrid)),
+        "NotArray" => Ok(Refusal::Edit(EditFault::NotArray)),
         "ReadOnly" => Ok(Refusal::ReadOnly),
-        "Full" => Ok(Refusal::Full),
+        "Full" => Ok(Refusal::Edit(EditFault::Full)),
         "BadKey" => Ok(Refusal::BadKey),
         _ => ref_refusal_of(name),
     }
@@ -132,6 +144,9 @@ fn ref_refusal_of(name: &str) -> Result<Refusal, NoAnswer> {
         "NoSnapshot" => Ok(Refusal::NoSnapshot),
         "TagGone" => Ok(Refusal::TagGone),
         "MainKept" => Ok(Refusal::MainKept),
+        "Unnamed" => Ok(Refusal::Unnamed),
+        "OutOfShape" => Ok(Refusal::Region(RegionFault::OutOfShape)),
+        "RegionLarge" => Ok(Refusal::Region(RegionFault::Large)),
         "TooDeep" => Ok(Refusal::TooDeep),
         "NothingToCommit" => Ok(Refusal::NothingToCommit),
         _ => want_of(name),
@@ -142,6 +157,7 @@ fn ref_refusal_of(name: &str) -> Result<Refusal, NoAnswer> {
 fn want_of(name: &str) -> Result<Refusal, NoAnswer> {
     match name {
         "StoreFault" => Ok(Refusal::StoreFault),
+        "TargetFault" => Ok(Refusal::TargetFault),
         "NoMemory" => Ok(Refusal::NoMemory),
         "IdsSpent" => Ok(Refusal::IdsSpent),
         _ => Err(NoAnswer::Words),
@@ -154,6 +170,7 @@ fn key_refusal_of(alloc: Global, name: &str, key: &str) -> Result<Refusal, NoAns
     match name {
         "Missing" => Ok(Refusal::Missing(key)),
         "IdTaken" => Ok(Refusal::IdTaken(key)),
+        "Differs" => Ok(Refusal::Differs(key)),
         _ => Ok(Refusal::BadFile(key, Bad::Ref(RefFault::Json))),
     }
 }
@@ -162,10 +179,14 @@ fn key_refusal_of(alloc: Global, name: &str, key: &str) -> Result<Refusal, NoAns
 fn pair_refusal_of(name: &str, first: &str, second: &str) -> Result<Refusal, NoAnswer> {
     let old = number_of(first)?;
     match name {
-        "ChunkLength" => Ok(Refusal::ChunkLength {
+        "ChunkLength" => Ok(Refusal::Edit(EditFault::ChunkLength {
             want: old,
             got: number_of(second)?,
-        }),
+        })),
+        "CellCount" => Ok(Refusal::Region(RegionFault::CellCount {
+            want: old,
+            got: number_of(second)?,
+        })),
         _ => Ok(Refusal::Conflict {
             old: Version(old),
             found: found_of(second)?,
@@ -176,7 +197,7 @@ fn pair_refusal_of(name: &str, first: &str, second: &str) -> Result<Refusal, NoA
 /// The refusal of this name in the code, with one number or word behind it.
 fn word_refusal_of(name: &str, word: &str) -> Result<Refusal, NoAnswer> {
     match name {
-        "FrozenField" => Ok(Refusal::FrozenField(frozen_of(word)?)),
+        "FrozenField" => Ok(Refusal::Edit(EditFault::FrozenField(frozen_of(word)?))),
         "TooLarge" => Ok(Refusal::TooLarge(kind_of(word)?)),
         "RefExists" => Ok(Refusal::RefExists(Version(number_of(word)?))),
         "Moved" => Ok(Refusal::Moved {
@@ -185,6 +206,11 @@ fn word_refusal_of(name: &str, word: &str) -> Result<Refusal, NoAnswer> {
         "CutoffAhead" => Ok(Refusal::CutoffAhead {
             now: number_of(word)?,
         }),
+        "CellRange" => Ok(Refusal::Region(RegionFault::CellRange {
+            at: number_of(word)?,
+        })),
+        "Unsound" => Ok(Refusal::Unsound(number_of(word)?)),
+        "BadProp" => Ok(Refusal::BadProp(prop_of(word)?)),
         _ => id_refusal_of(name, word),
     }
 }
@@ -206,8 +232,12 @@ pub fn refusal_of(alloc: Global, text: &str) -> Result<Refusal, NoAnswer> {
     let (name, rest) = first_word(text);
     let (first, more) = first_word(rest);
     match name {
-        "Missing" | "IdTaken" | "BadFile" => key_refusal_of(alloc, name, rest),
-        "ChunkLength" | "Conflict" => pair_refusal_of(name, first, first_word(more).0),
+        "Missing" | "IdTaken" | "BadFile" | "Differs" => key_refusal_of(alloc, name, rest),
+        "ChunkLength" | "CellCount" | "Conflict" => pair_refusal_of(
+            name,
+            first,
+            first_word(more).0,
+        ),
         "Left" => left_of(alloc, first, more),
         _ => word_refusal_of(name, first),
     }

@@ -1,6 +1,7 @@
 //! Snapshots.
 
 use crate::files::written_again;
+use crate::props::push_props;
 use crate::told::{digits, fault_told, push_names};
 use crate::words::NoAnswer;
 use ice_ids::Id12;
@@ -81,6 +82,7 @@ fn snapshot_text(alloc: Global, snapshot: &SnapshotFile) -> Result<String, Alloc
     let (flushed_at, message) = (snapshot.flushed_at, snapshot.message.as_str());
     write!(told, " flushed {flushed_at} message '{message}'")?;
     push_nodes(alloc, &mut told, snapshot.nodes.as_slice())?;
+    push_props(&mut told, &snapshot.props)?;
     push_files(&mut told, snapshot.manifest_files.as_slice())?;
     Ok(told)
 }

@@ -22,6 +22,7 @@ fn id_key_of(kind: &str, id: Id12) -> Result<Key, NoAnswer> {
         "manifest" => Ok(Key::Manifest(id)),
         "log" => Ok(Key::Txn(id)),
         "chunk" => Ok(Key::Chunk(id)),
+        "lease" => Ok(Key::Lease(id)),
         _ => Err(NoAnswer::Words),
     }
 }

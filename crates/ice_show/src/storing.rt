@@ -6,7 +6,7 @@ use crate::words::{NoAnswer, first_word, number_of, parted, small_number_of};
 use ice_base::TickClock;
 use mem_store::{Failing, FaultStore, MemStore, OpRef};
 use std::alloc::{AllocError, Global};
-use store_api::{Key, Part, Reply, StoreFault, Version, Why};
+use store_api::{Key, Part, Polite, Reply, StoreFault, Version, Why};
 
 pub type Memory = MemStore<TickClock>;
 
@@ -35,6 +35,7 @@ fn part_of(word: &str) -> Result<Part, NoAnswer> {
     match word {
         "branches" => Ok(Part::Branches),
         "tags" => Ok(Part::Tags),
+        "leases" => Ok(Part::Leases),
         _ => Err(NoAnswer::Words),
     }
 }
@@ -44,7 +45,11 @@ fn reply_told(alloc: Global, reply: &Result<Reply, StoreFault>) -> Result<String
 }
 
 /// What an operation answers.
-fn made<S: Failing>(alloc: Global, store: &mut S, op: &OpRef<'_>) -> Result<String, AllocError> {
+fn made<S: Failing<Polite>>(
+    alloc: Global,
+    store: &mut S,
+    op: &OpRef<'_>,
+) -> Result<String, AllocError> {
     let reply = store.make(op);
     let told = reply_told(alloc, &reply);
     drop(reply);
@@ -52,7 +57,7 @@ fn made<S: Failing>(alloc: Global, store: &mut S, op: &OpRef<'_>) -> Result<Stri
 }
 
 /// What an operation answers that names a version.
-fn made_at<S: Failing>(
+fn made_at<S: Failing<Polite>>(
     alloc: Global,
     store: &mut S,
     word: &str,
@@ -75,7 +80,7 @@ fn made_at<S: Failing>(
 }
 
 /// What an operation at a key answers.
-fn made_on<S: Failing>(
+fn made_on<S: Failing<Polite>>(
     alloc: Global,
     store: &mut S,
     word: &str,
@@ -94,7 +99,7 @@ fn made_on<S: Failing>(
 }
 
 /// What the operation of a word answers, with the key, the version and the bytes behind it.
-fn answered<S: Failing>(
+fn answered<S: Failing<Polite>>(
     alloc: Global,
     store: &mut S,
     word: &str,
@@ -109,7 +114,11 @@ fn answered<S: Failing>(
 }
 
 /// What a call answers. `client` makes the next operations those of another client.
-pub fn call_told<S: Failing>(alloc: Global, store: &mut S, call: &str) -> Result<String, NoAnswer> {
+pub fn call_told<S: Failing<Polite>>(
+    alloc: Global,
+    store: &mut S,
+    call: &str,
+) -> Result<String, NoAnswer> {
     let (word, rest) = first_word(call);
     match word {
         "client" => {
@@ -132,7 +141,7 @@ pub fn push_line(told: &mut String, answer: &str) -> Result<(), AllocError> {
 
 /// The store over this one of which the planned calls fail, after these operations, whose answers are appended. The plan stands
 /// first.
-fn played<S: Failing + Drop>(
+fn played<S: Failing<Polite> + Drop>(
     alloc: Global,
     told: &mut String,
     store: S,
@@ -145,7 +154,7 @@ fn played<S: Failing + Drop>(
 }
 
 /// Makes operations, and appends what they answer.
-fn push_calls<S: Failing>(
+fn push_calls<S: Failing<Polite>>(
     alloc: Global,
     told: &mut String,
     store: &mut S,

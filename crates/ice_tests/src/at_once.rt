@@ -1,8 +1,8 @@
 //! Tasks at once: two workers that meet, and sixty-four that commit on one branch.
 
-use crate::runs::words;
+use crate::runs::{Asked, perform, report, script};
 use crate::untold::Untold;
-use ice_base::{ByteSink, ByteSource, TickClock};
+use ice_base::{Bytes, TickClock};
 use ice_ids::{Draw, Id12};
 use mem_store::{EventRef, MemStore, ReplyRef};
 use play_at_once::{Gate, OpenGate};
@@ -14,35 +14,7 @@ use std::sync::Wait;
 use std::sync::atomic::{AtomicU64, Ordering};
 use std::test::Fail;
 use std::thread::Threads;
-use store_api::{Got, Key, Op, Over, Store, Version};
-use top_call::{Ended, run};
-
-/// What the run of a script over this store writes, and how it ends.
-fn ran<R: Threads + Wait + Sync, G: Gate + Sync>(
-    rt: &R,
-    alloc: Global,
-    script: &str,
-    draw: Draw,
-    store: Untold,
-    gate: &G,
-) -> Result<(String, Ended<Untold>), Fail> {
-    let words = words(alloc, &["play"])?;
-    let script = script.as_bytes().to_vec(alloc)?;
-    let mut input = ByteSource::new(script, Vec::new(alloc));
-    let mut output = ByteSink::new(alloc, 10_000, Vec::new(alloc))?;
-    let ended = run(
-        rt,
-        alloc,
-        &words,
-        draw,
-        &mut input,
-        store,
-        gate,
-        &mut output,
-    );
-    let report = String::from_utf8_lossy(alloc, output.written())?;
-    Ok((report, ended))
-}
+use store_api::{Got, Key, ObjectStore, Op, Over, Polite, StoreFault, Version};
 
 /// The most turns that a client waits for the other one.
 const MOST_TURNS: u32 = 200_000_000;
@@ -77,23 +49,30 @@ impl Gate for Meeting {
     }
 }
 
+const TWO: &str = "task a write main 0 fail\ngroup /\ntask b write main 0 fail\ngroup /\n";
+
+/// What the run of two tasks that meet writes.
+fn report_of_two<R: Threads + Wait + Sync>(
+    rt: &R,
+    alloc: Global,
+    gate: &Meeting,
+) -> Result<String, AllocError> {
+    let mut asked = script(alloc, TWO)?;
+    let store = Untold::new(alloc, None);
+    drop(perform(rt, alloc, Draw::Count, &mut asked, store, gate));
+    let report = report(alloc, &asked);
+    drop(asked);
+    report
+}
+
 #[test]
 fn two_workers_meet(rt: HostRuntime) -> Result<(), Fail> {
-    let alloc = rt.alloc();
     let gate = Meeting {
         first: AtomicU64::new(0),
         second: AtomicU64::new(0),
         met: AtomicU64::new(0),
     };
-    let script = "task a write main 0 fail\ngroup /\ntask b write main 0 fail\ngroup /\n";
-    let (report, _) = ran(
-        &rt,
-        alloc,
-        script,
-        Draw::Count,
-        Untold::new(alloc, None),
-        &gate,
-    )?;
+    let report = report_of_two(&rt, rt.alloc(), &gate)?;
     assert_eq!(rt; gate.met.load(Ordering::SeqCst), 2);
     assert_eq!(rt;
         report.as_str(),
@@ -145,16 +124,20 @@ fn entries(alloc: Global, memory: &MemStore<TickClock>) -> Result<Vec<Entry>, Fa
     Ok(entries)
 }
 
-/// The snapshot that stands under this id.
-fn snapshot_at(
-    alloc: Global,
-    memory: &mut MemStore<TickClock>,
-    id: Id12,
-) -> Result<SnapshotFile, Fail> {
-    let Got::Found { bytes, .. } = memory.get(&Key::Snapshot(id))? else {
-        return Err("no snapshot".into());
-    };
-    Ok(snapshot_file::read(alloc, bytes.as_slice())?)
+/// The bytes that were found.
+fn found(got: Got) -> Option<Bytes> {
+    match got {
+        Got::Found { bytes, .. } => Some(bytes),
+        Got::Absent { .. } => None,
+    }
+}
+
+/// The bytes of the snapshot under this id.
+fn snapshot_bytes(memory: &mut MemStore<TickClock>, id: Id12) -> Result<Option<Bytes>, StoreFault> {
+    let key = Key::Snapshot(id);
+    let got = ObjectStore::<Polite>::get(memory, &key);
+    drop(key);
+    Ok(found(got?))
 }
 
 /// Whether the nodes of a snapshot stand at exactly these paths.
@@ -179,6 +162,22 @@ fn follows(snapshot: &SnapshotFile, entry: &Entry, last: Option<&Entry>) -> bool
     }
 }
 
+/// Whether these are the bytes of a snapshot that follows on the one before it, and whose tree has exactly these paths.
+fn has_snapshot(
+    alloc: Global,
+    bytes: &Bytes,
+    entry: &Entry,
+    last: Option<&Entry>,
+    paths: &[String],
+) -> bool {
+    let Ok(snapshot) = snapshot_file::read(alloc, bytes.as_slice()) else {
+        return false;
+    };
+    let has = follows(&snapshot, entry, last) && has_paths(&snapshot, paths);
+    drop(snapshot);
+    has
+}
+
 /// Whether a commit follows on the one before it, and its tree has exactly these paths.
 fn is_in_line(
     alloc: Global,
@@ -186,10 +185,12 @@ fn is_in_line(
     entry: &Entry,
     last: Option<&Entry>,
     paths: &[String],
-) -> Result<bool, Fail> {
-    let snapshot = snapshot_at(alloc, memory, entry.snapshot)?;
-    let is = follows(&snapshot, entry, last) && has_paths(&snapshot, paths);
-    drop(snapshot);
+) -> Result<bool, StoreFault> {
+    let Some(bytes) = snapshot_bytes(memory, entry.snapshot)? else {
+        return Ok(false);
+    };
+    let is = has_snapshot(alloc, &bytes, entry, last, paths);
+    drop(bytes);
     Ok(is)
 }
 
@@ -199,18 +200,25 @@ fn add_path(alloc: Global, paths: &mut Vec<String>, client: u32) -> Result<(), A
     paths.sort()
 }
 
+/// A list of the root's path.
+fn root_path(alloc: Global) -> Result<Vec<String>, AllocError> {
+    let mut paths = Vec::new(alloc);
+    paths.push(String::from_str(alloc, "/")?)?;
+    Ok(paths)
+}
+
 /// Whether each commit follows on the one before it, and adds its task's group to that one's tree. The first one, of the root
 /// alone, isn't of these tasks.
-fn are_one_list(
+fn follow_on(
     alloc: Global,
     memory: &mut MemStore<TickClock>,
     entries: &[Entry],
+    paths: &mut Vec<String>,
 ) -> Result<bool, Fail> {
-    let mut paths = vec![in alloc; String::from_str(alloc, "/")?]?;
     let mut last: Option<&Entry> = None;
     for entry in entries {
         if last.is_some() {
-            add_path(alloc, &mut paths, entry.client)?;
+            add_path(alloc, paths, entry.client)?;
         }
         if !is_in_line(alloc, memory, entry, last, paths.as_slice())? {
             return Ok(false);
@@ -220,23 +228,64 @@ fn are_one_list(
     Ok(true)
 }
 
-/// A script of so many tasks, each of which adds a group that bears its number, and commits.
-fn commits(alloc: Global, tasks: u32) -> Result<String, Fail> {
+/// Whether the commits are one list, from the root's on.
+fn are_one_list(
+    alloc: Global,
+    memory: &mut MemStore<TickClock>,
+    entries: &[Entry],
+) -> Result<bool, Fail> {
+    let mut paths = root_path(alloc)?;
+    let are = follow_on(alloc, memory, entries, &mut paths);
+    drop(paths);
+    are
+}
+
+/// Adds the lines of a task that adds a group that bears its number, and commits.
+fn add_task(alloc: Global, script: &mut String, task: u32) -> Result<(), AllocError> {
+    write!(
+        script,
+        "task t{task} write main 9 fail\ngroup /{task}\ncommit c\n"
+    )
+}
+
+/// A script of so many such tasks.
+fn commits(alloc: Global, tasks: u32) -> Result<String, AllocError> {
     let mut script = String::new(alloc);
     for task in 1..=tasks {
-        let lines = format!(in alloc; "task t{task} write main 9 fail\ngroup /{task}\ncommit c\n")?;
-        script.push_str(&lines)?;
+        add_task(alloc, &mut script, task)?;
     }
     Ok(script)
 }
 
+/// A run of that script.
+fn committing(alloc: Global, tasks: u32) -> Result<Asked, AllocError> {
+    let text = commits(alloc, tasks)?;
+    let asked = script(alloc, text.as_str());
+    drop(text);
+    asked
+}
+
+const ROOT: &str = "task a write main 0 fail\ngroup /\ncommit root\n";
+
 /// A store on which the root was committed.
-fn with_root<R: Threads + Wait + Sync>(rt: &R, alloc: Global) -> Result<Untold, Fail> {
-    let root = "task a write main 0 fail\ngroup /\ncommit root\n";
+fn with_root<R: Threads + Wait + Sync>(rt: &R, alloc: Global) -> Result<Untold, AllocError> {
+    let mut asked = script(alloc, ROOT)?;
     let store = Untold::new(alloc, None);
-    let (report, ended) = ran(rt, alloc, root, Draw::Count, store, &OpenGate)?;
-    drop(report);
+    let ended = perform(rt, alloc, Draw::Count, &mut asked, store, &OpenGate);
+    drop(asked);
     Ok(ended.store)
+}
+
+/// What a run leaves in the store on which the root was committed.
+fn played<R: Threads + Wait + Sync>(
+    rt: &R,
+    alloc: Global,
+    asked: &mut Asked,
+) -> Result<MemStore<TickClock>, AllocError> {
+    let store = with_root(rt, alloc)?;
+    let draw = Draw::Stream([7; 32]);
+    let ended = perform(rt, alloc, draw, asked, store, &OpenGate);
+    Ok(ended.store.into_memory())
 }
 
 /// How many tasks committed, as their report tells, where each of so many was committed or refused.
@@ -246,26 +295,54 @@ fn committed_in(report: &str, tasks: usize) -> Option<usize> {
     (committed.checked_add(refused) == Some(tasks)).then_some(committed)
 }
 
+/// How many tasks committed, as is told.
+fn committed(alloc: Global, asked: &Asked, tasks: usize) -> Result<Option<usize>, AllocError> {
+    let report = report(alloc, asked)?;
+    let committed = committed_in(report.as_str(), tasks);
+    drop(report);
+    Ok(committed)
+}
+
 /// Whether the journal behind the root's commit has so many commits, in one list.
-fn has_one_list(alloc: Global, store: Untold, committed: usize) -> Result<bool, Fail> {
-    let mut memory = store.into_memory();
-    let entries = entries(alloc, &memory)?;
-    let is = entries.len().checked_sub(1) == Some(committed)
-        && are_one_list(alloc, &mut memory, &entries)?;
+fn has_one_list(
+    alloc: Global,
+    memory: &mut MemStore<TickClock>,
+    committed: usize,
+) -> Result<bool, Fail> {
+    let entries = entries(alloc, memory)?;
+    let is = if entries.len().checked_sub(1) == Some(committed) {
+        are_one_list(alloc, memory, entries.as_slice())
+    } else {
+        Ok(false)
+    };
+    drop(entries);
+    is
+}
+
+/// Plays so many tasks: how many committed, as is told, and whether the journal has one list of so many.
+fn committed_and_listed<R: Threads + Wait + Sync>(
+    rt: &R,
+    alloc: Global,
+    asked: &mut Asked,
+    tasks: usize,
+) -> Result<(Option<usize>, bool), Fail> {
+    let mut memory = played(rt, alloc, asked)?;
+    let committed = committed(alloc, asked, tasks);
+    let is = has_one_list(alloc, &mut memory, committed.unwrap_or(None).unwrap_or(0));
     drop(memory);
-    Ok(is)
+    let is = is?;
+    Ok((committed?, is))
 }
 
 /// The journal has one list for the branch, as long as the report tells.
 #[test]
 fn sixty_four_commit_at_once(rt: HostRuntime) -> Result<(), Fail> {
     let alloc = rt.alloc();
-    let store = with_root(&rt, alloc)?;
-    let script = commits(alloc, 64)?;
-    let draw = Draw::Stream([7; 32]);
-    let (report, ended) = ran(&rt, alloc, &script, draw, store, &OpenGate)?;
-    let committed = committed_in(&report, 64);
+    let mut asked = committing(alloc, 64)?;
+    let came = committed_and_listed(&rt, alloc, &mut asked, 64);
+    drop(asked);
+    let (committed, listed) = came?;
     assert!(rt; committed.is_some());
-    assert!(rt; has_one_list(alloc, ended.store, committed.unwrap_or(0))?);
+    assert!(rt; listed);
     Ok(())
 }

@@ -2,26 +2,41 @@
 
 ghost use Rattle.std.specs.Prelude.{◌≤◌};
 
-use crate::directories::{Directory, branch};
+use crate::directories::{branch, has_failed, make_folder, put_snapshot};
 use dir_store::{DirStore, content_version, open};
 use ice_base::TickClock;
 use ice_ids::Id12;
-use std::alloc::{Allocator, Global};
+use std::alloc::{AllocError, Allocator, Global};
 use std::cell::Cell;
 use std::fs::{File, Metadata, OpenFile, OpenOptions};
 use std::io::{ErrorKind, Read, Seek, SeekFrom, Write};
 use std::rt::Files;
 use std::test::Fail;
 use std::{fs, io};
-use store_api::{Got, Key, Over, Part, Store, StoreFault, Why};
+use store_api::{Got, Key, ObjectStore, Over, Part, Polite, StoreFault, Version, Why};
 
 /// The number of the calls so far, and of the last call that made a folder in the directory itself, and
 /// that flushed it.
-#[derive(Clone, Copy, Default)]
+#[derive(Drop)]
 struct Calls {
-    made: u64,
-    flushed: u64,
-    count: u64,
+    made: Cell<u64>,
+    flushed: Cell<u64>,
+    count: Cell<u64>,
+}
+
+impl Calls {
+    fn new() -> Calls {
+        Calls {
+            made: Cell::new(0),
+            flushed: Cell::new(0),
+            count: Cell::new(0),
+        }
+    }
+
+    /// Whether a folder was made, and the directory flushed behind the last one.
+    fn are_flushed(&self) -> bool {
+        self.made.get() < self.flushed.get()
+    }
 }
 
 /// Files of the system. A call breaks: that one alone, or all from it on, as where a program is cut
@@ -29,7 +44,7 @@ struct Calls {
 #[derive(Clone, Copy)]
 struct Breaking<'a> {
     rt: HostRuntime,
-    calls: &'a Cell<Calls>,
+    calls: &'a Calls,
     broken: u64,
     for_good: bool,
 }
@@ -37,10 +52,8 @@ struct Breaking<'a> {
 impl<'a> Breaking<'a> {
     /// Counts a call, and fails where it breaks.
     fn call(&self) -> io::Result<()> {
-        let mut calls = self.calls.get();
-        let number = calls.count;
-        calls.count = number.saturating_add(1);
-        self.calls.set(calls);
+        let number = self.calls.count.get();
+        self.calls.count.set(number.saturating_add(1));
         if number == self.broken || (self.for_good && number > self.broken) {
             return Err(io::Error::from(ErrorKind::StorageFull));
         }
@@ -49,16 +62,12 @@ impl<'a> Breaking<'a> {
 
     /// Notes that this call made a folder in the directory.
     fn note_made(&self) {
-        let mut calls = self.calls.get();
-        calls.made = calls.count;
-        self.calls.set(calls);
+        self.calls.made.set(self.calls.count.get());
     }
 
     /// Notes that this call flushed the directory.
     fn note_flushed(&self) {
-        let mut calls = self.calls.get();
-        calls.flushed = calls.count;
-        self.calls.set(calls);
+        self.calls.flushed.set(self.calls.count.get());
     }
 }
 
@@ -209,114 +218,126 @@ struct Keys {
     other: Key,
 }
 
-fn make_keys(rt: HostRuntime) -> Result<Keys, Fail> {
+fn make_keys(alloc: Global) -> Result<Keys, AllocError> {
+    let main = branch(alloc, "main")?;
+    let other = branch(alloc, "other")?;
     Ok(Keys {
         snapshot: Key::Snapshot(Id12::INITIAL),
-        main: branch(rt.alloc(), "main")?,
-        other: branch(rt.alloc(), "other")?,
+        main,
+        other,
     })
+}
+
+/// Puts a branch in the directory at this path.
+fn put<R: Files + AllocGlobal + Clone + Drop>(
+    files: R,
+    path: &str,
+    key: &Key,
+    bytes: &[u8],
+) -> Result<(), StoreFault> {
+    let mut store = DirStore::at(files, path, TickClock::new())?;
+    let put = ObjectStore::<Polite>::put_new(&mut store, key, bytes, Why::Create);
+    drop(store);
+    put?;
+    Ok(())
 }
 
 /// Makes a directory with one branch.
 fn begin(rt: HostRuntime, path: &str, keys: &Keys) -> Result<(), Fail> {
-    let _ = fs::remove_dir_all(&rt, path);
-    fs::create_dir_all(&rt, path)?;
-    let mut store = DirStore::at(rt, path, TickClock::new())?;
-    store.put_new(&keys.main, b"one", Why::Create)?;
-    Ok(())
+    make_folder(rt, path)?;
+    Ok(put(rt, path, &keys.main, b"one")?)
 }
 
 fn failures<T: Drop>(done: Result<T, StoreFault>) -> u64
     ensures { result ≤ 1 }
 {
-    match done {
-        Err(StoreFault::Failed) => 1,
-        _ => 0,
-    }
+    u64::from(has_failed(done))
 }
 
-type Broken<'a> = DirStore<Breaking<'a>, TickClock>;
-
 /// Writes, and tells how many writes failed.
-fn write(store: &mut Broken<'_>, keys: &Keys) -> u64
+fn write<R: Files + AllocGlobal + Clone + Drop>(
+    store: &mut DirStore<R, TickClock>,
+    keys: &Keys,
+) -> u64
     ensures { result ≤ 4 }
 {
     let one = content_version(b"one");
-    failures(store.put_new(&keys.snapshot, b"whole", Why::Init))
-        + failures(store.put_over(&keys.main, b"two", one, Why::Commit))
-        + failures(store.put_new(&keys.main, b"never", Why::Create))
-        + failures(store.put_new(&keys.other, b"made", Why::Create))
+    let put = put_snapshot(store, Id12::INITIAL, b"whole", Why::Init);
+    let over = ObjectStore::<Polite>::put_over(store, &keys.main, b"two", one, Why::Commit);
+    let again = ObjectStore::<Polite>::put_new(store, &keys.main, b"never", Why::Create);
+    let made = ObjectStore::<Polite>::put_new(store, &keys.other, b"made", Why::Create);
+    failures(put) + failures(over) + failures(again) + failures(made)
 }
 
 /// Reads, and tells how many reads failed.
-fn read(store: &mut Broken<'_>, keys: &Keys) -> u64
+fn read<R: Files + AllocGlobal + Clone + Drop>(
+    store: &mut DirStore<R, TickClock>,
+    keys: &Keys,
+) -> u64
     ensures { result ≤ 3 }
 {
-    failures(store.get(&keys.main))
-        + failures(store.list(Part::Branches))
-        + failures(store.list(Part::Snapshots))
+    failures(ObjectStore::<Polite>::get(store, &keys.main))
+        + failures(ObjectStore::<Polite>::list(store, Part::Branches))
+        + failures(ObjectStore::<Polite>::list(store, Part::Snapshots))
 }
 
 /// Removes, and tells how many removals failed.
-fn remove(store: &mut Broken<'_>, keys: &Keys) -> u64
+fn remove<R: Files + AllocGlobal + Clone + Drop>(
+    store: &mut DirStore<R, TickClock>,
+    keys: &Keys,
+) -> u64
     ensures { result ≤ 2 }
 {
     let made = content_version(b"made");
-    failures(store.remove_at(&keys.other, made, Why::Drop))
-        + failures(store.remove(&keys.snapshot, Why::Collect))
+    let other = ObjectStore::<Polite>::remove_at(store, &keys.other, made, Why::Drop);
+    let snapshot = ObjectStore::<Polite>::remove(store, &keys.snapshot, Why::Collect);
+    failures(other) + failures(snapshot)
 }
 
-/// What nine operations came to where a call breaks.
-#[derive(Clone, Copy)]
-struct Came {
-    broke: bool,
-    failed: u64,
-    faults: u64,
-    operations: u64,
+/// Makes nine operations in the directory at this path: how many failed, if those and no others were counted as failures, and
+/// all of them as operations.
+fn failed_of_nine<R: Files + AllocGlobal + Clone + Drop>(
+    files: R,
+    path: &str,
+    keys: &Keys,
+) -> Result<Option<u64>, StoreFault> {
+    let mut store = DirStore::at(files, path, TickClock::new())?;
+    let failed = write(&mut store, keys) + read(&mut store, keys) + remove(&mut store, keys);
+    let counted = store.faults() == failed && store.operations() == 9;
+    drop(store);
+    Ok(counted.then_some(failed))
 }
 
-impl Came {
-    /// Whether the broken call, and no other, was counted as a failure.
-    fn is_counted(self) -> bool {
-        let broken = if self.broke { 1 } else { 0 };
-        self.failed == broken && self.faults == broken && self.operations == 9
-    }
-}
-
-/// Makes the operations in a fresh directory, with this call broken.
+/// Makes the operations in a fresh directory, with this call broken: whether the call was made, and whether it, and no other,
+/// was counted as a failure.
 fn work(
     rt: HostRuntime,
     path: &str,
     keys: &Keys,
     broken: u64,
     for_good: bool,
-) -> Result<Came, Fail> {
+) -> Result<(bool, bool), Fail> {
     begin(rt, path, keys)?;
-    let calls = Cell::new(Calls::default());
+    let calls = Calls::new();
     let files = Breaking {
         rt,
         calls: &calls,
         broken,
         for_good,
     };
-    let mut store = DirStore::at(files, path, TickClock::new())?;
-    let failed = write(&mut store, keys) + read(&mut store, keys) + remove(&mut store, keys);
-    Ok(Came {
-        broke: calls.get().count > broken,
-        failed,
-        faults: store.faults(),
-        operations: store.operations(),
-    })
+    let failed = failed_of_nine(files, path, keys)?;
+    let broke = calls.count.get() > broken;
+    Ok((broke, failed == Some(u64::from(broke))))
 }
 
 /// Breaks each call in turn, until none is left to break: the first whose failure isn't counted, if there is one.
 fn first_uncounted(rt: HostRuntime, keys: &Keys) -> Result<Option<u64>, Fail> {
     for broken in 1..MOST {
-        let came = work(rt, "failing_calls", keys, broken, false)?;
-        if !came.is_counted() {
+        let (broke, counted) = work(rt, "failing_calls", keys, broken, false)?;
+        if !counted {
             return Ok(Some(broken));
         }
-        if !came.broke {
+        if !broke {
             return Ok(None);
         }
     }
@@ -325,7 +346,7 @@ fn first_uncounted(rt: HostRuntime, keys: &Keys) -> Result<Option<u64>, Fail> {
 
 #[test]
 fn each_failed_call_is_counted(rt: HostRuntime) -> Result<(), Fail> {
-    let keys = make_keys(rt)?;
+    let keys = make_keys(rt.alloc())?;
     let uncounted = first_uncounted(rt, &keys);
     drop(keys);
     assert_eq!(rt; uncounted?, None);
@@ -340,47 +361,85 @@ fn is_one_of(got: &Got, contents: &[&[u8]], absent: bool) -> bool {
     }
 }
 
+/// Whether a key has one of these contents, or, where that may be, none.
+fn has_one_of<R: Files + AllocGlobal + Clone + Drop>(
+    store: &mut DirStore<R, TickClock>,
+    key: &Key,
+    contents: &[&[u8]],
+    absent: bool,
+) -> Result<bool, StoreFault> {
+    let got = ObjectStore::<Polite>::get(store, key)?;
+    let is = is_one_of(&got, contents, absent);
+    drop(got);
+    Ok(is)
+}
+
 /// Whether each key has one of the contents that it may have.
-fn is_whole(store: &mut Directory, keys: &Keys) -> Result<bool, StoreFault> {
-    let main = store.get(&keys.main)?;
-    let snapshot = store.get(&keys.snapshot)?;
-    let other = store.get(&keys.other)?;
+fn is_whole<R: Files + AllocGlobal + Clone + Drop>(
+    store: &mut DirStore<R, TickClock>,
+    keys: &Keys,
+) -> Result<bool, StoreFault> {
     Ok(
-        is_one_of(&main, &[b"one", b"two"], false)
-            && is_one_of(&snapshot, &[b"whole"], true)
-            && is_one_of(&other, &[b"made"], true),
+        has_one_of(store, &keys.main, &[b"one", b"two"], false)?
+            && has_one_of(store, &keys.snapshot, &[b"whole"], true)?
+            && has_one_of(store, &keys.other, &[b"made"], true)?,
     )
 }
 
+/// Which version of a branch is there, if it is.
+fn version_of(got: &Got) -> Option<Version> {
+    match got {
+        Got::Found { version, .. } => Some(*version),
+        Got::Absent { .. } => None,
+    }
+}
+
 /// Whether a branch is there, and can be put over.
-fn moves(store: &mut Directory, main: &Key) -> Result<bool, StoreFault> {
-    let Got::Found { version, .. } = store.get(main)? else {
+fn moves<R: Files + AllocGlobal + Clone + Drop>(
+    store: &mut DirStore<R, TickClock>,
+    main: &Key,
+) -> Result<bool, StoreFault> {
+    let got = ObjectStore::<Polite>::get(store, main)?;
+    let version = version_of(&got);
+    drop(got);
+    let Some(version) = version else {
         return Ok(false);
     };
-    let over = store.put_over(main, b"three", version, Why::Commit)?;
+    let over = ObjectStore::<Polite>::put_over(store, main, b"three", version, Why::Commit)?;
     Ok(matches!(over, Over::Done { .. }))
+}
+
+/// Whether what is in a store is whole, and can be gone on with.
+fn is_sound<R: Files + AllocGlobal + Clone + Drop>(
+    store: &mut DirStore<R, TickClock>,
+    keys: &Keys,
+) -> Result<bool, StoreFault> {
+    Ok(is_whole(store, keys)? && moves(store, &keys.main)?)
 }
 
 /// Whether what a program that was cut off has left is whole, and can be gone on with.
 fn goes_on(rt: HostRuntime, path: &str, keys: &Keys) -> Result<bool, Fail> {
     let mut opened = open(rt, path, TickClock::new())?;
-    Ok(is_whole(&mut opened.store, keys)? && moves(&mut opened.store, &keys.main)?)
+    let is_sound = is_sound(&mut opened.store, keys);
+    drop(opened);
+    Ok(is_sound?)
 }
 
 /// How many files are left aside.
-fn left_aside(rt: HostRuntime, path: &str) -> Result<usize, Fail> {
-    Ok(fs::read_dir(&rt, path)?.count())
+fn left_aside(rt: HostRuntime, path: &str) -> io::Result<usize> {
+    let files = fs::read_dir(&rt, path)?;
+    Ok(files.count())
 }
 
 /// Cuts a program off at each call in turn, until none is left: the first call behind which what is left isn't whole, or
 /// something is left aside, if there is one.
 fn first_broken(rt: HostRuntime, keys: &Keys) -> Result<Option<u64>, Fail> {
     for broken in 1..MOST {
-        let came = work(rt, "cut_off", keys, broken, true)?;
+        let (broke, _) = work(rt, "cut_off", keys, broken, true)?;
         if !goes_on(rt, "cut_off", keys)? || left_aside(rt, "cut_off/icerepo.new")? > 0 {
             return Ok(Some(broken));
         }
-        if !came.broke {
+        if !broke {
             return Ok(None);
         }
     }
@@ -389,7 +448,7 @@ fn first_broken(rt: HostRuntime, keys: &Keys) -> Result<Option<u64>, Fail> {
 
 #[test]
 fn a_program_that_is_cut_off_leaves_whole_files(rt: HostRuntime) -> Result<(), Fail> {
-    let keys = make_keys(rt)?;
+    let keys = make_keys(rt.alloc())?;
     let broken = first_broken(rt, &keys);
     drop(keys);
     assert_eq!(rt; broken?, None);
@@ -397,32 +456,25 @@ fn a_program_that_is_cut_off_leaves_whole_files(rt: HostRuntime) -> Result<(), F
 }
 
 /// Leaves a thousand files and more where files are put aside, and one that was never put there.
-fn litter(rt: HostRuntime) -> Result<(), Fail> {
+fn litter<R: Files + AllocGlobal>(files: &R) -> io::Result<()> {
     for number in 0..1200u32 {
-        let path = format!(in rt.alloc(); "leftovers/icerepo.new/{number}")?;
-        fs::write(&rt, path.as_str(), "cut off")?;
+        let path = format!(in files.alloc(); "leftovers/icerepo.new/{number}")?;
+        fs::write(files, path.as_str(), "cut off")?;
     }
-    Ok(fs::write(&rt, "leftovers/icerepo.new/readme", "mine")?)
-}
-
-/// Puts a branch.
-fn put(rt: HostRuntime, path: &str, key: &Key) -> Result<(), Fail> {
-    let mut store = DirStore::at(rt, path, TickClock::new())?;
-    store.put_new(key, b"made", Why::Create)?;
-    Ok(())
+    fs::write(files, "leftovers/icerepo.new/readme", "mine")
 }
 
 /// Whether a put is done beside leftovers, and what is there then can be gone on with.
 fn puts_beside_litter(rt: HostRuntime, keys: &Keys) -> Result<bool, Fail> {
     begin(rt, "leftovers", keys)?;
-    litter(rt)?;
-    put(rt, "leftovers", &keys.other)?;
+    litter(&rt)?;
+    put(rt, "leftovers", &keys.other, b"made")?;
     goes_on(rt, "leftovers", keys)
 }
 
 #[test]
 fn leftovers_never_stop_a_put(rt: HostRuntime) -> Result<(), Fail> {
-    let keys = make_keys(rt)?;
+    let keys = make_keys(rt.alloc())?;
     let goes_on = puts_beside_litter(rt, &keys);
     drop(keys);
     assert!(rt; goes_on?);
@@ -430,32 +482,38 @@ fn leftovers_never_stop_a_put(rt: HostRuntime) -> Result<(), Fail> {
     Ok(fs::remove_dir_all(&rt, "leftovers")?)
 }
 
-/// Puts two snapshots in an empty directory, with this call broken: whether the call was made, and
+/// Puts two snapshots in the directory at this path: whether the first put was refused, and whether the second one was done.
+fn two_puts<R: Files + AllocGlobal + Clone + Drop>(
+    files: R,
+    path: &str,
+) -> Result<(bool, bool), StoreFault> {
+    let mut store = DirStore::at(files, path, TickClock::new())?;
+    let first = put_snapshot(&mut store, Id12([1; 12]), b"one", Why::Set);
+    let second = put_snapshot(&mut store, Id12([2; 12]), b"two", Why::Set);
+    drop(store);
+    Ok((first.is_err(), second.is_ok()))
+}
+
+/// Puts two snapshots in an empty directory, with this call broken: whether the first put was refused, and
 /// whether the second put was done and the directory flushed behind the last folder made in it.
 fn put_two(rt: HostRuntime, path: &str, broken: u64) -> Result<(bool, bool), Fail> {
-    let _ = fs::remove_dir_all(&rt, path);
-    fs::create_dir_all(&rt, path)?;
-    let calls = Cell::new(Calls::default());
+    make_folder(rt, path)?;
+    let calls = Calls::new();
     let files = Breaking {
         rt,
         calls: &calls,
         broken,
         for_good: false,
     };
-    let mut store = DirStore::at(files, path, TickClock::new())?;
-    let broke = store
-        .put_new(&Key::Snapshot(Id12([1; 12])), b"one", Why::Set)
-        .is_err();
-    let put = store.put_new(&Key::Snapshot(Id12([2; 12])), b"two", Why::Set);
-    let calls = calls.get();
-    Ok((broke, put.is_ok() && calls.made < calls.flushed))
+    let (refused, put) = two_puts(files, path)?;
+    Ok((refused, put && calls.are_flushed()))
 }
 
 #[test]
 fn a_folder_is_made_once_it_is_flushed(rt: HostRuntime) -> Result<(), Fail> {
     for broken in 1..MOST {
-        let (broke, flushed) = put_two(rt, "flushed", broken)?;
-        if !broke {
+        let (refused, flushed) = put_two(rt, "flushed", broken)?;
+        if !refused {
             return Ok(fs::remove_dir_all(&rt, "flushed")?);
         }
         assert!(rt; flushed, "{broken}");

@@ -30,6 +30,8 @@ mod runs;
 #[cfg(test)]
 mod sessions;
 #[cfg(test)]
+mod sizes;
+#[cfg(test)]
 mod tables;
 #[cfg(test)]
 mod turns;

@@ -33,12 +33,14 @@ fn change(alloc: Global) -> Result<Vec<(Index, Option<Place>)>, AllocError>
 }
 
 /// The file of a manifest of these chunks, if they make one.
-fn file(alloc: Global) -> Result<Option<Bytes>, AllocError> {
-    let change = change(alloc)?;
-    let Some(array) = merge(alloc, 1, NODE, &[], &change)? else {
+fn file_of(alloc: Global, change: &[(Index, Option<Place>)]) -> Result<Option<Bytes>, AllocError>
+    requires { All (λ c. IsTrue (are_low c.0)) change.now }
+{
+    let Some(array) = merge(alloc, 1, NODE, &[], change)? else {
         return Ok(None);
     };
     if array.refs.len() > 65_536 {
+        drop(array);
         return Ok(None);
     }
     let mut arrays = Items::new(alloc);
@@ -47,10 +49,20 @@ fn file(alloc: Global) -> Result<Option<Bytes>, AllocError> {
         id: Id12::INITIAL,
         arrays,
     };
-    match write(alloc, &manifest) {
+    let file = write(alloc, &manifest);
+    drop(manifest);
+    match file {
         Ok(file) => Ok(Some(Bytes::from_vec(file))),
         Err(_) => Ok(None),
     }
+}
+
+/// The file of the manifest of so many chunks, if they make one.
+fn file(alloc: Global) -> Result<Option<Bytes>, AllocError> {
+    let change = change(alloc)?;
+    let file = file_of(alloc, &change);
+    drop(change);
+    file
 }
 
 /// Whether each of the chunks is found.
@@ -84,7 +96,11 @@ fn held(alloc: Global) -> Option<Held> {
 /// A chunk is found by halves: a walk over the chunks would make more than 100,000,000,000 turns here.
 #[test]
 fn many_entries(rt: HostRuntime) -> Result<(), Fail> {
-    let held = held(rt.alloc()).ok_or("no manifest")?;
-    assert!(rt; has_all_often(rt.alloc(), &held)?);
+    let Some(held) = held(rt.alloc()) else {
+        return Err(Fail::new("no manifest"));
+    };
+    let has = has_all_often(rt.alloc(), &held);
+    drop(held);
+    assert!(rt; has?);
     Ok(())
 }

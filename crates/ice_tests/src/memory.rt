@@ -5,7 +5,7 @@ use ice_ids::Id12;
 use mem_store::MemStore;
 use std::alloc::Global;
 use std::test::Fail;
-use store_api::{Got, Key, Store, StoreFault, Version, Why};
+use store_api::{Got, Key, ObjectStore, Polite, StoreFault, Version, Why};
 
 /// The key of a chunk; the keys ascend with the number.
 fn chunk(number: u32) -> Key {
@@ -21,16 +21,28 @@ const GETS: u32 = 400_000;
 
 fn put_all(store: &mut Memory) -> Result<(), StoreFault> {
     for number in 0..PUTS {
-        store.put_new(&chunk(number), b"x", Why::Set)?;
+        let key = chunk(number);
+        ObjectStore::<Polite>::put_new(store, &key, b"x", Why::Set)?;
     }
     Ok(())
 }
 
 fn get_often(store: &mut Memory, key: &Key) -> Result<(), StoreFault> {
     for _ in 0..GETS {
-        store.get(key)?;
+        ObjectStore::<Polite>::get(store, key)?;
     }
     Ok(())
+}
+
+/// How many events there are behind all puts and gets, and which version of the first chunk stands.
+fn many_events_in(store: &mut Memory) -> Result<(usize, Option<Version>), StoreFault> {
+    put_all(store)?;
+    let first = chunk(0);
+    let got = get_often(store, &first);
+    let standing = store.standing(&first);
+    drop(first);
+    got?;
+    Ok((store.number_of_events(), standing))
 }
 
 /// An operation reads what stands, and not the journal: a walk over the journal would make more than
@@ -38,11 +50,11 @@ fn get_often(store: &mut Memory, key: &Key) -> Result<(), StoreFault> {
 #[test]
 fn many_events(rt: HostRuntime) -> Result<(), Fail> {
     let mut store = MemStore::new(rt.alloc(), TickClock::new());
-    put_all(&mut store)?;
-    let first = chunk(0);
-    get_often(&mut store, &first)?;
-    assert!(rt; store.number_of_events() == 600_000);
-    assert!(rt; store.standing(&first) == Some(Version(0)));
+    let came = many_events_in(&mut store);
+    drop(store);
+    let (events, standing) = came?;
+    assert!(rt; events == 600_000);
+    assert!(rt; standing == Some(Version(0)));
     Ok(())
 }
 
@@ -57,23 +69,31 @@ impl Clock for Falling {
     }
 }
 
-/// Whether nothing stands at a key, and at which moment.
-fn absent_at(store: &mut MemStore<Falling>, key: &Key) -> Option<u64> {
-    match store.get(key) {
-        Ok(Got::Absent { now }) => Some(now),
+/// When nothing is found.
+fn absent_at(got: Result<Got, StoreFault>) -> Option<u64> {
+    let now = match &got {
+        Ok(Got::Absent { now }) => Some(*now),
         _ => None,
-    }
+    };
+    drop(got);
+    now
 }
 
-fn main_branch(alloc: Global) -> Result<Key, Fail> {
-    Ok(Key::Branch(RefName::main(alloc)?))
+/// When nothing is found at `main`, of two gets.
+fn absent_twice(alloc: Global) -> Result<(Option<u64>, Option<u64>), Fail> {
+    let key = Key::Branch(RefName::main(alloc)?);
+    let mut store = MemStore::new(alloc, Falling(9));
+    let first = absent_at(ObjectStore::<Polite>::get(&mut store, &key));
+    let second = absent_at(ObjectStore::<Polite>::get(&mut store, &key));
+    drop(store);
+    drop(key);
+    Ok((first, second))
 }
 
 #[test]
 fn times_never_fall(rt: HostRuntime) -> Result<(), Fail> {
-    let key = main_branch(rt.alloc())?;
-    let mut store = MemStore::new(rt.alloc(), Falling(9));
-    assert!(rt; absent_at(&mut store, &key) == Some(4));
-    assert!(rt; absent_at(&mut store, &key) == Some(4));
+    let (first, second) = absent_twice(rt.alloc())?;
+    assert!(rt; first == Some(4));
+    assert!(rt; second == Some(4));
     Ok(())
 }

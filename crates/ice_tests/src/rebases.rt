@@ -5,7 +5,7 @@ ghost use Rattle.store_api.specs.Program.{IsAsk};
 ghost use Rattle.commit_path.specs.Committing.{commit_rest};
 ghost use Rattle.rebase.specs.Rebasing.{rebase_rest};
 
-use crate::untold::{Untold, begun, opened};
+use crate::untold::{Untold, begun, opened, went};
 use commit_path::{Commit, Tried};
 use conflicts::{Pick, Policy};
 use ice_base::Text;
@@ -15,6 +15,7 @@ use session::Session;
 use std::alloc::{AllocError, Global};
 use store_api::{Refusal, run_machine};
 use zarr_path::Path;
+use zarr_tree::EditFault;
 
 const GROUP: &[u8] = br#"{"zarr_format":3,"node_type":"group"}"#;
 
@@ -39,10 +40,12 @@ fn path(alloc: Global, number: u32) -> Option<Path> {
 
 /// Whether the group with this number was added.
 fn adds_group(alloc: Global, session: &mut Session, number: u32) -> bool {
-    match path(alloc, number) {
-        Some(path) => session.add_group(&path, GROUP).is_ok(),
-        None => false,
-    }
+    let Some(path) = path(alloc, number) else {
+        return false;
+    };
+    let added = went(session.add_group(&path, GROUP));
+    drop(path);
+    added
 }
 
 /// Whether groups with these numbers were added.
@@ -63,15 +66,14 @@ fn grown(alloc: Global, client: u32, from: u32, to: u32, store: &mut Untold) -> 
 }
 
 /// A commit that has begun.
-fn started(alloc: Global, session: Session) -> Option<Commit>
+fn started(alloc: Global, session: Session, message: Text) -> Option<Commit>
     ensures { IfSome result (λ commit. IsAsk (commit_rest commit)) }
 {
-    let message = Text::of(alloc, "x").ok()?;
     Commit::start(alloc, session, message).ok()
 }
 
 /// What a commit came to.
-#[derive(Clone, Copy, Debug, PartialEq, Eq)]
+#[derive(Clone, Copy, PartialEq, Eq)]
 enum Ending {
     Done,
     Lost,
@@ -98,9 +100,14 @@ fn run(commit: &mut Commit, store: &mut Untold) -> Ending
 
 /// The session of a commit that was made, if it came to this.
 fn tried(alloc: Global, session: Session, store: &mut Untold, want: Ending) -> Option<Session> {
-    let mut commit = started(alloc, session)?;
+    let Ok(message) = Text::of(alloc, "x") else {
+        drop(session);
+        return None;
+    };
+    let mut commit = started(alloc, session, message)?;
     let ending = run(&mut commit, store);
-    let session = commit.into_parts().0;
+    let (session, message) = commit.into_parts();
+    drop(message);
     (ending == want).then_some(session)
 }
 
@@ -113,7 +120,7 @@ fn commits(alloc: Global, session: Session, store: &mut Untold) -> bool {
 }
 
 /// What a rebase comes to: over how many commits, if it isn't refused.
-#[derive(Clone, Copy, Debug, PartialEq, Eq)]
+#[derive(Clone, Copy, PartialEq, Eq)]
 enum Carried {
     Over(u32),
     Full,
@@ -131,7 +138,7 @@ fn carried_of(rebased: &Result<Rebased, Refusal>) -> Carried {
     match rebased {
         Ok(Rebased::Moved(_, count)) => Carried::Over(*count),
         Ok(Rebased::UpToDate(_)) => Carried::Over(0),
-        Err(Refusal::Full) => Carried::Full,
+        Err(Refusal::Edit(EditFault::Full)) => Carried::Full,
         Err(_) => Carried::Refused,
     }
 }
@@ -173,21 +180,28 @@ fn other_commits(alloc: Global, store: &mut Untold) -> bool {
 /// A session that began at the tree and adds a group, but loses, since another one was committed meanwhile.
 fn loser(alloc: Global, store: &mut Untold) -> Option<Session> {
     let session = grown(alloc, 3, 80_000, 80_001, store)?;
-    if other_commits(alloc, store) {
-        tried(alloc, session, store, Ending::Lost)
-    } else {
-        None
+    if !other_commits(alloc, store) {
+        drop(session);
+        return None;
     }
+    tried(alloc, session, store, Ending::Lost)
+}
+
+/// What a rebase of the session comes to that lost over a tree of so many groups in this store.
+fn second_loses_in(alloc: Global, nodes: u32, store: &mut Untold) -> Option<Carried> {
+    if !has_base(alloc, nodes, store) {
+        return None;
+    }
+    let session = loser(alloc, store)?;
+    rebased(alloc, session, store)
 }
 
 /// What a rebase of the session comes to that lost over a tree of so many groups.
 fn second_loses(alloc: Global, nodes: u32) -> Option<Carried> {
     let mut store = begun(alloc, None)?;
-    if !has_base(alloc, nodes, &mut store) {
-        return None;
-    }
-    let session = loser(alloc, &mut store)?;
-    rebased(alloc, session, &mut store)
+    let carried = second_loses_in(alloc, nodes, &mut store);
+    drop(store);
+    carried
 }
 
 /// A tree has at most 65,536 nodes: where two sessions add the last one, the second isn't rebased.

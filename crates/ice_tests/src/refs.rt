@@ -7,7 +7,7 @@ use play_outcome::{RefLine, RefLines};
 use ref_file::ref_write;
 use repository::read_refs;
 use std::alloc::Global;
-use store_api::{Key, Refusal, Store, Why};
+use store_api::{Key, ObjectStore, Polite, Refusal, Why};
 
 /// The key of the branch `late`.
 fn late(alloc: Global) -> Option<Key> {
@@ -19,16 +19,24 @@ fn late(alloc: Global) -> Option<Key> {
 
 /// Whether a branch was put.
 fn puts(store: &mut Untold, key: &Key) -> bool {
-    store
-        .put_new(key, &ref_write(Id12::INITIAL), Why::Create)
-        .is_ok()
+    let put = ObjectStore::<Polite>::put_new(store, key, &ref_write(Id12::INITIAL), Why::Create);
+    put.is_ok()
+}
+
+/// Whether a branch with the key `late` was put.
+fn puts_late(alloc: Global, store: &mut Untold) -> bool {
+    let Some(key) = late(alloc) else {
+        return false;
+    };
+    let put = puts(store, &key);
+    drop(key);
+    put
 }
 
 /// A repository with the branches `late` and `main`, the first of which is dropped behind a listing.
 fn two_branches(alloc: Global) -> Option<Untold> {
-    let late_one = late(alloc)?;
     let mut store = begun(alloc, late(alloc))?;
-    let put = puts(&mut store, &late_one);
+    let put = puts_late(alloc, &mut store);
     put.then_some(store)
 }
 
@@ -40,10 +48,12 @@ fn is_main(lines: &[RefLine]) -> bool {
 }
 
 fn are_main(lines: Result<RefLines, Refusal>) -> bool {
-    match lines {
+    let are = match &lines {
         Ok(lines) => is_main(lines.as_slice()),
         Err(_) => false,
-    }
+    };
+    drop(lines);
+    are
 }
 
 /// Whether `main` alone is read.

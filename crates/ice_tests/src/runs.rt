@@ -1,169 +1,220 @@
 //! Runs over an empty store in memory that no case of `ice_faults` shows: ends that fail, and other words than `play`.
 
+use crate::untold::Untold;
 use command_words::{UsageFault, Word, words_of};
-use ice_base::{ByteSink, ByteSource, TickClock};
+use ice_base::{ByteSink, ByteSource};
 use ice_ids::Draw;
-use mem_store::MemStore;
-use play_at_once::OpenGate;
+use play_at_once::{Gate, OpenGate};
 use play_script::ScriptKind;
-use std::alloc::Global;
+use std::alloc::{AllocError, Global};
 use std::sync::Wait;
 use std::test::Fail;
 use std::thread::Threads;
-use top_call::{Status, run};
+use top_call::{Ended, Status, run};
 
-/// A run: the words behind the program's name, its input, and which reads of that and writes of its output fail.
-#[derive(Clone, Copy)]
-struct Run<'a> {
-    said: &'a [&'a str],
-    script: &'a str,
-    reads: &'a [u64],
-    writes: &'a [u64],
+/// What a run is given: the words behind the program's name, and its ends.
+#[derive(Drop)]
+pub(crate) struct Asked {
+    words: Vec<Word>,
+    input: ByteSource,
+    output: ByteSink,
 }
 
-/// The words behind the program's name.
-pub(crate) fn words(alloc: Global, said: &[&str]) -> Result<Vec<Word>, Fail> {
-    let mut texts = vec![in alloc; String::from_str(alloc, "icerepo")?]?;
+/// The program's name and these words.
+fn texts(alloc: Global, said: &[&str]) -> Result<Vec<String>, AllocError> {
+    let mut texts = Vec::new(alloc);
+    texts.push(String::from_str(alloc, "icerepo")?)?;
     for word in said {
         texts.push(String::from_str(alloc, word)?)?;
     }
-    Ok(words_of(alloc, texts.into_iter())?)
+    Ok(texts)
+}
+
+/// The words behind the program's name.
+fn words(alloc: Global, said: &[&str]) -> Result<Vec<Word>, AllocError> {
+    words_of(alloc, texts(alloc, said)?.into_iter())
+}
+
+/// An input of this text, of which these reads fail.
+fn input(alloc: Global, text: &str, reads: &[u64]) -> Result<ByteSource, AllocError> {
+    let text = text.as_bytes().to_vec(alloc)?;
+    Ok(ByteSource::new(text, reads.to_vec(alloc)?))
+}
+
+/// An empty output with room for these tests' reports, of which these writes fail.
+fn output(alloc: Global, writes: &[u64]) -> Result<ByteSink, AllocError> {
+    ByteSink::new(alloc, 10_000, writes.to_vec(alloc)?)
+}
+
+/// A run with these words behind the program's name and this input, of which these reads fail, and these writes of the output.
+fn asking(
+    alloc: Global,
+    said: &[&str],
+    script: &str,
+    reads: &[u64],
+    writes: &[u64],
+) -> Result<Asked, AllocError> {
+    let input = input(alloc, script, reads)?;
+    let output = output(alloc, writes)?;
+    let words = words(alloc, said)?;
+    Ok(Asked {
+        words,
+        input,
+        output,
+    })
+}
+
+/// A run of a script, of which nothing fails.
+pub(crate) fn script(alloc: Global, script: &str) -> Result<Asked, AllocError> {
+    asking(alloc, &["play"], script, &[], &[])
+}
+
+/// Does what is asked.
+pub(crate) fn perform<R: Threads + Wait + Sync, G: Gate + Sync>(
+    rt: &R,
+    alloc: Global,
+    draw: Draw,
+    asked: &mut Asked,
+    store: Untold,
+    gate: &G,
+) -> Ended<Untold> {
+    run(
+        rt,
+        alloc,
+        asked.words.as_slice(),
+        draw,
+        &mut asked.input,
+        store,
+        gate,
+        &mut asked.output,
+    )
+}
+
+/// What was written.
+pub(crate) fn report(alloc: Global, asked: &Asked) -> Result<String, AllocError> {
+    String::from_utf8_lossy(alloc, asked.output.written())
+}
+
+/// The status of a run over an empty store.
+fn status<R: Threads + Wait + Sync>(rt: &R, alloc: Global, asked: &mut Asked) -> Status {
+    let store = Untold::new(alloc, None);
+    let ended = perform(rt, alloc, Draw::Count, asked, store, &OpenGate);
+    let status = ended.status;
+    drop(ended);
+    status
 }
 
 /// What a run writes, and its status.
 fn ran<R: Threads + Wait + Sync>(
     rt: &R,
     alloc: Global,
-    asked: Run<'_>,
-) -> Result<(String, Status), Fail> {
-    let words = words(alloc, asked.said)?;
-    let script = asked.script.as_bytes().to_vec(alloc)?;
-    let mut input = ByteSource::new(script, asked.reads.to_vec(alloc)?);
-    let mut output = ByteSink::new(alloc, 1000, asked.writes.to_vec(alloc)?)?;
-    let store = MemStore::new(alloc, TickClock::new());
-    let ended = run(
-        rt,
-        alloc,
-        &words,
-        Draw::Count,
-        &mut input,
-        store,
-        &OpenGate,
-        &mut output,
-    );
-    let report = String::from_utf8_lossy(alloc, output.written())?;
-    Ok((report, ended.status))
+    asked: Result<Asked, AllocError>,
+) -> Result<(String, Status), AllocError> {
+    let mut asked = asked?;
+    let status = status(rt, alloc, &mut asked);
+    let report = report(alloc, &asked);
+    drop(asked);
+    Ok((report?, status))
 }
 
 /// Whether a run writes this and has this status.
 fn comes_to<R: Threads + Wait + Sync>(
     rt: &R,
     alloc: Global,
-    asked: Run<'_>,
+    asked: Result<Asked, AllocError>,
     written: &str,
     status: Status,
-) -> Result<bool, Fail> {
+) -> Result<bool, AllocError> {
     let (report, came) = ran(rt, alloc, asked)?;
     Ok(report.as_str() == written && came == status)
 }
 
-/// The smallest commit, of which nothing fails.
-const SMALLEST_COMMIT: Run<'static> = Run {
-    said: &["play"],
-    script: "task a write main 0 fail\ngroup /\ncommit first\n",
-    reads: &[],
-    writes: &[],
-};
+/// The smallest commit.
+const COMMIT: &str = "task a write main 0 fail\ngroup /\ncommit first\n";
 
 #[test]
 fn ends_that_fail(rt: HostRuntime) -> Result<(), Fail> {
-    let no_read = Run {
-        reads: &[0],
-        ..SMALLEST_COMMIT
-    };
-    let no_write = Run {
-        writes: &[0],
-        ..SMALLEST_COMMIT
-    };
-    for (asked, status) in [(no_read, Status::ReadFault), (no_write, Status::WriteFault)] {
-        assert!(rt; comes_to(&rt, rt.alloc(), asked, "", status)?, "{status}");
-    }
+    let alloc = rt.alloc();
+    let no_read = asking(alloc, &["play"], COMMIT, &[0], &[]);
+    assert!(rt; comes_to(&rt, alloc, no_read, "", Status::ReadFault)?);
+    let no_write = asking(alloc, &["play"], COMMIT, &[], &[0]);
+    assert!(rt; comes_to(&rt, alloc, no_write, "", Status::WriteFault)?);
     Ok(())
 }
+
+const REFUSED: [(&str, u32, ScriptKind); 2] = [
+    ("task a refs\n", 1, ScriptKind::Place),
+    (
+        "task a write main 0 fail\ngroup /\ngroop /b\ncommit x\n",
+        3,
+        ScriptKind::Word,
+    ),
+];
 
 /// The line that is refused, and why; the report and the number of the status alone are a case of `ice_faults`.
 #[test]
 fn refused_lines(rt: HostRuntime) -> Result<(), Fail> {
-    let cases: [(&str, u32, ScriptKind); 2] = [
-        ("task a refs\n", 1, ScriptKind::Place),
-        (
-            "task a write main 0 fail\ngroup /\ngroop /b\ncommit x\n",
-            3,
-            ScriptKind::Word,
-        ),
-    ];
-    for (script, line, kind) in cases {
-        let asked = Run {
-            script,
-            ..SMALLEST_COMMIT
+    for row in &REFUSED {
+        let asked = script(rt.alloc(), row.0);
+        let status = Status::Script {
+            line: row.1,
+            kind: row.2,
         };
-        let status = Status::Script { line, kind };
-        assert!(rt; comes_to(&rt, rt.alloc(), asked, "", status)?, "{script}");
+        assert!(rt; comes_to(&rt, rt.alloc(), asked, "", status)?, "{}", row.0);
     }
     Ok(())
 }
 
+const WRONG: [(&[&str], UsageFault); 6] = [
+    (&[], UsageFault::NoCommand),
+    (&["Play"], UsageFault::Unknown),
+    (&["pla", "--dir"], UsageFault::Unknown),
+    (&["play", ""], UsageFault::Words),
+    (&["play", "--dir"], UsageFault::Words),
+    (&["grow", "61"], UsageFault::Words),
+];
+
 #[test]
 fn wrong_words(rt: HostRuntime) -> Result<(), Fail> {
-    let cases: [(&[&str], UsageFault); 6] = [
-        (&[], UsageFault::NoCommand),
-        (&["Play"], UsageFault::Unknown),
-        (&["pla", "--dir"], UsageFault::Unknown),
-        (&["play", ""], UsageFault::Words),
-        (&["play", "--dir"], UsageFault::Words),
-        (&["grow", "61"], UsageFault::Words),
-    ];
-    for (said, fault) in cases {
-        let asked = Run {
-            said,
-            ..SMALLEST_COMMIT
-        };
-        assert!(rt; comes_to(&rt, rt.alloc(), asked, "", Status::Usage(fault))?);
+    for row in &WRONG {
+        let asked = asking(rt.alloc(), row.0, COMMIT, &[], &[]);
+        let status = Status::Usage(row.1);
+        assert!(rt; comes_to(&rt, rt.alloc(), asked, "", status)?);
     }
     Ok(())
 }
+
+const OTHER: [(&[&str], &str); 2] = [
+    (&["grow", "1"], "tasks 2 committed 2 refused 0 events 16\n"),
+    (&["--version"], "icerepo 0.1.0\n"),
+];
 
 /// What `grow` and `--version` print, and that neither reads its input.
 #[test]
 fn other_commands(rt: HostRuntime) -> Result<(), Fail> {
-    let cases: [(&[&str], &str); 2] = [
-        (&["grow", "1"], "tasks 2 committed 2 refused 0 events 16\n"),
-        (&["--version"], "icerepo 0.1.0\n"),
-    ];
-    for (said, want) in cases {
-        let asked = Run {
-            said,
-            script: "",
-            reads: &[0],
-            writes: &[],
-        };
+    for row in &OTHER {
+        let asked = asking(rt.alloc(), row.0, "", &[0], &[]);
         assert!(rt;
-            comes_to(&rt, rt.alloc(), asked, want, Status::Ok)?,
-            "{want}"
+            comes_to(&rt, rt.alloc(), asked, row.1, Status::Ok)?,
+            "{}",
+            row.1
         );
     }
     Ok(())
 }
 
+fn grown(alloc: Global) -> Result<Asked, AllocError> {
+    asking(alloc, &["grow", "60"], COMMIT, &[], &[])
+}
+
 /// `grow 60` prints the same line each time.
 #[test]
 fn grown_runs_agree(rt: HostRuntime) -> Result<(), Fail> {
-    let asked = Run {
-        said: &["grow", "60"],
-        ..SMALLEST_COMMIT
-    };
-    let (first, status) = ran(&rt, rt.alloc(), asked)?;
+    let alloc = rt.alloc();
+    let (first, status) = ran(&rt, alloc, grown(alloc))?;
+    let again = comes_to(&rt, alloc, grown(alloc), first.as_str(), Status::Ok);
     assert_eq!(rt; status, Status::Ok, "{first}");
-    assert!(rt; comes_to(&rt, rt.alloc(), asked, first.as_str(), Status::Ok)?);
+    drop(first);
+    assert!(rt; again?);
     Ok(())
 }

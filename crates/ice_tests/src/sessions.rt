@@ -1,22 +1,27 @@
 //! Sessions whose ids run out.
 
-use crate::untold::{begun, opened};
+use crate::untold::{begun, opened, went};
 use ice_ids::{AnyIds, CountIds, Id8};
 use session::Session;
 use std::alloc::Global;
 use store_api::Refusal;
 use zarr_path::Path;
+use zarr_tree::EditFault;
 
 const GROUP: &[u8] = br#"{"zarr_format":3,"node_type":"group"}"#;
 
 /// A session to write on `main` of an empty repository, if it was opened.
 fn with_ids(alloc: Global, ids: AnyIds) -> Option<Session> {
     let mut store = begun(alloc, None)?;
-    opened(alloc, ids, &mut store)
+    let session = opened(alloc, ids, &mut store);
+    drop(store);
+    session
 }
 
 fn is_spent(added: Result<Id8, Refusal>) -> bool {
-    matches!(added, Err(Refusal::IdsSpent))
+    let is = matches!(&added, Err(Refusal::IdsSpent));
+    drop(added);
+    is
 }
 
 /// Whether a group is refused for want of an id, and there is none.
@@ -25,25 +30,33 @@ fn is_refused(session: &mut Session, path: &Path) -> bool {
 }
 
 fn is_absent(session: &Session, path: &Path) -> bool {
-    matches!(session.get_meta(path), Err(Refusal::NoNode))
+    let meta = session.get_meta(path);
+    let is = matches!(&meta, Err(Refusal::Edit(EditFault::NoNode)));
+    drop(meta);
+    is
 }
 
 /// Whether the root is added and found, and a group beneath it is refused.
 fn takes_one(session: &mut Session, root: &Path, beneath: &Path) -> bool {
-    session.add_group(root, GROUP).is_ok()
+    went(session.add_group(root, GROUP))
         && is_refused(session, beneath)
-        && session.get_meta(root).is_ok()
+        && went(session.get_meta(root))
+}
+
+/// Whether a session takes its last id for the first group, and refuses the second one.
+fn takes_the_last(alloc: Global, session: &mut Session) -> Option<bool> {
+    let root = Path::read(alloc, "/").ok()?;
+    let beneath = Path::read(alloc, "/a").ok()?;
+    Some(takes_one(session, &root, &beneath))
 }
 
 /// Whether a session with one id left takes it for the first group, and refuses the second one.
 fn took_the_last(alloc: Global) -> Option<bool> {
     let ids = AnyIds::Count(CountIds::at(1, 4_294_967_294));
-    let root = Path::read(alloc, "/").ok()?;
-    let beneath = Path::read(alloc, "/a").ok()?;
     let mut session = with_ids(alloc, ids)?;
-    let took = takes_one(&mut session, &root, &beneath);
+    let took = takes_the_last(alloc, &mut session);
     drop(session);
-    Some(took)
+    took
 }
 
 /// One id is left: the first group takes it, and the second one is refused.

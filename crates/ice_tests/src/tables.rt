@@ -1,9 +1,9 @@
 //! Tables in tables, as no file has them.
 
-ghost use Rattle.std.specs.Prelude.{IfOk, IsTrue};
+ghost use Rattle.std.specs.Prelude.{◌≤◌, IfOk, IsTrue};
 ghost use Rattle.flat_tables.specs.Trees.{is_writable, is_writable_slot};
 
-use flat_tables::{Flat, FlatFault, Slot, Table, flat_write};
+use flat_tables::{Flat, FlatFault, Slot, Table, Vector, flat_write};
 use std::alloc::{AllocError, Global};
 use std::test::Fail;
 
@@ -64,17 +64,23 @@ fn has_number(root: &Table<'_>) -> Result<bool, FlatFault> {
     }
 }
 
+/// Whether a vector has the offsets of the two tables.
+fn has_offsets(vector: &Vector<'_>) -> bool
+    requires { 1 ≤ vector.now.count }
+{
+    vector.item(0) == [20, 0, 0, 0].as_slice()
+        && vector.all() == [20, 0, 0, 0, 40, 0, 0, 0].as_slice()
+}
+
 /// Whether the vector of a root has the two tables, the first of which has the text.
 fn has_tables(root: &Table<'_>) -> Result<bool, FlatFault> {
     let Some(vector) = root.vector(1, 4)? else {
         return Ok(false);
     };
-    Ok(
-        vector.len() == 2
-            && vector.item(0) == [20, 0, 0, 0].as_slice()
-            && vector.all() == [20, 0, 0, 0, 40, 0, 0, 0].as_slice()
-            && vector.table_at(0)?.text(0)? == Some("a"),
-    )
+    if vector.len() != 2 || !has_offsets(&vector) {
+        return Ok(false);
+    }
+    Ok(vector.table_at(0)?.text(0)? == Some("a"))
 }
 
 #[test]

@@ -12,8 +12,8 @@ use repository::begin;
 use session::{Open, Session};
 use std::alloc::Global;
 use store_api::{
-    Base, Counting, Gone, GoneAt, Got, Key, Listed, New, Over, Part, Store, StoreFault, Version,
-    Why, run_machine,
+    CountingStore, Gone, GoneAt, Got, Key, Listed, New, ObjectStore, Over, Part, Refusal, Rule,
+    StoreFault, Version, Viewed, WholeStore, Why, run_machine,
 };
 
 /// A store in memory that tells nothing of its journal, so that a call over it asks nothing of what was done before. Behind
@@ -39,15 +39,17 @@ impl Untold {
     }
 }
 
-impl Store for Untold {
+impl Viewed for Untold {
     ghost view = { λ s. record { caller = record (sole (client_of s.memory)) { tells = false }; seen = []; faults = 0 } };
+}
 
+impl<R: Rule> ObjectStore<R> for Untold {
     fn get(&mut self, key: &Key) -> Result<Got, StoreFault> {
-        self.memory.get(key)
+        ObjectStore::<R>::get(&mut self.memory, key)
     }
 
     fn put_new(&mut self, key: &Key, bytes: &[u8], why: Why) -> Result<New, StoreFault> {
-        self.memory.put_new(key, bytes, why)
+        ObjectStore::<R>::put_new(&mut self.memory, key, bytes, why)
     }
 
     fn put_over(
@@ -57,27 +59,27 @@ impl Store for Untold {
         old: Version,
         why: Why,
     ) -> Result<Over, StoreFault> {
-        self.memory.put_over(key, bytes, old, why)
+        ObjectStore::<R>::put_over(&mut self.memory, key, bytes, old, why)
     }
 
     fn remove(&mut self, key: &Key, why: Why) -> Result<Gone, StoreFault> {
-        self.memory.remove(key, why)
+        ObjectStore::<R>::remove(&mut self.memory, key, why)
     }
 
     fn remove_at(&mut self, key: &Key, old: Version, why: Why) -> Result<GoneAt, StoreFault> {
-        self.memory.remove_at(key, old, why)
+        ObjectStore::<R>::remove_at(&mut self.memory, key, old, why)
     }
 
     fn list(&mut self, part: Part) -> Result<Listed, StoreFault> {
-        let listed = self.memory.list(part);
+        let listed = ObjectStore::<R>::list(&mut self.memory, part);
         if let Some(late) = &self.late {
-            let _ = self.memory.remove(late, Why::Drop);
+            let _ = ObjectStore::<R>::remove(&mut self.memory, late, Why::Drop);
         }
         listed
     }
 }
 
-impl Base for Untold {
+impl WholeStore for Untold {
     ghost tells = { false };
 
     fn set_client(&mut self, client: u32) {
@@ -89,16 +91,23 @@ impl Base for Untold {
     ghost alone = { λ s. record { low = refl; end = refl } };
 }
 
-impl Counting for Untold {
+impl CountingStore for Untold {
     fn operations(&self) -> u64 {
         self.memory.number_of_events() as u64
     }
 }
 
+/// Whether a call wasn't refused.
+pub fn went<T: Drop>(done: Result<T, Refusal>) -> bool {
+    let went = done.is_ok();
+    drop(done);
+    went
+}
+
 /// Such a store with a repository in it, if one was begun.
 pub fn begun(alloc: Global, late: Option<Key>) -> Option<Untold> {
     let mut store = Untold::new(alloc, late);
-    let begun = begin(alloc, &mut store).is_ok();
+    let begun = went(begin(alloc, &mut store));
     begun.then_some(store)
 }
 

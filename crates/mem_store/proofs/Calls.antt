@@ -1,14 +1,15 @@
 -- What an operation of a store in memory does is what the trait of a store asks.
-use Rattle.std.proofs.Common.{◌≡◌, ℕ, ◌≤◌, [], ◌∷◌, ◌++◌, length, Bool, sym, ◌∙◌, ap, subst, arith}
+use Rattle.std.proofs.Common.{List, ◌≡◌, ℕ, ◌≤◌, [], ◌∷◌, ◌++◌, length, Bool, sym, ◌∙◌, ap, subst, arith}
 use Rattle.std.specs.Prelude.{Result, Ok, Err, IfOk, IsOk}
-use Rattle.store_api.specs.declared.events.Op.{Op}
-use Rattle.store_api.specs.declared.events.Reply.{Reply}
-use Rattle.store_api.specs.declared.events.Reply.TheVariants.{Got, New, Over, Gone, GoneAt, Listed, Failed as Reply_failed}
-use Rattle.store_api.specs.declared.events.StoreFault.{StoreFault}
-use Rattle.store_api.specs.declared.events.StoreFault.TheVariants.{Failed, NoMemory}
-use Rattle.store_api.specs.Machine.{found, last_time, IsHonest, UnlessFailed}
-use Rattle.store_api.specs.Callers.{Makes, Called, own_event}
-use Rattle.store_api.proofs.Programs.{Waits-same, Makes-alone}
+use Rattle.object_store.specs.declared.events.Op.{Op}
+use Rattle.object_store.specs.declared.events.Reply.{Reply}
+use Rattle.object_store.specs.declared.events.Reply.TheVariants.{Got, New, Over, Gone, GoneAt, Listed, Failed as Reply_failed}
+use Rattle.object_store.specs.declared.events.StoreFault.{StoreFault}
+use Rattle.object_store.specs.declared.events.StoreFault.TheVariants.{Failed, NoMemory}
+use Rattle.object_store.specs.Machine.{found, last_time, IsHonest, UnlessFailed}
+use Rattle.object_store.specs.declared.events.Event.{Event}
+use Rattle.object_store.specs.Callers.{Makes, Called, own_event}
+use Rattle.object_store.proofs.Waits.{Waits-same, Makes-alone}
 use Rattle.mem_store.specs.declared.mem.MemStore.{MemStore}
 use Rattle.mem_store.specs.Memory.{sole, journal_of, client_of, view_of, Adds, Answers, IsLogged, Exactly, Fails}
 use Rattle.mem_store.specs.Failing.{MadeFail}
@@ -24,36 +25,36 @@ unless-holds P (Gone g) p = p
 unless-holds P (GoneAt g) p = p
 unless-holds P (Listed l) p = p
 
-pub Makes-adds : {C : Type 0} (gives : C → ℕ → C → Type 0) (op : Op) (reply : Reply) (old new : MemStore C) (a : Adds gives op reply old new) → UnlessFailed (IsHonest (found (journal_of old)) (length (journal_of old)) a.time op) reply → Makes (sole (client_of old)) op reply (journal_of old) (journal_of new)
-Makes-adds gives op reply old new a honest =
+pub Makes-adds : {C : Type 0} (may : List Event → Op → Type 0) (gives : C → ℕ → C → Type 0) (op : Op) (reply : Reply) (old new : MemStore C) (a : Adds gives op reply old new) → UnlessFailed (IsHonest (found (journal_of old)) (length (journal_of old)) a.time op) reply → Makes may (sole (client_of old)) op reply (journal_of old) (journal_of new)
+Makes-adds may gives op reply old new a honest =
     let later : last_time (journal_of old) ≤ a.time = omega (arith, a.timely.is) in
-    Makes-alone (sole (client_of old)) op reply a.time (journal_of old) (journal_of new) (record { later = later; fits = a.fits; answered = honest }) a.is
+    Makes-alone may (sole (client_of old)) op reply a.time (journal_of old) (journal_of new) (record { later = later; fits = a.fits; answered = honest }) a.is
 
 pub same_caller : (a b : ℕ) → a ≡ b → sole a ≡ sole b
 same_caller a b e = ap (λ (n : ℕ). sole n) e
 
-pub Called-exactly : {C A : Type 0} (gives : C → ℕ → C → Type 0) (reply : A → Reply) (op : Op) (result : Result A StoreFault) (old new : MemStore C) → Exactly gives reply op result old new → Called reply op result (view_of old) (view_of new)
-Called-exactly gives reply op (Ok a) old new x = record {
+pub Called-exactly : {C A : Type 0} (may : List Event → Op → Type 0) (gives : C → ℕ → C → Type 0) (reply : A → Reply) (op : Op) (result : Result A StoreFault) (old new : MemStore C) → Exactly gives reply op result old new → Called may reply op result (view_of old) (view_of new)
+Called-exactly may gives reply op (Ok a) old new x = record {
   same = same_caller (client_of new) (client_of old) x.adds.same;
-  did = λ t. Makes-adds gives op (reply a) old new x.adds (unless-holds (IsHonest (found (journal_of old)) (length (journal_of old)) x.adds.time op) (reply a) x.honest);
+  did = λ t. Makes-adds may gives op (reply a) old new x.adds (unless-holds (IsHonest (found (journal_of old)) (length (journal_of old)) x.adds.time op) (reply a) x.honest);
   counted = omega arith;
 }
-Called-exactly gives reply op (Err Failed) old new x = absurd x
-Called-exactly gives reply op (Err NoMemory) old new x = record {
+Called-exactly may gives reply op (Err Failed) old new x = absurd x
+Called-exactly may gives reply op (Err NoMemory) old new x = record {
   same = same_caller (client_of new) (client_of old) x.client;
-  did = λ t. Waits-same (sole (client_of old)) (journal_of old) (journal_of new) x.journal;
+  did = λ t. Waits-same may (sole (client_of old)) (journal_of old) (journal_of new) x.journal;
   counted = omega arith;
 }
 
-pub MadeFail-fails : {C : Type 0} (gives : C → ℕ → C → Type 0) (done : Bool) (op : Op) (fault : StoreFault) (old new : MemStore C) → Fails gives done op fault old new → MadeFail done op fault (view_of old) (view_of new)
-MadeFail-fails gives done op Failed old new x = record {
+pub MadeFail-fails : {C : Type 0} (may : List Event → Op → Type 0) (gives : C → ℕ → C → Type 0) (done : Bool) (op : Op) (fault : StoreFault) (old new : MemStore C) → Fails gives done op fault old new → MadeFail may done op fault (view_of old) (view_of new)
+MadeFail-fails may gives done op Failed old new x = record {
   same = same_caller (client_of new) (client_of old) x.same;
-  did = Makes-adds gives op (Reply_failed done) old new x tt;
+  did = Makes-adds may gives op (Reply_failed done) old new x tt;
   counted = omega arith;
 }
-MadeFail-fails gives done op NoMemory old new x = record {
+MadeFail-fails may gives done op NoMemory old new x = record {
   same = same_caller (client_of new) (client_of old) x.client;
-  did = Waits-same (sole (client_of old)) (journal_of old) (journal_of new) x.journal;
+  did = Waits-same may (sole (client_of old)) (journal_of old) (journal_of new) x.journal;
   counted = omega arith;
 }
 

@@ -1,12 +1,12 @@
 -- What stands after one more event is seen from what stood alone.
 use Rattle.std.proofs.Common.{◌≡◌, ℕ, Bool, true, false, cond, [], refl, ap}
 use Rattle.std.specs.Prelude.{Option, Some, None, option_map, ◌==◌}
-use Rattle.store_api.specs.declared.keys.Key.{Key}
-use Rattle.store_api.specs.declared.events.Op.{Op}
-use Rattle.store_api.specs.declared.events.Op.TheVariants.{Get, PutNew, PutOver, Remove, RemoveAt, List as ListPart}
-use Rattle.store_api.specs.declared.events.Event.{Event}
-use Rattle.store_api.specs.Machine.{Stored, Slot, is_on, was_done, where_free, where_old, leaves, effect, found, got_of}
-use Rattle.store_api.proofs.Slots.{slot-none}
+use Rattle.object_store.specs.declared.keys.Key.{Key}
+use Rattle.object_store.specs.declared.events.Op.{Op}
+use Rattle.object_store.specs.declared.events.Op.TheVariants.{Get, PutNew, PutOver, Remove, RemoveAt, List as ListPart}
+use Rattle.object_store.specs.declared.events.Event.{Event}
+use Rattle.object_store.specs.Machine.{Stored, Slot, is_on, was_done, where_free, where_old, leaves, effect, found, got_of}
+use Rattle.object_store.proofs.Slots.{slot-none}
 use Rattle.mem_store.specs.Held.{slot_with, copy_of, got_from}
 
 free-stands : (o : Option Stored) (a b s t : Slot) → a.stands ≡ b.stands → s.stands ≡ t.stands → (where_free o a s).stands ≡ (where_free o b t).stands

@@ -7,12 +7,12 @@ use Rattle.std.specs.Ordering.{is_eq, nat_cmp, ordering_then}
 use Rattle.std.proofs.lemmas.Bool.{cases_eq, cases_lt}
 use Rattle.std.proofs.lemmas.List.{get_or-set_same, get_or-set_other}
 use Rattle.std.proofs.lemmas.Option.{slice_get-get_or, slice_get_past, slice_get_within}
-use Rattle.store_api.specs.declared.keys.Key.{Key}
-use Rattle.store_api.specs.declared.keys.Part.{Part}
-use Rattle.store_api.specs.Machine.{part_of, same_key, listing_cmp}
-use Rattle.store_api.specs.Orders.{place_of, key_cmp}
+use Rattle.object_store.specs.declared.keys.Key.{Key}
+use Rattle.object_store.specs.declared.keys.Part.{Part}
+use Rattle.object_store.specs.Machine.{part_of, same_key, listing_cmp}
+use Rattle.object_store.specs.Orders.{place_of, key_cmp}
 use Rattle.mem_store.specs.Shelves.{shelf_at, place_on, place_at, IsSorted}
-use Rattle.store_api.proofs.Ties.{same-tie}
+use Rattle.object_store.proofs.Ties.{same-tie}
 
 set-here : {X : Type 0} (xs : List X) (i : ℕ) (x : X) → i < length xs → slice_get (set xs i x) i ≡ Some x
 set-here {X} xs i x l =

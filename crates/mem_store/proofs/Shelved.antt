@@ -7,15 +7,15 @@ use Rattle.std.proofs.lemmas.Bool.{cases_eq}
 use Rattle.std.proofs.lemmas.Map.Entries.{place_from_lookup, btree_map_get_place}
 use Rattle.std.proofs.lemmas.Map.Keys.{Less-from_sorted}
 use Rattle.std.proofs.lemmas.Option.{slice_get-map, slice_get_within, get_or_from_slice_get}
-use Rattle.store_api.specs.declared.keys.Key.{Key}
-use Rattle.store_api.specs.declared.keys.Part.{Part}
-use Rattle.store_api.specs.declared.keys.Part.TheVariants.{Snapshots, Manifests, Txns, Chunks, Branches, Tags}
-use Rattle.store_api.specs.declared.events.Entry.{Entry}
-use Rattle.store_api.specs.declared.events.Event.{Event}
-use Rattle.store_api.specs.Machine.{Stored, found, part_of, listing_cmp, IsEntry, HasEntry, IsListing}
-use Rattle.store_api.specs.Orders.{place_of, key_cmp, key_total}
-use Rattle.store_api.proofs.Slots.{same_key-true}
-use Rattle.store_api.proofs.Ties.{same-tie, within-part, mapped}
+use Rattle.object_store.specs.declared.keys.Key.{Key}
+use Rattle.object_store.specs.declared.keys.Part.{Part}
+use Rattle.object_store.specs.declared.keys.Part.TheVariants.{Snapshots, Manifests, Txns, Chunks, Branches, Tags, Leases}
+use Rattle.object_store.specs.declared.events.Entry.{Entry}
+use Rattle.object_store.specs.declared.events.Event.{Event}
+use Rattle.object_store.specs.Machine.{Stored, found, part_of, listing_cmp, IsEntry, HasEntry, IsListing}
+use Rattle.object_store.specs.Orders.{place_of, key_cmp, key_total}
+use Rattle.object_store.proofs.Slots.{same_key-true}
+use Rattle.object_store.proofs.Ties.{same-tie, within-part, mapped}
 use Rattle.mem_store.specs.Shelves.{shelf_at, place_on, place_at, IsSorted}
 use Rattle.mem_store.specs.Logs.{put_in, puts_in}
 use Rattle.mem_store.specs.Listed.{entry_in, entries_in}
@@ -27,6 +27,7 @@ part-same Txns Txns e = refl
 part-same Chunks Chunks e = refl
 part-same Branches Branches e = refl
 part-same Tags Tags e = refl
+part-same Leases Leases e = refl
 part-same _ _ e = absurd (omega (arith, e))
 
 -- the map of a part in an index that tells what stands after a journal

@@ -1,8 +1,8 @@
 -- The time of a journal's last event.
 use Rattle.std.proofs.Common.{◌≡◌, ℕ, zero, suc, ◌-◌, List, [], ◌∷◌, length, arith}
 use Rattle.std.specs.Prelude.{Some, slice_get}
-use Rattle.store_api.specs.declared.events.Event.{Event}
-use Rattle.store_api.specs.Machine.{time_after, last_time}
+use Rattle.object_store.specs.declared.events.Event.{Event}
+use Rattle.object_store.specs.Machine.{time_after, last_time}
 
 time-at : (time : ℕ) (xs : List Event) (k : ℕ) (x : Event) → suc k ≡ length xs → slice_get xs k ≡ Some x → time_after time xs ≡ x.time
 time-at time [] k x len is = absurd (omega (arith, len))

@@ -4,8 +4,8 @@ use Rattle.std.specs.Prelude.{Option, Some, None, slice_get}
 use Rattle.std.proofs.lemmas.List.{get_or_append_left}
 use Rattle.std.proofs.Math.Seq.{get_or-append_seam}
 use Rattle.std.proofs.lemmas.Option.{slice_get-get_or, slice_get_past, slice_get_within}
-use Rattle.store_api.specs.declared.events.Event.{Event}
-use Rattle.store_api.specs.Machine.{Stored, last_time}
+use Rattle.object_store.specs.declared.events.Event.{Event}
+use Rattle.object_store.specs.Machine.{Stored, last_time}
 use Rattle.mem_store.specs.declared.logs.Logged.{Logged}
 use Rattle.mem_store.specs.Logs.{bytes_put, put_by, put_in, event_in, told_after, told}
 use Rattle.mem_store.proofs.Times.{time-last}

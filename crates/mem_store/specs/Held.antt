@@ -1,8 +1,8 @@
 -- What a put put, as the code holds it.
 use Rattle.std.specs.Prelude.{ℕ, Option, None, Some}
-use Rattle.store_api.specs.declared.events.Got.{Got}
-use Rattle.store_api.specs.declared.events.Got.TheVariants.{Found, Absent}
-use Rattle.store_api.specs.Machine.{Stored, Slot, version_at}
+use Rattle.object_store.specs.declared.events.Got.{Got}
+use Rattle.object_store.specs.declared.events.Got.TheVariants.{Found, Absent}
+use Rattle.object_store.specs.Machine.{Stored, Slot, version_at}
 use Rattle.mem_store.specs.declared.answers.Held.{Held}
 use Rattle.mem_store.specs.declared.answers.Content.{Content}
 
@@ -11,7 +11,7 @@ stored_of s = record { bytes = s.bytes.now; version = s.version; created = s.cre
 
 -- a key at which this stands
 abbrev pub slot_with : Option Stored → Slot
-slot_with at = record { first = None; last = None; stands = at }
+slot_with at = record { first = None; born = None; last = None; stands = at }
 
 abbrev pub copy_of : Stored → Content
 copy_of s = record { bytes = s.bytes; version = version_at s.version }

@@ -1,8 +1,8 @@
 -- The journal and its index, as the code keeps them.
 use Rattle.std.specs.Prelude.{◌≡◌, List}
-use Rattle.store_api.specs.declared.keys.Key.{Key}
-use Rattle.store_api.specs.declared.events.Event.{Event}
-use Rattle.store_api.specs.Machine.{found}
+use Rattle.object_store.specs.declared.keys.Key.{Key}
+use Rattle.object_store.specs.declared.events.Event.{Event}
+use Rattle.object_store.specs.Machine.{found}
 use Rattle.mem_store.specs.declared.journal.Journal.TheInside.{Inside}
 use Rattle.mem_store.specs.Places.{place_in}
 use Rattle.mem_store.specs.Logs.{puts_in, told}

@@ -1,13 +1,13 @@
 -- Events and operations that are lent, as the events and operations that they are.
-use Rattle.store_api.specs.declared.events.Got.TheVariants.{Found as Got_found, Absent as Got_absent}
-use Rattle.store_api.specs.declared.events.Reply.{Reply}
-use Rattle.store_api.specs.declared.events.Reply.TheVariants.{Got as Is_got, New as Is_new, Over as Is_over, Gone as Is_gone, GoneAt as Is_gone_at, Listed as Is_listed, Failed as Is_failed}
-use Rattle.store_api.specs.declared.events.Event.{Event}
+use Rattle.object_store.specs.declared.events.Got.TheVariants.{Found as Got_found, Absent as Got_absent}
+use Rattle.object_store.specs.declared.events.Reply.{Reply}
+use Rattle.object_store.specs.declared.events.Reply.TheVariants.{Got as Is_got, New as Is_new, Over as Is_over, Gone as Is_gone, GoneAt as Is_gone_at, Listed as Is_listed, Failed as Is_failed}
+use Rattle.object_store.specs.declared.events.Event.{Event}
 use Rattle.mem_store.specs.declared.events.ReplyRef.{ReplyRef}
 use Rattle.mem_store.specs.declared.events.ReplyRef.TheVariants.{Found, Absent, New, Over, Gone, GoneAt, Listed, Failed}
 use Rattle.mem_store.specs.declared.events.EventRef.{EventRef}
-use Rattle.store_api.specs.declared.events.Op.{Op}
-use Rattle.store_api.specs.declared.events.Op.TheVariants as Made
+use Rattle.object_store.specs.declared.events.Op.{Op}
+use Rattle.object_store.specs.declared.events.Op.TheVariants as Made
 use Rattle.mem_store.specs.declared.requests.OpRef.{OpRef}
 use Rattle.mem_store.specs.declared.requests.OpRef.TheVariants as Asked
 

@@ -1,8 +1,8 @@
 -- Listings of what the index has.
 use Rattle.std.specs.Prelude.{ℕ, List, length, map}
-use Rattle.store_api.specs.declared.keys.Key.{Key}
-use Rattle.store_api.specs.declared.events.Event.{Event}
-use Rattle.store_api.specs.declared.events.Entry.{Entry}
+use Rattle.object_store.specs.declared.keys.Key.{Key}
+use Rattle.object_store.specs.declared.events.Event.{Event}
+use Rattle.object_store.specs.declared.events.Entry.{Entry}
 use Rattle.mem_store.specs.Logs.{put_in}
 
 -- the entry of a key and of the put that stands there

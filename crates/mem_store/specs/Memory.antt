@@ -1,13 +1,13 @@
 -- The store in memory, and what an operation of it does (own).
 use Rattle.std.specs.Prelude.{◌≡◌, ℕ, ◌<◌, ◌^◌, List, [], ◌∷◌, ◌++◌, length, Bool, true, None, Result, Ok, Err}
-use Rattle.store_api.specs.declared.events.Op.{Op}
-use Rattle.store_api.specs.declared.events.Reply.{Reply}
-use Rattle.store_api.specs.declared.events.Reply.TheVariants.{Failed as Reply_failed}
-use Rattle.store_api.specs.declared.events.Event.{Event}
-use Rattle.store_api.specs.declared.events.StoreFault.{StoreFault}
-use Rattle.store_api.specs.declared.events.StoreFault.TheVariants.{Failed, NoMemory}
-use Rattle.store_api.specs.Machine.{found, last_time, IsHonest}
-use Rattle.store_api.specs.Callers.{Caller, View, own_event, as_client}
+use Rattle.object_store.specs.declared.events.Op.{Op}
+use Rattle.object_store.specs.declared.events.Reply.{Reply}
+use Rattle.object_store.specs.declared.events.Reply.TheVariants.{Failed as Reply_failed}
+use Rattle.object_store.specs.declared.events.Event.{Event}
+use Rattle.object_store.specs.declared.events.StoreFault.{StoreFault}
+use Rattle.object_store.specs.declared.events.StoreFault.TheVariants.{Failed, NoMemory}
+use Rattle.object_store.specs.Machine.{found, last_time, IsHonest}
+use Rattle.object_store.specs.Callers.{Caller, View, own_event, as_client}
 use Rattle.mem_store.specs.declared.mem.MemStore.{MemStore}
 use Rattle.mem_store.specs.declared.logs.Answer.{Answer}
 use Rattle.mem_store.specs.Times.{IsTime}

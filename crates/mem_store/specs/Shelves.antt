@@ -2,10 +2,10 @@
 use Rattle.std.specs.Prelude.{◌≡◌, ◌≢◌, ℕ, List, Option, None, slice_get}
 use Rattle.std.specs.Option.{option_and_then}
 use Rattle.std.specs.BTreeMap.{BTreeMap, get}
-use Rattle.store_api.specs.declared.keys.Key.{Key}
-use Rattle.store_api.specs.declared.keys.Part.{Part}
-use Rattle.store_api.specs.Machine.{part_of}
-use Rattle.store_api.specs.Orders.{place_of, key_cmp}
+use Rattle.object_store.specs.declared.keys.Key.{Key}
+use Rattle.object_store.specs.declared.keys.Part.{Part}
+use Rattle.object_store.specs.Machine.{part_of}
+use Rattle.object_store.specs.Orders.{place_of, key_cmp}
 
 -- the map of a part
 abbrev pub shelf_at : List (BTreeMap Key ℕ) → Part → Option (BTreeMap Key ℕ)

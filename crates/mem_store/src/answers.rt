@@ -1,13 +1,13 @@
 //! What operations answer of what stands at a key.
 
 ghost use Rattle.std.specs.Prelude.{◌≡◌, List};
-ghost use Rattle.store_api.specs.declared.events.Event.{Event};
-ghost use Rattle.store_api.specs.Machine.{new_of, over_of, gone_of, gone_at_of};
+ghost use Rattle.object_store.specs.declared.events.Event.{Event};
+ghost use Rattle.object_store.specs.Machine.{new_of, over_of, gone_of, gone_at_of};
 ghost use Rattle.mem_store.specs.Held.{got_from};
 ghost use Rattle.mem_store.specs.Logs.{puts_in};
 
 use ice_base::Bytes;
-use store_api::{Gone, GoneAt, Got, New, Over, Version};
+use object_store::{Gone, GoneAt, Got, New, Over, Version};
 
 /// What a put put: the bytes, the position of the put in the journal, and its time.
 #[derive(Clone, Copy, Debug)]

@@ -1,16 +1,16 @@
 //! How many operations were made on a store in memory.
 
-use crate::{Failing, FaultStore, MemStore};
+use crate::{FaultStore, MemStore, Telling};
 use ice_base::Clock;
-use store_api::Counting;
+use object_store::CountingStore;
 
-impl<C: Clock> Counting for MemStore<C> {
+impl<C: Clock> CountingStore for MemStore<C> {
     fn operations(&self) -> u64 {
         self.number_of_events() as u64
     }
 }
 
-impl<S: Failing> Counting for FaultStore<S> {
+impl<S: Telling> CountingStore for FaultStore<S> {
     fn operations(&self) -> u64 {
         self.events() as u64
     }

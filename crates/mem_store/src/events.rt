@@ -1,6 +1,6 @@
 //! Events of a journal, lent.
 
-use store_api::{Entry, Gone, GoneAt, New, Op, Over, Version};
+use object_store::{Entry, Gone, GoneAt, New, Op, Over, Version};
 
 /// What an operation answered.
 #[derive(Clone, Copy, Debug)]

@@ -1,24 +1,29 @@
 //! Stores that fail planned calls.
 
-use crate::faulty::Failing;
+ghost use Rattle.std.specs.Prelude.{◌≡◌, false, IfOk};
+ghost use Rattle.object_store.specs.Callers.{Called, Fits, has_failed};
+ghost use Rattle.mem_store.specs.Lent.{op_lent};
+ghost use Rattle.mem_store.specs.Failing.{faulty_view, GoesByPlan};
+
+use crate::faulty::{Failing, Telling};
 use crate::plans::planned;
 use crate::requests::OpRef;
-use std::marker::Model;
-use store_api::{
-    Base, Gone, GoneAt, Got, Key, Listed, New, Op, Over, Part, Reply, Store, StoreFault, Version,
-    Why,
+use object_store::{
+    Gone, GoneAt, Got, Key, Listed, New, ObjectStore, Op, Over, Part, Reply, Rule, StoreFault,
+    Version, Viewed, WholeStore, Why,
 };
+use std::marker::Model;
 
 /// A store that fails the planned calls of the one beneath. A call's number is that of the events since the store's
 /// making, and its flag says whether the operation is done first. Where a number is planned twice, the first counts.
 #[derive(Debug, Drop)]
-pub struct FaultStore<S: Failing> {
+pub struct FaultStore<S: Telling> {
     inner: S,
     plan: Vec<(u64, bool)>,
     made_at: usize,
 }
 
-impl<S: Failing> Model for FaultStore<S> {
+impl<S: Telling> Model for FaultStore<S> {
     ghost use Rattle.std.specs.Prelude.{◌≤◌, length};
     ghost use Rattle.mem_store.specs.Failing.{ByPlan};
 
@@ -29,10 +34,10 @@ impl<S: Failing> Model for FaultStore<S> {
     ghost invariant = { λ s. s.made_at ≤ length (S.view s.inner).seen };
 }
 
-impl<S: Failing> FaultStore<S> {
+impl<S: Telling> FaultStore<S> {
     ghost use Rattle.std.specs.Prelude.{◌≡◌, [], false, length, IfOk};
-    ghost use Rattle.store_api.specs.Callers.{Called, Fits};
-    ghost use Rattle.store_api.specs.Driving.{has_failed};
+    ghost use Rattle.object_store.specs.Callers.{Called, Fits};
+    ghost use Rattle.object_store.specs.Callers.{has_failed};
     ghost use Rattle.mem_store.specs.Lent.{op_lent};
     ghost use Rattle.mem_store.specs.Failing.{since_making, faulty_view, planned_next, GoesByPlan};
 
@@ -64,42 +69,49 @@ impl<S: Failing> FaultStore<S> {
         let number = self.inner.events() - self.made_at;
         planned(&self.plan, number as u64)
     }
+}
 
-    /// The next operation, which fails where that is planned.
-    fn attempt(&mut self, op: &OpRef<'_>) -> Result<Reply, StoreFault>
-        ensures call { Called (λ reply. reply) (op_lent op.now) result (faulty_view S.view self.old) (faulty_view S.view self.new) }
-        ensures plan { GoesByPlan S.view S.does S.fails (op_lent op.now) result self.old self.new }
-        ensures fits { IfOk result (Fits (op_lent op.now)) }
-        ensures answered { IfOk result (λ reply. has_failed reply ≡ false) }
-    {
-        match self.planned() {
-            None => self.inner.make(op),
-            Some(done) => Err(self.inner.fail(op, done)),
-        }
+/// The next operation, which fails where that is planned.
+fn attempt<R: Rule, S: Failing<R>>(
+    store: &mut FaultStore<S>,
+    op: &OpRef<'_>,
+) -> Result<Reply, StoreFault>
+    ensures call { Called R.may (λ reply. reply) (op_lent op.now) result (faulty_view S.view store.old) (faulty_view S.view store.new) }
+    ensures plan { GoesByPlan R.may S.view S.does S.fails (op_lent op.now) result store.old store.new }
+    ensures fits { IfOk result (Fits (op_lent op.now)) }
+    ensures answered { IfOk result (λ reply. has_failed reply ≡ false) }
+{
+    match store.planned() {
+        None => store.inner.make(op),
+        Some(done) => Err(store.inner.fail(op, done)),
     }
 }
 
-impl<S: Failing> Store for FaultStore<S> {
-    ghost use Rattle.store_api.specs.Callers.{Called};
-    ghost use Rattle.mem_store.specs.Failing.{faulty_view, as_reply, GoesByPlan};
+impl<S: Telling> Viewed for FaultStore<S> {
+    ghost use Rattle.mem_store.specs.Failing.{faulty_view};
 
     ghost view = { λ s. faulty_view S.view s };
+}
+
+impl<R: Rule, S: Failing<R>> ObjectStore<R> for FaultStore<S> {
+    ghost use Rattle.object_store.specs.Callers.{Called};
+    ghost use Rattle.mem_store.specs.Failing.{faulty_view, as_reply, GoesByPlan};
 
     fn get(&mut self, key: &Key) -> Result<Got, StoreFault>
-        ensures call { Called (λ got. Reply.Got got) (Op.Get key.now) result (faulty_view S.view self.old) (faulty_view S.view self.new) }
-        ensures plan { GoesByPlan S.view S.does S.fails (Op.Get key.now) (as_reply (λ got. Reply.Got got) result) self.old self.new }
+        ensures call { Called R.may (λ got. Reply.Got got) (Op.Get key.now) result (faulty_view S.view self.old) (faulty_view S.view self.new) }
+        ensures plan { GoesByPlan R.may S.view S.does S.fails (Op.Get key.now) (as_reply (λ got. Reply.Got got) result) self.old self.new }
     {
-        match self.attempt(&OpRef::Get { key })? {
+        match attempt::<R, S>(self, &OpRef::Get { key })? {
             Reply::Got(got) => Ok(got),
             _ => unreachable!(),
         }
     }
 
     fn put_new(&mut self, key: &Key, bytes: &[u8], why: Why) -> Result<New, StoreFault>
-        ensures call { Called (λ new. Reply.New new) (Op.PutNew key.now bytes.now why) result (faulty_view S.view self.old) (faulty_view S.view self.new) }
-        ensures plan { GoesByPlan S.view S.does S.fails (Op.PutNew key.now bytes.now why) (as_reply (λ new. Reply.New new) result) self.old self.new }
+        ensures call { Called R.may (λ new. Reply.New new) (Op.PutNew key.now bytes.now why) result (faulty_view S.view self.old) (faulty_view S.view self.new) }
+        ensures plan { GoesByPlan R.may S.view S.does S.fails (Op.PutNew key.now bytes.now why) (as_reply (λ new. Reply.New new) result) self.old self.new }
     {
-        match self.attempt(&OpRef::PutNew { key, bytes, why })? {
+        match attempt::<R, S>(self, &OpRef::PutNew { key, bytes, why })? {
             Reply::New(new) => Ok(new),
             _ => unreachable!(),
         }
@@ -112,8 +124,8 @@ impl<S: Failing> Store for FaultStore<S> {
         old: Version,
         why: Why,
     ) -> Result<Over, StoreFault>
-        ensures call { Called (λ over. Reply.Over over) (Op.PutOver key.now bytes.now old why) result (faulty_view S.view self.old) (faulty_view S.view self.new) }
-        ensures plan { GoesByPlan S.view S.does S.fails (Op.PutOver key.now bytes.now old why) (as_reply (λ over. Reply.Over over) result) self.old self.new }
+        ensures call { Called R.may (λ over. Reply.Over over) (Op.PutOver key.now bytes.now old why) result (faulty_view S.view self.old) (faulty_view S.view self.new) }
+        ensures plan { GoesByPlan R.may S.view S.does S.fails (Op.PutOver key.now bytes.now old why) (as_reply (λ over. Reply.Over over) result) self.old self.new }
     {
         let op = OpRef::PutOver {
             key,
@@ -121,46 +133,46 @@ impl<S: Failing> Store for FaultStore<S> {
             old,
             why,
         };
-        match self.attempt(&op)? {
+        match attempt::<R, S>(self, &op)? {
             Reply::Over(over) => Ok(over),
             _ => unreachable!(),
         }
     }
 
     fn remove(&mut self, key: &Key, why: Why) -> Result<Gone, StoreFault>
-        ensures call { Called (λ gone. Reply.Gone gone) (Op.Remove key.now why) result (faulty_view S.view self.old) (faulty_view S.view self.new) }
-        ensures plan { GoesByPlan S.view S.does S.fails (Op.Remove key.now why) (as_reply (λ gone. Reply.Gone gone) result) self.old self.new }
+        ensures call { Called R.may (λ gone. Reply.Gone gone) (Op.Remove key.now why) result (faulty_view S.view self.old) (faulty_view S.view self.new) }
+        ensures plan { GoesByPlan R.may S.view S.does S.fails (Op.Remove key.now why) (as_reply (λ gone. Reply.Gone gone) result) self.old self.new }
     {
-        match self.attempt(&OpRef::Remove { key, why })? {
+        match attempt::<R, S>(self, &OpRef::Remove { key, why })? {
             Reply::Gone(gone) => Ok(gone),
             _ => unreachable!(),
         }
     }
 
     fn remove_at(&mut self, key: &Key, old: Version, why: Why) -> Result<GoneAt, StoreFault>
-        ensures call { Called (λ gone. Reply.GoneAt gone) (Op.RemoveAt key.now old why) result (faulty_view S.view self.old) (faulty_view S.view self.new) }
-        ensures plan { GoesByPlan S.view S.does S.fails (Op.RemoveAt key.now old why) (as_reply (λ gone. Reply.GoneAt gone) result) self.old self.new }
+        ensures call { Called R.may (λ gone. Reply.GoneAt gone) (Op.RemoveAt key.now old why) result (faulty_view S.view self.old) (faulty_view S.view self.new) }
+        ensures plan { GoesByPlan R.may S.view S.does S.fails (Op.RemoveAt key.now old why) (as_reply (λ gone. Reply.GoneAt gone) result) self.old self.new }
     {
-        match self.attempt(&OpRef::RemoveAt { key, old, why })? {
+        match attempt::<R, S>(self, &OpRef::RemoveAt { key, old, why })? {
             Reply::GoneAt(gone) => Ok(gone),
             _ => unreachable!(),
         }
     }
 
     fn list(&mut self, part: Part) -> Result<Listed, StoreFault>
-        ensures call { Called (λ listed. Reply.Listed listed) (Op.List part) result (faulty_view S.view self.old) (faulty_view S.view self.new) }
-        ensures plan { GoesByPlan S.view S.does S.fails (Op.List part) (as_reply (λ listed. Reply.Listed listed) result) self.old self.new }
+        ensures call { Called R.may (λ listed. Reply.Listed listed) (Op.List part) result (faulty_view S.view self.old) (faulty_view S.view self.new) }
+        ensures plan { GoesByPlan R.may S.view S.does S.fails (Op.List part) (as_reply (λ listed. Reply.Listed listed) result) self.old self.new }
     {
-        match self.attempt(&OpRef::List { part })? {
+        match attempt::<R, S>(self, &OpRef::List { part })? {
             Reply::Listed(listed) => Ok(listed),
             _ => unreachable!(),
         }
     }
 }
 
-impl<S: Failing> Base for FaultStore<S> {
+impl<S: Telling> WholeStore for FaultStore<S> {
     ghost use Rattle.std.specs.Prelude.{◌≡◌};
-    ghost use Rattle.store_api.specs.Callers.{as_client};
+    ghost use Rattle.object_store.specs.Callers.{as_client};
     ghost use Rattle.mem_store.specs.Failing.{since_making, faulty_view, ServesBeneath};
 
     ghost tells = { S.tells };
@@ -178,12 +190,8 @@ impl<S: Failing> Base for FaultStore<S> {
     ghost alone = { λ s. S.alone s.inner };
 }
 
-impl<S: Failing> Failing for FaultStore<S> {
-    ghost use Rattle.mem_store.specs.Failing.{GoesByPlan, FailsBeneath, ServesBeneath};
-
-    ghost does = { λ op result old new. GoesByPlan S.view S.does S.fails op result old new };
-
-    ghost fails = { λ done op fault old new. FailsBeneath S.fails done op fault old new };
+impl<S: Telling> Telling for FaultStore<S> {
+    ghost use Rattle.mem_store.specs.Failing.{ServesBeneath};
 
     ghost serves = { λ client old new. ServesBeneath S.serves client old new };
 
@@ -195,13 +203,21 @@ impl<S: Failing> Failing for FaultStore<S> {
         self.set_client(client);
     }
 
+    ghost says = { S.says };
+}
+
+impl<R: Rule, S: Failing<R>> Failing<R> for FaultStore<S> {
+    ghost use Rattle.mem_store.specs.Failing.{GoesByPlan, FailsBeneath};
+
+    ghost does = { λ op result old new. GoesByPlan R.may S.view S.does S.fails op result old new };
+
+    ghost fails = { λ done op fault old new. FailsBeneath S.fails done op fault old new };
+
     fn make(&mut self, op: &OpRef<'_>) -> Result<Reply, StoreFault> {
-        self.attempt(op)
+        attempt::<R, S>(self, op)
     }
 
     fn fail(&mut self, op: &OpRef<'_>, done: bool) -> StoreFault {
         self.inner.fail(op, done)
     }
-
-    ghost says = { S.says };
 }

@@ -3,9 +3,9 @@
 ghost use Rattle.mem_store.specs.Shelves.{IsSorted};
 
 use crate::logs::{changed_key, left_by};
+use object_store::{Key, Op, Part};
 use std::alloc::{AllocError, Global};
 use std::collections::BTreeMap;
-use store_api::{Key, Op, Part};
 
 /// The positions of the puts that stand: a map for each part, in the order of its listing.
 #[derive(Debug, Drop)]
@@ -16,9 +16,9 @@ pub(crate) struct Index {
 
 impl Index {
     ghost use Rattle.std.specs.Prelude.{◌≡◌, Bool, if◌then◌else◌, None, OnErr, OnOk};
-    ghost use Rattle.store_api.specs.Machine.{same_key};
+    ghost use Rattle.object_store.specs.Machine.{same_key};
     ghost use Rattle.mem_store.specs.Places.{shelf_of, place_in, place_after};
-    ghost use Rattle.store_api.specs.declared.keys.Key.{Key as Name};
+    ghost use Rattle.object_store.specs.declared.keys.Key.{Key as Name};
 
     /// Where nothing stands.
     pub(crate) fn new(alloc: Global) -> Index
@@ -26,6 +26,7 @@ impl Index {
     {
         Index {
             shelves: [
+                BTreeMap::new(alloc),
                 BTreeMap::new(alloc),
                 BTreeMap::new(alloc),
                 BTreeMap::new(alloc),

@@ -1,7 +1,7 @@
 //! The journal, and which puts stand after it.
 
 ghost use Rattle.std.specs.Prelude.{◌≡◌, ◌<◌, length, vec_capacity, vec_len, IfOk, OnErr, OnOk};
-ghost use Rattle.store_api.specs.declared.keys.Key.{Key as Name};
+ghost use Rattle.object_store.specs.declared.keys.Key.{Key as Name};
 ghost use Rattle.mem_store.specs.Places.{place_in, place_after};
 
 use crate::answers::Held;
@@ -9,10 +9,10 @@ use crate::events::EventRef;
 use crate::index::Index;
 use crate::logs::{Answer, Logged, event_at, last_time, put_in};
 use ice_base::Clock;
+use object_store::{Entries, Entry, Key, Op, Part};
 use std::alloc::{AllocError, Global};
 use std::collections::btree_map::Iter;
 use std::marker::Model;
-use store_api::{Entries, Entry, Key, Op, Part};
 
 /// A journal. Contracts see it as its events; beside them it keeps which put stands at each key.
 #[derive(Debug, Drop)]
@@ -23,7 +23,7 @@ pub(crate) struct Journal {
 
 impl Model for Journal {
     ghost use Rattle.std.specs.Prelude.{List};
-    ghost use Rattle.store_api.specs.declared.events.Event.{Event};
+    ghost use Rattle.object_store.specs.declared.events.Event.{Event};
 
     ghost Value = { List Event };
 
@@ -36,7 +36,7 @@ impl Model for Journal {
 
 impl Journal {
     ghost use Rattle.std.specs.Prelude.{◌≡◌, ◌<◌, ◌^◌, ◌++◌, [], ◌∷◌, length, option_map, slice_get, IfOk, OnErr};
-    ghost use Rattle.store_api.specs.Machine.{found, last_time, IsListing};
+    ghost use Rattle.object_store.specs.Machine.{found, last_time, IsListing};
     ghost use Rattle.mem_store.specs.Held.{stored_of};
     ghost use Rattle.mem_store.specs.Lent.{event_lent};
     ghost use Rattle.mem_store.specs.Times.{IsTime};

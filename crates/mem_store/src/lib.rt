@@ -17,6 +17,6 @@ mod requests;
 
 pub use events::{EventRef, ReplyRef};
 pub use faults::FaultStore;
-pub use faulty::Failing;
+pub use faulty::{Failing, Telling};
 pub use mem::MemStore;
 pub use requests::OpRef;

@@ -2,7 +2,7 @@
 
 ghost use Rattle.std.specs.Prelude.{◌≡◌, length, option_map, slice_get, if◌then◌else◌};
 ghost use Rattle.std.specs.Option.{option_copied};
-ghost use Rattle.store_api.specs.Machine.{last_time, got_of};
+ghost use Rattle.object_store.specs.Machine.{last_time, got_of};
 ghost use Rattle.mem_store.specs.Held.{stored_of};
 ghost use Rattle.mem_store.specs.Lent.{reply_lent, event_lent};
 ghost use Rattle.mem_store.specs.Places.{place_left, where_at};
@@ -10,7 +10,7 @@ ghost use Rattle.mem_store.specs.Logs.{key_changed, is_done, bytes_put, put_in, 
 
 use crate::answers::{Held, gone_answer, gone_at_answer, new_answer, over_answer};
 use crate::events::{EventRef, ReplyRef};
-use store_api::{Entries, Key, Op, Reply, Version};
+use object_store::{Entries, Key, Op, Reply, Version};
 
 /// What an operation was answered by. The reply follows from it: the bytes of an object stand in
 /// the event of their put alone.

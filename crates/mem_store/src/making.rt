@@ -4,17 +4,13 @@ ghost use Rattle.std.specs.Prelude.{refl};
 ghost use Rattle.mem_store.specs.Memory.{Exactly, Fails, Serves};
 
 use crate::MemStore;
-use crate::faulty::Failing;
+use crate::faulty::{Failing, Telling};
 use crate::logs::Answer;
 use crate::requests::OpRef;
 use ice_base::Clock;
-use store_api::{Base, Reply, Store, StoreFault};
+use object_store::{ObjectStore, Reply, Rule, StoreFault, WholeStore};
 
-impl<C: Clock> Failing for MemStore<C> {
-    ghost does = { λ op result old new. Exactly C.gives (λ reply. reply) op result old new };
-
-    ghost fails = { λ done op fault old new. Fails C.gives done op fault old new };
-
+impl<C: Clock> Telling for MemStore<C> {
     ghost serves = { λ client old new. Serves client old new };
 
     fn events(&self) -> usize {
@@ -25,21 +21,33 @@ impl<C: Clock> Failing for MemStore<C> {
         self.set_client(client);
     }
 
+    ghost says = { refl };
+}
+
+impl<C: Clock, R: Rule> Failing<R> for MemStore<C> {
+    ghost does = { λ op result old new. Exactly C.gives (λ reply. reply) op result old new };
+
+    ghost fails = { λ done op fault old new. Fails C.gives done op fault old new };
+
     fn make(&mut self, op: &OpRef<'_>) -> Result<Reply, StoreFault> {
         match op {
-            OpRef::Get { key } => self.get(key).map(Reply::Got),
-            OpRef::PutNew { key, bytes, why } => self.put_new(key, bytes, *why).map(Reply::New),
+            OpRef::Get { key } => ObjectStore::<R>::get(self, key).map(Reply::Got),
+            OpRef::PutNew { key, bytes, why } => ObjectStore::<R>::put_new(
+                self, key, bytes, *why,
+            ).map(Reply::New),
             OpRef::PutOver {
                 key,
                 bytes,
                 old,
                 why,
-            } => self.put_over(key, bytes, *old, *why).map(Reply::Over),
-            OpRef::Remove { key, why } => self.remove(key, *why).map(Reply::Gone),
+            } => ObjectStore::<R>::put_over(self, key, bytes, *old, *why).map(Reply::Over),
+            OpRef::Remove { key, why } => ObjectStore::<R>::remove(self, key, *why).map(
+                Reply::Gone,
+            ),
             OpRef::RemoveAt { key, old, why } => {
-                self.remove_at(key, *old, *why).map(Reply::GoneAt)
+                ObjectStore::<R>::remove_at(self, key, *old, *why).map(Reply::GoneAt)
             }
-            OpRef::List { part } => self.list(*part).map(Reply::Listed),
+            OpRef::List { part } => ObjectStore::<R>::list(self, *part).map(Reply::Listed),
         }
     }
 
@@ -50,6 +58,4 @@ impl<C: Clock> Failing for MemStore<C> {
             Err(fault) => fault,
         }
     }
-
-    ghost says = { refl };
 }

@@ -1,8 +1,8 @@
 //! The store in memory.
 
 ghost use Rattle.std.specs.Prelude.{◌≡◌, [], refl, true, length, option_map, slice_get, IfOk, IfErr, OnOk, OnErr, IsOk};
-ghost use Rattle.store_api.specs.Machine.{found, version_at, IsListing};
-ghost use Rattle.store_api.specs.Callers.{Called, as_client};
+ghost use Rattle.object_store.specs.Machine.{found, version_at, IsListing};
+ghost use Rattle.object_store.specs.Callers.{Called, as_client};
 ghost use Rattle.mem_store.specs.Held.{copy_of};
 ghost use Rattle.mem_store.specs.Lent.{event_lent};
 ghost use Rattle.mem_store.specs.Logs.{puts_in};
@@ -14,11 +14,11 @@ use crate::journal::{Journal, copy};
 use crate::logs::Answer;
 use crate::requests;
 use ice_base::{Bytes, Clock};
-use std::alloc::{AllocError, Global};
-use store_api::{
-    Base, Entries, Gone, GoneAt, Got, Key, Listed, New, Op, Over, Part, Reply, Store, StoreFault,
-    Version, Why,
+use object_store::{
+    Entries, Gone, GoneAt, Got, Key, Listed, New, ObjectStore, Op, Over, Part, Reply, Rule,
+    StoreFault, Version, Viewed, WholeStore, Why,
 };
+use std::alloc::{AllocError, Global};
 
 /// A store in memory: it keeps its journal, and which put stands at each key, and answers from
 /// them. It never answers `Failed`. An operation's time is the greater of its clock's moment and the
@@ -122,11 +122,13 @@ impl<C: Clock> MemStore<C> {
     }
 }
 
-impl<C: Clock> Store for MemStore<C> {
+impl<C: Clock> Viewed for MemStore<C> {
     ghost view = { λ s. view_of s };
+}
 
+impl<C: Clock, R: Rule> ObjectStore<R> for MemStore<C> {
     fn get(&mut self, key: &Key) -> Result<Got, StoreFault>
-        ensures call { Called (λ got. Reply.Got got) (Op.Get key.now) result (view_of self.old) (view_of self.new) }
+        ensures call { Called R.may (λ got. Reply.Got got) (Op.Get key.now) result (view_of self.old) (view_of self.new) }
         ensures exact { Exactly C.gives (λ got. Reply.Got got) (Op.Get key.now) result self.old self.new }
     {
         let at = self.journal.place(key);
@@ -139,7 +141,7 @@ impl<C: Clock> Store for MemStore<C> {
     }
 
     fn put_new(&mut self, key: &Key, bytes: &[u8], why: Why) -> Result<New, StoreFault>
-        ensures call { Called (λ new. Reply.New new) (Op.PutNew key.now bytes.now why) result (view_of self.old) (view_of self.new) }
+        ensures call { Called R.may (λ new. Reply.New new) (Op.PutNew key.now bytes.now why) result (view_of self.old) (view_of self.new) }
         ensures exact { Exactly C.gives (λ new. Reply.New new) (Op.PutNew key.now bytes.now why) result self.old self.new }
     {
         let at = self.journal.place(key);
@@ -156,7 +158,7 @@ impl<C: Clock> Store for MemStore<C> {
         old: Version,
         why: Why,
     ) -> Result<Over, StoreFault>
-        ensures call { Called (λ over. Reply.Over over) (Op.PutOver key.now bytes.now old why) result (view_of self.old) (view_of self.new) }
+        ensures call { Called R.may (λ over. Reply.Over over) (Op.PutOver key.now bytes.now old why) result (view_of self.old) (view_of self.new) }
         ensures exact { Exactly C.gives (λ over. Reply.Over over) (Op.PutOver key.now bytes.now old why) result self.old self.new }
     {
         let at = self.journal.place(key);
@@ -167,7 +169,7 @@ impl<C: Clock> Store for MemStore<C> {
     }
 
     fn remove(&mut self, key: &Key, why: Why) -> Result<Gone, StoreFault>
-        ensures call { Called (λ gone. Reply.Gone gone) (Op.Remove key.now why) result (view_of self.old) (view_of self.new) }
+        ensures call { Called R.may (λ gone. Reply.Gone gone) (Op.Remove key.now why) result (view_of self.old) (view_of self.new) }
         ensures exact { Exactly C.gives (λ gone. Reply.Gone gone) (Op.Remove key.now why) result self.old self.new }
     {
         let at = self.journal.place(key);
@@ -177,7 +179,7 @@ impl<C: Clock> Store for MemStore<C> {
     }
 
     fn remove_at(&mut self, key: &Key, old: Version, why: Why) -> Result<GoneAt, StoreFault>
-        ensures call { Called (λ gone. Reply.GoneAt gone) (Op.RemoveAt key.now old why) result (view_of self.old) (view_of self.new) }
+        ensures call { Called R.may (λ gone. Reply.GoneAt gone) (Op.RemoveAt key.now old why) result (view_of self.old) (view_of self.new) }
         ensures exact { Exactly C.gives (λ gone. Reply.GoneAt gone) (Op.RemoveAt key.now old why) result self.old self.new }
     {
         let at = self.journal.place(key);
@@ -187,7 +189,7 @@ impl<C: Clock> Store for MemStore<C> {
     }
 
     fn list(&mut self, part: Part) -> Result<Listed, StoreFault>
-        ensures call { Called (λ listed. Reply.Listed listed) (Op.List part) result (view_of self.old) (view_of self.new) }
+        ensures call { Called R.may (λ listed. Reply.Listed listed) (Op.List part) result (view_of self.old) (view_of self.new) }
         ensures exact { Exactly C.gives (λ listed. Reply.Listed listed) (Op.List part) result self.old self.new }
     {
         let Ok((entries, kept)) = self.listed_twice(part) else {
@@ -198,7 +200,7 @@ impl<C: Clock> Store for MemStore<C> {
     }
 }
 
-impl<C: Clock> Base for MemStore<C> {
+impl<C: Clock> WholeStore for MemStore<C> {
     ghost tells = { true };
 
     fn set_client(&mut self, client: u32)

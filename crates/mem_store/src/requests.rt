@@ -3,8 +3,8 @@
 ghost use Rattle.std.specs.Prelude.{◌≡◌, IfOk};
 
 use ice_base::Bytes;
+use object_store::{Key, Op, Part, Version, Why};
 use std::alloc::{AllocError, Global};
-use store_api::{Key, Op, Part, Version, Why};
 
 /// An operation that is asked for: its key and its bytes are lent.
 #[derive(Clone, Copy, Debug)]

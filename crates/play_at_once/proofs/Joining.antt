@@ -11,12 +11,12 @@ use Rattle.turn_cell.specs.Owners.{IsOwner, lower_part, upper_part, united}
 use Rattle.turn_cell.specs.Logs.{Follows, joined, longer}
 use Rattle.turn_cell.proofs.Growth.{one_of}
 use Rattle.shared_store.specs.Told.{client_of}
-use Rattle.store_api.specs.declared.events.Event.{Event}
+use Rattle.object_store.specs.declared.events.Event.{Event}
 use Rattle.store_api.specs.Journal.{Each, IsGood}
 use Rattle.store_api.specs.Callers.{IsOther, only}
 use Rattle.store_api.specs.Program.{events_of}
 use Rattle.store_api.specs.Plays.{Play}
-use Rattle.store_api.proofs.Journals.{Each-append, Each-back, Each-both, Each-weaker, Each-none}
+use Rattle.object_store.proofs.Journals.{Each-append, Each-back, Each-both, Each-weaker, Each-none}
 use Rattle.play_script.specs.declared.scripts.Task.{Task}
 use Rattle.play_outcome.specs.declared.outcome.Outcome.{Outcome}
 use Rattle.play_outcome.specs.Ending.{is_failed}

@@ -7,10 +7,10 @@ use Rattle.turn_cell.specs.declared.pass.Token.{Token}
 use Rattle.turn_cell.specs.Owners.{IsOwner}
 use Rattle.turn_cell.specs.Passes.{CellId, cell_of, known}
 use Rattle.shared_store.specs.Ports.{caller_of, port_view}
-use Rattle.store_api.specs.declared.events.Event.{Event}
+use Rattle.object_store.specs.declared.events.Event.{Event}
 use Rattle.store_api.specs.Callers.{Caller, is_before, owns}
 use Rattle.store_api.specs.Plays.{Play, Ended}
-use Rattle.store_api.proofs.Journals.{Each-weaker}
+use Rattle.object_store.proofs.Journals.{Each-weaker}
 use Rattle.play_script.specs.declared.scripts.Task.{Task}
 use Rattle.play_outcome.specs.declared.outcome.Outcome.{Outcome}
 use Rattle.play_tasks.specs.Tasks.{TellsAt}

@@ -4,15 +4,15 @@ use Rattle.std.specs.Prelude.{IsTrue, ◌==◌}
 use Rattle.std.proofs.lemmas.List.Elements.{All-nil, All-cons, All-append, filter-append}
 use Rattle.ice_base.proofs.Counts.{Rose-before}
 use Rattle.ice_ids.specs.declared.drawing.Draw.{Draw}
-use Rattle.store_api.specs.declared.events.Op.{Op}
-use Rattle.store_api.specs.declared.events.Reply.{Reply}
-use Rattle.store_api.specs.declared.events.Event.{Event}
-use Rattle.store_api.specs.Machine.{IsAnswered}
+use Rattle.object_store.specs.declared.events.Op.{Op}
+use Rattle.object_store.specs.declared.events.Reply.{Reply}
+use Rattle.object_store.specs.declared.events.Event.{Event}
+use Rattle.object_store.specs.Machine.{IsAnswered}
 use Rattle.store_api.specs.Journal.{Each, IsGood}
 use Rattle.store_api.specs.Callers.{Caller, View, Waits, Makes, IsOther, own_event, owns, only}
 use Rattle.store_api.specs.Program.{events_of}
 use Rattle.store_api.specs.Plays.{Play, Ask, PlayIsPolite, Acts, Acted, Starved}
-use Rattle.store_api.proofs.Journals.{Each-one, Each-none, Each-append, Each-weaker}
+use Rattle.object_store.proofs.Journals.{Each-one, Each-none, Each-append, Each-weaker}
 use Rattle.store_api.proofs.Programs.{Waits-fewer, Fewer, events_of-others, own-one}
 use Rattle.store_api.proofs.PlayLaws.{PlayKeeps-acts, PlayLeads-acts}
 use Rattle.play_script.specs.declared.scripts.Task.{Task}
@@ -91,7 +91,7 @@ module _ (draw : Draw) (tasks : List Task) (start : List Event) (by : Caller) wh
       let careful = careful-waits (ids_at draw place) s.task start by.tells place p old m.middle (Waits-fewer by to (fewer by.tells place by c) old m.middle m.waits) s.careful in
       let owed : IsDue (ids_at draw place) s.task (place + 1) start m.middle (place + 1) op = PlayKeeps-now (IsDue (ids_at draw place) s.task (place + 1) start) to op starved next p m.middle asks careful in
       let good : IsGood m.middle event = record { legal = m.answered; polite = owed.polite } in
-      let own : Known m.middle event = record { good = good; mine = λ is. record { place = place; task = s.task; client = c.number; at = s.at; careful = record { good = good; owes = owed.owes } } } in
+      let own : Known m.middle event = record { good = good; mine = λ is. record { place = place; task = s.task; client = c.number; at = s.at; careful = record { good = good; owes = owed.owes; own = owed.own } } } in
       let none : events_of (place + 1) m.waits.between ≡ [] = subst (λ (n : ℕ). events_of n m.waits.between ≡ []) c.number (events_of-others by old m.waits.between m.waits.others) in
       record {
         more = m.waits.between ++ event ∷ [];

@@ -8,11 +8,11 @@ use Rattle.turn_cell.specs.declared.known.Known.{Known}
 use Rattle.turn_cell.specs.Owners.{IsOwner, all_owners}
 use Rattle.turn_cell.specs.Logs.{starting}
 use Rattle.shared_store.specs.Told.{told}
-use Rattle.store_api.specs.declared.events.Event.{Event}
+use Rattle.object_store.specs.declared.events.Event.{Event}
 use Rattle.store_api.specs.Journal.{Each}
 use Rattle.store_api.specs.Program.{events_of}
 use Rattle.store_api.specs.Plays.{Play, Comes}
-use Rattle.store_api.proofs.Journals.{Each-weaker}
+use Rattle.object_store.proofs.Journals.{Each-weaker}
 use Rattle.play_script.specs.declared.scripts.Task.{Task}
 use Rattle.play_script.specs.Well.{IsWellTask}
 use Rattle.play_outcome.specs.declared.outcome.Outcome.{Outcome}

@@ -1,7 +1,7 @@
 -- That tasks ran at once over one store. (Own.)
 use Rattle.std.specs.Prelude.{◌≡◌, Bool, IsTrue, List, ◌++◌}
 use Rattle.ice_ids.specs.declared.drawing.Draw.{Draw}
-use Rattle.store_api.specs.declared.events.Event.{Event}
+use Rattle.object_store.specs.declared.events.Event.{Event}
 use Rattle.store_api.specs.Journal.{Each}
 use Rattle.play_script.specs.declared.scripts.Task.{Task}
 use Rattle.play_outcome.specs.declared.outcome.Outcome.{Outcome}

@@ -23,20 +23,20 @@ use Rattle.ref_file.specs.Refs.{ref_bytes}
 use Rattle.repo_objects.specs.declared.bad.Bad.{Bad}
 use Rattle.repo_objects.specs.Readings.{manifest_by, read_manifest}
 use Rattle.changed_snapshot.specs.Rows.{own_manifests}
-use Rattle.store_api.specs.declared.keys.Key.TheVariants.{Snapshot, Manifest, Txn, Branch}
-use Rattle.store_api.specs.declared.keys.Why.TheVariants.{Set, Commit as For_commit}
-use Rattle.store_api.specs.declared.events.Op.TheVariants.{Get, PutNew, PutOver}
-use Rattle.store_api.specs.declared.events.Over.TheVariants.{Done as Over_done, Moved}
-use Rattle.store_api.specs.declared.events.Reply.{Reply}
-use Rattle.store_api.specs.declared.events.Reply.TheVariants.{Got as Is_got, New as Is_new, Over as Is_over, Gone as Is_gone, GoneAt as Is_gone_at, Listed as Is_listed, Failed}
-use Rattle.store_api.specs.declared.events.Event.{Event}
+use Rattle.object_store.specs.declared.keys.Key.TheVariants.{Snapshot, Manifest, Txn, Branch}
+use Rattle.object_store.specs.declared.keys.Why.TheVariants.{Set, Commit as For_commit}
+use Rattle.object_store.specs.declared.events.Op.TheVariants.{Get, PutNew, PutOver}
+use Rattle.object_store.specs.declared.events.Over.TheVariants.{Done as Over_done, Moved}
+use Rattle.object_store.specs.declared.events.Reply.{Reply}
+use Rattle.object_store.specs.declared.events.Reply.TheVariants.{Got as Is_got, New as Is_new, Over as Is_over, Gone as Is_gone, GoneAt as Is_gone_at, Listed as Is_listed, Failed}
+use Rattle.object_store.specs.declared.events.Event.{Event}
 use Rattle.store_api.specs.declared.machines.Refusal.{Refusal}
 use Rattle.store_api.specs.declared.machines.Refusal.TheVariants as R
-use Rattle.store_api.specs.Machine.{Stored, found, version_at, is_on}
+use Rattle.object_store.specs.Machine.{Stored, found, version_at, is_on}
 use Rattle.store_api.specs.Journal.{Each, IsGood}
 use Rattle.store_api.specs.Program.{Done, Ask}
 use Rattle.store_api.specs.Running.{on_answer}
-use Rattle.store_api.proofs.Journals.{Each-one, Each-weaker}
+use Rattle.object_store.proofs.Journals.{Each-one, Each-weaker}
 use Rattle.repo_read.specs.Answers.{at_key, manifest_told}
 use Rattle.session.specs.Sessions.{SessionState, base_nodes, branch_of, version_of, writes}
 use Rattle.session.specs.Sources.{MayDrawObject}

@@ -7,22 +7,22 @@ use Rattle.repo_objects.specs.declared.bad.Bad.{Bad}
 use Rattle.repo_objects.specs.Readings.{snapshot_by, read_ref as read_bytes}
 use Rattle.repo_objects.specs.Laws.{InitialLaw}
 use Rattle.ice_ids.specs.Text.{initial_id}
-use Rattle.store_api.specs.declared.keys.Key.{Key}
-use Rattle.store_api.specs.declared.keys.Key.TheVariants.{Snapshot, Manifest, Txn, Chunk, Branch, Tag, TagGone}
-use Rattle.store_api.specs.declared.keys.Part.{Part}
-use Rattle.store_api.specs.declared.keys.Part.TheVariants.{Branches, Tags}
-use Rattle.store_api.specs.declared.events.Op.{Op}
-use Rattle.store_api.specs.declared.events.Op.TheVariants.{Get, PutNew, PutOver, Remove, RemoveAt, List as ListPart}
-use Rattle.store_api.specs.declared.events.Entry.{Entry}
-use Rattle.store_api.specs.declared.events.Reply.{Reply}
-use Rattle.store_api.specs.declared.events.Reply.TheVariants.{Got as Is_got, New as Is_new, Over as Is_over, Gone as Is_gone, GoneAt as Is_gone_at, Listed as Is_listed, Failed}
-use Rattle.store_api.specs.declared.events.Event.{Event}
+use Rattle.object_store.specs.declared.keys.Key.{Key}
+use Rattle.object_store.specs.declared.keys.Key.TheVariants.{Snapshot, Manifest, Txn, Chunk, Branch, Tag, TagGone, Lease}
+use Rattle.object_store.specs.declared.keys.Part.{Part}
+use Rattle.object_store.specs.declared.keys.Part.TheVariants.{Branches, Tags}
+use Rattle.object_store.specs.declared.events.Op.{Op}
+use Rattle.object_store.specs.declared.events.Op.TheVariants.{Get, PutNew, PutOver, Remove, RemoveAt, List as ListPart}
+use Rattle.object_store.specs.declared.events.Entry.{Entry}
+use Rattle.object_store.specs.declared.events.Reply.{Reply}
+use Rattle.object_store.specs.declared.events.Reply.TheVariants.{Got as Is_got, New as Is_new, Over as Is_over, Gone as Is_gone, GoneAt as Is_gone_at, Listed as Is_listed, Failed}
+use Rattle.object_store.specs.declared.events.Event.{Event}
 use Rattle.store_api.specs.declared.machines.Refusal.{Refusal}
 use Rattle.store_api.specs.declared.machines.Refusal.TheVariants.{StoreFault}
-use Rattle.store_api.specs.Machine.{Stored, found, part_of}
+use Rattle.object_store.specs.Machine.{Stored, found, part_of}
 use Rattle.store_api.specs.Journal.{Each, IsGood, NamesPut}
 use Rattle.store_api.specs.Program.{Done}
-use Rattle.store_api.proofs.Journals.{Each-append, Each-one, Each-both}
+use Rattle.object_store.proofs.Journals.{Each-append, Each-one, Each-both}
 use Rattle.play_outcome.specs.declared.outcome.RefLine.{RefLine}
 use Rattle.repository.specs.Beginning.{begin_program, put_main, after_put}
 use Rattle.repository.specs.Refs.{list_part, on_listed, read_ref, on_got, on_id, read_each, read_tags, read_branches, refs_program, with_line, live, is_gone}
@@ -42,6 +42,7 @@ plain-puts initial (PutNew (Txn id) bytes why) p = absurd p
 plain-puts initial (PutNew (Chunk id) bytes why) p = absurd p
 plain-puts initial (PutNew (Tag name) bytes why) p = tt
 plain-puts initial (PutNew (TagGone name) bytes why) p = tt
+plain-puts initial (PutNew (Lease id) bytes why) p = absurd p
 plain-puts initial (PutOver (Branch name) bytes old why) p = tt
 plain-puts initial (PutOver (Snapshot id) bytes old why) p = absurd p.0
 plain-puts initial (PutOver (Manifest id) bytes old why) p = absurd p.0
@@ -49,6 +50,7 @@ plain-puts initial (PutOver (Txn id) bytes old why) p = absurd p.0
 plain-puts initial (PutOver (Chunk id) bytes old why) p = absurd p.0
 plain-puts initial (PutOver (Tag name) bytes old why) p = absurd p.0
 plain-puts initial (PutOver (TagGone name) bytes old why) p = absurd p.0
+plain-puts initial (PutOver (Lease id) bytes old why) p = absurd p.0
 plain-puts initial (Remove key why) p = absurd p
 plain-puts initial (RemoveAt key old why) p = p
 
@@ -111,6 +113,7 @@ named-in : (part : Part) (key : Key) → IsRefs part → part_of key ≡ part �
 named-in part (Branch name) r e = tt
 named-in part (Tag name) r e = tt
 named-in part (TagGone name) r e = tt
+named-in part (Lease id) r e = subst IsRefs (sym e) r
 named-in part (Snapshot id) r e = subst IsRefs (sym e) r
 named-in part (Manifest id) r e = subst IsRefs (sym e) r
 named-in part (Txn id) r e = subst IsRefs (sym e) r
@@ -128,6 +131,7 @@ live-one : (key : Key) (behind : List Entry) (keys : List Key) → IsNamed key �
 live-one (Branch name) behind keys n all = keep-refs (is_gone (Branch name) behind) (Branch name) keys tt all
 live-one (Tag name) behind keys n all = keep-refs (is_gone (Tag name) behind) (Tag name) keys tt all
 live-one (TagGone name) behind keys n all = all
+live-one (Lease id) behind keys n all = absurd n
 live-one (Snapshot id) behind keys n all = absurd n
 live-one (Manifest id) behind keys n all = absurd n
 live-one (Txn id) behind keys n all = absurd n
@@ -164,6 +168,7 @@ module _ (who : Id12 → Type 0) where
   named-at (Branch name) journal s r tidy e = (all-named journal tidy).branches name s e
   named-at (Tag name) journal s r tidy e = (all-named journal tidy).tags name s e
   named-at (TagGone name) journal s r tidy e = absurd r
+  named-at (Lease id) journal s r tidy e = absurd r
   named-at (Snapshot id) journal s r tidy e = absurd r
   named-at (Manifest id) journal s r tidy e = absurd r
   named-at (Txn id) journal s r tidy e = absurd r

@@ -20,14 +20,14 @@ use Rattle.repo_objects.specs.Trees.{manifest_put, listed, bytes_at, node_of, ro
 use Rattle.changed_snapshot.specs.Rows.{manifests_for, own_manifests}
 use Rattle.changed_snapshot.specs.Laws.{KeepsFrozen}
 use Rattle.changed_snapshot.proofs.Found.{node_at_row}
-use Rattle.store_api.specs.declared.keys.Key.{Key}
-use Rattle.store_api.specs.declared.keys.Key.TheVariants.{Manifest}
-use Rattle.store_api.specs.declared.events.Event.{Event}
-use Rattle.store_api.specs.declared.events.Op.TheVariants.{Get}
-use Rattle.store_api.specs.Machine.{Stored, found, last_put}
+use Rattle.object_store.specs.declared.keys.Key.{Key}
+use Rattle.object_store.specs.declared.keys.Key.TheVariants.{Manifest}
+use Rattle.object_store.specs.declared.events.Event.{Event}
+use Rattle.object_store.specs.declared.events.Op.TheVariants.{Get}
+use Rattle.object_store.specs.Machine.{Stored, found, last_put}
 use Rattle.store_api.specs.Journal.{Each, IsGood, puts_of}
-use Rattle.store_api.proofs.Journals.{Each-one}
-use Rattle.store_api.proofs.Slots.{sound}
+use Rattle.object_store.proofs.Journals.{Each-one}
+use Rattle.object_store.proofs.Slots.{sound}
 use Rattle.session.specs.Sessions.{SessionState, base_tree, changes_in, overlay}
 use Rattle.commit_path.specs.Owed.{HasChunks}
 use Rattle.commit_path.specs.Opened.{IsOpened}

@@ -4,16 +4,16 @@ use Rattle.std.specs.Prelude.{Option, Some, None}
 use Rattle.ice_ids.specs.declared.Id12.{Id12}
 use Rattle.ice_ids.specs.declared.drawing.AnyIds.{AnyIds}
 use Rattle.ice_ids.specs.Drawing.{drawn12, after12}
-use Rattle.store_api.specs.declared.keys.Key.{Key}
-use Rattle.store_api.specs.declared.keys.Key.TheVariants.{Snapshot, Manifest, Txn, Chunk, Branch, Tag, TagGone}
-use Rattle.store_api.specs.declared.keys.Why.{Why}
-use Rattle.store_api.specs.declared.events.Version.{Version}
-use Rattle.store_api.specs.declared.events.Op.TheVariants.{Get, PutNew, PutOver}
-use Rattle.store_api.specs.declared.events.Event.{Event}
-use Rattle.store_api.specs.Machine.{found, is_on, same_key}
+use Rattle.object_store.specs.declared.keys.Key.{Key}
+use Rattle.object_store.specs.declared.keys.Key.TheVariants.{Snapshot, Manifest, Txn, Chunk, Branch, Tag, TagGone, Lease}
+use Rattle.object_store.specs.declared.keys.Why.{Why}
+use Rattle.object_store.specs.declared.events.Version.{Version}
+use Rattle.object_store.specs.declared.events.Op.TheVariants.{Get, PutNew, PutOver}
+use Rattle.object_store.specs.declared.events.Event.{Event}
+use Rattle.object_store.specs.Machine.{found, is_on, same_key}
 use Rattle.store_api.specs.Journal.{Each, IsGood, IsOnce}
-use Rattle.store_api.proofs.Journals.{Each-append, Each-weaker, Each-one}
-use Rattle.store_api.proofs.Slots.{same_key-true}
+use Rattle.object_store.proofs.Journals.{Each-append, Each-weaker, Each-one}
+use Rattle.object_store.proofs.Slots.{same_key-true}
 use Rattle.session.specs.Sources.{IsLater, MayDrawObject}
 use Rattle.commit_path.specs.Single.{PutsSnapshot}
 use Rattle.commit_path.proofs.Sources.{later-same, later-drawn12, object-drawn, object-later}
@@ -112,6 +112,7 @@ id_of (Chunk id) = Some id
 id_of (Branch name) = None
 id_of (Tag name) = None
 id_of (TagGone name) = None
+id_of (Lease id) = Some id
 
 some-same : {A : Type 0} (a b : A) → Some a ≡ Some b → a ≡ b
 some-same a b e = cc

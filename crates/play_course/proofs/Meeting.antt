@@ -4,22 +4,22 @@ use Rattle.std.specs.Prelude.{◌==◌, Option, Some, None, Result, Ok, Err}
 use Rattle.std.specs.Result.{result_ok}
 use Rattle.std.proofs.lemmas.Bool.{eqb-false}
 use Rattle.ice_ids.specs.declared.Id12.{Id12}
-use Rattle.store_api.specs.declared.keys.Key.{Key}
-use Rattle.store_api.specs.declared.keys.Why.{Why}
-use Rattle.store_api.specs.declared.events.Op.{Op}
-use Rattle.store_api.specs.declared.events.Op.TheVariants.{Get, PutNew}
-use Rattle.store_api.specs.declared.events.Got.TheVariants.{Found, Absent}
-use Rattle.store_api.specs.declared.events.New.TheVariants.{Done as New_done}
-use Rattle.store_api.specs.declared.events.Reply.{Reply}
-use Rattle.store_api.specs.declared.events.Reply.TheVariants.{Got as Is_got, New as Is_new, Over as Is_over, Gone as Is_gone, GoneAt as Is_gone_at, Listed as Is_listed, Failed}
-use Rattle.store_api.specs.declared.events.Event.{Event}
+use Rattle.object_store.specs.declared.keys.Key.{Key}
+use Rattle.object_store.specs.declared.keys.Why.{Why}
+use Rattle.object_store.specs.declared.events.Op.{Op}
+use Rattle.object_store.specs.declared.events.Op.TheVariants.{Get, PutNew}
+use Rattle.object_store.specs.declared.events.Got.TheVariants.{Found, Absent}
+use Rattle.object_store.specs.declared.events.New.TheVariants.{Done as New_done}
+use Rattle.object_store.specs.declared.events.Reply.{Reply}
+use Rattle.object_store.specs.declared.events.Reply.TheVariants.{Got as Is_got, New as Is_new, Over as Is_over, Gone as Is_gone, GoneAt as Is_gone_at, Listed as Is_listed, Failed}
+use Rattle.object_store.specs.declared.events.Event.{Event}
 use Rattle.store_api.specs.declared.machines.Refusal.{Refusal}
 use Rattle.store_api.specs.declared.machines.Refusal.TheVariants.{NoMemory}
-use Rattle.store_api.specs.Machine.{Stored, found, version_at, got_of, new_of, IsHonest, UnlessFailed}
+use Rattle.object_store.specs.Machine.{Stored, found, version_at, got_of, new_of, IsHonest, UnlessFailed}
 use Rattle.store_api.specs.Journal.{Each, IsGood}
-use Rattle.store_api.specs.Program.{Prog, Done, Ask, bind, Path, is_over, events_of}
+use Rattle.store_api.specs.Program.{Prog, Done, Ask, bind, Path, moves_branch, events_of}
 use Rattle.store_api.specs.Plays.{Play, Ended, Ask as Ask_play, Or, call, behind, Comes}
-use Rattle.store_api.proofs.Journals.{Each-append, Each-none}
+use Rattle.object_store.proofs.Journals.{Each-append, Each-none}
 use Rattle.store_api.specs.Running.{Program, ◌>>=◌, on_answer}
 use Rattle.play_tasks.specs.Played.{StartsWith, PlaysTo}
 use Rattle.play_course.specs.Refusing.{strange_answer}
@@ -202,7 +202,7 @@ module _ {A : Type 0} (Q : A → Type 0) (watch : Watch) where
         plays-meets client (next f.event.reply) ((old ++ f.more) ++ f.event ∷ []) f.later a f.watched s.2 (m.1 f.more f.event f.others f.own s.0)
   ]
 
-  behind-meets : (op : Op) (p s : Play A) (journal : List Event) (over : Bool) → is_over op ≡ over → PlayMeets Q watch p journal → PlayMeets Q watch s journal → PlayMeets Q watch (behind op p s) journal
+  behind-meets : (op : Op) (p s : Play A) (journal : List Event) (over : Bool) → moves_branch op ≡ over → PlayMeets Q watch p journal → PlayMeets Q watch s journal → PlayMeets Q watch (behind op p s) journal
   unfolding PlayMeets
   behind-meets op p s journal true e m n = rw e m
   behind-meets op p s journal false e m n = rw e (m, n)
@@ -215,7 +215,7 @@ module _ {A : Type 0} (Q : A → Type 0) (watch : Watch) where
   call-meets R (Ask op next) f journal m g n = (
     n journal,
     λ more event others any is.
-        behind-meets op (call (next event.reply) f) (f (Err NoMemory)) ((journal ++ more) ++ event ∷ []) (is_over op) refl (call-meets R (next event.reply) f ((journal ++ more) ++ event ∷ []) (m more event others any is) g n) (n ((journal ++ more) ++ event ∷ [])),
+        behind-meets op (call (next event.reply) f) (f (Err NoMemory)) ((journal ++ more) ++ event ∷ []) (moves_branch op) refl (call-meets R (next event.reply) f ((journal ++ more) ++ event ∷ []) (m more event others any is) g n) (n ((journal ++ more) ++ event ∷ [])),
   )
 
 -- ---- replies

@@ -5,23 +5,24 @@ use Rattle.ice_ids.specs.declared.Id12.{Id12}
 use Rattle.ice_ids.specs.declared.drawing.AnyIds.{AnyIds}
 use Rattle.repo_objects.specs.declared.bad.Bad.{Bad}
 use Rattle.repo_objects.specs.Readings.{read_ref}
-use Rattle.store_api.specs.declared.keys.Key.{Key}
-use Rattle.store_api.specs.declared.keys.Key.TheVariants.{Snapshot, Branch, Tag, TagGone}
-use Rattle.store_api.specs.declared.events.Op.TheVariants.{Get}
-use Rattle.store_api.specs.declared.events.Event.{Event}
+use Rattle.object_store.specs.declared.keys.Key.{Key}
+use Rattle.object_store.specs.declared.keys.Key.TheVariants.{Snapshot, Branch, Tag, TagGone}
+use Rattle.object_store.specs.declared.events.Op.TheVariants.{Get}
+use Rattle.object_store.specs.declared.events.Event.{Event}
 use Rattle.store_api.specs.declared.machines.Refusal.{Refusal}
 use Rattle.store_api.specs.declared.machines.Refusal.TheVariants as R
-use Rattle.store_api.specs.Machine.{version_at}
+use Rattle.object_store.specs.Machine.{version_at}
 use Rattle.store_api.specs.Journal.{Each, WasPut}
 use Rattle.store_api.specs.Program.{Done}
-use Rattle.store_api.proofs.Slots.{WasPut-append, StoodAt-append, found-stood}
+use Rattle.object_store.proofs.Slots.{WasPut-append, StoodAt-append, found-stood}
 use Rattle.repo_read.specs.declared.answers.Resolved.{Resolved}
 use Rattle.repo_read.specs.declared.resolving.At.{At}
 use Rattle.repo_read.specs.declared.resolving.Named.{Named}
 use Rattle.repo_read.specs.Answers.{at_key, resolved_at, ref_told}
 use Rattle.repo_read.specs.Programs.{resolve_program}
 use Rattle.repo_read.specs.Resolving.{alone, tag_told, tombstone_told, tag_program, tombstone_program, resolve_at_program}
-use Rattle.session.specs.Opening.{tip_named}
+use Rattle.session.specs.Sessions.{tip_in}
+use Rattle.session.specs.Opening.{of_branch, origin_named}
 use Rattle.commit_path.specs.Opened.{BranchNamed, IsByRef, IsTip}
 use Rattle.commit_path.proofs.Knowing.{IsTip-append}
 use Rattle.play_course.specs.Refusing.{is_strange}
@@ -32,23 +33,18 @@ use Rattle.play_course.proofs.Knowing.{OfOthers, OfOwn, beside}
 -- ---- what was named
 -- the branch, if it was one, stood at this version with a reference to the snapshot, so that a session may keep it; and what a ref names was put
 pub record Names (at : At) (named : Named) (journal : List Event) : Type 0 where
-  pub tip : (writes : Bool) → IsTip journal named.id (cond writes (tip_named at named.version) None)
+  pub tip : (writes : Bool) → IsTip journal named.id (tip_in (origin_named writes at named.version))
   pub put : IsByRef at → WasPut journal (Snapshot named.id)
 
 pub names-more : (at : At) (named : Named) (journal more : List Event) → Names at named journal → Names at named (journal ++ more)
 names-more at named journal more n = record {
-  tip = λ writes. IsTip-append journal more named.id (cond writes (tip_named at named.version) None) (n.tip writes);
+  tip = λ writes. IsTip-append journal more named.id (tip_in (origin_named writes at named.version)) (n.tip writes);
   put = λ by. WasPut-append journal more (Snapshot named.id) (n.put by);
 }
 
--- what isn't a branch keeps no tip
-tip-none : (journal : List Event) (id : Id12) (writes : Bool) → IsTip journal id (cond writes None None)
-tip-none journal id true = tt
-tip-none journal id false = tt
-
-branch-tip : (name : List ℕ) (read : Resolved) (journal : List Event) → BranchNamed journal name read.version.0 read.id → (writes : Bool) → IsTip journal read.id (cond writes (Some (record { branch = name; version = read.version })) None)
+branch-tip : (name : List ℕ) (read : Resolved) (journal : List Event) → BranchNamed journal name read.version.0 read.id → (writes : Bool) → IsTip journal read.id (tip_in (of_branch writes (record { branch = name; version = read.version })))
 branch-tip name read journal n true = n
-branch-tip name read journal n false = tt
+branch-tip name read journal n false = n
 
 -- ---- names
 -- what is known of the journal is known through the events of others, and through own gets
@@ -123,7 +119,7 @@ module _ (client : Client) (ids : AnyIds) (K : List Event → Type 0) (k_others 
       then-meets Tags (Resolves (At.Tag name)) (beside client ids) (tag_program name) _ journal (tag-read name journal k)
       (λ tagged h t.
       then-meets Tags (Resolves (At.Tag name)) (beside client ids) (tombstone_program name tagged) (λ id. Done (Ok (alone id))) h (tombstone-read name tagged h t.0 t.1)
-      (λ id j u. done-meets (Resolves (At.Tag name)) (beside client ids) (Ok (alone id)) j (u.0, record { tip = λ writes. tip-none j id writes; put = λ by. u.1 }))
+      (λ id j u. done-meets (Resolves (At.Tag name)) (beside client ids) (Ok (alone id)) j (u.0, record { tip = λ writes. tt; put = λ by. u.1 }))
       (λ why j p. p))
       (λ why h p. p)
-  resolve-meets (At.Snapshot id) journal k = done-meets (Resolves (At.Snapshot id)) (beside client ids) (Ok (alone id)) journal (k, record { tip = λ writes. tip-none journal id writes; put = λ by. absurd by })
+  resolve-meets (At.Snapshot id) journal k = done-meets (Resolves (At.Snapshot id)) (beside client ids) (Ok (alone id)) journal (k, record { tip = λ writes. tt; put = λ by. absurd by })

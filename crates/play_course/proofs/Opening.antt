@@ -7,27 +7,27 @@ use Rattle.snapshot_file.specs.declared.snapshot.SnapshotFile.{SnapshotFile}
 use Rattle.repo_objects.specs.declared.bad.Bad.{Bad}
 use Rattle.repo_objects.specs.Readings.{read_snapshot, snapshot_by}
 use Rattle.repo_objects.specs.Trees.{tree_under}
-use Rattle.store_api.specs.declared.keys.Key.{Key}
-use Rattle.store_api.specs.declared.keys.Key.TheVariants.{Snapshot}
-use Rattle.store_api.specs.declared.events.Op.TheVariants.{Get}
-use Rattle.store_api.specs.declared.events.Event.{Event}
-use Rattle.store_api.specs.declared.events.Got.TheVariants.{Found, Absent}
-use Rattle.store_api.specs.declared.events.Reply.TheVariants.{Got as Is_got, Failed}
-use Rattle.store_api.specs.declared.events.Version.{Version}
+use Rattle.object_store.specs.declared.keys.Key.{Key}
+use Rattle.object_store.specs.declared.keys.Key.TheVariants.{Snapshot}
+use Rattle.object_store.specs.declared.events.Op.TheVariants.{Get}
+use Rattle.object_store.specs.declared.events.Event.{Event}
+use Rattle.object_store.specs.declared.events.Got.TheVariants.{Found, Absent}
+use Rattle.object_store.specs.declared.events.Reply.TheVariants.{Got as Is_got, Failed}
+use Rattle.object_store.specs.declared.events.Version.{Version}
 use Rattle.store_api.specs.declared.machines.Refusal.{Refusal}
 use Rattle.store_api.specs.declared.machines.Refusal.TheVariants as R
-use Rattle.store_api.specs.Machine.{Stored, found, last_put, version_at}
+use Rattle.object_store.specs.Machine.{Stored, found, last_put, version_at}
 use Rattle.store_api.specs.Journal.{Each, IsGood, WasPut, rows_of, snap_in, puts_of}
 use Rattle.store_api.specs.Program.{Done}
 use Rattle.store_api.specs.Running.{Program, on_answer}
-use Rattle.store_api.proofs.Journals.{Each-one}
-use Rattle.store_api.proofs.Slots.{WasPut-append, StoodAt-append, found-stood, sound}
+use Rattle.object_store.proofs.Journals.{Each-one}
+use Rattle.object_store.proofs.Slots.{WasPut-append, StoodAt-append, found-stood, sound}
 use Rattle.repo_read.specs.declared.resolving.At.{At}
 use Rattle.repo_read.specs.declared.resolving.Named.{Named}
 use Rattle.repo_read.specs.Answers.{at_key}
 use Rattle.repo_read.specs.Resolving.{but_refused, no_ref, resolve_at_program, base_told}
-use Rattle.session.specs.Sessions.{SessionState}
-use Rattle.session.specs.Opening.{Asked, tip_for, begun, base_program, open_program}
+use Rattle.session.specs.Sessions.{SessionState, tip_in}
+use Rattle.session.specs.Opening.{Asked, origin_for, begun, base_program, open_program}
 use Rattle.commit_path.specs.Opened.{IsByRef, IsTip}
 use Rattle.commit_path.specs.Single.{PutsSnapshot}
 use Rattle.commit_path.proofs.Knowing.{IsTip-append, tree-by_rows, rows-kept}
@@ -80,7 +80,7 @@ module _ (client : Client) (ids : AnyIds) where
     Opens (Err why) h = is_strange why ≡ false
 
     -- the session that begins at this snapshot, got in this journal
-    begun-held : (named : Named) (journal : List Event) (event : Event) (st : Stored) (snap : SnapshotFile) → IsTip journal named.id (tip_for a named) → Begins journal → OfOwn ids journal event → event.op ≡ Get (Snapshot named.id) → found journal (Snapshot named.id) ≡ Some st → snapshot_by named.id st.bytes ≡ Some snap
+    begun-held : (named : Named) (journal : List Event) (event : Event) (st : Stored) (snap : SnapshotFile) → IsTip journal named.id (tip_in (origin_for a named)) → Begins journal → OfOwn ids journal event → event.op ≡ Get (Snapshot named.id) → found journal (Snapshot named.id) ≡ Some st → snapshot_by named.id st.bytes ≡ Some snap
         → Held client ids (begun a named snap) (journal ++ event ∷ [])
     begun-held named journal event st snap tip b own is at read =
         let s : SessionState = begun a named snap in
@@ -95,7 +95,7 @@ module _ (client : Client) (ids : AnyIds) where
           goes = begun-goes ids s a_ids refl;
           own = λ p m f. b.nodes named.id (tree_under (puts_of journal) snap.nodes) p m (tree-by_rows journal named.id snap.nodes rows) f;
           opened = record {
-            named = IsTip-append journal (event ∷ []) named.id (tip_for a named) tip;
+            named = IsTip-append journal (event ∷ []) named.id (tip_in (origin_for a named)) tip;
             put = WasPut-append journal (event ∷ []) (Snapshot named.id) put;
             had = record { version = st.version; bytes = st.bytes; stood = StoodAt-append journal (event ∷ []) (Snapshot named.id) st.version st.bytes (found-stood journal (Snapshot named.id) st at); snap = snap; read = read; rows_are = refl };
             rows = λ once. rows-kept journal (event ∷ []) named.id snap.nodes put good (λ before. rows) once;

@@ -7,21 +7,21 @@ use Rattle.ice_ids.specs.Drawing.{after12}
 use Rattle.zarr_changes.specs.Sets.{set_refusal}
 use Rattle.manifest_file.specs.declared.manifest.Place.TheVariants.{Inline, Object}
 use Rattle.repo_objects.specs.Trees.{part_of}
-use Rattle.store_api.specs.declared.keys.Key.{Key}
-use Rattle.store_api.specs.declared.keys.Key.TheVariants.{Chunk}
-use Rattle.store_api.specs.declared.keys.Why.{Why}
-use Rattle.store_api.specs.declared.keys.Why.TheVariants.{Set}
-use Rattle.store_api.specs.declared.events.Op.{Op}
-use Rattle.store_api.specs.declared.events.Op.TheVariants.{PutNew}
-use Rattle.store_api.specs.declared.events.Event.{Event}
+use Rattle.object_store.specs.declared.keys.Key.{Key}
+use Rattle.object_store.specs.declared.keys.Key.TheVariants.{Chunk}
+use Rattle.object_store.specs.declared.keys.Why.{Why}
+use Rattle.object_store.specs.declared.keys.Why.TheVariants.{Set}
+use Rattle.object_store.specs.declared.events.Op.{Op}
+use Rattle.object_store.specs.declared.events.Op.TheVariants.{PutNew}
+use Rattle.object_store.specs.declared.events.Event.{Event}
 use Rattle.store_api.specs.declared.machines.Refusal.{Refusal}
 use Rattle.store_api.specs.declared.machines.Refusal.TheVariants as R
-use Rattle.store_api.specs.Machine.{Stored, Slot, slot_of, effect, found, last_put, is_on, was_done, leaves, put_at, where_free}
+use Rattle.object_store.specs.Machine.{Stored, Slot, slot_of, effect, found, last_put, is_on, was_done, leaves, put_at, where_free}
 use Rattle.store_api.specs.Journal.{WasPut, IsGood}
 use Rattle.store_api.specs.Program.{Done}
 use Rattle.store_api.specs.Running.{Program}
-use Rattle.store_api.proofs.Journals.{Each-one}
-use Rattle.store_api.proofs.Slots.{same_key-refl, slot-append_one, sound}
+use Rattle.object_store.proofs.Journals.{Each-one}
+use Rattle.object_store.proofs.Slots.{same_key-refl, slot-append_one, sound}
 use Rattle.session.specs.Sessions.{SessionState, nodes_seen}
 use Rattle.session.specs.Editing.{refusal_of_edit}
 use Rattle.session.specs.Chunks.{with_chunk, after_draw, after_object, put_object, set_program}

@@ -4,13 +4,13 @@ use Rattle.std.specs.Prelude.{◌==◌, Option, Some, None, Result, Ok, Err, IsT
 use Rattle.std.proofs.Common.{eqb-true}
 use Rattle.std.specs.declared.alloc.AllocError.{AllocError}
 use Rattle.ice_ids.specs.declared.drawing.Draw.{Draw}
-use Rattle.store_api.specs.declared.events.Event.{Event}
+use Rattle.object_store.specs.declared.events.Event.{Event}
 use Rattle.store_api.specs.declared.machines.Refusal.{Refusal}
 use Rattle.store_api.specs.Journal.{Each, IsGood, IsGoodJournal}
 use Rattle.store_api.specs.Callers.{Caller, View, HasAll, IsOther, only, as_client}
 use Rattle.store_api.specs.Program.{events_of}
 use Rattle.store_api.specs.Running.{Program, Runs}
-use Rattle.store_api.proofs.Journals.{Each-append, Each-both}
+use Rattle.object_store.proofs.Journals.{Each-append, Each-both}
 use Rattle.repository.specs.Beginning.{begin_program}
 use Rattle.repository.specs.Refs.{refs_program}
 use Rattle.play_script.specs.declared.scripts.Script.{Script}

@@ -22,17 +22,17 @@ use Rattle.repo_objects.specs.declared.bad.Bad.TheVariants.{Chunk as BadChunk}
 use Rattle.repo_objects.specs.Readings.{manifest_by, read_manifest, read_inline, read_chunk}
 use Rattle.repo_objects.specs.Trees.{Puts, Extends, part_of, bytes_at, manifest_put, or_empty, listed}
 use Rattle.changed_snapshot.specs.Rows.{own_manifests}
-use Rattle.store_api.specs.declared.keys.Key.{Key}
-use Rattle.store_api.specs.declared.keys.Key.TheVariants.{Manifest, Chunk}
-use Rattle.store_api.specs.declared.events.Op.TheVariants.{Get}
-use Rattle.store_api.specs.declared.events.Event.{Event}
+use Rattle.object_store.specs.declared.keys.Key.{Key}
+use Rattle.object_store.specs.declared.keys.Key.TheVariants.{Manifest, Chunk}
+use Rattle.object_store.specs.declared.events.Op.TheVariants.{Get}
+use Rattle.object_store.specs.declared.events.Event.{Event}
 use Rattle.store_api.specs.declared.machines.Refusal.{Refusal}
 use Rattle.store_api.specs.declared.machines.Refusal.TheVariants as R
-use Rattle.store_api.specs.Machine.{Stored, last_put}
+use Rattle.object_store.specs.Machine.{Stored, last_put}
 use Rattle.store_api.specs.Journal.{Each, IsGood, puts_of}
 use Rattle.store_api.specs.Program.{Done}
 use Rattle.store_api.specs.Running.{Program, on_answer}
-use Rattle.store_api.proofs.Journals.{Each-one}
+use Rattle.object_store.proofs.Journals.{Each-one}
 use Rattle.repo_read.specs.Answers.{at_key, manifest_told, object_told}
 use Rattle.session.specs.declared.chunks.Value.{Value}
 use Rattle.session.specs.declared.chunks.Value.TheVariants.{Held as Is_held, Fill}

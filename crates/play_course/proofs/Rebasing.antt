@@ -23,23 +23,24 @@ use Rattle.repo_objects.specs.declared.bad.Bad.TheVariants.{Unlisted}
 use Rattle.repo_objects.specs.Laws.{SnapshotLaw}
 use Rattle.repo_objects.specs.Readings.{read_snapshot, snapshot_by, read_log, log_by, read_ref}
 use Rattle.repo_objects.specs.Trees.{nodes_in}
-use Rattle.store_api.specs.declared.keys.Key.TheVariants.{Snapshot, Txn, Branch}
-use Rattle.store_api.specs.declared.events.Op.TheVariants.{Get}
-use Rattle.store_api.specs.declared.events.Event.{Event}
+use Rattle.object_store.specs.declared.keys.Key.TheVariants.{Snapshot, Txn, Branch}
+use Rattle.object_store.specs.declared.events.Op.TheVariants.{Get}
+use Rattle.object_store.specs.declared.events.Event.{Event}
 use Rattle.store_api.specs.declared.machines.Refusal.{Refusal}
+use Rattle.zarr_tree.specs.declared.edit.EditFault.TheVariants as E
 use Rattle.store_api.specs.declared.machines.Refusal.TheVariants as R
-use Rattle.store_api.specs.Machine.{Stored, found, first_put, version_at}
+use Rattle.object_store.specs.Machine.{Stored, found, first_put, version_at}
 use Rattle.store_api.specs.Journal.{Each, IsGood, WasPut, ParentPut, lists_of, snap_in, snap_made}
 use Rattle.store_api.specs.Program.{Done, Ask}
 use Rattle.store_api.specs.Running.{Program, ◌>>=◌, on_answer}
-use Rattle.store_api.proofs.Journals.{Each-one}
-use Rattle.store_api.proofs.Slots.{WasPut-append, found-stood, sound}
+use Rattle.object_store.proofs.Journals.{Each-one}
+use Rattle.object_store.proofs.Slots.{WasPut-append, found-stood, sound}
 use Rattle.store_api.proofs.Standing.{snap_made-append}
 use Rattle.store_api.proofs.Telling.{Had}
 use Rattle.repo_read.specs.declared.answers.Resolved.{Resolved}
 use Rattle.repo_read.specs.Answers.{at_key, resolved_at, ref_told, snapshot_told, log_told}
 use Rattle.repo_read.specs.Chains.{most_snapshots}
-use Rattle.session.specs.Sessions.{SessionState, base_nodes, branch_of, moved_to, tip_at, writes}
+use Rattle.session.specs.Sessions.{SessionState, base_nodes, branch_of, moved_to, origin_at, writes}
 use Rattle.commit_path.proofs.Entries.{filter-fewer}
 use Rattle.rebase.specs.declared.machine.Rebased.{Rebased}
 use Rattle.rebase.specs.declared.machine.Rebased.TheVariants.{Moved, UpToDate}
@@ -291,8 +292,8 @@ module _ (client : Client) (ids : AnyIds) (law : SnapshotLaw) (policy : Policy) 
   head-meets : (named : Resolved) (count : ℕ) (c : Commits) (held : Held Place) (h : List Event) → Chain named c h → IsLess s.held held → Meets RebasesWell (beside client ids) (on_head s named count (head_of c.oldest c.later) held) h
   head-meets named count c held h k less = by_test (nat_lt most_nodes (len (nodes_over held (nodes_in (head_of c.oldest c.later).nodes))))
     where
-      by_test : (b : Bool) → Meets RebasesWell (beside client ids) (cond b (Done (Err R.Full)) (Done (Ok (Moved (moved_to s named.id named.version.0 (head_of c.oldest c.later) held) count)))) h
-      by_test true = done-meets RebasesWell (beside client ids) (Err R.Full) h (inl refl)
+      by_test : (b : Bool) → Meets RebasesWell (beside client ids) (cond b (Done (Err (R.Edit E.Full))) (Done (Ok (Moved (moved_to s named.id named.version.0 (head_of c.oldest c.later) held) count)))) h
+      by_test true = done-meets RebasesWell (beside client ids) (Err (R.Edit E.Full)) h (inl refl)
       by_test false = done-meets RebasesWell (beside client ids) (Ok (Moved (moved_to s named.id named.version.0 (head_of c.oldest c.later) held) count)) h (record {
         before = k.may.before;
         known = k.may.known;
@@ -308,8 +309,8 @@ module _ (client : Client) (ids : AnyIds) (law : SnapshotLaw) (policy : Policy) 
   named-meets : (named : Resolved) (h : List Event) → MayCommit client s h → HasNamed (branch_of s) named.version.0 named.id h → WasPut h (Snapshot named.id) → Meets RebasesWell (beside client ids) (after_ref policy s named) h
   named-meets named h may branch put = by_base (same_id12 named.id s.base) refl
     where
-      by_base : (b : Bool) → same_id12 named.id s.base ≡ b → Meets RebasesWell (beside client ids) (cond b (Done (Ok (UpToDate (record s { tip = tip_at named.version.0 s.tip })))) (walk_down s.base named.id most_snapshots [] named.id >>= over_commits policy s named)) h
-      by_base true t = done-meets RebasesWell (beside client ids) (Ok (UpToDate (record s { tip = tip_at named.version.0 s.tip }))) h (record {
+      by_base : (b : Bool) → same_id12 named.id s.base ≡ b → Meets RebasesWell (beside client ids) (cond b (Done (Ok (UpToDate (record s { origin = origin_at named.version.0 s.origin })))) (walk_down s.base named.id most_snapshots [] named.id >>= over_commits policy s named)) h
+      by_base true t = done-meets RebasesWell (beside client ids) (Ok (UpToDate (record s { origin = origin_at named.version.0 s.origin }))) h (record {
         before = may.before;
         known = may.known;
         opened = same-opened s named.version.0 h (subst (λ (id : Id12). HasNamed (branch_of s) named.version.0 id h) (same_id12-true named.id s.base t) branch) may.opened;

@@ -15,9 +15,10 @@ use Rattle.zarr_meta.specs.Plain.{group_text}
 use Rattle.zarr_tree.specs.Nodes.{Node}
 use Rattle.zarr_tree.specs.declared.edit.EditFault.{EditFault}
 use Rattle.repo_objects.specs.Laws.{SnapshotLaw}
-use Rattle.store_api.specs.declared.events.Event.{Event}
-use Rattle.store_api.specs.declared.events.Version.{Version}
+use Rattle.object_store.specs.declared.events.Event.{Event}
+use Rattle.object_store.specs.declared.events.Version.{Version}
 use Rattle.store_api.specs.declared.machines.Refusal.{Refusal}
+use Rattle.zarr_tree.specs.declared.edit.EditFault.TheVariants as Fault
 use Rattle.store_api.specs.declared.machines.Refusal.TheVariants as R
 use Rattle.store_api.specs.Plays.{Play, call}
 use Rattle.session.specs.declared.session.Listing.{Listing}
@@ -155,16 +156,16 @@ edited-plain (KeySet key bytes) s = done-plain s
 edited-plain (KeyErase key) s = key-plain s key
 
 there-plain : {A B : Type 0} (o : Option A) (b : B) → IsPlain (if_there o b)
-there-plain None b why e = refused_as why R.NoNode refl e
+there-plain None b why e = refused_as why (R.Edit Fault.NoNode) refl e
 there-plain (Some a) b why e = cc
 
 nodes-plain : (line : ℕ) (r : Result (List Listing) Refusal) → IsPlain r → IsPlain (nodes_shown line r)
 nodes-plain line (Ok nodes) p why e = cc
 nodes-plain line (Err own) p why e = let same : own ≡ why = cc in subst (λ (w : Refusal). is_strange w ≡ false) same (p own refl)
 
-meta-plain : (line : ℕ) (o : Option (List ℕ)) → IsPlain (meta_shown line (ok_or o R.NoNode))
+meta-plain : (line : ℕ) (o : Option (List ℕ)) → IsPlain (meta_shown line (ok_or o (R.Edit Fault.NoNode)))
 meta-plain line (Some text) why e = cc
-meta-plain line None why e = refused_as why R.NoNode refl e
+meta-plain line None why e = refused_as why (R.Edit Fault.NoNode) refl e
 
 shown-plain : (shown : List Shown) → IsPlain {A = List Shown} (Ok shown)
 shown-plain shown why e = cc

@@ -9,17 +9,17 @@ use Rattle.ice_ids.specs.Drawing.{DrawsOnce}
 use Rattle.ice_ids.specs.Text.{initial_id}
 use Rattle.snapshot_file.specs.declared.snapshot.SnapshotFile.{SnapshotFile}
 use Rattle.repo_objects.specs.Readings.{snapshot_by}
-use Rattle.store_api.specs.declared.keys.Key.{Key}
-use Rattle.store_api.specs.declared.keys.Key.TheVariants.{Snapshot, Manifest, Txn, Chunk, Branch, Tag, TagGone}
-use Rattle.store_api.specs.declared.events.Op.{Op}
-use Rattle.store_api.specs.declared.events.Op.TheVariants.{Get, PutNew, PutOver, Remove, RemoveAt, List as ListPart}
-use Rattle.store_api.specs.declared.events.Event.{Event}
-use Rattle.store_api.specs.Machine.{Stored, Slot, slot_of, found, first_put, leaves, put_at, is_on}
+use Rattle.object_store.specs.declared.keys.Key.{Key}
+use Rattle.object_store.specs.declared.keys.Key.TheVariants.{Snapshot, Manifest, Txn, Chunk, Branch, Tag, TagGone, Lease}
+use Rattle.object_store.specs.declared.events.Op.{Op}
+use Rattle.object_store.specs.declared.events.Op.TheVariants.{Get, PutNew, PutOver, Remove, RemoveAt, List as ListPart}
+use Rattle.object_store.specs.declared.events.Event.{Event}
+use Rattle.object_store.specs.Machine.{Stored, Slot, slot_of, found, first_put, leaves, put_at, is_on}
 use Rattle.store_api.specs.Journal.{Each, IsGood, IsUnused, WasPut}
 use Rattle.store_api.specs.Laws.{AllNamed}
-use Rattle.store_api.proofs.Journals.{Each-append, Each-weaker}
+use Rattle.object_store.proofs.Journals.{Each-append, Each-weaker}
 use Rattle.store_api.proofs.Naming.{names-law}
-use Rattle.store_api.proofs.Slots.{effect-cases, free-cases, old-cases, slot-append_one, slot-none, same_key-true}
+use Rattle.object_store.proofs.Slots.{effect-cases, free-cases, old-cases, slot-append_one, slot-none, same_key-true}
 use Rattle.run_histories.proofs.Along.{IsObject, Removes, no-object, unused-one}
 use Rattle.run_histories.proofs.Drawing.{IsDrawnBy, AreOf, drawn-not_initial}
 use Rattle.run_histories.proofs.Programs.{IsBranch}
@@ -38,6 +38,7 @@ PutsNew who bytes (Chunk id) = who id
 PutsNew who bytes (Branch name) = Unit {0}
 PutsNew who bytes (Tag name) = Unit {0}
 PutsNew who bytes (TagGone name) = Unit {0}
+PutsNew who bytes (Lease id) = who id
 
 -- what stands under an id isn't put over
 abbrev pub PutsOver : Key → Type 0
@@ -48,6 +49,7 @@ PutsOver (Chunk id) = ⊥
 PutsOver (Branch name) = Unit {0}
 PutsOver (Tag name) = Unit {0}
 PutsOver (TagGone name) = Unit {0}
+PutsOver (Lease id) = ⊥
 
 -- ... and nothing is removed but branches
 abbrev pub Puts : (Id12 → Type 0) → Op → Type 0
@@ -71,6 +73,7 @@ new-weaker who more f bytes (Chunk id) p = f id p
 new-weaker who more f bytes (Branch name) p = tt
 new-weaker who more f bytes (Tag name) p = tt
 new-weaker who more f bytes (TagGone name) p = tt
+new-weaker who more f bytes (Lease id) p = f id p
 
 pub puts-weaker : (who more : Id12 → Type 0) → ((id : Id12) → who id → more id) → (op : Op) → Puts who op → Puts more op
 puts-weaker who more f (Get key) p = tt
@@ -175,6 +178,7 @@ over-no-object (Chunk id) o p = p
 over-no-object (Branch name) o p = o
 over-no-object (Tag name) o p = o
 over-no-object (TagGone name) o p = o
+over-no-object (Lease id) o p = p
 
 -- what stands was put first, where it isn't put over
 abbrev IsFirstPut : Slot → Type 0

@@ -6,17 +6,17 @@ use Rattle.ice_ids.specs.declared.Id12.{Id12}
 use Rattle.ice_ids.specs.declared.drawing.AnyIds.{AnyIds}
 use Rattle.ice_ids.specs.declared.drawing.Draw.{Draw}
 use Rattle.ice_ids.specs.Drawing.{DrawsOnce}
-use Rattle.store_api.specs.declared.keys.Key.{Key}
-use Rattle.store_api.specs.declared.keys.Key.TheVariants.{Snapshot, Manifest, Txn, Chunk, Branch, Tag, TagGone}
-use Rattle.store_api.specs.declared.events.Op.{Op}
-use Rattle.store_api.specs.declared.events.Op.TheVariants.{Get, PutNew, PutOver, Remove, RemoveAt, List as ListPart}
-use Rattle.store_api.specs.declared.events.Event.{Event}
+use Rattle.object_store.specs.declared.keys.Key.{Key}
+use Rattle.object_store.specs.declared.keys.Key.TheVariants.{Snapshot, Manifest, Txn, Chunk, Branch, Tag, TagGone, Lease}
+use Rattle.object_store.specs.declared.events.Op.{Op}
+use Rattle.object_store.specs.declared.events.Op.TheVariants.{Get, PutNew, PutOver, Remove, RemoveAt, List as ListPart}
+use Rattle.object_store.specs.declared.events.Event.{Event}
 use Rattle.store_api.specs.declared.machines.Refusal.{Refusal}
 use Rattle.store_api.specs.declared.machines.Refusal.TheVariants as R
 use Rattle.store_api.specs.Journal.{Each, IsGood}
 use Rattle.store_api.specs.Callers.{Caller, View, HasAll, as_client}
 use Rattle.store_api.specs.Program.{Done, Path, events_of}
-use Rattle.store_api.proofs.Journals.{Each-append, Each-weaker, Each-both}
+use Rattle.object_store.proofs.Journals.{Each-append, Each-weaker, Each-both}
 use Rattle.session.specs.Sessions.{SessionState}
 use Rattle.commit_path.specs.Owed.{Sessions, OwesNew, Owes}
 use Rattle.store_api.specs.Running.{Program, Runs}
@@ -44,7 +44,7 @@ use Rattle.run_histories.specs.Sources.{NodesAreNew, IsNewRun}
 use Rattle.run_histories.specs.Runs.{IsSound, RanAlone}
 use Rattle.run_histories.specs.Told.{NoneHidden, RunLaw}
 use Rattle.run_histories.proofs.Growing.{Holds, AllNodesAreNew}
-use Rattle.run_histories.proofs.Passing.{IsOfRun, IsKnown, known-holds, known-nodes, holds-along, plain-known, plain-nodes-along, run-knows}
+use Rattle.run_histories.proofs.Passing.{IsOfRun, IsKnown, client-of_run, known-holds, known-nodes, holds-along, plain-known, plain-nodes-along, run-knows}
 use Rattle.run_histories.proofs.Joined.{nothing-law}
 use Rattle.zarr_tree.specs.Changes.{none}
 use Rattle.session.specs.Sources.{MayDrawObject}
@@ -84,6 +84,7 @@ new-puts ids mine who f g journal bytes (Chunk id) o = g id o
 new-puts ids mine who f g journal bytes (Branch name) o = absurd o
 new-puts ids mine who f g journal bytes (Tag name) o = absurd o
 new-puts ids mine who f g journal bytes (TagGone name) o = absurd o
+new-puts ids mine who f g journal bytes (Lease id) o = absurd o
 
 owes-puts : (ids : AnyIds) (mine : Sessions) (who : Id12 → Type 0) → ((h : List Event) (s : SessionState) (id : Id12) → mine h s id → who id) → ((id : Id12) → MayDrawObject ids id → who id) → (journal : List Event) (op : Op) → Owes ids mine journal op → Puts who op
 owes-puts ids mine who f g journal (Get key) o = tt
@@ -96,6 +97,7 @@ owes-puts ids mine who f g journal (PutOver (Manifest id) bytes old why) o = abs
 owes-puts ids mine who f g journal (PutOver (Chunk id) bytes old why) o = absurd o
 owes-puts ids mine who f g journal (PutOver (Tag name) bytes old why) o = absurd o
 owes-puts ids mine who f g journal (PutOver (TagGone name) bytes old why) o = absurd o
+owes-puts ids mine who f g journal (PutOver (Lease id) bytes old why) o = absurd o
 owes-puts ids mine who f g journal (Remove key why) o = absurd o
 owes-puts ids mine who f g journal (RemoveAt key old why) o = absurd o
 
@@ -147,7 +149,7 @@ module _ (initial : InitialLaw) (draw : Draw) (tasks : List Task) (once : DrawsO
   -- what was known of all events of the tasks
   comes-along : (start own : List Event) → Each (IsOfClient draw tasks start) start own → Hold start → AllNodesAreNew draw tasks once wells initial [] start → Each (Comes start) start own
   comes-along start own careful holds nodes =
-      let known = run-knows draw tasks once wells initial [] start own (Each-weaker (IsOfClient draw tasks start) (IsOfRun draw tasks once wells initial [] start) (λ h event c. by-head draw tasks start h event c) start own careful) holds nodes in
+      let known = run-knows draw tasks once wells initial [] start own (Each-weaker (IsOfClient draw tasks start) (IsOfRun draw tasks once wells initial [] start) (client-of_run draw tasks once wells initial [] start) start own careful) holds nodes in
       Each-both (IsOfClient draw tasks start) (IsKnown draw tasks once wells initial [] start) (Comes start) (λ h event c k. (c, k)) start own careful known
 
   -- ---- one task

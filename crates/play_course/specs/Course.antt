@@ -2,7 +2,7 @@
 -- read (own).
 use Rattle.std.specs.Prelude.{◌≡◌, ◌≤◌, Bool, List, [], length, Option, Some, None, Result, Ok, Err, IsTrue}
 use Rattle.ice_ids.specs.declared.drawing.Draw.{Draw}
-use Rattle.store_api.specs.declared.events.Event.{Event}
+use Rattle.object_store.specs.declared.events.Event.{Event}
 use Rattle.store_api.specs.declared.machines.Refusal.{Refusal}
 use Rattle.store_api.specs.Callers.{View, HasAll, as_client}
 use Rattle.store_api.specs.Running.{Runs}

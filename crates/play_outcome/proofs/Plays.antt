@@ -1,7 +1,7 @@
 -- Laws of programs and plays.
 use Rattle.std.proofs.Common.{ℕ, List}
-use Rattle.store_api.specs.declared.events.Op.{Op}
-use Rattle.store_api.specs.declared.events.Event.{Event}
+use Rattle.object_store.specs.declared.events.Op.{Op}
+use Rattle.object_store.specs.declared.events.Event.{Event}
 use Rattle.store_api.specs.Callers.{Caller}
 use Rattle.store_api.specs.Program.{Prog, Done, Ask as Ask_next, Keeps}
 use Rattle.store_api.specs.Plays.{Play, Ended, Ask, Or, PlayLeads}

@@ -1,14 +1,14 @@
 -- A step of a worker's machine is a step of the worker.
 use Rattle.std.proofs.Common.{Bool, true, false, ◌≡◌, ◌⊎◌, inl, inr, refl, sym, ap, subst, ℕ, List, Result, Ok, Err}
 use Rattle.std.specs.Prelude.{IsTrue}
-use Rattle.store_api.specs.declared.events.Op.{Op}
-use Rattle.store_api.specs.declared.events.Reply.{Reply}
+use Rattle.object_store.specs.declared.events.Op.{Op}
+use Rattle.object_store.specs.declared.events.Reply.{Reply}
 use Rattle.store_api.specs.declared.machines.Next.{Next}
 use Rattle.store_api.specs.declared.machines.Next.TheVariants.{Again, Ready}
 use Rattle.store_api.specs.declared.machines.Refusal.{Refusal}
 use Rattle.store_api.specs.declared.machines.Refusal.TheVariants.{NoMemory}
 use Rattle.store_api.specs.Callers.{View, Waits}
-use Rattle.store_api.specs.Program.{Prog, Done, Ask as Ask_next, is_ask, is_over, is_no_memory, Lands, IsSure, Steps, Blames}
+use Rattle.store_api.specs.Program.{Prog, Done, Ask as Ask_next, is_ask, moves_branch, is_no_memory, Lands, IsSure, Steps, Blames}
 use Rattle.store_api.specs.Plays.{Play, Ended, Ask, Or, call, behind, Comes, Acts, Starved, BlamesEnd}
 use Rattle.play_outcome.specs.declared.outcome.Outcome.{Outcome}
 use Rattle.play_outcome.specs.Ending.{is_failed}
@@ -45,7 +45,7 @@ module _ {T : Type 0} (f : Result T Refusal → Play Outcome) (r : Play Outcome)
   free next q (Ok (Ready t)) l c = inl (goes next (Done (Ok t)) l.0 c)
   free next q (Err why) l c = refused next q why (is_no_memory why) refl l c
 
-  landed : (op : Op) (over : Bool) (next q : Prog (Result T Refusal)) (result : Result (Next T) Refusal) → is_over op ≡ over → Lands next q result → (is_over op ≡ true → IsSure next result) → Comes (settled f q result) r → Comes (behind op (call next f) (f (Err NoMemory))) r
+  landed : (op : Op) (over : Bool) (next q : Prog (Result T Refusal)) (result : Result (Next T) Refusal) → moves_branch op ≡ over → Lands next q result → (moves_branch op ≡ true → IsSure next result) → Comes (settled f q result) r → Comes (behind op (call next f) (f (Err NoMemory))) r
   landed op true next q result e l s c = rw e (sure next q result l (s e) c)
   landed op false next q result e l s c = rw e (free next q result l c)
 
@@ -67,14 +67,14 @@ module _ {T : Type 0} (f : Result T Refusal → Play Outcome) (r : Play Outcome)
         asks = ap (λ (x : Prog (Result T Refusal)). call x f) m.asks;
         fits = m.fits;
         made = m.made;
-        comes = landed m.op (is_over m.op) (m.next m.reply) q result refl m.lands m.sure c;
+        comes = landed m.op (moves_branch m.op) (m.next m.reply) q result refl m.lands m.sure c;
       })
       | inr n ↦ inr (starves old new p live n.waits (subst (λ (x : Result (Next T) Refusal). Comes (settled f q x) r) n.result_is c))
     ];
   }
 
   -- ---- machines that only read, behind whose answers there may be no memory
-  landed-read : (op : Op) (next q : Prog (Result T Refusal)) (result : Result (Next T) Refusal) → is_over op ≡ false → Lands next q result → ComesOrStarves f q result r → Comes (behind op (call next f) (f (Err NoMemory))) r
+  landed-read : (op : Op) (next q : Prog (Result T Refusal)) (result : Result (Next T) Refusal) → moves_branch op ≡ false → Lands next q result → ComesOrStarves f q result r → Comes (behind op (call next f) (f (Err NoMemory))) r
   landed-read op next q result e l (inl c) = rw e (free next q result l c)
   landed-read op next q result e l (inr c) = rw e (inr c)
 
@@ -82,7 +82,7 @@ module _ {T : Type 0} (f : Result T Refusal → Play Outcome) (r : Play Outcome)
   stopped-read q result is (inl c) = subst (λ (x : Result (Next T) Refusal). Comes (settled f q x) r) is c
   stopped-read q result is (inr c) = c
 
-  pub acts-reads : (old new : View) (p q : Prog (Result T Refusal)) (result : Result (Next T) Refusal) → ((op : Op) (next : Reply → Prog (Result T Refusal)) → p ≡ Ask_next op next → is_over op ≡ false) → is_ask p ≡ true → Steps old new p q result → ComesOrStarves f q result r → Faults result r → Acts is_failed old new (call p f) r
+  pub acts-reads : (old new : View) (p q : Prog (Result T Refusal)) (result : Result (Next T) Refusal) → ((op : Op) (next : Reply → Prog (Result T Refusal)) → p ≡ Ask_next op next → moves_branch op ≡ false) → is_ask p ≡ true → Steps old new p q result → ComesOrStarves f q result r → Faults result r → Acts is_failed old new (call p f) r
   acts-reads old new p q result reads live s c b = record {
     same = s.same;
     blames = blamed result r old.faults new.faults s.blames b;

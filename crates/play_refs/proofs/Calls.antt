@@ -1,8 +1,8 @@
 -- What is known of each call on refs, whatever others do.
 use Rattle.std.proofs.Common.{ℕ, List, [], map, refl}
 use Rattle.std.specs.Prelude.{Result, Ok, Err}
-use Rattle.store_api.specs.declared.events.Op.{Op}
-use Rattle.store_api.specs.declared.events.Event.{Event}
+use Rattle.object_store.specs.declared.events.Op.{Op}
+use Rattle.object_store.specs.declared.events.Event.{Event}
 use Rattle.store_api.specs.declared.machines.Refusal.{Refusal}
 use Rattle.store_api.specs.declared.machines.Refusal.TheVariants.{NoMemory}
 use Rattle.store_api.specs.Journal.{IsPolite}

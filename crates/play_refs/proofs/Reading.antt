@@ -2,10 +2,10 @@
 use Rattle.std.proofs.Common.{◌≡◌, ℕ, zero, suc, false, List, [], ◌∷◌, ◌++◌, Option, Some, None, sym, ap, ◌∙◌}
 use Rattle.std.specs.Prelude.{Ok}
 use Rattle.ice_ids.specs.declared.Id12.{Id12}
-use Rattle.store_api.specs.declared.keys.Key.TheVariants.{Snapshot, Branch, Tag, TagGone}
-use Rattle.store_api.specs.declared.events.Op.{Op}
-use Rattle.store_api.specs.declared.events.Reply.{Reply}
-use Rattle.store_api.specs.Program.{Prog, Done, Ask, is_over}
+use Rattle.object_store.specs.declared.keys.Key.TheVariants.{Snapshot, Branch, Tag, TagGone}
+use Rattle.object_store.specs.declared.events.Op.{Op}
+use Rattle.object_store.specs.declared.events.Reply.{Reply}
+use Rattle.store_api.specs.Program.{Prog, Done, Ask, moves_branch}
 use Rattle.store_api.specs.Running.{Program}
 use Rattle.repo_read.specs.Chains.{most_snapshots}
 use Rattle.repo_read.specs.Programs.{resolve_program, snapshot_program}
@@ -41,13 +41,13 @@ logging-gets (Logging.Head walk) = first-gets _ (walk_rest walk) (walk-gets walk
 logging-gets (Logging.Chain walk) = walk-gets walk.left walk.lines walk.next
 logging-gets Logging.Ended = done-gets _
 
-next-reads : {A : Type 0} (p : Prog A) (op : Op) (next : Reply → Prog A) → Gets p → p ≡ Ask op next → is_over op ≡ false
+next-reads : {A : Type 0} (p : Prog A) (op : Op) (next : Reply → Prog A) → Gets p → p ≡ Ask op next → moves_branch op ≡ false
 unfolding Gets
 next-reads (Done a) op next g e = absurd (cc)
 next-reads (Ask own k) op next g e =
     let same : own ≡ op = cc in
     let get = is-get own g.0 in
-    sym (ap is_over same) ∙ sym (ap is_over get.1)
+    sym (ap moves_branch same) ∙ sym (ap moves_branch get.1)
 
-pub log-reads : (m : Log) (op : Op) (next : Reply → Program (List LogLine)) → log_rest m ≡ Ask op next → is_over op ≡ false
+pub log-reads : (m : Log) (op : Op) (next : Reply → Program (List LogLine)) → log_rest m ≡ Ask op next → moves_branch op ≡ false
 log-reads m op next e = next-reads (log_rest m) op next (logging-gets m.state) e

@@ -4,12 +4,12 @@ use Rattle.std.specs.Prelude.{Ok, Err}
 use Rattle.ice_base.specs.Names.{main_name, same_name}
 use Rattle.ice_ids.specs.declared.Id12.{Id12}
 use Rattle.snapshot_file.specs.declared.snapshot.SnapshotFile.{SnapshotFile}
-use Rattle.store_api.specs.declared.keys.Key.TheVariants.{Snapshot, Branch, Tag, TagGone}
-use Rattle.store_api.specs.declared.events.Version.{Version}
-use Rattle.store_api.specs.declared.events.Op.{Op}
+use Rattle.object_store.specs.declared.keys.Key.TheVariants.{Snapshot, Branch, Tag, TagGone}
+use Rattle.object_store.specs.declared.events.Version.{Version}
+use Rattle.object_store.specs.declared.events.Op.{Op}
 use Rattle.store_api.specs.declared.machines.Refusal.{Refusal}
 use Rattle.store_api.specs.declared.machines.Refusal.TheVariants.{MainKept}
-use Rattle.store_api.specs.Program.{Done, Ask, is_over}
+use Rattle.store_api.specs.Program.{Done, Ask, moves_branch}
 use Rattle.store_api.specs.Running.{Program}
 use Rattle.repo_read.specs.Chains.{walk, most_snapshots, chain_program}
 use Rattle.repo_read.specs.Programs.{resolve_program, snapshot_program}
@@ -100,8 +100,8 @@ new-owes name op is = subst (λ (o : Op). OwesRefs o) (sym is.1) refl
 pub reset-owes : (name : List ℕ) (op : Op) → IsReset name op → OwesRefs op
 reset-owes name op is = subst (λ (o : Op). OwesRefs o) (sym is.2) refl
 
-pub reset-over : (name : List ℕ) (op : Op) → IsReset name op → is_over op ≡ true
-reset-over name op is = ap is_over is.2
+pub reset-over : (name : List ℕ) (op : Op) → IsReset name op → moves_branch op ≡ true
+reset-over name op is = ap moves_branch is.2
 
 pub removal-owes : (name : List ℕ) (op : Op) → IsRemoval name op → OwesRefs op
 removal-owes name op is = subst (λ (o : Op). OwesRefs o) (sym is.1) refl

@@ -1,14 +1,14 @@
 -- Programs that make gets, and perhaps one operation behind them.
 use Rattle.std.proofs.Common.{◌≡◌, ◌⊎◌, inl, inr, ℕ, true, List, refl, sym, subst}
 use Rattle.std.specs.Prelude.{Result, Ok, Err}
-use Rattle.store_api.specs.declared.keys.Key.{Key}
-use Rattle.store_api.specs.declared.events.Op.{Op}
-use Rattle.store_api.specs.declared.events.Op.TheVariants.{Get}
-use Rattle.store_api.specs.declared.events.Reply.{Reply}
-use Rattle.store_api.specs.declared.events.Event.{Event}
+use Rattle.object_store.specs.declared.keys.Key.{Key}
+use Rattle.object_store.specs.declared.events.Op.{Op}
+use Rattle.object_store.specs.declared.events.Op.TheVariants.{Get}
+use Rattle.object_store.specs.declared.events.Reply.{Reply}
+use Rattle.object_store.specs.declared.events.Event.{Event}
 use Rattle.store_api.specs.declared.machines.Refusal.{Refusal}
 use Rattle.store_api.specs.Callers.{Caller, Makes}
-use Rattle.store_api.specs.Program.{Prog, Done, Ask, IsDone, bind, is_over, Keeps, Leads}
+use Rattle.store_api.specs.Program.{Prog, Done, Ask, IsDone, bind, moves_branch, Keeps, Leads}
 use Rattle.store_api.specs.Running.{Program, on_answer, ◌>>=◌}
 use Rattle.store_api.specs.Plays.{Stays}
 use Rattle.store_api.specs.Telling.{IsGet, MadeGets}
@@ -110,7 +110,7 @@ gets-stay by start (Done a) h r c = tt
 gets-stay by start (Ask op k) h r c = (c, λ reply new m. let next = get-made by start op reply h new r.0 m c in (λ e. next, gets-stay by start (k reply) new (r.1 reply) next))
 
 -- behind a put over nothing is lost
-pub over-stay : {A : Type 0} (last : Op → Type 0) → ((op : Op) → last op → is_over op ≡ true) → (by : Caller) (start : List Event) (p : Prog A) (h : List Event) → Ends last p → MadeGets by.number start h → Stays (MadeGets by.number start) by p h
+pub over-stay : {A : Type 0} (last : Op → Type 0) → ((op : Op) → last op → moves_branch op ≡ true) → (by : Caller) (start : List Event) (p : Prog A) (h : List Event) → Ends last p → MadeGets by.number start h → Stays (MadeGets by.number start) by p h
 unfolding Ends Stays
 over-stay last over by start (Done a) h r c = tt
 over-stay last over by start (Ask op k) h (inl r) c = (c, λ reply new m. let next = get-made by start op reply h new r.0 m c in (λ e. next, over-stay last over by start (k reply) new (r.1 reply) next))

@@ -1,6 +1,6 @@
 -- Laws of tasks that call on refs.
 use Rattle.std.specs.Prelude.{◌++◌, List, []}
-use Rattle.store_api.specs.declared.events.Event.{Event}
+use Rattle.object_store.specs.declared.events.Event.{Event}
 use Rattle.store_api.specs.Journal.{Each, IsPolite}
 use Rattle.store_api.specs.Callers.{Caller, IsOther}
 use Rattle.store_api.specs.Plays.{PlayKeeps, PlayLeads}

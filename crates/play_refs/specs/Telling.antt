@@ -1,13 +1,13 @@
 -- What the outcome of a task that calls on refs says of the journal, in words that name no machine and no program. (Own.)
 use Rattle.std.specs.Prelude.{◌≡◌, ◌⊎◌, ℕ, List, [], ◌∷◌, ◌++◌, map, Result, Ok, Err}
-use Rattle.store_api.specs.declared.keys.Key.{Key}
-use Rattle.store_api.specs.declared.keys.Key.TheVariants.{Snapshot, Manifest, Txn, Chunk, Branch, Tag, TagGone}
-use Rattle.store_api.specs.declared.keys.Why.{Why}
-use Rattle.store_api.specs.declared.keys.Why.TheVariants as why
-use Rattle.store_api.specs.declared.events.Version.{Version}
-use Rattle.store_api.specs.declared.events.Op.{Op}
-use Rattle.store_api.specs.declared.events.Op.TheVariants.{Get, PutNew, PutOver, Remove, RemoveAt, List as ListPart}
-use Rattle.store_api.specs.declared.events.Event.{Event}
+use Rattle.object_store.specs.declared.keys.Key.{Key}
+use Rattle.object_store.specs.declared.keys.Key.TheVariants.{Snapshot, Manifest, Txn, Chunk, Branch, Tag, TagGone, Lease}
+use Rattle.object_store.specs.declared.keys.Why.{Why}
+use Rattle.object_store.specs.declared.keys.Why.TheVariants as why
+use Rattle.object_store.specs.declared.events.Version.{Version}
+use Rattle.object_store.specs.declared.events.Op.{Op}
+use Rattle.object_store.specs.declared.events.Op.TheVariants.{Get, PutNew, PutOver, Remove, RemoveAt, List as ListPart}
+use Rattle.object_store.specs.declared.events.Event.{Event}
 use Rattle.store_api.specs.declared.machines.Refusal.{Refusal}
 use Rattle.store_api.specs.declared.machines.Refusal.TheVariants.{NoMemory}
 use Rattle.store_api.specs.Program.{events_of}
@@ -37,6 +37,7 @@ OwesNewRef w (Chunk id) = ⊥
 OwesNewRef w (Branch name) = w ≡ why.Create
 OwesNewRef w (Tag name) = w ≡ why.Tag
 OwesNewRef w (TagGone name) = w ≡ why.Drop
+OwesNewRef w (Lease id) = ⊥
 
 -- it changes a branch that is there, for this reason
 abbrev pub IsOfBranch : (for : Why) → Why → Key → Type 0
@@ -47,6 +48,7 @@ IsOfBranch for w (Chunk id) = ⊥
 IsOfBranch for w (Branch name) = w ≡ for
 IsOfBranch for w (Tag name) = ⊥
 IsOfBranch for w (TagGone name) = ⊥
+IsOfBranch for w (Lease id) = ⊥
 
 -- It gets anything; it makes, resets and drops branches, and makes and drops tags. It puts no object.
 abbrev pub OwesRefs : Op → Type 0

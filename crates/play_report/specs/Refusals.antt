@@ -3,15 +3,21 @@ use Rattle.std.specs.Prelude.{ℕ, List, [], ◌∷◌, ◌++◌, Option, Some, 
 use Rattle.ice_ids.specs.Text.{id12_text}
 use Rattle.flat_tables.specs.declared.header.Kind.{Kind}
 use Rattle.flat_tables.specs.declared.header.Kind.TheVariants as kinds
+use Rattle.snapshot_file.specs.declared.properties.PropFault.{PropFault}
+use Rattle.snapshot_file.specs.declared.properties.PropFault.TheVariants as prop
 use Rattle.zarr_meta.specs.Shown.{text_of}
+use Rattle.zarr_tree.specs.declared.edit.EditFault.{EditFault}
+use Rattle.zarr_tree.specs.declared.edit.EditFault.TheVariants as edit
 use Rattle.zarr_tree.specs.declared.edit.Frozen.{Frozen}
 use Rattle.zarr_tree.specs.declared.edit.Frozen.TheVariants as frozen
 use Rattle.zarr_tree.specs.declared.cases.Conflict.{Conflict}
 use Rattle.zarr_tree.specs.Cases.{number}
-use Rattle.store_api.specs.declared.events.Version.{Version}
+use Rattle.object_store.specs.declared.events.Version.{Version}
+use Rattle.store_api.specs.declared.machines.RegionFault.{RegionFault}
+use Rattle.store_api.specs.declared.machines.RegionFault.TheVariants as region
 use Rattle.store_api.specs.declared.machines.Refusal.{Refusal}
 use Rattle.store_api.specs.declared.machines.Refusal.TheVariants as R
-use Rattle.store_api.specs.Names.{key_name}
+use Rattle.object_store.specs.Names.{key_name}
 use Rattle.play_report.specs.Words.{◌space◌}
 
 -- the version that stood at a ref, and `-` where none did
@@ -56,18 +62,38 @@ abbrev pub conflicts_text : List Conflict → List ℕ
 conflicts_text [] = []
 conflicts_text (c ∷ cs) = codes " " ++ conflict_text c ++ conflicts_text cs
 
+-- why a tree doesn't take an edit
+abbrev pub edit_text : EditFault → List ℕ
+edit_text edit.NodeExists = codes "nodeexists"
+edit_text edit.NoParent = codes "noparent"
+edit_text edit.Full = codes "full"
+edit_text edit.NoNode = codes "nonode"
+edit_text (edit.FrozenField part) = codes "frozen" space frozen_text part
+edit_text edit.NotArray = codes "notarray"
+edit_text edit.OutOfGrid = codes "outofgrid"
+edit_text (edit.ChunkLength want got) = codes "chunklength" space decimal want space decimal got
+edit_text edit.NoMemory = codes "nomemory"
+
+-- why a property doesn't go in
+abbrev pub prop_text : PropFault → List ℕ
+prop_text prop.Name = codes "name"
+prop_text prop.Value = codes "value"
+prop_text prop.Twice = codes "twice"
+prop_text prop.Many = codes "many"
+prop_text prop.NoMemory = codes "nomemory"
+
+-- why a box of cells can't be read or written
+abbrev pub region_text : RegionFault → List ℕ
+region_text region.OutOfShape = codes "outofshape"
+region_text region.Large = codes "regionlarge"
+region_text (region.CellCount want got) = codes "cellcount" space decimal want space decimal got
+region_text (region.CellRange at) = codes "cellrange" space decimal at
+
 abbrev pub refusal_text : Refusal → List ℕ
 refusal_text R.NoRef = codes "noref"
-refusal_text R.NoNode = codes "nonode"
-refusal_text R.NodeExists = codes "nodeexists"
-refusal_text R.NoParent = codes "noparent"
+refusal_text (R.Edit fault) = edit_text fault
 refusal_text (R.BadMeta fault) = codes "badmeta" space text_of fault
-refusal_text (R.FrozenField part) = codes "frozen" space frozen_text part
-refusal_text R.OutOfGrid = codes "outofgrid"
-refusal_text (R.ChunkLength want got) = codes "chunklength" space decimal want space decimal got
-refusal_text R.NotArray = codes "notarray"
 refusal_text R.ReadOnly = codes "readonly"
-refusal_text R.Full = codes "full"
 refusal_text (R.Missing key) = codes "missing" space key_name key
 refusal_text (R.BadFile key bad) = codes "badfile" space key_name key
 refusal_text R.TooDeep = codes "toodeep"
@@ -88,3 +114,9 @@ refusal_text R.TagGone = codes "taggone"
 refusal_text R.MainKept = codes "mainkept"
 refusal_text (R.Moved found) = codes "moved" space version_text found
 refusal_text (R.CutoffAhead now) = codes "cutoffahead" space decimal now
+refusal_text R.Unnamed = codes "unnamed"
+refusal_text (R.BadProp fault) = codes "badprop" space prop_text fault
+refusal_text (R.Unsound faults) = codes "unsound" space decimal faults
+refusal_text (R.Differs key) = codes "differs" space key_name key
+refusal_text R.TargetFault = codes "targetfault"
+refusal_text (R.Region fault) = region_text fault

@@ -4,18 +4,19 @@
 ghost use Rattle.std.specs.Prelude.{◌≡◌, IfOk, IfSome, OnOk, codes, decimal, length, vec_capacity};
 ghost use Rattle.ice_ids.specs.Text.{id12_text};
 ghost use Rattle.play_report.specs.Words.{◌space◌};
-ghost use Rattle.play_report.specs.Refusals.{conflict_text, conflicts_text, frozen_text, index_text, kind_text, more_numbers, place_text, refusal_text, version_text};
+ghost use Rattle.play_report.specs.Refusals.{conflict_text, conflicts_text, edit_text, frozen_text, index_text, kind_text, more_numbers, place_text, prop_text, refusal_text, region_text, version_text};
 ghost use Rattle.play_report.specs.inside.Drafts.{added};
 ghost use Rattle.store_api.specs.declared.machines.Refusal.TheVariants.{Conflict as Lost, Left, Moved};
 
 use crate::drafts::Draft;
 use flat_tables::Kind;
 use ice_ids::Id12;
+use snapshot_file::PropFault;
 use std::alloc::{AllocError, Global};
 use std::fmt;
-use store_api::{Refusal, Version};
+use store_api::{Refusal, RegionFault, Version};
 use zarr_path::Index;
-use zarr_tree::{Conflict, Frozen};
+use zarr_tree::{Conflict, EditFault, Frozen};
 
 /// The version that stood at a ref, and `-` where none did.
 fn add_version(out: &mut Draft, found: Option<Version>) -> Result<(), AllocError>
@@ -48,6 +49,19 @@ fn kind_text(kind: Kind) -> &'static str
         Kind::Snapshot => "snapshot",
         Kind::Manifest => "manifest",
         Kind::Log => "log",
+    }
+}
+
+/// Why a property doesn't go in.
+fn prop_text(fault: PropFault) -> &'static str
+    ensures { result.now ≡ prop_text fault }
+{
+    match fault {
+        PropFault::Name => "name",
+        PropFault::Value => "value",
+        PropFault::Twice => "twice",
+        PropFault::Many => "many",
+        PropFault::NoMemory => "nomemory",
     }
 }
 
@@ -140,22 +154,44 @@ pub(crate) fn add_told<D: fmt::Display + Drop>(
     write!(out, "{word} {value}")
 }
 
+/// Why a tree doesn't take an edit.
+fn add_edit(out: &mut Draft, fault: EditFault) -> Result<(), AllocError>
+    ensures { OnOk result (out.new ≡ added out.old (edit_text fault)) }
+{
+    match fault {
+        EditFault::NodeExists => out.add(b"nodeexists"),
+        EditFault::NoParent => out.add(b"noparent"),
+        EditFault::Full => out.add(b"full"),
+        EditFault::NoNode => out.add(b"nonode"),
+        EditFault::FrozenField(part) => add_told(out, "frozen", frozen_text(part)),
+        EditFault::NotArray => out.add(b"notarray"),
+        EditFault::OutOfGrid => out.add(b"outofgrid"),
+        EditFault::ChunkLength { want, got } => write!(out, "chunklength {want} {got}"),
+        EditFault::NoMemory => out.add(b"nomemory"),
+    }
+}
+
+/// Why a box of cells can't be read or written.
+fn add_region(out: &mut Draft, fault: RegionFault) -> Result<(), AllocError>
+    ensures { OnOk result (out.new ≡ added out.old (region_text fault)) }
+{
+    match fault {
+        RegionFault::OutOfShape => out.add(b"outofshape"),
+        RegionFault::Large => out.add(b"regionlarge"),
+        RegionFault::CellCount { want, got } => write!(out, "cellcount {want} {got}"),
+        RegionFault::CellRange { at } => add_told(out, "cellrange", at),
+    }
+}
+
 /// The text of a refusal: its word, and behind it, after spaces, what it tells. A ref that was found absent is told as `-`.
 pub fn add_refusal(out: &mut Draft, why: &Refusal) -> Result<(), AllocError>
     ensures { OnOk result (out.new ≡ added out.old (refusal_text why.now)) }
 {
     match why {
         Refusal::NoRef => out.add(b"noref"),
-        Refusal::NoNode => out.add(b"nonode"),
-        Refusal::NodeExists => out.add(b"nodeexists"),
-        Refusal::NoParent => out.add(b"noparent"),
+        Refusal::Edit(fault) => add_edit(out, *fault),
         Refusal::BadMeta(fault) => add_told(out, "badmeta", fault),
-        Refusal::FrozenField(part) => add_told(out, "frozen", frozen_text(*part)),
-        Refusal::OutOfGrid => out.add(b"outofgrid"),
-        Refusal::ChunkLength { want, got } => write!(out, "chunklength {want} {got}"),
-        Refusal::NotArray => out.add(b"notarray"),
         Refusal::ReadOnly => out.add(b"readonly"),
-        Refusal::Full => out.add(b"full"),
         Refusal::Missing(key) => add_told(out, "missing", key),
         Refusal::BadFile(key, _) => add_told(out, "badfile", key),
         Refusal::TooDeep => out.add(b"toodeep"),
@@ -176,6 +212,12 @@ pub fn add_refusal(out: &mut Draft, why: &Refusal) -> Result<(), AllocError>
         Refusal::MainKept => out.add(b"mainkept"),
         Refusal::Moved { found } => add_moved(out, *found),
         Refusal::CutoffAhead { now } => add_told(out, "cutoffahead", now),
+        Refusal::Unnamed => out.add(b"unnamed"),
+        Refusal::BadProp(fault) => add_told(out, "badprop", prop_text(*fault)),
+        Refusal::Unsound(faults) => add_told(out, "unsound", faults),
+        Refusal::Differs(key) => add_told(out, "differs", key),
+        Refusal::TargetFault => out.add(b"targetfault"),
+        Refusal::Region(fault) => add_region(out, *fault),
     }
 }
 

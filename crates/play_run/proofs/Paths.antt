@@ -5,7 +5,7 @@ use Rattle.std.specs.List.{AllZip}
 use Rattle.std.proofs.lemmas.Option.{slice_get_within}
 use Rattle.std.proofs.lemmas.List.Elements.{All-nil, All-cons, All-append, filter-append}
 use Rattle.ice_ids.specs.declared.drawing.Draw.{Draw}
-use Rattle.store_api.specs.declared.events.Event.{Event}
+use Rattle.object_store.specs.declared.events.Event.{Event}
 use Rattle.store_api.specs.Program.{events_of}
 use Rattle.store_api.specs.Plays.{Play, Ended, Comes}
 use Rattle.store_api.proofs.Programs.{own-one}

@@ -7,7 +7,7 @@ use Rattle.std.proofs.lemmas.Option.{slice_get_cases, slice_get_within, get_or_f
 use Rattle.std.specs.List.{AllZip}
 use Rattle.std.proofs.lemmas.List.Elements.{AllZip-push, length_all_zip}
 use Rattle.std.proofs.lemmas.List.{replicate_more, take_more, length-take-le, map-append}
-use Rattle.store_api.specs.declared.events.Event.{Event}
+use Rattle.object_store.specs.declared.events.Event.{Event}
 use Rattle.store_api.specs.Callers.{View, only}
 use Rattle.store_api.specs.Plays.{Play, Ended, HasEnded, Comes, PlayLeads}
 use Rattle.store_api.proofs.PlayLaws.{PlayKeeps-comes, PlayLeads-comes}

@@ -5,15 +5,15 @@ use Rattle.std.specs.Prelude.{◌&&◌, nat_le, nat_lt, IsTrue, Some, slice_get}
 use Rattle.ice_base.specs.Ends.{Rose}
 use Rattle.ice_base.proofs.Counts.{Rose-before, Rose-after}
 use Rattle.ice_ids.specs.declared.drawing.Draw.{Draw}
-use Rattle.store_api.specs.declared.events.Op.{Op}
-use Rattle.store_api.specs.declared.events.Reply.{Reply}
-use Rattle.store_api.specs.declared.events.Event.{Event}
-use Rattle.store_api.specs.Machine.{IsAnswered}
+use Rattle.object_store.specs.declared.events.Op.{Op}
+use Rattle.object_store.specs.declared.events.Reply.{Reply}
+use Rattle.object_store.specs.declared.events.Event.{Event}
+use Rattle.object_store.specs.Machine.{IsAnswered}
 use Rattle.store_api.specs.Journal.{Each, IsGood, IsPolite}
 use Rattle.store_api.specs.Callers.{Caller, View, Waits, Makes, IsOther, HasAll, own_event, owns, only, as_client}
 use Rattle.store_api.specs.Plays.{Play, Ended, Ask, Or, IsLive, HasEnded, PlayKeeps, PlayIsPolite, Acts, Acted, Starved, BlamesEnd}
 use Rattle.ice_ids.specs.declared.drawing.AnyIds.{AnyIds}
-use Rattle.store_api.proofs.Journals.{Each-one, Each-none, Each-append}
+use Rattle.object_store.proofs.Journals.{Each-one, Each-none, Each-append}
 use Rattle.store_api.proofs.Programs.{alone, has-all, good-waits, Waits-same, Waits-fewer, Makes-fewer, Fewer}
 use Rattle.store_api.proofs.PlayLaws.{PlayKeeps-waits, PlayKeeps-acts, PlayLeads-waits, PlayLeads-acts}
 use Rattle.commit_path.proofs.Owing.{KeepsMine, IsCareful-append}
@@ -30,7 +30,8 @@ use Rattle.play_outcome.specs.declared.outcome.Outcome.{Outcome}
 use Rattle.play_outcome.specs.Ending.{is_failed}
 use Rattle.play_tasks.specs.Playing.{asked_by, policy_of}
 use Rattle.play_tasks.specs.Solving.{IsOfTask}
-use Rattle.play_tasks.specs.Owing.{OwesBy, IsDue, ComesBefore, BeforeChange}
+use Rattle.commit_path.proofs.OwnKept.{OwesOwn-others}
+use Rattle.play_tasks.specs.Owing.{OwesBy, OwesOwnBy, IsDue, ComesBefore, BeforeChange}
 use Rattle.play_tasks.specs.Tasks.{ids_at, TellsAt, Stands, AllStand, IsOfClient, HasEndedAt}
 use Rattle.play_tasks.specs.Laws.{OutcomeLaw}
 use Rattle.play_tasks.proofs.Early.{WasBegun-more}
@@ -153,8 +154,12 @@ owes-others by ids task start journal more op o polite (Session access) owes =
     (IsCareful-append ids (IsOfTask ids task by.number start) journal more by.number op (of-task-others by ids task start journal more o) (good-waits by journal more o) (record { polite = polite; owes = owes })).owes
 owes-others by ids task start journal more op o polite Refs owes = owes
 
+own-others : (by : Caller) (ids : AnyIds) (start journal more : List Event) (op : Op) → Each (IsOther by) journal more → (head : Head) → OwesOwnBy head ids by.number start journal op → OwesOwnBy head ids by.number start (journal ++ more) op
+own-others by ids start journal more op o (Session access) own = OwesOwn-others by ids start journal more op o own
+own-others by ids start journal more op o Refs own = own
+
 stable : (ids : AnyIds) (task : Task) (start : List Event) (by : Caller) (journal more : List Event) (op : Op) → Each (IsOther by) journal more → Owing ids task start journal by.number op → Owing ids task start (journal ++ more) by.number op
-stable ids task start by journal more op o c = record { polite = IsPolite-append journal more op (good-waits by journal more o) c.polite; owes = owes-others by ids task start journal more op o c.polite task.head c.owes }
+stable ids task start by journal more op o c = record { polite = IsPolite-append journal more op (good-waits by journal more o) c.polite; owes = owes-others by ids task start journal more op o c.polite task.head c.owes; own = own-others by ids start journal more op o task.head c.own }
 
 -- where Q follows from P of the caller's own operations
 keeps-own : (P Q : List Event → ℕ → Op → Type 0) (by : Caller) → ((journal : List Event) (op : Op) → P journal by.number op → Q journal by.number op) → (p : Play Outcome) (journal : List Event) → PlayKeeps P by p journal → PlayKeeps Q by p journal
@@ -263,7 +268,7 @@ module _ (draw : Draw) (tasks : List Task) (start : List Event) (t : ℕ) (old n
           is = added.is;
         });
         is = added.is;
-        careful = Each-one (IsOfClient draw tasks start) old.seen event (record { place = t; task = mine.task; client = refl; at = mine.at; careful = record { good = good; owes = owed.owes } });
+        careful = Each-one (IsOfClient draw tasks start) old.seen event (record { place = t; task = mine.task; client = refl; at = mine.at; careful = record { good = good; owes = owed.owes; own = owed.own } });
       }
 
   kept-starved : (s : Stepped t old new ps qs) → Starved (as_client (t + 1) old) new s.p s.q → Kept draw tasks start old new [] qs

@@ -2,9 +2,9 @@
 use Rattle.std.specs.Prelude.{◌≡◌, ◌⊎◌, ℕ, ◌+◌, ◌-◌, Bool, IsTrue, List, [], ◌∷◌, ◌++◌, Some, slice_get, slice_set, replicate, map}
 use Rattle.std.specs.List.{AllZip}
 use Rattle.ice_ids.specs.declared.drawing.Draw.{Draw}
-use Rattle.store_api.specs.declared.events.Op.{Op}
-use Rattle.store_api.specs.declared.events.Reply.{Reply}
-use Rattle.store_api.specs.declared.events.Event.{Event}
+use Rattle.object_store.specs.declared.events.Op.{Op}
+use Rattle.object_store.specs.declared.events.Reply.{Reply}
+use Rattle.object_store.specs.declared.events.Event.{Event}
 use Rattle.store_api.specs.Journal.{Each}
 use Rattle.store_api.specs.Callers.{Fits}
 use Rattle.store_api.specs.Plays.{Play, Ended, Ask, HasEnded, Comes}

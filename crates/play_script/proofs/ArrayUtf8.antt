@@ -15,10 +15,10 @@ use Rattle.json.specs.Print.{escape_letter, escape_byte, escape}
 use Rattle.serde_json.specs.Data.{string}
 use Rattle.serde_json.specs.Written.{compact_text}
 use Rattle.zarr_meta.specs.declared.kinds.IntKind.TheVariants.{Int8, Int16}
-use Rattle.zarr_meta.specs.Plain.{more_numbers, listed, codec_text}
+use Rattle.zarr_meta.specs.Plain.{more_numbers, listed, codec_text, text_about}
 use Rattle.play_script.specs.Words.{Text}
 use Rattle.play_script.specs.Values.{◌reads◌, is_signed}
-use Rattle.play_script.specs.Arrays.{codec_of, text_about, array_line_text}
+use Rattle.play_script.specs.Arrays.{codec_of, array_line_text}
 use Rattle.play_script.proofs.PlainText.{before_shape, before_type, before_chunks, before_fill, before_codec, at_end}
 use Rattle.play_script.proofs.Inversions.{IsWide}
 

@@ -1,11 +1,11 @@
 -- What parts are where a line is read.
-use Rattle.std.specs.Prelude.{◌&&◌, ◌+◌, ◌-◌, ◌*◌, ◌^◌, ◌<◌, ℤ, map, nat_le, nat_lt, codes}
+use Rattle.std.specs.Prelude.{◌&&◌, ◌+◌, ◌-◌, ◌*◌, ◌^◌, ◌<◌, ℤ, nat_le, nat_lt, codes}
 use Rattle.std.proofs.Common.{◌≡◌, ℕ, ◌≤◌, Bool, true, false, cond, List, [], ◌∷◌, Option, None, Some, Result, Ok, Err, refl, ap, subst, arith}
 use Rattle.std.specs.List.{All}
 use Rattle.std.specs.Char.{is_ascii_digit}
 use Rattle.std.specs.Str.Parse.{digits_value, signed_digits_value}
 use Rattle.std.proofs.lemmas.Bool.{and_parts, and_from, leb-true, lt-ltb, cond_both}
-use Rattle.std.proofs.lemmas.List.Elements.{All-nil, All-cons}
+use Rattle.std.proofs.lemmas.List.Elements.{All-nil, All-cons, All-head, All-tail}
 use Rattle.std.specs.Option.{is_none}
 use Rattle.ice_base.specs.Names.{name_fault, IsRefName}
 use Rattle.ice_base.specs.Lists.{IsBytes}
@@ -16,7 +16,7 @@ use Rattle.play_script.specs.declared.faults.ScriptKind.{ScriptKind}
 use Rattle.play_script.specs.declared.faults.ScriptKind.TheVariants as k
 use Rattle.play_script.specs.Words.{Text, parts}
 use Rattle.play_script.specs.Parts.{◌&◌, made, each, only_if}
-use Rattle.play_script.specs.Values.{◌reads◌, is_task_name, task_name_of, path_of, text_of, ref_name_of, is_number, number_of, wide_of, numbers_of, is_digits, magnitude, is_signed, fill_of, count_of, clamped, index_of, hex_digit_of, byte_of, pairs, bytes_of, tries_in}
+use Rattle.play_script.specs.Values.{◌reads◌, is_task_name, task_name_of, path_of, text_of, ref_name_of, is_number, number_of, wide_of, numbers_of, is_digits, magnitude, is_signed, fill_of, count_of, index_part_of, index_of, hex_digit_of, byte_of, pairs, bytes_of, tries_in}
 use Rattle.play_script.specs.Forms.{taken}
 
 pub made_ok : {A B : Type 0} (f : A → B) (r : Result A ScriptKind) (t : B) → made f r ≡ Ok t → (x : A) × (r ≡ Ok x) × (f x ≡ t)
@@ -112,16 +112,21 @@ fill_ok w fill h =
     subst (λ (z : ℤ). is_signed z ≡ true) t.1 (and_parts _ _ t.0).1
 
 -- the numbers of an index have 32 bits
-clamped_index : (ns : List ℕ) → is_index (map clamped ns) ≡ true
+abbrev IsLow : ℕ → Type 0
+IsLow n = n < 2 ^ 32
+
+all_low : (ns : List ℕ) → All IsLow ns → is_index ns ≡ true
 unfolding is_index
-clamped_index [] = refl
-clamped_index (n ∷ ns) = and_from (nat_lt (clamped n) (2 ^ 32)) (is_index (map clamped ns)) (lt-ltb (clamped n) (2 ^ 32) (omega arith)) (clamped_index ns)
+all_low [] low = refl
+all_low (n ∷ ns) low = and_from (nat_lt n (2 ^ 32)) (is_index ns) (lt-ltb n (2 ^ 32) (All-head IsLow n ns low)) (all_low ns (All-tail IsLow n ns low))
 
 pub index_ok : (w : Text) (index : List ℕ) → index_of w ≡ Ok index → is_index index ≡ true
 unfolding index_of
 index_ok w index h =
-    let m = made_ok (map clamped) (numbers_of w) index h in
-    subst (λ (ns : List ℕ). is_index ns ≡ true) m.2 (clamped_index m.0)
+    cond_both (w reads codes "-") (Ok []) (each index_part_of (parts 44 w)) (λ (r : Result (List ℕ) ScriptKind). r ≡ Ok index → is_index index ≡ true)
+    (λ _ e. let none : [] ≡ index = cc in subst (λ (ns : List ℕ). is_index ns ≡ true) none (all_low [] (All-nil IsLow)))
+    (λ _ e. all_low index (each_ok IsLow index_part_of (parts 44 w) index (λ part n is. omega (arith, (number_ok 0 (2 ^ 32 - 1) part n is).1)) e))
+    h
 
 pub digit_ok : (b d : ℕ) → hex_digit_of b ≡ Ok d → d < 16
 unfolding hex_digit_of

@@ -13,3 +13,4 @@ pub mod ArrayUtf8
 pub mod WellLines
 pub mod WellTasks
 pub mod WellRead
+pub mod Naming

@@ -1,6 +1,6 @@
 -- A script that was read is well.
 use Rattle.std.proofs.Common.{◌≡◌, ◌≢◌, ℕ, ◌+◌, ◌≤◌, Bool, true, false, List, [], ◌∷◌, length, Option, Some, Result, Ok, Err, refl, subst, arith, length-append}
-use Rattle.std.specs.Prelude.{IfOk, IfSome, ◌&&◌, ◌||◌, ◌==◌, AllPairs, map, not, nat_lt, codes}
+use Rattle.std.specs.Prelude.{IfOk, IfSome, ◌&&◌, ◌||◌, ◌==◌, AllPairs, not, nat_lt, codes}
 use Rattle.std.specs.List.{All, onto_first}
 use Rattle.std.specs.Str.{is_utf8}
 use Rattle.std.proofs.lemmas.Bool.{and_parts, both_ways, not-true, ltb-true, cond_both}
@@ -21,6 +21,7 @@ use Rattle.play_script.specs.Forms.{taken, form_of, head_of}
 use Rattle.play_script.specs.Places.{most_tasks, last, is_open, class_of, head_takes, takes, onto_last, with_line, body_line, is_passed, has_line, is_used, with_task, is_head_placed, may_begin, task_line, head_line, turn_of, turns_line, words_line, line_at}
 use Rattle.play_script.specs.declared.faults.ScriptFault.{ScriptFault}
 use Rattle.play_script.specs.Reading.{most_bytes, at_line, lines_from, empty, IsReading}
+use Rattle.play_script.specs.SoFar.{task_names}
 use Rattle.play_script.specs.Well.{IsLineNumber, HasItsLine, IsWellTurn, IsWell}
 use Rattle.play_script.proofs.Inversions.{made_ok, both_ok, only_if_ok, taken_ok, each_ok, task_name_ok}
 use Rattle.play_script.proofs.WellLines.{form_ok, head_ok, refs_word, turn_ok}
@@ -31,7 +32,7 @@ record IsSoFar (comes : Bool) (s : Script) : Type 0 where
   few : length s.tasks ≤ most_tasks
   tasks : All IsBegun s.tasks
   lines : HaveLines comes s.tasks
-  names : AllPairs (λ a b. a ≢ b) (map (λ t. t.name) s.tasks)
+  names : AllPairs (λ a b. a ≢ b) (task_names s.tasks)
   turns : IfSome s.turns (All (IsWellTurn (length s.tasks)))
 
 -- a script that is read, if one is

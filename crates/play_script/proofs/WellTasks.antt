@@ -1,6 +1,6 @@
 -- A script stays well with one more line.
 use Rattle.std.proofs.Common.{◌≡◌, ◌≢◌, ℕ, suc, ◌-◌, Bool, true, false, nat_eq, List, [], ◌∷◌, ◌++◌, length, Option, None, Some, refl, ap, subst, arith}
-use Rattle.std.specs.Prelude.{IfSome, ◌&&◌, not, is_some, map, AllPairs}
+use Rattle.std.specs.Prelude.{IfSome, ◌&&◌, not, is_some, AllPairs}
 use Rattle.std.specs.List.{All}
 use Rattle.std.proofs.lemmas.Bool.{and_parts, and_from, or_parts, not-true, eq-eqb, both_ways}
 use Rattle.std.proofs.lemmas.List.Elements.{All-nil, All-cons, All-head, All-tail, All-push, All-map}
@@ -14,6 +14,7 @@ use Rattle.play_script.specs.declared.scripts.Class.{Class}
 use Rattle.play_script.specs.Words.{Text}
 use Rattle.play_script.specs.Values.{◌reads◌, is_task_name}
 use Rattle.play_script.specs.Places.{last, class_of, head_takes, is_commit, is_commit_call, takes, onto_last, is_used}
+use Rattle.play_script.specs.SoFar.{task_names}
 use Rattle.play_script.specs.Well.{IsLineNumber, IsWellLine, EndsAtCommit, IsWellHead, AreTaken, HasItsLine, IsWellTask, IsWellTurn}
 
 last_of_more : {A : Type 0} (x y : A) (xs : List A) → last (x ∷ y ∷ xs) ≡ last (y ∷ xs)
@@ -113,10 +114,7 @@ length-onto_last l [] = refl
 length-onto_last l (t ∷ []) = refl
 length-onto_last l (t ∷ u ∷ ts) = omega (arith, length-onto_last l (u ∷ ts))
 
-abbrev pub names : List Task → List Text
-names ts = map (λ (t : Task). t.name) ts
-
-pub names-onto_last : (l : Line) (ts : List Task) → names (onto_last l ts) ≡ names ts
+pub names-onto_last : (l : Line) (ts : List Task) → task_names (onto_last l ts) ≡ task_names ts
 names-onto_last l [] = refl
 names-onto_last l (t ∷ []) = refl
 names-onto_last l (t ∷ u ∷ ts) = ap (λ (ns : List Text). t.name ∷ ns) (names-onto_last l (u ∷ ts))
@@ -134,15 +132,15 @@ unused (t ∷ ts) name h =
     let parts = or_parts (t.name reads name) (is_used ts name) h in
     All-cons (λ (t : Task). t.name ≢ name) t ts (differs t.name name parts.0) (unused ts name parts.1)
 
-names-append : (ts : List Task) (t : Task) → names (ts ++ t ∷ []) ≡ names ts ++ t.name ∷ []
+pub names-append : (ts : List Task) (t : Task) → task_names (ts ++ t ∷ []) ≡ task_names ts ++ t.name ∷ []
 names-append [] t = refl
 names-append (u ∷ ts) t = ap (λ (ns : List Text). u.name ∷ ns) (names-append ts t)
 
 -- one more task whose name isn't used
-pub names_more : (ts : List Task) (t : Task) → is_used ts t.name ≡ false → AllPairs (λ a b. a ≢ b) (names ts) → AllPairs (λ a b. a ≢ b) (names (ts ++ t ∷ []))
+pub names_more : (ts : List Task) (t : Task) → is_used ts t.name ≡ false → AllPairs (λ a b. a ≢ b) (task_names ts) → AllPairs (λ a b. a ≢ b) (task_names (ts ++ t ∷ []))
 names_more ts t free distinct =
     let all = All-map (λ (a : Text). a ≢ t.name) (λ (u : Task). u.name) ts (unused ts t.name free) in
-    rw (names-append ts t) (all_pairs_push (λ (a b : Text). a ≢ b) (names ts) t.name distinct (λ k d lt. all k d lt))
+    rw (names-append ts t) (all_pairs_push (λ (a b : Text). a ≢ b) (task_names ts) t.name distinct (λ k d lt. all k d lt))
 
 -- no turns stand yet
 pub no_turns : (turns : Option (List Turn)) (clients : ℕ) → not (is_some turns) ≡ true → IfSome turns (All (IsWellTurn clients))

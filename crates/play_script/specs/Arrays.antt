@@ -1,12 +1,11 @@
 -- Own: the plain text of an array, of any name of a type and any numbers.
-use Rattle.std.specs.Prelude.{◌≡◌, ℕ, ℤ, if◌then◌else◌, ◌||◌, List, ◌++◌, codes}
-use Rattle.std.specs.Fmt.{signed_decimal}
+use Rattle.std.specs.Prelude.{◌≡◌, ℕ, ℤ, if◌then◌else◌, ◌||◌, List, codes}
 use Rattle.serde_json.specs.Data.{string}
 use Rattle.serde_json.specs.Written.{compact_text}
 use Rattle.zarr_meta.specs.declared.kinds.IntKind.{IntKind}
 use Rattle.zarr_meta.specs.declared.kinds.IntKind.TheVariants.{Int8, Int16}
 use Rattle.zarr_meta.specs.Kinds.{name_of}
-use Rattle.zarr_meta.specs.Plain.{listed, codec_text, array_text}
+use Rattle.zarr_meta.specs.Plain.{codec_text, text_about, array_text}
 use Rattle.play_script.specs.Words.{Text}
 use Rattle.play_script.specs.Values.{◌reads◌}
 
@@ -14,16 +13,7 @@ use Rattle.play_script.specs.Values.{◌reads◌}
 abbrev pub codec_of : Text → Text
 codec_of data_type = codec_text (if (data_type reads codes "int8") || (data_type reads codes "uint8") then Int8 else Int16)
 
--- the text about a type, which stands there as it is quoted, and the codec of its elements
-unfoldable pub text_about : Text → Text → List ℕ → List ℕ → ℤ → Text
-text_about quoted codec shape chunks fill =
-    codes "{\"zarr_format\":3,\"node_type\":\"array\",\"shape\":[" ++ listed shape
-    ++ codes "],\"data_type\":" ++ quoted
-    ++ codes ",\"chunk_grid\":{\"name\":\"regular\",\"configuration\":{\"chunk_shape\":[" ++ listed chunks
-    ++ codes "]}},\"chunk_key_encoding\":{\"name\":\"default\",\"configuration\":{\"separator\":\"/\"}},\"fill_value\":"
-    ++ signed_decimal fill
-    ++ codes ",\"codecs\":[" ++ codec ++ codes "]}"
-
+-- the plain text of an array of this type
 abbrev pub array_line_text : Text → List ℕ → List ℕ → ℤ → Text
 array_line_text data_type shape chunks fill =
     text_about (compact_text (string data_type)) (codec_of data_type) shape chunks fill

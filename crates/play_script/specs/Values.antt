@@ -1,5 +1,5 @@
 -- Own: what a word stands for, or the kind of its fault.
-use Rattle.std.specs.Prelude.{ℕ, ◌+◌, ◌-◌, ◌*◌, ◌^◌, ◌==◌, min, ℤ, pos, negsuc, int_le, List, [], ◌∷◌, map, if◌then◌else◌, Option, Some, None, Result, Ok, Err, Bool, true, false, not, ◌&&◌, ◌||◌, nat_le, length, drop, bytes_eq, codes}
+use Rattle.std.specs.Prelude.{ℕ, ◌+◌, ◌-◌, ◌*◌, ◌^◌, ◌==◌, ℤ, pos, negsuc, int_le, List, [], ◌∷◌, if◌then◌else◌, Option, Some, None, Result, Ok, Err, Bool, true, false, not, ◌&&◌, ◌||◌, nat_le, length, drop, bytes_eq, codes}
 use Rattle.std.specs.List.{list_all}
 use Rattle.std.specs.Char.{is_ascii_digit, is_ascii_lowercase}
 use Rattle.std.specs.Str.Parse.{digits_value, starts_with_minus, signed_digits_value}
@@ -65,12 +65,12 @@ wide_of w = number_of 0 (2 ^ 128 - 1) w
 unfoldable pub numbers_of : Text → Result (List ℕ) ScriptKind
 numbers_of w = if w reads codes "-" then Ok [] else each wide_of (parts 44 w)
 
--- an index has numbers of 32 bits: a greater one is in no grid, and is held as 4,294,967,295, which is in none either
-abbrev pub clamped : ℕ → ℕ
-clamped n = min n (2 ^ 32 - 1)
+-- an index has numbers of 32 bits with commas between them, or `-` where there are none
+abbrev pub index_part_of : Text → Result ℕ ScriptKind
+index_part_of w = number_of 0 (2 ^ 32 - 1) w
 
 unfoldable pub index_of : Text → Result (List ℕ) ScriptKind
-index_of w = made (map clamped) (numbers_of w)
+index_of w = if w reads codes "-" then Ok [] else each index_part_of (parts 44 w)
 
 -- a digit of base 16, with lower-case letters
 unfoldable pub hex_digit_of : ℕ → Result ℕ ScriptKind

@@ -1,45 +1,23 @@
 //! The plain text of an array.
 
-ghost use Rattle.std.specs.Prelude.{◌≡◌, ◌++◌, IfOk, OnOk, string_bytes};
+ghost use Rattle.std.specs.Prelude.{◌≡◌, IfOk, string_bytes};
 ghost use Rattle.serde_json.specs.Data.{string};
 ghost use Rattle.serde_json.specs.Written.{compact_text};
-ghost use Rattle.zarr_meta.specs.Plain.{more_numbers, listed};
-ghost use Rattle.play_script.specs.Arrays.{codec_of, text_about, array_line_text};
+ghost use Rattle.play_script.specs.Arrays.{codec_of, array_line_text};
 
 use ice_base::Text;
 use serde_json::Value;
 use std::alloc::{AllocError, Global};
-use std::fmt::Write;
-
-/// Appends numbers with a comma before each.
-fn push_more(text: &mut String, numbers: &[u128]) -> Result<(), AllocError>
-    ensures { OnOk result (string_bytes text.new ≡ string_bytes text.old ++ more_numbers numbers.now) }
-{
-    for number in numbers {
-        write!(text, ",{number}")?;
-    }
-    Ok(())
-}
-
-/// Appends numbers with commas between them.
-fn push_numbers(text: &mut String, numbers: &[u128]) -> Result<(), AllocError>
-    ensures { OnOk result (string_bytes text.new ≡ string_bytes text.old ++ listed numbers.now) }
-{
-    let Some((first, rest)) = numbers.split_first() else {
-        return Ok(());
-    };
-    write!(text, "{first}")?;
-    push_more(text, rest)
-}
+use zarr_meta::{IntKind, codec_text, text_about};
 
 /// The codec of elements of a type.
 fn codec_of(data_type: &str) -> &'static str
     ensures { result.now ≡ codec_of data_type.now }
 {
-    match data_type {
-        "int8" | "uint8" => r#"{"name":"bytes"}"#,
-        _ => r#"{"name":"bytes","configuration":{"endian":"little"}}"#,
-    }
+    codec_text(match data_type {
+        "int8" | "uint8" => IntKind::Int8,
+        _ => IntKind::Int16,
+    })
 }
 
 /// A text as a string of JSON.
@@ -47,34 +25,6 @@ fn quoted(alloc: Global, text: Text) -> Result<String, AllocError>
     ensures { IfOk result (λ quoted. string_bytes quoted ≡ compact_text (string text)) }
 {
     Value::String(text.into_string()).to_string(alloc)
-}
-
-/// The text about a type, which is quoted as it is to stand there, and the codec of its elements.
-#[tactic(auto, unfolding(crate::specs::Arrays::text_about))]
-fn text_about(
-    alloc: Global,
-    quoted: &str,
-    codec: &str,
-    shape: &[u128],
-    chunks: &[u128],
-    fill: i128,
-) -> Result<String, AllocError>
-    ensures { IfOk result (λ text. string_bytes text ≡ text_about quoted.now codec.now shape.now chunks.now fill) }
-{
-    let mut text = String::from_str(alloc, r#"{"zarr_format":3,"node_type":"array","shape":["#)?;
-    push_numbers(&mut text, shape)?;
-    text.push_str(r#"],"data_type":"#)?;
-    text.push_str(quoted)?;
-    text.push_str(r#","chunk_grid":{"name":"regular","configuration":{"chunk_shape":["#)?;
-    push_numbers(&mut text, chunks)?;
-    text.push_str(
-        r#"]}},"chunk_key_encoding":{"name":"default","configuration":{"separator":"/"}},"fill_value":"#,
-    )?;
-    write!(text, "{fill}")?;
-    text.push_str(r#","codecs":["#)?;
-    text.push_str(codec)?;
-    text.push_str("]}")?;
-    Ok(text)
 }
 
 /// The plain text of an array.

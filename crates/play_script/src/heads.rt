@@ -1,11 +1,13 @@
 //! Heads of tasks, each in view of the script before it.
 
-ghost use Rattle.std.specs.Prelude.{◌≡◌, ◌+◌, ◌<◌, ◌≤◌, IfOk, length};
+ghost use Rattle.std.specs.Prelude.{◌≡◌, ◌+◌, ◌<◌, ◌≤◌, IfOk, length, false};
 ghost use Rattle.play_script.specs.Words.{seen, lines_of};
-ghost use Rattle.play_script.specs.Places.{most_tasks, is_passed, ends_task, has_line, is_used, with_task, is_head_placed, may_begin, task_line, head_line};
+ghost use Rattle.play_script.specs.Places.{most_tasks, is_passed, ends_task, has_line, with_task, is_head_placed, may_begin, task_line, head_line};
+ghost use Rattle.play_script.specs.SoFar.{task_names, is_among};
 
 use crate::bodies::is_open;
 use crate::faults::{ScriptKind, both, only_if};
+use crate::names::Names;
 use crate::openings::head_in;
 use crate::scripts::{Head, Lines, Script, Task};
 use crate::values::{TaskName, task_name_in};
@@ -46,12 +48,6 @@ fn has_line(text: &[u8]) -> bool
         left = after;
     }
     false
-}
-
-fn is_used(tasks: &[Task], name: &str) -> bool
-    ensures { result ≡ is_used tasks.now name.now }
-{
-    tasks.iter().any(|task| task.name.as_str() == name)
 }
 
 /// The script with one more task.
@@ -96,15 +92,22 @@ fn is_head_placed(script: &Script, after: &[u8], word: &str) -> bool
 }
 
 /// What a head asks of the script before it and of the text behind it.
-#[tactic(auto, unfolding(crate::specs::Places::may_begin))]
-fn may_begin(script: &Script, after: &[u8], name: &str, word: &str) -> Result<(), ScriptKind>
+#[tactic(auto, unfolding(crate::specs::Places::may_begin), using(crate::proofs::Naming::among_tasks))]
+fn may_begin(
+    script: &Script,
+    names: &Names,
+    after: &[u8],
+    name: &str,
+    word: &str,
+) -> Result<(), ScriptKind>
+    requires { names.now ≡ task_names script.now.tasks }
     ensures value { result ≡ may_begin script.now (lines_of after.now) name.now word.now }
     ensures few { IfOk result (λ _. length script.now.tasks < most_tasks) }
+    ensures unused { IfOk result (λ _. is_among names.now name.now ≡ false) }
 {
-    let tasks = script.tasks.as_slice();
     let placed = only_if(is_head_placed(script, after, word), ScriptKind::Place);
-    let few = only_if(tasks.len() < MOST_TASKS, ScriptKind::Many);
-    let unused = only_if(!is_used(tasks, name), ScriptKind::Name);
+    let few = only_if(script.tasks.as_slice().len() < MOST_TASKS, ScriptKind::Many);
+    let unused = only_if(!names.has(name), ScriptKind::Name);
     match both(both(placed, few), unused) {
         Ok(_) => Ok(()),
         Err(kind) => Err(kind),
@@ -112,25 +115,29 @@ fn may_begin(script: &Script, after: &[u8], name: &str, word: &str) -> Result<()
 }
 
 /// The script with a task of this name, and the head that its word and the rest of its line give.
-#[tactic(auto, unfolding(crate::specs::Places::task_line))]
+#[tactic(auto, unfolding(crate::specs::Places::task_line), using(crate::proofs::Naming::one_more_name))]
 fn task_line(
     alloc: Global,
     script: Script,
+    names: &mut Names,
     number: u32,
     after: &[u8],
     name: &str,
     word: &str,
     rest: Option<&str>,
 ) -> Result<Result<Script, ScriptKind>, AllocError>
+    requires { names.old ≡ task_names script.tasks }
+    ensures named { IfOk result (λ r. IfOk r (λ s. names.new ≡ task_names s.tasks)) }
     ensures value { IfOk result (λ r. r ≡ task_line script number (lines_of after.now) name.now word.now (seen rest.entry)) }
     ensures few { IfOk result (λ r. IfOk r (λ s. length s.tasks ≤ most_tasks)) }
 {
-    let before = may_begin(&script, after, name, word);
-    let name = task_name_in(alloc, name)?;
+    let before = may_begin(&script, names, after, name, word);
+    let task_name = task_name_in(alloc, name)?;
     let head = head_in(alloc, word, rest)?;
-    match both(both(before, name), head) {
-        Ok((((), name), head)) => {
-            let script = with_task(alloc, script, number, name, head)?;
+    match both(both(before, task_name), head) {
+        Ok((((), task_name), head)) => {
+            let script = with_task(alloc, script, number, task_name, head)?;
+            names.add(alloc, name)?;
             Ok(Ok(script))
         }
         Err(kind) => {
@@ -145,10 +152,13 @@ fn task_line(
 pub fn head_line(
     alloc: Global,
     script: Script,
+    names: &mut Names,
     number: u32,
     after: &[u8],
     rest: Option<&str>,
 ) -> Result<Result<Script, ScriptKind>, AllocError>
+    requires { names.old ≡ task_names script.tasks }
+    ensures named { IfOk result (λ r. IfOk r (λ s. names.new ≡ task_names s.tasks)) }
     ensures value { IfOk result (λ r. r ≡ head_line script number (lines_of after.now) (seen rest.entry)) }
     ensures few { IfOk result (λ r. IfOk r (λ s. length s.tasks ≤ most_tasks)) }
 {
@@ -158,5 +168,5 @@ pub fn head_line(
     let Some((word, rest)) = next(rest) else {
         return Ok(Err(ScriptKind::Word));
     };
-    task_line(alloc, script, number, after, name, word, rest)
+    task_line(alloc, script, names, number, after, name, word, rest)
 }

@@ -16,8 +16,9 @@
 //!
 //! Names are 1 to 16 bytes of `a` to `z`, `0` to `9` and `_`, and distinct. TRIES is one digit.
 //! POLICY is `fail`, `ours` or `theirs`, alone or followed by `+a`, `+g` or `+ag`. AT is `branch REF`, `tag REF` or `id ID`.
-//! SHAPE, CHUNKS and INDEX are numbers of up to 128 bits joined by commas, or `-` for none; FILL is a number of 128 bits with
-//! a sign. HEX is pairs of lower-case digits of base 16, or `-` for no bytes; BYTE is one such pair. A KEY is any word.
+//! SHAPE and CHUNKS are numbers of up to 128 bits, and INDEX of up to 32 bits, joined by commas, or `-` for none; FILL is a
+//! number of 128 bits with a sign. HEX is pairs of lower-case digits of base 16, or `-` for no bytes; BYTE is one such pair.
+//! A KEY is any word.
 #![tactic(auto)]
 
 mod arrays;
@@ -27,6 +28,7 @@ mod faults;
 mod forms;
 mod heads;
 mod laws;
+mod names;
 mod openings;
 mod reading;
 mod refs;

@@ -5,11 +5,13 @@ ghost use Rattle.std.specs.Str.{is_utf8};
 ghost use Rattle.play_script.specs.Words.{seen, lines_of};
 ghost use Rattle.play_script.specs.Places.{most_tasks, words_line, line_at};
 ghost use Rattle.play_script.specs.Reading.{most_bytes, feeds, lines_from, empty, script_of, IsReading};
+ghost use Rattle.play_script.specs.SoFar.{task_names};
 ghost use Rattle.play_script.specs.Well.{IsWell};
 
 use crate::bodies::body_line;
 use crate::faults::{ScriptFault, ScriptKind};
 use crate::heads::{head_line, is_passed};
+use crate::names::Names;
 use crate::scripts::{Script, Tasks};
 use crate::turning::turns_line;
 use crate::words::{cut, cut_line};
@@ -19,21 +21,24 @@ use std::alloc::{AllocError, Global};
 pub const MOST_BYTES: usize = 1_048_576;
 
 /// The script with a line whose first word and rest are these.
-#[tactic(auto, unfolding(crate::specs::Places::words_line))]
+#[tactic(auto, unfolding(crate::specs::Places::words_line), using(crate::proofs::Naming::body_names))]
 fn words_line(
     alloc: Global,
     script: Script,
+    names: &mut Names,
     number: u32,
     after: &[u8],
     first: &str,
     rest: Option<&str>,
 ) -> Result<Result<Script, ScriptKind>, AllocError>
-    requires { length script.tasks ≤ most_tasks }
+    requires few { length script.tasks ≤ most_tasks }
+    requires named { names.old ≡ task_names script.tasks }
     ensures value { IfOk result (λ r. r ≡ words_line script number (lines_of after.now) first.now (seen rest.entry)) }
     ensures few { IfOk result (λ r. IfOk r (λ s. length s.tasks ≤ most_tasks)) }
+    ensures named { IfOk result (λ r. IfOk r (λ s. names.new ≡ task_names s.tasks)) }
 {
     if first == "task" {
-        return head_line(alloc, script, number, after, rest);
+        return head_line(alloc, script, names, number, after, rest);
     }
     if first == "turns" {
         return turns_line(alloc, script, rest);
@@ -57,13 +62,16 @@ fn text_of(line: &[u8]) -> Option<&str>
 fn line_at(
     alloc: Global,
     script: Script,
+    names: &mut Names,
     number: u32,
     after: &[u8],
     line: &[u8],
 ) -> Result<Result<Script, ScriptKind>, AllocError>
-    requires { length script.tasks ≤ most_tasks }
+    requires few { length script.tasks ≤ most_tasks }
+    requires named { names.old ≡ task_names script.tasks }
     ensures value { IfOk result (λ r. r ≡ line_at script number (lines_of after.now) line.now) }
     ensures few { IfOk result (λ r. IfOk r (λ s. length s.tasks ≤ most_tasks)) }
+    ensures named { IfOk result (λ r. IfOk r (λ s. names.new ≡ task_names s.tasks)) }
 {
     let Some(text) = text_of(line) else {
         return Ok(Err(ScriptKind::Text));
@@ -72,7 +80,7 @@ fn line_at(
         return Ok(Ok(script));
     }
     let (first, rest) = cut(text, ' ');
-    words_line(alloc, script, number, after, first, rest)
+    words_line(alloc, script, names, number, after, first, rest)
 }
 
 fn feeds(text: &[u8]) -> u32
@@ -100,11 +108,12 @@ fn lines_in(alloc: Global, text: &[u8]) -> Result<Script, ScriptFault>
         tasks: Tasks::from_vec(Vec::new(alloc)),
         turns: None,
     };
+    let mut names = Names::new(alloc);
     let mut number = 1;
     let mut left = text;
     while !left.is_empty() {
         let (line, after) = cut_line(left);
-        script = match line_at(alloc, script, number, after, line)? {
+        script = match line_at(alloc, script, &mut names, number, after, line)? {
             Ok(script) => script,
             Err(kind) => return Err(ScriptFault::At { line: number, kind }),
         };

@@ -1,9 +1,9 @@
 //! What a word stands for.
 
-ghost use Rattle.std.specs.Prelude.{◌≡◌, ◌<◌, IfOk, Ok, map};
+ghost use Rattle.std.specs.Prelude.{◌≡◌, ◌<◌, IfOk, Ok};
 ghost use Rattle.std.specs.List.{list_all};
 ghost use Rattle.std.specs.Char.{is_ascii_digit};
-ghost use Rattle.play_script.specs.Values.{is_digits, number_of, wide_of, numbers_of, clamped, index_of, hex_digit_of, byte_of, pairs, bytes_of, magnitude, fill_of, is_task_name, is_task_byte, task_name_of, path_of, text_of, ref_name_of, id_of, tries_in, pick_in, drops_in, policy_in, count_of};
+ghost use Rattle.play_script.specs.Values.{is_digits, number_of, wide_of, numbers_of, index_part_of, index_of, hex_digit_of, byte_of, pairs, bytes_of, magnitude, fill_of, is_task_name, is_task_byte, task_name_of, path_of, text_of, ref_name_of, id_of, tries_in, pick_in, drops_in, policy_in, count_of};
 ghost use Rattle.play_script.specs.Words.{parts, seen};
 ghost use Rattle.play_script.specs.Parts.{each};
 ghost use Rattle.play_script.specs.SoFar.{parts_seen};
@@ -195,22 +195,18 @@ pub fn numbers_in(alloc: Global, word: &str) -> Result<Result<Vec<u128>, ScriptK
     listed_in(alloc, word)
 }
 
-/// A number of an index, which is the greatest one of 32 bits where it doesn't fit them.
-fn clamped(number: u128) -> u32
-    ensures { result ≡ clamped number }
+/// The numbers of an index that stand between a word's commas, or the earliest of their faults.
+fn index_parts_in(alloc: Global, word: &str) -> Result<Result<Vec<u32>, ScriptKind>, AllocError>
+    ensures { IfOk result (λ r. parts_seen r ≡ each index_part_of (parts 44 word.now)) }
 {
-    number.min(u32::MAX as u128) as u32
-}
-
-/// The numbers of an index.
-fn all_clamped(alloc: Global, numbers: &[u128]) -> Result<Vec<u32>, AllocError>
-    ensures { IfOk result (λ all. all.items ≡ map clamped numbers.now) }
-{
-    let mut all = Vec::new(alloc);
-    for number in numbers {
-        all.push(clamped(*number))?;
+    let mut numbers = Ok(Vec::new(alloc));
+    let mut left = Some(word);
+    while let Some(rest) = left {
+        let (number, after) = cut(rest, ',');
+        numbers = with_part(numbers, number_in(number, 0, u32::MAX))?;
+        left = after;
     }
-    Ok(all)
+    Ok(numbers)
 }
 
 /// The index that a word lists, of which `-` lists no number.
@@ -218,11 +214,11 @@ fn all_clamped(alloc: Global, numbers: &[u128]) -> Result<Vec<u32>, AllocError>
 pub fn index_in(alloc: Global, word: &str) -> Result<Result<Index, ScriptKind>, AllocError>
     ensures { IfOk result (λ r. r ≡ index_of word.now) }
 {
-    match numbers_in(alloc, word)? {
-        Ok(numbers) => {
-            let numbers = all_clamped(alloc, &numbers)?;
-            Ok(Ok(Index::from_parts(numbers)))
-        }
+    if word == "-" {
+        return Ok(Ok(Index::from_parts(Vec::new(alloc))));
+    }
+    match index_parts_in(alloc, word)? {
+        Ok(numbers) => Ok(Ok(Index::from_parts(numbers))),
         Err(kind) => Ok(Err(kind)),
     }
 }

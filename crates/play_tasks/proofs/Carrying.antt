@@ -2,12 +2,12 @@
 use Rattle.std.proofs.Common.{List, ◌++◌, ℕ, refl}
 use Rattle.ice_ids.specs.declared.Id12.{Id12}
 use Rattle.ice_ids.specs.declared.drawing.AnyIds.{AnyIds}
-use Rattle.store_api.specs.declared.keys.Key.{Key}
-use Rattle.store_api.specs.declared.keys.Key.TheVariants.{Snapshot, Manifest, Txn, Chunk, Branch, Tag, TagGone}
-use Rattle.store_api.specs.declared.keys.Why.{Why}
-use Rattle.store_api.specs.declared.events.Op.{Op}
-use Rattle.store_api.specs.declared.events.Op.TheVariants.{Get, PutNew, PutOver, Remove, RemoveAt, List as ListPart}
-use Rattle.store_api.specs.declared.events.Event.{Event}
+use Rattle.object_store.specs.declared.keys.Key.{Key}
+use Rattle.object_store.specs.declared.keys.Key.TheVariants.{Snapshot, Manifest, Txn, Chunk, Branch, Tag, TagGone, Lease}
+use Rattle.object_store.specs.declared.keys.Why.{Why}
+use Rattle.object_store.specs.declared.events.Op.{Op}
+use Rattle.object_store.specs.declared.events.Op.TheVariants.{Get, PutNew, PutOver, Remove, RemoveAt, List as ListPart}
+use Rattle.object_store.specs.declared.events.Event.{Event}
 use Rattle.store_api.specs.Journal.{Each, IsGood}
 use Rattle.store_api.specs.Callers.{Caller}
 use Rattle.store_api.specs.Program.{Prog, Done, Ask as Ask_next, Keeps, Leads}
@@ -15,6 +15,7 @@ use Rattle.store_api.specs.Plays.{Play, Ended, Ask, Or, PlayKeeps, PlayLeads, St
 use Rattle.store_api.proofs.Programs.{Leads-weaker}
 use Rattle.session.specs.Sessions.{SessionState}
 use Rattle.commit_path.specs.Owed.{Sessions, OwesOver, OwesSnap, OwesNew, OwesPutOver, Owes, IsCareful}
+use Rattle.commit_path.specs.Own.{OwesOwn}
 use Rattle.store_api.specs.Telling.{ChangedNothing}
 use Rattle.commit_path.specs.Single.{PutsSnapshot, HasPutNone}
 use Rattle.commit_path.proofs.Singling.{HasPutNone-makes}
@@ -22,20 +23,26 @@ use Rattle.store_api.proofs.Telling.{makes-keeps}
 use Rattle.rebase.proofs.Kept.{stays-makes}
 use Rattle.play_tasks.specs.Solving.{MayEnd}
 
--- an operation is polite and owed, and comes before its client changed a branch
+-- an operation is polite and owed, comes before its client changed a branch, and is owed of the client's own puts
 abbrev pub Minds : AnyIds → Sessions → List Event → List Event → ℕ → Op → Type 0
-Minds ids mine start journal client op = IsCareful ids mine journal client op × ChangedNothing client start journal
+Minds ids mine start journal client op = IsCareful ids mine journal client op × (ChangedNothing client start journal × OwesOwn ids client start op journal)
 
-pub Keeps-minds : {A : Type 0} (ids : AnyIds) (mine : Sessions) (start : List Event) (by : Caller) (p : Prog A) (journal : List Event) → Keeps (IsCareful ids mine) by p journal → Stays (ChangedNothing by.number start) by p journal → Keeps (Minds ids mine start) by p journal
+pub Keeps-minds : {A : Type 0} (ids : AnyIds) (mine : Sessions) (start : List Event) (by : Caller) (p : Prog A) (journal : List Event) → Keeps (IsCareful ids mine) by p journal → Stays (ChangedNothing by.number start) by p journal → Keeps (λ h client op. OwesOwn ids client start op h) by p journal → Keeps (Minds ids mine start) by p journal
 unfolding Keeps Stays
-Keeps-minds ids mine start by (Done a) journal k s = tt
-Keeps-minds ids mine start by (Ask_next op next) journal k s = ((k.0, s.0), λ reply new m. Keeps-minds ids mine start by (next reply) new (k.1 reply new m) (s.1 reply new m).1)
+Keeps-minds ids mine start by (Done a) journal k s o = tt
+Keeps-minds ids mine start by (Ask_next op next) journal k s o = ((k.0, (s.0, o.0)), λ reply new m. Keeps-minds ids mine start by (next reply) new (k.1 reply new m) (s.1 reply new m).1 (o.1 reply new m))
 
 -- where Q follows from P at the client's own operations
 pub Keeps-own : {A : Type 0} (P Q : List Event → ℕ → Op → Type 0) (by : Caller) → ((journal : List Event) (op : Op) → P journal by.number op → Q journal by.number op) → (p : Prog A) (journal : List Event) → Keeps P by p journal → Keeps Q by p journal
 unfolding Keeps
 Keeps-own P Q by f (Done a) journal k = tt
 Keeps-own P Q by f (Ask_next op g) journal k = (f journal op k.0, λ reply new m. Keeps-own P Q by f (g reply) new (k.1 reply new m))
+
+pub PlayKeeps-own : {A : Type 0} (P Q : List Event → ℕ → Op → Type 0) (by : Caller) → ((journal : List Event) (op : Op) → P journal by.number op → Q journal by.number op) → (p : Play A) (journal : List Event) → PlayKeeps P by p journal → PlayKeeps Q by p journal
+unfolding PlayKeeps
+PlayKeeps-own P Q by f (Ended a) journal k = tt
+PlayKeeps-own P Q by f (Ask op s next) journal k = (f journal op k.0, PlayKeeps-own P Q by f s journal k.1, λ reply new m. PlayKeeps-own P Q by f (next reply) new (k.2 reply new m))
+PlayKeeps-own P Q by f (Or p q) journal k = (PlayKeeps-own P Q by f p journal k.0, PlayKeeps-own P Q by f q journal k.1)
 
 -- two facts of each answer
 pub Leads-both : {A : Type 0} (Q R : A → List Event → Type 0) (by : Caller) (p : Prog A) (journal : List Event) → Leads Q by p journal → Leads R by p journal → Leads (λ a h. Q a h × R a h) by p journal
@@ -108,6 +115,7 @@ module _ (ids : AnyIds) (mine more : Sessions) (journal : List Event) (f : (s : 
   owes-new bytes (Branch name) o = o
   owes-new bytes (Tag name) o = o
   owes-new bytes (TagGone name) o = o
+  owes-new bytes (Lease id) o = o
 
   owes-over : (name bytes : List ℕ) (old : ℕ) (why : Why) → OwesOver mine journal name bytes old why → OwesOver more journal name bytes old why
   owes-over name bytes old why o = record {
@@ -129,6 +137,7 @@ module _ (ids : AnyIds) (mine more : Sessions) (journal : List Event) (f : (s : 
   owes-put-over bytes old why (Branch name) o = owes-over name bytes old why o
   owes-put-over bytes old why (Tag name) o = o
   owes-put-over bytes old why (TagGone name) o = o
+  owes-put-over bytes old why (Lease id) o = o
 
   owes : (op : Op) → Owes ids mine journal op → Owes ids more journal op
   owes (Get key) o = o

@@ -2,7 +2,7 @@
 use Rattle.std.proofs.Common.{◌≡◌, ◌∙◌, inl, inr, ℕ, refl, sym, ap, List, [], ◌∷◌, ◌++◌, append_assoc, append-nil, Result, Err}
 use Rattle.ice_ids.specs.declared.drawing.AnyIds.{AnyIds}
 use Rattle.conflicts.specs.declared.solving.Policy.{Policy}
-use Rattle.store_api.specs.declared.events.Event.{Event}
+use Rattle.object_store.specs.declared.events.Event.{Event}
 use Rattle.store_api.specs.declared.machines.Refusal.{Refusal}
 use Rattle.store_api.specs.declared.machines.Refusal.TheVariants.{NoMemory}
 use Rattle.store_api.specs.Journal.{Each, IsGood}
@@ -15,8 +15,9 @@ use Rattle.store_api.proofs.PlayLaws.{PlayKeeps-call, PlayLeads-call}
 use Rattle.session.specs.Sessions.{SessionState}
 use Rattle.commit_path.specs.Owed.{Sessions, IsCareful}
 use Rattle.commit_path.specs.Laws.{OpeningLaw, SessionLaw, CommitLaw}
+use Rattle.commit_path.specs.Own.{OwesOwn, OwningLaw}
 use Rattle.commit_path.specs.Single.{HasPutNone, SingleLaw}
-use Rattle.chunk_calls.specs.Laws.{SetLaw, GetLaw}
+use Rattle.chunk_calls.specs.Laws.{SetLaw, GetLaw, OwningCallsLaw}
 use Rattle.chunk_calls.proofs.Lasting.{WasSet-append, IsChunk-append}
 use Rattle.rebase.specs.Laws.{RebaseLaw}
 use Rattle.play_refs.specs.Laws.{RefsTaskLaw}
@@ -37,9 +38,11 @@ pub record Laws : Type 0 where
   pub session : SessionLaw
   pub commit : CommitLaw
   pub single : SingleLaw
+  pub owning : OwningLaw
   pub rebase : (by : Caller) (policy : Policy) (s : SessionState) → RebaseLaw by policy s
   pub set : SetLaw
   pub get : GetLaw
+  pub calls : OwningCallsLaw
   pub refs : RefsTaskLaw
 
 -- ---- what was told of a line stays so, whatever good events come
@@ -112,10 +115,10 @@ module _ (by : Caller) (ids : AnyIds) (access : Access) (mine : Sessions) (start
 
   -- a call of a machine, and then what follows its answer
   pub called-well : {A : Type 0} (ls : List Line) (s : SessionState) (shown : List Shown) (p : Prog (Result A Refusal)) (f : Result A Refusal → Play Outcome) (Q : Result A Refusal → List Event → Type 0) (journal : List Event)
-      → Keeps (IsCareful ids mine) by p journal → Stays Nothing by p journal → Leads Q by p journal
+      → Keeps (IsCareful ids mine) by p journal → Stays Nothing by p journal → Keeps (λ h client op. OwesOwn ids client start op h) by p journal → Leads Q by p journal
       → ((answer : Result A Refusal) (h : List Event) → Q answer h → GoesWell ls s shown (f answer) h) → ((h : List Event) → Nothing h → GoesWell ls s shown (f (Err NoMemory)) h) → GoesWell ls s shown (call p f) journal
-  called-well ls s shown p f Q journal careful stays told answered starved = (
-    PlayKeeps-call (Minds ids mine start) Q Nothing by p f journal (Keeps-minds ids mine start by p journal careful stays) told stays (λ answer h q. (answered answer h q).0) (λ h c. (starved h c).0),
+  called-well ls s shown p f Q journal careful stays owns told answered starved = (
+    PlayKeeps-call (Minds ids mine start) Q Nothing by p f journal (Keeps-minds ids mine start by p journal careful stays owns) told stays (λ answer h q. (answered answer h q).0) (λ h c. (starved h c).0),
     PlayLeads-call (Ending by.number access start ls s shown) Q Nothing by p f journal told stays (λ answer h q. (answered answer h q).1) (λ h c. (starved h c).1),
   )
 

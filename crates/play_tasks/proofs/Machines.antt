@@ -13,7 +13,7 @@ use Rattle.session.specs.Setting.{SetRefused}
 use Rattle.session.specs.Getting.{GetRefused}
 use Rattle.conflicts.specs.declared.solving.Policy.{Policy}
 use Rattle.ice_ids.specs.declared.drawing.AnyIds.{AnyIds}
-use Rattle.store_api.specs.declared.events.Version.{Version}
+use Rattle.object_store.specs.declared.events.Version.{Version}
 use Rattle.commit_path.specs.declared.commit.Tried.{Tried}
 use Rattle.commit_path.specs.Committing.{commit_program, IsDrawn}
 use Rattle.rebase.specs.declared.machine.Rebased.{Rebased}

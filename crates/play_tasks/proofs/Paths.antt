@@ -1,8 +1,8 @@
 -- Paths of plays.
 use Rattle.std.proofs.Common.{inl, inr, List, [], ◌∷◌, refl, subst}
-use Rattle.store_api.specs.declared.events.Op.{Op}
-use Rattle.store_api.specs.declared.events.Reply.{Reply}
-use Rattle.store_api.specs.declared.events.Event.{Event}
+use Rattle.object_store.specs.declared.events.Op.{Op}
+use Rattle.object_store.specs.declared.events.Reply.{Reply}
+use Rattle.object_store.specs.declared.events.Event.{Event}
 use Rattle.store_api.specs.Callers.{Fits}
 use Rattle.store_api.specs.Plays.{Play, Ended, Ask, Or, Comes}
 use Rattle.play_tasks.specs.Played.{PlaysTo}

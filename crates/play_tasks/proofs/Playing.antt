@@ -12,8 +12,8 @@ use Rattle.zarr_path.specs.declared.keys.ZarrKey.{ZarrKey}
 use Rattle.zarr_path.specs.declared.keys.ZarrKey.TheVariants as zarr
 use Rattle.zarr_path.specs.Keys.{key_of}
 use Rattle.file_fields.proofs.Bytes.{bytes_pass}
-use Rattle.store_api.specs.declared.events.Event.{Event}
-use Rattle.store_api.specs.declared.events.Op.{Op}
+use Rattle.object_store.specs.declared.events.Event.{Event}
+use Rattle.object_store.specs.declared.events.Op.{Op}
 use Rattle.store_api.specs.declared.machines.Refusal.{Refusal}
 use Rattle.store_api.specs.declared.machines.Refusal.TheVariants.{NoMemory}
 use Rattle.store_api.specs.Callers.{Caller}
@@ -27,6 +27,8 @@ use Rattle.session.specs.Opening.{open_program}
 use Rattle.session.specs.Chunks.{set_program, get_program}
 use Rattle.commit_path.specs.Owed.{Sessions, IsCareful}
 use Rattle.store_api.specs.Telling.{ChangedNothing}
+use Rattle.commit_path.specs.Own.{HasPutDrawn, OwesOwn, Owns}
+use Rattle.commit_path.proofs.OwnPuts.{HasPutDrawn-none}
 use Rattle.commit_path.specs.Opened.{IsOpened, WasBegun, OpeningTells}
 use Rattle.commit_path.specs.Single.{HasPutNone}
 use Rattle.commit_path.specs.Spelled.{IsSpelled}
@@ -55,10 +57,11 @@ use Rattle.play_outcome.specs.Playing.{ended}
 use Rattle.play_tasks.specs.Playing.{tries_of, policy_of, commit_play, play_deed, play_lines, after_line, after_open, shown_by, asked_by, session_play, headed_play, task_play}
 use Rattle.play_tasks.specs.Solving.{MayEnd, ReachesBy, Reaches, WasCarried, IsOfTask}
 use Rattle.play_refs.specs.Playing.{refs_play}
-use Rattle.play_tasks.specs.Owing.{OwesBy, IsDue, ComesBefore, BeforeChange}
+use Rattle.play_refs.specs.Telling.{OwesRefs}
+use Rattle.play_tasks.specs.Owing.{OwesBy, OwesOwnBy, IsDue, ComesBefore, BeforeChange}
 use Rattle.play_tasks.specs.Telling.{DidPlay, PlaysAll, Refuses, TellsBy, TellsOutcome}
 use Rattle.play_outcome.proofs.Plays.{PlayLeads-weaker}
-use Rattle.play_tasks.proofs.Carrying.{Minds, Keeps-minds, Leads-both, PlayLeads-carry, PlayKeeps-with, careful-more, puts-none, may-end}
+use Rattle.play_tasks.proofs.Carrying.{PlayKeeps-own, Minds, Keeps-minds, Leads-both, PlayLeads-carry, PlayKeeps-with, careful-more, puts-none, may-end}
 use Rattle.play_tasks.proofs.Early.{put-none-before, WasBegun-more}
 use Rattle.play_tasks.proofs.Going.{Laws, Ending, one-more, DidPlay-append, GoesWell, ends-well, refused-well, starved-well, called-well, none-careful}
 use Rattle.play_tasks.proofs.Ready.{IsReady, deed-ready}
@@ -157,7 +160,7 @@ module _ (L : Laws) (by : Caller) (ids : AnyIds) (access : Access) (from : Sessi
   -- ---- the lines
   -- the lines that are left go well on any session that is ready, wherever the client has changed no branch and put no snapshot
   abbrev AllGoWell : List Line → Type 0
-  AllGoWell ls = (journal : List Event) → Nothing journal → PutNone journal → (s : SessionState) (shown : List Shown) → IsReady ids s journal → ((t : SessionState) → Reaches ls s t → from t) → Well ls s shown (play_lines access ls s shown) journal
+  AllGoWell ls = (journal : List Event) → Nothing journal → PutNone journal → (s : SessionState) (shown : List Shown) → IsReady ids by.number start s journal → ((t : SessionState) → Reaches ls s t → from t) → Well ls s shown (play_lines access ls s shown) journal
 
   -- a line was played, and the others behind it go well
   went-well : (l : Line) (ls : List Line) (s : SessionState) (shown first : List Shown) (mid : SessionState) (journal : List Event) → DidPlay by.number (deed l.number l.call s) s start first mid journal → Well ls mid (shown ++ first) (play_lines access ls mid (shown ++ first)) journal
@@ -174,45 +177,49 @@ module _ (L : Laws) (by : Caller) (ids : AnyIds) (access : Access) (from : Sessi
   module _ (l : Line) (ls : List Line) (s : SessionState) (shown : List Shown) (path index bytes : List ℕ) (sets : deed l.number l.call s ≡ Sets path index bytes) (go : AllGoWell ls)
       (own : (t : SessionState) → ReachesBy (Sets path index bytes) s t (λ mid. Reaches ls mid t) → from t) where
     abbrev SetAnswers : Result SessionState Refusal → List Event → Type 0
-    SetAnswers answer h = (SetTells by.number s path index bytes start answer h × IfOk answer (λ t. IsSpelled t × IsOpened t h × IsLater ids t.ids)) × (PutNone h × MayEnd (set_program s path index bytes) answer)
+    SetAnswers answer h = (SetTells by.number s path index bytes start answer h × IfOk answer (λ t. IsSpelled t × IsOpened t h × IsLater ids t.ids)) × (PutNone h × (MayEnd (set_program s path index bytes) answer × IfOk answer (λ t. Owns ids by.number t start h)))
 
     set-answered : (answer : Result SessionState Refusal) (h : List Event) → SetAnswers answer h → Well (l ∷ ls) s shown (after_line l.number shown (silent answer) (play_lines access ls)) h
     set-answered (Ok t) h q =
         let did = subst (λ (d : Deed). DidPlay by.number d s start [] t h) (sym sets) (refl, q.0.0.0) in
         went-well l ls s shown [] t h did
-        (go h q.0.0.1 q.1.0 t (shown ++ []) (record { opened = q.0.1.1; spelled = q.0.1.0; later = q.0.1.2 }) (λ u reaches. own u (t, q.1.1, reaches)))
+        (go h q.0.0.1 q.1.0 t (shown ++ []) (record { opened = q.0.1.1; spelled = q.0.1.0; later = q.0.1.2; owned = q.1.1.1 }) (λ u reaches. own u (t, q.1.1.0, reaches)))
     set-answered (Err why) h q = refused l ls s shown why h (subst (λ (d : Deed). Refuses by.number d s start why h) (sym sets) q.0.0)
 
-    set-well : (journal : List Event) → list_all (λ n. nat_lt n 256) bytes ≡ true → IsReady ids s journal → Nothing journal → PutNone journal → Well (l ∷ ls) s shown (play_deed access l.number shown s (Sets path index bytes) (play_lines access ls)) journal
+    set-well : (journal : List Event) → list_all (λ n. nat_lt n 256) bytes ≡ true → IsReady ids by.number start s journal → Nothing journal → PutNone journal → Well (l ∷ ls) s shown (play_deed access l.number shown s (Sets path index bytes) (play_lines access ls)) journal
     set-well journal are ready c f =
         let law = L.set by ids s path index bytes start journal ready.later are ready.spelled ready.opened c in
+        let owning = L.calls.sets by ids s path index bytes start journal ready.later ready.owned in
         let p = set_program s path index bytes in
-        let told = Leads-both (λ answer h. SetTells by.number s path index bytes start answer h × IfOk answer (λ t. IsSpelled t × IsOpened t h × IsLater ids t.ids)) (λ answer h. PutNone h × MayEnd p answer) by p journal law.3
-        (Leads-both (λ answer h. PutNone h) (λ answer h. MayEnd p answer) by p journal (puts-none by start p journal law.1 f) (may-end by p journal)) in
-        called-well by ids access Tried start (l ∷ ls) s shown p (λ answer. after_line l.number shown (silent answer) (play_lines access ls)) SetAnswers journal (none-careful by ids Tried p journal law.0) law.2 told set-answered (λ h n. starved l ls s shown h n)
+        let told = Leads-both (λ answer h. SetTells by.number s path index bytes start answer h × IfOk answer (λ t. IsSpelled t × IsOpened t h × IsLater ids t.ids)) (λ answer h. PutNone h × (MayEnd p answer × IfOk answer (λ t. Owns ids by.number t start h))) by p journal law.3
+        (Leads-both (λ answer h. PutNone h) (λ answer h. MayEnd p answer × IfOk answer (λ t. Owns ids by.number t start h)) by p journal (puts-none by start p journal law.1 f)
+        (Leads-both (λ answer h. MayEnd p answer) (λ answer h. IfOk answer (λ t. Owns ids by.number t start h)) by p journal (may-end by p journal) owning.1)) in
+        called-well by ids access Tried start (l ∷ ls) s shown p (λ answer. after_line l.number shown (silent answer) (play_lines access ls)) SetAnswers journal (none-careful by ids Tried p journal law.0) law.2 owning.0 told set-answered (λ h n. starved l ls s shown h n)
 
   -- ---- a line that reads a chunk
   module _ (l : Line) (ls : List Line) (s : SessionState) (shown : List Shown) (path index : List ℕ) (show : Value → Shown) (reads : deed l.number l.call s ≡ Reads path index show) (go : AllGoWell ls)
       (own : (t : SessionState) → ReachesBy (Reads path index show) s t (λ mid. Reaches ls mid t) → from t) (spelled : IsSpelled s) (later : IsLater ids s.ids) where
     abbrev GetAnswers : Result Value Refusal → List Event → Type 0
-    GetAnswers answer h = (GetTells by.number s path index start answer h × IsOpened s h) × (PutNone h × MayEnd (get_program s path index) answer)
+    GetAnswers answer h = (GetTells by.number s path index start answer h × IsOpened s h) × (PutNone h × (MayEnd (get_program s path index) answer × Owns ids by.number s start h))
 
     get-answered : (answer : Result Value Refusal) (h : List Event) → GetAnswers answer h → Well (l ∷ ls) s shown (after_line l.number shown (shown_by s show answer) (play_lines access ls)) h
     get-answered (Ok value) h q =
         let did = subst (λ (d : Deed). DidPlay by.number d s start (show value ∷ []) s h) (sym reads) (refl, value, refl, q.0.0.0) in
-        went-well l ls s shown (show value ∷ []) s h did (go h q.0.0.1 q.1.0 s (shown ++ show value ∷ []) (record { opened = q.0.1; spelled = spelled; later = later }) (λ u reaches. own u (value, q.1.1, reaches)))
+        went-well l ls s shown (show value ∷ []) s h did (go h q.0.0.1 q.1.0 s (shown ++ show value ∷ []) (record { opened = q.0.1; spelled = spelled; later = later; owned = q.1.1.1 }) (λ u reaches. own u (value, q.1.1.0, reaches)))
     get-answered (Err why) h q = refused l ls s shown why h (subst (λ (d : Deed). Refuses by.number d s start why h) (sym reads) q.0.0)
 
-    get-well : (journal : List Event) → IsOpened s journal → Nothing journal → PutNone journal → Well (l ∷ ls) s shown (play_deed access l.number shown s (Reads path index show) (play_lines access ls)) journal
-    get-well journal opened c f =
+    get-well : (journal : List Event) → IsOpened s journal → Owns ids by.number s start journal → Nothing journal → PutNone journal → Well (l ∷ ls) s shown (play_deed access l.number shown s (Reads path index show) (play_lines access ls)) journal
+    get-well journal opened owned c f =
         let law = L.get by ids s path index start journal spelled opened c in
+        let owning = L.calls.gets by ids s path index start journal owned in
         let p = get_program s path index in
-        let told = Leads-both (λ answer h. GetTells by.number s path index start answer h × IsOpened s h) (λ answer h. PutNone h × MayEnd p answer) by p journal law.3
-        (Leads-both (λ answer h. PutNone h) (λ answer h. MayEnd p answer) by p journal (puts-none by start p journal law.1 f) (may-end by p journal)) in
-        called-well by ids access Tried start (l ∷ ls) s shown p (λ answer. after_line l.number shown (shown_by s show answer) (play_lines access ls)) GetAnswers journal (none-careful by ids Tried p journal law.0) law.2 told get-answered (λ h n. starved l ls s shown h n)
+        let told = Leads-both (λ answer h. GetTells by.number s path index start answer h × IsOpened s h) (λ answer h. PutNone h × (MayEnd p answer × Owns ids by.number s start h)) by p journal law.3
+        (Leads-both (λ answer h. PutNone h) (λ answer h. MayEnd p answer × Owns ids by.number s start h) by p journal (puts-none by start p journal law.1 f)
+        (Leads-both (λ answer h. MayEnd p answer) (λ answer h. Owns ids by.number s start h) by p journal (may-end by p journal) owning.1)) in
+        called-well by ids access Tried start (l ∷ ls) s shown p (λ answer. after_line l.number shown (shown_by s show answer) (play_lines access ls)) GetAnswers journal (none-careful by ids Tried p journal law.0) law.2 owning.0 told get-answered (λ h n. starved l ls s shown h n)
 
   -- ---- a line that commits
-  commit-well : (l : Line) (ls : List Line) (s : SessionState) (shown : List Shown) (message : List ℕ) → deed l.number l.call s ≡ Commits message → (journal : List Event) → IsUtf8 message → IsReady ids s journal → Nothing journal → PutNone journal → from s
+  commit-well : (l : Line) (ls : List Line) (s : SessionState) (shown : List Shown) (message : List ℕ) → deed l.number l.call s ≡ Commits message → (journal : List Event) → IsUtf8 message → IsReady ids by.number start s journal → Nothing journal → PutNone journal → from s
       → Well (l ∷ ls) s shown (commit_play (tries_of access) (policy_of access) l.number shown message s) journal
   unfolding WasCarried
   commit-well l ls s shown message commits journal utf8 ready c f is_from =
@@ -225,14 +232,14 @@ module _ (L : Laws) (by : Caller) (ids : AnyIds) (access : Access) (from : Sessi
       → (t : SessionState) → ReachesBy d s t (λ mid. Reaches ls mid t) → from t
   leads-to l ls s d e own t reaches = own t (subst (λ (x : Deed). ReachesBy x s t (λ mid. Reaches ls mid t)) (sym e) reaches)
 
-  deed-well : (l : Line) (ls : List Line) (s : SessionState) (shown : List Shown) (journal : List Event) → IsWellCall l.call → IsReady ids s journal → Nothing journal → PutNone journal → ((t : SessionState) → ReachesBy (deed l.number l.call s) s t (λ mid. Reaches ls mid t) → from t) → AllGoWell ls
+  deed-well : (l : Line) (ls : List Line) (s : SessionState) (shown : List Shown) (journal : List Event) → IsWellCall l.call → IsReady ids by.number start s journal → Nothing journal → PutNone journal → ((t : SessionState) → ReachesBy (deed l.number l.call s) s t (λ mid. Reaches ls mid t) → from t) → AllGoWell ls
       → (d : Deed) → deed l.number l.call s ≡ d → Well (l ∷ ls) s shown (play_deed access l.number shown s d (play_lines access ls)) journal
   deed-well l ls s shown journal well ready c f own go (Goes (Err why)) e = refused l ls s shown why journal (subst (λ (d : Deed). Refuses by.number d s start why journal) (sym e) (refl, c))
   deed-well l ls s shown journal well ready c f own go (Goes (Ok went)) e =
       went-well l ls s shown went.0 went.1 journal (subst (λ (d : Deed). DidPlay by.number d s start went.0 went.1 journal) (sym e) refl)
-      (go journal c f went.1 (shown ++ went.0) (deed-ready L.session ids l.number l.call s went journal well ready e) (leads-to l ls s (Goes (Ok went)) e own))
+      (go journal c f went.1 (shown ++ went.0) (deed-ready L.session L.owning ids by.number start l.number l.call s went journal well ready e) (leads-to l ls s (Goes (Ok went)) e own))
   deed-well l ls s shown journal well ready c f own go (Sets path index bytes) e = set-well l ls s shown path index bytes e go (leads-to l ls s (Sets path index bytes) e own) journal (deed-bytes l.number l.call s path index bytes well e) ready c f
-  deed-well l ls s shown journal well ready c f own go (Reads path index show) e = get-well l ls s shown path index show e go (leads-to l ls s (Reads path index show) e own) ready.spelled ready.later journal ready.opened c f
+  deed-well l ls s shown journal well ready c f own go (Reads path index show) e = get-well l ls s shown path index show e go (leads-to l ls s (Reads path index show) e own) ready.spelled ready.later journal ready.opened ready.owned c f
   deed-well l ls s shown journal well ready c f own go (Commits message) e = commit-well l ls s shown message e journal (deed-utf8 l.number l.call s message well e) ready c f (leads-to l ls s (Commits message) e own s refl)
 
   lines-well : (ls : List Line) → All IsWellLine ls → AllGoWell ls
@@ -279,7 +286,7 @@ module _ (L : Laws) (by : Caller) (ids : AnyIds) (access : Access) (task : Task)
   })
 
   abbrev Answers : Result SessionState Refusal → List Event → Type 0
-  Answers r h = (OpeningTells by.number (asked_by access ids) start r h × IfOk r IsSpelled) × HasPutNone by.number start h
+  Answers r h = (OpeningTells by.number (asked_by access ids) start r h × IfOk r IsSpelled) × (HasPutNone by.number start h × IfOk r (λ s. Owns ids by.number s start h))
 
   refused-task : (why : Refusal) (journal : List Event) → OpeningTells by.number (asked_by access ids) start (Err why) journal → TaskGoesWell (after_open access task.line task.body (Err why)) journal
   unfolding PlayKeeps PlayLeads
@@ -294,13 +301,13 @@ module _ (L : Laws) (by : Caller) (ids : AnyIds) (access : Access) (task : Task)
   opened-task well (Ok s) journal q =
       let begun = q.0.0.0 in
       let drawing : s.ids ≡ ids = ap (λ (x : SessionState). x.ids) begun.begins ∙ asked-ids access ids in
-      let ready : IsReady ids s journal = record { opened = q.0.0.1; spelled = q.0.1; later = subst (IsLater ids) (sym drawing) (later-same ids) } in
+      let ready : IsReady ids by.number start s journal = record { opened = q.0.0.1; spelled = q.0.1; later = subst (IsLater ids) (sym drawing) (later-same ids); owned = q.1.1 } in
       let from : SessionState → Type 0 = λ t. Reaches task.body s t in
       let tried : Sessions = IsTried from by.number access start in
-      let lines = lines-well L by ids access from start task.body well.body journal q.0.0.2 q.1 s [] ready (λ t reaches. reaches) in
+      let lines = lines-well L by ids access from start task.body well.body journal q.0.0.2 q.1.0 s [] ready (λ t reaches. reaches) in
       let p = play_lines access task.body s [] in
       let own = begun.got.own in
-      let early : HasPutNone by.number start own.before = put-none-before by.number start journal own.before own.since own.after own.event own.before_is own.is q.1 in
+      let early : HasPutNone by.number start own.before = put-none-before by.number start journal own.before own.since own.after own.event own.before_is own.is q.1.0 in
       let keeps = PlayKeeps-weaker (λ h client op. Starts s h × Minds ids tried start h client op) (Minds ids Mine start)
       (λ h client op k. (careful-more ids tried Mine h (λ t id x. of-task s h t id k.0 x) client op k.1.0, k.1.1)) by p journal
       (PlayKeeps-with (Starts s) (λ h more b. (WasBegun-more by.number (asked_by access ids) s start h more b.0, b.1)) by (Minds ids tried start) p journal (begun, early) lines.0) in
@@ -311,17 +318,19 @@ module _ (L : Laws) (by : Caller) (ids : AnyIds) (access : Access) (task : Task)
       of-task : (s : SessionState) (h : List Event) (t : SessionState) (id : Id12) → Starts s h → IsTried (λ u. Reaches task.body s u) by.number access start h t id → Mine h t id
       of-task s h t id b x = record { access = access; head_is = head_is; opened = s; begun = b.0; early = b.1; session = x.session; reaches = x.is_from; count = x.count; few = x.few; carried = x.carried; alike = x.alike; drawn = x.drawn }
 
-  session-well : IsWellTask task → PlayKeeps (IsCareful ids Mine) by (session_play ids access task.line task.body) start × PlayKeeps (λ journal client op. ChangedNothing client start journal) by (session_play ids access task.line task.body) start × PlayLeads Outcomes by (session_play ids access task.line task.body) start
+  session-well : IsWellTask task → PlayKeeps (λ h client op. IsCareful ids Mine h client op × OwesOwn ids client start op h) by (session_play ids access task.line task.body) start × PlayKeeps (λ journal client op. ChangedNothing client start journal) by (session_play ids access task.line task.body) start × PlayLeads Outcomes by (session_play ids access task.line task.body) start
   session-well well =
       let a = asked_by access ids in
       let p = open_program a in
       let law = L.opening by ids a start start (ChangedNothing-none by.number start) in
       let single = L.single.opening by a start start (HasPutNone-none by.number start) in
-      let told = Leads-both (λ r h. OpeningTells by.number a start r h × IfOk r IsSpelled) (λ r h. HasPutNone by.number start h) by p start law.2 single.1 in
+      let owning = L.owning.opens by ids a start start (subst (λ (x : AnyIds). HasPutDrawn ids x by.number start start) (sym (asked-ids access ids)) (HasPutDrawn-none ids ids by.number start)) in
+      let told = Leads-both (λ r h. OpeningTells by.number a start r h × IfOk r IsSpelled) (λ r h. HasPutNone by.number start h × IfOk r (λ s. Owns ids by.number s start h)) by p start law.2
+      (Leads-both (λ r h. HasPutNone by.number start h) (λ r h. IfOk r (λ s. Owns ids by.number s start h)) by p start single.1 owning.1) in
       let keeps = PlayKeeps-call (Minds ids Mine start) Answers (ChangedNothing by.number start) by p (after_open access task.line task.body) start
-      (Keeps-minds ids Mine start by p start (none-careful by ids Mine p start law.0) law.1) told law.1 (λ r h q. (opened-task well r h q).0) (λ h q. (refused-task NoMemory h q).0) in (
-        PlayKeeps-weaker (Minds ids Mine start) (IsCareful ids Mine) (λ h client op x. x.0) by (session_play ids access task.line task.body) start keeps,
-        PlayKeeps-weaker (Minds ids Mine start) (λ h client op. ChangedNothing client start h) (λ h client op x. x.1) by (session_play ids access task.line task.body) start keeps,
+      (Keeps-minds ids Mine start by p start (none-careful by ids Mine p start law.0) law.1 owning.0) told law.1 (λ r h q. (opened-task well r h q).0) (λ h q. (refused-task NoMemory h q).0) in (
+        PlayKeeps-weaker (Minds ids Mine start) (λ h client op. IsCareful ids Mine h client op × OwesOwn ids client start op h) (λ h client op x. (x.0, x.1.1)) by (session_play ids access task.line task.body) start keeps,
+        PlayKeeps-weaker (Minds ids Mine start) (λ h client op. ChangedNothing client start h) (λ h client op x. x.1.0) by (session_play ids access task.line task.body) start keeps,
         PlayLeads-call Outcomes Answers (ChangedNothing by.number start) by p (after_open access task.line task.body) start told law.1 (λ r h q. (opened-task well r h q).1) (λ h q. (refused-task NoMemory h q).1),
       )
 
@@ -333,7 +342,7 @@ all-before P by p journal k = PlayKeeps-weaker P (λ h client op. Unit {0}) (λ 
 module _ (L : Laws) (by : Caller) (ids : AnyIds) (task : Task) (start : List Event) (well : IsWellTask task) where
   -- the operation is polite, and what a task owes that begins so
   abbrev Pays : Head → List Event → ℕ → Op → Type 0
-  Pays head h client op = IsPolite h op × OwesBy head ids task by.number start h op
+  Pays head h client op = IsPolite h op × (OwesBy head ids task by.number start h op × OwesOwnBy head ids by.number start h op)
 
   abbrev GoesBy : Head → Type 0
   GoesBy head =
@@ -343,13 +352,14 @@ module _ (L : Laws) (by : Caller) (ids : AnyIds) (task : Task) (start : List Eve
   by_head : (head : Head) → task.head ≡ head → GoesBy head
   by_head (Session access) is =
       let told = session-well L by ids access task start is well in
-      (PlayKeeps-weaker (IsCareful ids (IsOfTask ids task by.number start)) (Pays (Session access)) (λ h client op c. (c.polite, c.owes)) by (headed_play (Session access) ids task) start told.0, told.1, told.2)
+      (PlayKeeps-own (λ h client op. IsCareful ids (IsOfTask ids task by.number start) h client op × OwesOwn ids client start op h) (Pays (Session access)) by (λ h op c. (c.0.polite, (c.0.owes, c.1))) (headed_play (Session access) ids task) start told.0, told.1, told.2)
   by_head Refs is =
       let told = L.refs by task.body start in
-      (told.0, all-before (Pays Refs) by (refs_play task.body []) start told.0, told.1)
+      let pays = PlayKeeps-weaker (λ h client op. IsPolite h op × OwesRefs op) (Pays Refs) (λ h client op x. (x.0, (x.1, tt))) by (refs_play task.body []) start told.0 in
+      (pays, all-before (Pays Refs) by (refs_play task.body []) start pays, told.1)
 
   pub task-well : PlayKeeps (IsDue ids task by.number start) by (task_play ids task) start × PlayKeeps (λ journal client op. BeforeChange task client start journal) by (task_play ids task) start
       × PlayLeads (TellsOutcome ids task by.number start) by (task_play ids task) start
   task-well =
       let told = by_head task.head refl in
-      (PlayKeeps-weaker (Pays task.head) (IsDue ids task by.number start) (λ h client op x. record { polite = x.0; owes = x.1 }) by (task_play ids task) start told.0, told.1, told.2)
+      (PlayKeeps-weaker (Pays task.head) (IsDue ids task by.number start) (λ h client op x. record { polite = x.0; owes = x.1.0; own = x.1.1 }) by (task_play ids task) start told.0, told.1, told.2)

@@ -18,12 +18,13 @@ use Rattle.zarr_meta.specs.Plain.{group_text}
 use Rattle.zarr_tree.specs.declared.edit.EditFault.{EditFault}
 use Rattle.zarr_tree.specs.Nodes.{Node}
 use Rattle.zarr_changes.specs.Sets.{add_refusal, text_refusal, drop_refusal, unset_refusal}
-use Rattle.store_api.specs.declared.events.Event.{Event}
+use Rattle.object_store.specs.declared.events.Event.{Event}
 use Rattle.store_api.specs.declared.machines.Refusal.{Refusal}
 use Rattle.session.specs.Sessions.{SessionState, writes, nodes_seen}
 use Rattle.session.specs.Sources.{IsLater}
 use Rattle.session.specs.Chunks.{chunk_unset}
 use Rattle.session.specs.Editing.{group_fault, array_fault, node_fault, added, group_added, array_added, node_added, meta_set, node_dropped, if_writes, unless_bad, unless_refused, drawn_node}
+use Rattle.commit_path.specs.Own.{Owns, OwningLaw}
 use Rattle.commit_path.specs.Opened.{IsOpened}
 use Rattle.commit_path.specs.Spelled.{IsSpelled}
 use Rattle.commit_path.specs.Laws.{TellsFaults, SessionLaw}
@@ -95,79 +96,80 @@ erase-later (Some (zarr.Meta path)) s = drop-later s path
 erase-later (Some (zarr.Chunk path index)) s = unset-later s path index
 
 -- ---- sessions that are ready
--- what a session knows of the journal, and that it can be written; it draws on these ids
-pub record IsReady (ids : AnyIds) (s : SessionState) (journal : List Event) : Type 0 where
+-- what a session knows of the journal, and that it can be written; it draws on these ids; and what its client owns with it
+pub record IsReady (ids : AnyIds) (client : ℕ) (start : List Event) (s : SessionState) (journal : List Event) : Type 0 where
   pub opened : IsOpened s journal
   pub spelled : IsSpelled s
   pub later : IsLater ids s.ids
+  pub owned : Owns ids client s start journal
 
-module _ (L : SessionLaw) (ids : AnyIds) where
+module _ (L : SessionLaw) (O : OwningLaw) (ids : AnyIds) (client : ℕ) (start : List Event) where
   -- a session that an edit leads to
-  edit-ready : (s t : SessionState) (went : List Shown × SessionState) (journal : List Event) → IsReady ids s journal → IsLater s.ids t.ids → IsSpelled t × IsOpened t journal → ([], t) ≡ went → IsReady ids went.1 journal
-  edit-ready s t went journal ready later kept is = subst (λ (x : List Shown × SessionState). IsReady ids x.1 journal) is (record { opened = kept.1; spelled = kept.0; later = later-later ids s.ids t.ids ready.later later })
+  edit-ready : (s t : SessionState) (went : List Shown × SessionState) (journal : List Event) → IsReady ids client start s journal → IsLater s.ids t.ids → (IsSpelled t × IsOpened t journal) × Owns ids client t start journal → ([], t) ≡ went → IsReady ids client start went.1 journal
+  edit-ready s t went journal ready later kept is = subst (λ (x : List Shown × SessionState). IsReady ids client start x.1 journal) is (record { opened = kept.0.1; spelled = kept.0.0; later = later-later ids s.ids t.ids ready.later later; owned = kept.1 })
 
-  add-ready : (fault : Result View MetaFault → Option MetaFault) → TellsFaults fault → (s : SessionState) (path text : List ℕ) (went : List Shown × SessionState) (journal : List Event) → IsWellPath path → IsReady ids s journal
-      → (r : Result (Id8 × SessionState) Refusal) → added fault s path text ≡ r → silent (session_of r) ≡ Ok went → IsReady ids went.1 journal
+  add-ready : (fault : Result View MetaFault → Option MetaFault) → TellsFaults fault → (s : SessionState) (path text : List ℕ) (went : List Shown × SessionState) (journal : List Event) → IsWellPath path → IsReady ids client start s journal
+      → (r : Result (Id8 × SessionState) Refusal) → added fault s path text ≡ r → silent (session_of r) ≡ Ok went → IsReady ids client start went.1 journal
   add-ready fault tells s path text went journal well ready (Err why) e d = absurd cc
   add-ready fault tells s path text went journal well ready (Ok a) e d =
       edit-ready s a.1 went journal ready (subst (λ (r : Result (Id8 × SessionState) Refusal). IfOk r (λ x. IsLater s.ids x.1.ids)) e (added-later fault s path text))
-      (L.adds fault s a.1 path text a.0 journal tells well.0 well.1 e ready.spelled ready.opened) (cc)
+      (L.adds fault s a.1 path text a.0 journal tells well.0 well.1 e ready.spelled ready.opened, O.adds ids client fault s a.1 path text a.0 start journal e ready.owned) (cc)
 
   -- one that draws no node's id
-  change-ready : (s : SessionState) (went : List Shown × SessionState) (journal : List Event) → IsReady ids s journal → (expected r : Result SessionState Refusal) → DrawsOn s.ids expected → ((t : SessionState) → expected ≡ Ok t → IsSpelled t × IsOpened t journal) → expected ≡ r → silent r ≡ Ok went
-      → IsReady ids went.1 journal
+  change-ready : (s : SessionState) (went : List Shown × SessionState) (journal : List Event) → IsReady ids client start s journal → (expected r : Result SessionState Refusal) → DrawsOn s.ids expected → ((t : SessionState) → expected ≡ Ok t → (IsSpelled t × IsOpened t journal) × Owns ids client t start journal) → expected ≡ r → silent r ≡ Ok went
+      → IsReady ids client start went.1 journal
   change-ready s went journal ready expected (Err why) later keeps e d = absurd cc
   change-ready s went journal ready expected (Ok t) later keeps e d = edit-ready s t went journal ready (subst (DrawsOn s.ids) e later) (keeps t e) (cc)
 
   -- a key's metadata is put
-  put-ready : (o : Option Node) (s : SessionState) (path text : List ℕ) (went : List Shown × SessionState) (journal : List Event) → IsWellPath path → IsReady ids s journal → silent (put_over o s path text) ≡ Ok went → IsReady ids went.1 journal
-  put-ready (Some node) s path text went journal well ready d = change-ready s went journal ready (meta_set s path text) (meta_set s path text) (text-later s path text) (λ t e. L.texts s t path text journal e ready.spelled ready.opened) refl d
+  put-ready : (o : Option Node) (s : SessionState) (path text : List ℕ) (went : List Shown × SessionState) (journal : List Event) → IsWellPath path → IsReady ids client start s journal → silent (put_over o s path text) ≡ Ok went → IsReady ids client start went.1 journal
+  put-ready (Some node) s path text went journal well ready d = change-ready s went journal ready (meta_set s path text) (meta_set s path text) (text-later s path text) (λ t e. (L.texts s t path text journal e ready.spelled ready.opened, O.texts ids client s t path text start journal e ready.owned)) refl d
   put-ready None s path text went journal well ready d = add-ready node_fault (λ bad. refl) s path text went journal well ready (node_added s path text) refl d
 
-  key-set-ready : (key bytes : List ℕ) (o : Option ZarrKey) (s : SessionState) (went : List Shown × SessionState) (journal : List Event) → is_utf8 key ≡ true → key_of key ≡ o → IsReady ids s journal → key_set_deed bytes o s ≡ Goes (Ok went) → IsReady ids went.1 journal
+  key-set-ready : (key bytes : List ℕ) (o : Option ZarrKey) (s : SessionState) (went : List Shown × SessionState) (journal : List Event) → is_utf8 key ≡ true → key_of key ≡ o → IsReady ids client start s journal → key_set_deed bytes o s ≡ Goes (Ok went) → IsReady ids client start went.1 journal
   key-set-ready key bytes None s went journal utf8 is ready d = absurd cc
   key-set-ready key bytes (Some (zarr.Meta path)) s went journal utf8 is ready d = put-ready (get (nodes_seen s) path) s path bytes went journal (key-path key path utf8 is) ready (cc)
   key-set-ready key bytes (Some (zarr.Chunk path index)) s went journal utf8 is ready d = absurd cc
 
   -- a key is erased
-  erase-ready : (o : Option ZarrKey) (s : SessionState) (went : List Shown × SessionState) (journal : List Event) → IsReady ids s journal → silent (erased_at s o) ≡ Ok went → IsReady ids went.1 journal
+  erase-ready : (o : Option ZarrKey) (s : SessionState) (went : List Shown × SessionState) (journal : List Event) → IsReady ids client start s journal → silent (erased_at s o) ≡ Ok went → IsReady ids client start went.1 journal
   erase-ready None s went journal ready d = absurd cc
-  erase-ready (Some (zarr.Meta path)) s went journal ready d = change-ready s went journal ready (node_dropped s path) (node_dropped s path) (drop-later s path) (λ t e. L.drops s t path journal e ready.spelled ready.opened) refl d
-  erase-ready (Some (zarr.Chunk path index)) s went journal ready d = change-ready s went journal ready (chunk_unset s path index) (chunk_unset s path index) (unset-later s path index) (λ t e. L.unsets s t path index journal e ready.spelled ready.opened) refl d
+  erase-ready (Some (zarr.Meta path)) s went journal ready d = change-ready s went journal ready (node_dropped s path) (node_dropped s path) (drop-later s path) (λ t e. (L.drops s t path journal e ready.spelled ready.opened, O.drops ids client s t path start journal e ready.owned)) refl d
+  erase-ready (Some (zarr.Chunk path index)) s went journal ready d = change-ready s went journal ready (chunk_unset s path index) (chunk_unset s path index) (unset-later s path index) (λ t e. (L.unsets s t path index journal e ready.spelled ready.opened, O.unsets ids client s t path index start journal e ready.owned)) refl d
 
-  key-erase-ready : (key : List ℕ) (s : SessionState) (went : List Shown × SessionState) (journal : List Event) → IsReady ids s journal → silent (key_erased s key) ≡ Ok went → IsReady ids went.1 journal
+  key-erase-ready : (key : List ℕ) (s : SessionState) (went : List Shown × SessionState) (journal : List Event) → IsReady ids client start s journal → silent (key_erased s key) ≡ Ok went → IsReady ids client start went.1 journal
   unfolding key_erased
   key-erase-ready key s went journal ready d = erase-ready (key_of key) s went journal ready d
 
-  edits-ready : (x : EditCall) (s : SessionState) (went : List Shown × SessionState) (journal : List Event) → IsWellEdit x → IsReady ids s journal → edit_deed x s ≡ Goes (Ok went) → IsReady ids went.1 journal
+  edits-ready : (x : EditCall) (s : SessionState) (went : List Shown × SessionState) (journal : List Event) → IsWellEdit x → IsReady ids client start s journal → edit_deed x s ≡ Goes (Ok went) → IsReady ids client start went.1 journal
   edits-ready (edit.Group path) s went journal well ready d = add-ready group_fault (λ bad. refl) s path group_text went journal well ready (group_added s path group_text) refl (cc)
   edits-ready (edit.Array path text) s went journal well ready d = add-ready array_fault (λ bad. refl) s path text went journal well.0 ready (array_added s path text) refl (cc)
   edits-ready (edit.Make path text) s went journal well ready d = add-ready node_fault (λ bad. refl) s path text went journal well.0 ready (node_added s path text) refl (cc)
-  edits-ready (edit.Meta path text) s went journal well ready d = change-ready s went journal ready (meta_set s path text) (meta_set s path text) (text-later s path text) (λ t e. L.texts s t path text journal e ready.spelled ready.opened) refl (cc)
-  edits-ready (edit.Drop path) s went journal well ready d = change-ready s went journal ready (node_dropped s path) (node_dropped s path) (drop-later s path) (λ t e. L.drops s t path journal e ready.spelled ready.opened) refl (cc)
-  edits-ready (edit.Unset path index) s went journal well ready d = change-ready s went journal ready (chunk_unset s path index) (chunk_unset s path index) (unset-later s path index) (λ t e. L.unsets s t path index journal e ready.spelled ready.opened) refl (cc)
+  edits-ready (edit.Meta path text) s went journal well ready d = change-ready s went journal ready (meta_set s path text) (meta_set s path text) (text-later s path text) (λ t e. (L.texts s t path text journal e ready.spelled ready.opened, O.texts ids client s t path text start journal e ready.owned)) refl (cc)
+  edits-ready (edit.Drop path) s went journal well ready d = change-ready s went journal ready (node_dropped s path) (node_dropped s path) (drop-later s path) (λ t e. (L.drops s t path journal e ready.spelled ready.opened, O.drops ids client s t path start journal e ready.owned)) refl (cc)
+  edits-ready (edit.Unset path index) s went journal well ready d = change-ready s went journal ready (chunk_unset s path index) (chunk_unset s path index) (unset-later s path index) (λ t e. (L.unsets s t path index journal e ready.spelled ready.opened, O.unsets ids client s t path index start journal e ready.owned)) refl (cc)
   edits-ready (edit.Set path index bytes) s went journal well ready d = absurd cc
   edits-ready (edit.Fill path index byte) s went journal well ready d = absurd cc
   edits-ready (edit.KeySet key bytes) s went journal well ready d = key-set-ready key bytes (key_of key) s went journal well.0 refl ready d
   edits-ready (edit.KeyErase key) s went journal well ready d = key-erase-ready key s went journal ready (cc)
 
-  look-ready : (s : SessionState) (went : List Shown × SessionState) (journal : List Event) → IsReady ids s journal → (r : Result (List Shown) Refusal) → still s r ≡ Ok went → IsReady ids went.1 journal
+  look-ready : (s : SessionState) (went : List Shown × SessionState) (journal : List Event) → IsReady ids client start s journal → (r : Result (List Shown) Refusal) → still s r ≡ Ok went → IsReady ids client start went.1 journal
   look-ready s went journal ready (Err why) d = absurd cc
-  look-ready s went journal ready (Ok shown) d = let is : (shown, s) ≡ went = cc in subst (λ (x : List Shown × SessionState). IsReady ids x.1 journal) is ready
+  look-ready s went journal ready (Ok shown) d = let is : (shown, s) ≡ went = cc in subst (λ (x : List Shown × SessionState). IsReady ids client start x.1 journal) is ready
 
-  key-get-ready : (line : ℕ) (o : Option ZarrKey) (s : SessionState) (went : List Shown × SessionState) (journal : List Event) → IsReady ids s journal → key_get_deed line o s ≡ Goes (Ok went) → IsReady ids went.1 journal
+  key-get-ready : (line : ℕ) (o : Option ZarrKey) (s : SessionState) (went : List Shown × SessionState) (journal : List Event) → IsReady ids client start s journal → key_get_deed line o s ≡ Goes (Ok went) → IsReady ids client start went.1 journal
   key-get-ready line None s went journal ready d = absurd cc
   key-get-ready line (Some (zarr.Meta path)) s went journal ready d = look-ready s went journal ready (Ok (key_shown line (meta_value s path) ∷ [])) (cc)
   key-get-ready line (Some (zarr.Chunk path index)) s went journal ready d = absurd cc
 
-  reads-ready : (line : ℕ) (x : ReadCall) (s : SessionState) (went : List Shown × SessionState) (journal : List Event) → IsReady ids s journal → read_deed line x s ≡ Goes (Ok went) → IsReady ids went.1 journal
+  reads-ready : (line : ℕ) (x : ReadCall) (s : SessionState) (went : List Shown × SessionState) (journal : List Event) → IsReady ids client start s journal → read_deed line x s ≡ Goes (Ok went) → IsReady ids client start went.1 journal
   reads-ready line (read.List path) s went journal ready d = look-ready s went journal ready (read_by line (read.List path) s) (cc)
   reads-ready line (read.Get path) s went journal ready d = look-ready s went journal ready (read_by line (read.Get path) s) (cc)
   reads-ready line (read.Chunk path index) s went journal ready d = absurd cc
   reads-ready line (read.KeyGet key) s went journal ready d = key-get-ready line (key_of key) s went journal ready d
 
-  pub deed-ready : (line : ℕ) (x : Call) (s : SessionState) (went : List Shown × SessionState) (journal : List Event) → IsWellCall x → IsReady ids s journal → deed line x s ≡ Goes (Ok went) → IsReady ids went.1 journal
+  pub deed-ready : (line : ℕ) (x : Call) (s : SessionState) (went : List Shown × SessionState) (journal : List Event) → IsWellCall x → IsReady ids client start s journal → deed line x s ≡ Goes (Ok went) → IsReady ids client start went.1 journal
   deed-ready line (call.Edit change) s went journal well ready d = edits-ready change s went journal well ready d
   deed-ready line (call.Read look) s went journal well ready d = reads-ready line look s went journal ready d
   deed-ready line (call.Commit message) s went journal well ready d = absurd cc
-  deed-ready line (call.Ref own) s went journal well ready d = let is : ([], s) ≡ went = cc in subst (λ (x : List Shown × SessionState). IsReady ids x.1 journal) is ready
+  deed-ready line (call.Ref own) s went journal well ready d = let is : ([], s) ≡ went = cc in subst (λ (x : List Shown × SessionState). IsReady ids client start x.1 journal) is ready

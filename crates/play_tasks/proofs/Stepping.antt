@@ -1,11 +1,11 @@
 -- Machines that only read.
 use Rattle.std.proofs.Common.{false, ◌≡◌, sym, ap, ℕ, List}
 use Rattle.ice_ids.specs.declared.Id8.{Id8}
-use Rattle.store_api.specs.declared.keys.Key.TheVariants.{Manifest as Manifest_key, Chunk as Chunk_key}
-use Rattle.store_api.specs.declared.events.Op.{Op}
-use Rattle.store_api.specs.declared.events.Op.TheVariants.{Get}
-use Rattle.store_api.specs.declared.events.Reply.{Reply}
-use Rattle.store_api.specs.Program.{Ask as Ask_next, is_over}
+use Rattle.object_store.specs.declared.keys.Key.TheVariants.{Manifest as Manifest_key, Chunk as Chunk_key}
+use Rattle.object_store.specs.declared.events.Op.{Op}
+use Rattle.object_store.specs.declared.events.Op.TheVariants.{Get}
+use Rattle.object_store.specs.declared.events.Reply.{Reply}
+use Rattle.store_api.specs.Program.{Ask as Ask_next, moves_branch}
 use Rattle.store_api.specs.Running.{Program}
 use Rattle.session.specs.declared.chunks.Value.{Value}
 use Rattle.session.specs.declared.getting.GetChunk.{GetChunk}
@@ -15,11 +15,11 @@ use Rattle.session.specs.Chunks.{read_listed}
 use Rattle.session.specs.Getting.{reading_rest, get_rest}
 
 -- the reading of a chunk only reads
-reading-reads : (want : ℕ) (node : Id8) (index : List ℕ) (state : Reading) (op : Op) (next : Reply → Program Value) → reading_rest want node index state ≡ Ask_next op next → is_over op ≡ false
+reading-reads : (want : ℕ) (node : Id8) (index : List ℕ) (state : Reading) (op : Op) (next : Reply → Program Value) → reading_rest want node index state ≡ Ask_next op next → moves_branch op ≡ false
 unfolding read_listed
-reading-reads want node index (Manifest id ids at) op next e = let x : Get (Manifest_key id) ≡ op = cc in sym (ap is_over x)
-reading-reads want node index (Object id offset size) op next e = let x : Get (Chunk_key id) ≡ op = cc in sym (ap is_over x)
+reading-reads want node index (Manifest id ids at) op next e = let x : Get (Manifest_key id) ≡ op = cc in sym (ap moves_branch x)
+reading-reads want node index (Object id offset size) op next e = let x : Get (Chunk_key id) ≡ op = cc in sym (ap moves_branch x)
 reading-reads want node index Ended_reading op next e = absurd (cc)
 
-pub get-reads : (m : GetChunk) (op : Op) (next : Reply → Program Value) → get_rest m ≡ Ask_next op next → is_over op ≡ false
+pub get-reads : (m : GetChunk) (op : Op) (next : Reply → Program Value) → get_rest m ≡ Ask_next op next → moves_branch op ≡ false
 get-reads m op next e = reading-reads m.want m.node m.index m.state op next e

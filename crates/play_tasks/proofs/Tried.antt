@@ -3,8 +3,8 @@ use Rattle.std.proofs.Common.{◌≤◌, inl, inr, ℕ, zero, suc, List, [], ◌
 use Rattle.ice_ids.specs.declared.Id12.{Id12}
 use Rattle.ice_ids.specs.declared.drawing.AnyIds.{AnyIds}
 use Rattle.conflicts.specs.declared.solving.Policy.{Policy}
-use Rattle.store_api.specs.declared.keys.Key.TheVariants.{Branch}
-use Rattle.store_api.specs.declared.events.Event.{Event}
+use Rattle.object_store.specs.declared.keys.Key.TheVariants.{Branch}
+use Rattle.object_store.specs.declared.events.Event.{Event}
 use Rattle.session.specs.Sessions.{SessionState, branch_of}
 use Rattle.session.specs.Sources.{MayDrawObject}
 use Rattle.commit_path.specs.Opened.{IsOpened}

@@ -3,10 +3,10 @@ use Rattle.std.proofs.Common.{◌≡◌, ◌⊎◌, ◌≤◌, ◌<◌, ◌+◌,
 use Rattle.std.specs.Str.{IsUtf8}
 use Rattle.ice_ids.specs.declared.drawing.AnyIds.{AnyIds}
 use Rattle.conflicts.specs.declared.solving.Policy.{Policy}
-use Rattle.store_api.specs.declared.events.Version.{Version}
-use Rattle.store_api.specs.declared.events.Op.{Op}
-use Rattle.store_api.specs.declared.events.Op.TheVariants.{Get}
-use Rattle.store_api.specs.declared.events.Event.{Event}
+use Rattle.object_store.specs.declared.events.Version.{Version}
+use Rattle.object_store.specs.declared.events.Op.{Op}
+use Rattle.object_store.specs.declared.events.Op.TheVariants.{Get}
+use Rattle.object_store.specs.declared.events.Event.{Event}
 use Rattle.store_api.specs.declared.machines.Refusal.{Refusal}
 use Rattle.store_api.specs.declared.machines.Refusal.TheVariants.{NoMemory, Conflict}
 use Rattle.store_api.specs.Journal.{IsPolite}
@@ -20,6 +20,7 @@ use Rattle.commit_path.specs.declared.commit.Tried.TheVariants.{Done as Was_done
 use Rattle.commit_path.specs.Committing.{commit_program}
 use Rattle.commit_path.specs.Owed.{Sessions, Owes, IsCareful}
 use Rattle.commit_path.specs.Answered.{WasMoved, CommitTells}
+use Rattle.commit_path.specs.Own.{OwesOwn, Owns, OwnsNext}
 use Rattle.commit_path.specs.Opened.{IsOpened}
 use Rattle.commit_path.specs.Single.{HasPutAlike}
 use Rattle.commit_path.proofs.Singling.{HasPutAlike-same}
@@ -27,7 +28,7 @@ use Rattle.commit_path.proofs.Sources.{later-later}
 use Rattle.rebase.proofs.Alike.{moved-alike, up_to_date-alike}
 use Rattle.rebase.specs.declared.machine.Rebased.{Rebased}
 use Rattle.rebase.specs.declared.machine.Rebased.TheVariants.{Moved, UpToDate}
-use Rattle.rebase.specs.Laws.{RebaseLaw, GoesOn}
+use Rattle.rebase.specs.Laws.{RebaseLaw, GoesOn, OwnsOn}
 use Rattle.rebase.specs.Rebasing.{rebase_program}
 use Rattle.rebase.specs.Telling.{HasMoved, WasUpToDate, RebaseTells}
 use Rattle.play_script.specs.declared.scripts.Access.{Access}
@@ -46,6 +47,10 @@ use Rattle.play_tasks.proofs.Carrying.{Keeps-own, Keeps-with, Leads-with, Leads-
 use Rattle.play_tasks.proofs.Going.{Laws, GoesWell, ends-well, starved-well, called-well}
 use Rattle.play_tasks.proofs.Ready.{IsReady}
 use Rattle.play_tasks.proofs.Tried.{IsTried, WasCarried-append, other-spelled, other-opened}
+
+get-own : (ids : AnyIds) (client : ℕ) (start journal : List Event) (op : Op) → IsGet op → OwesOwn ids client start op journal
+get-own ids client start journal (Get key) g = tt
+get-own ids client start journal _ g = absurd g
 
 -- a get owes nothing
 get-owes : (ids : AnyIds) (mine : Sessions) (journal : List Event) (op : Op) → IsGet op → Owes ids mine journal op
@@ -71,7 +76,7 @@ module _ (L : Laws) (by : Caller) (ids : AnyIds) (access : Access) (from : Sessi
       pub few : count ≤ tries_of access
       pub carried : WasCarried by.number policy count s t start journal
       pub alike : HasPutAlike by.number t start journal
-      pub ready : IsReady ids t journal
+      pub ready : IsReady ids by.number start t journal
       pub nothing : Nothing journal
 
     -- how its commit ends the task
@@ -94,7 +99,7 @@ module _ (L : Laws) (by : Caller) (ids : AnyIds) (access : Access) (from : Sessi
       Carried journal = WasCarried by.number policy count s t start journal
 
       abbrev Answers : Result Tried Refusal → List Event → Type 0
-      Answers answer journal = Carried journal × ((IsOpened t journal × CommitTells by.number t message start answer journal) × HasPutAlike by.number t start journal)
+      Answers answer journal = Carried journal × ((IsOpened t journal × CommitTells by.number t message start answer journal) × (HasPutAlike by.number t start journal × OwnsNext ids by.number t start answer journal))
 
       carried-append : (journal more : List Event) → Carried journal → Carried (journal ++ more)
       carried-append journal more c = WasCarried-append by.number policy count s t start journal more c
@@ -108,28 +113,31 @@ module _ (L : Laws) (by : Caller) (ids : AnyIds) (access : Access) (from : Sessi
           by.number op k.1.1
 
       answered : count ≤ tries_of access → (lost : Version → Option Version → AnyIds → Play Outcome)
-          → ((old : Version) (found : Option Version) (next : AnyIds) (h : List Event) → WasMoved by.number t old found next start h → Carried h → IsOpened t h → HasPutAlike by.number t start h → Well (lost old found next) h)
+          → ((old : Version) (found : Option Version) (next : AnyIds) (h : List Event) → WasMoved by.number t old found next start h → Carried h → IsOpened t h → HasPutAlike by.number t start h → Owns ids by.number (record t { ids = next }) start h → Well (lost old found next) h)
           → (answer : Result Tried Refusal) (h : List Event) → Answers answer h → Well (after_commit l.number shown lost answer) h
       answered few lost go (Ok (Was_done made)) h q = tried count t (Committed made.id) h few q.0 (inl (record { made = made; took = q.1.0.1; end_is = refl }))
-      answered few lost go (Ok (Lost old found next)) h q = go old found next h q.1.0.1 q.0 q.1.0.0 q.1.1
+      answered few lost go (Ok (Lost old found next)) h q = go old found next h q.1.0.1 q.0 q.1.0.0 q.1.1.0 q.1.1.1
       answered few lost go (Err why) h q = tried count t (Refused l.number why) h few q.0 (inr (inl (record { why = why; tells = q.1.0.1; end_is = refl })))
 
       commit-called : (journal : List Event) → Stands count t journal → (lost : Version → Option Version → AnyIds → Play Outcome)
-          → ((old : Version) (found : Option Version) (next : AnyIds) (h : List Event) → WasMoved by.number t old found next start h → Carried h → IsOpened t h → HasPutAlike by.number t start h → Well (lost old found next) h)
+          → ((old : Version) (found : Option Version) (next : AnyIds) (h : List Event) → WasMoved by.number t old found next start h → Carried h → IsOpened t h → HasPutAlike by.number t start h → Owns ids by.number (record t { ids = next }) start h → Well (lost old found next) h)
           → Well (call (commit_program t message) (after_commit l.number shown lost)) journal
       commit-called journal x lost go =
           let p = commit_program t message in
           let law = L.commit by ids t message start journal x.ready.later utf8 x.ready.spelled x.ready.opened x.nothing in
           let single = L.single.commit by t message start journal utf8 x.ready.spelled x.ready.opened x.alike in
+          let owning = L.owning.commits by ids t message start journal x.ready.later utf8 x.ready.spelled x.ready.opened x.nothing x.ready.owned in
           let own : Sessions = λ h u id. (u ≡ t) × MayDrawObject t.ids id in
           let put : List Event → ℕ → Op → Type 0 = λ h client op. HasPutAlike client t start h in
           let keeps = Keeps-with Carried carried-append by (λ h client op. put h client op × IsCareful ids own h client op) p journal x.carried (Keeps-both put (IsCareful ids own) by p journal single.0 law.0) in
           let knows = Leads-good (IsOpened t) (λ h more g o. L.session.kept t h more g o) ids own by (CommitTells by.number t message start) p journal law.0 x.ready.opened law.2 in
-          let tells = Leads-both (λ answer h. IsOpened t h × CommitTells by.number t message start answer h) (λ answer h. HasPutAlike by.number t start h) by p journal knows single.1 in
+          let tells = Leads-both (λ answer h. IsOpened t h × CommitTells by.number t message start answer h) (λ answer h. HasPutAlike by.number t start h × OwnsNext ids by.number t start answer h) by p journal knows
+          (Leads-both (λ answer h. HasPutAlike by.number t start h) (OwnsNext ids by.number t start) by p journal single.1 owning.1) in
           called-well by ids access Mine start (l ∷ ls) s shown p (after_commit l.number shown lost) Answers journal
           (Keeps-own (λ h client op. Carried h × (put h client op × IsCareful ids own h client op)) (IsCareful ids Mine) by (owed x.few) p journal keeps)
           law.1
-          (Leads-with Carried carried-append by (λ answer h. (IsOpened t h × CommitTells by.number t message start answer h) × HasPutAlike by.number t start h) p journal x.carried tells)
+          owning.0
+          (Leads-with Carried carried-append by (λ answer h. (IsOpened t h × CommitTells by.number t message start answer h) × (HasPutAlike by.number t start h × OwnsNext ids by.number t start answer h)) p journal x.carried tells)
           (answered x.few lost go)
           starved
 
@@ -142,7 +150,7 @@ module _ (L : Laws) (by : Caller) (ids : AnyIds) (access : Access) (from : Sessi
 
     -- ---- it was lost, and is tried again
     module _ (count : ℕ) (t : SessionState) (less : count < tries_of access) (old : Version) (found : Option Version) (next : AnyIds) (h : List Event) (moved : WasMoved by.number t old found next start h) (c : WasCarried by.number policy count s t start h)
-        (ready : IsReady ids t h) (alike : HasPutAlike by.number t start h) where
+        (ready : IsReady ids by.number start (record t { ids = next }) h) (alike : HasPutAlike by.number t start h) where
       abbrev lost : SessionState
       lost = record t { ids = next }
 
@@ -174,17 +182,17 @@ module _ (L : Laws) (by : Caller) (ids : AnyIds) (access : Access) (from : Sessi
       carried u journal w = (t, lost, since, subst (λ (x : List Event). WasCarried by.number policy count s t start x) there c, was_lost, w)
 
       stands : (u : SessionState) (journal : List Event) → MadeGets by.number h journal → ((n : ℕ) × HasMoved by.number policy lost u n (start ++ since) journal) ⊎ WasUpToDate by.number lost u (start ++ since) journal
-          → HasPutAlike by.number u start journal → u.ids ≡ next → GoesOn (Ok (UpToDate u)) journal → Stands (suc count) u journal
-      stands u journal gets w put drawn goes = record {
+          → HasPutAlike by.number u start journal → u.ids ≡ next → GoesOn (Ok (UpToDate u)) journal → Owns ids by.number u start journal → Stands (suc count) u journal
+      stands u journal gets w put drawn goes owned = record {
         few = less;
         carried = carried u journal w;
         alike = put;
-        ready = record { opened = goes.1; spelled = goes.0; later = subst (IsLater ids) (sym drawn) (later-later ids t.ids next ready.later moved.next_is) };
+        ready = record { opened = goes.1; spelled = goes.0; later = subst (IsLater ids) (sym drawn) ready.later; owned = owned };
         nothing = nothing journal gets;
       }
 
       abbrev Rebases : Result Rebased Refusal → List Event → Type 0
-      Rebases answer journal = RebaseTells by.number policy lost h answer journal × GoesOn answer journal
+      Rebases answer journal = RebaseTells by.number policy lost h answer journal × (GoesOn answer journal × OwnsOn ids by.number start answer journal)
 
       rebased : (again : SessionState → Play Outcome) → ((u : SessionState) (journal : List Event) → Stands (suc count) u journal → Well (again u) journal)
           → (answer : Result Rebased Refusal) (journal : List Event) → Rebases answer journal → Well (after_rebase l.number shown again answer) journal
@@ -192,13 +200,13 @@ module _ (L : Laws) (by : Caller) (ids : AnyIds) (access : Access) (from : Sessi
       rebased again go (Ok (Moved u n)) journal q =
           let w = (tells (Ok (Moved u n)) journal q.0).0 in
           let put = moved-alike by.number policy lost u n (start ++ since) journal start journal w (puts journal q.0.1) in
-          let on = go u journal (stands u journal q.0.1 (inl (n, w)) put (ap (λ (x : SessionState). x.ids) w.becomes) q.1) in
+          let on = go u journal (stands u journal q.0.1 (inl (n, w)) put (ap (λ (x : SessionState). x.ids) w.becomes) q.1.0 q.1.1) in
           let off = starved journal (nothing journal q.0.1) in
           ((on.0, off.0), (on.1, off.1))
       rebased again go (Ok (UpToDate u)) journal q =
           let w = (tells (Ok (UpToDate u)) journal q.0).0 in
           let put = up_to_date-alike by.number lost u (start ++ since) journal start journal w (puts journal q.0.1) in
-          let on = go u journal (stands u journal q.0.1 (inr w) put (ap (λ (x : SessionState). x.ids) w.becomes) q.1) in
+          let on = go u journal (stands u journal q.0.1 (inr w) put (ap (λ (x : SessionState). x.ids) w.becomes) q.1.0 q.1.1) in
           let off = starved journal (nothing journal q.0.1) in
           ((on.0, off.0), (on.1, off.1))
       rebased again go (Err why) journal q =
@@ -214,7 +222,9 @@ module _ (L : Laws) (by : Caller) (ids : AnyIds) (access : Access) (from : Sessi
           called-well by ids access Mine start (l ∷ ls) s shown p (after_rebase l.number shown again) Rebases h
           (Keeps-own (λ j client op. IsPolite j op × IsGet op) (IsCareful ids Mine) by (λ j op k. record { polite = k.0; owes = get-owes ids Mine j op k.1 }) p h both)
           (law.stays start h moved.nothing)
-          (Leads-both (RebaseTells by.number policy lost h) GoesOn by p h (law.told.leads h) (law.goes_on h (other-spelled t next ready.spelled) (other-opened t next h ready.opened)))
+          (Keeps-own (λ j client op. IsGet op) (λ j client op. OwesOwn ids client start op j) by (λ j op g. get-own ids by.number start j op g) p h (law.gets h))
+          (Leads-both (RebaseTells by.number policy lost h) (λ answer j. GoesOn answer j × OwnsOn ids by.number start answer j) by p h (law.told.leads h)
+          (Leads-both GoesOn (OwnsOn ids by.number start) by p h (law.goes_on h ready.spelled ready.opened) (law.owns ids start h ready.owned)))
           (rebased again go)
           starved
 
@@ -223,11 +233,11 @@ module _ (L : Laws) (by : Caller) (ids : AnyIds) (access : Access) (from : Sessi
     unfolding commit_play
     tries-well zero count all t journal x =
         let spent : count ≡ tries_of access = omega (arith, all) in
-        commit-called count t journal x (λ old found next. refused l.number shown (Conflict old found)) (λ old found next h moved c opened alike. spent-well count t spent old found next h moved c)
+        commit-called count t journal x (λ old found next. refused l.number shown (Conflict old found)) (λ old found next h moved c opened alike owned. spent-well count t spent old found next h moved c)
     tries-well (suc left) count all t journal x =
         let more : suc count + left ≡ tries_of access = omega (arith, all) in
         let less : count < tries_of access = omega (arith, all) in
         commit-called count t journal x (λ old found next. call (rebase_program policy (record t { ids = next })) (after_rebase l.number shown (commit_play left policy l.number shown message)))
-        (λ old found next h moved c opened alike.
-        rebase-called count t less old found next h moved c (record { opened = opened; spelled = x.ready.spelled; later = x.ready.later }) alike (commit_play left policy l.number shown message)
+        (λ old found next h moved c opened alike owned.
+        rebase-called count t less old found next h moved c (record { opened = other-opened t next h opened; spelled = other-spelled t next x.ready.spelled; later = later-later ids t.ids next x.ready.later moved.next_is; owned = owned }) alike (commit_play left policy l.number shown message)
         (λ u j y. tries-well left (suc count) more u j y))

@@ -1,7 +1,7 @@
 -- Laws of tasks.
 use Rattle.std.specs.Prelude.{◌++◌, List}
 use Rattle.ice_ids.specs.declared.drawing.AnyIds.{AnyIds}
-use Rattle.store_api.specs.declared.events.Event.{Event}
+use Rattle.object_store.specs.declared.events.Event.{Event}
 use Rattle.store_api.specs.Journal.{Each}
 use Rattle.store_api.specs.Callers.{Caller, IsOther}
 use Rattle.store_api.specs.Plays.{PlayKeeps, PlayLeads}
@@ -12,7 +12,7 @@ use Rattle.play_tasks.specs.Playing.{task_play}
 use Rattle.play_tasks.specs.Owing.{IsDue, BeforeChange}
 use Rattle.play_tasks.specs.Telling.{TellsOutcome}
 
--- Whatever others do, each operation of a well task is polite, and what the task owes; if it opens a session, each comes before the client
+-- Whatever others do, each operation of a well task is polite, and what the task owes, of its client's own puts as well; if it opens a session, each comes before the client
 -- changed a branch; and the outcome tells the journal, where the task began at `start`.
 abbrev pub TaskLaw : Type 0
 TaskLaw = (by : Caller) (ids : AnyIds) (task : Task) (start : List Event) → IsWellTask task

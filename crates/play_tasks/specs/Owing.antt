@@ -1,11 +1,12 @@
 -- What a task owes of each operation of its client. (Own.)
 use Rattle.std.specs.Prelude.{ℕ, List}
 use Rattle.ice_ids.specs.declared.drawing.AnyIds.{AnyIds}
-use Rattle.store_api.specs.declared.events.Op.{Op}
-use Rattle.store_api.specs.declared.events.Event.{Event}
+use Rattle.object_store.specs.declared.events.Op.{Op}
+use Rattle.object_store.specs.declared.events.Event.{Event}
 use Rattle.store_api.specs.Journal.{IsPolite, IsGood}
 use Rattle.store_api.specs.Telling.{ChangedNothing}
 use Rattle.commit_path.specs.Owed.{Owes}
+use Rattle.commit_path.specs.Own.{OwesOwn}
 use Rattle.play_script.specs.declared.scripts.Head.{Head}
 use Rattle.play_script.specs.declared.scripts.Head.TheVariants.{Session, Refs}
 use Rattle.play_script.specs.declared.scripts.Task.{Task}
@@ -22,15 +23,22 @@ OwesBy Refs ids task client start journal op = OwesRefs op
 abbrev pub OwesOfTask : AnyIds → Task → (client : ℕ) → (start journal : List Event) → Op → Type 0
 OwesOfTask ids task client start journal op = OwesBy task.head ids task client start journal op
 
+-- a task that opens a session owes that its commits are its client's own, and puts no object where its client put one
+abbrev pub OwesOwnBy : Head → AnyIds → (client : ℕ) → (start journal : List Event) → Op → Type 0
+OwesOwnBy (Session access) ids client start journal op = OwesOwn ids client start op journal
+OwesOwnBy Refs ids client start journal op = Unit {0}
+
 -- the operation is polite, and owed
 pub record IsDue (ids : AnyIds) (task : Task) (number : ℕ) (start journal : List Event) (client : ℕ) (op : Op) : Type 0 where
   pub polite : IsPolite journal op
   pub owes : OwesOfTask ids task number start journal op
+  pub own : OwesOwnBy task.head ids number start journal op
 
 -- the event is good, and owed
 pub record IsDueEvent (ids : AnyIds) (task : Task) (number : ℕ) (start journal : List Event) (event : Event) : Type 0 where
   pub good : IsGood journal event
   pub owes : OwesOfTask ids task number start journal event.op
+  pub own : OwesOwnBy task.head ids number start journal event.op
 
 -- a task that opens a session makes each operation before its client changed a branch; one that calls on refs changes as many as it likes
 abbrev pub ComesBefore : Head → (client : ℕ) → (start journal : List Event) → Type 0

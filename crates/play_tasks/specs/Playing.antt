@@ -11,7 +11,7 @@ use Rattle.session.specs.Opening.{Asked, open_program}
 use Rattle.session.specs.Chunks.{set_program, get_program}
 use Rattle.conflicts.specs.declared.solving.Policy.{Policy}
 use Rattle.conflicts.specs.declared.solving.Pick.TheVariants.{Fail}
-use Rattle.store_api.specs.declared.events.Version.{Version}
+use Rattle.object_store.specs.declared.events.Version.{Version}
 use Rattle.commit_path.specs.declared.commit.Tried.{Tried}
 use Rattle.commit_path.specs.declared.commit.Tried.TheVariants.{Done as Was_done, Lost}
 use Rattle.commit_path.specs.Committing.{commit_program}

@@ -7,9 +7,9 @@ use Rattle.session.specs.declared.chunks.Value.{Value}
 use Rattle.session.specs.Sessions.{SessionState}
 use Rattle.session.specs.Sources.{MayDrawObject}
 use Rattle.session.specs.Chunks.{set_program, get_program}
-use Rattle.store_api.specs.declared.events.Version.{Version}
-use Rattle.store_api.specs.declared.events.Reply.{Reply}
-use Rattle.store_api.specs.declared.events.Event.{Event}
+use Rattle.object_store.specs.declared.events.Version.{Version}
+use Rattle.object_store.specs.declared.events.Reply.{Reply}
+use Rattle.object_store.specs.declared.events.Event.{Event}
 use Rattle.store_api.specs.Program.{Prog, Done, Ask}
 use Rattle.commit_path.specs.Answered.{WasMoved}
 use Rattle.commit_path.specs.Opened.{WasBegun}

@@ -4,7 +4,7 @@ use Rattle.ice_base.specs.Ends.{Rose}
 use Rattle.ice_ids.specs.declared.drawing.AnyIds.{AnyIds}
 use Rattle.ice_ids.specs.declared.drawing.Draw.{Draw}
 use Rattle.ice_ids.specs.Drawing.{ids_of}
-use Rattle.store_api.specs.declared.events.Event.{Event}
+use Rattle.object_store.specs.declared.events.Event.{Event}
 use Rattle.store_api.specs.Callers.{only}
 use Rattle.store_api.specs.Plays.{Play, HasEnded, PlayKeeps, PlayLeads}
 use Rattle.play_script.specs.declared.scripts.Task.{Task}

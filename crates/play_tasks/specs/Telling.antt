@@ -1,10 +1,10 @@
 -- What the outcome of a task says of the journal, in words that name no machine and no program. (Own.)
 use Rattle.std.specs.Prelude.{◌≡◌, ◌⊎◌, ℕ, ◌<◌, ◌≤◌, List, [], ◌∷◌, ◌++◌, Option, Ok, Err}
 use Rattle.ice_ids.specs.declared.drawing.AnyIds.{AnyIds}
-use Rattle.store_api.specs.declared.events.Event.{Event}
+use Rattle.object_store.specs.declared.events.Event.{Event}
 use Rattle.store_api.specs.declared.machines.Refusal.{Refusal}
 use Rattle.store_api.specs.declared.machines.Refusal.TheVariants.{NoMemory, Conflict}
-use Rattle.store_api.specs.declared.events.Version.{Version}
+use Rattle.object_store.specs.declared.events.Version.{Version}
 use Rattle.session.specs.Sessions.{SessionState}
 use Rattle.commit_path.specs.declared.commit.Committed.{Committed as Made}
 use Rattle.commit_path.specs.Answered.{TookEffect, WasMoved, CommitTells}

@@ -2,8 +2,8 @@
 
 ghost use Rattle.play_tasks.specs.Laws.{OutcomeLaw, TaskLaw};
 
-use chunk_calls::{get_law, set_law, tells_law};
-use commit_path::{answers_law, commit_law, opening_law, session_law, single_law};
+use chunk_calls::{get_law, owning_calls_law, set_law, tells_law};
+use commit_path::{answers_law, commit_law, opening_law, owning_law, session_law, single_law};
 use play_refs::{refs_outcome_law, refs_task_law};
 use rebase::rebase_law;
 
@@ -18,9 +18,11 @@ pub fn task_law()
     session_law();
     commit_law();
     single_law();
+    owning_law();
     rebase_law();
     set_law();
     get_law();
+    owning_calls_law();
     refs_task_law();
 }
 

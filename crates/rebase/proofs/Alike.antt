@@ -3,7 +3,7 @@ use Rattle.std.proofs.Common.{ℕ, List, sym, ◌∙◌, ap}
 use Rattle.manifest_file.specs.declared.manifest.Place.{Place}
 use Rattle.zarr_tree.specs.Held.{Held}
 use Rattle.conflicts.specs.declared.solving.Policy.{Policy}
-use Rattle.store_api.specs.declared.events.Event.{Event}
+use Rattle.object_store.specs.declared.events.Event.{Event}
 use Rattle.session.specs.Sessions.{SessionState, base_nodes}
 use Rattle.commit_path.specs.Single.{HasPutAlike}
 use Rattle.commit_path.proofs.Singling.{HasPutAlike-same}

@@ -9,21 +9,21 @@ use Rattle.snapshot_file.specs.Initial.{initial_snapshot}
 use Rattle.repo_objects.specs.Readings.{snapshot_by, log_by}
 use Rattle.repo_objects.specs.Trees.{tree_under}
 use Rattle.repo_objects.specs.Laws.{InitialLaw, initial_bytes}
-use Rattle.store_api.specs.declared.keys.Key.{Key}
-use Rattle.store_api.specs.declared.keys.Key.TheVariants.{Snapshot, Txn}
-use Rattle.store_api.specs.declared.events.Version.{Version}
-use Rattle.store_api.specs.declared.events.Op.{Op}
-use Rattle.store_api.specs.declared.events.Op.TheVariants.{Get}
-use Rattle.store_api.specs.declared.events.Got.TheVariants.{Found}
-use Rattle.store_api.specs.declared.events.Reply.{Reply}
-use Rattle.store_api.specs.declared.events.Reply.TheVariants.{Got as Is_got}
-use Rattle.store_api.specs.declared.events.Event.{Event}
-use Rattle.store_api.specs.Machine.{Stored, found, last_put, got_of, version_at, IsHonest, UnlessFailed}
+use Rattle.object_store.specs.declared.keys.Key.{Key}
+use Rattle.object_store.specs.declared.keys.Key.TheVariants.{Snapshot, Txn}
+use Rattle.object_store.specs.declared.events.Version.{Version}
+use Rattle.object_store.specs.declared.events.Op.{Op}
+use Rattle.object_store.specs.declared.events.Op.TheVariants.{Get}
+use Rattle.object_store.specs.declared.events.Got.TheVariants.{Found}
+use Rattle.object_store.specs.declared.events.Reply.{Reply}
+use Rattle.object_store.specs.declared.events.Reply.TheVariants.{Got as Is_got}
+use Rattle.object_store.specs.declared.events.Event.{Event}
+use Rattle.object_store.specs.Machine.{Stored, found, last_put, got_of, version_at, IsHonest, UnlessFailed}
 use Rattle.store_api.specs.Journal.{Each, WasPut, IsFirst, IsGood, IsGoodJournal, IsOnce, lists_of, log_made, puts_of, rows_of, snap_in, snap_made, tree_of}
 use Rattle.store_api.specs.Telling.{WasGot, WasReadAs}
-use Rattle.store_api.proofs.Journals.{Each-at, Each-back}
+use Rattle.object_store.proofs.Journals.{Each-at, Each-back}
 use Rattle.store_api.proofs.Once.{initial-last}
-use Rattle.store_api.proofs.Slots.{sound, WasPut-append}
+use Rattle.object_store.proofs.Slots.{sound, WasPut-append}
 use Rattle.store_api.proofs.Standing.{rows-stay, snap_made-append, log_made-append}
 use Rattle.commit_path.proofs.Knowing.{tree-by_rows}
 use Rattle.rebase.specs.Along.{Link}

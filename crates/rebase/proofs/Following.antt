@@ -20,7 +20,7 @@ use Rattle.conflicts.specs.Solving.{left_of, given_up, keys_in}
 use Rattle.conflicts.proofs.Members.{in-contains}
 use Rattle.conflicts.proofs.LawProofs.{commuting-law, solved-law}
 use Rattle.rebase.specs.Along.{Link, Way, Solves, Stays, Hides, sides_at, left_at, solved_at, first_hidden, past, along}
-use Rattle.rebase.specs.AlongLaws.{Follows, HasOneTextEach, NormalLaw, IsQuiet, LeadBoth, QuietLaw}
+use Rattle.rebase.specs.AlongLaws.{Follows, FollowsApart, HasOneTextEach, NormalLaw, IsQuiet, LeadBoth, QuietLaw}
 use Rattle.rebase.proofs.Unhidden.{is-kept, normal-keeps, none-hidden, none-out}
 
 -- ---- what ends a way
@@ -53,7 +53,7 @@ never x e = cc
 follows-kept : (c : Changes) (chunks : Id8 → List ℕ → Option (Option (List ℕ))) (t u : Tree) (ls : List Link) → Follows c t ls u → Follows (record c { chunks = chunks }) t ls u
 unfolding Follows
 follows-kept c chunks t u [] f = f
-follows-kept c chunks t u (l ∷ ls) f = (f.0, f.1, f.2, f.3, f.4, f.5, follows-kept c chunks (apply f.0 t) u ls f.6)
+follows-kept c chunks t u (l ∷ ls) f = (f.0, f.1, f.2, f.3, f.4, follows-kept c chunks (apply f.0 t) u ls f.5)
 
 module _ (bytes_at : Place → Option (List ℕ)) where
   abbrev changed : Held Place → Changes
@@ -78,7 +78,7 @@ module _ (bytes_at : Place → Option (List ℕ)) where
 
   beside : (h : Held Place) (t u : Tree) (l : Link) (ls : List Link) → IsWellFormed t → IsNormal (changed h) t → (f : Follows (changed h) t (l ∷ ls) u) → (d : Changes) × IsBeside (changed h) d t l.lists × ((apply d t).nodes ≡ nodes_in l.file.nodes) × Follows (changed h) (apply d t) ls u
   unfolding Follows
-  beside h t u l ls w n f = (f.0, record { well_formed = w; ours = n; others = f.1; ours_apart = f.4; others_apart = f.5; touched = f.2 }, f.3, f.6)
+  beside h t u l ls w n f = (f.0, record { well_formed = w; ours = n; others = f.1; unlike = f.4; touched = f.2 }, f.3, f.5)
 
   -- ---- commit after commit
   normal-along : (policy : Policy) (held left : Held Place) (t u : Tree) (links : List Link) → IsWellFormed t → IsNormal (changed held) t → Follows (changed held) t links u
@@ -111,20 +111,20 @@ module _ (bytes_at : Place → Option (List ℕ)) where
 
 -- ---- where nothing conflicts
 quiet-along : QuietLaw
-unfolding along Follows IsQuiet LeadBoth
+unfolding along FollowsApart IsQuiet LeadBoth
 quiet-along bytes_at policy held t u [] one w n f q = (refl, (f, ap (apply (changes_of bytes_at held)) f))
 quiet-along bytes_at policy held t u (l ∷ ls) one w n f q =
-    let d = beside bytes_at held t u l ls w n f in
+    let b : IsBeside (changes_of bytes_at held) f.0 t l.lists = record { well_formed = w; ours = n; others = f.1; unlike = λ p m a. (f.4 p m a).1; touched = f.2 } in
     let nothing : left_at policy held t.nodes l ≡ [] = ap (left_of policy) q.0 in
-    let hidden : first_hidden (nodes_in l.file.nodes) held.metas ≡ None = honest-log bytes_at policy held t l d.0 d.1 d.2 one nothing in
-    let normal : IsNormal (changes_of bytes_at held) (apply d.0 t) = subst (λ (h : Held Place). IsNormal (changes_of bytes_at h) (apply d.0 t)) (none-out held) (still-normal bytes_at policy held t l d.0 d.1 d.2 nothing []) in
-    let commute = commuting-law bytes_at held d.0 t l.lists d.1 (ap (λ (m : FinMap path_cmp Node). found (record { held = held; theirs = l.lists; before = t.nodes; after = m })) d.2 ∙ q.0) in
-    let further = quiet-along bytes_at policy held (apply d.0 t) u ls one d.1.others.well_formed normal d.3 (subst (λ (m : FinMap path_cmp Node). IsQuiet held m ls) (sym d.2) q.1) in (
+    let hidden : first_hidden (nodes_in l.file.nodes) held.metas ≡ None = honest-log bytes_at policy held t l f.0 b f.3 one nothing in
+    let normal : IsNormal (changes_of bytes_at held) (apply f.0 t) = subst (λ (h : Held Place). IsNormal (changes_of bytes_at h) (apply f.0 t)) (none-out held) (still-normal bytes_at policy held t l f.0 b f.3 nothing []) in
+    let commute = commuting-law bytes_at held f.0 t l.lists b f.4 f.5 (ap (λ (m : FinMap path_cmp Node). found (record { held = held; theirs = l.lists; before = t.nodes; after = m })) f.3 ∙ q.0) in
+    let further = quiet-along bytes_at policy held (apply f.0 t) u ls one b.others.well_formed normal f.6 (subst (λ (m : FinMap path_cmp Node). IsQuiet held m ls) (sym f.3) q.1) in (
       (λ z. past l.file.id (nothing z) (hidden z) (along policy (without_chunks held (keys_in t.nodes (given_up policy (q.0 z)))) (nodes_in l.file.nodes) ls))
           ∙ ap (λ (h : Held Place). along policy h (nodes_in l.file.nodes) ls) (none-out held)
-          ∙ ap (λ (m : FinMap path_cmp Node). along policy held m ls) (sym d.2)
+          ∙ ap (λ (m : FinMap path_cmp Node). along policy held m ls) (sym f.3)
           ∙ further.0,
-      (d.0, d.1.others, d.1.touched, d.2, subst (λ (v : Tree). LeadBoth ls (apply d.0 t) u v (apply (changes_of bytes_at held) u)) commute.0 further.1),
+      (f.0, b.others, b.touched, f.3, subst (λ (v : Tree). LeadBoth ls (apply f.0 t) u v (apply (changes_of bytes_at held) u)) commute.0 further.1),
     )
 
 pub quiet-law : QuietLaw

@@ -9,14 +9,15 @@ use Rattle.repo_objects.specs.declared.bad.Bad.{Bad}
 use Rattle.zarr_tree.specs.declared.cases.Conflict.{Conflict}
 use Rattle.zarr_tree.specs.Held.{Held}
 use Rattle.conflicts.specs.declared.solving.Policy.{Policy}
-use Rattle.store_api.specs.declared.keys.Key.{Key}
-use Rattle.store_api.specs.declared.keys.Key.TheVariants.{Snapshot, Txn, Branch}
-use Rattle.store_api.specs.declared.events.Version.{Version}
-use Rattle.store_api.specs.declared.events.Op.{Op}
-use Rattle.store_api.specs.declared.events.Reply.{Reply}
-use Rattle.store_api.specs.declared.events.Reply.TheVariants.{Failed}
-use Rattle.store_api.specs.declared.events.Event.{Event}
+use Rattle.object_store.specs.declared.keys.Key.{Key}
+use Rattle.object_store.specs.declared.keys.Key.TheVariants.{Snapshot, Txn, Branch}
+use Rattle.object_store.specs.declared.events.Version.{Version}
+use Rattle.object_store.specs.declared.events.Op.{Op}
+use Rattle.object_store.specs.declared.events.Reply.{Reply}
+use Rattle.object_store.specs.declared.events.Reply.TheVariants.{Failed}
+use Rattle.object_store.specs.declared.events.Event.{Event}
 use Rattle.store_api.specs.declared.machines.Refusal.{Refusal}
+use Rattle.zarr_tree.specs.declared.edit.EditFault.TheVariants as E
 use Rattle.store_api.specs.declared.machines.Refusal.TheVariants as R
 use Rattle.store_api.specs.Journal.{Each}
 use Rattle.store_api.specs.Callers.{Caller, IsOther, Makes, own_event}
@@ -175,7 +176,7 @@ module _ (by : Caller) (policy : Policy) (s : SessionState) (start journal more 
   refusal-kept (R.Missing key) w = missing-append by.number start journal more policy s key w
   refusal-kept (R.BadFile key bad) w = bad-kept key bad w
   refusal-kept R.TooDeep w = deep-append by.number start journal more s w
-  refusal-kept R.Full w = full-append by.number start journal more policy s w
+  refusal-kept (R.Edit E.Full) w = full-append by.number start journal more policy s w
   refusal-kept (R.Left at conflicts) w = left-append by.number start journal more policy s at conflicts w
   refusal-kept (R.NotAncestor head) w = ended-append by.number start journal more s head w
   refusal-kept R.StoreFault w = failure (GetsOf (IsOfRebase s)) w

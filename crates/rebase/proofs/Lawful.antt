@@ -13,6 +13,7 @@ use Rattle.commit_path.proofs.Gets.{gets-keep_each, gets-stay}
 use Rattle.commit_path.proofs.Sooner.{gets-change_nothing}
 use Rattle.rebase.proofs.Quiet.{gets-put_none}
 use Rattle.rebase.proofs.Kept.{rebase-kept}
+use Rattle.rebase.proofs.OwnedOn.{rebase-owns}
 use Rattle.rebase.proofs.Saying.{rebase-gets, rebase-leads, rebase-goes_on}
 
 pub rebase-law : RefLaw → SnapshotLaw → (by : Caller) (policy : Policy) (s : SessionState) → RebaseLaw by policy s
@@ -26,5 +27,6 @@ rebase-law reference law by policy s = record {
   quiet = λ start middle journal m. (gets-change_nothing by.number start middle journal m, gets-put_none by.number start middle journal m);
   alike = λ t start middle journal. HasPutAlike-gets by.number t start middle journal;
   stays = λ start journal c. gets-stay (ChangedNothing by.number start) by (got-nothing by start) (rebase_program policy s) journal (rebase-gets policy s) c;
+  owns = λ ids start journal o. rebase-owns reference law by policy s ids start journal o;
   goes_on = λ journal spelled opened. rebase-goes_on reference law by policy s journal spelled opened;
 }

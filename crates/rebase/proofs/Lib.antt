@@ -5,6 +5,7 @@ pub mod Walking
 pub mod Logs
 pub mod Moving
 pub mod Saying
+pub mod OwnedOn
 pub mod Lawful
 pub mod Unhidden
 pub mod Following

@@ -7,17 +7,17 @@ use Rattle.ice_ids.specs.Text.{initial_id}
 use Rattle.snapshot_file.specs.declared.snapshot.SnapshotFile.{SnapshotFile}
 use Rattle.repo_objects.specs.Readings.{snapshot_by}
 use Rattle.repo_objects.specs.Laws.{initial_bytes}
-use Rattle.store_api.specs.declared.keys.Key.{Key}
-use Rattle.store_api.specs.declared.keys.Key.TheVariants.{Snapshot, Txn}
-use Rattle.store_api.specs.declared.keys.Why.{Why}
-use Rattle.store_api.specs.declared.events.Version.{Version}
-use Rattle.store_api.specs.declared.events.Op.{Op}
-use Rattle.store_api.specs.declared.events.Op.TheVariants.{Get, PutNew, PutOver, Remove, RemoveAt, List as ListPart}
-use Rattle.store_api.specs.declared.events.Event.{Event}
-use Rattle.store_api.specs.Machine.{Stored, Slot, leaves, put_at, slot_of, found, first_put, last_put, is_on}
+use Rattle.object_store.specs.declared.keys.Key.{Key}
+use Rattle.object_store.specs.declared.keys.Key.TheVariants.{Snapshot, Txn}
+use Rattle.object_store.specs.declared.keys.Why.{Why}
+use Rattle.object_store.specs.declared.events.Version.{Version}
+use Rattle.object_store.specs.declared.events.Op.{Op}
+use Rattle.object_store.specs.declared.events.Op.TheVariants.{Get, PutNew, PutOver, Remove, RemoveAt, List as ListPart}
+use Rattle.object_store.specs.declared.events.Event.{Event}
+use Rattle.object_store.specs.Machine.{Stored, Slot, leaves, put_at, slot_of, found, first_put, last_put, is_on}
 use Rattle.store_api.specs.Journal.{Each, WasPut, IsFirst, IsFirstOp, IsOnce, IsGood, IsGoodJournal, IsPolite, MayPutOver, PutsFirst, snap_in, snap_made}
-use Rattle.store_api.proofs.Slots.{same_key-true, bytes-same, id-true, effect-cases, free-cases, old-cases, slot-append_one, slot-none, sound, stood-is}
-use Rattle.store_api.proofs.Journals.{Each-append, Each-one}
+use Rattle.object_store.proofs.Slots.{same_key-true, bytes-same, id-true, effect-cases, free-cases, old-cases, slot-append_one, slot-none, sound, stood-is}
+use Rattle.object_store.proofs.Journals.{Each-append, Each-one}
 use Rattle.store_api.proofs.Once.{initial-last}
 
 -- ---- a fact on a key's first put and its last one

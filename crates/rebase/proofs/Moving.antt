@@ -27,9 +27,9 @@ use Rattle.conflicts.specs.Solving.{case_stays}
 use Rattle.conflicts.proofs.Members.{In, any-in, contains-in, filter-in}
 use Rattle.conflicts.proofs.Facts.{in-row, none-of, turned}
 use Rattle.conflicts.proofs.Exactness.{exact-law, made}
-use Rattle.store_api.specs.declared.events.Event.{Event}
+use Rattle.object_store.specs.declared.events.Event.{Event}
 use Rattle.store_api.specs.Journal.{Each, IsGood}
-use Rattle.session.specs.Sessions.{SessionState, branch_of, tip_at, moved_to}
+use Rattle.session.specs.Sessions.{SessionState, branch_of, origin_at, moved_to}
 use Rattle.commit_path.specs.Opened.{BranchNamed, IsOpened}
 use Rattle.commit_path.specs.Spelled.{IsOtherText, IsSpelled}
 use Rattle.commit_path.proofs.Knowing.{BranchNamed-append, tip-moved}
@@ -154,7 +154,7 @@ pub HasNamed-append : (branch : List ℕ) (version : ℕ) (id : Id12) (journal m
 HasNamed-append branch version id journal more g n = BranchNamed-append journal more branch version id n
 
 -- ---- a session whose branch still names its base
-pub same-spelled : (s : SessionState) (version : ℕ) → IsSpelled s → IsSpelled (record s { tip = tip_at version s.tip })
+pub same-spelled : (s : SessionState) (version : ℕ) → IsSpelled s → IsSpelled (record s { origin = origin_at version s.origin })
 same-spelled s version w = record {
   base = w.base;
   of_snapshot = record { file = w.of_snapshot.file; proper = w.of_snapshot.proper; rows = w.of_snapshot.rows; files = w.of_snapshot.files };
@@ -166,14 +166,14 @@ same-spelled s version w = record {
   few = w.few;
 }
 
-pub same-opened : (s : SessionState) (version : ℕ) (h : List Event) → HasNamed (branch_of s) version s.base h → IsOpened s h → IsOpened (record s { tip = tip_at version s.tip }) h
-same-opened s version h n o = record { named = tip-moved h s.base version s.tip n; put = o.put; had = o.had; rows = o.rows; objects = o.objects; chunks = o.chunks }
+pub same-opened : (s : SessionState) (version : ℕ) (h : List Event) → HasNamed (branch_of s) version s.base h → IsOpened s h → IsOpened (record s { origin = origin_at version s.origin }) h
+same-opened s version h n o = record { named = tip-moved h s.base version s.origin n; put = o.put; had = o.had; rows = o.rows; objects = o.objects; chunks = o.chunks }
 
 -- ---- a session that moved on
 module _ (s : SessionState) (id : Id12) (version : ℕ) where
   pub moved-opened : (f : SnapshotFile) (left : Held Place) (h : List Event) → HasNamed (branch_of s) version id h → IsHead id f h → IsLess s.held left → IsOpened s h → IsOpened (moved_to s id version f left) h
   moved-opened f left h n k less o = subst (λ (held : Held Place). IsOpened (moved_to s id version f held) h) (sym less.is) (record {
-    named = tip-moved h id version s.tip n;
+    named = tip-moved h id version s.origin n;
     put = k.put;
     had = k.had;
     rows = k.rows;

@@ -154,6 +154,12 @@ module _ (c : Changes) (t v : Tree) (wt : IsWellFormed t) (wv : IsWellFormed v) 
       })
       by_root (Some a) e (Some b) f = inl (ap is_some e, ap is_some f, gone-false c.dropped v root (λ g. differ (sym (drops g.node.id) ∙ g.dropped_id)))
 
+  -- where something is added and no path is taken, the later tree has no node either
+  pub nothing-left : Free → (p : List ℕ) (m : Node) → get c.added p ≡ Some m → (q : List ℕ) → node_at v q ≡ None
+  nothing-left free p m a =
+      let h = root-of (apply c t) n.well_formed p m (added_node c t p m a) in
+      none_where v wv (free root h.node (added_of root h.node h.found))
+
 -- ---- the way from there
 module _ (bytes_at : Place → Option (List ℕ)) (policy : Policy) (held : Held Place) (t v : Tree) (l : Link) (wt : IsWellFormed t) (wv : IsWellFormed v) (n : IsNormal (changes_of bytes_at held) t) (nothing : (p : List ℕ) → node_at t p ≡ None) (is : HasNodes l v) where
   abbrev c : Changes

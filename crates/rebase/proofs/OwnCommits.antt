@@ -147,7 +147,7 @@ pub plain-all : (c : Changes) (t u : Tree) (links : List Link) → FollowsToOwn 
 unfolding Follows FollowsToOwn
 plain-all c t u [] f a = f
 plain-all c t u (l ∷ ls) (inl o) a = absurd (All-head (λ (k : Link). ¬ IsOwn c k) l ls a o)
-plain-all c t u (l ∷ ls) (inr f) a = (f.0, f.1, f.2, f.3, f.4, f.5, plain-all c (apply f.0 t) u ls f.6 (All-tail (λ (k : Link). ¬ IsOwn c k) l ls a))
+plain-all c t u (l ∷ ls) (inr f) a = (f.0, f.1, f.2, f.3, f.4, plain-all c (apply f.0 t) u ls f.5 (All-tail (λ (k : Link). ¬ IsOwn c k) l ls a))
 
 -- the first ones follow, and then comes an own one, or none
 pub record ToOwn (c : Changes) (t : Tree) (links : List Link) : Type 0 where
@@ -161,11 +161,11 @@ unfolding Follows FollowsToOwn
 to-own c t u [] f = record { first = []; end = u; follows = f; then = inl refl }
 to-own c t u (l ∷ ls) (inl o) = record { first = []; end = t; follows = refl; then = inr (l, ls, refl, o) }
 to-own c t u (l ∷ ls) (inr f) =
-    let r = to-own c (apply f.0 t) u ls f.6 in
+    let r = to-own c (apply f.0 t) u ls f.5 in
     record {
       first = l ∷ r.first;
       end = r.end;
-      follows = (f.0, f.1, f.2, f.3, f.4, f.5, r.follows);
+      follows = (f.0, f.1, f.2, f.3, f.4, r.follows);
       then = elim r.then [
         | inl e ↦ inl (ap (λ (ks : List Link). l ∷ ks) e)
         | inr o ↦ inr (o.0, o.1, ap (λ (ks : List Link). l ∷ ks) o.2, o.3)

@@ -1,10 +1,10 @@
 -- A client that makes gets alone puts no snapshot.
 use Rattle.std.proofs.Common.{ℕ, List, ◌++◌, sym, ◌∙◌, ap, subst, append_assoc}
-use Rattle.store_api.specs.declared.events.Op.{Op}
-use Rattle.store_api.specs.declared.events.Event.{Event}
+use Rattle.object_store.specs.declared.events.Op.{Op}
+use Rattle.object_store.specs.declared.events.Event.{Event}
 use Rattle.store_api.specs.Journal.{Each}
 use Rattle.store_api.specs.Telling.{GetsAlone, MadeGets}
-use Rattle.store_api.proofs.Journals.{Each-append, Each-weaker}
+use Rattle.object_store.proofs.Journals.{Each-append, Each-weaker}
 use Rattle.commit_path.specs.Single.{HasPutNone, PutsNone, PutsSnapshot}
 use Rattle.commit_path.proofs.Gets.{is-get}
 

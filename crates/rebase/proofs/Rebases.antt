@@ -24,13 +24,13 @@ use Rattle.zarr_tree.specs.Touched.{IsOrdered}
 use Rattle.zarr_tree.specs.Held.{Held}
 use Rattle.zarr_changes.specs.Edits.{without_chunks}
 use Rattle.conflicts.specs.declared.solving.Policy.{Policy}
-use Rattle.store_api.specs.declared.keys.Key.TheVariants.{Snapshot, Txn}
-use Rattle.store_api.specs.declared.events.Event.{Event}
-use Rattle.store_api.specs.declared.events.Op.{Op}
-use Rattle.store_api.specs.declared.events.Op.TheVariants.{Get}
-use Rattle.store_api.specs.declared.events.Got.TheVariants.{Found, Absent}
-use Rattle.store_api.specs.declared.events.Reply.{Reply}
-use Rattle.store_api.specs.declared.events.Reply.TheVariants.{Got}
+use Rattle.object_store.specs.declared.keys.Key.TheVariants.{Snapshot, Txn}
+use Rattle.object_store.specs.declared.events.Event.{Event}
+use Rattle.object_store.specs.declared.events.Op.{Op}
+use Rattle.object_store.specs.declared.events.Op.TheVariants.{Get}
+use Rattle.object_store.specs.declared.events.Got.TheVariants.{Found, Absent}
+use Rattle.object_store.specs.declared.events.Reply.{Reply}
+use Rattle.object_store.specs.declared.events.Reply.TheVariants.{Got}
 use Rattle.store_api.specs.declared.machines.Next.{Next}
 use Rattle.store_api.specs.declared.machines.Refusal.{Refusal}
 use Rattle.store_api.specs.declared.machines.Refusal.TheVariants as R
@@ -42,7 +42,7 @@ use Rattle.repo_read.specs.Answers.{at_key, ref_told, snapshot_told, log_told, A
 use Rattle.repo_read.specs.Chains.{most_snapshots}
 use Rattle.repo_read.specs.Programs.{resolve_program}
 use Rattle.repo_read.proofs.Told.{ref-refused, ref-went, snapshot-refused, snapshot-went, log-refused, log-went}
-use Rattle.session.specs.Sessions.{SessionState, branch_of, writes, tip_at, base_nodes}
+use Rattle.session.specs.Sessions.{SessionState, branch_of, writes, origin_at, base_nodes}
 use Rattle.rebase.specs.declared.rebasing.Walk.{Walk}
 use Rattle.rebase.specs.declared.rebasing.Solving.{Solving}
 use Rattle.rebase.specs.declared.rebasing.Rebasing.{Rebasing}
@@ -244,7 +244,7 @@ module _ (policy : Policy) where
       let other : same_id12 named.id own.base ≡ false = ap (λ (x : SessionState). same_id12 named.id x.base) same ∙ b in
       let empty : (walk_down own.base named.id most_snapshots [] named.id >>= over_commits policy own named) ≡ walk_rest policy own (record { named = named; above = above; next = named.id }) =
       ap (λ (xs : List SnapshotFile). walk_rest policy own (record { named = named; above = xs; next = named.id })) (sym a) in (
-        ap (λ t. cond t (Done (Ok (UpToDate (record own { tip = tip_at named.version.0 own.tip })))) (walk_down own.base named.id most_snapshots [] named.id >>= over_commits policy own named)) other ∙ empty,
+        ap (λ t. cond t (Done (Ok (UpToDate (record own { origin = origin_at named.version.0 own.origin })))) (walk_down own.base named.id most_snapshots [] named.id >>= over_commits policy own named)) other ∙ empty,
         subst (λ (p : Program Rebased). IsAsk p) empty (walk-is-ask own.base named.id (over_commits policy own named) most_snapshots [] named.id (omega arith)),
       )
 

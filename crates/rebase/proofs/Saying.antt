@@ -18,14 +18,15 @@ use Rattle.zarr_tree.specs.declared.lists.Touched.{Touched}
 use Rattle.zarr_tree.specs.Edits.{most_nodes}
 use Rattle.zarr_tree.specs.Held.{Held, nodes_over}
 use Rattle.conflicts.specs.declared.solving.Policy.{Policy}
-use Rattle.store_api.specs.declared.keys.Key.TheVariants.{Branch}
-use Rattle.store_api.specs.declared.events.Version.{Version}
-use Rattle.store_api.specs.declared.events.Op.TheVariants.{Get}
-use Rattle.store_api.specs.declared.events.Got.TheVariants.{Found}
-use Rattle.store_api.specs.declared.events.Reply.{Reply}
-use Rattle.store_api.specs.declared.events.Reply.TheVariants.{Got}
-use Rattle.store_api.specs.declared.events.Event.{Event}
+use Rattle.object_store.specs.declared.keys.Key.TheVariants.{Branch}
+use Rattle.object_store.specs.declared.events.Version.{Version}
+use Rattle.object_store.specs.declared.events.Op.TheVariants.{Get}
+use Rattle.object_store.specs.declared.events.Got.TheVariants.{Found}
+use Rattle.object_store.specs.declared.events.Reply.{Reply}
+use Rattle.object_store.specs.declared.events.Reply.TheVariants.{Got}
+use Rattle.object_store.specs.declared.events.Event.{Event}
 use Rattle.store_api.specs.declared.machines.Refusal.{Refusal}
+use Rattle.zarr_tree.specs.declared.edit.EditFault.TheVariants as E
 use Rattle.store_api.specs.declared.machines.Refusal.TheVariants as R
 use Rattle.store_api.specs.Journal.{Each, IsGood, StoodAt}
 use Rattle.store_api.specs.Callers.{Caller, Makes}
@@ -37,7 +38,7 @@ use Rattle.store_api.proofs.Telling.{get-had}
 use Rattle.repo_read.specs.declared.answers.Resolved.{Resolved}
 use Rattle.repo_read.specs.Answers.{at_key, ref_told, resolved_at}
 use Rattle.repo_read.specs.Chains.{most_snapshots}
-use Rattle.session.specs.Sessions.{SessionState, branch_of, writes, tip_at, base_nodes, moved_to}
+use Rattle.session.specs.Sessions.{SessionState, branch_of, writes, origin_at, base_nodes, moved_to}
 use Rattle.commit_path.specs.Opened.{IsOpened}
 use Rattle.commit_path.specs.Spelled.{IsSpelled}
 use Rattle.commit_path.proofs.Knowing.{IsOpened-append}
@@ -60,8 +61,8 @@ use Rattle.rebase.proofs.Moving.{HasNamed, HasNamed-append, way-ends, same-spell
 head-gets : (s : SessionState) (named : Resolved) (count : ℕ) (f : SnapshotFile) (r : Result (Held Place) Refusal) → Gets (on_answer (on_head s named count f) r)
 head-gets s named count f (Ok held) = by_test (nat_lt most_nodes (len (nodes_over held (nodes_in f.nodes))))
   where
-    by_test : (b : Bool) → Gets (cond b (Done (Err R.Full)) (Done (Ok (Moved (moved_to s named.id named.version.0 f held) count))))
-    by_test true = done-gets (Err R.Full)
+    by_test : (b : Bool) → Gets (cond b (Done (Err (R.Edit E.Full))) (Done (Ok (Moved (moved_to s named.id named.version.0 f held) count))))
+    by_test true = done-gets (Err (R.Edit E.Full))
     by_test false = done-gets (Ok (Moved (moved_to s named.id named.version.0 f held) count))
 head-gets s named count f (Err why) = done-gets (Err why)
 
@@ -77,8 +78,8 @@ ref-gets policy s (Ok named) = by_base (same_id12 named.id s.base)
     walked : Gets (walk_down s.base named.id most_snapshots [] named.id >>= over_commits policy s named)
     walked = bind-gets (walk_down s.base named.id most_snapshots [] named.id) (on_answer (over_commits policy s named)) (walk-gets s.base named.id most_snapshots [] named.id) (commits-gets policy s named)
 
-    by_base : (b : Bool) → Gets (cond b (Done (Ok (UpToDate (record s { tip = tip_at named.version.0 s.tip })))) (walk_down s.base named.id most_snapshots [] named.id >>= over_commits policy s named))
-    by_base true = done-gets (Ok (UpToDate (record s { tip = tip_at named.version.0 s.tip })))
+    by_base : (b : Bool) → Gets (cond b (Done (Ok (UpToDate (record s { origin = origin_at named.version.0 s.origin })))) (walk_down s.base named.id most_snapshots [] named.id >>= over_commits policy s named))
+    by_base true = done-gets (Ok (UpToDate (record s { origin = origin_at named.version.0 s.origin })))
     by_base false = walked
 ref-gets policy s (Err why) = done-gets (Err why)
 
@@ -141,7 +142,7 @@ module _ (reference : RefLaw) (law : SnapshotLaw) (by : Caller) (policy : Policy
         over : (n : ℕ) → nat_lt most_nodes n ≡ true → most_nodes < n
         over n e = grind (arith, nat_tests)
 
-        by_test : (b : Bool) → nat_lt most_nodes (len (nodes_over held (nodes_in (head_of f fs).nodes))) ≡ b → Leads Ends by (cond b (Done (Err R.Full)) (Done (Ok (Moved (moved_to s named.id named.version.0 (head_of f fs) held) (length fs + 1))))) h
+        by_test : (b : Bool) → nat_lt most_nodes (len (nodes_over held (nodes_in (head_of f fs).nodes))) ≡ b → Leads Ends by (cond b (Done (Err (R.Edit E.Full))) (Done (Ok (Moved (moved_to s named.id named.version.0 (head_of f fs) held) (length fs + 1))))) h
         by_test true e = (record { head = named.id; version = named.version; count = length fs + 1; snap = head_of f fs; held = held; solved = w; many = over (len (nodes_over held (nodes_in (head_of f fs).nodes))) e }, λ spelled opened. tt)
         by_test false e = (
           record { head = named.id; version = named.version; snap = head_of f fs; held = held; solved = w; few = fits (len (nodes_over held (nodes_in (head_of f fs).nodes))) e; becomes = refl },
@@ -187,7 +188,7 @@ module _ (reference : RefLaw) (law : SnapshotLaw) (by : Caller) (policy : Policy
     unfolding Leads
     named-ends h ref n gets = by_base (same_id12 named.id s.base) refl
       where
-        by_base : (b : Bool) → same_id12 named.id s.base ≡ b → Leads Ends by (cond b (Done (Ok (UpToDate (record s { tip = tip_at named.version.0 s.tip })))) (walk_down s.base named.id most_snapshots [] named.id >>= over_commits policy s named)) h
+        by_base : (b : Bool) → same_id12 named.id s.base ≡ b → Leads Ends by (cond b (Done (Ok (UpToDate (record s { origin = origin_at named.version.0 s.origin })))) (walk_down s.base named.id most_snapshots [] named.id >>= over_commits policy s named)) h
         by_base true t =
             let same : named.id ≡ s.base = same_id12-true named.id s.base t in (
               record { version = named.version; ref = subst (λ (id : Id12). WasRef by.number (Branch (branch_of s)) named.version id start h) same ref; becomes = refl },

@@ -10,13 +10,13 @@ use Rattle.snapshot_file.specs.declared.snapshot.SnapshotFile.{SnapshotFile}
 use Rattle.repo_objects.specs.declared.bad.Bad.{Bad}
 use Rattle.repo_objects.specs.Laws.{IsProper, SnapshotLaw}
 use Rattle.repo_objects.specs.Readings.{read_snapshot}
-use Rattle.store_api.specs.declared.keys.Key.TheVariants.{Snapshot, Branch}
-use Rattle.store_api.specs.declared.events.Version.{Version}
-use Rattle.store_api.specs.declared.events.Op.TheVariants.{Get}
-use Rattle.store_api.specs.declared.events.Got.TheVariants.{Found, Absent}
-use Rattle.store_api.specs.declared.events.Reply.{Reply}
-use Rattle.store_api.specs.declared.events.Reply.TheVariants.{Got}
-use Rattle.store_api.specs.declared.events.Event.{Event}
+use Rattle.object_store.specs.declared.keys.Key.TheVariants.{Snapshot, Branch}
+use Rattle.object_store.specs.declared.events.Version.{Version}
+use Rattle.object_store.specs.declared.events.Op.TheVariants.{Get}
+use Rattle.object_store.specs.declared.events.Got.TheVariants.{Found, Absent}
+use Rattle.object_store.specs.declared.events.Reply.{Reply}
+use Rattle.object_store.specs.declared.events.Reply.TheVariants.{Got}
+use Rattle.object_store.specs.declared.events.Event.{Event}
 use Rattle.store_api.specs.declared.machines.Refusal.{Refusal}
 use Rattle.store_api.specs.declared.machines.Refusal.TheVariants as R
 use Rattle.store_api.specs.Journal.{Each, HadRows, IsGood, IsOnce, WasPut, rows_of, snap_in}
@@ -24,7 +24,7 @@ use Rattle.store_api.specs.Callers.{Caller, Makes}
 use Rattle.store_api.specs.Program.{Done, Leads}
 use Rattle.store_api.specs.Running.{Program, on_answer}
 use Rattle.store_api.specs.Telling.{GetsOf, MadeGets, WasFailure, WasGot, WasReadAs, WasRef}
-use Rattle.store_api.proofs.Slots.{WasPut-append}
+use Rattle.object_store.proofs.Slots.{WasPut-append}
 use Rattle.store_api.proofs.Standing.{HadRows-append}
 use Rattle.store_api.proofs.Telling.{Had, get-had, makes-keeps}
 use Rattle.repo_read.specs.Answers.{at_key, snapshot_told}

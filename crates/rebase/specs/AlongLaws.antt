@@ -14,7 +14,7 @@ use Rattle.zarr_tree.specs.Trees.{Tree, node_at, IsWellFormed}
 use Rattle.zarr_tree.specs.Changes.{Changes, apply, nodes_under, IsNormal}
 use Rattle.zarr_tree.specs.Touched.{Touches, IsOrdered}
 use Rattle.zarr_tree.specs.Held.{Held, meta_in, changes_of}
-use Rattle.zarr_tree.specs.Conflicts.{IsConflict, IsApart, without}
+use Rattle.zarr_tree.specs.Conflicts.{IsConflict, IsApart, AddsUnlike, without}
 use Rattle.conflicts.specs.declared.solving.Policy.{Policy}
 use Rattle.conflicts.specs.Found.{found}
 use Rattle.conflicts.specs.Laws.{IsGivenUp}
@@ -25,11 +25,17 @@ use Rattle.rebase.specs.Along.{Link, Solves, Stays, Hides, sides_at, along}
 
 -- ---- along commits whose logs are right
 -- Each commit's tree is the tree before it under changes that are normal for it; its log lists what they touch, its snapshot has the nodes; and
--- neither they nor c add an id that the other one adds or drops. The last tree is u.
+-- they add no id that c adds. The last tree is u.
 unfoldable pub Follows : (c : Changes) → (t : Tree) → List Link → (u : Tree) → Type 0
 Follows c t [] u = t ≡ u
 Follows c t (l ∷ ls) u =
-    (d : Changes) × IsNormal d t × Touches d t l.lists × ((apply d t).nodes ≡ nodes_in l.file.nodes) × IsApart c d × IsApart d c × Follows c (apply d t) ls u
+    (d : Changes) × IsNormal d t × Touches d t l.lists × ((apply d t).nodes ≡ nodes_in l.file.nodes) × AddsUnlike c d × Follows c (apply d t) ls u
+
+-- As in `Follows`; and neither they nor c drop an id that the other one adds.
+unfoldable pub FollowsApart : (c : Changes) → (t : Tree) → List Link → (u : Tree) → Type 0
+FollowsApart c t [] u = t ≡ u
+FollowsApart c t (l ∷ ls) u =
+    (d : Changes) × IsNormal d t × Touches d t l.lists × ((apply d t).nodes ≡ nodes_in l.file.nodes) × IsApart c d × IsApart d c × FollowsApart c (apply d t) ls u
 
 -- each other text that is held is the one that its node has: no node has two
 abbrev pub HasOneTextEach : Held Place → Type 0
@@ -56,7 +62,7 @@ LeadBoth (l ∷ ls) t u v w = (d : Changes) × IsNormal d t × Touches d t l.lis
 -- last tree under them.
 abbrev pub QuietLaw : Type 0
 QuietLaw = (bytes_at : Place → Option (List ℕ)) (policy : Policy) (held : Held Place) (t u : Tree) (links : List Link) → HasOneTextEach held → IsWellFormed t → IsNormal (changes_of bytes_at held) t
-    → Follows (changes_of bytes_at held) t links u → IsQuiet held t.nodes links
+    → FollowsApart (changes_of bytes_at held) t links u → IsQuiet held t.nodes links
     → (along policy held t.nodes links ≡ Solves held) × LeadBoth links t u (apply (changes_of bytes_at held) t) (apply (changes_of bytes_at held) u)
 
 -- ---- what the way says, in words of conflicts
@@ -146,7 +152,7 @@ unfoldable pub FollowsToOwn : (c : Changes) → (t : Tree) → List Link → (u 
 FollowsToOwn c t [] u = t ≡ u
 FollowsToOwn c t (l ∷ ls) u =
     IsOwn c l
-    ⊎ ((d : Changes) × IsNormal d t × Touches d t l.lists × ((apply d t).nodes ≡ nodes_in l.file.nodes) × IsApart c d × IsApart d c × FollowsToOwn c (apply d t) ls u)
+    ⊎ ((d : Changes) × IsNormal d t × Touches d t l.lists × ((apply d t).nodes ≡ nodes_in l.file.nodes) × AddsUnlike c d × FollowsToOwn c (apply d t) ls u)
 
 -- The base has no node, and c drops none. Nothing is said of the first commit's log; its tree is well formed, and the later ones follow it so.
 pub record FollowsNothing (c : Changes) (t : Tree) (links : List Link) (u : Tree) : Type 0 where

@@ -16,17 +16,18 @@ use Rattle.zarr_tree.specs.Nodes.{Node}
 use Rattle.zarr_tree.specs.Edits.{most_nodes}
 use Rattle.zarr_tree.specs.Held.{Held, nodes_over}
 use Rattle.conflicts.specs.declared.solving.Policy.{Policy}
-use Rattle.store_api.specs.declared.keys.Key.TheVariants.{Txn}
+use Rattle.object_store.specs.declared.keys.Key.TheVariants.{Txn}
 use Rattle.store_api.specs.declared.machines.Next.{Next}
 use Rattle.store_api.specs.declared.machines.Next.TheVariants.{Again, Ready}
 use Rattle.store_api.specs.declared.machines.Refusal.{Refusal}
-use Rattle.store_api.specs.declared.machines.Refusal.TheVariants.{ReadOnly, NoRef, Missing, BadFile, TooDeep, Full, Left, NotAncestor, StoreFault, NoMemory}
+use Rattle.zarr_tree.specs.declared.edit.EditFault.TheVariants.{Full}
+use Rattle.store_api.specs.declared.machines.Refusal.TheVariants.{ReadOnly, NoRef, Missing, BadFile, TooDeep, Edit, Left, NotAncestor, StoreFault, NoMemory}
 use Rattle.store_api.specs.Program.{Done, IsAsk}
 use Rattle.store_api.specs.Running.{Program, ◌>>=◌}
 use Rattle.repo_read.specs.declared.answers.Resolved.{Resolved}
 use Rattle.repo_read.specs.Chains.{most_snapshots}
 use Rattle.repo_read.specs.Programs.{resolve_program, snapshot_program, log_program}
-use Rattle.session.specs.Sessions.{SessionState, branch_of, writes, tip_at, base_nodes, moved_to}
+use Rattle.session.specs.Sessions.{SessionState, branch_of, writes, origin_at, base_nodes, moved_to}
 use Rattle.rebase.specs.declared.rebasing.Walk.{Walk}
 use Rattle.rebase.specs.declared.rebasing.Solving.{Solving}
 use Rattle.rebase.specs.declared.rebasing.Rebasing.{Rebasing}
@@ -78,7 +79,7 @@ solve_program policy held before (f ∷ fs) =
 -- the session on the branch's snapshot, unless its tree would have more nodes than a tree may have
 abbrev pub on_head : SessionState → Resolved → (count : ℕ) → SnapshotFile → Held Place → Program Rebased
 on_head s named count head held =
-    if nat_lt most_nodes (len (nodes_over held (nodes_in head.nodes))) then Done (Err Full) else Done (Ok (Moved (moved_to s named.id named.version.0 head held) count))
+    if nat_lt most_nodes (len (nodes_over held (nodes_in head.nodes))) then Done (Err (Edit Full)) else Done (Ok (Moved (moved_to s named.id named.version.0 head held) count))
 
 -- over these commits
 abbrev pub over_commits : Policy → SessionState → Resolved → Commits → Program Rebased
@@ -87,7 +88,7 @@ over_commits policy s named c = solve_program policy s.held (base_nodes s) (c.ol
 -- from what the branch names
 abbrev pub after_ref : Policy → SessionState → Resolved → Program Rebased
 after_ref policy s named =
-    if same_id12 named.id s.base then Done (Ok (UpToDate (record s { tip = tip_at named.version.0 s.tip }))) else
+    if same_id12 named.id s.base then Done (Ok (UpToDate (record s { origin = origin_at named.version.0 s.origin }))) else
     walk_down s.base named.id most_snapshots [] named.id >>= over_commits policy s named
 
 unfoldable pub rebase_program : Policy → SessionState → Program Rebased
@@ -162,7 +163,7 @@ MayRefuseRebase NoRef = Unit {0}
 MayRefuseRebase (Missing key) = Unit {0}
 MayRefuseRebase (BadFile key bad) = Unit {0}
 MayRefuseRebase TooDeep = Unit {0}
-MayRefuseRebase Full = Unit {0}
+MayRefuseRebase (Edit Full) = Unit {0}
 MayRefuseRebase (Left at conflicts) = Unit {0}
 MayRefuseRebase (NotAncestor head) = Unit {0}
 MayRefuseRebase StoreFault = Unit {0}

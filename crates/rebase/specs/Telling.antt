@@ -17,15 +17,16 @@ use Rattle.zarr_tree.specs.declared.lists.Touched.{Touched}
 use Rattle.zarr_tree.specs.Edits.{most_nodes}
 use Rattle.zarr_tree.specs.Held.{Held, nodes_over}
 use Rattle.conflicts.specs.declared.solving.Policy.{Policy}
-use Rattle.store_api.specs.declared.keys.Key.{Key}
-use Rattle.store_api.specs.declared.keys.Key.TheVariants.{Snapshot, Txn, Branch}
-use Rattle.store_api.specs.declared.events.Version.{Version}
-use Rattle.store_api.specs.declared.events.Event.{Event}
+use Rattle.object_store.specs.declared.keys.Key.{Key}
+use Rattle.object_store.specs.declared.keys.Key.TheVariants.{Snapshot, Txn, Branch}
+use Rattle.object_store.specs.declared.events.Version.{Version}
+use Rattle.object_store.specs.declared.events.Event.{Event}
 use Rattle.store_api.specs.declared.machines.Refusal.{Refusal}
+use Rattle.zarr_tree.specs.declared.edit.EditFault.TheVariants as E
 use Rattle.store_api.specs.declared.machines.Refusal.TheVariants as R
 use Rattle.store_api.specs.Telling.{MadeGets, WasGot, WasAbsent, WasRef, RefWasBad, WasReadAs, SnapshotWasBad, WasFailure, GetsOf}
 use Rattle.repo_read.specs.Chains.{most_snapshots}
-use Rattle.session.specs.Sessions.{SessionState, branch_of, writes, tip_at, base_nodes, moved_to}
+use Rattle.session.specs.Sessions.{SessionState, branch_of, writes, origin_at, base_nodes, moved_to}
 use Rattle.rebase.specs.declared.machine.Rebased.{Rebased}
 use Rattle.rebase.specs.declared.machine.Rebased.TheVariants.{Moved, UpToDate}
 use Rattle.rebase.specs.Along.{Link, Way, Solves, Stays, Hides, along}
@@ -87,7 +88,7 @@ pub record HasMoved (client : ℕ) (policy : Policy) (s t : SessionState) (count
 pub record WasUpToDate (client : ℕ) (s t : SessionState) (start journal : List Event) : Type 0 where
   pub version : Version
   pub ref : WasRef client (Branch (branch_of s)) version s.base start journal
-  pub becomes : t ≡ record s { tip = tip_at version.0 s.tip }
+  pub becomes : t ≡ record s { origin = origin_at version.0 s.origin }
 
 -- all conflicts were solved, and with what is still held the branch's tree would have too many nodes
 pub record WasFull (client : ℕ) (policy : Policy) (s : SessionState) (start journal : List Event) : Type 0 where
@@ -212,7 +213,7 @@ RebaseSays client policy s start (Err (R.BadFile key bad)) journal =
     RefWasBad client (Branch (branch_of s)) key bad start journal
     ⊎ (SnapshotIsBad client s key bad start journal ⊎ (LogIsBad client policy s key bad start journal ⊎ WasHidden client policy s key bad start journal))
 RebaseSays client policy s start (Err R.TooDeep) journal = WasTooDeep client s start journal
-RebaseSays client policy s start (Err R.Full) journal = WasFull client policy s start journal
+RebaseSays client policy s start (Err (R.Edit E.Full)) journal = WasFull client policy s start journal
 RebaseSays client policy s start (Err (R.Left at conflicts)) journal = WasLeft client policy s at conflicts start journal
 RebaseSays client policy s start (Err (R.NotAncestor head)) journal = HasEnded client s head start journal
 RebaseSays client policy s start (Err R.StoreFault) journal = WasFailure client (GetsOf (IsOfRebase s)) start journal

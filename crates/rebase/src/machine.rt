@@ -19,10 +19,10 @@ use repo_read::{MOST_SNAPSHOTS, Resolved, log_told, ref_told, snapshot_told};
 use session::Session;
 use std::alloc::{AllocError, Global};
 use std::mem;
-use store_api::{Key, Machine, Next, Refusal, Reply, Request, Store, StoreFault, ask};
+use store_api::{Key, Machine, Next, Refusal, Reply, Request, Store, drive};
 use txn_file::laws::{ordered_law, touched_law};
 use zarr_changes::ChangeSet;
-use zarr_tree::Touched;
+use zarr_tree::{EditFault, Touched};
 
 /// What a rebase came to, with the session.
 #[derive(Drop)]
@@ -53,7 +53,7 @@ impl Machine for Rebase {
 
     ghost left = { rebase_left };
 
-    ghost keeps = { λ old new. Unit {0} };
+    ghost keeps = { λ result old new. KeepsSession result (rebase_session old) (rebase_session new) };
 
     ghost may_refuse = { MayRefuseRebase };
 
@@ -72,14 +72,7 @@ impl Machine for Rebase {
         }
     }
 
-    fn answer(&mut self, reply: Reply) -> Result<Next<Rebased>, Refusal>
-        requires { Awaits (rebase_rest self.old) reply }
-        ensures took { Took (rebase_rest self.old) reply (rebase_rest self.new) result }
-        ensures falls { rebase_left self.new < rebase_left self.old }
-        ensures kept { Unit {0} }
-        ensures listed { IfErr result MayRefuseRebase }
-        ensures session { KeepsSession result (rebase_session self.old) (rebase_session self.new) }
-    {
+    fn answer(&mut self, reply: Reply) -> Result<Next<Rebased>, Refusal> {
         match mem::replace(&mut self.state, Rebasing::Ended) {
             Rebasing::Ref => self.on_ref(reply),
             Rebasing::Snapshot(walk) => self.on_snapshot(walk, reply),
@@ -88,13 +81,7 @@ impl Machine for Rebase {
         }
     }
 
-    fn stop(&mut self)
-        requires { IsAsk (rebase_rest self.old) }
-        ensures ended { IsDone (rebase_rest self.new) }
-        ensures falls { rebase_left self.new < rebase_left self.old }
-        ensures kept { Unit {0} }
-        ensures session { rebase_session self.new ≡ rebase_session self.old }
-    {
+    fn stop(&mut self) {
         drop(mem::replace(&mut self.state, Rebasing::Ended));
     }
 
@@ -144,14 +131,7 @@ impl Rebase {
         ensures session { KeepsSession result (rebase_session self.old) (rebase_session self.new) }
         ensures listed { IfErr result MayRefuseRebase }
     {
-        match ask(self, store) {
-            Ok(reply) => self.answer(reply),
-            Err(StoreFault::Failed) => self.answer(Reply::Failed { done: false }),
-            Err(StoreFault::NoMemory) => {
-                self.stop();
-                Err(Refusal::NoMemory)
-            }
-        }
+        drive(self, store)
     }
 
     /// The session in the machine, which writes.
@@ -389,7 +369,7 @@ impl Rebase {
         if is_too_full(held_of(self.session(), &held), &head) {
             drop(head);
             drop(held);
-            return Err(Refusal::Full);
+            return Err(Refusal::Edit(EditFault::Full));
         }
         let Some(writer) = self.session.take() else {
             unreachable!()

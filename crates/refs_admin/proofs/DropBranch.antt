@@ -6,23 +6,23 @@ use Rattle.ice_base.specs.Names.{main_name, same_name}
 use Rattle.ice_ids.specs.declared.Id12.{Id12}
 use Rattle.repo_objects.specs.declared.bad.Bad.{Bad}
 use Rattle.repo_objects.specs.Readings.{read_ref}
-use Rattle.store_api.specs.declared.keys.Key.TheVariants.{Branch}
-use Rattle.store_api.specs.declared.keys.Why.TheVariants.{Drop}
-use Rattle.store_api.specs.declared.events.Version.{Version}
-use Rattle.store_api.specs.declared.events.Op.TheVariants.{Get}
-use Rattle.store_api.specs.declared.events.Got.TheVariants.{Found, Absent}
-use Rattle.store_api.specs.declared.events.GoneAt.TheVariants.{Done as Gone_done, Moved as Gone_moved}
-use Rattle.store_api.specs.declared.events.Reply.{Reply}
-use Rattle.store_api.specs.declared.events.Reply.TheVariants.{Got, GoneAt, Failed}
-use Rattle.store_api.specs.declared.events.Event.{Event}
+use Rattle.object_store.specs.declared.keys.Key.TheVariants.{Branch}
+use Rattle.object_store.specs.declared.keys.Why.TheVariants.{Drop}
+use Rattle.object_store.specs.declared.events.Version.{Version}
+use Rattle.object_store.specs.declared.events.Op.TheVariants.{Get}
+use Rattle.object_store.specs.declared.events.Got.TheVariants.{Found, Absent}
+use Rattle.object_store.specs.declared.events.GoneAt.TheVariants.{Done as Gone_done, Moved as Gone_moved}
+use Rattle.object_store.specs.declared.events.Reply.{Reply}
+use Rattle.object_store.specs.declared.events.Reply.TheVariants.{Got, GoneAt, Failed}
+use Rattle.object_store.specs.declared.events.Event.{Event}
 use Rattle.store_api.specs.declared.machines.Refusal.{Refusal}
 use Rattle.store_api.specs.declared.machines.Refusal.TheVariants as R
-use Rattle.store_api.specs.Machine.{found}
+use Rattle.object_store.specs.Machine.{found}
 use Rattle.store_api.specs.Journal.{StoodAt}
 use Rattle.store_api.specs.Callers.{Caller, Makes}
 use Rattle.store_api.specs.Program.{Done, Leads, Keeps}
 use Rattle.store_api.specs.Running.{Program, on_answer, StaysPolite}
-use Rattle.store_api.proofs.Slots.{bytes-true, bytes-same}
+use Rattle.object_store.proofs.Slots.{bytes-true, bytes-same}
 use Rattle.repo_read.specs.declared.answers.Resolved.{Resolved}
 use Rattle.repo_read.specs.Answers.{at_key, resolved_at, ref_told}
 use Rattle.store_api.specs.Telling.{MadeGets, WasGot}

@@ -12,3 +12,4 @@ pub mod Lines
 pub mod Kept
 pub mod Lawful
 pub mod TagStates
+pub mod BranchHistories

@@ -7,13 +7,13 @@ use Rattle.ice_ids.specs.declared.Id12.{Id12}
 use Rattle.snapshot_file.specs.declared.snapshot.SnapshotFile.{SnapshotFile}
 use Rattle.repo_objects.specs.declared.bad.Bad.{Bad}
 use Rattle.repo_objects.specs.Readings.{read_snapshot}
-use Rattle.store_api.specs.declared.keys.Key.TheVariants.{Snapshot}
-use Rattle.store_api.specs.declared.events.Op.{Op}
-use Rattle.store_api.specs.declared.events.Op.TheVariants.{Get, PutNew, PutOver, Remove, RemoveAt, List as ListPart}
-use Rattle.store_api.specs.declared.events.Got.TheVariants.{Found, Absent}
-use Rattle.store_api.specs.declared.events.Reply.{Reply}
-use Rattle.store_api.specs.declared.events.Reply.TheVariants.{Got}
-use Rattle.store_api.specs.declared.events.Event.{Event}
+use Rattle.object_store.specs.declared.keys.Key.TheVariants.{Snapshot}
+use Rattle.object_store.specs.declared.events.Op.{Op}
+use Rattle.object_store.specs.declared.events.Op.TheVariants.{Get, PutNew, PutOver, Remove, RemoveAt, List as ListPart}
+use Rattle.object_store.specs.declared.events.Got.TheVariants.{Found, Absent}
+use Rattle.object_store.specs.declared.events.Reply.{Reply}
+use Rattle.object_store.specs.declared.events.Reply.TheVariants.{Got}
+use Rattle.object_store.specs.declared.events.Event.{Event}
 use Rattle.store_api.specs.declared.machines.Refusal.{Refusal}
 use Rattle.store_api.specs.declared.machines.Refusal.TheVariants as R
 use Rattle.store_api.specs.Journal.{IsPolite}

@@ -4,17 +4,17 @@ use Rattle.std.specs.Prelude.{Result, Ok, Err}
 use Rattle.ice_ids.specs.declared.Id12.{Id12}
 use Rattle.ice_ids.specs.Text.{IsId12}
 use Rattle.ref_file.specs.Refs.{ref_bytes}
-use Rattle.store_api.specs.declared.keys.Key.TheVariants.{Snapshot, Branch}
-use Rattle.store_api.specs.declared.keys.Why.TheVariants.{Create}
-use Rattle.store_api.specs.declared.events.Op.{Op}
-use Rattle.store_api.specs.declared.events.Op.TheVariants.{Get}
-use Rattle.store_api.specs.declared.events.New.TheVariants.{Done as New_done, Present}
-use Rattle.store_api.specs.declared.events.Reply.{Reply}
-use Rattle.store_api.specs.declared.events.Reply.TheVariants.{New, Failed}
-use Rattle.store_api.specs.declared.events.Event.{Event}
+use Rattle.object_store.specs.declared.keys.Key.TheVariants.{Snapshot, Branch}
+use Rattle.object_store.specs.declared.keys.Why.TheVariants.{Create}
+use Rattle.object_store.specs.declared.events.Op.{Op}
+use Rattle.object_store.specs.declared.events.Op.TheVariants.{Get}
+use Rattle.object_store.specs.declared.events.New.TheVariants.{Done as New_done, Present}
+use Rattle.object_store.specs.declared.events.Reply.{Reply}
+use Rattle.object_store.specs.declared.events.Reply.TheVariants.{New, Failed}
+use Rattle.object_store.specs.declared.events.Event.{Event}
 use Rattle.store_api.specs.declared.machines.Refusal.{Refusal}
 use Rattle.store_api.specs.declared.machines.Refusal.TheVariants as R
-use Rattle.store_api.specs.Machine.{found}
+use Rattle.object_store.specs.Machine.{found}
 use Rattle.store_api.specs.Journal.{WasPut}
 use Rattle.store_api.specs.Callers.{Caller, Makes}
 use Rattle.store_api.specs.Program.{Done, Leads, Keeps}

@@ -5,15 +5,15 @@ use Rattle.ice_base.specs.Names.{main_name}
 use Rattle.ice_ids.specs.Text.{initial_id}
 use Rattle.ref_file.specs.Refs.{ref_bytes}
 use Rattle.repo_objects.specs.Laws.{initial_bytes}
-use Rattle.store_api.specs.declared.keys.Key.TheVariants.{Snapshot, Branch}
-use Rattle.store_api.specs.declared.keys.Why.TheVariants.{Init}
-use Rattle.store_api.specs.declared.events.New.{New}
-use Rattle.store_api.specs.declared.events.New.TheVariants.{Done as New_done, Present}
-use Rattle.store_api.specs.declared.events.Reply.{Reply}
-use Rattle.store_api.specs.declared.events.Reply.TheVariants.{Got, New as Is_new, Over, Gone, GoneAt, Listed, Failed}
-use Rattle.store_api.specs.declared.events.Event.{Event}
+use Rattle.object_store.specs.declared.keys.Key.TheVariants.{Snapshot, Branch}
+use Rattle.object_store.specs.declared.keys.Why.TheVariants.{Init}
+use Rattle.object_store.specs.declared.events.New.{New}
+use Rattle.object_store.specs.declared.events.New.TheVariants.{Done as New_done, Present}
+use Rattle.object_store.specs.declared.events.Reply.{Reply}
+use Rattle.object_store.specs.declared.events.Reply.TheVariants.{Got, New as Is_new, Over, Gone, GoneAt, Listed, Failed}
+use Rattle.object_store.specs.declared.events.Event.{Event}
 use Rattle.store_api.specs.declared.machines.Refusal.{Refusal}
-use Rattle.store_api.specs.Machine.{found}
+use Rattle.object_store.specs.Machine.{found}
 use Rattle.store_api.specs.Callers.{Caller, Makes}
 use Rattle.store_api.specs.Program.{Leads, Keeps}
 use Rattle.store_api.specs.Running.{Program, on_answer, StaysPolite}

@@ -7,25 +7,25 @@ use Rattle.ice_ids.specs.Text.{IsId12}
 use Rattle.ref_file.specs.Refs.{ref_bytes}
 use Rattle.repo_objects.specs.declared.bad.Bad.{Bad}
 use Rattle.repo_objects.specs.Readings.{read_ref}
-use Rattle.store_api.specs.declared.keys.Key.TheVariants.{Snapshot, Branch}
-use Rattle.store_api.specs.declared.keys.Why.TheVariants.{Reset}
-use Rattle.store_api.specs.declared.events.Version.{Version}
-use Rattle.store_api.specs.declared.events.Op.{Op}
-use Rattle.store_api.specs.declared.events.Op.TheVariants.{Get}
-use Rattle.store_api.specs.declared.events.Got.TheVariants.{Found, Absent}
-use Rattle.store_api.specs.declared.events.Over.TheVariants.{Done as Over_done, Moved as Over_moved}
-use Rattle.store_api.specs.declared.events.Reply.{Reply}
-use Rattle.store_api.specs.declared.events.Reply.TheVariants.{Got, Over, Failed}
-use Rattle.store_api.specs.declared.events.Event.{Event}
+use Rattle.object_store.specs.declared.keys.Key.TheVariants.{Snapshot, Branch}
+use Rattle.object_store.specs.declared.keys.Why.TheVariants.{Reset}
+use Rattle.object_store.specs.declared.events.Version.{Version}
+use Rattle.object_store.specs.declared.events.Op.{Op}
+use Rattle.object_store.specs.declared.events.Op.TheVariants.{Get}
+use Rattle.object_store.specs.declared.events.Got.TheVariants.{Found, Absent}
+use Rattle.object_store.specs.declared.events.Over.TheVariants.{Done as Over_done, Moved as Over_moved}
+use Rattle.object_store.specs.declared.events.Reply.{Reply}
+use Rattle.object_store.specs.declared.events.Reply.TheVariants.{Got, Over, Failed}
+use Rattle.object_store.specs.declared.events.Event.{Event}
 use Rattle.store_api.specs.declared.machines.Refusal.{Refusal}
 use Rattle.store_api.specs.declared.machines.Refusal.TheVariants as R
-use Rattle.store_api.specs.Machine.{found}
+use Rattle.object_store.specs.Machine.{found}
 use Rattle.store_api.specs.Journal.{WasPut, StoodAt}
 use Rattle.store_api.specs.Callers.{Caller, Makes, own_event}
 use Rattle.store_api.specs.Program.{Done, Leads, Keeps}
 use Rattle.store_api.specs.Running.{Program, on_answer, StaysPolite}
 use Rattle.store_api.proofs.Programs.{Leads-bind}
-use Rattle.store_api.proofs.Slots.{StoodAt-append}
+use Rattle.object_store.proofs.Slots.{StoodAt-append}
 use Rattle.repo_read.specs.declared.answers.Resolved.{Resolved}
 use Rattle.repo_read.specs.Answers.{at_key, resolved_at, ref_told}
 use Rattle.store_api.specs.Telling.{GetsOf, MadeGets, WasGot}

@@ -2,14 +2,14 @@
 use Rattle.std.proofs.Common.{◌≡◌, ℕ, true, List, [], ◌∷◌, ◌++◌, length, refl, sym, ◌∙◌, ap, subst, append_assoc, append-nil}
 use Rattle.std.specs.Prelude.{Option, Some}
 use Rattle.ice_base.specs.Names.{main_name}
-use Rattle.store_api.specs.declared.keys.Key.{Key}
-use Rattle.store_api.specs.declared.keys.Key.TheVariants.{Branch}
-use Rattle.store_api.specs.declared.events.Op.{Op}
-use Rattle.store_api.specs.declared.events.Op.TheVariants.{Get, PutNew, PutOver, Remove, RemoveAt, List as ListPart}
-use Rattle.store_api.specs.declared.events.Event.{Event}
-use Rattle.store_api.specs.Machine.{Stored, Slot, slot_of, found, leaves, put_at, is_on}
+use Rattle.object_store.specs.declared.keys.Key.{Key}
+use Rattle.object_store.specs.declared.keys.Key.TheVariants.{Branch}
+use Rattle.object_store.specs.declared.events.Op.{Op}
+use Rattle.object_store.specs.declared.events.Op.TheVariants.{Get, PutNew, PutOver, Remove, RemoveAt, List as ListPart}
+use Rattle.object_store.specs.declared.events.Event.{Event}
+use Rattle.object_store.specs.Machine.{Stored, Slot, slot_of, found, leaves, put_at, is_on}
 use Rattle.store_api.specs.Journal.{Each, IsGood, IsPolite, MayRemove, MayRemoveAt}
-use Rattle.store_api.proofs.Slots.{same_key-true, effect-cases, free-cases, old-cases}
+use Rattle.object_store.proofs.Slots.{same_key-true, effect-cases, free-cases, old-cases}
 use Rattle.repo_read.proofs.Stays.{found-one, tag-stays, gone-stays}
 use Rattle.refs_admin.specs.Laws.{TagsStay, MainStays}
 

@@ -5,19 +5,19 @@ use Rattle.std.specs.Result.{result_ok}
 use Rattle.ice_ids.specs.declared.Id12.{Id12}
 use Rattle.zarr_tree.specs.Trees.{Tree}
 use Rattle.repo_objects.specs.Readings.{ref_of}
-use Rattle.store_api.specs.declared.keys.Key.TheVariants.{Tag, TagGone as Tombstone}
-use Rattle.store_api.specs.declared.events.Version.{Version}
-use Rattle.store_api.specs.declared.events.Op.{Op}
-use Rattle.store_api.specs.declared.events.Op.TheVariants.{Get}
-use Rattle.store_api.specs.declared.events.Got.{Got}
-use Rattle.store_api.specs.declared.events.Got.TheVariants.{Found}
-use Rattle.store_api.specs.declared.events.Reply.{Reply}
-use Rattle.store_api.specs.declared.events.Reply.TheVariants.{Got as Is_got}
-use Rattle.store_api.specs.declared.events.Event.{Event}
-use Rattle.store_api.specs.Machine.{Stored, found, version_at, UnlessFailed}
+use Rattle.object_store.specs.declared.keys.Key.TheVariants.{Tag, TagGone as Tombstone}
+use Rattle.object_store.specs.declared.events.Version.{Version}
+use Rattle.object_store.specs.declared.events.Op.{Op}
+use Rattle.object_store.specs.declared.events.Op.TheVariants.{Get}
+use Rattle.object_store.specs.declared.events.Got.{Got}
+use Rattle.object_store.specs.declared.events.Got.TheVariants.{Found}
+use Rattle.object_store.specs.declared.events.Reply.{Reply}
+use Rattle.object_store.specs.declared.events.Reply.TheVariants.{Got as Is_got}
+use Rattle.object_store.specs.declared.events.Event.{Event}
+use Rattle.object_store.specs.Machine.{Stored, found, version_at, UnlessFailed}
 use Rattle.store_api.specs.Journal.{Each, IsGood, IsGoodJournal}
 use Rattle.store_api.specs.Telling.{HasOwn, WasGot, WasPresent}
-use Rattle.store_api.proofs.Journals.{Each-back, Each-at}
+use Rattle.object_store.proofs.Journals.{Each-back, Each-at}
 use Rattle.histories.specs.Repository.{Entry}
 use Rattle.histories.specs.Calls.{HasItsTree, StandsAs}
 use Rattle.histories.specs.Tags.{TagState, Absent, Stands, Gone, made_as, Open, Make, Drop, Opened, RefExists, tag_answer, GoesOnAs}

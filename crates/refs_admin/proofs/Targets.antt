@@ -9,13 +9,13 @@ use Rattle.snapshot_file.specs.declared.snapshot.SnapshotFile.{SnapshotFile}
 use Rattle.repo_objects.specs.declared.bad.Bad.{Bad}
 use Rattle.repo_objects.specs.Readings.{read_snapshot, snapshot_by}
 use Rattle.repo_objects.specs.Laws.{SnapshotLaw, RefLaw, InitialLaw}
-use Rattle.store_api.specs.declared.keys.Key.TheVariants.{Snapshot}
-use Rattle.store_api.specs.declared.events.Op.{Op}
-use Rattle.store_api.specs.declared.events.Op.TheVariants.{Get}
-use Rattle.store_api.specs.declared.events.Got.TheVariants.{Found, Absent}
-use Rattle.store_api.specs.declared.events.Reply.{Reply}
-use Rattle.store_api.specs.declared.events.Reply.TheVariants.{Got, New, Over, Gone, GoneAt, Listed, Failed}
-use Rattle.store_api.specs.declared.events.Event.{Event}
+use Rattle.object_store.specs.declared.keys.Key.TheVariants.{Snapshot}
+use Rattle.object_store.specs.declared.events.Op.{Op}
+use Rattle.object_store.specs.declared.events.Op.TheVariants.{Get}
+use Rattle.object_store.specs.declared.events.Got.TheVariants.{Found, Absent}
+use Rattle.object_store.specs.declared.events.Reply.{Reply}
+use Rattle.object_store.specs.declared.events.Reply.TheVariants.{Got, New, Over, Gone, GoneAt, Listed, Failed}
+use Rattle.object_store.specs.declared.events.Event.{Event}
 use Rattle.store_api.specs.declared.machines.Refusal.{Refusal}
 use Rattle.store_api.specs.declared.machines.Refusal.TheVariants as R
 use Rattle.store_api.specs.Journal.{WasPut, NamesPut}
@@ -46,10 +46,11 @@ pub names-put : Spelled → (journal : List Event) (id : Id12) → IsId12 id →
 names-put laws journal id i put = record { id = id; reference = laws.reference.written id i; put = put }
 
 -- what was read has its id
+pub read-own : Spelled → (id : Id12) (bytes : List ℕ) (s : SnapshotFile) → snapshot_by id bytes ≡ Some s → IsId12 id
+read-own laws id bytes s read = subst (λ (x : Id12). IsId12 x) (laws.snapshot.own id bytes s read) (laws.snapshot.read id bytes s read).sized.id
+
 read-id : Spelled → (id : Id12) (bytes : List ℕ) (s : SnapshotFile) → read_snapshot id bytes ≡ Ok s → IsId12 id
-read-id laws id bytes s e =
-    let read : snapshot_by id bytes ≡ Some s = ap result_ok e in
-    subst (λ (x : Id12). IsId12 x) (laws.snapshot.own id bytes s read) (laws.snapshot.read id bytes s read).sized.id
+read-id laws id bytes s e = read-own laws id bytes s (ap result_ok e)
 
 -- ---- politeness
 module _ (laws : Spelled) (by : Caller) {B : Type 0} (id : Id12) (p : Program B) (polite : (h : List Event) → IsId12 id → WasPut h (Snapshot id) → StaysPolite by p h) where

@@ -4,16 +4,16 @@ use Rattle.std.specs.Prelude.{map}
 use Rattle.std.proofs.Math.Path.{fun_ext}
 use Rattle.ice_ids.specs.declared.Id12.{Id12}
 use Rattle.snapshot_file.specs.declared.snapshot.SnapshotFile.{SnapshotFile}
-use Rattle.store_api.specs.declared.keys.Key.TheVariants.{Snapshot}
-use Rattle.store_api.specs.declared.events.Event.{Event}
-use Rattle.store_api.specs.declared.events.Op.TheVariants.{Get}
-use Rattle.store_api.specs.declared.events.Reply.{Reply}
-use Rattle.store_api.specs.declared.events.Reply.TheVariants.{Got, New, Over, Gone, GoneAt, Listed, Failed}
+use Rattle.object_store.specs.declared.keys.Key.TheVariants.{Snapshot}
+use Rattle.object_store.specs.declared.events.Event.{Event}
+use Rattle.object_store.specs.declared.events.Op.TheVariants.{Get}
+use Rattle.object_store.specs.declared.events.Reply.{Reply}
+use Rattle.object_store.specs.declared.events.Reply.TheVariants.{Got, New, Over, Gone, GoneAt, Listed, Failed}
 use Rattle.store_api.specs.declared.machines.Next.{Next}
 use Rattle.store_api.specs.declared.machines.Next.TheVariants.{Again, Ready}
 use Rattle.store_api.specs.declared.machines.Refusal.{Refusal}
 use Rattle.store_api.specs.declared.machines.Refusal.TheVariants as R
-use Rattle.store_api.specs.Program.{Done, Ask, bind, IsAsk, IsDone, NextIsPolite, Lands, is_fault, is_no_memory, is_over, IsSure}
+use Rattle.store_api.specs.Program.{Done, Ask, bind, IsAsk, IsDone, NextIsPolite, Lands, is_fault, is_no_memory, moves_branch, IsSure}
 use Rattle.store_api.specs.Running.{Program, on_answer, ◌>>=◌}
 use Rattle.store_api.specs.Driving.{Asks, Awaits, Took, Heard}
 use Rattle.repo_read.specs.Answers.{snapshot_told, Answers}
@@ -132,7 +132,7 @@ module _ {T : Type 0} (f : Refusal → Refusal) where
   pub first-ok : (p q : Program T) (reply : Reply) (next : Next T) → Took p reply q (Ok next) → Took (refused_first f p) reply q (Ok next)
   first-ok (Done r) q reply next t = absurd t
   first-ok (Ask op k) q reply next t = (
-    heard-map (λ r. Lands (k r) q (Ok next) × (is_over op ≡ true → IsSure (k r) (Ok next))) (λ r. Lands (refused_now f (k r)) q (Ok next) × (is_over op ≡ true → IsSure (refused_now f (k r)) (Ok next)))
+    heard-map (λ r. Lands (k r) q (Ok next) × (moves_branch op ≡ true → IsSure (k r) (Ok next))) (λ r. Lands (refused_now f (k r)) q (Ok next) × (moves_branch op ≡ true → IsSure (refused_now f (k r)) (Ok next)))
         (λ r l. (lands-ok (k r) q next l.0, λ e. tt)) reply t.0,
     t.1,
   )
@@ -140,7 +140,7 @@ module _ {T : Type 0} (f : Refusal → Refusal) where
   pub first-err : (p q : Program T) (reply : Reply) (why : Refusal) → is_no_memory (f why) ≡ is_no_memory why → is_fault (f why) ≡ is_fault why → Took p reply q (Err why) → Took (refused_first f p) reply q (Err (f why))
   first-err (Done r) q reply why n g t = absurd t
   first-err (Ask op k) q reply why n g t = (
-    heard-map (λ r. Lands (k r) q (Err why) × (is_over op ≡ true → IsSure (k r) (Err why))) (λ r. Lands (refused_now f (k r)) q (Err (f why)) × (is_over op ≡ true → IsSure (refused_now f (k r)) (Err (f why))))
+    heard-map (λ r. Lands (k r) q (Err why) × (moves_branch op ≡ true → IsSure (k r) (Err why))) (λ r. Lands (refused_now f (k r)) q (Err (f why)) × (moves_branch op ≡ true → IsSure (refused_now f (k r)) (Err (f why))))
         (λ r l. ((l.0.0, λ e. ap (refused_now f) (l.0.1 (sym n ∙ e))), λ e. ap (refused_now f) (l.1 e))) reply t.0,
     λ e. g ∙ t.1 e,
   )

@@ -3,19 +3,19 @@ use Rattle.std.specs.Prelude.{◌≡◌, ◌≢◌, ◌⊎◌, ℕ, List, length
 use Rattle.ice_base.specs.Names.{main_name}
 use Rattle.ice_ids.specs.declared.Id12.{Id12}
 use Rattle.ref_file.specs.Refs.{ref_bytes}
-use Rattle.store_api.specs.declared.keys.Key.TheVariants.{Branch}
-use Rattle.store_api.specs.declared.keys.Why.TheVariants as why
-use Rattle.store_api.specs.declared.events.Version.{Version}
-use Rattle.store_api.specs.declared.events.Op.{Op}
-use Rattle.store_api.specs.declared.events.Op.TheVariants.{Get, PutNew, PutOver, RemoveAt}
-use Rattle.store_api.specs.declared.events.New.TheVariants.{Done as New_done, Present}
-use Rattle.store_api.specs.declared.events.Over.TheVariants.{Done as Over_done, Moved as Over_moved}
-use Rattle.store_api.specs.declared.events.GoneAt.TheVariants.{Done as Gone_done, Moved as Gone_moved}
-use Rattle.store_api.specs.declared.events.Reply.TheVariants.{New as Is_new, Over as Is_over, GoneAt as Is_gone_at}
-use Rattle.store_api.specs.declared.events.Event.{Event}
+use Rattle.object_store.specs.declared.keys.Key.TheVariants.{Branch}
+use Rattle.object_store.specs.declared.keys.Why.TheVariants as why
+use Rattle.object_store.specs.declared.events.Version.{Version}
+use Rattle.object_store.specs.declared.events.Op.{Op}
+use Rattle.object_store.specs.declared.events.Op.TheVariants.{Get, PutNew, PutOver, RemoveAt}
+use Rattle.object_store.specs.declared.events.New.TheVariants.{Done as New_done, Present}
+use Rattle.object_store.specs.declared.events.Over.TheVariants.{Done as Over_done, Moved as Over_moved}
+use Rattle.object_store.specs.declared.events.GoneAt.TheVariants.{Done as Gone_done, Moved as Gone_moved}
+use Rattle.object_store.specs.declared.events.Reply.TheVariants.{New as Is_new, Over as Is_over, GoneAt as Is_gone_at}
+use Rattle.object_store.specs.declared.events.Event.{Event}
 use Rattle.store_api.specs.declared.machines.Refusal.{Refusal}
 use Rattle.store_api.specs.declared.machines.Refusal.TheVariants as R
-use Rattle.store_api.specs.Machine.{found, version_at}
+use Rattle.object_store.specs.Machine.{found, version_at}
 use Rattle.store_api.specs.Telling.{GetsOf, HasMovedOn, MadeGets, MadeOne, RefWasBad, StandsAt, WasAbsent, WasFailure, WasRef}
 use Rattle.repo_read.specs.declared.resolving.At.{At}
 use Rattle.repo_read.specs.Naming.{WasNothing, WasUnnamed, IsNaming, TargetWasAbsent, TargetWasBad}

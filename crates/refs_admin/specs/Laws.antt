@@ -1,9 +1,9 @@
 -- Laws of refs: tags and `main` stay; and whatever others do, each operation of a call is polite, and the answer tells the journal.
 use Rattle.std.specs.Prelude.{◌≡◌, ℕ, List, ◌++◌, Some}
 use Rattle.ice_base.specs.Names.{main_name}
-use Rattle.store_api.specs.declared.keys.Key.TheVariants.{Branch, Tag, TagGone}
-use Rattle.store_api.specs.declared.events.Event.{Event}
-use Rattle.store_api.specs.Machine.{Stored, found}
+use Rattle.object_store.specs.declared.keys.Key.TheVariants.{Branch, Tag, TagGone}
+use Rattle.object_store.specs.declared.events.Event.{Event}
+use Rattle.object_store.specs.Machine.{Stored, found}
 use Rattle.store_api.specs.Journal.{Each, IsGood}
 use Rattle.store_api.specs.Callers.{Caller}
 use Rattle.store_api.specs.Telling.{IsTold}

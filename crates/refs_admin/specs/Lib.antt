@@ -9,5 +9,6 @@ pub mod TagTelling
 pub mod InitTelling
 pub mod LogTelling
 pub mod TagStates
+pub mod BranchHistories
 pub mod Laws
 pub mod inside

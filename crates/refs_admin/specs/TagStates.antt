@@ -4,10 +4,10 @@ use Rattle.std.specs.Prelude.{◌≡◌, ℕ, List, Option}
 use Rattle.ice_ids.specs.declared.Id12.{Id12}
 use Rattle.zarr_tree.specs.Trees.{Tree}
 use Rattle.repo_objects.specs.declared.bad.Bad.{Bad}
-use Rattle.store_api.specs.declared.keys.Key.{Key}
-use Rattle.store_api.specs.declared.keys.Key.TheVariants.{Tag, TagGone as Tombstone}
-use Rattle.store_api.specs.declared.events.Version.{Version}
-use Rattle.store_api.specs.declared.events.Event.{Event}
+use Rattle.object_store.specs.declared.keys.Key.{Key}
+use Rattle.object_store.specs.declared.keys.Key.TheVariants.{Tag, TagGone as Tombstone}
+use Rattle.object_store.specs.declared.events.Version.{Version}
+use Rattle.object_store.specs.declared.events.Event.{Event}
 use Rattle.store_api.specs.Journal.{IsGoodJournal}
 use Rattle.store_api.specs.Telling.{RefWasBad, WasAbsent, WasPresent}
 use Rattle.histories.specs.Tags.{TagCall, Open, Make, Drop, TagAnswer, Opened, Done, NoRef, RefExists, TagGone, tag_answer}

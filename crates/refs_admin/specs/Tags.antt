@@ -3,14 +3,14 @@
 use Rattle.std.specs.Prelude.{ℕ, List, [], Result, Ok, Err}
 use Rattle.ice_ids.specs.declared.Id12.{Id12}
 use Rattle.ref_file.specs.Refs.{ref_bytes}
-use Rattle.store_api.specs.declared.keys.Key.TheVariants.{Tag, TagGone}
-use Rattle.store_api.specs.declared.keys.Why.TheVariants.{Drop, Tag as For_tag}
-use Rattle.store_api.specs.declared.events.Version.{Version}
-use Rattle.store_api.specs.declared.events.Op.TheVariants.{Get, PutNew}
-use Rattle.store_api.specs.declared.events.Got.TheVariants.{Found, Absent}
-use Rattle.store_api.specs.declared.events.New.TheVariants.{Done as New_done, Present}
-use Rattle.store_api.specs.declared.events.Reply.{Reply}
-use Rattle.store_api.specs.declared.events.Reply.TheVariants.{Got, New}
+use Rattle.object_store.specs.declared.keys.Key.TheVariants.{Tag, TagGone}
+use Rattle.object_store.specs.declared.keys.Why.TheVariants.{Drop, Tag as For_tag}
+use Rattle.object_store.specs.declared.events.Version.{Version}
+use Rattle.object_store.specs.declared.events.Op.TheVariants.{Get, PutNew}
+use Rattle.object_store.specs.declared.events.Got.TheVariants.{Found, Absent}
+use Rattle.object_store.specs.declared.events.New.TheVariants.{Done as New_done, Present}
+use Rattle.object_store.specs.declared.events.Reply.{Reply}
+use Rattle.object_store.specs.declared.events.Reply.TheVariants.{Got, New}
 use Rattle.store_api.specs.declared.machines.Refusal.{Refusal}
 use Rattle.store_api.specs.declared.machines.Refusal.TheVariants.{NoRef, BadFile, NoSnapshot, RefExists, TagGone as Tag_gone, StoreFault, NoMemory}
 use Rattle.store_api.specs.Program.{Done, Ask}

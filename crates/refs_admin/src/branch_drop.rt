@@ -47,7 +47,7 @@ impl Machine for BranchDrop {
 
     ghost left = { branch_drop_left };
 
-    ghost keeps = { λ old new. Unit {0} };
+    ghost keeps = { λ result old new. Unit {0} };
 
     ghost may_refuse = { MayRefuseDrop };
 

@@ -44,7 +44,7 @@ impl Machine for BranchNew {
 
     ghost left = { branch_new_left };
 
-    ghost keeps = { λ old new. Unit {0} };
+    ghost keeps = { λ result old new. Unit {0} };
 
     ghost may_refuse = { MayRefuseNew };
 

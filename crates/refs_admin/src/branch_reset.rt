@@ -47,7 +47,7 @@ impl Machine for BranchReset {
 
     ghost left = { branch_reset_left };
 
-    ghost keeps = { λ old new. Unit {0} };
+    ghost keeps = { λ result old new. Unit {0} };
 
     ghost may_refuse = { MayRefuseReset };
 
@@ -76,7 +76,7 @@ impl Machine for BranchReset {
             Moving::Resolving(resolving) => self.on_resolving(resolving, reply),
             Moving::Branch(id) => self.on_branch(id, reply),
             Moving::Target(id, version) => self.on_target(id, version, reply),
-            Moving::Over(_, _) => Ok(Next::Ready(moved(reply)?)),
+            Moving::Over(_, _) => moved(reply).map(Next::Ready),
             Moving::Ended => unreachable!(),
         }
     }

@@ -48,7 +48,7 @@ impl Machine for Init {
 
     ghost left = { init_left };
 
-    ghost keeps = { λ old new. Unit {0} };
+    ghost keeps = { λ result old new. Unit {0} };
 
     ghost may_refuse = { MayRefuseInit };
 

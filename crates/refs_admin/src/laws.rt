@@ -3,6 +3,7 @@
 ghost use Rattle.store_api.specs.Callers.{Caller as TheCaller};
 ghost use Rattle.refs_admin.specs.Laws.{MainStays, RefsLaw, TagsStay};
 ghost use Rattle.refs_admin.specs.TagStates.{TagStatesLaw};
+ghost use Rattle.refs_admin.specs.BranchHistories.{BranchHistoriesLaw};
 
 use repo_objects::{initial_law, ref_law, snapshot_law};
 
@@ -27,3 +28,13 @@ pub fn stays_law()
 pub fn tag_states_law()
     ensures { TagStatesLaw }
 {}
+
+/// In a journal over which the histories run, what the answers of calls on branches tell is what the
+/// branch's history gives, at the client's own event that decided them.
+pub fn branch_histories_law()
+    ensures { BranchHistoriesLaw }
+{
+    snapshot_law();
+    ref_law();
+    initial_law();
+}

@@ -19,7 +19,7 @@ pub use calls::{
     drop_branch, drop_tag, make_branch, make_repository, make_tag, read_log, set_branch,
 };
 pub use init::Init;
-pub use laws::{refs_law, stays_law, tag_states_law};
+pub use laws::{branch_histories_law, refs_law, stays_law, tag_states_law};
 pub use log::{Log, LogLine, LogLines};
 pub use tag_drop::TagDrop;
 pub use tag_new::TagNew;

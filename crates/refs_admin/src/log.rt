@@ -4,7 +4,7 @@ ghost use Rattle.std.specs.Prelude.{◌≡◌, ◌<◌, ◌≤◌, ◌+◌, ◌-
 ghost use Rattle.repo_read.specs.Chains.{most_snapshots};
 ghost use Rattle.store_api.specs.Program.{IsAsk, Lands, Steps, is_fault};
 ghost use Rattle.store_api.specs.Driving.{Awaits, Took, op_of};
-ghost use Rattle.store_api.specs.declared.events.Op.TheVariants as Op;
+ghost use Rattle.object_store.specs.declared.events.Op.TheVariants as Op;
 ghost use Rattle.store_api.specs.declared.machines.Refusal.TheVariants as Refusal;
 ghost use Rattle.repo_read.specs.Resolving.{no_ref};
 ghost use Rattle.refs_admin.specs.Logs.{log_program, line_of, MayRefuseLog};
@@ -108,7 +108,7 @@ impl Machine for Log {
 
     ghost left = { log_left };
 
-    ghost keeps = { λ old new. Unit {0} };
+    ghost keeps = { λ result old new. Unit {0} };
 
     ghost may_refuse = { MayRefuseLog };
 

@@ -40,7 +40,7 @@ impl Machine for TagDrop {
 
     ghost left = { tag_drop_left };
 
-    ghost keeps = { λ old new. Unit {0} };
+    ghost keeps = { λ result old new. Unit {0} };
 
     ghost may_refuse = { MayRefuseRef };
 

@@ -21,14 +21,14 @@ use snapshot_file::{NodeKind, NodeRow, SnapshotFile};
 use std::alloc::Global;
 use std::cmp::Ordering;
 use std::marker::Model;
-use zarr_meta::{Meta, MetaFault, View};
+use zarr_meta::{MetaFault, MetaReader, SharedMeta, View};
 use zarr_tree::{Found, TreeLike};
 
 /// A snapshot that was read, and the metadata of its nodes. Contracts see what the snapshot says.
 #[derive(Debug, Drop)]
 pub struct Loaded {
     file: SnapshotFile,
-    metas: Items<Meta>,
+    metas: Items<SharedMeta>,
 }
 
 impl Model for Loaded {
@@ -80,10 +80,15 @@ impl Loaded {
 }
 
 /// The metadata of row number `at`.
-fn row_meta(alloc: Global, at: usize, row: &NodeRow) -> Result<Meta, Unread>
+fn row_meta(
+    alloc: Global,
+    reader: &mut MetaReader,
+    at: usize,
+    row: &NodeRow,
+) -> Result<SharedMeta, Unread>
     ensures { LoadsMeta at row.now result }
 {
-    let meta = match Meta::read(alloc, row.user_data.as_slice()) {
+    let meta = match reader.read(alloc, row.user_data.as_slice()) {
         Ok(meta) => meta,
         Err(MetaFault::NoMemory) => return Err(Unread::NoMemory),
         Err(fault) => return Err(Unread::Bad(Bad::Node { at, fault })),
@@ -98,13 +103,14 @@ fn row_meta(alloc: Global, at: usize, row: &NodeRow) -> Result<Meta, Unread>
     }
 }
 
-/// The metadata of rows.
-fn read_metas(alloc: Global, rows: &[NodeRow]) -> Result<Items<Meta>, Unread>
+/// The metadata of rows. Rows of the same text share it.
+fn read_metas(alloc: Global, rows: &[NodeRow]) -> Result<Items<SharedMeta>, Unread>
     ensures { LoadsMetas rows.now result }
 {
+    let mut reader = MetaReader::new();
     let mut metas = Vec::with_capacity(alloc, rows.len())?;
     for at in 0..rows.len() {
-        metas.push(row_meta(alloc, at, &rows[at])?)?;
+        metas.push(row_meta(alloc, &mut reader, at, &rows[at])?)?;
     }
     Ok(Items::from_vec(metas))
 }

@@ -1,13 +1,13 @@
 -- What a client's own events tell of the journal, whatever others do.
 use Rattle.std.proofs.Common.{◌≡◌, ℕ, List, [], ◌∷◌, ◌++◌, refl, sym, ◌∙◌, ap, subst, append_assoc, append-nil}
-use Rattle.store_api.specs.declared.keys.Key.{Key}
-use Rattle.store_api.specs.declared.events.Op.{Op}
-use Rattle.store_api.specs.declared.events.Op.TheVariants.{Get}
-use Rattle.store_api.specs.declared.events.Reply.{Reply}
-use Rattle.store_api.specs.declared.events.Event.{Event}
+use Rattle.object_store.specs.declared.keys.Key.{Key}
+use Rattle.object_store.specs.declared.events.Op.{Op}
+use Rattle.object_store.specs.declared.events.Op.TheVariants.{Get}
+use Rattle.object_store.specs.declared.events.Reply.{Reply}
+use Rattle.object_store.specs.declared.events.Event.{Event}
 use Rattle.store_api.specs.Journal.{Each}
 use Rattle.store_api.specs.Callers.{Caller, IsOther, Waits, Makes, own_event}
-use Rattle.store_api.proofs.Journals.{Each-append, Each-weaker, Each-one, Each-none}
+use Rattle.object_store.proofs.Journals.{Each-append, Each-weaker, Each-one, Each-none}
 use Rattle.store_api.specs.Telling.{GetsAlone, HasOwn, MadeGets, MadeOne}
 use Rattle.store_api.proofs.Happening.{HasOwn-append}
 

@@ -1,17 +1,17 @@
 -- Tags and tombstones stay as they were put.
 use Rattle.std.proofs.Common.{◌≡◌, ℕ, true, List, [], ◌∷◌, ◌++◌, length, sym, ◌∙◌, ap, subst, append_assoc, append-nil}
 use Rattle.std.specs.Prelude.{Option, Some}
-use Rattle.store_api.specs.declared.keys.Key.{Key}
-use Rattle.store_api.specs.declared.keys.Key.TheVariants.{Tag, TagGone}
-use Rattle.store_api.specs.declared.keys.Why.{Why}
-use Rattle.store_api.specs.declared.events.Op.{Op}
-use Rattle.store_api.specs.declared.events.Op.TheVariants.{Get, PutNew, PutOver, Remove, RemoveAt, List as ListPart}
-use Rattle.store_api.specs.declared.events.Reply.{Reply}
-use Rattle.store_api.specs.declared.events.Event.{Event}
-use Rattle.store_api.specs.Machine.{Stored, Slot, slot_of, found, leaves, effect, put_at, is_on}
+use Rattle.object_store.specs.declared.keys.Key.{Key}
+use Rattle.object_store.specs.declared.keys.Key.TheVariants.{Tag, TagGone}
+use Rattle.object_store.specs.declared.keys.Why.{Why}
+use Rattle.object_store.specs.declared.events.Op.{Op}
+use Rattle.object_store.specs.declared.events.Op.TheVariants.{Get, PutNew, PutOver, Remove, RemoveAt, List as ListPart}
+use Rattle.object_store.specs.declared.events.Reply.{Reply}
+use Rattle.object_store.specs.declared.events.Event.{Event}
+use Rattle.object_store.specs.Machine.{Stored, Slot, slot_of, found, leaves, effect, put_at, is_on}
 use Rattle.store_api.specs.Journal.{Each, IsGood, IsPolite, MayPutOver, MayRemove, MayRemoveAt}
 use Rattle.store_api.specs.Callers.{Caller, Waits, own_event}
-use Rattle.store_api.proofs.Slots.{same_key-true, effect-cases, free-cases, slot-append_one}
+use Rattle.object_store.proofs.Slots.{same_key-true, effect-cases, free-cases, slot-append_one}
 use Rattle.store_api.proofs.Programs.{good-waits}
 
 pub found-one : (journal : List Event) (event : Event) (key : Key) (o : Option Stored) → (effect key (length journal) (slot_of journal key) event).stands ≡ o → found (journal ++ event ∷ []) key ≡ o

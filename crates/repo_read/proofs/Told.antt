@@ -5,16 +5,16 @@ use Rattle.snapshot_file.specs.declared.snapshot.SnapshotFile.{SnapshotFile}
 use Rattle.txn_file.specs.declared.log.TxnFile.{TxnFile}
 use Rattle.repo_objects.specs.declared.bad.Bad.{Bad}
 use Rattle.repo_objects.specs.Readings.{read_snapshot, read_log, read_ref}
-use Rattle.store_api.specs.declared.keys.Key.{Key}
-use Rattle.store_api.specs.declared.keys.Key.TheVariants.{Snapshot, Txn, Branch}
-use Rattle.store_api.specs.declared.events.Op.TheVariants.{Get}
-use Rattle.store_api.specs.declared.events.Got.{Got as TheGot}
-use Rattle.store_api.specs.declared.events.Got.TheVariants.{Found, Absent}
-use Rattle.store_api.specs.declared.events.Reply.{Reply}
-use Rattle.store_api.specs.declared.events.Reply.TheVariants.{Got, New, Over, Gone, GoneAt, Listed, Failed}
+use Rattle.object_store.specs.declared.keys.Key.{Key}
+use Rattle.object_store.specs.declared.keys.Key.TheVariants.{Snapshot, Txn, Branch}
+use Rattle.object_store.specs.declared.events.Op.TheVariants.{Get}
+use Rattle.object_store.specs.declared.events.Got.{Got as TheGot}
+use Rattle.object_store.specs.declared.events.Got.TheVariants.{Found, Absent}
+use Rattle.object_store.specs.declared.events.Reply.{Reply}
+use Rattle.object_store.specs.declared.events.Reply.TheVariants.{Got, New, Over, Gone, GoneAt, Listed, Failed}
 use Rattle.store_api.specs.declared.machines.Next.{Next}
 use Rattle.store_api.specs.declared.machines.Refusal.{Refusal}
-use Rattle.store_api.specs.declared.machines.Refusal.TheVariants.{StoreFault}
+use Rattle.store_api.specs.declared.machines.Refusal.TheVariants.{NoRef, Missing, BadFile, StoreFault, NoMemory}
 use Rattle.store_api.specs.Callers.{Fits}
 use Rattle.store_api.specs.Program.{Ask, IsDone, Lands, IsSure, is_fault, is_no_memory}
 use Rattle.store_api.specs.Running.{Program, on_answer, ◌>>=◌}
@@ -23,23 +23,28 @@ use Rattle.repo_read.specs.declared.answers.Resolved.{Resolved}
 use Rattle.repo_read.specs.Answers.{at_key, resolved_at, ref_told, snapshot_told, log_told, Answers}
 use Rattle.repo_read.specs.Programs.{resolve_program, snapshot_program, log_program}
 
-fault-is : (why : Refusal) → is_fault why ≡ true → why ≡ StoreFault
-fault-is StoreFault e = refl
-fault-is _ e = absurd (cc)
+-- a fault is no want of memory
+fault-has-memory : (why : Refusal) → is_fault why ≡ true → is_no_memory why ≡ false
+fault-has-memory NoMemory e = cc
+fault-has-memory _ e = refl
+
+-- a refusal that is none of the store's isn't told as one
+no-fault : {A : Type 0} (own why : Refusal) → is_fault own ≡ false → ◌≡◌ {A = Result A Refusal} (Err own) (Err why) → is_fault why ≡ false
+no-fault own why calm e = let is : own ≡ why = cc in sym (ap is_fault is) ∙ calm
 
 excused : {T : Type 0} (reply : Reply) (result : Result T Refusal) → IfErr result (λ refusal. is_fault refusal ≡ false) → Excuses reply result
 excused reply (Ok t) f = tt
 excused reply (Err why) f = λ n. f
 
 -- ---- a get of a key that tells so: a fault exactly where it failed
-module _ {A B : Type 0} (key : Key) (told : Reply → Result A Refusal) (f : A → Program B) (fails : (done : Bool) → told (Failed done) ≡ Err StoreFault) (tells : (got : TheGot) → told (Got got) ≡ Err StoreFault → ⊥) where
+module _ {A B : Type 0} (key : Key) (told : Reply → Result A Refusal) (f : A → Program B) (fails : (done : Bool) → told (Failed done) ≡ Err StoreFault) (tells : (got : TheGot) (why : Refusal) → told (Got got) ≡ Err why → is_fault why ≡ false) where
   -- a fault is told only where the get failed
   faultless : (b : Bool) (reply : Reply) (why : Refusal) → is_fault why ≡ b → Fits (Get key) reply → Answers (told reply) (Err why) → has_failed reply ≡ false → is_fault why ≡ false
   faultless false reply why e w t n = e
-  faultless true reply why e w t n = let is = fault-is why e in absurd (by_reply reply w (rw is at t) n)
+  faultless true reply why e w t n = absurd (by_reply reply w (t (fault-has-memory why e)) n)
     where
-      by_reply : (reply : Reply) → Fits (Get key) reply → (false ≡ false → told reply ≡ Err StoreFault) → has_failed reply ≡ false → ⊥
-      by_reply (Got got) w t n = tells got (t refl)
+      by_reply : (reply : Reply) → Fits (Get key) reply → told reply ≡ Err why → has_failed reply ≡ false → ⊥
+      by_reply (Got got) w t n = let no = tells got why t in absurd cc
       by_reply (Failed done) w t n = cc
       by_reply (New new) w t n = w
       by_reply (Over over) w t n = w
@@ -80,13 +85,13 @@ module _ {A B : Type 0} (key : Key) (told : Reply → Result A Refusal) (f : A �
       by_reply (Listed listed) w t = absurd w
 
 -- ---- branches
-ref-tells : (branch : List ℕ) (got : TheGot) → ref_told branch (Got got) ≡ Err StoreFault → ⊥
-ref-tells branch (Found bytes version now) e = by_bytes (read_ref bytes) e
+ref-tells : (branch : List ℕ) (got : TheGot) (why : Refusal) → ref_told branch (Got got) ≡ Err why → is_fault why ≡ false
+ref-tells branch (Found bytes version now) why e = by_bytes (read_ref bytes) e
   where
-    by_bytes : (r : Result Id12 Bad) → resolved_at version (at_key (Branch branch) r) ≡ Err StoreFault → ⊥
+    by_bytes : (r : Result Id12 Bad) → resolved_at version (at_key (Branch branch) r) ≡ Err why → is_fault why ≡ false
     by_bytes (Ok id) e = cc
-    by_bytes (Err bad) e = cc
-ref-tells branch (Absent now) e = cc
+    by_bytes (Err bad) e = no-fault (BadFile (Branch branch) bad) why refl e
+ref-tells branch (Absent now) why e = no-fault NoRef why refl e
 
 module _ {B : Type 0} (branch : List ℕ) (reply : Reply) (f : Resolved → Program B) (w : Fits (Get (Branch branch)) reply) where
   pub ref-refused : (why : Refusal) → Answers {A = Resolved} (ref_told branch reply) (Err why) → (q : Program B) → IsDone q → Took (resolve_program branch >>= f) reply q (Err why)
@@ -96,13 +101,13 @@ module _ {B : Type 0} (branch : List ℕ) (reply : Reply) (f : Resolved → Prog
   ref-went named t q result l n = went (Branch branch) (ref_told branch) f (λ done. refl) (ref-tells branch) reply named w t q result l n
 
 -- ---- snapshots
-snapshot-tells : (id : Id12) (got : TheGot) → snapshot_told id (Got got) ≡ Err StoreFault → ⊥
-snapshot-tells id (Found bytes version now) e = by_bytes (read_snapshot id bytes) e
+snapshot-tells : (id : Id12) (got : TheGot) (why : Refusal) → snapshot_told id (Got got) ≡ Err why → is_fault why ≡ false
+snapshot-tells id (Found bytes version now) why e = by_bytes (read_snapshot id bytes) e
   where
-    by_bytes : (r : Result SnapshotFile Bad) → at_key (Snapshot id) r ≡ Err StoreFault → ⊥
+    by_bytes : (r : Result SnapshotFile Bad) → at_key (Snapshot id) r ≡ Err why → is_fault why ≡ false
     by_bytes (Ok s) e = cc
-    by_bytes (Err bad) e = cc
-snapshot-tells id (Absent now) e = cc
+    by_bytes (Err bad) e = no-fault (BadFile (Snapshot id) bad) why refl e
+snapshot-tells id (Absent now) why e = no-fault (Missing (Snapshot id)) why refl e
 
 module _ {B : Type 0} (id : Id12) (reply : Reply) (f : SnapshotFile → Program B) (w : Fits (Get (Snapshot id)) reply) where
   pub snapshot-refused : (why : Refusal) → Answers {A = SnapshotFile} (snapshot_told id reply) (Err why) → (q : Program B) → IsDone q → Took (snapshot_program id >>= f) reply q (Err why)
@@ -112,13 +117,13 @@ module _ {B : Type 0} (id : Id12) (reply : Reply) (f : SnapshotFile → Program 
   snapshot-went s t q result l n = went (Snapshot id) (snapshot_told id) f (λ done. refl) (snapshot-tells id) reply s w t q result l n
 
 -- ---- logs
-log-tells : (id : Id12) (got : TheGot) → log_told id (Got got) ≡ Err StoreFault → ⊥
-log-tells id (Found bytes version now) e = by_bytes (read_log id bytes) e
+log-tells : (id : Id12) (got : TheGot) (why : Refusal) → log_told id (Got got) ≡ Err why → is_fault why ≡ false
+log-tells id (Found bytes version now) why e = by_bytes (read_log id bytes) e
   where
-    by_bytes : (r : Result TxnFile Bad) → at_key (Txn id) r ≡ Err StoreFault → ⊥
+    by_bytes : (r : Result TxnFile Bad) → at_key (Txn id) r ≡ Err why → is_fault why ≡ false
     by_bytes (Ok log) e = cc
-    by_bytes (Err bad) e = cc
-log-tells id (Absent now) e = cc
+    by_bytes (Err bad) e = no-fault (BadFile (Txn id) bad) why refl e
+log-tells id (Absent now) why e = no-fault (Missing (Txn id)) why refl e
 
 module _ {B : Type 0} (id : Id12) (reply : Reply) (f : TxnFile → Program B) (w : Fits (Get (Txn id)) reply) where
   pub log-refused : (why : Refusal) → Answers {A = TxnFile} (log_told id reply) (Err why) → (q : Program B) → IsDone q → Took (log_program id >>= f) reply q (Err why)

@@ -4,8 +4,8 @@ use Rattle.ice_ids.specs.declared.Id12.{Id12}
 use Rattle.snapshot_file.specs.declared.snapshot.SnapshotFile.{SnapshotFile}
 use Rattle.manifest_file.specs.declared.manifest.ManifestFile.{ManifestFile}
 use Rattle.txn_file.specs.declared.log.TxnFile.{TxnFile}
-use Rattle.store_api.specs.declared.keys.Key.TheVariants.{Snapshot, Manifest, Txn, Chunk, Branch}
-use Rattle.store_api.specs.declared.events.Op.TheVariants.{Get}
+use Rattle.object_store.specs.declared.keys.Key.TheVariants.{Snapshot, Manifest, Txn, Chunk, Branch}
+use Rattle.object_store.specs.declared.events.Op.TheVariants.{Get}
 use Rattle.store_api.specs.declared.machines.Refusal.{Refusal}
 use Rattle.store_api.specs.declared.machines.Refusal.TheVariants.{NoRef, Missing, BadFile, StoreFault, NoMemory}
 use Rattle.store_api.specs.Program.{Done, Ask}

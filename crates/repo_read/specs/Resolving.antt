@@ -3,11 +3,11 @@ use Rattle.std.specs.Prelude.{ℕ, List, Some, None, Result, Ok, Err}
 use Rattle.ice_ids.specs.declared.Id12.{Id12}
 use Rattle.snapshot_file.specs.declared.snapshot.SnapshotFile.{SnapshotFile}
 use Rattle.repo_objects.specs.Readings.{read_ref}
-use Rattle.store_api.specs.declared.keys.Key.TheVariants.{Snapshot, Tag, TagGone}
-use Rattle.store_api.specs.declared.events.Op.TheVariants.{Get}
-use Rattle.store_api.specs.declared.events.Got.TheVariants.{Found, Absent}
-use Rattle.store_api.specs.declared.events.Reply.{Reply}
-use Rattle.store_api.specs.declared.events.Reply.TheVariants.{Got}
+use Rattle.object_store.specs.declared.keys.Key.TheVariants.{Snapshot, Tag, TagGone}
+use Rattle.object_store.specs.declared.events.Op.TheVariants.{Get}
+use Rattle.object_store.specs.declared.events.Got.TheVariants.{Found, Absent}
+use Rattle.object_store.specs.declared.events.Reply.{Reply}
+use Rattle.object_store.specs.declared.events.Reply.TheVariants.{Got}
 use Rattle.store_api.specs.declared.machines.Refusal.{Refusal}
 use Rattle.store_api.specs.declared.machines.Refusal.TheVariants.{NoRef, Missing, BadFile, StoreFault, NoMemory}
 use Rattle.store_api.specs.Program.{Done, Ask}

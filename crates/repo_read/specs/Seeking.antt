@@ -1,9 +1,9 @@
 -- Where a name is resolved, and what is still to be done.
 use Rattle.std.specs.Prelude.{ℕ, Option, Some, None, Result, Ok, Err}
 use Rattle.ice_ids.specs.declared.Id12.{Id12}
-use Rattle.store_api.specs.declared.keys.Key.{Key}
-use Rattle.store_api.specs.declared.keys.Key.TheVariants.{Branch, Tag, TagGone}
-use Rattle.store_api.specs.declared.events.Reply.{Reply}
+use Rattle.object_store.specs.declared.keys.Key.{Key}
+use Rattle.object_store.specs.declared.keys.Key.TheVariants.{Branch, Tag, TagGone}
+use Rattle.object_store.specs.declared.events.Reply.{Reply}
 use Rattle.store_api.specs.declared.machines.Refusal.{Refusal}
 use Rattle.store_api.specs.declared.machines.Refusal.TheVariants.{NoMemory}
 use Rattle.store_api.specs.Program.{Done, Ask}

@@ -33,7 +33,7 @@ impl Machine for Chain {
 
     ghost left = { chain_left };
 
-    ghost keeps = { λ old new. Unit {0} };
+    ghost keeps = { λ result old new. Unit {0} };
 
     ghost may_refuse = { MayRefuseChain };
 

@@ -5,7 +5,7 @@ ghost use Rattle.repo_read.specs.Answers.{Answers};
 ghost use Rattle.repo_read.specs.Programs.{MayRefuseRef};
 ghost use Rattle.store_api.specs.Program.{IsAsk, Steps};
 ghost use Rattle.store_api.specs.Driving.{op_of};
-ghost use Rattle.store_api.specs.declared.events.Op.TheVariants as Op;
+ghost use Rattle.object_store.specs.declared.events.Op.TheVariants as Op;
 ghost use Rattle.repo_read.specs.Resolving.{base_told, resolve_at_program, tag_told, tombstone_told, MayRefuseBase};
 ghost use Rattle.repo_read.specs.Seeking.{key_got, told_next, resolution_at, resolving_left, resolve_rest, resolve_left, known_in};
 
@@ -188,7 +188,7 @@ impl Machine for Resolve {
 
     ghost left = { resolve_left };
 
-    ghost keeps = { λ old new. Unit {0} };
+    ghost keeps = { λ result old new. Unit {0} };
 
     ghost may_refuse = { MayRefuseRef };
 

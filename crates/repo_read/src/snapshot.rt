@@ -26,7 +26,7 @@ impl Machine for ReadSnapshot {
 
     ghost left = { reading_left };
 
-    ghost keeps = { λ old new. Unit {0} };
+    ghost keeps = { λ result old new. Unit {0} };
 
     ghost may_refuse = { MayRefuseObject };
 

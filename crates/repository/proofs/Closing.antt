@@ -8,13 +8,13 @@ use Rattle.std.specs.Cmp.Lexicographic.{slice_cmp}
 use Rattle.std.proofs.lemmas.Option.{slice_get_within}
 use Rattle.ice_ids.specs.declared.Id12.{Id12}
 use Rattle.repo_objects.specs.Readings.{ref_of}
-use Rattle.store_api.specs.declared.keys.Key.{Key}
-use Rattle.store_api.specs.declared.keys.Key.TheVariants.{Snapshot, Manifest, Txn, Chunk, Branch, Tag, TagGone}
-use Rattle.store_api.specs.declared.keys.Part.{Part}
-use Rattle.store_api.specs.declared.keys.Part.TheVariants.{Branches, Tags}
-use Rattle.store_api.specs.declared.events.Entry.{Entry}
-use Rattle.store_api.specs.declared.events.Event.{Event}
-use Rattle.store_api.specs.Machine.{Stored, found, part_of, listing_cmp, IsListing}
+use Rattle.object_store.specs.declared.keys.Key.{Key}
+use Rattle.object_store.specs.declared.keys.Key.TheVariants.{Snapshot, Manifest, Txn, Chunk, Branch, Tag, TagGone, Lease}
+use Rattle.object_store.specs.declared.keys.Part.{Part}
+use Rattle.object_store.specs.declared.keys.Part.TheVariants.{Branches, Tags}
+use Rattle.object_store.specs.declared.events.Entry.{Entry}
+use Rattle.object_store.specs.declared.events.Event.{Event}
+use Rattle.object_store.specs.Machine.{Stored, found, part_of, listing_cmp, IsListing}
 use Rattle.store_api.specs.Program.{Done}
 use Rattle.play_outcome.specs.declared.outcome.RefLine.{RefLine}
 use Rattle.repository.specs.Refs.{refs_program, list_part, read_each, live, is_gone}
@@ -167,10 +167,12 @@ branches-lined at (Txn i) r id = let p = r.part_is in absurd cc
 branches-lined at (Chunk i) r id = let p = r.part_is in absurd cc
 branches-lined at (Tag name) r id = let p = r.part_is in absurd cc
 branches-lined at (TagGone name) r id = let p = r.part_is in absurd cc
+branches-lined at (Lease i) r id = let p = r.part_is in absurd cc
 
 tags-lined : (at : Key → Option Stored) (key : Key) → IsRefIn at Tags key → (id : Id12) → IsLine key id
 tags-lined at (Tag name) r id = tag-lined name id
 tags-lined at (TagGone name) r id = absurd r.not_gone
+tags-lined at (Lease i) r id = let p = r.part_is in absurd cc
 tags-lined at (Branch name) r id = let p = r.part_is in absurd cc
 tags-lined at (Snapshot i) r id = let p = r.part_is in absurd cc
 tags-lined at (Manifest i) r id = let p = r.part_is in absurd cc

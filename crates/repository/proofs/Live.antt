@@ -8,12 +8,12 @@ use Rattle.std.specs.Cmp.Lexicographic.{slice_cmp}
 use Rattle.std.proofs.lemmas.Bool.{cases_lt}
 use Rattle.std.proofs.lemmas.Cmp.{nat_list_cmp_total, tied_itself}
 use Rattle.std.proofs.lemmas.Option.{slice_get_within}
-use Rattle.store_api.specs.declared.keys.Key.{Key}
-use Rattle.store_api.specs.declared.keys.Key.TheVariants.{Snapshot, Manifest, Txn, Chunk, Branch, Tag, TagGone}
-use Rattle.store_api.specs.declared.keys.Part.{Part}
-use Rattle.store_api.specs.declared.events.Entry.{Entry}
-use Rattle.store_api.specs.Machine.{Stored, same_key, part_of, name_of, rank_of, listing_cmp, HasEntry, IsListing}
-use Rattle.store_api.proofs.Slots.{same_key-refl, same_key-true}
+use Rattle.object_store.specs.declared.keys.Key.{Key}
+use Rattle.object_store.specs.declared.keys.Key.TheVariants.{Snapshot, Manifest, Txn, Chunk, Branch, Tag, TagGone, Lease}
+use Rattle.object_store.specs.declared.keys.Part.{Part}
+use Rattle.object_store.specs.declared.events.Entry.{Entry}
+use Rattle.object_store.specs.Machine.{Stored, same_key, part_of, name_of, rank_of, listing_cmp, HasEntry, IsListing}
+use Rattle.object_store.proofs.Slots.{same_key-refl, same_key-true}
 use Rattle.repository.specs.Refs.{live, is_gone}
 use Rattle.repository.specs.Laws.{HasKey, IsNotGone, IsRefIn, LiveLaw}
 
@@ -92,6 +92,7 @@ no-rank (Chunk id) l m = cc
 no-rank (Branch name) l m = cc
 no-rank (Tag name) l m = cc
 no-rank (TagGone name) l m = cc
+no-rank (Lease id) l m = cc
 
 no-order : (o : Ordering) (key : Key) → ordering_then o (nat_cmp 0 (rank_of key)) ≡ Less → ordering_then (ordering_reverse o) (nat_cmp (rank_of key) 1) ≡ Less → ⊥
 no-order Less key l m = cc
@@ -159,6 +160,7 @@ module _ (at : Key → Option Stored) (part : Part) (entries : List Entry) (L : 
   not-gone (Branch name) k e he ke g = tt
   not-gone (Tag name) k e he ke g = gone-none name k e he ke g
   not-gone (TagGone name) k e he ke g = absurd cc
+  not-gone (Lease id) k e he ke g = tt
 
   live-ref : (key : Key) → HasKey (live entries) key → IsRefIn at part key
   live-ref key h =
@@ -190,6 +192,7 @@ module _ (at : Key → Option Stored) (part : Part) (entries : List Entry) (L : 
   stays-key (Branch name) k n = refl
   stays-key (Tag name) k n = stays-tag name k n (drop k entries) refl
   stays-key (TagGone name) k n = absurd n
+  stays-key (Lease id) k n = refl
 
   ref-live : (key : Key) → IsRefIn at part key → HasKey (live entries) key
   ref-live key r =

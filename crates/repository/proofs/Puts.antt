@@ -3,13 +3,13 @@ use Rattle.std.proofs.Common.{ℕ, List, refl}
 use Rattle.ice_ids.specs.Text.{initial_id}
 use Rattle.ref_file.specs.Refs.{ref_bytes}
 use Rattle.repo_objects.specs.Laws.{initial_bytes, InitialLaw, RefLaw}
-use Rattle.store_api.specs.declared.keys.Key.TheVariants.{Snapshot, Branch}
-use Rattle.store_api.specs.declared.keys.Why.TheVariants.{Init}
-use Rattle.store_api.specs.declared.events.Op.{Op}
-use Rattle.store_api.specs.declared.events.Op.TheVariants.{PutNew}
-use Rattle.store_api.specs.declared.events.Reply.{Reply}
-use Rattle.store_api.specs.declared.events.Reply.TheVariants.{Got as Is_got, New as Is_new, Over as Is_over, Gone as Is_gone, GoneAt as Is_gone_at, Listed as Is_listed, Failed}
-use Rattle.store_api.specs.declared.events.Event.{Event}
+use Rattle.object_store.specs.declared.keys.Key.TheVariants.{Snapshot, Branch}
+use Rattle.object_store.specs.declared.keys.Why.TheVariants.{Init}
+use Rattle.object_store.specs.declared.events.Op.{Op}
+use Rattle.object_store.specs.declared.events.Op.TheVariants.{PutNew}
+use Rattle.object_store.specs.declared.events.Reply.{Reply}
+use Rattle.object_store.specs.declared.events.Reply.TheVariants.{Got as Is_got, New as Is_new, Over as Is_over, Gone as Is_gone, GoneAt as Is_gone_at, Listed as Is_listed, Failed}
+use Rattle.object_store.specs.declared.events.Event.{Event}
 use Rattle.store_api.specs.Journal.{WasPut, IsPolite}
 use Rattle.ice_base.specs.Names.{main_name}
 use Rattle.store_api.specs.Callers.{Caller, Makes}

@@ -3,12 +3,12 @@ use Rattle.std.specs.Prelude.{ℕ, List, Ok, Err}
 use Rattle.ice_ids.specs.Text.{initial_id}
 use Rattle.repo_objects.specs.Laws.{initial_bytes}
 use Rattle.ref_file.specs.Refs.{ref_bytes}
-use Rattle.store_api.specs.declared.keys.Key.{Key}
-use Rattle.store_api.specs.declared.keys.Key.TheVariants.{Snapshot, Branch}
-use Rattle.store_api.specs.declared.keys.Why.TheVariants.{Init}
-use Rattle.store_api.specs.declared.events.Op.TheVariants.{PutNew}
-use Rattle.store_api.specs.declared.events.Reply.{Reply}
-use Rattle.store_api.specs.declared.events.Reply.TheVariants.{New as Is_new}
+use Rattle.object_store.specs.declared.keys.Key.{Key}
+use Rattle.object_store.specs.declared.keys.Key.TheVariants.{Snapshot, Branch}
+use Rattle.object_store.specs.declared.keys.Why.TheVariants.{Init}
+use Rattle.object_store.specs.declared.events.Op.TheVariants.{PutNew}
+use Rattle.object_store.specs.declared.events.Reply.{Reply}
+use Rattle.object_store.specs.declared.events.Reply.TheVariants.{New as Is_new}
 use Rattle.store_api.specs.declared.machines.Refusal.{Refusal}
 use Rattle.store_api.specs.declared.machines.Refusal.TheVariants.{StoreFault, NoMemory}
 use Rattle.ice_base.specs.Names.{main_name}

@@ -1,10 +1,10 @@
 -- What a listing tells of the refs that stand (own).
 use Rattle.std.specs.Prelude.{◌≡◌, ◌↔◌, ℕ, List, Option, Some, None, slice_get}
-use Rattle.store_api.specs.declared.keys.Key.{Key}
-use Rattle.store_api.specs.declared.keys.Key.TheVariants.{Tag, TagGone}
-use Rattle.store_api.specs.declared.keys.Part.{Part}
-use Rattle.store_api.specs.declared.events.Entry.{Entry}
-use Rattle.store_api.specs.Machine.{Stored, part_of, IsListing}
+use Rattle.object_store.specs.declared.keys.Key.{Key}
+use Rattle.object_store.specs.declared.keys.Key.TheVariants.{Snapshot, Manifest, Txn, Chunk, Branch, Tag, TagGone, Lease}
+use Rattle.object_store.specs.declared.keys.Part.{Part}
+use Rattle.object_store.specs.declared.events.Entry.{Entry}
+use Rattle.object_store.specs.Machine.{Stored, part_of, IsListing}
 use Rattle.repository.specs.Refs.{live}
 
 -- a place in the list where this key is
@@ -16,7 +16,12 @@ pub record HasKey (keys : List Key) (key : Key) : Type 0 where
 abbrev pub IsNotGone : (Key → Option Stored) → Key → Type 0
 IsNotGone at (TagGone name) = ⊥
 IsNotGone at (Tag name) = at (TagGone name) ≡ None
-IsNotGone at _ = Unit {0}
+IsNotGone at (Snapshot id) = Unit {0}
+IsNotGone at (Manifest id) = Unit {0}
+IsNotGone at (Txn id) = Unit {0}
+IsNotGone at (Chunk id) = Unit {0}
+IsNotGone at (Branch name) = Unit {0}
+IsNotGone at (Lease id) = Unit {0}
 
 -- a key of the part at which something stands, and of tags one without a tombstone
 pub record IsRefIn (at : Key → Option Stored) (part : Part) (key : Key) : Type 0 where

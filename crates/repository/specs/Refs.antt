@@ -4,18 +4,18 @@ use Rattle.std.specs.Prelude.{Bool, true, false, if◌then◌else◌, List, [], 
 use Rattle.ice_ids.specs.declared.Id12.{Id12}
 use Rattle.repo_objects.specs.declared.bad.Bad.{Bad}
 use Rattle.repo_objects.specs.Readings.{read_ref as read_bytes}
-use Rattle.store_api.specs.declared.keys.Key.{Key}
-use Rattle.store_api.specs.declared.keys.Key.TheVariants.{Branch, Tag, TagGone}
-use Rattle.store_api.specs.declared.keys.Part.{Part}
-use Rattle.store_api.specs.declared.keys.Part.TheVariants.{Branches, Tags}
-use Rattle.store_api.specs.declared.events.Op.TheVariants.{Get, List as ListPart}
-use Rattle.store_api.specs.declared.events.Got.TheVariants.{Found, Absent}
-use Rattle.store_api.specs.declared.events.Entry.{Entry}
-use Rattle.store_api.specs.declared.events.Reply.{Reply}
-use Rattle.store_api.specs.declared.events.Reply.TheVariants.{Got as Is_got, Listed as Is_listed}
+use Rattle.object_store.specs.declared.keys.Key.{Key}
+use Rattle.object_store.specs.declared.keys.Key.TheVariants.{Snapshot, Manifest, Txn, Chunk, Branch, Tag, TagGone, Lease}
+use Rattle.object_store.specs.declared.keys.Part.{Part}
+use Rattle.object_store.specs.declared.keys.Part.TheVariants.{Branches, Tags}
+use Rattle.object_store.specs.declared.events.Op.TheVariants.{Get, List as ListPart}
+use Rattle.object_store.specs.declared.events.Got.TheVariants.{Found, Absent}
+use Rattle.object_store.specs.declared.events.Entry.{Entry}
+use Rattle.object_store.specs.declared.events.Reply.{Reply}
+use Rattle.object_store.specs.declared.events.Reply.TheVariants.{Got as Is_got, Listed as Is_listed}
 use Rattle.store_api.specs.declared.machines.Refusal.{Refusal}
 use Rattle.store_api.specs.declared.machines.Refusal.TheVariants.{BadFile, StoreFault, NoMemory}
-use Rattle.store_api.specs.Machine.{same_key}
+use Rattle.object_store.specs.Machine.{same_key}
 use Rattle.store_api.specs.Program.{Done, Ask}
 use Rattle.play_outcome.specs.declared.outcome.RefLine.{RefLine}
 use Rattle.store_api.specs.Running.{Program, ◌>>=◌}
@@ -32,7 +32,13 @@ list_part part = Ask (ListPart part) on_listed
 abbrev pub is_gone : Key → List Entry → Bool
 is_gone (TagGone name) behind = true
 is_gone (Tag name) (next ∷ behind) = same_key next.key (TagGone name)
-is_gone _ _ = false
+is_gone (Tag name) [] = false
+is_gone (Snapshot id) behind = false
+is_gone (Manifest id) behind = false
+is_gone (Txn id) behind = false
+is_gone (Chunk id) behind = false
+is_gone (Branch name) behind = false
+is_gone (Lease id) behind = false
 
 -- the keys of a listing whose refs stand
 abbrev pub live : List Entry → List Key
@@ -44,7 +50,12 @@ live (entry ∷ behind) = if is_gone entry.key behind then live behind else entr
 abbrev pub line_of : Key → Id12 → Option RefLine
 line_of (Branch name) id = Some (record { tag = false; name = name; id = id })
 line_of (Tag name) id = Some (record { tag = true; name = name; id = id })
-line_of _ id = None
+line_of (Snapshot other) id = None
+line_of (Manifest other) id = None
+line_of (Txn other) id = None
+line_of (Chunk other) id = None
+line_of (TagGone name) id = None
+line_of (Lease other) id = None
 
 -- bytes that are no reference are a bad file
 abbrev pub on_id : Key → Result Id12 Bad → Result (Option RefLine) Refusal

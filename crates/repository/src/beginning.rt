@@ -46,7 +46,7 @@ impl Machine for Begin {
 
     ghost left = { begin_left };
 
-    ghost keeps = { λ old new. Unit {0} };
+    ghost keeps = { λ result old new. Unit {0} };
 
     ghost may_refuse = { MayRefuseBegin };
 

@@ -1,7 +1,7 @@
 //! The machine that reads the refs of a repository.
 
 ghost use Rattle.std.specs.Prelude.{◌≡◌, ◌<◌, ◌≤◌, ◌+◌, ◌-◌, drop, length, false, IfOk, IfErr};
-ghost use Rattle.store_api.specs.Machine.{same_key};
+ghost use Rattle.object_store.specs.Machine.{same_key};
 ghost use Rattle.store_api.specs.Program.{IsAsk, Steps, Lands, is_fault};
 ghost use Rattle.repository.specs.Refs.{refs_program, read_each, read_branches, on_got, line_of, live, is_gone, MayRefuseRefs};
 ghost use Rattle.store_api.specs.Driving.{Awaits, Took};
@@ -50,7 +50,7 @@ impl Machine for ReadRefs {
 
     ghost left = { refs_left };
 
-    ghost keeps = { λ old new. Unit {0} };
+    ghost keeps = { λ result old new. Unit {0} };
 
     ghost may_refuse = { MayRefuseRefs };
 
@@ -200,7 +200,8 @@ fn is_gone(key: &Key, behind: &[Entry]) -> bool
     match key {
         Key::TagGone(_) => true,
         Key::Tag(name) => !behind.is_empty() && is_tombstone(&behind[0].key, name),
-        _ => false,
+        Key::Snapshot(_) | Key::Manifest(_) | Key::Txn(_) | Key::Chunk(_) => false,
+        Key::Branch(_) | Key::Lease(_) => false,
     }
 }
 
@@ -209,7 +210,8 @@ fn is_tombstone(key: &Key, name: &RefName) -> bool
 {
     match key {
         Key::TagGone(gone) => gone == name,
-        _ => false,
+        Key::Snapshot(_) | Key::Manifest(_) | Key::Txn(_) | Key::Chunk(_) => false,
+        Key::Branch(_) | Key::Tag(_) | Key::Lease(_) => false,
     }
 }
 
@@ -269,6 +271,7 @@ fn line_of(alloc: Global, key: &Key, id: Id12) -> Result<Option<RefLine>, AllocE
             name: name.copy(alloc)?,
             id,
         })),
-        _ => Ok(None),
+        Key::Snapshot(_) | Key::Manifest(_) | Key::Txn(_) | Key::Chunk(_) => Ok(None),
+        Key::TagGone(_) | Key::Lease(_) => Ok(None),
     }
 }

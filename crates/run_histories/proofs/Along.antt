@@ -9,20 +9,20 @@ use Rattle.ice_ids.specs.declared.drawing.Draw.{Draw}
 use Rattle.ice_ids.specs.Drawing.{IsAmong, DrawsOnce}
 use Rattle.zarr_tree.specs.Changes.{Changes, none}
 use Rattle.repo_objects.specs.Readings.{ref_of}
-use Rattle.store_api.specs.declared.keys.Key.{Key}
-use Rattle.store_api.specs.declared.keys.Key.TheVariants.{Snapshot, Manifest, Txn, Chunk, Branch, Tag, TagGone}
-use Rattle.store_api.specs.declared.keys.Why.{Why}
-use Rattle.store_api.specs.declared.keys.Why.TheVariants.{Commit}
-use Rattle.store_api.specs.declared.events.Version.{Version}
-use Rattle.store_api.specs.declared.events.Op.{Op}
-use Rattle.store_api.specs.declared.events.Op.TheVariants.{Get, PutNew, PutOver, Remove, RemoveAt, List as ListPart}
-use Rattle.store_api.specs.declared.events.Event.{Event}
-use Rattle.store_api.specs.Machine.{Slot, slot_of, leaves, put_at, is_on}
+use Rattle.object_store.specs.declared.keys.Key.{Key}
+use Rattle.object_store.specs.declared.keys.Key.TheVariants.{Snapshot, Manifest, Txn, Chunk, Branch, Tag, TagGone, Lease}
+use Rattle.object_store.specs.declared.keys.Why.{Why}
+use Rattle.object_store.specs.declared.keys.Why.TheVariants.{Commit}
+use Rattle.object_store.specs.declared.events.Version.{Version}
+use Rattle.object_store.specs.declared.events.Op.{Op}
+use Rattle.object_store.specs.declared.events.Op.TheVariants.{Get, PutNew, PutOver, Remove, RemoveAt, List as ListPart}
+use Rattle.object_store.specs.declared.events.Event.{Event}
+use Rattle.object_store.specs.Machine.{Slot, slot_of, leaves, put_at, is_on}
 use Rattle.store_api.specs.Journal.{Each, puts_of, IsGood, IsOnce, IsFirst, IsUnused}
 use Rattle.store_api.specs.Laws.{PutsOnce}
-use Rattle.store_api.proofs.Journals.{Each-append}
+use Rattle.object_store.proofs.Journals.{Each-append}
 use Rattle.store_api.proofs.Once.{first-law}
-use Rattle.store_api.proofs.Slots.{effect-cases, free-cases, old-cases, same_key-true, slot-append_one}
+use Rattle.object_store.proofs.Slots.{effect-cases, free-cases, old-cases, same_key-true, slot-append_one}
 use Rattle.histories.proofs.Choosing.{Knows}
 use Rattle.session.specs.Sessions.{changes_in}
 use Rattle.session.specs.Sources.{MayDrawObject}
@@ -33,7 +33,8 @@ use Rattle.play_script.specs.declared.scripts.Head.{Head}
 use Rattle.play_script.specs.declared.scripts.Head.TheVariants.{Session, Refs}
 use Rattle.play_script.specs.declared.scripts.Task.{Task}
 use Rattle.play_script.specs.Well.{IsWellTask}
-use Rattle.play_tasks.specs.Owing.{OwesBy}
+use Rattle.commit_path.specs.Own.{IsOwnCommit, OwesOwn}
+use Rattle.play_tasks.specs.Owing.{OwesBy, OwesOwnBy}
 use Rattle.play_tasks.specs.Solving.{IsOfTask}
 use Rattle.play_tasks.specs.Tasks.{ids_at, IsOfClient}
 use Rattle.run_histories.specs.Sources.{ObjectsAreNew}
@@ -41,8 +42,7 @@ use Rattle.run_histories.specs.Told.{IsOfSession, CommitsSession}
 use Rattle.run_histories.proofs.Sources.{object-not_initial}
 use Rattle.run_histories.proofs.Carrying.{task-object}
 use Rattle.run_histories.proofs.Drawing.{are-among, ids_at-of}
-use Rattle.run_histories.proofs.Programs.{IsBranch, IsPlain}
-use Rattle.run_histories.proofs.Origins.{PutsOverSnapshot}
+use Rattle.run_histories.proofs.Programs.{IsBranch, IsPlain, IsPlainOrCut, PutsOverSnapshot}
 
 -- ---- a key from which nothing is removed
 abbrev Unused : Slot → Type 0
@@ -70,6 +70,7 @@ no-object (Txn id) b o = b
 no-object (Chunk id) b o = b
 no-object (Tag name) b o = b
 no-object (TagGone name) b o = b
+no-object (Lease id) b o = b
 
 leaves-unused : (key : Key) → IsObject key → (op : Op) (n time : ℕ) (slot : Slot) → ¬ Removes op → is_on key op ≡ true → Unused slot → Unused (leaves n time op slot)
 leaves-unused key object (Get k) n time slot none on u = u
@@ -98,16 +99,21 @@ objects-one ids journal event k new id d =
 abbrev pub AllObjectsAreNew : Draw → List Task → List Event → Type 0
 AllObjectsAreNew draw tasks journal = (place : ℕ) → place < length tasks → ObjectsAreNew (ids_at draw place) journal
 
+-- where the event is a commit, it is its client's own
+abbrev pub CommitsOwn : (start journal : List Event) → Event → Type 0
+CommitsOwn start journal event = (branch bytes : List ℕ) (old : Version) → event.op ≡ PutOver (Branch branch) bytes old Commit → IsOwnCommit event.client bytes start journal
+
 -- ---- an event of a run
--- it is good, it removes no object and puts no snapshot over, it puts what wasn't put before, where its clients' objects are new, and its changes are known
+-- it is good, it removes no object, it puts what wasn't put before, where its clients' objects are new, its changes are known, and a commit is its
+-- client's own
 pub record Fits (draw : Draw) (tasks : List Task) (start journal : List Event) (event : Event) : Type 0 where
   pub good : IsGood journal event
   pub keeps : ¬ Removes event.op
-  pub uncut : ¬ PutsOverSnapshot event.op
   pub first : AllObjectsAreNew draw tasks journal → IsOnce journal → IsFirst journal event
   pub knows : IsOnce journal → Knows (λ h e c. CommitsSession draw tasks start c h e.client e.op) journal event
+  pub own : CommitsOwn start journal event
 
--- of the opening, the closing reading, or a task on refs
+-- of the opening, the closing reading, or a task on refs; or a cut
 plain-keeps : (op : Op) → IsPlain op → ¬ Removes op
 plain-keeps (Get key) p r = r
 plain-keeps (PutNew key bytes why) p r = r
@@ -116,19 +122,17 @@ plain-keeps (Remove key why) p r = p
 plain-keeps (RemoveAt key old why) p r = no-object key p r
 plain-keeps (ListPart part) p r = r
 
-plain-uncut : (op : Op) → IsPlain op → ¬ PutsOverSnapshot op
-plain-uncut (Get key) p c = c
-plain-uncut (PutNew key bytes why) p c = c
-plain-uncut (PutOver (Branch name) bytes old why) p c = c
-plain-uncut (PutOver (Snapshot id) bytes old why) p c = p.0
-plain-uncut (PutOver (Txn id) bytes old why) p c = c
-plain-uncut (PutOver (Manifest id) bytes old why) p c = c
-plain-uncut (PutOver (Chunk id) bytes old why) p c = c
-plain-uncut (PutOver (Tag name) bytes old why) p c = c
-plain-uncut (PutOver (TagGone name) bytes old why) p c = c
-plain-uncut (Remove key why) p c = c
-plain-uncut (RemoveAt key old why) p c = c
-plain-uncut (ListPart part) p c = c
+cut-keeps : (op : Op) → PutsOverSnapshot op → ¬ Removes op
+cut-keeps (Get key) c r = r
+cut-keeps (PutNew key bytes why) c r = r
+cut-keeps (PutOver key bytes old why) c r = r
+cut-keeps (Remove key why) c r = c
+cut-keeps (RemoveAt key old why) c r = c
+cut-keeps (ListPart part) c r = r
+
+either-keeps : (op : Op) → IsPlainOrCut op → ¬ Removes op
+either-keeps op (inl p) = plain-keeps op p
+either-keeps op (inr c) = cut-keeps op c
 
 plain-once : (journal : List Event) (op : Op) → IsPlain op → PutsOnce journal op
 plain-once journal (Get key) p = tt
@@ -139,26 +143,40 @@ plain-once journal (PutNew (Txn id) bytes why) p = absurd p
 plain-once journal (PutNew (Chunk id) bytes why) p = absurd p
 plain-once journal (PutNew (Tag name) bytes why) p = tt
 plain-once journal (PutNew (TagGone name) bytes why) p = tt
+plain-once journal (PutNew (Lease id) bytes why) p = tt
 plain-once journal (PutOver key bytes old why) p = tt
 plain-once journal (Remove key why) p = tt
 plain-once journal (RemoveAt key old why) p = tt
 plain-once journal (ListPart part) p = tt
 
+cut-once : (journal : List Event) (op : Op) → PutsOverSnapshot op → PutsOnce journal op
+cut-once journal (Get key) c = tt
+cut-once journal (PutNew key bytes why) c = absurd c
+cut-once journal (PutOver key bytes old why) c = tt
+cut-once journal (Remove key why) c = tt
+cut-once journal (RemoveAt key old why) c = tt
+cut-once journal (ListPart part) c = tt
+
+either-once : (journal : List Event) (op : Op) → IsPlainOrCut op → PutsOnce journal op
+either-once journal op (inl p) = plain-once journal op p
+either-once journal op (inr c) = cut-once journal op c
+
 -- it is no commit
-pub plain-no-commit : (op : Op) (branch bytes : List ℕ) (old : Version) → IsPlain op → op ≡ PutOver (Branch branch) bytes old Commit → ⊥
-plain-no-commit op branch bytes old p e = let reset = (subst IsPlain e p).1 in cc
+pub plain-no-commit : (op : Op) (branch bytes : List ℕ) (old : Version) → IsPlainOrCut op → op ≡ PutOver (Branch branch) bytes old Commit → ⊥
+plain-no-commit op branch bytes old (inl p) e = let reset = (subst IsPlain e p).1 in cc
+plain-no-commit op branch bytes old (inr c) e = subst PutsOverSnapshot e c
 
 module _ (draw : Draw) (tasks : List Task) where
-  plain-none : (start journal : List Event) (client : ℕ) (op : Op) → IsPlain op → CommitsSession draw tasks start none journal client op
+  plain-none : (start journal : List Event) (client : ℕ) (op : Op) → IsPlainOrCut op → CommitsSession draw tasks start none journal client op
   plain-none start journal client op p branch bytes old id e names = absurd (plain-no-commit op branch bytes old p e)
 
-  pub plain-fits : (start journal : List Event) (event : Event) → IsGood journal event → IsPlain event.op → Fits draw tasks start journal event
+  pub plain-fits : (start journal : List Event) (event : Event) → IsGood journal event → IsPlainOrCut event.op → Fits draw tasks start journal event
   plain-fits start journal event good p = record {
     good = good;
-    keeps = plain-keeps event.op p;
-    uncut = plain-uncut event.op p;
-    first = λ new once d. first-law journal event.op once good.polite (plain-once journal event.op p);
+    keeps = either-keeps event.op p;
+    first = λ new once d. first-law journal event.op once good.polite (either-once journal event.op p);
     knows = λ once. (none, plain-none start journal event.client event.op p);
+    own = λ branch bytes old e. absurd (plain-no-commit event.op branch bytes old p e);
   }
 
 -- an event of a task that opens a session
@@ -170,6 +188,7 @@ pub record IsOfOpener (draw : Draw) (tasks : List Task) (start journal : List Ev
   pub access : Access
   pub head_is : task.head ≡ Session access
   pub careful : IsCarefulEvent (ids_at draw place) (IsOfTask (ids_at draw place) task (place + 1) start) journal event
+  pub own : OwesOwn (ids_at draw place) (place + 1) start event.op journal
 
 -- what a task on refs owes is plain
 owes-plain : (op : Op) → OwesRefs op → IsPlain op
@@ -177,6 +196,7 @@ owes-plain (Get key) o = tt
 owes-plain (PutNew (Branch name) bytes why) o = tt
 owes-plain (PutNew (Tag name) bytes why) o = tt
 owes-plain (PutNew (TagGone name) bytes why) o = tt
+owes-plain (PutNew (Lease id) bytes why) o = absurd o
 owes-plain (PutNew (Snapshot id) bytes why) o = absurd o
 owes-plain (PutNew (Manifest id) bytes why) o = absurd o
 owes-plain (PutNew (Txn id) bytes why) o = absurd o
@@ -188,6 +208,7 @@ owes-plain (PutOver (Txn id) bytes old why) o = absurd o
 owes-plain (PutOver (Chunk id) bytes old why) o = absurd o
 owes-plain (PutOver (Tag name) bytes old why) o = absurd o
 owes-plain (PutOver (TagGone name) bytes old why) o = absurd o
+owes-plain (PutOver (Lease id) bytes old why) o = absurd o
 owes-plain (Remove key why) o = absurd o
 owes-plain (RemoveAt (Branch name) old why) o = tt
 owes-plain (RemoveAt (Snapshot id) old why) o = absurd o
@@ -196,15 +217,16 @@ owes-plain (RemoveAt (Txn id) old why) o = absurd o
 owes-plain (RemoveAt (Chunk id) old why) o = absurd o
 owes-plain (RemoveAt (Tag name) old why) o = absurd o
 owes-plain (RemoveAt (TagGone name) old why) o = absurd o
+owes-plain (RemoveAt (Lease id) old why) o = absurd o
 owes-plain (ListPart part) o = tt
 
 -- each event of a client is of a task that opens a session, or plain
 pub by-head : (draw : Draw) (tasks : List Task) (start journal : List Event) (event : Event) → IsOfClient draw tasks start journal event → IsOfOpener draw tasks start journal event ⊎ (IsGood journal event × IsPlain event.op)
-by-head draw tasks start journal event c = by_cases c.task.head refl c.careful.owes
+by-head draw tasks start journal event c = by_cases c.task.head refl c.careful.owes c.careful.own
   where
-    by_cases : (head : Head) → c.task.head ≡ head → OwesBy head (ids_at draw c.place) c.task (c.place + 1) start journal event.op → IsOfOpener draw tasks start journal event ⊎ (IsGood journal event × IsPlain event.op)
-    by_cases (Session access) e o = inl (record { place = c.place; task = c.task; client = c.client; at = c.at; access = access; head_is = e; careful = record { good = c.careful.good; owes = o } })
-    by_cases Refs e o = inr (c.careful.good, owes-plain event.op o)
+    by_cases : (head : Head) → c.task.head ≡ head → OwesBy head (ids_at draw c.place) c.task (c.place + 1) start journal event.op → OwesOwnBy head (ids_at draw c.place) (c.place + 1) start journal event.op → IsOfOpener draw tasks start journal event ⊎ (IsGood journal event × IsPlain event.op)
+    by_cases (Session access) e o own = inl (record { place = c.place; task = c.task; client = c.client; at = c.at; access = access; head_is = e; careful = record { good = c.careful.good; owes = o }; own = own })
+    by_cases Refs e o own = inr (c.careful.good, owes-plain event.op o)
 
 -- of a task that opens a session
 owes-keeps : (ids : AnyIds) (mine : Sessions) (journal : List Event) (op : Op) → Owes ids mine journal op → ¬ Removes op
@@ -214,20 +236,6 @@ owes-keeps ids mine journal (PutOver key bytes old why) o r = r
 owes-keeps ids mine journal (Remove key why) o r = o
 owes-keeps ids mine journal (RemoveAt key old why) o r = o
 owes-keeps ids mine journal (ListPart part) o r = r
-
-owes-uncut : (ids : AnyIds) (mine : Sessions) (journal : List Event) (op : Op) → Owes ids mine journal op → ¬ PutsOverSnapshot op
-owes-uncut ids mine journal (Get key) o c = c
-owes-uncut ids mine journal (PutNew key bytes why) o c = c
-owes-uncut ids mine journal (PutOver (Snapshot id) bytes old why) o c = o
-owes-uncut ids mine journal (PutOver (Txn id) bytes old why) o c = c
-owes-uncut ids mine journal (PutOver (Manifest id) bytes old why) o c = c
-owes-uncut ids mine journal (PutOver (Chunk id) bytes old why) o c = c
-owes-uncut ids mine journal (PutOver (Branch name) bytes old why) o c = c
-owes-uncut ids mine journal (PutOver (Tag name) bytes old why) o c = c
-owes-uncut ids mine journal (PutOver (TagGone name) bytes old why) o c = c
-owes-uncut ids mine journal (Remove key why) o c = c
-owes-uncut ids mine journal (RemoveAt key old why) o c = c
-owes-uncut ids mine journal (ListPart part) o c = c
 
 module _ (draw : Draw) (most : ℕ) (once : DrawsOnce draw most) where
   owes-once : (ids : AnyIds) (task : Task) (client : ℕ) (start journal : List Event) (op : Op) → IsAmong draw most ids → IsWellTask task → ObjectsAreNew ids journal → Owes ids (IsOfTask ids task client start) journal op → PutsOnce journal op
@@ -242,6 +250,7 @@ module _ (draw : Draw) (most : ℕ) (once : DrawsOnce draw most) where
   owes-once ids task client start journal (PutNew (Branch name) bytes why) among well new o = tt
   owes-once ids task client start journal (PutNew (Tag name) bytes why) among well new o = tt
   owes-once ids task client start journal (PutNew (TagGone name) bytes why) among well new o = tt
+  owes-once ids task client start journal (PutNew (Lease id) bytes why) among well new o = tt
   owes-once ids task client start journal (PutOver (Snapshot id) bytes old why) among well new o = absurd o
   owes-once ids task client start journal (PutOver (Txn id) bytes old why) among well new o = tt
   owes-once ids task client start journal (PutOver (Manifest id) bytes old why) among well new o = tt
@@ -249,6 +258,7 @@ module _ (draw : Draw) (most : ℕ) (once : DrawsOnce draw most) where
   owes-once ids task client start journal (PutOver (Branch name) bytes old why) among well new o = tt
   owes-once ids task client start journal (PutOver (Tag name) bytes old why) among well new o = tt
   owes-once ids task client start journal (PutOver (TagGone name) bytes old why) among well new o = tt
+  owes-once ids task client start journal (PutOver (Lease id) bytes old why) among well new o = tt
   owes-once ids task client start journal (Remove key why) among well new o = tt
   owes-once ids task client start journal (RemoveAt key old why) among well new o = tt
 
@@ -291,6 +301,7 @@ module _ (draw : Draw) (tasks : List Task) (start : List Event) (client place : 
   op-knows (PutOver (Chunk id) bytes old why) o = absurd o
   op-knows (PutOver (Tag name) bytes old why) o = absurd o
   op-knows (PutOver (TagGone name) bytes old why) o = absurd o
+  op-knows (PutOver (Lease id) bytes old why) o = absurd o
   op-knows (Remove key why) o = absurd o
   op-knows (RemoveAt key old why) o = absurd o
 
@@ -310,10 +321,10 @@ module _ (draw : Draw) (tasks : List Task) where
       record {
         good = c.careful.good;
         keeps = owes-keeps (ids_at draw c.place) mine journal event.op owes;
-        uncut = owes-uncut (ids_at draw c.place) mine journal event.op owes;
         first = λ new once d. first-law journal event.op once c.careful.good.polite
             (owes-once draw (length tasks) draws (ids_at draw c.place) c.task (c.place + 1) start journal event.op (among-at c.place (slice_get_within tasks c.place c.task c.at)) (well-at wells c.place c.task c.at) (new c.place (slice_get_within tasks c.place c.task c.at)) owes);
         knows = λ once. op-knows draw tasks start event.client c.place c.task c.client c.at journal once event.op owes;
+        own = λ branch bytes old e. subst (λ (n : ℕ). IsOwnCommit n bytes start journal) (sym c.client) (subst (λ (op : Op). OwesOwn (ids_at draw c.place) (c.place + 1) start op journal) e c.own);
       }
 
   -- ---- along a run

@@ -5,9 +5,10 @@ use Rattle.std.proofs.lemmas.List.{append_cancel_left}
 use Rattle.ice_ids.specs.declared.Id12.{Id12}
 use Rattle.ice_ids.specs.declared.drawing.AnyIds.{AnyIds}
 use Rattle.snapshot_file.specs.declared.nodes.NodeRow.{NodeRow}
+use Rattle.repo_objects.specs.Laws.{InitialLaw}
 use Rattle.store_api.specs.Journal.{Each, WasPut, puts_of, rows_of, tree_of}
-use Rattle.store_api.specs.declared.events.Event.{Event}
-use Rattle.store_api.specs.declared.keys.Key.TheVariants.{Snapshot}
+use Rattle.object_store.specs.declared.events.Event.{Event}
+use Rattle.object_store.specs.declared.keys.Key.TheVariants.{Snapshot}
 use Rattle.session.specs.Opening.{Asked}
 use Rattle.session.specs.Sessions.{SessionState, base_tree}
 use Rattle.commit_path.specs.Opened.{WasBegun}
@@ -15,6 +16,7 @@ use Rattle.commit_path.specs.Single.{HasPutNone, PutsNone}
 use Rattle.commit_path.proofs.Knowing.{tree-by_rows}
 use Rattle.commit_path.proofs.Sources.{later-later}
 use Rattle.play_tasks.specs.Solving.{WasLost}
+use Rattle.reach.specs.Chains.{here}
 use Rattle.run_histories.specs.Sources.{NodesAreNew}
 use Rattle.run_histories.proofs.Ancestors.{IsFree, ancestor-self, free-on, new-free, node-has}
 use Rattle.run_histories.proofs.Editing.{WentOn}
@@ -25,7 +27,7 @@ use Rattle.run_histories.proofs.Grounds.{Grounds, IsCarried, well-rows}
 some-same : {A : Type 0} (a b : A) → Some a ≡ Some b → a ≡ b
 some-same a b e = cc
 
-module _ (ids : AnyIds) (client : ℕ) (start journal : List Event) (g : Grounds ids client start journal) where
+module _ (initial : InitialLaw) (ids : AnyIds) (client : ℕ) (start journal : List Event) (g : Grounds ids client start journal) where
   -- ---- a session as it was opened, and behind lines
   module _ (a : Asked) (opened : SessionState) (begun : WasBegun client a opened start journal) (early : HasPutNone client start begun.got.own.before) where
     abbrev then : List Event
@@ -56,7 +58,7 @@ module _ (ids : AnyIds) (client : ℕ) (start journal : List Event) (g : Grounds
         let stood = then-stood client start journal g.good g.once (Snapshot opened.base) begun.bytes begun.version begun.got in
         let goes = then-goes client start journal g.good g.once (Snapshot opened.base) begun.bytes begun.version begun.got in
         subst (λ (j : List Event). IsFree ids j opened.base) (sym own.is)
-        (free-on then (own.event ∷ own.after) goes ids opened.base (stands-put then (Snapshot opened.base) begun.bytes stood) (new-free ids then new-then opened.base))
+        (free-on then (own.event ∷ own.after) goes initial ids opened.base (stands-put then (Snapshot opened.base) begun.bytes stood) (new-free ids then new-then opened.base))
 
     pub lines-carried : (s : SessionState) → WentOn ids opened s → IsCarried ids journal s
     lines-carried s w =
@@ -64,7 +66,7 @@ module _ (ids : AnyIds) (client : ℕ) (start journal : List Event) (g : Grounds
         let rows : rows_of journal s.base ≡ Some s.rows = ap (rows_of journal) w.base ∙ opened-rows ∙ ap (λ (r : List NodeRow). Some r) (sym w.rows) in
         let free : IsFree ids journal s.base = subst (IsFree ids journal) (sym w.base) opened-free in
         let tree : tree_of journal s.base ≡ Some (base_tree (puts_of journal) s) = tree-by_rows journal s.base s.rows rows in
-        let own : OwnAreNew ids s = λ p n f. free s.base n.id (ancestor-self journal s.base) (node-has journal s.base (base_tree (puts_of journal) s) p n tree f) in
+        let own : OwnAreNew ids s = λ p n f. free s.base n.id here (node-has journal s.base (base_tree (puts_of journal) s) p n tree f) in
         let kept : IsKept ids s = w.goes.kept g.spends own in
         record {
           later = w.goes.later;

@@ -1,21 +1,21 @@
 -- Where sessions begin: at the last entry of a branch's history, at a tag as it stood, or at a snapshot.
-use Rattle.std.proofs.Common.{◌≡◌, ℕ, Bool, true, cond, List, [], ◌∷◌, ◌++◌, length, refl, sym, ◌∙◌, ap, subst}
+use Rattle.std.proofs.Common.{◌≡◌, ℕ, Bool, true, List, [], ◌∷◌, ◌++◌, length, refl, sym, ◌∙◌, ap, subst}
 use Rattle.std.specs.Prelude.{Option, Some, None}
 use Rattle.ice_ids.specs.declared.Id12.{Id12}
 use Rattle.zarr_tree.specs.Changes.{Changes}
 use Rattle.repo_objects.specs.Readings.{ref_of}
-use Rattle.store_api.specs.declared.keys.Key.TheVariants.{Branch}
-use Rattle.store_api.specs.declared.events.Version.{Version}
-use Rattle.store_api.specs.declared.events.Op.{Op}
-use Rattle.store_api.specs.declared.events.Got.TheVariants.{Found}
-use Rattle.store_api.specs.declared.events.Reply.{Reply}
-use Rattle.store_api.specs.declared.events.Reply.TheVariants.{Got as Is_got}
-use Rattle.store_api.specs.declared.events.Event.{Event}
-use Rattle.store_api.specs.Machine.{is_on, version_at}
+use Rattle.object_store.specs.declared.keys.Key.TheVariants.{Branch}
+use Rattle.object_store.specs.declared.events.Version.{Version}
+use Rattle.object_store.specs.declared.events.Op.{Op}
+use Rattle.object_store.specs.declared.events.Got.TheVariants.{Found}
+use Rattle.object_store.specs.declared.events.Reply.{Reply}
+use Rattle.object_store.specs.declared.events.Reply.TheVariants.{Got as Is_got}
+use Rattle.object_store.specs.declared.events.Event.{Event}
+use Rattle.object_store.specs.Machine.{is_on, version_at}
 use Rattle.store_api.specs.Journal.{Each, puts_of, IsGoodJournal, IsOnce, tree_of}
 use Rattle.store_api.specs.Telling.{WasRef}
-use Rattle.store_api.proofs.Journals.{Each-at}
-use Rattle.store_api.proofs.Slots.{same_key-refl}
+use Rattle.object_store.proofs.Journals.{Each-at}
+use Rattle.object_store.proofs.Slots.{same_key-refl}
 use Rattle.histories.specs.Repository.{Entry, last, Open}
 use Rattle.histories.specs.Calls.{history_of, call_of, TellsCall, Agrees, IsHistory}
 use Rattle.histories.specs.Tags.{TagState, Absent, Stands, Gone, tag_answer}
@@ -26,7 +26,8 @@ use Rattle.repo_read.specs.declared.resolving.Named.{Named}
 use Rattle.repo_read.specs.Naming.{WasTagged, WasResolved}
 use Rattle.refs_admin.proofs.TagStates.{states-tell}
 use Rattle.session.specs.Sessions.{SessionState}
-use Rattle.session.specs.Opening.{Asked, tip_named}
+use Rattle.session.specs.Opening.{Asked, origin_named}
+use Rattle.session.specs.declared.origin.Origin.TheVariants.{ReadsTag}
 use Rattle.commit_path.specs.Opened.{IsOpened, WasBegun}
 use Rattle.commit_path.proofs.Knowing.{tree-by_rows}
 use Rattle.run_histories.specs.Told.{BeganAt, BeganAtLast, BeganAtBranch, BeganAtTag}
@@ -56,10 +57,6 @@ opened-stands Absent e told = cc
 opened-stands (Stands x) e told = let same : x ≡ e = cc in ap Stands same
 opened-stands (Gone x) e told = cc
 
--- to write, a session keeps the branch and the version
-named-tip : (branch : List ℕ) (version : Version) (known : Option Version) (writes : Bool) → known ≡ Some version → writes ≡ true → cond writes (tip_named (At.Branch branch) known) None ≡ Some (record { branch = branch; version = version })
-named-tip branch version known writes k w = ap (λ (b : Bool). cond b (tip_named (At.Branch branch) known) None) w ∙ ap (λ (o : Option Version). tip_named (At.Branch branch) o) k
-
 module _ (whole : List Event) (changes : ℕ → Changes) (good : IsGoodJournal whole) (history : IsHistory (tree_of whole) changes whole) (client : ℕ) (start : List Event) where
   at-branch : (branch : List ℕ) (version : Version) (base : Id12) (read : WasRef client (Branch branch) version base start whole) → WasLast (last (history_of (tree_of whole) changes read.got.own.before branch)) version.0 base
   at-branch branch version base read =
@@ -73,8 +70,8 @@ module _ (whole : List Event) (changes : ℕ → Changes) (good : IsGoodJournal 
       was_last (length own.before) l read.bytes version.0 read.got.now base read.names told
 
   module _ (s : SessionState) (writes : Bool) (named : Named) (base : s.base ≡ named.id) where
-    began-at_branch : (branch : List ℕ) → s.tip ≡ cond writes (tip_named (At.Branch branch) named.version) None → WasResolved client (At.Branch branch) named start whole → BeganAtBranch (tree_of whole) changes client branch writes s start whole
-    began-at_branch branch tip w =
+    began-at_branch : (branch : List ℕ) → s.origin ≡ origin_named writes (At.Branch branch) named.version → WasResolved client (At.Branch branch) named start whole → BeganAtBranch (tree_of whole) changes client branch writes s start whole
+    began-at_branch branch origin w =
         let read : WasRef client (Branch branch) w.version s.base start whole = subst (λ (id : Id12). WasRef client (Branch branch) w.version id start whole) (sym base) w.read in
         let was = at-branch branch w.version s.base read in
         record {
@@ -84,11 +81,11 @@ module _ (whole : List Event) (changes : ℕ → Changes) (good : IsGoodJournal 
           is_last = was.is;
           version_is = was.version_is;
           base = was.base_is;
-          tip = λ k. tip ∙ named-tip branch w.version named.version writes w.version_is k;
+          origin = origin ∙ ap (λ (o : Option Version). origin_named writes (At.Branch branch) o) w.version_is;
         }
 
-    began-at_tag : (tag : List ℕ) → WasResolved client (At.Tag tag) named start whole → BeganAtTag (tree_of whole) client tag s start whole
-    began-at_tag tag w =
+    began-at_tag : (tag : List ℕ) → s.origin ≡ ReadsTag tag → WasResolved client (At.Tag tag) named start whole → BeganAtTag (tree_of whole) client tag s start whole
+    began-at_tag tag origin w =
         let read : WasTagged client tag s.base start whole = subst (λ (id : Id12). WasTagged client tag id start whole) (sym base) w.1 in
         let told = (states-tell (tree_of whole) client tag start whole good).opened s.base read in
         record {
@@ -97,15 +94,16 @@ module _ (whole : List Event) (changes : ℕ → Changes) (good : IsGoodJournal 
           stood = opened-stands (tag_of (tree_of whole) read.stands.own.before tag) _ told;
           version_is = refl;
           base = refl;
+          origin = origin;
         }
 
-    began-at : (at : At) → s.tip ≡ cond writes (tip_named at named.version) None → WasResolved client at named start whole → BeganAt (tree_of whole) changes client at writes s start whole
-    began-at (At.Branch branch) tip w = began-at_branch branch tip w
-    began-at (At.Tag tag) tip w = began-at_tag tag w
-    began-at (At.Snapshot id) tip w = base ∙ ap (λ (n : Named). n.id) w
+    began-at : (at : At) → s.origin ≡ origin_named writes at named.version → WasResolved client at named start whole → BeganAt (tree_of whole) changes client at writes s start whole
+    began-at (At.Branch branch) origin w = began-at_branch branch origin w
+    began-at (At.Tag tag) origin w = began-at_tag tag origin w
+    began-at (At.Snapshot id) origin w = (base ∙ ap (λ (n : Named). n.id) w, origin)
 
 pub began-at-last : (whole : List Event) (changes : ℕ → Changes) → IsGoodJournal whole → IsOnce whole → IsHistory (tree_of whole) changes whole → (client : ℕ) (a : Asked) (s : SessionState) (start : List Event) → WasBegun client a s start whole → IsOpened s whole → BeganAtLast (puts_of whole) (tree_of whole) changes client a s start whole
 began-at-last whole changes good once history client a s start begun opened = record {
-  began = began-at whole changes good history client start s a.writes begun.named begun.base a.at (ap (λ (x : SessionState). x.tip) begun.begins) begun.resolved;
+  began = began-at whole changes good history client start s a.writes begun.named begun.base a.at (ap (λ (x : SessionState). x.origin) begun.begins) begun.resolved;
   tree = tree-by_rows whole s.base s.rows (opened.rows once);
 }

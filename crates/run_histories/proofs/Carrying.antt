@@ -10,8 +10,8 @@ use Rattle.zarr_tree.specs.Held.{Held}
 use Rattle.manifest_file.specs.declared.manifest.Place.{Place}
 use Rattle.repo_objects.specs.Trees.{nodes_in}
 use Rattle.conflicts.specs.declared.solving.Policy.{Policy}
-use Rattle.store_api.specs.declared.events.Event.{Event}
-use Rattle.store_api.proofs.Journals.{Each-weaker}
+use Rattle.object_store.specs.declared.events.Event.{Event}
+use Rattle.object_store.proofs.Journals.{Each-weaker}
 use Rattle.session.specs.Sessions.{SessionState}
 use Rattle.session.specs.Sources.{IsLater, MayDrawObject}
 use Rattle.commit_path.specs.Opened.{WasBegun}

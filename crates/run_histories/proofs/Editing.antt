@@ -20,7 +20,7 @@ use Rattle.zarr_tree.specs.Held.{Held, changes_of}
 use Rattle.zarr_tree.proofs.Normal.{none-law}
 use Rattle.zarr_changes.specs.Edits.{nothing}
 use Rattle.manifest_file.specs.declared.manifest.Place.{Place}
-use Rattle.store_api.specs.declared.events.Event.{Event}
+use Rattle.object_store.specs.declared.events.Event.{Event}
 use Rattle.store_api.specs.declared.machines.Refusal.{Refusal}
 use Rattle.session.specs.Sessions.{SessionState, base_tree, nodes_seen}
 use Rattle.session.specs.Sources.{IsLater}

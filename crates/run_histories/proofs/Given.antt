@@ -1,30 +1,34 @@
 -- The changes given for each commit, in the whole journal.
 use Rattle.std.proofs.Common.{◌≡◌, ℕ, ◌<◌, ◌≤◌, cond, ltb, List, [], ◌∷◌, ◌++◌, length, refl, sym, ◌∙◌, ap, subst, arith, append_assoc, length-append}
 use Rattle.std.specs.Prelude.{Some, option_map}
+use Rattle.std.specs.Option.{option_and_then}
 use Rattle.std.proofs.lemmas.Bool.{lt-ltb, le-ltb}
 use Rattle.ice_ids.specs.declared.Id12.{Id12}
 use Rattle.ice_ids.specs.declared.drawing.Draw.{Draw}
 use Rattle.zarr_tree.specs.Trees.{Tree}
 use Rattle.zarr_tree.specs.Changes.{Changes, apply, IsNormal}
 use Rattle.snapshot_file.specs.declared.snapshot.SnapshotFile.{SnapshotFile as Snap}
+use Rattle.repo_objects.specs.Readings.{ref_of}
 use Rattle.repo_objects.specs.Trees.{Extends}
-use Rattle.store_api.specs.declared.keys.Key.TheVariants.{Snapshot, Branch}
-use Rattle.store_api.specs.declared.keys.Why.TheVariants.{Commit}
-use Rattle.store_api.specs.declared.events.Version.{Version}
-use Rattle.store_api.specs.declared.events.Op.TheVariants.{PutOver}
-use Rattle.store_api.specs.declared.events.Event.{Event}
+use Rattle.object_store.specs.declared.keys.Key.TheVariants.{Snapshot, Branch}
+use Rattle.object_store.specs.declared.keys.Why.TheVariants.{Commit}
+use Rattle.object_store.specs.declared.events.Version.{Version}
+use Rattle.object_store.specs.declared.events.Op.TheVariants.{PutOver}
+use Rattle.object_store.specs.declared.events.Event.{Event}
 use Rattle.store_api.specs.Journal.{Each, IsGood, IsGoodJournal, IsOnce, IsFirst, WasPut, puts_of, tree_of, snap_made}
-use Rattle.store_api.proofs.Journals.{Each-back, Each-both}
-use Rattle.store_api.proofs.Slots.{WasPut-append}
+use Rattle.object_store.proofs.Journals.{Each-back, Each-both}
+use Rattle.object_store.proofs.Slots.{WasPut-append}
 use Rattle.store_api.proofs.Standing.{standing, rows-stay, snap_made-put, puts-stay}
 use Rattle.histories.specs.Calls.{LeadsFromParent, IsGiven, CommitsApply}
 use Rattle.histories.proofs.Choosing.{Knows, chosen, choice}
 use Rattle.session.specs.Sessions.{SessionState, base_tree, changes_in, overlay}
 use Rattle.commit_path.specs.Owed.{IsMade}
+use Rattle.commit_path.specs.Own.{IsOwn, IsOwnCommit, parent_made}
 use Rattle.commit_path.proofs.Knowing.{once-front, once-back, tree-by_rows}
 use Rattle.commit_path.proofs.Putting.{extends-same}
 use Rattle.play_script.specs.declared.scripts.Task.{Task}
 use Rattle.run_histories.specs.Told.{IsOfSession, IsSolved, CommitsEnter}
+use Rattle.run_histories.proofs.Along.{CommitsOwn}
 use Rattle.run_histories.proofs.Sized.{changes-stay}
 use Rattle.run_histories.proofs.Putting.{parent-put}
 
@@ -127,6 +131,20 @@ abbrev pub CommitsNormal : Draw → List Task → (start journal : List Event) �
 CommitsNormal draw tasks start journal event = (c : Changes) (branch bytes : List ℕ) (old : Version) (id : Id12) → event.op ≡ PutOver (Branch branch) bytes old Commit → (s : IsOfSession draw tasks start c journal event.client branch old.0 id)
     → IsNormal (changes_in (puts_of journal) s.session) (base_tree (puts_of journal) s.session)
 
+-- a commit of the client's own, of this session
+own-commit : (client : ℕ) (start journal : List Event) (bytes : List ℕ) (id : Id12) (session : SessionState) → IsOnce journal → IsMade session id journal → ref_of bytes ≡ Some id → IsOwnCommit client bytes start journal → IsOwn client session.base id start journal
+own-commit client start journal bytes id session once m names o =
+    let same : o.id ≡ id = named (sym o.names ∙ names) in
+    let parent : parent_made journal id ≡ Some o.base = subst (λ (i : Id12). parent_made journal i ≡ Some o.base) same (o.parent once) in
+    let base : o.base ≡ session.base = based (sym parent ∙ (ap (option_and_then (λ (s : Snap). s.parent)) m.made ∙ m.parent)) in
+    subst (λ (b : Id12). IsOwn client b id start journal) base (subst (λ (i : Id12). IsOwn client o.base i start journal) same (o.own once))
+  where
+    named : Some o.id ≡ Some id → o.id ≡ id
+    named e = cc
+
+    based : Some o.base ≡ Some session.base → o.base ≡ session.base
+    based e = cc
+
 module _ (draw : Draw) (tasks : List Task) (start : List Event) (changes : ℕ → Changes) (whole : List Event) (good : IsGoodJournal whole) (once : IsOnce whole) where
   follows : (journal rest : List Event) → whole ≡ journal ++ rest → Follows journal rest
   follows journal rest w =
@@ -142,7 +160,7 @@ module _ (draw : Draw) (tasks : List Task) (start : List Event) (changes : ℕ �
   Solved journal event = IsSolved draw tasks start changes journal event × CommitsNormal draw tasks start journal event
 
   abbrev Applied : List Event → Event → Type 0
-  Applied journal event = Solved journal event × CommitsApply (tree_of whole) changes journal event
+  Applied journal event = Solved journal event × (CommitsApply (tree_of whole) changes journal event × CommitsOwn start journal event)
 
   solved-one : (journal : List Event) (event : Event) (rest : List Event) → whole ≡ journal ++ event ∷ rest → Solved journal event → IsGiven (tree_of whole) changes journal event
   solved-one journal event rest w (solved, normal) branch bytes old id op_is names =
@@ -159,7 +177,7 @@ module _ (draw : Draw) (tasks : List Task) (start : List Event) (changes : ℕ �
 
   -- ---- the commits that took effect
   enters-one : (journal : List Event) (event : Event) (rest : List Event) → whole ≡ journal ++ event ∷ rest → Applied journal event → CommitsEnter draw tasks start (puts_of whole) (tree_of whole) changes journal event
-  enters-one journal event rest w ((solved, normal), applied) branch bytes old id stored op_is names done stands version =
+  enters-one journal event rest w ((solved, normal), (applied, own)) branch bytes old id stored op_is names done stands version =
       let s = solved branch bytes old id op_is names in
       let c = applied branch bytes old id stored op_is names done stands version in
       let f = follows journal (event ∷ rest) w in
@@ -175,14 +193,16 @@ module _ (draw : Draw) (tasks : List Task) (start : List Event) (changes : ℕ �
         base_is = subst (λ (i : Id12). tree_of whole i ≡ Some (base_tree (puts_of whole) s.session)) base base_has;
         tree = subst (λ (h : List Event). tree_of h id ≡ Some (overlay (puts_of h) s.session)) (sym w) (made-tree journal (event ∷ rest) f s.session id s.made then);
         normal = subst (λ (h : List Event). IsNormal (changes_in (puts_of h) s.session) (base_tree (puts_of h) s.session)) (sym w) (normal-last journal (event ∷ rest) f s.session id s.made then);
+        own = own-commit event.client start journal bytes id s.session f.once s.made names (own branch bytes old op_is);
       }
 
-  pub solved-enter : (old more : List Event) → whole ≡ old ++ more → Each (IsSolved draw tasks start changes) old more → Each (CommitsNormal draw tasks start) old more → Each (CommitsApply (tree_of whole) changes) old more
+  pub solved-enter : (old more : List Event) → whole ≡ old ++ more → Each (IsSolved draw tasks start changes) old more → Each (CommitsNormal draw tasks start) old more → Each (CommitsApply (tree_of whole) changes) old more → Each (CommitsOwn start) old more
       → Each (CommitsEnter draw tasks start (puts_of whole) (tree_of whole) changes) old more
-  solved-enter old more w a n b =
+  solved-enter old more w a n b c =
       along-whole Applied (CommitsEnter draw tasks start (puts_of whole) (tree_of whole) changes) whole old more w enters-one
-      (Each-both Solved (CommitsApply (tree_of whole) changes) Applied (λ h e p q. (p, q)) old more
-      (Each-both (IsSolved draw tasks start changes) (CommitsNormal draw tasks start) Solved (λ h e p q. (p, q)) old more a n) b)
+      (Each-both Solved (λ h e. CommitsApply (tree_of whole) changes h e × CommitsOwn start h e) Applied (λ h e p q. (p, q)) old more
+      (Each-both (IsSolved draw tasks start changes) (CommitsNormal draw tasks start) Solved (λ h e p q. (p, q)) old more a n)
+      (Each-both (CommitsApply (tree_of whole) changes) (CommitsOwn start) (λ h e. CommitsApply (tree_of whole) changes h e × CommitsOwn start h e) (λ h e p q. (p, q)) old more b c))
 
 -- ---- the commits before
 module _ (before after : ℕ → Changes) (old more : List Event) (good : IsGoodJournal old) (once : IsOnce old) (goes_on : Each IsGood old more) (first : Each IsFirst old more) (same : (n : ℕ) → n < length old → after n ≡ before n) where

@@ -1,27 +1,30 @@
 -- What a client's own gets tell of the journal.
 use Rattle.std.proofs.Common.{◌≡◌, ℕ, List, [], ◌∷◌, ◌++◌, length, refl, sym, ◌∙◌, ap, subst}
 use Rattle.std.specs.Prelude.{Option, Some, None, option_map}
+use Rattle.std.specs.Option.{option_and_then}
 use Rattle.ice_ids.specs.declared.Id12.{Id12}
 use Rattle.snapshot_file.specs.declared.snapshot.SnapshotFile.{SnapshotFile}
-use Rattle.store_api.specs.declared.keys.Key.{Key}
-use Rattle.store_api.specs.declared.keys.Key.TheVariants.{Snapshot}
-use Rattle.store_api.specs.declared.events.Version.{Version}
-use Rattle.store_api.specs.declared.events.Op.{Op}
-use Rattle.store_api.specs.declared.events.Op.TheVariants.{Get}
-use Rattle.store_api.specs.declared.events.Got.{Got}
-use Rattle.store_api.specs.declared.events.Got.TheVariants.{Found}
-use Rattle.store_api.specs.declared.events.Reply.{Reply}
-use Rattle.store_api.specs.declared.events.Reply.TheVariants.{Got as Is_got}
-use Rattle.store_api.specs.declared.events.Event.{Event}
-use Rattle.store_api.specs.Machine.{Stored, found, last_put, got_of, version_at, IsHonest, UnlessFailed}
+use Rattle.object_store.specs.declared.keys.Key.{Key}
+use Rattle.object_store.specs.declared.keys.Key.TheVariants.{Snapshot}
+use Rattle.object_store.specs.declared.events.Version.{Version}
+use Rattle.object_store.specs.declared.events.Op.{Op}
+use Rattle.object_store.specs.declared.events.Op.TheVariants.{Get}
+use Rattle.object_store.specs.declared.events.Got.{Got}
+use Rattle.object_store.specs.declared.events.Got.TheVariants.{Found}
+use Rattle.object_store.specs.declared.events.Reply.{Reply}
+use Rattle.object_store.specs.declared.events.Reply.TheVariants.{Got as Is_got}
+use Rattle.object_store.specs.declared.events.Event.{Event}
+use Rattle.object_store.specs.Machine.{Stored, found, last_put, got_of, version_at, IsHonest, UnlessFailed}
 use Rattle.store_api.specs.Journal.{IsGood, IsGoodJournal, IsOnce, WasPut, rows_of, snap_in}
 use Rattle.store_api.specs.Telling.{WasGot, WasReadAs}
-use Rattle.store_api.proofs.Journals.{Each-back, Each-at}
-use Rattle.store_api.proofs.Slots.{sound}
+use Rattle.object_store.proofs.Journals.{Each-back, Each-at}
+use Rattle.object_store.proofs.Slots.{sound}
 use Rattle.store_api.proofs.Standing.{rows-stay}
 use Rattle.commit_path.proofs.Knowing.{once-front, once-back}
+use Rattle.reach.specs.Chains.{parent_at, StaysOrCut}
+use Rattle.reach.proofs.Parents.{parent-stays}
 use Rattle.run_histories.proofs.Ancestors.{Continues}
-use Rattle.store_api.proofs.Slots.{WasPut-append}
+use Rattle.object_store.proofs.Slots.{WasPut-append}
 
 -- what stands there has these bytes
 pub record StandsSo (journal : List Event) (key : Key) (bytes : List ℕ) : Type 0 where
@@ -89,3 +92,15 @@ module _ (client : ℕ) (start journal : List Event) (good : IsGoodJournal journ
         ap (λ (j : List Event). rows_of j id) own.is
         ∙ rows-stay id own.before (own.event ∷ own.after) goes.once (stands-put own.before (Snapshot id) r.bytes stood) goes.goes_on goes.first
         ∙ read_then
+
+    -- its parent is the one that was read still, or it was cut
+    pub read-parent : StaysOrCut f.parent (parent_at journal id)
+    read-parent =
+        let own = r.got.own in
+        let stood = then-stood (Snapshot id) r.bytes r.version r.got in
+        let goes = then-goes (Snapshot id) r.bytes r.version r.got in
+        let read_then : parent_at own.before id ≡ f.parent =
+        ap (λ (o : Option (List ℕ)). option_and_then (λ (s : SnapshotFile). s.parent) (snap_in id o)) (stands-last own.before (Snapshot id) r.bytes stood) ∙ ap (option_and_then (λ (s : SnapshotFile). s.parent)) r.read in
+        subst (λ (j : List Event). StaysOrCut f.parent (parent_at j id)) (sym own.is)
+        (subst (λ (o : Option Id12). StaysOrCut o (parent_at (own.before ++ own.event ∷ own.after) id)) read_then
+        (parent-stays id own.before (own.event ∷ own.after) goes.once (stands-put own.before (Snapshot id) r.bytes stood) goes.goes_on goes.first))

@@ -16,8 +16,8 @@ use Rattle.snapshot_file.specs.declared.snapshot.SnapshotFile.{SnapshotFile}
 use Rattle.repo_objects.specs.Laws.{InitialLaw, initial_bytes}
 use Rattle.repo_objects.specs.Trees.{tree_under}
 use Rattle.store_api.specs.Journal.{Each, IsGoodJournal, IsOnce, WasPut, log_made, puts_of, rows_of, snap_in}
-use Rattle.store_api.specs.declared.events.Event.{Event}
-use Rattle.store_api.specs.declared.keys.Key.TheVariants.{Snapshot}
+use Rattle.object_store.specs.declared.events.Event.{Event}
+use Rattle.object_store.specs.declared.keys.Key.TheVariants.{Snapshot}
 use Rattle.store_api.proofs.Once.{initial-last}
 use Rattle.session.specs.Sessions.{SessionState, base_tree}
 use Rattle.session.specs.Sources.{IsLater, MayDrawNode}
@@ -25,10 +25,11 @@ use Rattle.commit_path.specs.Single.{PutsNone}
 use Rattle.rebase.specs.Along.{Link}
 use Rattle.rebase.specs.AlongLaws.{HasOneTextEach}
 use Rattle.rebase.proofs.Made.{first-put-as}
+use Rattle.reach.specs.Chains.{parent_at}
 use Rattle.run_histories.specs.Runs.{AllCaused, AllTrees, HasNode, IsAncestor, IsChildOf}
 use Rattle.run_histories.specs.Sources.{NodesAreNew}
 use Rattle.run_histories.proofs.Ancestors.{IsFree}
-use Rattle.run_histories.proofs.Origins.{AllCome, PutsOverSnapshot}
+use Rattle.run_histories.proofs.Origins.{AllCome}
 use Rattle.run_histories.proofs.Sized.{changes_sized}
 use Rattle.run_histories.proofs.Sources.{SpendsNodes}
 
@@ -36,7 +37,7 @@ some-same : {A : Type 0} (a b : A) → Some a ≡ Some b → a ≡ b
 some-same a b e = cc
 
 -- What is known of a journal that goes on from a start at which the client's nodes were new, where its source draws no node id twice: it is sound; each snapshot since is the client's own, or
--- inherits what it has of the client's nodes, and none was put over; and until the client put one, its nodes were new.
+-- inherits what it has of the client's nodes; and until the client put one, its nodes were new.
 pub record Grounds (ids : AnyIds) (client : ℕ) (start journal : List Event) : Type 0 where
   pub good : IsGoodJournal journal
   pub once : IsOnce journal
@@ -48,7 +49,6 @@ pub record Grounds (ids : AnyIds) (client : ℕ) (start journal : List Event) : 
   pub new : NodesAreNew ids start
   pub early : (first rest : List Event) → since ≡ first ++ rest → Each (PutsNone client) start first → NodesAreNew ids (start ++ first)
   pub come : AllCome ids client start journal
-  pub uncut : Each (λ h e. ¬ PutsOverSnapshot e.op) start since
 
 -- A node of a snapshot, or of an ancestor of it.
 pub record HasNodeBelow (journal : List Event) (id : Id12) (node : Id8) : Type 0 where
@@ -56,8 +56,8 @@ pub record HasNodeBelow (journal : List Event) (id : Id12) (node : Id8) : Type 0
   pub ancestor : IsAncestor journal below id
   pub has : HasNode journal below node
 
--- A session of a task, by the journal. Its base was put, with its rows. What it adds has ids that its source may draw, and then neither the base nor an
--- ancestor has a node with such an id; what it drops is a node of one of them; and its changes are normal for the base's tree, by the lengths of chunks.
+-- A session of a task, by the journal. Its base was put, with its rows. What it adds has ids that its source may draw, and then neither the base nor one
+-- below it along parents as they stand has a node with such an id; what it drops is a node of the base or of an ancestor; and its changes are normal for the base's tree, by the lengths of chunks.
 pub record IsCarried (ids : AnyIds) (journal : List Event) (t : SessionState) : Type 0 where
   pub later : IsLater ids t.ids
   pub put : WasPut journal (Snapshot t.base)
@@ -68,12 +68,13 @@ pub record IsCarried (ids : AnyIds) (journal : List Event) (t : SessionState) : 
   pub normal : IsNormal (changes_sized t) (base_tree (puts_of journal) t)
   pub texts : HasOneTextEach t.held
 
--- One commit, whose log and snapshot were read: its snapshot was first put with this one as its parent; or it was cut, and was put before the start.
-pub record IsLink (start journal : List Event) (base : Id12) (l : Link) : Type 0 where
+-- One commit, whose log and snapshot were read: its snapshot was first put with this one as its parent; or this is the initial one, and its parent as it
+-- stands.
+pub record IsLink (journal : List Event) (base : Id12) (l : Link) : Type 0 where
   pub put : WasPut journal (Snapshot l.file.id)
   pub rows : rows_of journal l.file.id ≡ Some l.file.nodes
   pub logged : log_made journal l.file.id ≡ Some l.lists
-  pub parent : IsChildOf journal base l.file.id ⊎ ((base ≡ initial_id) × WasPut start (Snapshot l.file.id))
+  pub parent : IsChildOf journal base l.file.id ⊎ ((base ≡ initial_id) × (parent_at journal l.file.id ≡ Some initial_id))
 
 -- ---- the initial snapshot
 pub initial-rows : InitialLaw → (journal : List Event) → IsOnce journal → WasPut journal (Snapshot initial_id) → rows_of journal initial_id ≡ Some []

@@ -25,12 +25,12 @@ use Rattle.repo_objects.specs.Laws.{InitialLaw, initial_bytes}
 use Rattle.repo_objects.specs.Readings.{snapshot_by}
 use Rattle.repo_objects.specs.Trees.{Extends, IsReadable, Puts, bytes_at, tree_under}
 use Rattle.store_api.specs.Journal.{IsFirst, IsGood, IsGoodJournal, IsOnce, WasPut, puts_of, snap_in, snap_made, tree_of}
-use Rattle.store_api.specs.declared.events.Event.{Event}
-use Rattle.store_api.specs.declared.events.Op.{Op}
-use Rattle.store_api.specs.declared.events.Op.TheVariants.{PutNew}
-use Rattle.store_api.specs.declared.keys.Key.TheVariants.{Snapshot}
-use Rattle.store_api.specs.declared.keys.Why.{Why}
-use Rattle.store_api.proofs.Journals.{Each-append, Each-one}
+use Rattle.object_store.specs.declared.events.Event.{Event}
+use Rattle.object_store.specs.declared.events.Op.{Op}
+use Rattle.object_store.specs.declared.events.Op.TheVariants.{PutNew}
+use Rattle.object_store.specs.declared.keys.Key.TheVariants.{Snapshot}
+use Rattle.object_store.specs.declared.keys.Why.{Why}
+use Rattle.object_store.proofs.Journals.{Each-append, Each-one}
 use Rattle.store_api.proofs.Standing.{log_made-append, snap_made-put}
 use Rattle.session.specs.Sessions.{SessionState, base_nodes, base_tree, changes_in, overlay}
 use Rattle.session.specs.Sources.{MayDrawNode}
@@ -49,7 +49,7 @@ use Rattle.run_histories.proofs.Ancestors.{Continues, Inherits, ancestor-on, cau
 use Rattle.run_histories.proofs.Drawing.{ids_at-of}
 use Rattle.run_histories.proofs.Grounds.{Grounds, IsCarried}
 use Rattle.run_histories.proofs.Origins.{continues}
-use Rattle.run_histories.proofs.Programs.{IsPlain}
+use Rattle.run_histories.proofs.Programs.{IsPlain, IsPlainOrCut, PutsOverSnapshot}
 use Rattle.run_histories.proofs.Putting.{PutsFresh, grown as puts-grow, fresh-parent, nodes-one, put-now, rows-kept, trees-one}
 use Rattle.run_histories.proofs.Sized.{changes_sized, normal-in}
 use Rattle.run_histories.proofs.Sources.{node-apart}
@@ -72,14 +72,15 @@ nothing-well puts = record {
   chunks = λ p i b h. absurd cc;
 }
 
-plain-initial : (op : Op) (id : Id12) (bytes : List ℕ) (why : Why) → IsPlain op → op ≡ PutNew (Snapshot id) bytes why → (id ≡ initial_id) × (bytes ≡ initial_bytes)
-plain-initial op id bytes why p e = subst IsPlain e p
+plain-initial : (op : Op) (id : Id12) (bytes : List ℕ) (why : Why) → IsPlainOrCut op → op ≡ PutNew (Snapshot id) bytes why → (id ≡ initial_id) × (bytes ≡ initial_bytes)
+plain-initial op id bytes why (inl p) e = subst IsPlain e p
+plain-initial op id bytes why (inr c) e = absurd (subst PutsOverSnapshot e c)
 
 -- the tree of bytes that were put last
 abbrev tree-of_bytes : (journal : List Event) (id : Id12) (last : Option (List ℕ)) → Option Tree
 tree-of_bytes journal id last = option_map (λ (s : SnapshotFile). tree_under (puts_of journal) s.nodes) (snap_in id last)
 
-module _ (initial : InitialLaw) (journal : List Event) (event : Event) (plain : IsPlain event.op) (id : Id12) (n : PutsFresh journal event (Snapshot id)) where
+module _ (initial : InitialLaw) (journal : List Event) (event : Event) (plain : IsPlainOrCut event.op) (id : Id12) (n : PutsFresh journal event (Snapshot id)) where
   initial-read : snapshot_by id n.bytes ≡ Some initial_snapshot
   initial-read =
       let e = plain-initial event.op id n.bytes n.why plain n.op_is in
@@ -152,7 +153,7 @@ module _ (draw : Draw) (tasks : List Task) (draws : DrawsOnce draw (length tasks
       once = Each-append IsFirst [] journal (event ∷ []) h.once (Each-one IsFirst journal event first);
       objects = λ place within. objects-one (ids_at draw place) journal event fits.keeps (h.objects place within);
       trees = trees-one journal event h.once fits.good first tree h.trees;
-      causes = causes-on journal (event ∷ []) goes-on (λ base id never child. elim (put-now journal event (Snapshot id) (snap_made-put (journal ++ event ∷ []) id child.snap child.made)) [
+      causes = causes-on journal (event ∷ []) goes-on initial (λ base id never child. elim (put-now journal event (Snapshot id) (snap_made-put (journal ++ event ∷ []) id child.snap child.made)) [
         | inl before ↦ absurd (never before)
         | inr now ↦ cause base id now child
       ]) h.causes;
@@ -164,8 +165,8 @@ module _ (draw : Draw) (tasks : List Task) (draws : DrawsOnce draw (length tasks
           };
     }
 
-  -- ---- of the opening, of the closing reading, or of a task on refs
-  module _ (journal : List Event) (event : Event) (good : IsGood journal event) (plain : IsPlain event.op) (h : Holds journal) where
+  -- ---- of the opening, of the closing reading, or of a task on refs; or a cut
+  module _ (journal : List Event) (event : Event) (good : IsGood journal event) (plain : IsPlainOrCut event.op) (h : Holds journal) where
     pub plain-holds : Holds (journal ++ event ∷ [])
     plain-holds = still old journal event (plain-fits draw tasks old journal event good plain) h
         (λ id n. initial-has initial journal event plain id n)
@@ -280,7 +281,7 @@ module _ (draw : Draw) (tasks : List Task) (draws : DrawsOnce draw (length tasks
         lists = touched owes.session.held (base_nodes session);
         logged = log_made-append journal (event ∷ []) id (touched owes.session.held (base_nodes session)) (owes.logged h.once);
         touches = touched-law {P = Place} (bytes_at (puts_of after)) owes.session.held (base_tree (puts_of after) session);
-        fresh = λ p m below added a has. free-on journal (event ∷ []) on ids session.base kept.put (kept.free p m added) below m.id a has (kept.added p m added);
+        fresh = λ p m below added a has. free-on journal (event ∷ []) on initial ids session.base kept.put (kept.free p m added) below m.id a has (kept.added p m added);
         drops = λ node d. let x = kept.drops node d in (x.below, ancestor-on journal (event ∷ []) on x.below session.base x.ancestor, node-on journal (event ∷ []) on x.below node x.has);
       }
 

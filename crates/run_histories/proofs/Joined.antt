@@ -7,12 +7,12 @@ use Rattle.ice_ids.proofs.Drawn.{count-once}
 use Rattle.zarr_tree.specs.Changes.{Changes, none}
 use Rattle.repo_objects.specs.Laws.{InitialLaw}
 use Rattle.store_api.specs.Journal.{Each, IsFirst, IsGood, IsGoodJournal, IsOnce, IsUnused, WasPut, tree_of}
-use Rattle.store_api.specs.Machine.{Slot}
-use Rattle.store_api.specs.declared.events.Event.{Event}
-use Rattle.store_api.specs.declared.keys.Key.{Key}
-use Rattle.store_api.specs.declared.keys.Key.TheVariants.{Chunk, Manifest, Snapshot, Txn}
-use Rattle.store_api.proofs.Journals.{Each-append, Each-back, Each-none, Each-weaker}
-use Rattle.store_api.proofs.Slots.{slot-none}
+use Rattle.object_store.specs.Machine.{Slot}
+use Rattle.object_store.specs.declared.events.Event.{Event}
+use Rattle.object_store.specs.declared.keys.Key.{Key}
+use Rattle.object_store.specs.declared.keys.Key.TheVariants.{Chunk, Manifest, Snapshot, Txn}
+use Rattle.object_store.proofs.Journals.{Each-append, Each-back, Each-none, Each-weaker}
+use Rattle.object_store.proofs.Slots.{slot-none}
 use Rattle.store_api.proofs.Standing.{snap_made-put}
 use Rattle.histories.specs.Calls.{CommitsApply, IsGiven}
 use Rattle.histories.proofs.Choosing.{chosen}
@@ -24,12 +24,12 @@ use Rattle.repository.specs.Beginning.{begin_program}
 use Rattle.play_tasks.specs.Tasks.{ids_at}
 use Rattle.run_histories.specs.Runs.{AllCaused, AllTrees, IsSound, RanAlone}
 use Rattle.run_histories.specs.Sources.{IsNewRun, IsNewSource, IsOfAnother}
-use Rattle.run_histories.specs.Told.{AllKeepFrozen, BegunLaw, CommitsSession, HasHistories, IsSolved, NoneHidden, NothingLaw, OthersLaw, RunLaw}
-use Rattle.run_histories.proofs.Along.{Fits, goes}
+use Rattle.run_histories.specs.Told.{AllKeepFrozen, AllNormal, BegunLaw, CommitsSession, HasHistories, IsSolved, NoneHidden, NothingLaw, OthersLaw, RunLaw}
+use Rattle.run_histories.proofs.Along.{CommitsOwn, Fits, goes}
 use Rattle.run_histories.proofs.Beginnings.{began-at-last}
 use Rattle.run_histories.proofs.Drawing.{AreOf, are-among, ids_at-of}
 use Rattle.run_histories.proofs.Given.{CommitsNormal, before-given, joined, joined-before, joined-right, solved-enter, solved-given}
-use Rattle.run_histories.proofs.Played.{all-frozen, none-hidden}
+use Rattle.run_histories.proofs.Played.{all-frozen, all-normal, none-hidden}
 use Rattle.run_histories.proofs.Putting.{tree-put}
 use Rattle.run_histories.proofs.Running.{HoldsOf, Known, NodesOf, known-is, run-begins, run-holds, run-known}
 use Rattle.run_histories.proofs.Sources.{node-apart}
@@ -43,6 +43,7 @@ record Leaves (draw : Draw) (tasks : List Task) (old start added : List Event) :
   causes : AllCaused (old ++ added)
   others : (ids : AnyIds) → IsOfAnother draw tasks ids → IsNewSource ids old → IsNewSource ids (old ++ added)
   frozen : AllKeepFrozen draw tasks old (old ++ added)
+  sessions : AllNormal draw tasks old (old ++ added)
   unhidden : NoneHidden draw tasks old (old ++ added)
 
 module _ (draw : Draw) (tasks : List Task) where
@@ -73,9 +74,10 @@ module _ (draw : Draw) (tasks : List Task) where
         changes = changes;
         same = joined-before before after old;
         solved = solved;
-        commits = solved-enter draw tasks start changes whole all once old added refl solved l.normal (Each-back (CommitsApply (tree_of whole) changes) [] old added law.0.commits).1;
+        commits = solved-enter draw tasks start changes whole all once old added refl solved l.normal (Each-back (CommitsApply (tree_of whole) changes) [] old added law.0.commits).1 (Each-weaker (Fits draw tasks start) (CommitsOwn start) (λ h e f. f.own) old added l.fits);
         opened = began-at-last whole changes all once law.0;
         frozen = l.frozen;
+        normal = l.sessions;
         unhidden = l.unhidden;
         sound = record { good = all; once = once; given = given; trees = l.trees; causes = l.causes };
         others = l.others;
@@ -103,6 +105,7 @@ run-law initial draw tasks before old new s new_run r =
       causes = last.causes;
       others = last.others;
       frozen = subst (AllKeepFrozen draw tasks old) is (all-frozen initial draw tasks before old new s new_run r);
+      sessions = subst (AllNormal draw tasks old) is (all-normal initial draw tasks before old new s new_run r);
       unhidden = subst (NoneHidden draw tasks old) is (none-hidden initial draw tasks before old new s new_run r);
     }))
 

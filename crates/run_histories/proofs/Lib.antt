@@ -7,6 +7,7 @@ pub mod Drawing
 pub mod Editing
 pub mod Putting
 pub mod Programs
+pub mod Chains
 pub mod Ancestors
 pub mod Carrying
 pub mod Origins

@@ -1,5 +1,5 @@
 -- A session is carried over one commit more.
-use Rattle.std.proofs.Common.{◌≡◌, ◌≢◌, inl, inr, ℕ, true, List, [], ◌∷◌, refl, sym, ◌∙◌, ap, subst}
+use Rattle.std.proofs.Common.{◌≡◌, inl, inr, ℕ, true, List, [], ◌∷◌, refl, sym, ◌∙◌, ap, subst}
 use Rattle.std.specs.FinMap.{get}
 use Rattle.std.specs.Prelude.{None, Some, option_map}
 use Rattle.std.proofs.lemmas.Bool.{false_from_ne_true}
@@ -8,7 +8,8 @@ use Rattle.ice_ids.specs.declared.Id12.{Id12}
 use Rattle.ice_ids.specs.declared.Id8.{Id8}
 use Rattle.ice_ids.specs.declared.drawing.AnyIds.{AnyIds}
 use Rattle.zarr_tree.specs.Changes.{IsNormal, apply}
-use Rattle.zarr_tree.specs.Conflicts.{IsApart}
+use Rattle.zarr_path.specs.Paths.{root}
+use Rattle.zarr_tree.specs.Conflicts.{AddsUnlike}
 use Rattle.zarr_tree.specs.Nodes.{Node}
 use Rattle.zarr_tree.specs.Touched.{Touches, lists}
 use Rattle.zarr_tree.specs.Trees.{IsWellFormed, Tree, node_at}
@@ -21,8 +22,8 @@ use Rattle.repo_objects.specs.Laws.{InitialLaw}
 use Rattle.repo_objects.specs.Trees.{nodes_in, tree_under}
 use Rattle.conflicts.specs.declared.solving.Policy.{Policy}
 use Rattle.store_api.specs.Journal.{WasPut, puts_of, rows_of, tree_of}
-use Rattle.store_api.specs.declared.events.Event.{Event}
-use Rattle.store_api.specs.declared.keys.Key.TheVariants.{Snapshot}
+use Rattle.object_store.specs.declared.events.Event.{Event}
+use Rattle.object_store.specs.declared.keys.Key.TheVariants.{Snapshot}
 use Rattle.session.specs.Sessions.{SessionState, base_nodes, base_tree, moved_to}
 use Rattle.session.specs.Sources.{MayDrawNode}
 use Rattle.commit_path.specs.Single.{HasPutAlike}
@@ -31,9 +32,11 @@ use Rattle.rebase.specs.Along.{Link, along, first_hidden, left_at, past, solved_
 use Rattle.rebase.specs.AlongLaws.{FollowsFrom, FollowsNothing, FollowsToOwn}
 use Rattle.rebase.proofs.OwnCommits.{held-own, own-taken, taken-left}
 use Rattle.rebase.proofs.Owned.{own-law}
+use Rattle.rebase.proofs.OverNothing.{nothing-left, taken-or-free}
+use Rattle.reach.specs.Chains.{parent_at, here}
 use Rattle.run_histories.specs.Runs.{HasCause, HasNode, IsChildOf}
-use Rattle.run_histories.proofs.Ancestors.{Continues, IsFree, ancestor-cases, ancestor-self, ancestor-up, free-on, free-up, new-free, node-has}
-use Rattle.run_histories.proofs.Gotten.{front-continues}
+use Rattle.run_histories.proofs.Ancestors.{IsFree, ancestor-cases, ancestor-up, free-up, node-has}
+use Rattle.run_histories.proofs.Chains.{chain-cases, chain-initial, initial-bare}
 use Rattle.run_histories.proofs.Grounds.{Grounds, HasNodeBelow, IsCarried, IsLink, initial-alone, initial-rows, well-rows}
 use Rattle.run_histories.proofs.Origins.{WasPutBy, own-alike}
 use Rattle.run_histories.proofs.Sized.{changes_sized, sized}
@@ -43,7 +46,7 @@ some-same a b e = cc
 
 module _ (initial : InitialLaw) (ids : AnyIds) (client : ℕ) (start journal : List Event) (g : Grounds ids client start journal) where
   -- ---- a commit that the session is carried over
-  module _ (s : SessionState) (k : IsCarried ids journal s) (alike : HasPutAlike client s start journal) (policy : Policy) (l : Link) (link : IsLink start journal s.base l) (none_left : left_at policy s.held (base_nodes s) l ≡ []) where
+  module _ (s : SessionState) (k : IsCarried ids journal s) (alike : HasPutAlike client s start journal) (policy : Policy) (l : Link) (link : IsLink journal s.base l) (none_left : left_at policy s.held (base_nodes s) l ≡ []) where
     abbrev base : Tree
     base = base_tree (puts_of journal) s
 
@@ -70,11 +73,11 @@ module _ (initial : InitialLaw) (ids : AnyIds) (client : ℕ) (start journal : L
         let own = held-own sized s.held a.session.held (base_nodes a.session) l p n added a.added a.dropped (ap nodes_in rows ∙ a.nodes) in
         taken-left sized policy s.held (base_nodes s) l own.path (own-taken (changes_sized s) l k.normal.not_dropped own) none_left
 
-    -- so it inherits, and none of its ancestors has a node of the client's
+    -- so it inherits, and neither it nor one below it has a node of the client's
     child-free : (p : List ℕ) (n : Node) → get s.held.added p ≡ Some n → IsChildOf journal s.base l.file.id → IsFree ids journal l.file.id
     child-free p n added child = elim (g.come l.file.id link.put) [
       | inl by ↦ absurd (not-own p n added by)
-      | inr inherits ↦ free-up ids journal s.base l.file.id child inherits (k.free p n added)
+      | inr inherits ↦ free-up ids journal initial g.good g.once s.base l.file.id child inherits (k.free p n added)
     ]
 
     -- ---- where the base is the parent that was first named
@@ -102,38 +105,20 @@ module _ (initial : InitialLaw) (ids : AnyIds) (client : ℕ) (start journal : L
       their-node : (p : List ℕ) (n : Node) → get cause.changes.added p ≡ Some n → HasNode journal l.file.id n.id
       their-node p n f = node-has journal l.file.id head p n head-is (ap (λ (t : Tree). node_at t p) (sym after-is) ∙ added_node cause.changes base p n f)
 
-      -- neither adds an id that the other one adds or drops
-      differ : (p q : List ℕ) (m n : Node) → get s.held.added p ≡ Some m → get cause.changes.added q ≡ Some n → n.id ≢ m.id
-      differ p q m n f g e =
-          child-free p m f child l.file.id n.id (ancestor-self journal l.file.id) (their-node q n g) (subst (MayDrawNode ids) (sym e) (k.added p m f))
-
-      ours-apart : IsApart (changes_sized s) cause.changes
-      ours-apart p n f = (
-        false_from_ne_true (cause.changes.dropped n.id) (λ d. let x = cause.drops n.id d in k.free p n f x.0 n.id x.1 x.2 (k.added p n f)),
-        λ q m h. differ p q n m f h,
-      )
-
-      theirs-apart : IsApart cause.changes (changes_sized s)
-      theirs-apart p n f = (
-        false_from_ne_true (lists s.held.dropped n.id) (λ d. let x = k.drops n.id d in cause.fresh p n x.below f x.ancestor x.has),
-        λ q m h e. differ q p m n h f (sym e),
-      )
+      -- neither adds an id that the other one adds
+      unlike : AddsUnlike (changes_sized s) cause.changes
+      unlike p m f q n g e =
+          child-free p m f child l.file.id n.id here (their-node q n g) (subst (MayDrawNode ids) (sym e) (k.added p m f))
 
       child-follows : FollowsToOwn (changes_sized s) base (l ∷ []) head
       unfolding FollowsToOwn
-      child-follows = inr (cause.changes, theirs, touches, ap (λ (t : Tree). t.nodes) after-is, ours-apart, theirs-apart, after-is)
+      child-follows = inr (cause.changes, theirs, touches, ap (λ (t : Tree). t.nodes) after-is, unlike, after-is)
 
       child-drops : (node : Id8) → lists s.held.dropped node ≡ true → HasNodeBelow journal l.file.id node
       child-drops node d = let x = k.drops node d in record { below = x.below; ancestor = ancestor-up journal s.base l.file.id x.below child x.ancestor; has = x.has }
 
     -- ---- where the commit was cut: the base is the initial snapshot
-    module _ (at_initial : s.base ≡ initial_id) (early : WasPut start (Snapshot l.file.id)) where
-      start-goes : Continues start g.since
-      start-goes = front-continues journal start g.since g.is g.good g.once
-
-      cut-free : IsFree ids journal l.file.id
-      cut-free = subst (λ (j : List Event). IsFree ids j l.file.id) (sym g.is) (free-on start g.since start-goes ids l.file.id early (new-free ids start g.new l.file.id))
-
+    module _ (at_initial : s.base ≡ initial_id) (cut : parent_at journal l.file.id ≡ Some initial_id) where
       -- the base has no node, and no parent
       initial-put : WasPut journal (Snapshot initial_id)
       initial-put = subst (λ (i : Id12). WasPut journal (Snapshot i)) at_initial k.put
@@ -154,6 +139,24 @@ module _ (initial : InitialLaw) (ids : AnyIds) (client : ℕ) (start journal : L
                 absurd cc
             | inr above ↦ initial-alone initial journal g.good g.once initial-put above.base (subst (IsChildOf journal above.base) at_initial above.child)
           ]
+
+      -- where the session adds a node, it adds `/`, so `/` is taken, or the commit's tree has no node either
+      head-bare : (p : List ℕ) (n : Node) → get s.held.added p ≡ Some n → (q : List ℕ) → node_at head q ≡ None
+      head-bare p n added = elim (taken-or-free (changes_sized s) base head base-well head-well k.normal base-bare (λ node. false_from_ne_true (lists s.held.dropped node) (none-dropped node))) [
+        | inl taken ↦ absurd (taken-left sized policy s.held (base_nodes s) l root taken none_left)
+        | inr f ↦ nothing-left (changes_sized s) base head base-well head-well k.normal base-bare f.free p n added
+      ]
+
+      cut-free : (p : List ℕ) (n : Node) → get s.held.added p ≡ Some n → IsFree ids journal l.file.id
+      cut-free p n added below node chain has may = elim (chain-cases chain) [
+        | inl same ↦
+            let tree : has.tree ≡ head = some-same has.tree head (sym has.has ∙ ap (tree_of journal) same ∙ head-is) in
+            let no : None ≡ Some has.node = sym (head-bare p n added has.path) ∙ ap (λ (t : Tree). node_at t has.path) (sym tree) ∙ has.found in
+            absurd cc
+        | inr under ↦
+            let parent : under.parent ≡ initial_id = some-same under.parent initial_id (sym under.named ∙ cut) in
+            initial-bare initial journal g.once below node (chain-initial initial journal g.once under.parent below under.chain parent) has
+      ]
 
       nothing-follows : FollowsNothing (changes_sized s) base (l ∷ []) head
       unfolding FollowsToOwn
@@ -193,7 +196,7 @@ module _ (initial : InitialLaw) (ids : AnyIds) (client : ℕ) (start journal : L
       added = k.added;
       free = λ p n f. elim link.parent [
         | inl child ↦ child-free p n f child
-        | inr cut ↦ cut-free cut.0 cut.1
+        | inr cut ↦ cut-free cut.0 cut.1 p n f
       ];
       drops = λ node d. elim link.parent [
         | inl child ↦ child-drops child node d

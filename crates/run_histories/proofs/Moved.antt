@@ -1,6 +1,5 @@
 -- A session is carried over commit after commit.
 use Rattle.std.proofs.Common.{◌≡◌, inl, inr, ℕ, List, [], ◌∷◌, ◌++◌, refl, subst}
-use Rattle.std.specs.Prelude.{Option, Some, None}
 use Rattle.ice_ids.specs.declared.Id12.{Id12}
 use Rattle.ice_ids.specs.declared.Id8.{Id8}
 use Rattle.ice_ids.specs.declared.drawing.AnyIds.{AnyIds}
@@ -9,9 +8,10 @@ use Rattle.manifest_file.specs.declared.manifest.Place.{Place}
 use Rattle.repo_objects.specs.Laws.{InitialLaw}
 use Rattle.repo_objects.specs.Trees.{nodes_in}
 use Rattle.conflicts.specs.declared.solving.Policy.{Policy}
-use Rattle.store_api.specs.declared.events.Event.{Event}
-use Rattle.session.specs.declared.tip.Tip.{Tip}
-use Rattle.session.specs.Sessions.{SessionState, base_nodes, moved_to, tip_at, version_of}
+use Rattle.object_store.specs.declared.events.Event.{Event}
+use Rattle.session.specs.declared.origin.Origin.{Origin}
+use Rattle.session.specs.declared.origin.Origin.TheVariants.{Writes, ReadsBranch, ReadsTag, ReadsId}
+use Rattle.session.specs.Sessions.{SessionState, base_nodes, moved_to, origin_at, version_of}
 use Rattle.commit_path.specs.Single.{HasPutAlike}
 use Rattle.rebase.specs.Along.{Hides, Link, Solves, along, first_hidden, left_at, solved_at}
 use Rattle.rebase.proofs.Following.{past-hides, past-solves}
@@ -23,16 +23,18 @@ solves-same : (g h : Held Place) → Solves g ≡ Solves h → g ≡ h
 solves-same g h e = cc
 
 -- a session that moves twice has the last version
-tip-again : (version k : ℕ) (tip : Option Tip) → tip_at version (tip_at k tip) ≡ tip_at version tip
-tip-again version k None = refl
-tip-again version k (Some tip) = refl
+origin-again : (version k : ℕ) (origin : Origin) → origin_at version (origin_at k origin) ≡ origin_at version origin
+origin-again version k (Writes tip) = refl
+origin-again version k (ReadsBranch tip) = refl
+origin-again version k (ReadsTag name) = refl
+origin-again version k ReadsId = refl
 
 module _ (initial : InitialLaw) (ids : AnyIds) (client : ℕ) (start journal : List Event) (g : Grounds ids client start journal) where
   -- ---- commit after commit
   -- each of the commits is linked to the one before it
   unfoldable pub AllLinked : Id12 → List Link → Type 0
   AllLinked base [] = Unit {0}
-  AllLinked base (l ∷ ls) = IsLink start journal base l × AllLinked l.file.id ls
+  AllLinked base (l ∷ ls) = IsLink journal base l × AllLinked l.file.id ls
 
   module _ (policy : Policy) where
     -- the session behind the first commit, of which nothing was left
@@ -51,7 +53,7 @@ module _ (initial : InitialLaw) (ids : AnyIds) (client : ℕ) (start journal : L
         subst (λ (h : Held Place). IsCarried ids journal (moved_to s last.file.id version last.file h)) same (step-carried initial ids client start journal g s k alike policy last linked.0 p.none_left version p.none_hidden)
     walk-carried (l ∷ ls) last s left version k alike linked e =
         let p = past-solves l.file.id (left_at policy s.held (base_nodes s) l) (first_hidden (nodes_in l.file.nodes) s.held.metas) (along policy (solved_at policy s.held (base_nodes s) l) (nodes_in l.file.nodes) (ls ++ last ∷ [])) left e in
-        subst (λ (t : Option Tip). IsCarried ids journal (record s { tip = t; base = last.file.id; rows = last.file.nodes; files = last.file.manifest_files; held = left })) (tip-again version (version_of s) s.tip)
+        subst (λ (o : Origin). IsCarried ids journal (record s { origin = o; base = last.file.id; rows = last.file.nodes; files = last.file.manifest_files; held = left })) (origin-again version (version_of s) s.origin)
         (walk-carried ls last (behind s l) left version (step-carried initial ids client start journal g s k alike policy l linked.0 p.none_left (version_of s) p.none_hidden) (behind-alike s l alike) linked.1 p.goes_on)
 
     pub walk-honest : (links : List Link) (s : SessionState) (at : Id12) (node : Id8) → IsCarried ids journal s → HasPutAlike client s start journal → AllLinked s.base links → ¬ (along policy s.held (base_nodes s) links ≡ Hides at node)

@@ -1,4 +1,4 @@
--- Which snapshots a client has put itself since a start; of its nodes the others have those of their parents alone. And none is put over since.
+-- Which snapshots a client has put itself since a start; of its nodes the others have those of their parents alone.
 use Rattle.std.proofs.Common.{◌≡◌, inl, inr, ◌⊎◌, ℕ, List, [], ◌∷◌, ◌++◌, refl, sym, ◌∙◌, ap, subst, append_assoc}
 use Rattle.std.specs.Prelude.{Option, option_map}
 use Rattle.std.proofs.lemmas.List.{append_cancel_left}
@@ -6,20 +6,17 @@ use Rattle.ice_ids.specs.declared.Id12.{Id12}
 use Rattle.ice_ids.specs.declared.drawing.AnyIds.{AnyIds}
 use Rattle.snapshot_file.specs.declared.snapshot.SnapshotFile.{SnapshotFile}
 use Rattle.repo_objects.specs.Readings.{snapshot_by}
-use Rattle.store_api.specs.declared.keys.Key.TheVariants.{Snapshot}
-use Rattle.store_api.specs.declared.keys.Why.{Why}
-use Rattle.store_api.specs.declared.events.Op.{Op}
-use Rattle.store_api.specs.declared.events.Op.TheVariants.{PutNew, PutOver}
-use Rattle.store_api.specs.declared.events.Reply.{Reply}
-use Rattle.store_api.specs.declared.events.Event.{Event}
+use Rattle.object_store.specs.declared.keys.Key.TheVariants.{Snapshot}
+use Rattle.object_store.specs.declared.keys.Why.{Why}
+use Rattle.object_store.specs.declared.events.Op.TheVariants.{PutNew}
+use Rattle.object_store.specs.declared.events.Reply.{Reply}
+use Rattle.object_store.specs.declared.events.Event.{Event}
 use Rattle.store_api.specs.Journal.{Each, IsGood, IsGoodJournal, IsFirst, IsOnce, WasPut, rows_of, snap_in}
 use Rattle.store_api.specs.Telling.{HasOwn}
-use Rattle.store_api.proofs.Journals.{Each-one, Each-at}
-use Rattle.store_api.proofs.Slots.{WasPut-append}
+use Rattle.object_store.proofs.Journals.{Each-one, Each-at}
 use Rattle.store_api.proofs.Happening.{HasOwn-append}
 use Rattle.session.specs.Sessions.{SessionState}
 use Rattle.commit_path.specs.Single.{IsAlike, PutsAlike, HasPutAlike}
-use Rattle.rebase.proofs.Made.{WasCut}
 use Rattle.run_histories.specs.Sources.{NodesAreNew}
 use Rattle.run_histories.proofs.Putting.{PutsFresh, put-now, rows-kept}
 use Rattle.run_histories.proofs.Ancestors.{Inherits, Continues, new-node, inherits-on}
@@ -49,11 +46,6 @@ AllCome ids client start journal = (id : Id12) → WasPut journal (Snapshot id) 
 
 pub come-start : (ids : AnyIds) (client : ℕ) (start : List Event) → NodesAreNew ids start → AllCome ids client start start
 come-start ids client start new id w = inr (λ node h may. absurd (new-node ids start new id node h may))
-
--- a snapshot that is put over
-abbrev pub PutsOverSnapshot : Op → Type 0
-PutsOverSnapshot (PutOver (Snapshot id) bytes old why) = Unit {0}
-PutsOverSnapshot _ = ⊥
 
 -- ---- one more event
 module _ (journal : List Event) (event : Event) (good : IsGoodJournal journal) (once : IsOnce journal) (goes_on : IsGood journal event) (first : IsFirst journal event) where
@@ -90,34 +82,3 @@ module _ (journal : List Event) (event : Event) (good : IsGoodJournal journal) (
       | inr inherits ↦ inr inherits
     ]
   ]
-
--- ---- none is put over
--- an event of two journals one behind the other is one of the first, or of the second
-record IsWithin (first before : List Event) (event : Event) : Type 0 where
-  mid : List Event
-  is : first ≡ before ++ event ∷ mid
-
-record IsBehind (rest : List Event) (event : Event) : Type 0 where
-  front : List Event
-  back : List Event
-  is : rest ≡ front ++ event ∷ back
-
-heads-same : (x y : Event) (xs ys : List Event) → ◌≡◌ {A = List Event} (x ∷ xs) (y ∷ ys) → (x ≡ y) × (xs ≡ ys)
-heads-same x y xs ys e = (cc e, cc e)
-
-split-at : (before : List Event) (event : Event) (after first rest : List Event) → before ++ event ∷ after ≡ first ++ rest → IsWithin first before event ⊎ IsBehind rest event
-split-at before event after [] rest e = inr (record { front = before; back = after; is = sym e })
-split-at [] event after (x ∷ xs) rest e = inl (record { mid = xs; is = λ i. sym (heads-same event x after (xs ++ rest) e).0 i ∷ xs })
-split-at (y ∷ ys) event after (x ∷ xs) rest e =
-    let same = heads-same y x (ys ++ event ∷ after) (xs ++ rest) e in
-    elim (split-at ys event after xs rest same.1) [
-      | inl w ↦ inl (record { mid = w.mid; is = λ i. sym same.0 i ∷ w.is i })
-      | inr b ↦ inr b
-    ]
-
--- a snapshot that was cut was put before the start, where none was put over since
-pub cut-early : (start since journal : List Event) (id : Id12) → journal ≡ start ++ since → Each (λ h e. ¬ PutsOverSnapshot e.op) start since → WasCut journal id → WasPut start (Snapshot id)
-cut-early start since journal id is uncut c = elim (split-at c.before c.event c.after start since (sym c.is ∙ is)) [
-  | inl w ↦ subst (λ (j : List Event). WasPut j (Snapshot id)) (sym w.is) (WasPut-append c.before (c.event ∷ w.mid) (Snapshot id) c.put)
-  | inr b ↦ absurd (Each-at (λ h e. ¬ PutsOverSnapshot e.op) start b.front c.event b.back (subst (Each (λ h e. ¬ PutsOverSnapshot e.op) start) b.is uncut) (subst PutsOverSnapshot (sym c.op_is) tt))
-]

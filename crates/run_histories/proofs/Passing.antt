@@ -7,21 +7,21 @@ use Rattle.ice_ids.specs.declared.drawing.Draw.{Draw}
 use Rattle.ice_ids.specs.Drawing.{DrawsOnce}
 use Rattle.repo_objects.specs.Laws.{InitialLaw}
 use Rattle.store_api.specs.Journal.{Each, IsGood, puts_of}
-use Rattle.store_api.specs.declared.events.Event.{Event}
-use Rattle.store_api.specs.declared.keys.Key.TheVariants.{Snapshot}
-use Rattle.store_api.proofs.Journals.{Each-append, Each-back, Each-none, Each-one, Each-weaker}
+use Rattle.object_store.specs.declared.events.Event.{Event}
+use Rattle.object_store.specs.declared.keys.Key.TheVariants.{Snapshot}
+use Rattle.object_store.proofs.Journals.{Each-append, Each-back, Each-none, Each-one}
 use Rattle.commit_path.specs.Single.{PutsNone, PutsSnapshot}
 use Rattle.play_script.specs.Well.{IsWellTask}
 use Rattle.play_script.specs.declared.scripts.Task.{Task}
-use Rattle.play_tasks.specs.Tasks.{ids_at}
+use Rattle.play_tasks.specs.Tasks.{ids_at, IsOfClient}
 use Rattle.run_histories.specs.Sources.{NodesAreNew}
-use Rattle.run_histories.proofs.Along.{Fits, IsOfOpener, among-at, client-fits, plain-fits, plain-no-commit, well-at}
+use Rattle.run_histories.proofs.Along.{Fits, IsOfOpener, among-at, by-head, client-fits, plain-fits, plain-no-commit, well-at}
 use Rattle.run_histories.proofs.Ancestors.{Inherits}
 use Rattle.run_histories.proofs.Given.{CommitsNormal}
 use Rattle.run_histories.proofs.Grounds.{Grounds}
 use Rattle.run_histories.proofs.Growing.{AllNodesAreNew, Holds, client-comes, client-holds, nodes-stay, plain-holds, plain-inherits, plain-nodes}
-use Rattle.run_histories.proofs.Origins.{AllCome, PutsOverSnapshot, come-one, come-start}
-use Rattle.run_histories.proofs.Programs.{IsPlain}
+use Rattle.run_histories.proofs.Origins.{AllCome, come-one, come-start}
+use Rattle.run_histories.proofs.Programs.{IsPlain, IsPlainOrCut}
 use Rattle.run_histories.proofs.Putting.{PutsFresh}
 use Rattle.run_histories.proofs.Sized.{normal-in}
 use Rattle.run_histories.proofs.Sources.{node-spends}
@@ -36,11 +36,18 @@ module _ (draw : Draw) (tasks : List Task) (draws : DrawsOnce draw (length tasks
 
   -- ---- the tasks began at the start
   module _ (start : List Event) where
-    -- an event of a task that opens a session, or one of the opening, of a task on refs, or of the closing reading
+    -- an event of a task that opens a session, or one of the opening, of a task on refs, or of the closing reading; or a cut of a snapshot's parent
     abbrev pub IsOfRun : List Event → Event → Type 0
-    IsOfRun journal event = IsOfOpener draw tasks start journal event ⊎ (IsGood journal event × IsPlain event.op)
+    IsOfRun journal event = IsOfOpener draw tasks start journal event ⊎ (IsGood journal event × IsPlainOrCut event.op)
 
-    -- What is known of an event: what holds before it and behind it; a snapshot that it puts is of its own client, or inherits; and it puts none over.
+    -- an event of a client is one
+    pub client-of_run : (journal : List Event) (event : Event) → IsOfClient draw tasks start journal event → IsOfRun journal event
+    client-of_run journal event c = elim (by-head draw tasks start journal event c) [
+      | inl o ↦ inl o
+      | inr p ↦ inr (p.0, inl p.1)
+    ]
+
+    -- What is known of an event: what holds before it and behind it; and a snapshot that it puts is of its own client, or inherits.
     pub record IsKnown (journal : List Event) (event : Event) : Type 0 where
       pub holds : Hold journal
       pub fits : Fits draw tasks start journal event
@@ -99,11 +106,10 @@ module _ (draw : Draw) (tasks : List Task) (draws : DrawsOnce draw (length tasks
             let nil : from ≡ from ++ [] = sym (append-nil from) in
             come-along from [] since (subst (λ (j : List Event). Each IsKnown j since) nil known)
             (subst (AllCome (ids_at draw place) (place + 1) from) nil (come-start (ids_at draw place) (place + 1) from new));
-        uncut = Each-weaker IsKnown (λ j e. ¬ PutsOverSnapshot e.op) (λ j e k. k.fits.uncut) from since known;
       }
 
     -- ---- plain events
-    plain-one : (journal : List Event) (event : Event) → IsGood journal event → IsPlain event.op → Hold journal → IsKnown journal event
+    plain-one : (journal : List Event) (event : Event) → IsGood journal event → IsPlainOrCut event.op → Hold journal → IsKnown journal event
     plain-one journal event good plain h = record {
       holds = h;
       fits = plain-fits draw tasks start journal event good plain;
@@ -116,15 +122,15 @@ module _ (draw : Draw) (tasks : List Task) (draws : DrawsOnce draw (length tasks
     unfolding Each
     plain-known journal [] good plain h = tt
     plain-known journal (x ∷ xs) good plain h =
-        (plain-one journal x good.0 plain.0 h, plain-known (journal ++ x ∷ []) xs good.1 plain.1 (plain-holds draw tasks draws wells initial old journal x good.0 plain.0 h))
+        (plain-one journal x good.0 (inl plain.0) h, plain-known (journal ++ x ∷ []) xs good.1 plain.1 (plain-holds draw tasks draws wells initial old journal x good.0 (inl plain.0) h))
 
     pub plain-nodes-along : (journal events : List Event) → Each IsGood journal events → Each (λ j e. IsPlain e.op) journal events → Hold journal → AllNew journal → AllNew (journal ++ events)
     unfolding Each
     plain-nodes-along journal [] good plain h new = subst AllNew (sym (append-nil journal)) new
     plain-nodes-along journal (x ∷ xs) good plain h new =
         subst AllNew (append_assoc journal (x ∷ []) xs)
-        (plain-nodes-along (journal ++ x ∷ []) xs good.1 plain.1 (plain-holds draw tasks draws wells initial old journal x good.0 plain.0 h)
-        (λ place within. plain-nodes draw tasks draws wells initial old journal x good.0 plain.0 h place (new place within)))
+        (plain-nodes-along (journal ++ x ∷ []) xs good.1 plain.1 (plain-holds draw tasks draws wells initial old journal x good.0 (inl plain.0) h)
+        (λ place within. plain-nodes draw tasks draws wells initial old journal x good.0 (inl plain.0) h place (new place within)))
 
     -- ---- the run
     module _ (new : AllNew start) (since : List Event) (known : Each IsKnown start since) (h : Hold (start ++ since)) where

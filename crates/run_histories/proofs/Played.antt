@@ -10,8 +10,8 @@ use Rattle.zarr_tree.specs.Changes.{Changes}
 use Rattle.repo_objects.specs.Laws.{InitialLaw}
 use Rattle.conflicts.specs.declared.solving.Policy.{Policy}
 use Rattle.store_api.specs.Journal.{Each, puts_of}
-use Rattle.store_api.specs.declared.events.Event.{Event}
-use Rattle.store_api.proofs.Journals.{Each-back}
+use Rattle.object_store.specs.declared.events.Event.{Event}
+use Rattle.object_store.proofs.Journals.{Each-back}
 use Rattle.session.specs.Sessions.{SessionState}
 use Rattle.play_script.specs.Well.{IsWellLine}
 use Rattle.play_script.specs.declared.scripts.Task.{Task}
@@ -20,7 +20,7 @@ use Rattle.play_tasks.specs.Playing.{asked_by, policy_of}
 use Rattle.play_tasks.specs.Tasks.{ids_at}
 use Rattle.run_histories.specs.Runs.{IsRun, IsSound, RanAlone}
 use Rattle.run_histories.specs.Sources.{IsNewRun}
-use Rattle.run_histories.specs.Told.{AllKeepFrozen, NoneHidden, WasPlayed}
+use Rattle.run_histories.specs.Told.{AllKeepFrozen, AllNormal, NoneHidden, WasPlayed}
 use Rattle.run_histories.proofs.Along.{well-at}
 use Rattle.run_histories.proofs.Began.{lines-carried, lost-carried}
 use Rattle.run_histories.proofs.Carrying.{IsFront, alike-back, lost-same, opened-goes}
@@ -28,7 +28,7 @@ use Rattle.run_histories.proofs.Editing.{lines-went}
 use Rattle.run_histories.proofs.Grounds.{Grounds, IsCarried}
 use Rattle.run_histories.proofs.Passing.{grounds}
 use Rattle.run_histories.proofs.Running.{HoldsOf, Known, NodesOf, known-is, opening-nodes, run-begins, run-holds, run-known}
-use Rattle.run_histories.proofs.Sized.{sized-keeps}
+use Rattle.run_histories.proofs.Sized.{normal-in, sized-keeps}
 use Rattle.run_histories.proofs.Walked.{carried, rebase-honest}
 
 all-front : {A : Type 0} (P : A → Type 0) (xs ys : List A) → All P (xs ++ ys) → All P xs
@@ -83,10 +83,18 @@ module _ (initial : InitialLaw) (draw : Draw) (tasks : List Task) (before : ℕ 
     played-carried =
         let well : All IsWellLine w.played = all-front IsWellLine w.played w.left (subst (All IsWellLine) w.body (well-at draw tasks r.well place task at).body) in
         let went = lines-went ids (place + 1) start new w.played w.opened t w.shown well (opened-goes ids w.access (place + 1) start new w.opened w.begun) w.plays in
-        lines-carried ids (place + 1) start new grounds-new (asked_by w.access ids) w.opened w.begun w.early t went
+        lines-carried initial ids (place + 1) start new grounds-new (asked_by w.access ids) w.opened w.begun w.early t went
 
   pub all-frozen : AllKeepFrozen draw tasks old new
   all-frozen start place task t opening at w = sized-keeps (puts_of new) t (played-carried start opening place task t at w).normal
+
+  pub all-normal : AllNormal draw tasks old new
+  all-normal = record {
+    played = λ start place task s opening at w has. normal-in (puts_of new) s has (played-carried start opening place task s at w).normal;
+    carried = λ start place task s t count opening at w moved alike has.
+        normal-in (puts_of new) t has
+        (carried initial (ids_at draw place) (place + 1) start new (grounds-new start opening place task s at w) (policy_of w.access) count s t new (record { more = []; is = sym (append-nil new) }) (played-carried start opening place task s at w) alike moved).normal;
+  }
 
   pub none-hidden : NoneHidden draw tasks old new
   none-hidden start since place task lost key bad opening at l hidden =
@@ -97,4 +105,4 @@ module _ (initial : InitialLaw) (draw : Draw) (tasks : List Task) (before : ℕ 
       let same = lost-same client policy l.at_last lost start since l.was_lost in
       let here : IsFront new new = record { more = []; is = sym (append-nil new) } in
       let k = carried initial ids client start new g policy l.count l.session l.at_last new here (played-carried start opening place task l.session at l.was_played) (alike-back client l.at_last lost start new same.holds l.alike) l.carried in
-      rebase-honest initial ids client start new g policy lost key bad since new here (lost-carried ids client start new g l.at_last lost since l.was_lost k) l.alike hidden
+      rebase-honest initial ids client start new g policy lost key bad since new here (lost-carried initial ids client start new g l.at_last lost since l.was_lost k) l.alike hidden

@@ -9,16 +9,16 @@ use Rattle.zarr_tree.specs.Trees.{Tree, node_at, IsWellFormed}
 use Rattle.snapshot_file.specs.declared.snapshot.SnapshotFile.{SnapshotFile}
 use Rattle.repo_objects.specs.Readings.{snapshot_by}
 use Rattle.repo_objects.specs.Trees.{Extends, tree_under}
-use Rattle.store_api.specs.declared.keys.Key.{Key}
-use Rattle.store_api.specs.declared.keys.Key.TheVariants.{Snapshot}
-use Rattle.store_api.specs.declared.keys.Why.{Why}
-use Rattle.store_api.specs.declared.events.Op.{Op}
-use Rattle.store_api.specs.declared.events.Op.TheVariants.{Get, PutNew, PutOver, Remove, RemoveAt, List as ListPart}
-use Rattle.store_api.specs.declared.events.Event.{Event}
-use Rattle.store_api.specs.Machine.{Slot, slot_of, fresh_slot, through, effect, leaves, put_at, is_on, first_put, last_put, was_done}
+use Rattle.object_store.specs.declared.keys.Key.{Key}
+use Rattle.object_store.specs.declared.keys.Key.TheVariants.{Snapshot}
+use Rattle.object_store.specs.declared.keys.Why.{Why}
+use Rattle.object_store.specs.declared.events.Op.{Op}
+use Rattle.object_store.specs.declared.events.Op.TheVariants.{Get, PutNew, PutOver, Remove, RemoveAt, List as ListPart}
+use Rattle.object_store.specs.declared.events.Event.{Event}
+use Rattle.object_store.specs.Machine.{Slot, slot_of, fresh_slot, through, effect, leaves, put_at, is_on, first_put, last_put, was_done}
 use Rattle.store_api.specs.Journal.{IsGood, IsGoodJournal, IsFirst, IsOnce, IsPolite, MayPutNew, WasPut, ParentPut, puts_of, rows_of, tree_of, snap_in, snap_made}
-use Rattle.store_api.proofs.Journals.{Each-one}
-use Rattle.store_api.proofs.Slots.{same_key-true, effect-cases, free-cases, old-cases, slot-append_one, sound}
+use Rattle.object_store.proofs.Journals.{Each-one}
+use Rattle.object_store.proofs.Slots.{same_key-true, effect-cases, free-cases, old-cases, slot-append_one, sound}
 use Rattle.store_api.proofs.Standing.{standing, rows-stay, puts-stay}
 use Rattle.store_api.proofs.Naming.{names-law}
 use Rattle.session.specs.Sources.{MayDrawNode}

@@ -1,21 +1,20 @@
 -- What holds along a run.
-use Rattle.std.proofs.Common.{◌≡◌, inr, ℕ, List, ◌++◌, length, sym, ◌∙◌, ap, subst, append_assoc}
+use Rattle.std.proofs.Common.{◌≡◌, inl, inr, ℕ, List, ◌++◌, length, sym, ◌∙◌, ap, subst, append_assoc}
 use Rattle.ice_ids.specs.declared.drawing.Draw.{Draw}
 use Rattle.ice_ids.specs.Drawing.{DrawsOnce}
 use Rattle.zarr_tree.specs.Changes.{Changes}
 use Rattle.repo_objects.specs.Laws.{InitialLaw}
 use Rattle.store_api.specs.Journal.{Each, IsGood}
-use Rattle.store_api.specs.declared.events.Event.{Event}
-use Rattle.store_api.proofs.Journals.{Each-append, Each-both, Each-weaker}
+use Rattle.object_store.specs.declared.events.Event.{Event}
+use Rattle.object_store.proofs.Journals.{Each-append, Each-both, Each-weaker}
 use Rattle.play_script.specs.declared.scripts.Task.{Task}
 use Rattle.repository.specs.Beginning.{begin_program}
 use Rattle.repository.specs.Refs.{refs_program}
 use Rattle.play_tasks.specs.Tasks.{IsOfClient}
 use Rattle.run_histories.specs.Runs.{IsRun, IsSound, RanAlone}
 use Rattle.run_histories.specs.Sources.{IsNewRun}
-use Rattle.run_histories.proofs.Along.{by-head}
 use Rattle.run_histories.proofs.Growing.{AllNodesAreNew, Holds}
-use Rattle.run_histories.proofs.Passing.{IsKnown, IsOfRun, holds-along, plain-known, plain-nodes-along, run-knows}
+use Rattle.run_histories.proofs.Passing.{IsKnown, IsOfRun, client-of_run, holds-along, plain-known, plain-nodes-along, run-knows}
 use Rattle.run_histories.proofs.Programs.{IsPlain, begin-plain, path-plain, refs-plain}
 
 module _ (draw : Draw) (tasks : List Task) (draws : DrawsOnce draw (length tasks)) where
@@ -47,9 +46,9 @@ module _ (draw : Draw) (tasks : List Task) (draws : DrawsOnce draw (length tasks
     run-each : Each OfRun r.begun (r.playing.own ++ r.closing.own)
     run-each =
         let plain = path-plain refs_program r.played r.closing.own r.closing.left refs-plain r.closing.path in
-        let closing : Each OfRun r.played r.closing.own = Each-both IsGood (λ h e. IsPlain e.op) OfRun (λ h e good p. inr (good, p)) r.played r.closing.own r.closing.good plain in
+        let closing : Each OfRun r.played r.closing.own = Each-both IsGood (λ h e. IsPlain e.op) OfRun (λ h e good p. inr (good, inl p)) r.played r.closing.own r.closing.good plain in
         Each-append OfRun r.begun r.playing.own r.closing.own
-        (Each-weaker (IsOfClient draw tasks r.begun) OfRun (λ h e c. by-head draw tasks r.begun h e c) r.begun r.playing.own r.playing.owed)
+        (Each-weaker (IsOfClient draw tasks r.begun) OfRun (client-of_run draw tasks draws r.well initial old r.begun) r.begun r.playing.own r.playing.owed)
         (subst (λ (j : List Event). Each OfRun j r.closing.own) r.playing.is closing)
 
     -- behind any opening the nodes are new still

@@ -6,10 +6,10 @@ use Rattle.ice_ids.specs.Drawing.{drawn12, after12}
 use Rattle.zarr_tree.specs.declared.edit.EditFault.{EditFault}
 use Rattle.zarr_changes.specs.Sets.{set_refusal}
 use Rattle.manifest_file.specs.declared.manifest.Place.TheVariants.{Inline, Object}
-use Rattle.store_api.specs.declared.events.New.TheVariants.{Done as New_done, Present}
-use Rattle.store_api.specs.declared.events.Reply.{Reply}
-use Rattle.store_api.specs.declared.events.Reply.TheVariants.{Got as Is_got, New as Is_new, Over as Is_over, Gone as Is_gone, GoneAt as Is_gone_at, Listed as Is_listed, Failed}
-use Rattle.store_api.specs.declared.events.Event.{Event}
+use Rattle.object_store.specs.declared.events.New.TheVariants.{Done as New_done, Present}
+use Rattle.object_store.specs.declared.events.Reply.{Reply}
+use Rattle.object_store.specs.declared.events.Reply.TheVariants.{Got as Is_got, New as Is_new, Over as Is_over, Gone as Is_gone, GoneAt as Is_gone_at, Listed as Is_listed, Failed}
+use Rattle.object_store.specs.declared.events.Event.{Event}
 use Rattle.store_api.specs.declared.machines.Refusal.TheVariants.{ReadOnly}
 use Rattle.store_api.specs.Program.{Done}
 use Rattle.session.specs.Sessions.{SessionState, nodes_seen, writes}

@@ -10,10 +10,10 @@ use Rattle.repo_objects.specs.Laws.{InitialLaw}
 use Rattle.repo_objects.specs.declared.bad.Bad.{Bad}
 use Rattle.conflicts.specs.declared.solving.Policy.{Policy}
 use Rattle.store_api.specs.Telling.{WasGot, WasReadAs}
-use Rattle.store_api.specs.declared.events.Event.{Event}
-use Rattle.store_api.specs.declared.events.Version.{Version}
-use Rattle.store_api.specs.declared.keys.Key.{Key}
-use Rattle.store_api.specs.declared.keys.Key.TheVariants.{Snapshot, Txn}
+use Rattle.object_store.specs.declared.events.Event.{Event}
+use Rattle.object_store.specs.declared.events.Version.{Version}
+use Rattle.object_store.specs.declared.keys.Key.{Key}
+use Rattle.object_store.specs.declared.keys.Key.TheVariants.{Snapshot, Txn}
 use Rattle.store_api.proofs.Happening.{WasGot-append}
 use Rattle.session.specs.Sessions.{SessionState, base_nodes, moved_to}
 use Rattle.commit_path.specs.Single.{HasPutAlike}
@@ -24,11 +24,12 @@ use Rattle.play_script.specs.Well.{IsWellTask}
 use Rattle.play_script.specs.declared.scripts.Task.{Task}
 use Rattle.play_tasks.specs.Playing.{asked_by, policy_of}
 use Rattle.play_tasks.specs.Solving.{IsOfTask, WasCarried, WasRebased}
+use Rattle.reach.specs.Chains.{parent_at}
 use Rattle.run_histories.proofs.Began.{lines-carried, lost-carried}
 use Rattle.run_histories.proofs.Carrying.{IsFront, alike-back, front-front, lost-same, rebased-front, rebased-same, task-lines}
+use Rattle.run_histories.proofs.Gotten.{read-parent}
 use Rattle.run_histories.proofs.Grounds.{Grounds, IsCarried, IsLink}
 use Rattle.run_histories.proofs.Moved.{AllLinked, walk-carried, walk-honest}
-use Rattle.run_histories.proofs.Origins.{cut-early}
 
 some-same : {A : Type 0} (a b : A) → Some a ≡ Some b → a ≡ b
 some-same a b e = cc
@@ -54,7 +55,7 @@ module _ (initial : InitialLaw) (ids : AnyIds) (client : ℕ) (start journal : L
   }
 
   -- ---- one commit
-  pub one-linked : (then : List Event) (base : Id12) (l : Link) → l.file.parent ≡ Some base → WasReadAs client l.file.id l.file then journal → LogWasReadAs client l then journal → IsLink start journal base l
+  pub one-linked : (then : List Event) (base : Id12) (l : Link) → l.file.parent ≡ Some base → WasReadAs client l.file.id l.file then journal → LogWasReadAs client l then journal → IsLink journal base l
   one-linked then base l rises read log =
       let made = snapshot-made client then journal g.good g.once initial l.file.id l.file read in
       record {
@@ -63,9 +64,16 @@ module _ (initial : InitialLaw) (ids : AnyIds) (client : ℕ) (start journal : L
         logged = log-logged client then journal g.good g.once l log;
         parent = elim made.same [
           | inl same ↦ inl (record { snap = made.snap; made = made.made; parent = ap (λ (f : SnapshotFile). f.parent) (sym same) ∙ rises })
-          | inr cut ↦ inr (some-same base initial_id (sym rises ∙ ap (λ (f : SnapshotFile). f.parent) cut.0), cut-early start g.since journal l.file.id g.is g.uncut cut.2)
+          | inr cut ↦ let is : base ≡ initial_id = some-same base initial_id (sym rises ∙ ap (λ (f : SnapshotFile). f.parent) cut.0) in inr (is, stays-cut is)
         ];
       }
+    where
+      -- what had the initial snapshot as its parent has it still
+      stays-cut : base ≡ initial_id → parent_at journal l.file.id ≡ Some initial_id
+      stays-cut is = elim (read-parent client then journal g.good g.once l.file.id l.file read) [
+        | inl same ↦ same ∙ rises ∙ ap (λ (i : Id12). Some i) is
+        | inr cut ↦ cut
+      ]
 
   -- ---- commit after commit
   module _ (then now : List Event) (front : IsFront now journal) (later : List SnapshotFile) where
@@ -127,12 +135,12 @@ module _ (initial : InitialLaw) (ids : AnyIds) (client : ℕ) (start journal : L
       let mid_alike : HasPutAlike client mid start journal = alike-back client mid lost start journal (lost-same client policy mid lost start since c.4).holds lost_alike in
       let earlier : IsFront since journal = front-front since now journal (rebased-front client policy lost t since now c.5) front in
       rebased-carried policy lost t since now front
-      (lost-carried ids client start journal g mid lost since c.4 (carried policy count s mid since earlier k mid_alike c.3))
+      (lost-carried initial ids client start journal g mid lost since c.4 (carried policy count s mid since earlier k mid_alike c.3))
       lost_alike c.5
 
 -- ---- a task
 -- a session of a task at its commit
 pub task-carried_on : InitialLaw → (ids : AnyIds) (task : Task) (client : ℕ) (start journal : List Event) → Grounds ids client start journal → IsWellTask task → (t : SessionState) (id : Id12) → IsOfTask ids task client start journal t id → IsCarried ids journal t
 task-carried_on initial ids task client start journal g well t id o =
-    let k = lines-carried ids client start journal g (asked_by o.access ids) o.opened o.begun o.early o.session (task-lines ids task client start journal t id well o) in
+    let k = lines-carried initial ids client start journal g (asked_by o.access ids) o.opened o.begun o.early o.session (task-lines ids task client start journal t id well o) in
     carried initial ids client start journal g (policy_of o.access) o.count o.session t journal (record { more = []; is = sym (append-nil journal) }) k o.alike o.carried

@@ -12,8 +12,8 @@ use Rattle.zarr_tree.specs.Touched.{Touches}
 use Rattle.snapshot_file.specs.declared.snapshot.SnapshotFile.{SnapshotFile}
 use Rattle.snapshot_file.specs.declared.nodes.NodeRow.{NodeRow}
 use Rattle.repo_objects.specs.Trees.{HasTree}
-use Rattle.store_api.specs.declared.keys.Key.TheVariants.{Snapshot}
-use Rattle.store_api.specs.declared.events.Event.{Event}
+use Rattle.object_store.specs.declared.keys.Key.TheVariants.{Snapshot}
+use Rattle.object_store.specs.declared.events.Event.{Event}
 use Rattle.store_api.specs.Journal.{Each, WasPut, IsGood, IsGoodJournal, IsOnce, puts_of, rows_of, tree_of, snap_made, log_made}
 use Rattle.store_api.specs.Program.{Prog, Path}
 use Rattle.histories.specs.Calls.{IsGiven}
@@ -22,6 +22,7 @@ use Rattle.repository.specs.Refs.{refs_program}
 use Rattle.play_script.specs.declared.scripts.Task.{Task}
 use Rattle.play_script.specs.Well.{IsWellTask}
 use Rattle.play_tasks.specs.Tasks.{IsOfClient}
+use Rattle.reach.specs.Chains.{Chain}
 
 -- the snapshot can be read, and its rows have a tree: the manifests that they name were put and are readable, the bytes of their chunks
 -- are there, and the tree is well formed
@@ -61,7 +62,8 @@ pub record HasNode (journal : List Event) (snapshot : Id12) (id : Id8) : Type 0 
   pub same : node.id ≡ id
 
 -- A snapshot comes from the one that it first named as its parent: by changes that are normal for the parent's tree, and of which its log lists what
--- they touch. No tree of the parent or of an ancestor has a node that they add, and each that they drop is one of such a tree.
+-- they touch. No tree of the parent, or of one below it along parents as they stand, has a node that they add; and each that they drop is one of the
+-- tree of the parent or of an ancestor.
 pub record HasCause (journal : List Event) (base id : Id12) : Type 0 where
   pub before : Tree
   pub was : tree_of journal base ≡ Some before
@@ -71,7 +73,7 @@ pub record HasCause (journal : List Event) (base id : Id12) : Type 0 where
   pub lists : Touched
   pub logged : log_made journal id ≡ Some lists
   pub touches : Touches changes before lists
-  pub fresh : (p : List ℕ) (n : Node) (below : Id12) → get changes.added p ≡ Some n → IsAncestor journal below base → ¬ HasNode journal below n.id
+  pub fresh : (p : List ℕ) (n : Node) (below : Id12) → get changes.added p ≡ Some n → Chain journal base below → ¬ HasNode journal below n.id
   pub drops : (node : Id8) → changes.dropped node ≡ true → (below : Id12) × IsAncestor journal below base × HasNode journal below node
 
 -- each snapshot that named a parent has one

@@ -8,14 +8,14 @@ use Rattle.zarr_tree.specs.Trees.{Tree}
 use Rattle.zarr_tree.specs.Changes.{Changes, none, IsNormal}
 use Rattle.repo_objects.specs.declared.bad.Bad.{Bad}
 use Rattle.repo_objects.specs.Readings.{ref_of}
-use Rattle.store_api.specs.declared.keys.Key.{Key}
-use Rattle.store_api.specs.declared.keys.Key.TheVariants.{Branch}
-use Rattle.store_api.specs.declared.keys.Why.TheVariants.{Commit}
-use Rattle.store_api.specs.declared.events.Version.{Version}
-use Rattle.store_api.specs.declared.events.Op.{Op}
-use Rattle.store_api.specs.declared.events.Op.TheVariants.{PutOver}
-use Rattle.store_api.specs.declared.events.Event.{Event}
-use Rattle.store_api.specs.Machine.{Stored, found, was_done}
+use Rattle.object_store.specs.declared.keys.Key.{Key}
+use Rattle.object_store.specs.declared.keys.Key.TheVariants.{Branch}
+use Rattle.object_store.specs.declared.keys.Why.TheVariants.{Commit}
+use Rattle.object_store.specs.declared.events.Version.{Version}
+use Rattle.object_store.specs.declared.events.Op.{Op}
+use Rattle.object_store.specs.declared.events.Op.TheVariants.{PutOver}
+use Rattle.object_store.specs.declared.events.Event.{Event}
+use Rattle.object_store.specs.Machine.{Stored, found, was_done}
 use Rattle.store_api.specs.Journal.{Each, puts_of, tree_of}
 use Rattle.histories.specs.Repository.{Entry, last}
 use Rattle.histories.specs.Calls.{history_of, IsHistory, BranchesStand}
@@ -27,8 +27,10 @@ use Rattle.store_api.specs.Telling.{WasRef}
 use Rattle.repo_read.specs.declared.resolving.At.{At}
 use Rattle.repo_read.specs.Naming.{WasTagged}
 use Rattle.session.specs.Sessions.{SessionState, branch_of, version_of, base_tree, changes_in, overlay}
-use Rattle.session.specs.Opening.{Asked}
-use Rattle.commit_path.specs.Owed.{IsMade}
+use Rattle.session.specs.declared.origin.Origin.TheVariants.{ReadsTag, ReadsId}
+use Rattle.session.specs.Opening.{Asked, of_branch}
+use Rattle.commit_path.specs.Owed.{HasChunks, IsMade}
+use Rattle.commit_path.specs.Own.{IsOwn}
 use Rattle.commit_path.specs.Opened.{IsOpened, WasBegun}
 use Rattle.commit_path.specs.Single.{HasPutNone, HasPutAlike}
 use Rattle.rebase.specs.Telling.{WasHidden}
@@ -73,7 +75,8 @@ IsSolved draw tasks start changes journal event = CommitsSession draw tasks star
 -- A commit that took effect, of a session of its client's task. It follows directly on the last entry of its branch:
 -- the entry has the version that the session had read, its snapshot is the session's base, and its tree is the one of the
 -- session's rows, by what was put; the commit's tree is that one under exactly the session's changes, which are normal for
--- it, so that no two nodes have one id.
+-- it, so that no two nodes have one id. And it is the client's own: whatever its snapshot holds, the base holds, or the client put it itself since the
+-- tasks began.
 pub record IsEntered (draw : Draw) (tasks : List Task) (start : List Event) (puts : Puts) (trees : Id12 → Option Tree) (changes : ℕ → Changes) (journal : List Event) (client : ℕ) (branch : List ℕ) (old : ℕ) (id : Id12) : Type 0 where
   pub of_session : IsOfSession draw tasks start (changes (length journal)) journal client branch old id
   pub before : Entry
@@ -83,6 +86,7 @@ pub record IsEntered (draw : Draw) (tasks : List Task) (start : List Event) (put
   pub base_is : trees before.id ≡ Some (base_tree puts of_session.session)
   pub tree : trees id ≡ Some (overlay puts of_session.session)
   pub normal : IsNormal (changes_in puts of_session.session) (base_tree puts of_session.session)
+  pub own : IsOwn client of_session.session.base id start journal
 
 -- where the event is a commit that took effect, also by a lost answer
 abbrev pub CommitsEnter : Draw → List Task → List Event → Puts → (Id12 → Option Tree) → (ℕ → Changes) → List Event → Event → Type 0
@@ -91,7 +95,7 @@ CommitsEnter draw tasks start puts trees changes journal event = (branch bytes :
 
 -- ---- where sessions begin
 -- A branch was asked for: its history's last entry, as that was where the client got the branch, has the version and the snapshot that the client read,
--- and the session begins at that snapshot. One that writes keeps the branch and the version.
+-- and the session begins at that snapshot. It keeps the branch and the version.
 pub record BeganAtBranch (trees : Id12 → Option Tree) (changes : ℕ → Changes) (client : ℕ) (branch : List ℕ) (writes : Bool) (s : SessionState) (start journal : List Event) : Type 0 where
   pub version : Version
   pub read : WasRef client (Branch branch) version s.base start journal
@@ -99,7 +103,7 @@ pub record BeganAtBranch (trees : Id12 → Option Tree) (changes : ℕ → Chang
   pub is_last : last (history_of trees changes read.got.own.before branch) ≡ Some entry
   pub version_is : entry.version ≡ version.0
   pub base : entry.id ≡ s.base
-  pub tip : writes ≡ true → s.tip ≡ Some (record { branch = branch; version = version })
+  pub origin : s.origin ≡ of_branch writes (record { branch = branch; version = version })
 
 -- A tag was asked for: it stood where the client got that it has no tombstone, as it was made, and the session begins at its snapshot.
 pub record BeganAtTag (trees : Id12 → Option Tree) (client : ℕ) (tag : List ℕ) (s : SessionState) (start journal : List Event) : Type 0 where
@@ -108,11 +112,12 @@ pub record BeganAtTag (trees : Id12 → Option Tree) (client : ℕ) (tag : List 
   pub stood : tag_of trees read.stands.own.before tag ≡ Stands entry
   pub version_is : entry.version ≡ read.version.0
   pub base : entry.id ≡ s.base
+  pub origin : s.origin ≡ ReadsTag tag
 
 abbrev pub BeganAt : (Id12 → Option Tree) → (ℕ → Changes) → ℕ → At → (writes : Bool) → SessionState → (start journal : List Event) → Type 0
 BeganAt trees changes client (At.Branch branch) writes s start journal = BeganAtBranch trees changes client branch writes s start journal
 BeganAt trees changes client (At.Tag tag) writes s start journal = BeganAtTag trees client tag s start journal
-BeganAt trees changes client (At.Snapshot id) writes s start journal = s.base ≡ id
+BeganAt trees changes client (At.Snapshot id) writes s start journal = (s.base ≡ id) × (s.origin ≡ ReadsId)
 
 -- The session began at what named its snapshot, as that was where the client got it, and it has that snapshot's tree.
 pub record BeganAtLast (puts : Puts) (trees : Id12 → Option Tree) (changes : ℕ → Changes) (client : ℕ) (a : Asked) (s : SessionState) (start journal : List Event) : Type 0 where
@@ -141,6 +146,14 @@ abbrev pub AllKeepFrozen : Draw → List Task → (old new : List Event) → Typ
 AllKeepFrozen draw tasks old new = (start : List Event) (place : ℕ) (task : Task) (s : SessionState) → RanAlone begin_program old start → slice_get tasks place ≡ Some task
     → WasPlayed (ids_at draw place) task (place + 1) start s new → KeepsFrozen s.held s.rows
 
+-- In each such session, and in each that such a one became when it was carried over the commits of others, the changes are normal for the base's
+-- tree, by what was put, where the chunks that it set are there: whether or not its commit took effect, and where it made none.
+pub record AllNormal (draw : Draw) (tasks : List Task) (old new : List Event) : Type 0 where
+  pub played : (start : List Event) (place : ℕ) (task : Task) (s : SessionState) → RanAlone begin_program old start → slice_get tasks place ≡ Some task → WasPlayed (ids_at draw place) task (place + 1) start s new
+      → HasChunks (puts_of new) s.held.chunks → IsNormal (changes_in (puts_of new) s) (base_tree (puts_of new) s)
+  pub carried : (start : List Event) (place : ℕ) (task : Task) (s t : SessionState) (count : ℕ) → RanAlone begin_program old start → slice_get tasks place ≡ Some task → (w : WasPlayed (ids_at draw place) task (place + 1) start s new)
+      → WasCarried (place + 1) (policy_of w.access) count s t start new → HasPutAlike (place + 1) t start new → HasChunks (puts_of new) t.held.chunks → IsNormal (changes_in (puts_of new) t) (base_tree (puts_of new) t)
+
 -- ---- sessions that are rebased
 -- A session of a task of this client, on which lines of the task were played: it was carried over the commits of others so often, and then its commit
 -- was lost. All snapshots that its client has put are of sessions that added and dropped the same nodes.
@@ -162,7 +175,7 @@ NoneHidden draw tasks old new = (start since : List Event) (place : ℕ) (task :
 -- After a run, whose tasks began at `start`: the changes for each position are those before it, and for each commit that it added those of a session
 -- of its client's task; each commit that took effect follows on the entry before it; each session that was opened began
 -- at the last entry of its branch, or at its tag as that stood, or at the snapshot of its id, and keeps through its lines what stays of its nodes'
--- metadata; and no log hides a node from one that is rebased. With these changes the journal is sound, and what another source may draw
+-- metadata, and its changes are normal; and no log hides a node from one that is rebased. With these changes the journal is sound, and what another source may draw
 -- is new to it where it was before, so that another run may go on; the histories run over its calls, and so do the states of the tags; the
 -- branches stand as their histories say, and the tags as their states do; and a tag that was there before is as it was, or was dropped. Trees are by
 -- what was put in the whole journal.
@@ -177,6 +190,7 @@ pub record HasHistories (draw : Draw) (tasks : List Task) (before : ℕ → Chan
   pub commits : Each (CommitsEnter draw tasks start (puts_of new) (tree_of new) changes) old added
   pub opened : (client : ℕ) (a : Asked) (s : SessionState) (start : List Event) → WasBegun client a s start new → IsOpened s new → BeganAtLast (puts_of new) (tree_of new) changes client a s start new
   pub frozen : AllKeepFrozen draw tasks old new
+  pub normal : AllNormal draw tasks old new
   pub unhidden : NoneHidden draw tasks old new
   pub sound : IsSound new changes
   pub others : (ids : AnyIds) → IsOfAnother draw tasks ids → IsNewSource ids old → IsNewSource ids new

@@ -13,7 +13,7 @@ use Rattle.snapshot_file.specs.declared.nodes.ManifestRef.{ManifestRef}
 use Rattle.manifest_index.specs.Merging.{ids_within}
 use Rattle.manifest_index.proofs.Steps.{drop_next}
 use Rattle.changed_snapshot.specs.Rows.{own_manifests}
-use Rattle.store_api.specs.declared.events.Event.{Event}
+use Rattle.object_store.specs.declared.events.Event.{Event}
 use Rattle.store_api.specs.declared.machines.Refusal.{Refusal}
 use Rattle.store_api.specs.Program.{Done, IsAsk, IsDone, NextIsPolite}
 use Rattle.store_api.specs.Running.{Program}

@@ -15,12 +15,12 @@ use Rattle.held_manifest.specs.LookUp.{entry_of}
 use Rattle.manifest_index.specs.Merging.{ids_within}
 use Rattle.repo_objects.specs.Readings.{read_inline}
 use Rattle.changed_snapshot.specs.Rows.{own_manifests}
-use Rattle.store_api.specs.declared.keys.Key.TheVariants.{Manifest as Manifest_key, Chunk as Chunk_key}
-use Rattle.store_api.specs.declared.keys.Why.TheVariants.{Set}
-use Rattle.store_api.specs.declared.events.Op.TheVariants.{PutNew}
-use Rattle.store_api.specs.declared.events.New.TheVariants.{Done as New_done, Present}
-use Rattle.store_api.specs.declared.events.Reply.{Reply}
-use Rattle.store_api.specs.declared.events.Reply.TheVariants.{New as Is_new}
+use Rattle.object_store.specs.declared.keys.Key.TheVariants.{Manifest as Manifest_key, Chunk as Chunk_key}
+use Rattle.object_store.specs.declared.keys.Why.TheVariants.{Set}
+use Rattle.object_store.specs.declared.events.Op.TheVariants.{PutNew}
+use Rattle.object_store.specs.declared.events.New.TheVariants.{Done as New_done, Present}
+use Rattle.object_store.specs.declared.events.Reply.{Reply}
+use Rattle.object_store.specs.declared.events.Reply.TheVariants.{New as Is_new}
 use Rattle.store_api.specs.declared.machines.Refusal.{Refusal}
 use Rattle.store_api.specs.declared.machines.Refusal.TheVariants.{ReadOnly, IdsSpent, IdTaken, StoreFault}
 use Rattle.store_api.specs.Program.{Done, Ask}

@@ -1,5 +1,5 @@
 -- Codes of rows and of sessions, by which proofs tell them apart.
-use Rattle.std.specs.Prelude.{◌≡◌, ℕ, List, Option, Some, None, refl}
+use Rattle.std.specs.Prelude.{◌≡◌, ℕ, zero, suc, List, [], Option, Some, None, refl}
 use Rattle.std.specs.Coded.{Coded, coded_ℕ, coded×, coded_list, coded_option, code_by}
 use Rattle.ice_ids.specs.declared.drawing.AnyIds.{AnyIds}
 use Rattle.ice_ids.specs.declared.drawing.AnyIds.TheVariants.{Count, Stream}
@@ -12,7 +12,8 @@ use Rattle.snapshot_file.specs.declared.snapshot.ManifestInfo.{ManifestInfo}
 use Rattle.zarr_tree.specs.Codes.{coded_path}
 use Rattle.zarr_tree.specs.Held.{Held}
 use Rattle.zarr_changes.specs.Codes.{coded_held, coded_place}
-use Rattle.session.specs.declared.tip.Tip.{Tip}
+use Rattle.session.specs.declared.origin.Origin.{Origin}
+use Rattle.session.specs.declared.origin.Origin.TheVariants.{Writes, ReadsBranch, ReadsTag, ReadsId}
 use Rattle.session.specs.Sessions.{SessionState}
 
 -- ---- rows
@@ -77,11 +78,33 @@ abbrev pub coded_ids : Coded AnyIds
 coded_ids = code_by Counts (coded× (coded_option coded_path) (coded× coded_ℕ coded_ℕ)) counts (λ p. ids_by p.0 p.1) same-ids
 
 -- ---- sessions
-abbrev pub coded_tip : Coded Tip
-coded_tip = code_by (List ℕ × ℕ) (coded× coded_path coded_ℕ) (λ tip. (tip.branch, tip.version.0)) (λ p. record { branch = p.0; version = record { 0 = p.1 } }) (λ _. refl)
+-- the kind of an origin, the name of its ref, and the version
+abbrev pub Named : Type 0
+Named = ℕ × (List ℕ × ℕ)
+
+abbrev pub named_of : Origin → Named
+named_of (Writes tip) = (0, (tip.branch, tip.version.0))
+named_of (ReadsBranch tip) = (1, (tip.branch, tip.version.0))
+named_of (ReadsTag name) = (2, (name, 0))
+named_of ReadsId = (3, ([], 0))
+
+abbrev pub origin_by : ℕ → List ℕ × ℕ → Origin
+origin_by zero p = Writes (record { branch = p.0; version = record { 0 = p.1 } })
+origin_by (suc zero) p = ReadsBranch (record { branch = p.0; version = record { 0 = p.1 } })
+origin_by (suc (suc zero)) p = ReadsTag p.0
+origin_by _ p = ReadsId
+
+pub same-origin : (origin : Origin) → origin_by (named_of origin).0 (named_of origin).1 ≡ origin
+same-origin (Writes tip) = refl
+same-origin (ReadsBranch tip) = refl
+same-origin (ReadsTag name) = refl
+same-origin ReadsId = refl
+
+abbrev pub coded_origin : Coded Origin
+coded_origin = code_by Named (coded× coded_ℕ (coded× coded_path coded_ℕ)) named_of (λ p. origin_by p.0 p.1) same-origin
 
 abbrev pub Opened : Type 0
-Opened = Option Tip × List ℕ
+Opened = Origin × List ℕ
 
 abbrev pub Changed : Type 0
 Changed = (List NodeRow × List ManifestInfo) × (Held Place × AnyIds)
@@ -89,7 +112,7 @@ Changed = (List NodeRow × List ManifestInfo) × (Held Place × AnyIds)
 abbrev pub coded_session : Coded SessionState
 coded_session =
     code_by (Opened × Changed)
-    (coded× (coded× (coded_option coded_tip) coded_path) (coded× (coded× (coded_list coded_row) (coded_list coded_file)) (coded× (coded_held coded_place) coded_ids)))
-    (λ s. ((s.tip, s.base.0), ((s.rows, s.files), (s.held, s.ids))))
-    (λ p. record { tip = p.0.0; base = record { 0 = p.0.1 }; rows = p.1.0.0; files = p.1.0.1; held = p.1.1.0; ids = p.1.1.1 })
+    (coded× (coded× coded_origin coded_path) (coded× (coded× (coded_list coded_row) (coded_list coded_file)) (coded× (coded_held coded_place) coded_ids)))
+    (λ s. ((s.origin, s.base.0), ((s.rows, s.files), (s.held, s.ids))))
+    (λ p. record { origin = p.0.0; base = record { 0 = p.0.1 }; rows = p.1.0.0; files = p.1.0.1; held = p.1.1.0; ids = p.1.1.1 })
     (λ _. refl)

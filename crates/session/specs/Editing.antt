@@ -24,14 +24,14 @@ use Rattle.session.specs.Sessions.{SessionState, base_nodes, nodes_seen, writes}
 
 -- a session refuses an edit as its tree does
 abbrev pub refusal_of_edit : EditFault → Refusal
-refusal_of_edit E.NodeExists = R.NodeExists
-refusal_of_edit E.NoParent = R.NoParent
-refusal_of_edit E.Full = R.Full
-refusal_of_edit E.NoNode = R.NoNode
-refusal_of_edit (E.FrozenField part) = R.FrozenField part
-refusal_of_edit E.NotArray = R.NotArray
-refusal_of_edit E.OutOfGrid = R.OutOfGrid
-refusal_of_edit (E.ChunkLength want got) = R.ChunkLength want got
+refusal_of_edit E.NodeExists = R.Edit E.NodeExists
+refusal_of_edit E.NoParent = R.Edit E.NoParent
+refusal_of_edit E.Full = R.Edit E.Full
+refusal_of_edit E.NoNode = R.Edit E.NoNode
+refusal_of_edit (E.FrozenField part) = R.Edit (E.FrozenField part)
+refusal_of_edit E.NotArray = R.Edit E.NotArray
+refusal_of_edit E.OutOfGrid = R.Edit E.OutOfGrid
+refusal_of_edit (E.ChunkLength want got) = R.Edit (E.ChunkLength want got)
 refusal_of_edit E.NoMemory = R.NoMemory
 
 -- ---- what a text says
@@ -132,7 +132,7 @@ abbrev pub beneath : SessionState → List ℕ → List Listing
 beneath s path = map listing (filter (λ row. is_beneath path row.0) (entries (nodes_seen s)))
 
 abbrev pub if_there : {A B : Type 0} → Option A → B → Result B Refusal
-if_there None b = Err R.NoNode
+if_there None b = Err (R.Edit E.NoNode)
 if_there (Some a) b = Ok b
 
 -- the listing, or NoNode where the session's tree has no node at the path
@@ -141,7 +141,7 @@ listed s path = if_there (get (nodes_seen s) path) (beneath s path)
 
 -- the text of the node at a path, or NoNode
 abbrev pub text_at : SessionState → List ℕ → Result (List ℕ) Refusal
-text_at s path = ok_or (option_map (λ (n : Node). n.text) (get (nodes_seen s) path)) R.NoNode
+text_at s path = ok_or (option_map (λ (n : Node). n.text) (get (nodes_seen s) path)) (R.Edit E.NoNode)
 
 -- the call found this text, or was refused
 abbrev pub text_found : Result (Bor Meta) Refusal → Result (List ℕ) Refusal

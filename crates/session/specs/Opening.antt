@@ -6,7 +6,7 @@ use Rattle.zarr_changes.specs.Edits.{nothing}
 use Rattle.store_api.specs.declared.machines.Refusal.TheVariants.{NoMemory}
 use Rattle.store_api.specs.Program.{Done}
 use Rattle.store_api.specs.Running.{Program, ◌>>=◌}
-use Rattle.store_api.specs.declared.events.Version.{Version}
+use Rattle.object_store.specs.declared.events.Version.{Version}
 use Rattle.repo_read.specs.declared.resolving.At.{At}
 use Rattle.repo_read.specs.declared.resolving.Named.{Named}
 use Rattle.repo_read.specs.Resolving.{resolve_at_program, base_at_program}
@@ -14,7 +14,9 @@ use Rattle.repo_read.specs.Seeking.{resolving_rest, resolving_left}
 use Rattle.session.specs.declared.open.Open.{Open}
 use Rattle.session.specs.declared.opening.Opening.{Opening}
 use Rattle.session.specs.declared.opening.Opening.TheVariants.{Naming, Base, Ended}
-use Rattle.session.specs.declared.tip.Tip.{Tip}
+use Rattle.session.specs.declared.origin.Tip.{Tip}
+use Rattle.session.specs.declared.origin.Origin.{Origin}
+use Rattle.session.specs.declared.origin.Origin.TheVariants.{Writes, ReadsBranch, ReadsTag, ReadsId}
 use Rattle.session.specs.Sessions.{SessionState}
 
 -- what is asked: what names the snapshot, whether to write, and the ids to draw
@@ -23,18 +25,23 @@ pub record Asked : Type 0 where
   pub writes : Bool
   pub ids : AnyIds
 
--- a branch that stood at this version
-abbrev pub tip_named : At → Option Version → Option Tip
-tip_named (At.Branch branch) (Some version) = Some (record { branch = branch; version = version })
-tip_named _ _ = None
+-- a branch that stood at this version, to write to it or to read
+abbrev pub of_branch : (writes : Bool) → Tip → Origin
+of_branch writes tip = if writes then Writes tip else ReadsBranch tip
 
--- to write, a session keeps the branch and the version at which it was read
-abbrev pub tip_for : Asked → Named → Option Tip
-tip_for a named = if a.writes then tip_named a.at named.version else None
+-- what named the base: a branch at the version at which it was read, a tag, or the snapshot's own id
+abbrev pub origin_named : (writes : Bool) → At → Option Version → Origin
+origin_named writes (At.Branch branch) (Some version) = of_branch writes (record { branch = branch; version = version })
+origin_named writes (At.Branch branch) None = ReadsId
+origin_named writes (At.Tag tag) version = ReadsTag tag
+origin_named writes (At.Snapshot id) version = ReadsId
+
+abbrev pub origin_for : Asked → Named → Origin
+origin_for a named = origin_named a.writes a.at named.version
 
 -- the session that begins at the snapshot that was named
 abbrev pub begun : Asked → Named → SnapshotFile → SessionState
-begun a named snap = record { tip = tip_for a named; base = named.id; rows = snap.nodes; files = snap.manifest_files; held = nothing; ids = a.ids }
+begun a named snap = record { origin = origin_for a named; base = named.id; rows = snap.nodes; files = snap.manifest_files; held = nothing; ids = a.ids }
 
 -- gets the snapshot that was named
 abbrev pub base_program : Asked → Named → Program SessionState

@@ -2,9 +2,9 @@
 use Rattle.std.specs.Prelude.{◌≡◌, ℕ, List, length, Option, Some, None, Result, Ok, Err}
 use Rattle.ice_ids.specs.declared.Id12.{Id12}
 use Rattle.manifest_file.specs.declared.manifest.Place.TheVariants.{Object}
-use Rattle.store_api.specs.declared.keys.Key.TheVariants.{Chunk}
-use Rattle.store_api.specs.declared.keys.Why.TheVariants.{Set}
-use Rattle.store_api.specs.declared.events.Op.TheVariants.{PutNew}
+use Rattle.object_store.specs.declared.keys.Key.TheVariants.{Chunk}
+use Rattle.object_store.specs.declared.keys.Why.TheVariants.{Set}
+use Rattle.object_store.specs.declared.events.Op.TheVariants.{PutNew}
 use Rattle.store_api.specs.declared.machines.Refusal.{Refusal}
 use Rattle.store_api.specs.declared.machines.Refusal.TheVariants.{IdTaken, StoreFault, NoMemory}
 use Rattle.store_api.specs.Program.{Done, Ask, IsAsk}

@@ -18,6 +18,7 @@ use ice_base::{Bytes, Text};
 use ice_ids::{Id8, Id12, Ids};
 use ice_items::Items;
 use manifest_file::Place;
+use snapshot_file::Props;
 use std::alloc::AllocError;
 use zarr_changes::ChangedArray;
 use zarr_path::Index;
@@ -53,17 +54,18 @@ impl Session {
     }
 
     /// The file of the snapshot of this session under an id, flushed at this time, with these new lists of manifests, which stand in
-    /// the order of their paths' bytes, and with this message; `TooLarge` where it
-    /// would be longer than a file may be.
+    /// the order of their paths' bytes, and with this message and these properties; `TooLarge` where it would be longer than
+    /// a file may be.
     pub fn write(
         &self,
         id: Id12,
         flushed_at: u64,
         news: &[NewList],
         message: &Text,
+        props: &Props,
     ) -> Result<Bytes, WriteFault>
         requires { Ascends list_key None news.now }
-        ensures { Writes result (snapshot_bytes (snapshot_over self.now.held news.now self.now.rows self.now.files (record { id = id; parent = self.now.base; flushed_at = flushed_at }) message.now)) }
+        ensures { Writes result (snapshot_bytes (snapshot_over self.now.held news.now self.now.rows self.now.files (record { id = id; parent = self.now.base; flushed_at = flushed_at }) message.now props.now)) }
     {
         let stamp = Stamp {
             id,
@@ -77,6 +79,7 @@ impl Session {
             news,
             stamp,
             message,
+            props,
         )
     }
 

@@ -6,9 +6,8 @@ ghost use Rattle.session.specs.inside.Reads.{Reads};
 
 use crate::Session;
 use ice_ids::{Id8, Ids};
-use std::alloc::Global;
 use store_api::Refusal;
-use zarr_meta::{Meta, MetaFault, View};
+use zarr_meta::{MetaFault, SharedMeta, View};
 use zarr_path::Path;
 use zarr_tree::EditFault;
 
@@ -17,60 +16,63 @@ pub(crate) fn refusal_of_edit(fault: EditFault) -> Refusal
     ensures { result ≡ refusal_of_edit fault }
 {
     match fault {
-        EditFault::NodeExists => Refusal::NodeExists,
-        EditFault::NoParent => Refusal::NoParent,
-        EditFault::Full => Refusal::Full,
-        EditFault::NoNode => Refusal::NoNode,
-        EditFault::FrozenField(part) => Refusal::FrozenField(part),
-        EditFault::NotArray => Refusal::NotArray,
-        EditFault::OutOfGrid => Refusal::OutOfGrid,
-        EditFault::ChunkLength { want, got } => Refusal::ChunkLength { want, got },
+        EditFault::NodeExists
+        | EditFault::NoParent
+        | EditFault::Full
+        | EditFault::NoNode
+        | EditFault::FrozenField(_)
+        | EditFault::NotArray
+        | EditFault::OutOfGrid
+        | EditFault::ChunkLength { .. } => Refusal::Edit(fault),
         EditFault::NoMemory => Refusal::NoMemory,
     }
 }
 
-/// The metadata that a text says, of a group or an array.
-fn node_meta(alloc: Global, text: &[u8]) -> Result<Meta, Refusal>
-    ensures { Reads node_fault text.now result }
-{
-    match Meta::read(alloc, text) {
-        Ok(meta) => Ok(meta),
-        Err(MetaFault::NoMemory) => Err(Refusal::NoMemory),
-        Err(fault) => Err(Refusal::BadMeta(fault)),
-    }
-}
-
-/// The metadata of a group that a text says.
-fn group_meta(alloc: Global, text: &[u8]) -> Result<Meta, Refusal>
-    ensures { Reads group_fault text.now result }
-{
-    let meta = node_meta(alloc, text)?;
-    match meta.view {
-        View::Group => Ok(meta),
-        View::Array(_) => {
-            drop(meta);
-            Err(Refusal::BadMeta(MetaFault::NodeType))
-        }
-    }
-}
-
-/// The metadata of an array that a text says.
-fn array_meta(alloc: Global, text: &[u8]) -> Result<Meta, Refusal>
-    ensures { Reads array_fault text.now result }
-{
-    let meta = node_meta(alloc, text)?;
-    match meta.view {
-        View::Group => {
-            drop(meta);
-            Err(Refusal::BadMeta(MetaFault::NodeType))
-        }
-        View::Array(_) => Ok(meta),
-    }
-}
-
 impl Session {
+    /// The metadata that a text says, of a group or an array.
+    fn read_node(&mut self, text: &[u8]) -> Result<SharedMeta, Refusal>
+        ensures reads { Reads node_fault text.now result }
+        ensures same { self.new ≡ self.old }
+    {
+        match self.reader.read(self.alloc, text) {
+            Ok(meta) => Ok(meta),
+            Err(MetaFault::NoMemory) => Err(Refusal::NoMemory),
+            Err(fault) => Err(Refusal::BadMeta(fault)),
+        }
+    }
+
+    /// The metadata of a group that a text says.
+    fn read_group(&mut self, text: &[u8]) -> Result<SharedMeta, Refusal>
+        ensures reads { Reads group_fault text.now result }
+        ensures same { self.new ≡ self.old }
+    {
+        let meta = self.read_node(text)?;
+        match meta.view {
+            View::Group => Ok(meta),
+            View::Array(_) => {
+                drop(meta);
+                Err(Refusal::BadMeta(MetaFault::NodeType))
+            }
+        }
+    }
+
+    /// The metadata of an array that a text says.
+    fn read_array(&mut self, text: &[u8]) -> Result<SharedMeta, Refusal>
+        ensures reads { Reads array_fault text.now result }
+        ensures same { self.new ≡ self.old }
+    {
+        let meta = self.read_node(text)?;
+        match meta.view {
+            View::Group => {
+                drop(meta);
+                Err(Refusal::BadMeta(MetaFault::NodeType))
+            }
+            View::Array(_) => Ok(meta),
+        }
+    }
+
     /// Adds a node with this metadata at a path, and answers its id.
-    fn add(&mut self, path: &Path, meta: Meta) -> Result<Id8, Refusal>
+    fn add(&mut self, path: &Path, meta: SharedMeta) -> Result<Id8, Refusal>
         ensures { Adds (entered self.old path.now meta.text) self.old result self.new }
     {
         if let Err(fault) = self.changes.may_add(&self.loaded, path) {
@@ -96,7 +98,7 @@ impl Session {
         if !self.writes() {
             return Err(Refusal::ReadOnly);
         }
-        let meta = group_meta(self.alloc, text)?;
+        let meta = self.read_group(text)?;
         self.add(path, meta)
     }
 
@@ -108,7 +110,7 @@ impl Session {
         if !self.writes() {
             return Err(Refusal::ReadOnly);
         }
-        let meta = array_meta(self.alloc, text)?;
+        let meta = self.read_array(text)?;
         self.add(path, meta)
     }
 
@@ -120,7 +122,7 @@ impl Session {
         if !self.writes() {
             return Err(Refusal::ReadOnly);
         }
-        let meta = node_meta(self.alloc, text)?;
+        let meta = self.read_node(text)?;
         self.add(path, meta)
     }
 
@@ -133,7 +135,7 @@ impl Session {
         if !self.writes() {
             return Err(Refusal::ReadOnly);
         }
-        let meta = node_meta(self.alloc, text)?;
+        let meta = self.read_node(text)?;
         match self.changes.set_meta(self.alloc, &self.loaded, path, meta) {
             Ok(()) => Ok(()),
             Err(fault) => Err(refusal_of_edit(fault)),

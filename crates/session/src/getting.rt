@@ -152,7 +152,7 @@ impl Machine for GetChunk {
 
     ghost left = { get_left };
 
-    ghost keeps = { λ old new. get_session new ≡ get_session old };
+    ghost keeps = { λ result old new. get_session new ≡ get_session old };
 
     ghost may_refuse = { MayRefuseObject };
 

@@ -8,16 +8,17 @@ mod getting;
 mod moving;
 mod open;
 mod opening;
+mod origin;
 mod putting;
 mod reading;
 mod rows;
 mod seeing;
 mod session;
 mod setting;
-mod tip;
 
 pub use chunks::Value;
 pub use getting::{GetChunk, Getting};
 pub use open::Open;
+pub use origin::{Origin, Tip};
 pub use session::{Listing, Listings, Session};
 pub use setting::{SetChunk, Setting};

@@ -5,7 +5,7 @@ ghost use Rattle.std.specs.FinMap.{len};
 ghost use Rattle.zarr_tree.specs.Edits.{most_nodes};
 ghost use Rattle.zarr_tree.specs.Held.{nodes_over};
 ghost use Rattle.repo_objects.specs.Trees.{nodes_in};
-ghost use Rattle.session.specs.Sessions.{moved_to, tip_at};
+ghost use Rattle.session.specs.Sessions.{moved_to, origin_at};
 
 use crate::Session;
 use ice_ids::Id12;
@@ -52,10 +52,8 @@ impl Session {
 
     /// Takes this version as that at which the branch names the base.
     pub fn renew(&mut self, version: Version)
-        ensures { self.new ≡ record self.old { tip = tip_at version.0 self.old.tip } }
+        ensures { self.new ≡ record self.old { origin = origin_at version.0 self.old.origin } }
     {
-        if let Some(tip) = &mut self.tip {
-            tip.version = version;
-        }
+        self.origin.renew(version);
     }
 }

@@ -6,11 +6,11 @@ ghost use Rattle.repo_read.specs.Seeking.{resolving_left};
 ghost use Rattle.store_api.specs.Program.{IsAsk, Steps};
 ghost use Rattle.store_api.specs.Driving.{Awaits, Took};
 ghost use Rattle.repo_read.specs.Resolving.{MayRefuseBase};
-ghost use Rattle.session.specs.Opening.{open_program, base_program, opening_rest, open_rest, open_left, asked, tip_for};
+ghost use Rattle.session.specs.Opening.{open_program, base_program, opening_rest, open_rest, open_left, asked, of_branch, origin_for};
 
 use crate::Session;
 use crate::opening::Opening;
-use crate::tip::Tip;
+use crate::origin::{Origin, Tip};
 use ice_base::RefName;
 use ice_ids::AnyIds;
 use repo_read::{At, Named, Resolution, Resolving, base_told};
@@ -36,7 +36,7 @@ impl Machine for Open {
 
     ghost left = { open_left };
 
-    ghost keeps = { λ old new. Unit {0} };
+    ghost keeps = { λ result old new. Unit {0} };
 
     ghost may_refuse = { MayRefuseBase };
 
@@ -133,27 +133,36 @@ impl Open {
         ensures listed { IfErr result MayRefuseBase }
     {
         let loaded = base_told(self.alloc, &self.at, named.id, reply)?;
-        let Ok(tip) = self.tip(named) else {
+        let Ok(origin) = self.origin(named) else {
             drop(loaded);
             return Err(Refusal::NoMemory);
         };
-        let session = Session::begin(self.alloc, tip, self.ids, named.id, loaded);
+        let session = Session::begin(self.alloc, origin, self.ids, named.id, loaded);
         Ok(Next::Ready(session))
     }
 
-    /// Where the session writes to that begins at what was named.
-    fn tip(&self, named: Named) -> Result<Option<Tip>, AllocError>
-        ensures { IfOk result (λ tip. tip ≡ tip_for (asked self.now) named) }
+    /// What named the base of the session that begins at what was named.
+    fn origin(&self, named: Named) -> Result<Origin, AllocError>
+        ensures { IfOk result (λ origin. origin ≡ origin_for (asked self.now) named) }
     {
-        if !self.writes {
-            return Ok(None);
-        }
         match (&self.at, named.version) {
-            (At::Branch(branch), Some(version)) => Ok(Some(Tip {
-                branch: branch.copy(self.alloc)?,
-                version,
-            })),
-            _ => Ok(None),
+            (At::Branch(branch), Some(version)) => {
+                let branch = branch.copy(self.alloc)?;
+                Ok(self.of_branch(Tip { branch, version }))
+            }
+            (At::Tag(tag), _) => Ok(Origin::ReadsTag(tag.copy(self.alloc)?)),
+            (At::Branch(_), None) | (At::Snapshot(_), _) => Ok(Origin::ReadsId),
+        }
+    }
+
+    /// A branch that named the base.
+    fn of_branch(&self, tip: Tip) -> Origin
+        ensures { result ≡ of_branch self.now.writes tip }
+    {
+        if self.writes {
+            Origin::Writes(tip)
+        } else {
+            Origin::ReadsBranch(tip)
         }
     }
 }

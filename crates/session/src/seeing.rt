@@ -8,6 +8,7 @@ use std::alloc::{AllocError, Global};
 use store_api::Refusal;
 use zarr_meta::Meta;
 use zarr_path::Path;
+use zarr_tree::EditFault;
 
 /// The nodes as a listing.
 fn as_listings(alloc: Global, rows: Vec<(Path, bool)>) -> Result<Listings, AllocError>
@@ -27,7 +28,7 @@ impl Session {
     {
         match self.changes.lookup(&self.loaded, path.as_str()) {
             Some(found) => Ok(found.meta),
-            None => Err(Refusal::NoNode),
+            None => Err(Refusal::Edit(EditFault::NoNode)),
         }
     }
 
@@ -37,7 +38,7 @@ impl Session {
         ensures { Answers (listed self.now path.now) result }
     {
         if self.changes.lookup(&self.loaded, path.as_str()).is_none() {
-            return Err(Refusal::NoNode);
+            return Err(Refusal::Edit(EditFault::NoNode));
         }
         let Ok(rows) = self.changes.beneath(self.alloc, &self.loaded, path) else {
             return Err(Refusal::NoMemory);

@@ -3,7 +3,7 @@
 ghost use Rattle.std.specs.Prelude.{◌≡◌, true};
 ghost use Rattle.session.specs.Sessions.{branch_of, version_of, writes};
 
-use crate::tip::Tip;
+use crate::origin::Origin;
 use ice_base::RefName;
 use ice_ids::{AnyIds, Id12};
 use ice_items::Items;
@@ -12,6 +12,7 @@ use std::alloc::Global;
 use std::marker::Model;
 use store_api::Version;
 use zarr_changes::ChangeSet;
+use zarr_meta::MetaReader;
 use zarr_path::Path;
 
 /// A node of a listing: its path, and whether it is an array.
@@ -29,10 +30,11 @@ pub type Listings = Items<Listing>;
 #[derive(Drop)]
 pub struct Session {
     pub(crate) alloc: Global,
-    pub(crate) tip: Option<Tip>,
+    pub(crate) origin: Origin,
     pub(crate) base: Id12,
     pub(crate) loaded: Loaded,
     pub(crate) changes: ChangeSet,
+    pub(crate) reader: MetaReader,
     pub(crate) ids: AnyIds,
 }
 
@@ -61,21 +63,22 @@ impl Session {
     /// A session over this snapshot, without changes.
     pub(crate) fn begin(
         alloc: Global,
-        tip: Option<Tip>,
+        origin: Origin,
         ids: AnyIds,
         base: Id12,
         loaded: Loaded,
     ) -> Session
-        ensures { result ≡ record { tip = tip; base = base; rows = loaded.nodes; files = loaded.manifest_files; held = nothing; ids = ids } }
+        ensures { result ≡ record { origin = origin; base = base; rows = loaded.nodes; files = loaded.manifest_files; held = nothing; ids = ids } }
     {
         // What was loaded has no more nodes than a tree may have.
         let _ = loaded.file();
         Session {
             alloc,
-            tip,
+            origin,
             base,
             loaded,
             changes: ChangeSet::new(alloc),
+            reader: MetaReader::new(),
             ids,
         }
     }
@@ -91,7 +94,7 @@ impl Session {
     pub fn writes(&self) -> bool
         ensures { result ≡ writes self.now }
     {
-        self.tip.is_some()
+        matches!(self.origin, Origin::Writes(_))
     }
 
     /// The branch that it writes to.
@@ -99,9 +102,9 @@ impl Session {
         requires { writes self.now ≡ true }
         ensures { result.now ≡ branch_of self.now }
     {
-        match &self.tip {
-            Some(tip) => &tip.branch,
-            None => unreachable!(),
+        match &self.origin {
+            Origin::Writes(tip) => &tip.branch,
+            Origin::ReadsBranch(_) | Origin::ReadsTag(_) | Origin::ReadsId => unreachable!(),
         }
     }
 
@@ -110,10 +113,17 @@ impl Session {
         requires { writes self.now ≡ true }
         ensures { result.0 ≡ version_of self.now }
     {
-        match &self.tip {
-            Some(tip) => tip.version,
-            None => unreachable!(),
+        match &self.origin {
+            Origin::Writes(tip) => tip.version,
+            Origin::ReadsBranch(_) | Origin::ReadsTag(_) | Origin::ReadsId => unreachable!(),
         }
+    }
+
+    /// What named the base.
+    pub fn origin(&self) -> &Origin
+        ensures { result.now ≡ self.now.origin }
+    {
+        &self.origin
     }
 
     /// The ids that it draws next.

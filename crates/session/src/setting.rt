@@ -20,9 +20,7 @@ use ice_ids::{Id12, Ids};
 use manifest_file::Place;
 use std::alloc::{AllocError, Global};
 use std::mem;
-use store_api::{
-    Key, Machine, New, Next, Payload, Refusal, Reply, Request, Store, StoreFault, Why, ask,
-};
+use store_api::{Key, Machine, New, Next, Payload, Refusal, Reply, Request, Store, Why, drive};
 use zarr_path::{Index, Path};
 use zarr_tree::EditFault;
 
@@ -168,7 +166,7 @@ impl Machine for SetChunk {
 
     ghost left = { set_left };
 
-    ghost keeps = { λ old new. Unit {0} };
+    ghost keeps = { λ result old new. OnErr result (set_session new ≡ set_session old) };
 
     ghost may_refuse = { MayRefuseSet };
 
@@ -180,14 +178,7 @@ impl Machine for SetChunk {
         })
     }
 
-    fn answer(&mut self, reply: Reply) -> Result<Next<Session>, Refusal>
-        requires { Awaits (set_rest self.old) reply }
-        ensures took { Took (set_rest self.old) reply (set_rest self.new) result }
-        ensures falls { set_left self.new < set_left self.old }
-        ensures kept { Unit {0} }
-        ensures listed { IfErr result MayRefuseSet }
-        ensures held { OnErr result (set_session self.new ≡ set_session self.old) }
-    {
+    fn answer(&mut self, reply: Reply) -> Result<Next<Session>, Refusal> {
         match (mem::replace(&mut self.state, Putting::Ended), reply) {
             (Putting::Object(session), Reply::New(new)) => self.on_put(session, new),
             (Putting::Object(session), Reply::Failed { done: _ }) => {
@@ -198,13 +189,7 @@ impl Machine for SetChunk {
         }
     }
 
-    fn stop(&mut self)
-        requires { IsAsk (set_rest self.old) }
-        ensures ended { IsDone (set_rest self.new) }
-        ensures falls { set_left self.new < set_left self.old }
-        ensures kept { Unit {0} }
-        ensures held { set_session self.new ≡ set_session self.old }
-    {
+    fn stop(&mut self) {
         match mem::replace(&mut self.state, Putting::Ended) {
             Putting::Object(session) => self.state.hold(session),
             _ => unreachable!(),
@@ -263,13 +248,6 @@ impl SetChunk {
         ensures session { OnErr result (set_session self.new ≡ set_session self.old) }
         ensures listed { IfErr result MayRefuseSet }
     {
-        match ask(self, store) {
-            Ok(reply) => self.answer(reply),
-            Err(StoreFault::Failed) => self.answer(Reply::Failed { done: false }),
-            Err(StoreFault::NoMemory) => {
-                self.stop();
-                Err(Refusal::NoMemory)
-            }
-        }
+        drive(self, store)
     }
 }

@@ -8,7 +8,8 @@ ghost use Rattle.shared_store.specs.Ports.{port_view};
 use crate::held::Held;
 use std::sync::Wait;
 use store_api::{
-    Base, Gone, GoneAt, Got, Key, Listed, New, Over, Part, Store, StoreFault, Version, Why,
+    Base, Gone, GoneAt, Got, Key, Listed, New, ObjectStore, Over, Part, Polite, StoreFault,
+    Version, Viewed, Why,
 };
 use turn_cell::{Pass, TurnCell};
 
@@ -28,9 +29,11 @@ pub struct Port<'a, S: Base, R> {
     ghost inside: { IsOwner (known pass).owners client } by { Prim.hlevel props },
 }
 
-impl<'a, S: Base, R: Wait> Store for Port<'a, S, R> {
+impl<'a, S: Base, R: Wait> Viewed for Port<'a, S, R> {
     ghost view = { λ p. port_view S.tells p.client p.pass };
+}
 
+impl<'a, S: Base, R: Wait> ObjectStore<Polite> for Port<'a, S, R> {
     fn get(&mut self, key: &Key) -> Result<Got, StoreFault> {
         let mut held = self.cell.take(self.rt, &mut self.pass);
         held.tell();

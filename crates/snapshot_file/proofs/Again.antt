@@ -16,15 +16,16 @@ use Rattle.flat_tables.proofs.Loop.{ReadsFrom, ordered_reads, rows_again, at_mos
 use Rattle.ice_ids.specs.Text.{IsId12}
 use Rattle.file_fields.specs.Fields.{id12_part}
 use Rattle.file_fields.proofs.Again.{ordered_again, id12_again}
-use Rattle.flat_tables.proofs.Again.{IsField, IsTable, SlotRead, eight, inline_field, offset_field, scalar_field, absent_field, root_again, struct_again, struct_absent, scalar_again, text_again, vector_absent, structs_again, tables_again, tables_behind, EachBehind}
+use Rattle.flat_tables.proofs.Again.{IsField, IsTable, SlotRead, eight, inline_field, offset_field, scalar_field, absent_field, root_again, struct_again, struct_absent, scalar_again, text_again, field_if, structs_again, tables_again, tables_behind, EachBehind}
 use Rattle.snapshot_file.specs.declared.nodes.NodeRow.{NodeRow}
 use Rattle.snapshot_file.specs.declared.snapshot.ManifestInfo.{ManifestInfo}
 use Rattle.snapshot_file.specs.declared.snapshot.SnapshotFile.{SnapshotFile}
 use Rattle.snapshot_file.specs.Nodes.{node_of, node_at}
-use Rattle.snapshot_file.specs.Snapshots.{node_limit, node_key, file_key, nodes_in, nodes_of, properties_of, info_of, info_at, files_in, files_of, id_if, payload_of, snapshot_of}
-use Rattle.snapshot_file.specs.Layout.{node_parts, nodes_part, info_head, info_tail, info_bytes, files_part, snapshot_parts, snapshot_block, snapshot_bytes, IsWritable, IsNode, IsInfo, IsSnapshot}
+use Rattle.snapshot_file.specs.Snapshots.{node_limit, node_key, file_key, nodes_in, nodes_of, info_of, info_at, files_in, files_of, id_if, rest_of, payload_of, snapshot_of}
+use Rattle.snapshot_file.specs.Layout.{node_parts, nodes_part, info_head, info_tail, info_bytes, props_part, some_props, files_part, snapshot_parts, snapshot_block, snapshot_bytes, IsWritable, IsNode, IsInfo, IsSnapshot}
 use Rattle.snapshot_file.proofs.Infos.{info_bytes_long}
 use Rattle.snapshot_file.proofs.NodesAgain.{node_fields, node_again}
+use Rattle.snapshot_file.proofs.PropsAgain.{props_again}
 
 -- ---- nodes
 
@@ -92,10 +93,10 @@ parent_field None is = absent_field
 parent_field (Some id) is = inline_field 1 id.0 (lit≤ tt) (omega (arith, is.0))
 
 snapshot_fields : (s : SnapshotFile) → IsSnapshot s → IsTable (snapshot_parts s)
-snapshot_fields s is = record { fields = (inline_field 1 s.id.0 (lit≤ tt) (omega (arith, is.id.0)), (parent_field s.parent is.parent, (offset_field _, (scalar_field 8 s.flushed_at (lit≤ tt), (offset_field _, (absent_field, (offset_field _, tt))))))); few = lit≤ tt }
+snapshot_fields s is = record { fields = (inline_field 1 s.id.0 (lit≤ tt) (omega (arith, is.id.0)), (parent_field s.parent is.parent, (offset_field _, (scalar_field 8 s.flushed_at (lit≤ tt), (offset_field _, (field_if props_part (some_props s.props) (λ some. offset_field _), (offset_field _, tt))))))); few = lit≤ tt }
 
 payload_again : (s : SnapshotFile) → IsSnapshot s → IsWritable s → length (payload (snapshot_block s)) < 2 ^ 32 → payload_of (payload (snapshot_block s)) ≡ Ok s
-unfolding payload_of snapshot_block properties_of
+unfolding payload_of rest_of snapshot_block
 payload_again s is can small =
     let root = root_again (snapshot_parts s) (snapshot_fields s is) small in
     let t = root.table in
@@ -111,9 +112,9 @@ payload_again s is can small =
     let nodes = nodes_again t s.nodes p.small is.nodes can.few can.nodes s2.0 in
     let flushed_at = scalar_again t 3 8 s.flushed_at (eight s.flushed_at is.flushed_at) s3.0 in
     let message = text_again t 4 s.message is.message p.small s4.0 in
-    let properties = vector_absent t 5 4 s5.0 in
+    let props = props_again t s.props p.small is.props s5.0 in
     let files = files_again t s.manifest_files p.small is.files can.files s6.0 in
-    rw (root.is, id, parent, nodes, flushed_at, message, properties, files, can.listed, parent_back s.parent) refl
+    rw (root.is, id, parent, nodes, flushed_at, message, props, files, parent_back s.parent, can.listed) refl
 
 pub snapshot_again : (s : SnapshotFile) → IsSnapshot s → IsWritable s → length (payload (snapshot_block s)) ≤ 268435417 → snapshot_of (snapshot_bytes s) ≡ Ok s
 unfolding snapshot_of snapshot_bytes

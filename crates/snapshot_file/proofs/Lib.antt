@@ -8,4 +8,6 @@ pub mod Listed
 pub mod NodesSized
 pub mod Sized
 pub mod WrittenBytes
-mod Rests
+pub mod PropsAgain
+pub mod PropsRead
+pub mod PropPlaces

@@ -1,4 +1,4 @@
--- A search by halves finds exactly the manifests that are among those in order.
+-- A search by halves finds exactly the keys that are among those in order.
 use Rattle.std.proofs.Common.{◌≡◌, ℕ, zero, suc, ◌≤◌, ◌<◌, ◌||◌, Bool, true, false, List, [], ◌∷◌, length, get_or, Option, Some, None, Result, Ok, Err, refl, sym, ap, ◌∙◌, arith, inl, inr, Ordering}
 use Rattle.std.specs.Prelude.{is_ok, bytes_eq}
 use Rattle.std.specs.List.{list_any}
@@ -11,10 +11,8 @@ use Rattle.std.proofs.lemmas.Bool.{cases_lt}
 use Rattle.std.proofs.lemmas.Cmp.{nat_list_cmp_total, tied_itself}
 use Rattle.std.proofs.lemmas.Slice.Eq.{bytes_eq-Decides}
 use Rattle.flat_tables.specs.Rows.{Ascends}
-use Rattle.snapshot_file.specs.declared.snapshot.ManifestInfo.{ManifestInfo}
-use Rattle.snapshot_file.specs.Snapshots.{file_key}
 
-abbrev cmp : List ℕ → List ℕ → Ordering
+abbrev pub cmp : List ℕ → List ℕ → Ordering
 cmp a b = slice_cmp nat_cmp a b
 
 less_is : (o : Ordering) → is_lt o ≡ true → o ≡ Less
@@ -36,7 +34,7 @@ pairs_ascend key before (x ∷ xs) ascends i zero d less lt = absurd (omega arit
 pairs_ascend key before (x ∷ xs) ascends zero (suc j) d less lt = above key (key x) xs ascends.1 j d (omega arith)
 pairs_ascend key before (x ∷ xs) ascends (suc i) (suc j) d less lt = pairs_ascend key (Some (key x)) xs ascends.1 i j d (omega arith) (omega arith)
 
-equal_is : (a b : List ℕ) → cmp a b ≡ Equal → a ≡ b
+pub equal_is : (a b : List ℕ) → cmp a b ≡ Equal → a ≡ b
 equal_is a b h = slice_cmp-IsAntisymmetric nat_cmp-IsAntisymmetric a b h
 
 -- what stands before is no higher, compared with a third
@@ -50,10 +48,10 @@ rises a b m Greater is less = index_small (cmp a m)
     index_small Equal = omega arith
     index_small Greater = omega arith
 
-files_rise : (files : List ManifestInfo) (m : List ℕ) → Ascends file_key None files → IsNonDecreasingBy (λ file. ordering_index (cmp (file_key file) m)) files
-files_rise files m ascends i j d le lt =
+pub rises_by : {A : Type 0} (key : A → List ℕ) (xs : List A) (m : List ℕ) → Ascends key None xs → IsNonDecreasingBy (λ x. ordering_index (cmp (key x) m)) xs
+rises_by key xs m ascends i j d le lt =
     elim (cases_lt i j) [
-      | inl less ↦ rises (file_key (get_or files i d)) (file_key (get_or files j d)) m (cmp (file_key (get_or files j d)) m) refl (pairs_ascend file_key None files ascends i j d less lt)
+      | inl less ↦ rises (key (get_or xs i d)) (key (get_or xs j d)) m (cmp (key (get_or xs j d)) m) refl (pairs_ascend key None xs ascends i j d less lt)
       | inr ge ↦ let e : i ≡ j = omega arith in rw e (omega arith)
     ]
 
@@ -78,15 +76,15 @@ not_same a b o true same is other =
     absurd (other (sym is ∙ ap (λ (x : List ℕ). cmp x b) e ∙ tied_itself nat_list_cmp_total b))
 not_same a b o false same is other = refl
 
--- what a search for an id by halves answers
-pub searched : (files : List ManifestInfo) (m : List ℕ) (r : Result ℕ ℕ) → Ascends file_key None files → IsSearchInRange r (length files) → IsBinarySearchResult (λ file. cmp (file_key file) m) files r → is_ok r ≡ list_any (λ file. bytes_eq (file_key file) m) files
-searched [] m (Ok i) ascends bound found = absurd (omega arith)
-searched (f ∷ files) m (Ok i) ascends bound found =
-    let e : file_key (get_or (f ∷ files) i f) ≡ m = equal_is (file_key (get_or (f ∷ files) i f)) m (found f) in
-    sym (any_at (λ file. bytes_eq (file_key file) m) (f ∷ files) i f bound ((bytes_eq-Decides (file_key (get_or (f ∷ files) i f)) m).1 e))
-searched files m (Err i) ascends bound found =
-    let split = found (files_rise files m ascends) in
-    sym (none_at (λ file. bytes_eq (file_key file) m) files (λ k d lt. elim (cases_lt k i) [
-      | inl less ↦ not_same (file_key (get_or files k d)) m Less (bytes_eq (file_key (get_or files k d)) m) refl (split.0 k d (omega arith) less) (λ e. cc)
-      | inr ge ↦ not_same (file_key (get_or files k d)) m Greater (bytes_eq (file_key (get_or files k d)) m) refl (split.1 k d ge lt) (λ e. cc)
+-- what a search for a key by halves answers
+pub searched : {A : Type 0} (key : A → List ℕ) (xs : List A) (m : List ℕ) (r : Result ℕ ℕ) → Ascends key None xs → IsSearchInRange r (length xs) → IsBinarySearchResult (λ x. cmp (key x) m) xs r → is_ok r ≡ list_any (λ x. bytes_eq (key x) m) xs
+searched key [] m (Ok i) ascends bound found = absurd (omega arith)
+searched key (x ∷ xs) m (Ok i) ascends bound found =
+    let e : key (get_or (x ∷ xs) i x) ≡ m = equal_is (key (get_or (x ∷ xs) i x)) m (found x) in
+    sym (any_at (λ y. bytes_eq (key y) m) (x ∷ xs) i x bound ((bytes_eq-Decides (key (get_or (x ∷ xs) i x)) m).1 e))
+searched key xs m (Err i) ascends bound found =
+    let split = found (rises_by key xs m ascends) in
+    sym (none_at (λ x. bytes_eq (key x) m) xs (λ k d lt. elim (cases_lt k i) [
+      | inl less ↦ not_same (key (get_or xs k d)) m Less (bytes_eq (key (get_or xs k d)) m) refl (split.0 k d (omega arith) less) (λ e. cc)
+      | inr ge ↦ not_same (key (get_or xs k d)) m Greater (bytes_eq (key (get_or xs k d)) m) refl (split.1 k d ge lt) (λ e. cc)
     ]))

@@ -1,5 +1,5 @@
 -- What is written of a snapshot is bytes.
-use Rattle.std.proofs.Common.{◌≡◌, ℕ, ◌++◌, true, ltb, List, length, map, Option, None, Some, refl}
+use Rattle.std.proofs.Common.{◌≡◌, ℕ, ◌++◌, true, ltb, List, [], ◌∷◌, length, map, Option, None, Some, refl}
 use Rattle.std.specs.Prelude.{IfSome}
 use Rattle.std.specs.Int.{w32, w64, to_le_bytes}
 use Rattle.std.specs.List.{list_all, flat_map, AllByRecursion}
@@ -11,14 +11,15 @@ use Rattle.flat_tables.specs.Header.{header}
 use Rattle.flat_tables.specs.Layout.{zeros, vector_block, text_block, tables_block, payload}
 use Rattle.file_fields.specs.Fields.{id12_part, bytes_part}
 use Rattle.file_fields.proofs.Bytes.{AreBytes, bytes_both, zeros_are, bytes_tested, bytes_pass, number_bytes, utf8_bytes}
-use Rattle.file_fields.proofs.Blocks.{OfBytes, HasBytes, absent_has, inline_has, scalar_has, offset_has, part_if_has, vector_of_bytes, text_of_bytes, each_bytes, tables_of_bytes, table_of_bytes, payload_of_bytes}
+use Rattle.file_fields.proofs.Blocks.{OfBytes, HasBytes, inline_has, scalar_has, offset_has, part_if_has, vector_of_bytes, text_of_bytes, each_bytes, tables_of_bytes, table_of_bytes, payload_of_bytes}
 use Rattle.snapshot_file.specs.declared.nodes.ManifestRef.{ManifestRef}
 use Rattle.snapshot_file.specs.declared.nodes.NodeKind.{NodeKind}
 use Rattle.snapshot_file.specs.declared.nodes.NodeKind.TheVariants.{Group, Array}
 use Rattle.snapshot_file.specs.declared.nodes.NodeRow.{NodeRow}
 use Rattle.snapshot_file.specs.declared.snapshot.ManifestInfo.{ManifestInfo}
 use Rattle.snapshot_file.specs.declared.snapshot.SnapshotFile.{SnapshotFile}
-use Rattle.snapshot_file.specs.Layout.{text_part, name_parts, name_block, names_part, extent_bytes, extents_part, manifest_parts, manifest_block, manifests_part, dimension_bytes, shape_part, kind_parts, kind_block, type_of, node_parts, node_block, nodes_part, info_head, info_tail, info_bytes, files_part, snapshot_parts, snapshot_block, snapshot_bytes, IsDimension, IsExtent, IsName, IsManifest, IsKind, IsNode, IsInfo, IsSnapshot}
+use Rattle.snapshot_file.specs.Props.{IsProperty}
+use Rattle.snapshot_file.specs.Layout.{text_part, name_parts, name_block, names_part, extent_bytes, extents_part, manifest_parts, manifest_block, manifests_part, dimension_bytes, shape_part, kind_parts, kind_block, type_of, node_parts, node_block, nodes_part, prop_parts, prop_block, props_part, some_props, info_head, info_tail, info_bytes, files_part, snapshot_parts, snapshot_block, snapshot_bytes, IsDimension, IsExtent, IsName, IsManifest, IsKind, IsNode, IsInfo, IsSnapshot}
 
 text_has : (text : List ℕ) → IsUtf8 text → HasBytes (text_part text)
 text_has text is = offset_has (text_block text) (text_of_bytes text (utf8_bytes text is))
@@ -93,6 +94,16 @@ files_have files are =
     let bytes = flat_map info_bytes files in
     offset_has (vector_block 8 (length files) bytes) (vector_of_bytes 8 (length files) bytes (each_bytes IsInfo info_bytes info_are files are))
 
+prop_of_bytes : (prop : List ℕ × List ℕ) → IsProperty prop → OfBytes (prop_block prop)
+prop_of_bytes prop is = table_of_bytes (prop_parts prop) (text_has prop.0 is.name, (text_has prop.1 is.value, tt))
+
+props_have : (props : List (List ℕ × List ℕ)) → AllByRecursion IsProperty props → HasBytes (props_part props)
+props_have props are = offset_has (tables_block (map prop_block props)) (tables_of_bytes IsProperty prop_block prop_of_bytes props are)
+
+props_if_have : (props : List (List ℕ × List ℕ)) → AllByRecursion IsProperty props → IfSome (some_props props) (λ x. HasBytes (props_part x))
+props_if_have [] are = tt
+props_if_have (prop ∷ props) are = props_have (prop ∷ props) are
+
 parent_has : (parent : Option Id12) → IfSome parent IsId12 → IfSome parent (λ id. HasBytes (id12_part id))
 parent_has None is = tt
 parent_has (Some id) is = inline_has 1 id.0 is.1
@@ -101,7 +112,7 @@ snapshot_of_bytes : (s : SnapshotFile) → IsSnapshot s → OfBytes (snapshot_bl
 unfolding snapshot_block
 snapshot_of_bytes s is =
     table_of_bytes (snapshot_parts s)
-    (inline_has 1 s.id.0 is.id.1, (part_if_has id12_part s.parent (parent_has s.parent is.parent), (nodes_have s.nodes is.nodes, (scalar_has 8 s.flushed_at, (text_has s.message is.message, (absent_has, (files_have s.manifest_files is.files, tt)))))))
+    (inline_has 1 s.id.0 is.id.1, (part_if_has id12_part s.parent (parent_has s.parent is.parent), (nodes_have s.nodes is.nodes, (scalar_has 8 s.flushed_at, (text_has s.message is.message, (part_if_has props_part (some_props s.props) (props_if_have s.props is.props.each), (files_have s.manifest_files is.files, tt)))))))
 
 header_are : AreBytes (header kinds.Snapshot)
 unfolding header

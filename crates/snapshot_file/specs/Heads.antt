@@ -12,5 +12,6 @@ with_nodes head nodes = record {
   nodes = nodes;
   flushed_at = head.flushed_at;
   message = head.message.now;
+  props = head.props.now;
   manifest_files = head.manifest_files.now;
 }

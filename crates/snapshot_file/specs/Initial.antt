@@ -3,7 +3,7 @@ use Rattle.std.specs.Prelude.{[], None, codes}
 use Rattle.ice_ids.specs.Text.{initial_id}
 use Rattle.snapshot_file.specs.declared.snapshot.SnapshotFile.{SnapshotFile}
 
--- it has no parent, no nodes and no manifests, and was flushed at 0
+-- it has no parent, no nodes, no properties and no manifests, and was flushed at 0
 abbrev pub initial_snapshot : SnapshotFile
 initial_snapshot = record {
   id = initial_id;
@@ -11,5 +11,6 @@ initial_snapshot = record {
   nodes = [];
   flushed_at = 0;
   message = codes "Repository initialized";
+  props = [];
   manifest_files = [];
 }

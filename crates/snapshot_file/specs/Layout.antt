@@ -1,5 +1,5 @@
 -- The one file of a snapshot, and what can be written.
-use Rattle.std.specs.Prelude.{◌≡◌, ◌<◌, ◌≤◌, ◌^◌, ℕ, List, [], ◌∷◌, ◌++◌, length, map, true, Option, None, IfSome}
+use Rattle.std.specs.Prelude.{◌≡◌, ◌<◌, ◌≤◌, ◌^◌, ℕ, List, [], ◌∷◌, ◌++◌, length, map, true, Option, None, Some, IfSome}
 use Rattle.std.specs.List.{flat_map, AllByRecursion}
 use Rattle.std.specs.Int.{w32, w64, to_le_bytes}
 use Rattle.std.specs.Str.{IsUtf8}
@@ -11,13 +11,14 @@ use Rattle.file_fields.specs.Fields.{id8_part, id12_part, bytes_part}
 use Rattle.flat_tables.specs.declared.header.Kind.TheVariants as kinds
 use Rattle.flat_tables.specs.Header.{header}
 use Rattle.flat_tables.specs.Rows.{Ascends}
-use Rattle.flat_tables.specs.Layout.{Part, Block, zeros, absent, scalar, offset_to, part_if, text_block, vector_block, tables_block, table_block, payload}
+use Rattle.flat_tables.specs.Layout.{Part, Block, zeros, scalar, offset_to, part_if, text_block, vector_block, tables_block, table_block, payload}
 use Rattle.snapshot_file.specs.declared.nodes.ManifestRef.{ManifestRef}
 use Rattle.snapshot_file.specs.declared.nodes.NodeKind.{NodeKind}
 use Rattle.snapshot_file.specs.declared.nodes.NodeKind.TheVariants.{Group, Array}
 use Rattle.snapshot_file.specs.declared.nodes.NodeRow.{NodeRow}
 use Rattle.snapshot_file.specs.declared.snapshot.ManifestInfo.{ManifestInfo}
 use Rattle.snapshot_file.specs.declared.snapshot.SnapshotFile.{SnapshotFile}
+use Rattle.snapshot_file.specs.Props.{AreProps}
 use Rattle.snapshot_file.specs.Snapshots.{node_limit, node_key, file_key, first_unlisted}
 
 abbrev pub text_part : List ℕ → Part
@@ -79,6 +80,21 @@ node_block node = table_block (node_parts node)
 abbrev pub nodes_part : List NodeRow → Part
 nodes_part nodes = offset_to (tables_block (map node_block nodes))
 
+-- table Property
+abbrev pub prop_parts : List ℕ × List ℕ → List Part
+prop_parts prop = text_part prop.0 ∷ text_part prop.1 ∷ []
+
+abbrev pub prop_block : List ℕ × List ℕ → Block
+prop_block prop = table_block (prop_parts prop)
+
+abbrev pub props_part : List (List ℕ × List ℕ) → Part
+props_part props = offset_to (tables_block (map prop_block props))
+
+-- properties, where there are any
+abbrev pub some_props : List (List ℕ × List ℕ) → Option (List (List ℕ × List ℕ))
+some_props [] = None
+some_props (prop ∷ props) = Some (prop ∷ props)
+
 -- struct ManifestFileInfo: two halves of 16 bytes
 abbrev pub info_head : Id12 → List ℕ
 info_head id = id.0 ++ zeros 4
@@ -95,8 +111,8 @@ files_part files = offset_to (vector_block 8 (length files) (flat_map info_bytes
 -- table Snapshot
 abbrev pub snapshot_parts : SnapshotFile → List Part
 snapshot_parts s =
-    id12_part s.id ∷ part_if id12_part s.parent ∷ nodes_part s.nodes ∷ scalar 8 s.flushed_at ∷ text_part s.message ∷ absent
-    ∷ files_part s.manifest_files ∷ []
+    id12_part s.id ∷ part_if id12_part s.parent ∷ nodes_part s.nodes ∷ scalar 8 s.flushed_at ∷ text_part s.message
+    ∷ part_if props_part (some_props s.props) ∷ files_part s.manifest_files ∷ []
 
 unfoldable pub snapshot_block : SnapshotFile → Block
 snapshot_block s = table_block (snapshot_parts s)
@@ -105,15 +121,16 @@ snapshot_block s = table_block (snapshot_parts s)
 unfoldable pub snapshot_bytes : SnapshotFile → List ℕ
 snapshot_bytes s = header kinds.Snapshot ++ payload (snapshot_block s)
 
--- what can be written: both lists strictly ascend, the nodes keep to their limit, and the manifests that they name are
--- listed
+-- what can be written: the nodes and the manifest files strictly ascend, the nodes keep to their limit, and the manifests
+-- that they name are listed
 pub record IsWritable (s : SnapshotFile) : Type 0 where
   pub few : length s.nodes ≤ node_limit
   pub nodes : Ascends node_key None s.nodes
   pub files : Ascends file_key None s.manifest_files
   pub listed : first_unlisted s.manifest_files s.nodes ≡ None
 
--- what the types say of a snapshot: ids are 12 or 8 bytes, numbers have their width, texts are UTF-8, and data is bytes
+-- what the types say of a snapshot: ids are 12 or 8 bytes, numbers have their width, texts are UTF-8, data is bytes, and
+-- properties keep their rule
 abbrev pub IsDimension : ℕ × ℕ → Type 0
 IsDimension dimension = (dimension.0 < 2 ^ 64) × (dimension.1 < 2 ^ 64)
 
@@ -154,4 +171,5 @@ pub record IsSnapshot (s : SnapshotFile) : Type 0 where
   pub nodes : AllByRecursion IsNode s.nodes
   pub flushed_at : s.flushed_at < 2 ^ 64
   pub message : IsUtf8 s.message
+  pub props : AreProps s.props
   pub files : AllByRecursion IsInfo s.manifest_files

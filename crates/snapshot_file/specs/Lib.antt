@@ -1,4 +1,5 @@
 pub mod Nodes
+pub mod Props
 pub mod Snapshots
 pub mod Layout
 pub mod Heads

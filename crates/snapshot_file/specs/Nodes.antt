@@ -91,9 +91,7 @@ node_of at t = do
   type ← required 3 (scalar_of t 3 1)
   table ← required 4 (child_of t 4)
   kind ← kind_of type table
-  _ ← proper_path at path
-  known ← known_kind at kind
-  Ok (record { id = id; path = path; user_data = all_of text; kind = known })
+  row_of at id path (all_of text) kind
 
 unfoldable pub node_at : VectorIn → ℕ → Result NodeRow FileFault
 node_at v i = flat (table_of v i) >>= node_of i

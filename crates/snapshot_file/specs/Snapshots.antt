@@ -1,6 +1,6 @@
--- What the payload of a snapshot says. (Icechunk specification version 1, "Snapshot"; which slot has what, the limit on
--- the nodes, and that lists stand in order, is own.)
-use Rattle.std.specs.Prelude.{ℕ, ◌==◌, not, if◌then◌else◌, Bool, List, [], position, take, drop, Option, Some, None, Result, Ok, Err, option_map}
+-- What the payload of a snapshot says. (Icechunk specification version 1, "Snapshot"; which slot has what, the limits on
+-- the nodes and the properties, and that lists stand in order, is own.)
+use Rattle.std.specs.Prelude.{ℕ, not, if◌then◌else◌, Bool, List, [], position, take, drop, Option, Some, None, Result, Ok, Err, option_map}
 use Rattle.std.specs.Int.{w32, w64, from_le_bytes}
 use Rattle.std.specs.List.{list_all, list_any}
 use Rattle.ice_ids.specs.declared.Id12.{Id12}
@@ -10,7 +10,7 @@ use Rattle.flat_tables.specs.declared.fault.FileFault.{FileFault}
 use Rattle.flat_tables.specs.declared.fault.FileFault.TheVariants as faults
 use Rattle.flat_tables.specs.File.{file_of}
 use Rattle.flat_tables.specs.Step.{◌>>=◌}
-use Rattle.flat_tables.specs.Places.{TableIn, VectorIn, root_of, struct_of, scalar_of, text_of, vector_of, item_of}
+use Rattle.flat_tables.specs.Places.{TableIn, VectorIn, root_of, struct_of, scalar_of, text_of, vector_of, item_of, table_of}
 use Rattle.flat_tables.specs.Rows.{flat, required, optional_rows, at_most, rows, each, in_order}
 use Rattle.file_fields.specs.Fields.{id12_of}
 use Rattle.snapshot_file.specs.declared.nodes.ManifestRef.{ManifestRef}
@@ -20,6 +20,7 @@ use Rattle.snapshot_file.specs.declared.nodes.NodeRow.{NodeRow}
 use Rattle.snapshot_file.specs.declared.snapshot.ManifestInfo.{ManifestInfo}
 use Rattle.snapshot_file.specs.declared.snapshot.SnapshotFile.{SnapshotFile}
 use Rattle.snapshot_file.specs.Nodes.{node_at}
+use Rattle.snapshot_file.specs.Props.{prop_limit, is_prop, prop_key}
 
 -- the most nodes of a snapshot
 abbrev pub node_limit : ℕ
@@ -41,13 +42,24 @@ nodes_of t = do
   _ ← at_most node_limit v.count
   nodes_in v
 
--- how many properties there are: none, else the snapshot isn't read
-abbrev pub no_properties : Option VectorIn → Result ℕ FileFault
-no_properties None = Ok 0
-no_properties (Some v) = if v.count == 0 then Ok 0 else Err faults.Properties
+-- table Property, of property number `at`: both its slots, then whether a property may have them
+unfoldable pub property_of : ℕ → TableIn → Result (List ℕ × List ℕ) FileFault
+property_of at t = do
+  name ← required 0 (text_of t 0)
+  value ← required 1 (text_of t 1)
+  if is_prop (name, value) then Ok (name, value) else Err (faults.Property at)
 
-unfoldable pub properties_of : TableIn → Result ℕ FileFault
-properties_of t = flat (vector_of t 5 4) >>= no_properties
+unfoldable pub property_at : VectorIn → ℕ → Result (List ℕ × List ℕ) FileFault
+property_at v i = flat (table_of v i) >>= property_of i
+
+abbrev pub properties_in : VectorIn → Result (List (List ℕ × List ℕ)) FileFault
+properties_in v = rows (in_order prop_key 5 (each (property_at v))) [] v.count
+
+abbrev pub few_properties_in : VectorIn → Result (List (List ℕ × List ℕ)) FileFault
+few_properties_in v = at_most prop_limit v.count >>= λ _. properties_in v
+
+unfoldable pub properties_of : TableIn → Result (List (List ℕ × List ℕ)) FileFault
+properties_of t = optional_rows (vector_of t 5 4) few_properties_in
 
 -- struct ManifestFileInfo, 32 bytes: the id, 4 bytes, the file's length, its number of chunks, and 4 bytes
 abbrev pub info_of : List ℕ → ManifestInfo
@@ -94,33 +106,31 @@ parent_of t = do
   parent ← flat (struct_of t 1 12)
   Ok (id_if parent)
 
--- the slots behind the nodes: when it was flushed, the message, no properties, and the manifest files
-unfoldable pub rest_of : TableIn → Result (ℕ × (List ℕ × List ManifestInfo)) FileFault
+-- the slots behind the nodes: when it was flushed, the message, the properties, and the manifest files
+unfoldable pub rest_of : TableIn → Result (ℕ × (List ℕ × (List (List ℕ × List ℕ) × List ManifestInfo))) FileFault
 rest_of t = do
   flushed_at ← required 3 (scalar_of t 3 8)
   message ← required 4 (text_of t 4)
-  _ ← properties_of t
+  props ← properties_of t
   files ← files_of t
-  Ok (flushed_at, (message, files))
+  Ok (flushed_at, (message, (props, files)))
 
 -- table Snapshot: what the payload says, or its first fault
 unfoldable pub payload_of : List ℕ → Result SnapshotFile FileFault
 payload_of payload = do
   t ← flat (root_of payload)
   id ← id12_of t 0
-  parent ← flat (struct_of t 1 12)
+  parent ← parent_of t
   nodes ← nodes_of t
-  flushed_at ← required 3 (scalar_of t 3 8)
-  message ← required 4 (text_of t 4)
-  _ ← properties_of t
-  files ← files_of t
-  unless_unlisted (first_unlisted files nodes) (record {
+  rest ← rest_of t
+  unless_unlisted (first_unlisted rest.1.1.1 nodes) (record {
     id = id;
-    parent = id_if parent;
+    parent = parent;
     nodes = nodes;
-    flushed_at = flushed_at;
-    message = message;
-    manifest_files = files;
+    flushed_at = rest.0;
+    message = rest.1.0;
+    props = rest.1.1.0;
+    manifest_files = rest.1.1.1;
   })
 
 -- the snapshot that a file stands for, or the file's first fault

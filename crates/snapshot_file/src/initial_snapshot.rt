@@ -3,6 +3,7 @@ ghost use Rattle.snapshot_file.specs.Snapshots.{snapshot_of};
 ghost use Rattle.snapshot_file.specs.Layout.{snapshot_bytes};
 ghost use Rattle.snapshot_file.specs.Initial.{initial_snapshot};
 
+use crate::properties::Props;
 use crate::snapshot::SnapshotFile;
 use ice_base::Text;
 use ice_ids::Id12;
@@ -21,8 +22,8 @@ pub const INITIAL_FILE: [u8; 143] = [
     0, 0, 0, 0, 0, 0,
 ];
 
-/// The initial snapshot of each repository: it has the id [`Id12::INITIAL`], no parent, no nodes and no manifests, was
-/// flushed at 0, and its message is `Repository initialized`. (This project's profile.)
+/// The initial snapshot of each repository: it has the id [`Id12::INITIAL`], no parent, no nodes, no properties and no
+/// manifests, was flushed at 0, and its message is `Repository initialized`. (This project's profile.)
 pub fn initial(alloc: Global) -> Result<SnapshotFile, AllocError>
     ensures { IfOk result (λ snapshot. snapshot ≡ initial_snapshot) }
 {
@@ -32,6 +33,7 @@ pub fn initial(alloc: Global) -> Result<SnapshotFile, AllocError>
         nodes: Items::from_vec(Vec::new(alloc)),
         flushed_at: 0,
         message: Text::of(alloc, "Repository initialized")?,
+        props: Props::new(alloc),
         manifest_files: Items::from_vec(Vec::new(alloc)),
     })
 }

@@ -2,12 +2,14 @@ ghost use Rattle.std.specs.Prelude.{◌≡◌, ◌<◌, not, Bool, None, length,
 ghost use Rattle.flat_tables.specs.Step.{Gives};
 ghost use Rattle.flat_tables.specs.Places.{struct_of, text_of};
 ghost use Rattle.flat_tables.specs.Rows.{Ascends, Reads, follows, flat, required};
-ghost use Rattle.snapshot_file.specs.Snapshots.{node_key, file_key, nodes_in, nodes_of, properties_of, files_in, files_of, is_listed, all_listed, first_unlisted, parent_of, rest_of, payload_of, snapshot_of};
+ghost use Rattle.snapshot_file.specs.Snapshots.{node_key, file_key, nodes_in, nodes_of, files_in, files_of, is_listed, all_listed, first_unlisted, parent_of, rest_of, payload_of, snapshot_of};
 ghost use Rattle.snapshot_file.specs.Layout.{IsWritable};
 
 use crate::node_reading::node_at;
 use crate::nodes::{ManifestRef, NodeRow};
 use crate::numbers::info_of;
+use crate::properties::Props;
+use crate::property_reading::properties_of;
 use crate::slots::{number_in, text_in, vector_in};
 use crate::snapshot::{ManifestInfo, NODE_LIMIT, SnapshotFile};
 use file_fields::{id12, id12_of, payload_in};
@@ -64,23 +66,6 @@ fn nodes_of(alloc: Global, table: &Table) -> Result<Items<NodeRow>, FileFault>
         return Err(FileFault::Limit);
     }
     nodes_in(alloc, &vector)
-}
-
-/// Refuses properties.
-#[tactic(auto, unfolding(crate::specs::Snapshots::properties_of))]
-fn properties_of(table: &Table) -> Result<(), FileFault>
-    ensures { Reads (λ _. 0) result (properties_of table.now) }
-{
-    match table.vector(5, 4)? {
-        None => Ok(()),
-        Some(vector) => {
-            if vector.len() == 0 {
-                Ok(())
-            } else {
-                Err(FileFault::Properties)
-            }
-        }
-    }
 }
 
 /// The manifests in a vector, which stand in order.
@@ -155,22 +140,24 @@ fn parent_of(table: &Table) -> Result<Option<Id12>, FileFault>
 struct Rest<'a> {
     flushed_at: u64,
     message: &'a str,
+    props: Props,
     manifest_files: Items<ManifestInfo>,
 }
 
 /// The slots behind the nodes.
 #[tactic(auto, unfolding(crate::specs::Snapshots::rest_of))]
 fn rest_of<'a>(alloc: Global, table: &Table<'a>) -> Result<Rest<'a>, FileFault>
-    ensures value { Reads (λ rest. (rest.flushed_at, (rest.message.now, rest.manifest_files))) result (rest_of table.now) }
+    ensures value { Reads (λ rest. (rest.flushed_at, (rest.message.now, (rest.props, rest.manifest_files)))) result (rest_of table.now) }
     ensures ascend { IfOk result (λ rest. Ascends file_key None rest.manifest_files) }
 {
     let flushed_at = number_in(table, 3, 8)?;
     let message = text_in(table, 4)?;
-    properties_of(table)?;
+    let props = properties_of(alloc, table)?;
     let manifest_files = files_of(alloc, table)?;
     Ok(Rest {
         flushed_at,
         message,
+        props,
         manifest_files,
     })
 }
@@ -195,6 +182,7 @@ fn payload_of(alloc: Global, payload: &[u8]) -> Result<SnapshotFile, FileFault>
         nodes,
         flushed_at: rest.flushed_at,
         message,
+        props: rest.props,
         manifest_files: rest.manifest_files,
     })
 }
@@ -203,9 +191,10 @@ fn payload_of(alloc: Global, payload: &[u8]) -> Result<SnapshotFile, FileFault>
 /// come first, in the order of [`payload_in`]. Then come the root table and its slots in order, each vector's elements in
 /// order, and each element's slots in order: `Flat` where a part lies outside of the payload or a required slot is
 /// absent; `Limit` at more than [`NODE_LIMIT`] nodes, before the first of them; after a node's slots `Path`, `NodeKind`
-/// where its type is neither 1 nor 2, and `Order` where it doesn't stand behind the one before; `Properties` where slot 5
-/// isn't empty; `Order` for the manifest files; and last `Unlisted`, where a node names a manifest that isn't among them.
-/// (Icechunk specification version 1, "Snapshot"; the order of faults is own.)
+/// where its type is neither 1 nor 2, and `Order` where it doesn't stand behind the one before; `Limit` at more than
+/// [`PROP_LIMIT`](crate::PROP_LIMIT) properties, before the first of them; after a property's slots `Property` where its name
+/// or its value isn't one, and `Order`; `Order` for the manifest files; and last `Unlisted`, where a node names a manifest
+/// that isn't among them. (Icechunk specification version 1, "Snapshot"; the order of faults is own.)
 #[tactic(auto, using(file_fields::proofs::Payloads::read_is, file_fields::proofs::Payloads::fault_is), unfolding(crate::specs::Snapshots::snapshot_of))]
 pub fn read(alloc: Global, file: &[u8]) -> Result<SnapshotFile, FileFault>
     ensures value { Reads (λ x. x) result (snapshot_of file.now) }

@@ -1,4 +1,5 @@
 use crate::nodes::NodeRow;
+use crate::properties::Props;
 use ice_base::Text;
 use ice_ids::Id12;
 use ice_items::Items;
@@ -27,6 +28,8 @@ pub struct SnapshotFile {
     pub flushed_at: u64,
     /// The message of its commit.
     pub message: Text,
+    /// Its properties.
+    pub props: Props,
     /// The manifests that the nodes name, in the strict order of their ids' bytes.
     pub manifest_files: Items<ManifestInfo>,
 }
@@ -42,6 +45,8 @@ pub struct SnapshotHead<'a> {
     pub flushed_at: u64,
     /// The message of its commit.
     pub message: &'a Text,
+    /// Its properties.
+    pub props: &'a Props,
     /// The manifests that its nodes name, in the strict order of their ids' bytes.
     pub manifest_files: &'a Items<ManifestInfo>,
 }

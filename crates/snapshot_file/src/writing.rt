@@ -1,15 +1,18 @@
-ghost use Rattle.std.specs.Prelude.{◌≡◌, ◌+◌, length, IsTrue, IfOk, OnOk, IfSome, Ok};
+ghost use Rattle.std.specs.Prelude.{◌≡◌, ◌+◌, ◌<◌, ◌^◌, [], ◌∷◌, map, length, All, IsTrue, IfOk, OnOk, IfSome, Ok};
 ghost use Rattle.std.specs.List.{AllByRecursion};
+ghost use Rattle.std.specs.Str.{IsUtf8};
 ghost use Rattle.flat_tables.specs.File.{Writes};
-ghost use Rattle.flat_tables.specs.Layout.{payload, part_if};
+ghost use Rattle.flat_tables.specs.Layout.{payload, scalar, part_if};
 ghost use Rattle.flat_tables.specs.Trees.{layout, part_of, is_writable, is_writable_slot};
 ghost use Rattle.ice_ids.specs.Text.{IsId12};
 ghost use Rattle.file_fields.specs.Fields.{id12_part};
 ghost use Rattle.snapshot_file.specs.Snapshots.{snapshot_of};
-ghost use Rattle.snapshot_file.specs.Layout.{files_part, snapshot_block, snapshot_bytes, IsWritable, IsInfo, IsSnapshot};
+ghost use Rattle.snapshot_file.specs.Props.{AreProps};
+ghost use Rattle.snapshot_file.specs.Layout.{text_part, props_part, some_props, files_part, snapshot_block, snapshot_bytes, IsWritable, IsInfo, IsSnapshot};
 ghost use Rattle.snapshot_file.specs.Heads.{with_nodes};
 
 use crate::fields::{info_head, info_tail, text_slot};
+use crate::property_writing::props_slot_if;
 use crate::snapshot::{ManifestInfo, SnapshotFile, SnapshotHead};
 use crate::sources::{NodeTables, RowSource};
 use file_fields::{id12_slot, u64_slot};
@@ -48,6 +51,36 @@ fn parent_slot(alloc: Global, parent: &Option<Id12>) -> Result<Slot, AllocError>
     }
 }
 
+/// The slots before the nodes.
+fn slots_before(alloc: Global, head: &SnapshotHead) -> Result<[Slot; 2], AllocError>
+    ensures parts { IfOk result (λ slots. map part_of slots ≡ id12_part head.now.id ∷ part_if id12_part head.now.parent ∷ []) }
+    ensures writable { IfOk result (λ slots. All (λ s. IsTrue (is_writable_slot s)) slots) }
+    ensures id { OnOk result (IsId12 head.now.id) }
+    ensures parent { OnOk result (IfSome head.now.parent IsId12) }
+{
+    Ok([
+        id12_slot(alloc, &head.id)?,
+        parent_slot(alloc, &head.parent)?,
+    ])
+}
+
+/// The slots behind the nodes.
+fn slots_after(alloc: Global, head: &SnapshotHead) -> Result<[Slot; 4], AllocError>
+    ensures parts { IfOk result (λ slots. map part_of slots ≡ scalar 8 head.now.flushed_at ∷ text_part head.now.message.now ∷ part_if props_part (some_props head.now.props.now) ∷ files_part head.now.manifest_files.now ∷ []) }
+    ensures writable { IfOk result (λ slots. All (λ s. IsTrue (is_writable_slot s)) slots) }
+    ensures flushed_at { head.now.flushed_at < 2 ^ 64 }
+    ensures message { OnOk result (IsUtf8 head.now.message.now) }
+    ensures props { OnOk result (AreProps head.now.props.now) }
+    ensures files { OnOk result (AllByRecursion IsInfo head.now.manifest_files.now) }
+{
+    Ok([
+        u64_slot(head.flushed_at),
+        text_slot(alloc, head.message.as_str())?,
+        props_slot_if(alloc, head.props)?,
+        files_slot(alloc, head.manifest_files)?,
+    ])
+}
+
 /// The payload of a snapshot's file.
 #[tactic(auto, unfolding(crate::specs::Layout::snapshot_block))]
 fn rows_payload<S: RowSource>(
@@ -58,16 +91,8 @@ fn rows_payload<S: RowSource>(
     ensures written { let bytes = payload (snapshot_block (with_nodes head.now (S.rows rows.now))) in Writes result bytes (39 + length bytes) }
     ensures sized { OnOk result (IsSnapshot (with_nodes head.now (S.rows rows.now))) }
 {
-    let before = [
-        id12_slot(alloc, &head.id)?,
-        parent_slot(alloc, &head.parent)?,
-    ];
-    let after = [
-        u64_slot(head.flushed_at),
-        text_slot(alloc, head.message.as_str())?,
-        Slot::Absent,
-        files_slot(alloc, head.manifest_files)?,
-    ];
+    let before = slots_before(alloc, head)?;
+    let after = slots_after(alloc, head)?;
     framed_write(alloc, &before, &NodeTables { rows }, &after)
 }
 
@@ -101,6 +126,7 @@ pub fn write(alloc: Global, snapshot: &SnapshotFile) -> Result<Vec<u8>, WriteFau
         parent: snapshot.parent,
         flushed_at: snapshot.flushed_at,
         message: &snapshot.message,
+        props: &snapshot.props,
         manifest_files: &snapshot.manifest_files,
     };
     write_rows(alloc, &head, &snapshot.nodes)

@@ -5,24 +5,24 @@ use Rattle.std.proofs.lemmas.List.{length-append}
 use Rattle.std.specs.Prelude.{Option, Some, None, ◌==◌}
 use Rattle.ice_ids.specs.declared.Id12.{Id12}
 use Rattle.repo_objects.specs.declared.bad.Bad.{Bad}
-use Rattle.store_api.specs.declared.keys.Key.{Key}
-use Rattle.store_api.specs.declared.keys.Key.TheVariants.{Snapshot, Manifest, Txn, Chunk, Branch}
-use Rattle.store_api.specs.declared.keys.Why.{Why}
-use Rattle.store_api.specs.declared.events.Version.{Version}
-use Rattle.store_api.specs.declared.events.Op.{Op}
-use Rattle.store_api.specs.declared.events.Op.TheVariants.{Get, PutNew, PutOver}
-use Rattle.store_api.specs.declared.events.New.TheVariants.{Present}
-use Rattle.store_api.specs.declared.events.Over.{Over}
-use Rattle.store_api.specs.declared.events.Over.TheVariants.{Done as Over_done, Moved}
-use Rattle.store_api.specs.declared.events.Reply.{Reply}
-use Rattle.store_api.specs.declared.events.Got.TheVariants.{Found, Absent}
-use Rattle.store_api.specs.declared.events.Reply.TheVariants.{Got as Is_got, New as Is_new, Over as Is_over, Failed}
-use Rattle.store_api.specs.declared.events.Event.{Event}
-use Rattle.store_api.specs.Machine.{Stored, Slot, slot_of, found, effect, version_at, got_of, new_of, over_of, put_at}
+use Rattle.object_store.specs.declared.keys.Key.{Key}
+use Rattle.object_store.specs.declared.keys.Key.TheVariants.{Snapshot, Manifest, Txn, Chunk, Branch}
+use Rattle.object_store.specs.declared.keys.Why.{Why}
+use Rattle.object_store.specs.declared.events.Version.{Version}
+use Rattle.object_store.specs.declared.events.Op.{Op}
+use Rattle.object_store.specs.declared.events.Op.TheVariants.{Get, PutNew, PutOver}
+use Rattle.object_store.specs.declared.events.New.TheVariants.{Present}
+use Rattle.object_store.specs.declared.events.Over.{Over}
+use Rattle.object_store.specs.declared.events.Over.TheVariants.{Done as Over_done, Moved}
+use Rattle.object_store.specs.declared.events.Reply.{Reply}
+use Rattle.object_store.specs.declared.events.Got.TheVariants.{Found, Absent}
+use Rattle.object_store.specs.declared.events.Reply.TheVariants.{Got as Is_got, New as Is_new, Over as Is_over, Failed}
+use Rattle.object_store.specs.declared.events.Event.{Event}
+use Rattle.object_store.specs.Machine.{Stored, Slot, slot_of, found, effect, version_at, got_of, new_of, over_of, put_at}
 use Rattle.store_api.specs.Journal.{Each, StoodAt}
 use Rattle.store_api.specs.Callers.{Caller, IsOther, Waits, Makes, own_event}
-use Rattle.store_api.proofs.Journals.{Each-append, Each-weaker, Each-one, Each-none}
-use Rattle.store_api.proofs.Slots.{same_key-true, effect-cases, old-cases, slot-append_one, sound, found-old, found-stood}
+use Rattle.object_store.proofs.Journals.{Each-append, Each-weaker, Each-one, Each-none}
+use Rattle.object_store.proofs.Slots.{same_key-true, effect-cases, old-cases, slot-append_one, sound, found-old, found-stood}
 use Rattle.store_api.specs.Telling.{ChangedNothing, ChangedOnce, HasMovedOn, HasOwn, LeavesBranches, RefWasBad, SnapshotWasBad, StandsAt, WasAbsent, WasFailed, WasGot, WasRemoved}
 
 -- ---- what others do changes nothing of it

@@ -1,5 +1,3 @@
-pub mod Slots
-pub mod Journals
 pub mod SameTree
 pub mod Once
 pub mod Standing
@@ -10,5 +8,4 @@ pub mod PlayLaws
 pub mod RunLaws
 pub mod Telling
 pub mod Happening
-pub mod Ties
 pub mod Puts

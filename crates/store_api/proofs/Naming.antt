@@ -7,16 +7,16 @@ use Rattle.std.proofs.lemmas.List.{take-append-le, take_all, length-append}
 use Rattle.ice_ids.specs.declared.Id12.{Id12}
 use Rattle.ice_ids.specs.Text.{initial_id}
 use Rattle.repo_objects.specs.Readings.{snapshot_by, manifest_by}
-use Rattle.store_api.specs.declared.keys.Key.{Key}
-use Rattle.store_api.specs.declared.keys.Key.TheVariants.{Snapshot, Manifest, Txn, Branch, Tag}
-use Rattle.store_api.specs.declared.keys.Why.{Why}
-use Rattle.store_api.specs.declared.events.Op.{Op}
-use Rattle.store_api.specs.declared.events.Op.TheVariants.{Get, PutNew, PutOver, Remove, RemoveAt, List as ListPart}
-use Rattle.store_api.specs.declared.events.Event.{Event}
-use Rattle.store_api.specs.Machine.{Stored, Slot, fresh_slot, leaves, put_at, slot_of, found, first_put, is_on}
-use Rattle.store_api.specs.Journal.{Each, IsGood, IsPolite, MayPutNew, MayPutOver, WasPut, NamesPut, ParentPut, ManifestsPut, ChunksPut, IsMoved, StoodAt, snap_in, snap_made}
+use Rattle.object_store.specs.declared.keys.Key.{Key}
+use Rattle.object_store.specs.declared.keys.Key.TheVariants.{Snapshot, Manifest, Txn, Branch, Tag, Lease}
+use Rattle.object_store.specs.declared.keys.Why.{Why}
+use Rattle.object_store.specs.declared.events.Op.{Op}
+use Rattle.object_store.specs.declared.events.Op.TheVariants.{Get, PutNew, PutOver, Remove, RemoveAt, List as ListPart}
+use Rattle.object_store.specs.declared.events.Event.{Event}
+use Rattle.object_store.specs.Machine.{Stored, Slot, fresh_slot, leaves, put_at, slot_of, found, first_put, is_on}
+use Rattle.store_api.specs.Journal.{Each, IsGood, IsPolite, MayPutNew, MayPutOver, WasPut, NamesPut, ParentPut, ManifestsPut, ChunksPut, StoodAt, snap_in, snap_made}
 use Rattle.store_api.specs.Laws.{AllNamed, NamesLaw}
-use Rattle.store_api.proofs.Slots.{same_key-true, effect-cases, free-cases, old-cases, slot-append_one, slot-none, sound, found-stood, WasPut-append}
+use Rattle.object_store.proofs.Slots.{same_key-true, effect-cases, free-cases, old-cases, slot-append_one, slot-none, sound, found-stood, WasPut-append}
 use Rattle.store_api.proofs.Once.{ManifestsPut-append, ChunksPut-append, cut-named, known-put, known-chunks}
 use Rattle.store_api.proofs.Standing.{NamesPut-append, ParentPut-append}
 
@@ -33,29 +33,19 @@ RefFine journal slot = (s : Stored) → slot.stands ≡ Some s → NamesPut jour
 names-bytes : (journal : List Event) (n time : ℕ) (bytes : List ℕ) (slot : Slot) → NamesPut journal bytes → RefFine journal (put_at n time bytes slot)
 names-bytes journal n time bytes slot p s e = let b : bytes ≡ s.bytes = cc in subst (λ (x : List ℕ). NamesPut journal x) b p
 
-leaves-branch : (journal : List Event) (name : List ℕ) (time : ℕ) (op : Op) → is_on (Branch name) op ≡ true → IsPolite journal op → RefFine journal (slot_of journal (Branch name)) → RefFine journal (leaves (length journal) time op (slot_of journal (Branch name)))
-leaves-branch journal name time (Get key) k p h = h
-leaves-branch journal name time (PutNew key bytes why) k p h =
-    let p' = polite-new journal key (Branch name) bytes why (same_key-true key (Branch name) k) p in
-    free-cases (RefFine journal) (found journal (Branch name)) (put_at (length journal) time bytes (slot_of journal (Branch name))) (slot_of journal (Branch name)) h (λ e. names-bytes journal (length journal) time bytes (slot_of journal (Branch name)) p'.0)
-leaves-branch journal name time (PutOver key bytes old why) k p h =
-    let p' : IsMoved journal name old.0 bytes why = polite-over journal key (Branch name) bytes old.0 why (same_key-true key (Branch name) k) p in
-    old-cases (RefFine journal) old.0 (found journal (Branch name)) (put_at (length journal) time bytes (slot_of journal (Branch name))) (slot_of journal (Branch name)) h (λ s e v. names-bytes journal (length journal) time bytes (slot_of journal (Branch name)) p'.names)
-leaves-branch journal name time (Remove key why) k p h = λ s e. cc
-leaves-branch journal name time (RemoveAt key old why) k p h =
-    old-cases (RefFine journal) old.0 (found journal (Branch name)) _ (slot_of journal (Branch name)) h (λ s e v t g. cc)
-leaves-branch journal name time (ListPart part) k p h = h
-
-leaves-tag : (journal : List Event) (name : List ℕ) (time : ℕ) (op : Op) → is_on (Tag name) op ≡ true → IsPolite journal op → RefFine journal (slot_of journal (Tag name)) → RefFine journal (leaves (length journal) time op (slot_of journal (Tag name)))
-leaves-tag journal name time (Get key) k p h = h
-leaves-tag journal name time (PutNew key bytes why) k p h =
-    let p' = polite-new journal key (Tag name) bytes why (same_key-true key (Tag name) k) p in
-    free-cases (RefFine journal) (found journal (Tag name)) (put_at (length journal) time bytes (slot_of journal (Tag name))) (slot_of journal (Tag name)) h (λ e. names-bytes journal (length journal) time bytes (slot_of journal (Tag name)) p'.0)
-leaves-tag journal name time (PutOver key bytes old why) k p h = absurd (polite-over journal key (Tag name) bytes old.0 why (same_key-true key (Tag name) k) p)
-leaves-tag journal name time (Remove key why) k p h = λ s e. cc
-leaves-tag journal name time (RemoveAt key old why) k p h =
-    old-cases (RefFine journal) old.0 (found journal (Tag name)) _ (slot_of journal (Tag name)) h (λ s e v t g. cc)
-leaves-tag journal name time (ListPart part) k p h = h
+-- what stands at a key names a snapshot that was put, where each put there does
+leaves-ref : (journal : List Event) (key : Key) → ((bytes : List ℕ) (why : Why) → MayPutNew journal bytes why key → NamesPut journal bytes) → ((bytes : List ℕ) (old : ℕ) (why : Why) → MayPutOver journal bytes old why key → NamesPut journal bytes)
+    → (time : ℕ) (op : Op) → is_on key op ≡ true → IsPolite journal op → RefFine journal (slot_of journal key) → RefFine journal (leaves (length journal) time op (slot_of journal key))
+leaves-ref journal key new over time (Get k) on p h = h
+leaves-ref journal key new over time (PutNew k bytes why) on p h =
+    free-cases (RefFine journal) (found journal key) (put_at (length journal) time bytes (slot_of journal key)) (slot_of journal key) h
+    (λ e. names-bytes journal (length journal) time bytes (slot_of journal key) (new bytes why (polite-new journal k key bytes why (same_key-true k key on) p)))
+leaves-ref journal key new over time (PutOver k bytes old why) on p h =
+    old-cases (RefFine journal) old.0 (found journal key) (put_at (length journal) time bytes (slot_of journal key)) (slot_of journal key) h
+    (λ s e v. names-bytes journal (length journal) time bytes (slot_of journal key) (over bytes old.0 why (polite-over journal k key bytes old.0 why (same_key-true k key on) p)))
+leaves-ref journal key new over time (Remove k why) on p h = λ s e. cc
+leaves-ref journal key new over time (RemoveAt k old why) on p h = old-cases (RefFine journal) old.0 (found journal key) _ (slot_of journal key) h (λ s e v t g. cc)
+leaves-ref journal key new over time (ListPart part) on p h = h
 
 -- ---- where a snapshot was first put, so was its log
 abbrev LogFine : List Event → Id12 → Slot → Type 0
@@ -154,8 +144,9 @@ module _ (journal : List Event) (key : Key) (Q : List ℕ → Type 0) (stood : (
 
 named-one : (journal : List Event) (event : Event) → IsGood journal event → AllNamed journal → AllNamed (journal ++ event ∷ [])
 named-one journal event g a = record {
-  branches = λ name s e. NamesPut-append journal (event ∷ []) s.bytes (after (RefFine journal) journal event (Branch name) (a.branches name) (λ k. leaves-branch journal name event.time event.op k g.polite (a.branches name)) s e);
-  tags = λ name s e. NamesPut-append journal (event ∷ []) s.bytes (after (RefFine journal) journal event (Tag name) (a.tags name) (λ k. leaves-tag journal name event.time event.op k g.polite (a.tags name)) s e);
+  branches = λ name. named-ref (Branch name) (λ bytes why p. p.0) (λ bytes old why p. p.names) (a.branches name);
+  tags = λ name. named-ref (Tag name) (λ bytes why p. p.0) (λ bytes old why p. absurd p) (a.tags name);
+  leases = λ id. named-ref (Lease id) (λ bytes why p. p.0) (λ bytes old why p. absurd p) (a.leases id);
   logs = λ id w.
       let h : LogFine journal id (slot_of (journal ++ event ∷ []) (Snapshot id)) = after (LogFine journal id) journal event (Snapshot id) (λ b f. a.logs id (b, f)) (λ k. leaves-log journal id event.time event.op k g.polite (λ b f. a.logs id (b, f))) in
       elim (h w.0 w.1) [ inl e ↦ inl e | inr l ↦ inr (WasPut-append journal (event ∷ []) (Txn id) l) ];
@@ -166,6 +157,11 @@ named-one journal event g a = record {
   standing_manifests = λ id version bytes h. ChunksPut-append journal (event ∷ []) (manifest_by id bytes) (stood-manifest id version bytes h);
 }
   where
+    named-ref : (key : Key) → ((bytes : List ℕ) (why : Why) → MayPutNew journal bytes why key → NamesPut journal bytes) → ((bytes : List ℕ) (old : ℕ) (why : Why) → MayPutOver journal bytes old why key → NamesPut journal bytes)
+        → RefFine journal (slot_of journal key) → (s : Stored) → found (journal ++ event ∷ []) key ≡ Some s → NamesPut (journal ++ event ∷ []) s.bytes
+    named-ref key new over h s e =
+        NamesPut-append journal (event ∷ []) s.bytes (after (RefFine journal) journal event key h (λ k. leaves-ref journal key new over event.time event.op k g.polite h) s e)
+
     snap-one : (id : Id12) → SnapFine journal id (slot_of (journal ++ event ∷ []) (Snapshot id))
     snap-one id =
         after (SnapFine journal id) journal event (Snapshot id) (a.parents id, a.manifests id)
@@ -205,6 +201,7 @@ pub names-law : NamesLaw
 names-law journal g = named-along [] journal (record {
   branches = λ name. at-start (RefFine []) (Branch name) (λ s e. cc);
   tags = λ name. at-start (RefFine []) (Tag name) (λ s e. cc);
+  leases = λ id. at-start (RefFine []) (Lease id) (λ s e. cc);
   logs = λ id w. at-start (LogFine [] id) (Snapshot id) (λ b f. cc) w.0 w.1;
   parents = λ id. (at-start (SnapFine [] id) (Snapshot id) (tt, tt)).0;
   manifests = λ id. (at-start (SnapFine [] id) (Snapshot id) (tt, tt)).1;

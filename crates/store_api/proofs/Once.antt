@@ -9,16 +9,16 @@ use Rattle.manifest_file.specs.declared.manifest.ManifestFile.{ManifestFile}
 use Rattle.repo_objects.specs.Readings.{snapshot_by, manifest_by}
 use Rattle.repo_objects.specs.Trees.{NamesManifest}
 use Rattle.repo_objects.specs.Laws.{initial_bytes}
-use Rattle.store_api.specs.declared.keys.Key.{Key}
-use Rattle.store_api.specs.declared.keys.Key.TheVariants.{Snapshot, Manifest, Txn, Chunk, Branch, Tag, TagGone}
-use Rattle.store_api.specs.declared.events.Op.{Op}
-use Rattle.store_api.specs.declared.events.Op.TheVariants.{Get, PutNew, PutOver, Remove, RemoveAt, List as ListPart}
-use Rattle.store_api.specs.declared.events.Event.{Event}
-use Rattle.store_api.specs.Machine.{Slot, leaves, put_at, slot_of, found, last_put, is_on}
+use Rattle.object_store.specs.declared.keys.Key.{Key}
+use Rattle.object_store.specs.declared.keys.Key.TheVariants.{Snapshot, Manifest, Txn, Chunk, Branch, Tag, TagGone, Lease}
+use Rattle.object_store.specs.declared.events.Op.{Op}
+use Rattle.object_store.specs.declared.events.Op.TheVariants.{Get, PutNew, PutOver, Remove, RemoveAt, List as ListPart}
+use Rattle.object_store.specs.declared.events.Event.{Event}
+use Rattle.object_store.specs.Machine.{Slot, leaves, put_at, slot_of, found, last_put, is_on}
 use Rattle.store_api.specs.Journal.{Each, WasPut, StoodAt, snap_in, ManifestsPut, ChunksPut, ManifestsKnown, ChunksKnown, PutsFirst, PutsOver, IsFirst, IsFirstOp, IsOnce, IsCut}
 use Rattle.store_api.specs.Laws.{FirstLaw}
-use Rattle.store_api.proofs.Slots.{same_key-true, effect-cases, free-cases, old-cases, slot-append_one, slot-none, sound, WasPut-append}
-use Rattle.store_api.proofs.Journals.{Each-back}
+use Rattle.object_store.proofs.Slots.{same_key-true, effect-cases, free-cases, old-cases, slot-append_one, slot-none, sound, WasPut-append}
+use Rattle.object_store.proofs.Journals.{Each-back}
 
 -- ---- what was put stays so
 pub ManifestsPut-append : (journal more : List Event) (s : Option SnapshotFile) → ManifestsPut journal s → ManifestsPut (journal ++ more) s
@@ -137,6 +137,7 @@ first-law journal (PutNew (Chunk id) bytes why) once p f = f
 first-law journal (PutNew (Branch name) bytes why) once p f = tt
 first-law journal (PutNew (Tag name) bytes why) once p f = tt
 first-law journal (PutNew (TagGone name) bytes why) once p f = tt
+first-law journal (PutNew (Lease id) bytes why) once p f = tt
 first-law journal (PutOver (Snapshot id) bytes old why) once p f = (λ e. absurd (p.not_initial e), cut-named journal id old.0 bytes (λ v b. stood-named journal id v b once) p)
 first-law journal (PutOver (Manifest id) bytes old why) once p f = absurd p
 first-law journal (PutOver (Txn id) bytes old why) once p f = tt
@@ -144,6 +145,7 @@ first-law journal (PutOver (Chunk id) bytes old why) once p f = tt
 first-law journal (PutOver (Branch name) bytes old why) once p f = tt
 first-law journal (PutOver (Tag name) bytes old why) once p f = tt
 first-law journal (PutOver (TagGone name) bytes old why) once p f = tt
+first-law journal (PutOver (Lease id) bytes old why) once p f = tt
 first-law journal (Remove key why) once p f = tt
 first-law journal (RemoveAt key old why) once p f = tt
 first-law journal (ListPart part) once p f = tt

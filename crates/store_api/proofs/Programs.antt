@@ -3,43 +3,40 @@ use Rattle.std.proofs.Common.{◌≡◌, ℕ, inl, inr, Bool, true, false, List,
 use Rattle.std.specs.Prelude.{◌==◌, nat_le, IsTrue, Result, Ok, Err}
 use Rattle.std.proofs.lemmas.List.Elements.{filter-append}
 use Rattle.std.proofs.lemmas.Bool.Decides.{nat_tests}
-use Rattle.store_api.specs.declared.events.Op.{Op}
-use Rattle.store_api.specs.declared.events.Reply.{Reply}
-use Rattle.store_api.specs.declared.events.Reply.TheVariants.{Failed}
-use Rattle.store_api.specs.declared.events.StoreFault.TheVariants.{Failed as Store_failed}
-use Rattle.store_api.specs.declared.events.Event.{Event}
+use Rattle.object_store.specs.declared.events.Op.{Op}
+use Rattle.object_store.specs.declared.events.Reply.{Reply}
+use Rattle.object_store.specs.declared.events.Reply.TheVariants.{Failed}
+use Rattle.object_store.specs.declared.events.StoreFault.TheVariants.{Failed as Store_failed}
+use Rattle.object_store.specs.declared.events.Event.{Event}
 use Rattle.store_api.specs.declared.machines.Next.{Next}
 use Rattle.store_api.specs.declared.machines.Next.TheVariants.{Again, Ready}
 use Rattle.store_api.specs.declared.machines.Refusal.{Refusal}
 use Rattle.store_api.specs.declared.machines.Refusal.TheVariants.{NoMemory}
-use Rattle.store_api.specs.Machine.{IsAnswered}
+use Rattle.object_store.specs.Machine.{IsAnswered}
 use Rattle.store_api.specs.Journal.{Each, IsPolite, IsGood}
 use Rattle.store_api.specs.Callers.{Caller, View, IsOther, Waits, Makes, Did, Called, own_event, owns, HasAll, Fits}
-use Rattle.store_api.specs.Program.{Prog, Done, IsDone, Path, events_of, Keeps, Leads, Ask, bind, Blames, Lands, Steps, Grows, is_over, IsSure, is_fault}
-use Rattle.store_api.proofs.Journals.{Each-append, Each-weaker, Each-one, Each-none}
+use Rattle.store_api.specs.Program.{Prog, Done, IsDone, Path, events_of, Keeps, Leads, Ask, bind, Blames, Lands, Steps, Grows, moves_branch, IsSure, is_fault}
+use Rattle.object_store.proofs.Journals.{Each-append, Each-weaker, Each-one, Each-none}
+use Rattle.object_store.proofs.Waits.{Waits-none as none-by, Waits-same as same-by, Waits-trans as trans-by, Makes-waits as waits-by, Makes-alone as alone-by}
 use Rattle.store_api.proofs.Standing.{IsPolite-append}
 
 -- ---- waits and calls
 pub Waits-none : (by : Caller) (old : List Event) → Waits by old old
-Waits-none by old = record { between = []; others = Each-none (IsOther by) old; is = sym (append-nil old) }
+Waits-none = none-by IsPolite
 
 pub Waits-same : (by : Caller) (old new : List Event) → new ≡ old → Waits by old new
-Waits-same by old new e = subst (λ (h : List Event). Waits by old h) (sym e) (Waits-none by old)
+Waits-same = same-by IsPolite
 
 pub Waits-trans : (by : Caller) (a b c : List Event) → Waits by a b → Waits by b c → Waits by a c
-Waits-trans by a b c v w = record {
-  between = v.between ++ w.between;
-  others = Each-append (IsOther by) a v.between w.between v.others (subst (λ (h : List Event). Each (IsOther by) h w.between) v.is w.others);
-  is = w.is ∙ (ap (λ (h : List Event). h ++ w.between) v.is ∙ append_assoc a v.between w.between);
-}
+Waits-trans = trans-by IsPolite
 
 -- a wait before a call is part of the call
 pub Makes-waits : (by : Caller) (op : Op) (reply : Reply) (a b c : List Event) → Waits by a b → Makes by op reply b c → Makes by op reply a c
-Makes-waits by op reply a b c w m = record { middle = m.middle; time = m.time; waits = Waits-trans by a b m.middle w m.waits; answered = m.answered; is = m.is }
+Makes-waits = waits-by IsPolite
 
 -- this call alone
 pub Makes-alone : (by : Caller) (op : Op) (reply : Reply) (time : ℕ) (old new : List Event) → IsAnswered old (own_event by op reply time) → new ≡ old ++ own_event by op reply time ∷ [] → Makes by op reply old new
-Makes-alone by op reply time old new a e = record { middle = old; time = time; waits = Waits-none by old; answered = a; is = e }
+Makes-alone = alone-by IsPolite
 
 -- the events of others are good
 pub good-waits : (by : Caller) (old xs : List Event) → Each (IsOther by) old xs → Each IsGood old xs
@@ -126,7 +123,7 @@ Keeps-steps P old new p q result t s k = elim s.went [
 ]
 
 -- a step after an answer of the store
-pub Steps-answer : {T A : Type 0} (wrap : A → Reply) (op : Op) (answer : A) (old new : View) (next : Reply → Prog (Result T Refusal)) (q : Prog (Result T Refusal)) (result : Result (Next T) Refusal) → Fits op (wrap answer) → Called wrap op (Ok answer) old new → ((r : Refusal) → result ≡ Err r → is_fault r ≡ false) → Lands (next (wrap answer)) q result → (is_over op ≡ true → IsSure (next (wrap answer)) result) → Steps old new (Ask op next) q result
+pub Steps-answer : {T A : Type 0} (wrap : A → Reply) (op : Op) (answer : A) (old new : View) (next : Reply → Prog (Result T Refusal)) (q : Prog (Result T Refusal)) (result : Result (Next T) Refusal) → Fits op (wrap answer) → Called wrap op (Ok answer) old new → ((r : Refusal) → result ≡ Err r → is_fault r ≡ false) → Lands (next (wrap answer)) q result → (moves_branch op ≡ true → IsSure (next (wrap answer)) result) → Steps old new (Ask op next) q result
 Steps-answer {T} wrap op answer old new next q result fits c f l s = record {
   same = c.same;
   blames = blamed result f;

@@ -11,18 +11,18 @@ use Rattle.snapshot_file.specs.Initial.{initial_snapshot}
 use Rattle.ref_file.specs.Refs.{ref_bytes}
 use Rattle.repo_objects.specs.Readings.{snapshot_by, ref_of}
 use Rattle.repo_objects.specs.Laws.{initial_bytes, InitialLaw, RefLaw}
-use Rattle.store_api.specs.declared.keys.Key.{Key}
-use Rattle.store_api.specs.declared.keys.Key.TheVariants.{Snapshot, Branch}
-use Rattle.store_api.specs.declared.keys.Why.{Why}
-use Rattle.store_api.specs.declared.keys.Why.TheVariants.{Init}
-use Rattle.store_api.specs.declared.events.Op.TheVariants.{PutNew}
-use Rattle.store_api.specs.declared.events.New.{New}
-use Rattle.store_api.specs.declared.events.Reply.TheVariants.{New as Is_new}
-use Rattle.store_api.specs.declared.events.Event.{Event}
-use Rattle.store_api.specs.Machine.{Stored, Slot, slot_of, found, effect, put_at, where_free}
+use Rattle.object_store.specs.declared.keys.Key.{Key}
+use Rattle.object_store.specs.declared.keys.Key.TheVariants.{Snapshot, Branch}
+use Rattle.object_store.specs.declared.keys.Why.{Why}
+use Rattle.object_store.specs.declared.keys.Why.TheVariants.{Init}
+use Rattle.object_store.specs.declared.events.Op.TheVariants.{PutNew}
+use Rattle.object_store.specs.declared.events.New.{New}
+use Rattle.object_store.specs.declared.events.Reply.TheVariants.{New as Is_new}
+use Rattle.object_store.specs.declared.events.Event.{Event}
+use Rattle.object_store.specs.Machine.{Stored, Slot, slot_of, found, effect, put_at, where_free}
 use Rattle.store_api.specs.Journal.{WasPut, IsPolite}
 use Rattle.store_api.specs.Callers.{Caller, Makes, own_event}
-use Rattle.store_api.proofs.Slots.{same_key-refl, slot-append_one, sound}
+use Rattle.object_store.proofs.Slots.{same_key-refl, slot-append_one, sound}
 
 -- ---- a put of a free key tells that something was put there
 put-slot : (by : Caller) (key : Key) (bytes : List ℕ) (why : Why) (answer : New) (n time : ℕ) (slot : Slot) → effect key n slot (own_event by (PutNew key bytes why) (Is_new answer) time) ≡ where_free slot.stands (put_at n time bytes slot) slot

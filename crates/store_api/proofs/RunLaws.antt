@@ -3,19 +3,19 @@ use Rattle.std.proofs.Common.{◌≡◌, ℕ, ◌≤◌, ◌⊎◌, inl, inr, Bo
 use Rattle.std.specs.Prelude.{◌==◌, IsTrue, Result, Ok, Err}
 use Rattle.std.proofs.lemmas.List.Elements.{filter-append, All-nil, All-cons}
 use Rattle.ice_base.specs.Ends.{Rose}
-use Rattle.store_api.specs.declared.events.Op.{Op}
-use Rattle.store_api.specs.declared.events.Reply.{Reply}
-use Rattle.store_api.specs.declared.events.Event.{Event}
+use Rattle.object_store.specs.declared.events.Op.{Op}
+use Rattle.object_store.specs.declared.events.Reply.{Reply}
+use Rattle.object_store.specs.declared.events.Event.{Event}
 use Rattle.store_api.specs.declared.machines.Next.{Next}
 use Rattle.store_api.specs.declared.machines.Next.TheVariants.{Again, Ready}
 use Rattle.store_api.specs.declared.machines.Refusal.{Refusal}
-use Rattle.store_api.specs.declared.machines.Refusal.TheVariants.{StoreFault, NoMemory}
-use Rattle.store_api.specs.Machine.{IsAnswered}
+use Rattle.store_api.specs.declared.machines.Refusal.TheVariants.{NoMemory}
+use Rattle.object_store.specs.Machine.{IsAnswered}
 use Rattle.store_api.specs.Journal.{Each, IsPolite, IsGood}
 use Rattle.store_api.specs.Callers.{Caller, View, Waits, Makes, HasAll, Fits, own_event}
-use Rattle.store_api.specs.Program.{Prog, Done, Ask, IsAsk, Path, Grows, Steps, Lands, IsSure, NextIsPolite, Keeps, is_over, is_no_memory, is_fault}
-use Rattle.store_api.specs.Running.{Program, IsCutOff, Adds, Runs, StaysPolite, ends_over}
-use Rattle.store_api.proofs.Journals.{Each-append, Each-none, Each-one}
+use Rattle.store_api.specs.Program.{Prog, Done, Ask, IsAsk, Path, Grows, Steps, Lands, IsSure, NextIsPolite, Keeps, moves_branch, is_no_memory, is_fault}
+use Rattle.store_api.specs.Running.{Program, IsCutOff, Adds, Runs, StaysPolite, ends_moving}
+use Rattle.object_store.proofs.Journals.{Each-append, Each-none, Each-one}
 use Rattle.store_api.proofs.Programs.{alone, Grows-makes, good-waits, events_of-others, Path-one, Path-none, Keeps-steps}
 
 -- ---- journals that grow
@@ -115,7 +115,7 @@ made-fits by tells op reply old new m f = subst (λ (o : Op). Fits o m.event.rep
 cut-later : {T : Type 0} (op : Op) (next : Reply → Program T) (event : Event) (q : Program T) (own : List Event) (result : Result T Refusal) → event.op ≡ op → next event.reply ≡ q → IsAsk q → IsCutOff q own result → IsCutOff (Ask op next) (event ∷ own) result
 cut-later {T} op next event q own result o n live cut = record { result_is = cut.result_is; left = cut.left; path = Path-cons op next event q cut.left own o n cut.path; sure = sure own cut.path cut.sure }
   where
-    sure : (events : List Event) → Path q events cut.left → (IsTrue (ends_over events) → IsAsk cut.left) → IsTrue (ends_over (event ∷ events)) → IsAsk cut.left
+    sure : (events : List Event) → Path q events cut.left → (IsTrue (ends_moving events) → IsAsk cut.left) → IsTrue (ends_moving (event ∷ events)) → IsAsk cut.left
     sure [] path s over = subst (λ (x : Prog (Result T Refusal)). IsAsk x) (Path-end q cut.left path) live
     sure (x ∷ xs) path s over = s over
 
@@ -127,7 +127,7 @@ module _ {T : Type 0} (u v : View) (op : Op) (next : Reply → Program T) (reply
       record {
         same = r.same ∙ same;
         faults = omega (arith, faults, r.faults);
-        blames = λ x. Rose-later u.faults v.faults w.faults faults (r.blames x);
+        blames = λ why x f. Rose-later u.faults v.faults w.faults faults (r.blames why x f);
         own = m.event ∷ r.own;
         fits = All-cons (λ event. Fits event.op event.reply) m.event r.own (made-fits u.caller u.caller.tells op reply u.seen v.seen m fits) r.fits;
         ends = elim r.ends [
@@ -139,7 +139,7 @@ module _ {T : Type 0} (u v : View) (op : Op) (next : Reply → Program T) (reply
       }
 
   -- one event was the whole run
-  once : (result : Result T Refusal) → (result ≡ Err StoreFault → Rose u.faults v.faults) → (Path (Ask op next) (m.event ∷ []) (Done result) ⊎ IsCutOff (Ask op next) (m.event ∷ []) result) → Runs u v (Ask op next) result
+  once : (result : Result T Refusal) → ((why : Refusal) → result ≡ Err why → is_fault why ≡ true → Rose u.faults v.faults) → (Path (Ask op next) (m.event ∷ []) (Done result) ⊎ IsCutOff (Ask op next) (m.event ∷ []) result) → Runs u v (Ask op next) result
   once result blames ends = record {
     same = same;
     faults = faults;
@@ -155,15 +155,15 @@ module _ {T : Type 0} (u v : View) (op : Op) (next : Reply → Program T) (reply
   done result e = Path-cons op next m.event (Done result) (Done result) [] m.op_is (ap next m.reply_is ∙ e) (Path-none (Done result))
 
   -- where memory ran out behind the operation
-  starved : (over : Bool) → is_over op ≡ over → (over ≡ true → IsSure {T = T} (next reply) (Err NoMemory)) → Path (Ask op next) (m.event ∷ []) (Done (Err NoMemory)) ⊎ IsCutOff (Ask op next) (m.event ∷ []) (Err NoMemory)
+  starved : (over : Bool) → moves_branch op ≡ over → (over ≡ true → IsSure {T = T} (next reply) (Err NoMemory)) → Path (Ask op next) (m.event ∷ []) (Done (Err NoMemory)) ⊎ IsCutOff (Ask op next) (m.event ∷ []) (Err NoMemory)
   starved true e sure = inl (done (Err NoMemory) (sure refl))
-  starved false e sure = inr (record { result_is = refl; left = next m.event.reply; path = Path-one op next m.event m.op_is; sure = λ over. let no : is_over m.event.op ≡ false = ap is_over m.op_is ∙ e in cc })
+  starved false e sure = inr (record { result_is = refl; left = next m.event.reply; path = Path-one op next m.event m.op_is; sure = λ over. let no : moves_branch m.event.op ≡ false = ap moves_branch m.op_is ∙ e in cc })
 
-  refused : (q : Program T) (refusal : Refusal) → (is_fault refusal ≡ true → Rose u.faults v.faults) → Lands {T = T} (next reply) q (Err refusal) → (is_over op ≡ true → IsSure {T = T} (next reply) (Err refusal)) → Runs u v (Ask op next) (Err refusal)
-  refused q refusal blames lands sure = once (Err refusal) (λ e. blames (ap is_fault (err-same refusal StoreFault e))) (elim (memory-cases refusal) [
+  refused : (q : Program T) (refusal : Refusal) → (is_fault refusal ≡ true → Rose u.faults v.faults) → Lands {T = T} (next reply) q (Err refusal) → (moves_branch op ≡ true → IsSure {T = T} (next reply) (Err refusal)) → Runs u v (Ask op next) (Err refusal)
+  refused q refusal blames lands sure = once (Err refusal) (λ why e f. blames (ap is_fault (err-same refusal why e) ∙ f)) (elim (memory-cases refusal) [
     | inl none ↦
         subst (λ (r : Refusal). Path (Ask op next) (m.event ∷ []) (Done (Err r)) ⊎ IsCutOff (Ask op next) (m.event ∷ []) (Err r)) (sym none)
-        (starved (is_over op) refl (λ o. subst (λ (r : Refusal). IsSure {T = T} (next reply) (Err r)) none (sure o)))
+        (starved (moves_branch op) refl (λ o. subst (λ (r : Refusal). IsSure {T = T} (next reply) (Err r)) none (sure o)))
     | inr other ↦ inl (done (Err refusal) (lands.1 other))
   ])
 
@@ -172,7 +172,7 @@ Runs-stops : {T : Type 0} (u v : View) (p : Program T) (refusal : Refusal) → r
 Runs-stops u v p refusal none same faults waits = record {
   same = same;
   faults = faults;
-  blames = λ e. let other = err-same refusal StoreFault e in cc;
+  blames = λ why e f. let no : is_fault NoMemory ≡ true = ap is_fault (sym none ∙ err-same refusal why e) ∙ f in cc;
   own = [];
   fits = All-nil (λ event. Fits event.op event.reply);
   ends = inr (record { result_is = ap (λ (r : Refusal). Err r) none; left = p; path = Path-none p; sure = λ over. cc });
@@ -200,7 +200,7 @@ module _ {T : Type 0} (u v : View) (p q : Program T) (polite : IsTrue u.caller.t
     | inl m ↦
         let event = made-by (Ok (Ready answer)) m.op m.next m.reply m.asks m.made in
         subst (λ (x : Program T). Runs u v x (Ok answer)) (sym m.asks)
-        (once u v m.op m.next m.reply m.fits event s.same s.blames (Ok answer) (λ e. cc) (inl (done u v m.op m.next m.reply m.fits event s.same s.blames (Ok answer) m.lands.0)))
+        (once u v m.op m.next m.reply m.fits event s.same s.blames (Ok answer) (λ why e f. cc) (inl (done u v m.op m.next m.reply m.fits event s.same s.blames (Ok answer) m.lands.0)))
     | inr n ↦ let no = n.result_is in absurd cc
   ]
 

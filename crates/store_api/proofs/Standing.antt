@@ -12,17 +12,17 @@ use Rattle.txn_file.specs.declared.log.TxnFile.{TxnFile}
 use Rattle.repo_objects.specs.Readings.{snapshot_by, manifest_by, log_by}
 use Rattle.repo_objects.specs.Trees.{Puts, NamesChunk, manifest_put, or_empty, tree_under}
 use Rattle.repo_objects.specs.Laws.{initial_bytes}
-use Rattle.store_api.specs.declared.keys.Key.{Key}
-use Rattle.store_api.specs.declared.keys.Key.TheVariants.{Snapshot, Manifest, Txn, Chunk, Branch, Tag, TagGone}
-use Rattle.store_api.specs.declared.keys.Why.{Why}
-use Rattle.store_api.specs.declared.events.Op.{Op}
-use Rattle.store_api.specs.declared.events.Op.TheVariants.{Get, PutNew, PutOver, Remove, RemoveAt, List as ListPart}
-use Rattle.store_api.specs.declared.events.Event.{Event}
-use Rattle.store_api.specs.Machine.{Stored, Slot, leaves, put_at, slot_of, found, first_put, last_put, is_on}
-use Rattle.store_api.specs.Journal.{Each, WasPut, puts_of, snap_in, snap_made, log_made, ManifestsPut, ChunksPut, IsUnused, PutsFirst, IsFirst, IsFirstOp, IsOnce, IsCommitOver, ParentPut, HadRows, ManifestsKnown, ChunksKnown, NamesPut, IsCut, MayPutOver, IsPolite, IsGood}
+use Rattle.object_store.specs.declared.keys.Key.{Key}
+use Rattle.object_store.specs.declared.keys.Key.TheVariants.{Snapshot, Manifest, Txn, Chunk, Branch, Tag, TagGone, Lease}
+use Rattle.object_store.specs.declared.keys.Why.{Why}
+use Rattle.object_store.specs.declared.events.Op.{Op}
+use Rattle.object_store.specs.declared.events.Op.TheVariants.{Get, PutNew, PutOver, Remove, RemoveAt, List as ListPart}
+use Rattle.object_store.specs.declared.events.Event.{Event}
+use Rattle.object_store.specs.Machine.{Stored, Slot, leaves, put_at, slot_of, found, first_put, last_put, is_on}
+use Rattle.store_api.specs.Journal.{Each, WasPut, puts_of, snap_in, snap_made, log_made, ManifestsPut, ChunksPut, IsUnused, PutsFirst, IsFirst, IsFirstOp, IsOnce, IsCommitOver, IsMadeOver, ParentPut, HadRows, ManifestsKnown, ChunksKnown, NamesPut, IsCut, MayPutOver, IsPolite, IsGood}
 use Rattle.store_api.specs.Laws.{TreesLaw, PutsLaw, PoliteLaw}
-use Rattle.store_api.proofs.Slots.{same_key-true, bytes-same, id-true, effect-cases, free-cases, old-cases, slot-append_one, sound, stood-is, first-append, WasPut-append, StoodAt-append}
-use Rattle.store_api.proofs.Journals.{Each-append, Each-back}
+use Rattle.object_store.proofs.Slots.{same_key-true, bytes-same, id-true, effect-cases, free-cases, old-cases, slot-append_one, sound, stood-is, first-append, WasPut-append, StoodAt-append}
+use Rattle.object_store.proofs.Journals.{Each-append, Each-back}
 use Rattle.store_api.proofs.SameTree.{tree-same}
 use Rattle.store_api.proofs.Once.{initial-last, manifests-put, chunks-put}
 
@@ -161,19 +161,26 @@ snap_made-put journal id s e = by_case (first_put journal (Snapshot id)) refl
     by_case None h = let n : snap_made journal id ≡ None = ap (snap_in id) h in cc
     by_case (Some b) h = (b, h)
 
-IsCommitOver-append : (journal more : List Event) (branch : List ℕ) (old : ℕ) (id : Id12) → IsOnce journal → Each IsGood journal more → Each IsFirst journal more → IsCommitOver journal branch old id → IsCommitOver (journal ++ more) branch old id
-IsCommitOver-append journal more branch old id once g f c = record {
+IsMadeOver-append : (journal more : List Event) (base id : Id12) → IsOnce journal → WasPut journal (Snapshot base) → Each IsGood journal more → Each IsFirst journal more → IsMadeOver journal base id → IsMadeOver (journal ++ more) base id
+IsMadeOver-append journal more base id once put g f m = record {
+  snap = m.snap;
+  made = snap_made-append journal more id m.snap m.made;
+  parent = m.parent;
+  log = m.log;
+  logged = log_made-append journal more id m.log m.logged;
+  differs = λ t u e w h. m.differs t u (sym (standing base journal more once put g f) ∙ e) w (sym (standing id journal more once (snap_made-put journal id m.snap m.made) g f) ∙ h);
+}
+
+IsCommitOver-append : (journal more : List Event) (branch : List ℕ) (old : ℕ) (id : Id12) → Each IsGood journal more → IsCommitOver journal branch old id → IsCommitOver (journal ++ more) branch old id
+IsCommitOver-append journal more branch old id g c = record {
   base = c.base;
   named_by = c.named_by;
   named = StoodAt-append journal more (Branch branch) old c.named_by c.named;
   names = c.names;
   base_put = WasPut-append journal more (Snapshot c.base) c.base_put;
-  snap = c.snap;
-  made = snap_made-append journal more id c.snap c.made;
-  parent = c.parent;
-  log = c.log;
-  logged = log_made-append journal more id c.log c.logged;
-  differs = λ t u e w h. c.differs t u (sym (standing c.base journal more once c.base_put g f) ∙ e) w (sym (standing id journal more once (snap_made-put journal id c.snap c.made) g f) ∙ h);
+  child = record { version = c.child.version; bytes = c.child.bytes; stood = StoodAt-append journal more (Snapshot id) c.child.version c.child.bytes c.child.stood; snap = c.child.snap; read = c.child.read; parent_is = c.child.parent_is };
+  log_put = WasPut-append journal more (Txn id) c.log_put;
+  once = λ once. let parts = Each-back IsFirst [] journal more once in IsMadeOver-append journal more c.base id parts.0 c.base_put g parts.1 (c.once parts.0);
 }
 
 pub ParentPut-append : (journal more : List Event) (s : Option SnapshotFile) → ParentPut journal s → ParentPut (journal ++ more) s
@@ -214,6 +221,7 @@ IsPolite-append journal more (PutNew (Chunk id) bytes why) g p = p
 IsPolite-append journal more (PutNew (Branch name) bytes why) g p = (NamesPut-append journal more bytes p.0, p.1)
 IsPolite-append journal more (PutNew (Tag name) bytes why) g p = (NamesPut-append journal more bytes p.0, p.1)
 IsPolite-append journal more (PutNew (TagGone name) bytes why) g p = WasPut-append journal more (Tag name) p
+IsPolite-append journal more (PutNew (Lease id) bytes why) g p = (NamesPut-append journal more bytes p.0, p.1)
 IsPolite-append journal more (PutOver (Snapshot id) bytes old why) g p = record { before = p.before; stood = StoodAt-append journal more (Snapshot id) old.0 p.before p.stood; snap = p.snap; was = p.was; is = p.is; not_initial = p.not_initial }
 IsPolite-append journal more (PutOver (Txn id) bytes old why) g p = p
 IsPolite-append journal more (PutOver (Manifest id) bytes old why) g p = p
@@ -222,11 +230,12 @@ IsPolite-append journal more (PutOver (Branch name) bytes old why) g p = record 
   names = NamesPut-append journal more bytes p.names;
   cause = elim p.cause [
     | inl r ↦ inl r
-    | inr c ↦ inr (c.0, λ once. let parts = Each-back IsFirst [] journal more once in IsCommitOver-append journal more name old.0 p.names.id parts.0 g parts.1 (c.1 parts.0))
+    | inr c ↦ inr (c.0, IsCommitOver-append journal more name old.0 p.names.id g c.1)
   ];
 }
 IsPolite-append journal more (PutOver (Tag name) bytes old why) g p = p
 IsPolite-append journal more (PutOver (TagGone name) bytes old why) g p = p
+IsPolite-append journal more (PutOver (Lease id) bytes old why) g p = p
 IsPolite-append journal more (Remove key why) g p = p
 IsPolite-append journal more (RemoveAt key old why) g p = p
 IsPolite-append journal more (ListPart part) g p = p

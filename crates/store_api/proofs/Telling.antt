@@ -2,23 +2,23 @@
 use Rattle.std.proofs.Common.{◌≡◌, ℕ, ◌<◌, ◌^◌, true, List, [], ◌∷◌, ◌++◌, length, refl, sym, ◌∙◌, ap, subst}
 use Rattle.std.specs.Prelude.{Option, Some, None}
 use Rattle.std.specs.Option.{option_or}
-use Rattle.store_api.specs.declared.keys.Key.{Key}
-use Rattle.store_api.specs.declared.keys.Why.{Why}
-use Rattle.store_api.specs.declared.events.Version.{Version}
-use Rattle.store_api.specs.declared.events.Op.{Op}
-use Rattle.store_api.specs.declared.events.Op.TheVariants.{Get, PutNew}
-use Rattle.store_api.specs.declared.events.Got.{Got}
-use Rattle.store_api.specs.declared.events.Got.TheVariants.{Found}
-use Rattle.store_api.specs.declared.events.New.{New}
-use Rattle.store_api.specs.declared.events.New.TheVariants.{Done as New_done}
-use Rattle.store_api.specs.declared.events.Reply.{Reply}
-use Rattle.store_api.specs.declared.events.Reply.TheVariants.{Got as Is_got, New as Is_new}
-use Rattle.store_api.specs.declared.events.Event.{Event}
-use Rattle.store_api.specs.Machine.{Stored, Slot, slot_of, found, first_put, last_put, got_of, new_of, effect, put_at, was_done, version_at}
+use Rattle.object_store.specs.declared.keys.Key.{Key}
+use Rattle.object_store.specs.declared.keys.Why.{Why}
+use Rattle.object_store.specs.declared.events.Version.{Version}
+use Rattle.object_store.specs.declared.events.Op.{Op}
+use Rattle.object_store.specs.declared.events.Op.TheVariants.{Get, PutNew}
+use Rattle.object_store.specs.declared.events.Got.{Got}
+use Rattle.object_store.specs.declared.events.Got.TheVariants.{Found}
+use Rattle.object_store.specs.declared.events.New.{New}
+use Rattle.object_store.specs.declared.events.New.TheVariants.{Done as New_done}
+use Rattle.object_store.specs.declared.events.Reply.{Reply}
+use Rattle.object_store.specs.declared.events.Reply.TheVariants.{Got as Is_got, New as Is_new}
+use Rattle.object_store.specs.declared.events.Event.{Event}
+use Rattle.object_store.specs.Machine.{Stored, Slot, slot_of, found, first_put, last_put, got_of, new_of, effect, put_at, was_done, version_at}
 use Rattle.store_api.specs.Journal.{Each, WasPut, StoodAt, IsFirst, IsFirstOp, IsOnce, IsGood, IsPolite}
 use Rattle.store_api.specs.Callers.{Caller, Makes, own_event}
-use Rattle.store_api.proofs.Journals.{Each-at}
-use Rattle.store_api.proofs.Slots.{same_key-refl, slot-append_one, sound, found-stood}
+use Rattle.object_store.proofs.Journals.{Each-at}
+use Rattle.object_store.proofs.Slots.{same_key-refl, slot-append_one, sound, found-stood}
 use Rattle.store_api.proofs.Programs.{Grows-makes}
 
 -- ---- a get
@@ -62,6 +62,8 @@ get-had by key bytes version now old new m =
 -- ---- a done put of a free key
 pub record DidPut (journal : List Event) (key : Key) (bytes : List ℕ) : Type 0 where
   pub put : WasPut journal key
+  pub version : ℕ
+  pub stood : StoodAt journal key version bytes
   pub last : last_put journal key ≡ Some bytes
   pub first : IsOnce journal → first_put journal key ≡ Some bytes
 
@@ -90,6 +92,8 @@ put-did by key bytes why v now old new first m =
     let first_is : first_put new key ≡ option_or (first_put m.middle key) (Some bytes) = ap (λ (s : Slot). s.first) slot in
     record {
       put = some-or (first_put m.middle key) first_is;
+      version = length m.middle;
+      stood = found-stood new key (record { bytes = bytes; version = length m.middle; created = m.time }) (ap (λ (s : Slot). s.stands) slot);
       last = ap (λ (s : Slot). s.last) slot;
       first = λ once.
           let once' : IsOnce (m.middle ++ event ∷ []) = subst (λ (h : List Event). IsOnce h) m.is once in

@@ -1,18 +1,19 @@
 -- Machines that know no store: which operation they ask, and where the answer to it takes them.
 use Rattle.std.specs.Prelude.{◌≡◌, ℕ, List, Bool, true, false, Result, Ok, Err}
-use Rattle.store_api.specs.declared.events.Op.{Op}
-use Rattle.store_api.specs.declared.events.Op.TheVariants.{Get, PutNew, PutOver, Remove, RemoveAt, List as ListPart}
-use Rattle.store_api.specs.declared.events.Reply.{Reply}
-use Rattle.store_api.specs.declared.events.Reply.TheVariants.{Failed}
+use Rattle.object_store.specs.declared.events.Op.{Op}
+use Rattle.object_store.specs.declared.events.Op.TheVariants.{Get, PutNew, PutOver, Remove, RemoveAt, List as ListPart}
+use Rattle.object_store.specs.declared.events.Reply.{Reply}
+use Rattle.object_store.specs.declared.events.Reply.TheVariants.{Failed}
 use Rattle.store_api.specs.declared.driving.Payload.{Payload}
 use Rattle.store_api.specs.declared.driving.Payload.TheVariants.{Made, Held}
 use Rattle.store_api.specs.declared.driving.Request.{Request}
 use Rattle.store_api.specs.declared.driving.Request.TheVariants.{Get as Ask_get, PutNew as Ask_put_new, PutOver as Ask_put_over, Remove as Ask_remove, RemoveAt as Ask_remove_at, List as Ask_list}
 use Rattle.store_api.specs.declared.machines.Next.{Next}
 use Rattle.store_api.specs.declared.machines.Refusal.{Refusal}
-use Rattle.store_api.specs.declared.events.StoreFault.{StoreFault}
+use Rattle.object_store.specs.declared.events.StoreFault.{StoreFault}
+pub use Rattle.object_store.specs.Callers.{has_failed}
 use Rattle.store_api.specs.Callers.{View, Called, Fits}
-use Rattle.store_api.specs.Program.{Prog, Done, Ask, Lands, IsSure, is_over, is_fault}
+use Rattle.store_api.specs.Program.{Prog, Done, Ask, Lands, IsSure, moves_branch, is_fault}
 
 -- the bytes of a put
 abbrev pub bytes_of : Payload → List ℕ
@@ -48,10 +49,6 @@ abbrev pub Heard : (Reply → Type 0) → Reply → Type 0
 Heard P (Failed done) = (d : Bool) → P (Failed d)
 Heard P reply = P reply
 
-abbrev pub has_failed : Reply → Bool
-has_failed (Failed done) = true
-has_failed _ = false
-
 -- a fault of the store is told only where the operation failed
 abbrev pub Excuses : {T : Type 0} → Reply → Result T Refusal → Type 0
 Excuses reply (Ok t) = Unit {0}
@@ -60,4 +57,4 @@ Excuses reply (Err refusal) = has_failed reply ≡ false → is_fault refusal �
 -- What a machine that had p to do, and has q now, answered to a reply.
 abbrev pub Took : {T : Type 0} → Prog (Result T Refusal) → Reply → Prog (Result T Refusal) → Result (Next T) Refusal → Type 0
 Took (Done a) reply q result = ⊥
-Took (Ask op k) reply q result = Heard (λ r. Lands (k r) q result × (is_over op ≡ true → IsSure (k r) result)) reply × Excuses reply result
+Took (Ask op k) reply q result = Heard (λ r. Lands (k r) q result × (moves_branch op ≡ true → IsSure (k r) result)) reply × Excuses reply result

@@ -14,28 +14,17 @@ use Rattle.txn_file.specs.declared.log.TxnFile.{TxnFile}
 use Rattle.repo_objects.specs.Readings.{snapshot_by, manifest_by, log_by, ref_of}
 use Rattle.repo_objects.specs.Trees.{Puts, tree_under, NamesManifest, NamesChunk}
 use Rattle.repo_objects.specs.Laws.{initial_bytes}
-use Rattle.store_api.specs.declared.keys.Key.{Key}
-use Rattle.store_api.specs.declared.keys.Key.TheVariants.{Snapshot, Manifest, Txn, Chunk, Branch, Tag, TagGone}
-use Rattle.store_api.specs.declared.keys.Why.{Why}
-use Rattle.store_api.specs.declared.keys.Why.TheVariants.{Init, Commit, Create, Reset, Collect, Tag as For_tag}
-use Rattle.store_api.specs.declared.events.Op.{Op}
-use Rattle.store_api.specs.declared.events.Op.TheVariants.{Get, PutNew, PutOver, Remove, RemoveAt, List as ListPart}
-use Rattle.store_api.specs.declared.events.Event.{Event}
-use Rattle.store_api.specs.Machine.{found, first_put, last_put, was_done, IsAnswered}
-
--- P holds of each event and the journal before it
-unfoldable pub Each : (List Event → Event → Type 0) → List Event → List Event → Type 0
-Each P old [] = Unit {0}
-Each P old (event ∷ events) = P old event × Each P (old ++ event ∷ []) events
-
--- something was put at the key, removed since or not
-abbrev pub WasPut : List Event → Key → Type 0
-WasPut journal key = (bytes : List ℕ) × (first_put journal key ≡ Some bytes)
-
--- the put at this position left these bytes at the key
-pub record StoodAt (journal : List Event) (key : Key) (version : ℕ) (bytes : List ℕ) : Type 0 where
-  pub created : ℕ
-  pub stood : found (take (version + 1) journal) key ≡ Some (record { bytes = bytes; version = version; created = created })
+use Rattle.object_store.specs.declared.keys.Key.{Key}
+use Rattle.object_store.specs.declared.keys.Key.TheVariants.{Snapshot, Manifest, Txn, Chunk, Branch, Tag, TagGone, Lease}
+use Rattle.object_store.specs.declared.keys.Why.{Why}
+use Rattle.object_store.specs.declared.keys.Why.TheVariants.{Init, Commit, Create, Reset, Collect, Tag as For_tag, Lease as For_lease}
+use Rattle.object_store.specs.declared.events.Op.{Op}
+use Rattle.object_store.specs.declared.events.Op.TheVariants.{Get, PutNew, PutOver, Remove, RemoveAt, List as ListPart}
+use Rattle.object_store.specs.declared.events.Event.{Event}
+use Rattle.object_store.specs.Machine.{found, first_put, last_put, was_done}
+unfoldable pub use Rattle.object_store.specs.Journals.{Each}
+pub use Rattle.object_store.specs.Journals.{WasPut, StoodAt}
+use Rattle.object_store.specs.Callers.{IsGood as IsGoodBy}
 
 -- ---- trees of snapshots
 -- manifests and objects with chunks as they were last put, removed since or not
@@ -95,6 +84,7 @@ PutsFirst journal bytes (Chunk id) = IsUnused journal (Chunk id)
 PutsFirst journal bytes (Branch name) = Unit {0}
 PutsFirst journal bytes (Tag name) = Unit {0}
 PutsFirst journal bytes (TagGone name) = Unit {0}
+PutsFirst journal bytes (Lease id) = Unit {0}
 
 abbrev pub PutsOver : List Event → List ℕ → Key → Type 0
 PutsOver journal bytes (Snapshot id) = (id ≡ initial_id → bytes ≡ initial_bytes) × ManifestsPut journal (snapshot_by id bytes)
@@ -104,6 +94,7 @@ PutsOver journal bytes (Chunk id) = Unit {0}
 PutsOver journal bytes (Branch name) = Unit {0}
 PutsOver journal bytes (Tag name) = Unit {0}
 PutsOver journal bytes (TagGone name) = Unit {0}
+PutsOver journal bytes (Lease id) = Unit {0}
 
 abbrev pub IsFirstOp : List Event → Op → Type 0
 IsFirstOp journal (Get key) = Unit {0}
@@ -123,20 +114,36 @@ abbrev pub IsOnce : List Event → Type 0
 IsOnce journal = Each IsFirst [] journal
 
 -- ---- politeness
--- The snapshot is a commit over this version of the branch: it was first put with the snapshot that
--- was named there as its parent, from whose tree, where that is well formed, its own differs only in what its log lists.
-pub record IsCommitOver (journal : List Event) (branch : List ℕ) (old : ℕ) (id : Id12) : Type 0 where
-  pub base : Id12
-  pub named_by : List ℕ
-  pub named : StoodAt journal (Branch branch) old named_by
-  pub names : ref_of named_by ≡ Some base
-  pub base_put : WasPut journal (Snapshot base)
+-- The snapshot and its log were first put so: its parent is the base, from whose tree, where that is well formed, its own
+-- differs only in what the log lists.
+pub record IsMadeOver (journal : List Event) (base id : Id12) : Type 0 where
   pub snap : SnapshotFile
   pub made : snap_made journal id ≡ Some snap
   pub parent : snap.parent ≡ Some base
   pub log : Touched
   pub logged : log_made journal id ≡ Some log
   pub differs : (t u : Tree) → tree_of journal base ≡ Some t → IsWellFormed t → tree_of journal id ≡ Some u → DiffersIn log t u
+
+-- a put of the snapshot had this parent
+pub record HadParent (journal : List Event) (id parent : Id12) : Type 0 where
+  pub version : ℕ
+  pub bytes : List ℕ
+  pub stood : StoodAt journal (Snapshot id) version bytes
+  pub snap : SnapshotFile
+  pub read : snapshot_by id bytes ≡ Some snap
+  pub parent_is : snap.parent ≡ Some parent
+
+-- The snapshot is a commit over this version of the branch: it was put with the snapshot that was named there as its parent,
+-- and after its log; where nothing is put again, it is made over that snapshot.
+pub record IsCommitOver (journal : List Event) (branch : List ℕ) (old : ℕ) (id : Id12) : Type 0 where
+  pub base : Id12
+  pub named_by : List ℕ
+  pub named : StoodAt journal (Branch branch) old named_by
+  pub names : ref_of named_by ≡ Some base
+  pub base_put : WasPut journal (Snapshot base)
+  pub child : HadParent journal id base
+  pub log_put : WasPut journal (Txn id)
+  pub once : IsOnce journal → IsMadeOver journal base id
 
 -- the bytes are a reference to a snapshot that was put
 pub record NamesPut (journal : List Event) (bytes : List ℕ) : Type 0 where
@@ -189,7 +196,7 @@ ChunksKnown journal (Some manifest) = (id : Id12) → NamesChunk manifest id →
 -- A snapshot is put after its log (the initial one needs none), its parent, and the manifests that it names, but for those
 -- that a put of its parent named; a manifest after the objects in which it has chunks, but for those that an old manifest
 -- named; a branch with a reference to a snapshot that was put, as a new one or as `main` with the initial snapshot; a tag
--- likewise; a tombstone after its tag.
+-- likewise; a tombstone after its tag; a lease with a reference to a snapshot that was put.
 abbrev pub MayPutNew : List Event → List ℕ → Why → Key → Type 0
 MayPutNew journal bytes why (Snapshot id) = ((id ≡ initial_id) ⊎ WasPut journal (Txn id)) × ParentPut journal (snapshot_by id bytes) × ManifestsKnown journal (snapshot_by id bytes)
 MayPutNew journal bytes why (Txn id) = Unit {0}
@@ -198,6 +205,7 @@ MayPutNew journal bytes why (Chunk id) = Unit {0}
 MayPutNew journal bytes why (Branch name) = NamesPut journal bytes × ((why ≡ Create) ⊎ ((why ≡ Init) × (name ≡ main_name) × (ref_of bytes ≡ Some initial_id)))
 MayPutNew journal bytes why (Tag name) = NamesPut journal bytes × (why ≡ For_tag)
 MayPutNew journal bytes why (TagGone name) = WasPut journal (Tag name)
+MayPutNew journal bytes why (Lease id) = NamesPut journal bytes × (why ≡ For_lease)
 
 -- A snapshot but the initial one is put over with only its parent changed, to the initial snapshot.
 pub record IsCut (journal : List Event) (id : Id12) (old : ℕ) (bytes : List ℕ) : Type 0 where
@@ -211,7 +219,7 @@ pub record IsCut (journal : List Event) (id : Id12) (old : ℕ) (bytes : List �
 -- A branch is put over as a reset, or as a commit over the version that was read.
 pub record IsMoved (journal : List Event) (name : List ℕ) (old : ℕ) (bytes : List ℕ) (why : Why) : Type 0 where
   pub names : NamesPut journal bytes
-  pub cause : (why ≡ Reset) ⊎ ((why ≡ Commit) × (IsOnce journal → IsCommitOver journal name old names.id))
+  pub cause : (why ≡ Reset) ⊎ ((why ≡ Commit) × IsCommitOver journal name old names.id)
 
 abbrev pub MayPutOver : List Event → List ℕ → ℕ → Why → Key → Type 0
 MayPutOver journal bytes old why (Snapshot id) = IsCut journal id old bytes
@@ -221,9 +229,10 @@ MayPutOver journal bytes old why (Chunk id) = ⊥
 MayPutOver journal bytes old why (Branch name) = IsMoved journal name old bytes why
 MayPutOver journal bytes old why (Tag name) = ⊥
 MayPutOver journal bytes old why (TagGone name) = ⊥
+MayPutOver journal bytes old why (Lease id) = ⊥
 
--- A collection alone removes snapshots, logs, manifests and chunks; tags and tombstones stay, and a
--- branch is removed at a version alone.
+-- A collection alone removes snapshots, logs, manifests and chunks; tags and tombstones stay, a branch is removed at a
+-- version alone, and a lease as one.
 abbrev pub MayRemove : Why → Key → Type 0
 MayRemove why (Snapshot id) = why ≡ Collect
 MayRemove why (Txn id) = why ≡ Collect
@@ -232,6 +241,7 @@ MayRemove why (Chunk id) = why ≡ Collect
 MayRemove why (Branch name) = ⊥
 MayRemove why (Tag name) = ⊥
 MayRemove why (TagGone name) = ⊥
+MayRemove why (Lease id) = why ≡ For_lease
 
 -- ... and never `main`
 abbrev pub MayRemoveAt : Why → Key → Type 0
@@ -242,6 +252,7 @@ MayRemoveAt why (Chunk id) = why ≡ Collect
 MayRemoveAt why (Branch name) = name ≢ main_name
 MayRemoveAt why (Tag name) = ⊥
 MayRemoveAt why (TagGone name) = ⊥
+MayRemoveAt why (Lease id) = ⊥
 
 -- an operation after the journal is polite
 abbrev pub IsPolite : List Event → Op → Type 0
@@ -253,9 +264,8 @@ IsPolite journal (RemoveAt key old why) = MayRemoveAt why key
 IsPolite journal (ListPart part) = Unit {0}
 
 -- answered as the machine does, and polite
-pub record IsGood (journal : List Event) (event : Event) : Type 0 where
-  pub legal : IsAnswered journal event
-  pub polite : IsPolite journal event.op
+abbrev pub IsGood : List Event → Event → Type 0
+IsGood = IsGoodBy IsPolite
 
 -- a journal in which each event is legal and polite
 abbrev pub IsGoodJournal : List Event → Type 0

@@ -5,12 +5,12 @@ use Rattle.ice_ids.specs.Text.{initial_id}
 use Rattle.repo_objects.specs.Readings.{snapshot_by, manifest_by}
 use Rattle.repo_objects.specs.Trees.{Extends}
 use Rattle.repo_objects.specs.Laws.{initial_bytes}
-use Rattle.store_api.specs.declared.keys.Key.{Key}
-use Rattle.store_api.specs.declared.keys.Key.TheVariants.{Snapshot, Manifest, Txn, Chunk, Branch, Tag, TagGone}
-use Rattle.store_api.specs.declared.events.Op.{Op}
-use Rattle.store_api.specs.declared.events.Op.TheVariants.{PutNew}
-use Rattle.store_api.specs.declared.events.Event.{Event}
-use Rattle.store_api.specs.Machine.{Stored, found, first_put}
+use Rattle.object_store.specs.declared.keys.Key.{Key}
+use Rattle.object_store.specs.declared.keys.Key.TheVariants.{Snapshot, Manifest, Txn, Chunk, Branch, Tag, TagGone, Lease}
+use Rattle.object_store.specs.declared.events.Op.{Op}
+use Rattle.object_store.specs.declared.events.Op.TheVariants.{Get, PutNew, PutOver, Remove, RemoveAt, List as ListPart}
+use Rattle.object_store.specs.declared.events.Event.{Event}
+use Rattle.object_store.specs.Machine.{Stored, found, first_put}
 use Rattle.store_api.specs.Journal.{Each, IsGood, IsFirst, IsFirstOp, IsOnce, IsUnused, IsPolite, WasPut, StoodAt, NamesPut, ParentPut, ManifestsPut, ChunksPut, puts_of, tree_of, rows_of, snap_made}
 
 -- Standing trees: where a legal polite journal in which nothing is put again goes on so, each
@@ -30,12 +30,13 @@ PutsLaw = (journal more : List Event) → IsOnce journal → Each IsGood journal
 abbrev pub PoliteLaw : Type 0
 PoliteLaw = (journal more : List Event) (op : Op) → Each IsGood journal more → IsPolite journal op → IsPolite (journal ++ more) op
 
--- Each ref names a snapshot that was put; of each snapshot that was put, its log was put (the
+-- Each ref and each lease names a snapshot that was put; of each snapshot that was put, its log was put (the
 -- initial one needs none), and so were the parent that it named when it was first put, and the manifests that any put of it
 -- named; and of each manifest that was put the objects in which it has chunks, and so of each that any put of one named.
 pub record AllNamed (journal : List Event) : Type 0 where
   pub branches : (name : List ℕ) (s : Stored) → found journal (Branch name) ≡ Some s → NamesPut journal s.bytes
   pub tags : (name : List ℕ) (s : Stored) → found journal (Tag name) ≡ Some s → NamesPut journal s.bytes
+  pub leases : (id : Id12) (s : Stored) → found journal (Lease id) ≡ Some s → NamesPut journal s.bytes
   pub logs : (id : Id12) → WasPut journal (Snapshot id) → (id ≡ initial_id) ⊎ WasPut journal (Txn id)
   pub parents : (id : Id12) → ParentPut journal (snap_made journal id)
   pub manifests : (id : Id12) → ManifestsPut journal (snap_made journal id)
@@ -55,11 +56,16 @@ NewOnce journal bytes (Chunk id) = IsUnused journal (Chunk id)
 NewOnce journal bytes (Branch name) = Unit {0}
 NewOnce journal bytes (Tag name) = Unit {0}
 NewOnce journal bytes (TagGone name) = Unit {0}
+NewOnce journal bytes (Lease id) = Unit {0}
 
 -- the operation puts no removed object again, and the initial snapshot with its own bytes alone
 abbrev pub PutsOnce : List Event → Op → Type 0
 PutsOnce journal (PutNew key bytes why) = NewOnce journal bytes key
-PutsOnce journal _ = Unit {0}
+PutsOnce journal (Get key) = Unit {0}
+PutsOnce journal (PutOver key bytes old why) = Unit {0}
+PutsOnce journal (Remove key why) = Unit {0}
+PutsOnce journal (RemoveAt key old why) = Unit {0}
+PutsOnce journal (ListPart part) = Unit {0}
 
 -- A polite operation that puts nothing again is one of a journal in which nothing is put again: what its bytes name was put.
 abbrev pub FirstLaw : Type 0

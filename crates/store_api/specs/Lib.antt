@@ -1,6 +1,3 @@
-pub mod Names
-pub mod Machine
-pub mod Orders
 pub mod Journal
 pub mod Callers
 pub mod Program

@@ -2,14 +2,14 @@
 -- follows then, so that nothing in it is free.
 use Rattle.std.specs.Prelude.{◌≡◌, ◌⊎◌, ℕ, ◌≤◌, if◌then◌else◌, List, Bool, true, false, IsTrue, Result, Err}
 use Rattle.ice_base.specs.Ends.{Rose}
-use Rattle.store_api.specs.declared.events.Op.{Op}
-use Rattle.store_api.specs.declared.events.Reply.{Reply}
-use Rattle.store_api.specs.declared.events.Event.{Event}
+use Rattle.object_store.specs.declared.events.Op.{Op}
+use Rattle.object_store.specs.declared.events.Reply.{Reply}
+use Rattle.object_store.specs.declared.events.Event.{Event}
 use Rattle.store_api.specs.declared.machines.Refusal.{Refusal}
 use Rattle.store_api.specs.declared.machines.Refusal.TheVariants.{NoMemory}
 use Rattle.store_api.specs.Journal.{IsPolite}
 use Rattle.store_api.specs.Callers.{Caller, View, Makes, Waits, Fits}
-use Rattle.store_api.specs.Program.{Prog, Done, Ask as Ask_next, is_over}
+use Rattle.store_api.specs.Program.{Prog, Done, Ask as Ask_next, moves_branch}
 
 -- It has ended; or an operation comes next, and behind it what follows where there is no memory for it, and what follows each reply; or it
 -- goes on as the first, or, where memory is wanting, as the second.
@@ -18,9 +18,9 @@ pub data Play (A : Type 0) : Type 0 where
   Ask : Op → Play A → (Reply → Play A) → Play A
   Or : Play A → Play A → Play A
 
--- what follows a reply, where memory may be wanting; behind a put over nothing is lost so
+-- what follows a reply, where memory may be wanting; behind a put over of a branch nothing is lost so
 abbrev pub behind : {A : Type 0} → Op → Play A → Play A → Play A
-behind op next starved = if is_over op then next else Or next starved
+behind op next starved = if moves_branch op then next else Or next starved
 
 -- a call of a machine that has this program, and then what follows its answer; it may answer NoMemory at each of its operations
 abbrev pub call : {A B : Type 0} → Prog (Result A Refusal) → (Result A Refusal → Play B) → Play B
@@ -57,11 +57,11 @@ PlayLeads Q by (Ended a) journal = Q a journal
 PlayLeads Q by (Ask op starved next) journal = PlayLeads Q by starved journal × ((reply : Reply) (new : List Event) → Makes by op reply journal new → PlayLeads Q by (next reply) new)
 PlayLeads Q by (Or p q) journal = PlayLeads Q by p journal × PlayLeads Q by q journal
 
--- N, a fact on a journal, holds before each operation that a machine comes to, and behind each reply but that to a put over, whatever
--- others do: wherever a call of it may find no memory.
+-- N, a fact on a journal, holds before each operation that a machine comes to, and behind each reply but that to a put over of a branch,
+-- whatever others do: wherever a call of it may find no memory.
 unfoldable pub Stays : {A : Type 0} → (List Event → Type 0) → Caller → Prog A → List Event → Type 0
 Stays N by (Done a) journal = Unit {0}
-Stays N by (Ask_next op k) journal = N journal × ((reply : Reply) (new : List Event) → Makes by op reply journal new → (is_over op ≡ false → N new) × Stays N by (k reply) new)
+Stays N by (Ask_next op k) journal = N journal × ((reply : Reply) (new : List Event) → Makes by op reply journal new → (moves_branch op ≡ false → N new) × Stays N by (k reply) new)
 
 -- ---- steps of players
 -- this operation comes next

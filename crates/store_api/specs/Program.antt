@@ -1,14 +1,16 @@
 -- Programs of store operations: what a machine has still to do.
 use Rattle.std.specs.Prelude.{◌≡◌, ◌⊎◌, ℕ, ◌≤◌, ◌==◌, List, [], ◌∷◌, ◌++◌, filter, Bool, true, false, IsTrue, Result, Ok, Err}
 use Rattle.ice_base.specs.Ends.{Rose}
-use Rattle.store_api.specs.declared.events.Op.{Op}
-use Rattle.store_api.specs.declared.events.Op.TheVariants.{PutOver}
-use Rattle.store_api.specs.declared.events.Reply.{Reply}
-use Rattle.store_api.specs.declared.events.Event.{Event}
+use Rattle.object_store.specs.declared.events.Op.{Op}
+use Rattle.object_store.specs.declared.keys.Key.{Key}
+use Rattle.object_store.specs.declared.keys.Key.TheVariants.{Snapshot, Manifest, Txn, Chunk, Branch, Tag, TagGone, Lease}
+use Rattle.object_store.specs.declared.events.Op.TheVariants.{Get, PutNew, PutOver, Remove, RemoveAt, List as ListPart}
+use Rattle.object_store.specs.declared.events.Reply.{Reply}
+use Rattle.object_store.specs.declared.events.Event.{Event}
 use Rattle.store_api.specs.declared.machines.Next.{Next}
 use Rattle.store_api.specs.declared.machines.Next.TheVariants.{Again, Ready}
 use Rattle.store_api.specs.declared.machines.Refusal.{Refusal}
-use Rattle.store_api.specs.declared.machines.Refusal.TheVariants.{NoMemory, StoreFault as Refused_fault}
+use Rattle.store_api.specs.declared.machines.Refusal.TheVariants as R
 use Rattle.store_api.specs.Journal.{Each, IsGood, IsPolite}
 use Rattle.store_api.specs.Callers.{Caller, View, Makes, Waits, Fits}
 
@@ -63,12 +65,41 @@ Leads Q by (Ask op k) journal = (reply : Reply) (new : List Event) → Makes by 
 
 -- ---- steps of machines
 abbrev pub is_no_memory : Refusal → Bool
-is_no_memory NoMemory = true
+is_no_memory R.NoMemory = true
 is_no_memory _ = false
 
+-- a failed operation of the store, also where it may have been done; each refusal is named, so that a new one is asked for
 abbrev pub is_fault : Refusal → Bool
-is_fault Refused_fault = true
-is_fault _ = false
+is_fault R.NoRef = false
+is_fault (R.Edit fault) = false
+is_fault (R.BadMeta fault) = false
+is_fault R.ReadOnly = false
+is_fault (R.Missing key) = false
+is_fault (R.BadFile key bad) = false
+is_fault R.TooDeep = false
+is_fault R.StoreFault = true
+is_fault (R.IdTaken key) = false
+is_fault R.NoMemory = false
+is_fault R.IdsSpent = false
+is_fault R.BadKey = false
+is_fault (R.Conflict old found) = false
+is_fault R.NothingToCommit = false
+is_fault (R.TooLarge kind) = false
+is_fault (R.InDoubt snapshot) = true
+is_fault (R.Left at conflicts) = false
+is_fault (R.NotAncestor head) = false
+is_fault (R.RefExists version) = false
+is_fault R.NoSnapshot = false
+is_fault R.TagGone = false
+is_fault R.MainKept = false
+is_fault (R.Moved found) = false
+is_fault (R.CutoffAhead now) = false
+is_fault R.Unnamed = false
+is_fault (R.BadProp fault) = false
+is_fault (R.Unsound faults) = false
+is_fault (R.Differs key) = false
+is_fault R.TargetFault = false
+is_fault (R.Region fault) = false
 
 -- What a step answered and what it left to do, where the program had come to next. Want of memory is free.
 abbrev pub Lands : {T : Type 0} → Prog (Result T Refusal) → Prog (Result T Refusal) → Result (Next T) Refusal → Type 0
@@ -76,17 +107,33 @@ Lands next rest (Ok Again) = (next ≡ rest) × IsAsk rest
 Lands next rest (Ok (Ready t)) = (next ≡ Done (Ok t)) × IsDone rest
 Lands next rest (Err refusal) = IsDone rest × (is_no_memory refusal ≡ false → next ≡ Done (Err refusal))
 
--- a put over what stands
-abbrev pub is_over : Op → Bool
-is_over (PutOver key bytes old why) = true
-is_over _ = false
+-- a key of a branch; each kind is named, so that a new one is asked for
+abbrev pub is_branch : Key → Bool
+is_branch (Snapshot id) = false
+is_branch (Manifest id) = false
+is_branch (Txn id) = false
+is_branch (Chunk id) = false
+is_branch (Branch name) = true
+is_branch (Tag name) = false
+is_branch (TagGone name) = false
+is_branch (Lease id) = false
+
+-- a put over of a branch, as a commit and a reset make it
+abbrev pub moves_branch : Op → Bool
+moves_branch (Get key) = false
+moves_branch (PutNew key bytes why) = false
+moves_branch (PutOver key bytes old why) = is_branch key
+moves_branch (Remove key why) = false
+moves_branch (RemoveAt key old why) = false
+moves_branch (ListPart part) = false
 
 -- an answer that isn't free, also where it tells a want of memory
 abbrev pub IsSure : {T : Type 0} → Prog (Result T Refusal) → Result (Next T) Refusal → Type 0
 IsSure next (Ok answer) = Unit {0}
 IsSure next (Err refusal) = next ≡ Done (Err refusal)
 
--- A step with an operation: this caller's own event was made. What follows from a put over isn't lost for want of memory.
+-- A step with an operation: this caller's own event was made. What follows from a put over of a branch isn't lost for want of
+-- memory.
 pub record Moves {T : Type 0} (old new : View) (p q : Prog (Result T Refusal)) (result : Result (Next T) Refusal) : Type 0 where
   pub op : Op
   pub next : Reply → Prog (Result T Refusal)
@@ -95,11 +142,11 @@ pub record Moves {T : Type 0} (old new : View) (p q : Prog (Result T Refusal)) (
   pub fits : Fits op reply
   pub made : IsTrue old.caller.tells → Makes old.caller op reply old.seen new.seen
   pub lands : Lands (next reply) q result
-  pub sure : is_over op ≡ true → IsSure (next reply) result
+  pub sure : moves_branch op ≡ true → IsSure (next reply) result
 
 -- a step for which the store had no memory
 pub record Stops {T : Type 0} (old new : View) (q : Prog (Result T Refusal)) (result : Result (Next T) Refusal) : Type 0 where
-  pub result_is : result ≡ Err NoMemory
+  pub result_is : result ≡ Err R.NoMemory
   pub waits : IsTrue old.caller.tells → Waits old.caller old.seen new.seen
   pub ended : IsDone q
 

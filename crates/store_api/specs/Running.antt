@@ -1,13 +1,13 @@
 -- What was done where a machine was run to its end on a store.
-use Rattle.std.specs.Prelude.{◌≡◌, ◌⊎◌, ◌≤◌, List, [], ◌∷◌, ◌++◌, Bool, false, IsTrue, Result, Ok, Err}
+use Rattle.std.specs.Prelude.{◌≡◌, ◌⊎◌, ◌≤◌, List, [], ◌∷◌, ◌++◌, Bool, true, false, IsTrue, Result, Ok, Err}
 use Rattle.std.specs.List.{All}
 use Rattle.ice_base.specs.Ends.{Rose}
-use Rattle.store_api.specs.declared.events.Event.{Event}
+use Rattle.object_store.specs.declared.events.Event.{Event}
 use Rattle.store_api.specs.declared.machines.Refusal.{Refusal}
-use Rattle.store_api.specs.declared.machines.Refusal.TheVariants.{NoMemory, StoreFault}
+use Rattle.store_api.specs.declared.machines.Refusal.TheVariants.{NoMemory}
 use Rattle.store_api.specs.Callers.{Caller, View, HasAll, Fits}
 use Rattle.store_api.specs.Journal.{Each, IsGood, IsPolite}
-use Rattle.store_api.specs.Program.{Prog, Done, IsAsk, bind, Path, Keeps, Grows, is_over}
+use Rattle.store_api.specs.Program.{Prog, Done, IsAsk, bind, Path, Keeps, Grows, is_fault, moves_branch}
 
 -- ---- programs that may be refused
 -- a program that ends with an answer or a refusal
@@ -28,19 +28,19 @@ p >>= f = bind p (on_answer f)
 abbrev pub StaysPolite : {A : Type 0} → Caller → Prog A → List Event → Type 0
 StaysPolite by p journal = Keeps (λ known client op. IsPolite known op) by p journal
 
--- the last of these events is a put over what stands
-abbrev pub ends_over : List Event → Bool
-ends_over [] = false
-ends_over (event ∷ []) = is_over event.op
-ends_over (event ∷ next ∷ events) = ends_over (next ∷ events)
+-- the last of these events put a branch over
+abbrev pub ends_moving : List Event → Bool
+ends_moving [] = false
+ends_moving (event ∷ []) = moves_branch event.op
+ends_moving (event ∷ next ∷ events) = ends_moving (next ∷ events)
 
--- Memory ran out when these events had been made, and this was left of the program. What follows from a put over
--- isn't lost so: where one came last, memory was wanting for the operation that comes next.
+-- Memory ran out when these events had been made, and this was left of the program. What follows from a put over of a
+-- branch isn't lost so: where one came last, memory was wanting for the operation that comes next.
 pub record IsCutOff {A : Type 0} (p : Program A) (own : List Event) (result : Result A Refusal) : Type 0 where
   pub result_is : result ≡ Err NoMemory
   pub left : Program A
   pub path : Path p own left
-  pub sure : IsTrue (ends_over own) → IsAsk left
+  pub sure : IsTrue (ends_moving own) → IsAsk left
 
 -- From old to new there were these events alone, all good.
 pub record Adds (own old new : List Event) : Type 0 where
@@ -54,7 +54,7 @@ pub record Adds (own old new : List Event) : Type 0 where
 pub record Runs {A : Type 0} (old new : View) (p : Program A) (result : Result A Refusal) : Type 0 where
   pub same : new.caller ≡ old.caller
   pub faults : old.faults ≤ new.faults
-  pub blames : result ≡ Err StoreFault → Rose old.faults new.faults
+  pub blames : (why : Refusal) → result ≡ Err why → is_fault why ≡ true → Rose old.faults new.faults
   pub own : List Event
   pub fits : All (λ event. Fits event.op event.reply) own
   pub ends : Path p own (Done result) ⊎ IsCutOff p own result

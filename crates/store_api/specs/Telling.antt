@@ -5,17 +5,17 @@ use Rattle.ice_ids.specs.declared.Id12.{Id12}
 use Rattle.snapshot_file.specs.declared.snapshot.SnapshotFile.{SnapshotFile}
 use Rattle.repo_objects.specs.declared.bad.Bad.{Bad}
 use Rattle.repo_objects.specs.Readings.{read_snapshot, read_ref, snapshot_by, ref_of}
-use Rattle.store_api.specs.declared.keys.Key.{Key}
-use Rattle.store_api.specs.declared.keys.Key.TheVariants.{Snapshot, Branch}
-use Rattle.store_api.specs.declared.events.Version.{Version}
-use Rattle.store_api.specs.declared.events.Op.{Op}
-use Rattle.store_api.specs.declared.events.Op.TheVariants.{Get}
-use Rattle.store_api.specs.declared.events.Got.TheVariants.{Found, Absent}
-use Rattle.store_api.specs.declared.events.Reply.{Reply}
-use Rattle.store_api.specs.declared.events.Reply.TheVariants.{Got as Is_got, Failed}
-use Rattle.store_api.specs.declared.events.Event.{Event}
+use Rattle.object_store.specs.declared.keys.Key.{Key}
+use Rattle.object_store.specs.declared.keys.Key.TheVariants.{Snapshot, Branch}
+use Rattle.object_store.specs.declared.events.Version.{Version}
+use Rattle.object_store.specs.declared.events.Op.{Op}
+use Rattle.object_store.specs.declared.events.Op.TheVariants.{Get, PutNew, PutOver, Remove, RemoveAt, List as ListPart}
+use Rattle.object_store.specs.declared.events.Got.TheVariants.{Found, Absent}
+use Rattle.object_store.specs.declared.events.Reply.{Reply}
+use Rattle.object_store.specs.declared.events.Reply.TheVariants.{Got as Is_got, Failed}
+use Rattle.object_store.specs.declared.events.Event.{Event}
 use Rattle.store_api.specs.declared.machines.Refusal.{Refusal}
-use Rattle.store_api.specs.Machine.{Stored, found, version_at}
+use Rattle.object_store.specs.Machine.{Stored, found, version_at}
 use Rattle.store_api.specs.Journal.{Each, StoodAt}
 use Rattle.store_api.specs.Callers.{Caller, IsOther}
 use Rattle.store_api.specs.Program.{Leads}
@@ -59,7 +59,11 @@ pub record ChangedOnce (client : ℕ) (start before : List Event) (event : Event
 
 abbrev pub IsGet : Op → Type 0
 IsGet (Get key) = Unit {0}
-IsGet _ = ⊥
+IsGet (PutNew key bytes why) = ⊥
+IsGet (PutOver key bytes old why) = ⊥
+IsGet (Remove key why) = ⊥
+IsGet (RemoveAt key old why) = ⊥
+IsGet (ListPart part) = ⊥
 
 -- the event isn't the client's, or a get
 abbrev pub GetsAlone : ℕ → List Event → Event → Type 0

@@ -69,8 +69,9 @@ pub enum Request<'a> {
 
 /// A machine that knows no store: it says which operation comes next, and takes the answer to it.
 pub trait Machine {
-    ghost use Rattle.std.specs.Prelude.{ℕ, Result};
+    ghost use Rattle.std.specs.Prelude.{ℕ, Result, Err};
     ghost use Rattle.store_api.specs.Program.{Prog};
+    ghost use Rattle.store_api.specs.declared.machines.Next.{Next as TheNext};
     ghost use Rattle.store_api.specs.declared.machines.Refusal.{Refusal as TheRefusal};
     ghost use Rattle.store_api.specs.declared.machines.Refusal.TheVariants.{NoMemory};
 
@@ -83,8 +84,8 @@ pub trait Machine {
     /// How many steps are left at most.
     ghost left: { Self → ℕ };
 
-    /// What stays from step to step.
-    ghost keeps: { Self → Self → Type 0 };
+    /// What a step with this answer keeps, before it and behind it.
+    ghost keeps: { Result (TheNext Self.Answer) TheRefusal → Self → Self → Type 0 };
 
     /// The refusals that it may end with.
     ghost may_refuse: { TheRefusal → Type 0 };
@@ -99,7 +100,7 @@ pub trait Machine {
         requires { Awaits (rest self.old) reply }
         ensures took { Took (rest self.old) reply (rest self.new) result }
         ensures falls { left self.new < left self.old }
-        ensures kept { keeps self.old self.new }
+        ensures kept { keeps result self.old self.new }
         ensures listed { IfErr result may_refuse };
 
     /// Ends for want of memory.
@@ -107,7 +108,7 @@ pub trait Machine {
         requires { IsAsk (rest self.old) }
         ensures ended { IsDone (rest self.new) }
         ensures falls { left self.new < left self.old }
-        ensures kept { keeps self.old self.new };
+        ensures kept { keeps (Err NoMemory) self.old self.new };
 
     /// It may end for want of memory.
     ghost may_starve: { may_refuse NoMemory };
@@ -160,7 +161,7 @@ pub fn drive<M: Machine, S: Store>(
     requires polite { IsTrue (S.view store.old).caller.tells → NextIsPolite (M.rest machine.old) (S.view store.old).seen }
     ensures step { Steps (S.view store.old) (S.view store.new) (M.rest machine.old) (M.rest machine.new) result }
     ensures falls { M.left machine.new < M.left machine.old }
-    ensures kept { M.keeps machine.old machine.new }
+    ensures kept { M.keeps result machine.old machine.new }
     ensures listed { IfErr result M.may_refuse }
 {
     match ask(machine, store) {

@@ -3,22 +3,17 @@
 #![tactic(auto)]
 
 mod driving;
-mod events;
-mod key_display;
-mod keys;
 mod laws;
 mod machines;
-mod names;
-mod operations;
-mod orders;
+mod rules;
 mod running;
 
 pub use driving::{Machine, Payload, Request, ask, drive, perform};
-pub use events::{
-    Entries, Entry, Event, Gone, GoneAt, Got, Listed, New, Op, Over, Reply, StoreFault, Version,
-};
-pub use keys::{Key, Part, Why};
 pub use laws::{first_law, names_law, polite_law, rows_law, trees_law};
-pub use machines::{Next, Refusal};
-pub use operations::{Base, Counting, Store};
+pub use machines::{Next, Refusal, RegionFault};
+pub use object_store::{
+    CountingStore, Entries, Entry, Event, Gone, GoneAt, Got, Key, Listed, New, ObjectStore, Op,
+    Over, Part, Reply, Rule, StoreFault, Version, Viewed, WholeStore, Why,
+};
+pub use rules::{Base, Counting, Polite, Store};
 pub use running::run_machine;

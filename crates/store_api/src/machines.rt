@@ -5,8 +5,9 @@ use flat_tables::Kind;
 use ice_ids::Id12;
 use ice_items::Items;
 use repo_objects::Bad;
+use snapshot_file::PropFault;
 use zarr_meta::MetaFault;
-use zarr_tree::{Conflict, Frozen};
+use zarr_tree::{Conflict, EditFault};
 
 /// Whether a machine has more to do.
 #[derive(Debug, Drop)]
@@ -23,31 +24,12 @@ pub enum Refusal {
     /// The branch or the tag was absent, or the tag had a tombstone, or the snapshot was absent by whose id a session is
     /// opened or a log is read.
     NoRef,
-    /// The session's tree has no node at the path.
-    NoNode,
-    /// The session's tree has a node at the path.
-    NodeExists,
-    /// The path isn't `/`, and the session's tree has no group at its parent.
-    NoParent,
+    /// The session's tree doesn't take the edit (or has no such node, array or chunk to read).
+    Edit(EditFault),
     /// The text is no metadata, or that of the other kind of node (`NodeType`).
     BadMeta(MetaFault),
-    /// The text changes a part of the metadata that stays as it is: the first one that differs.
-    FrozenField(Frozen),
-    /// The array has no chunk of this index.
-    OutOfGrid,
-    /// The bytes aren't as many as a chunk of the array has.
-    ChunkLength {
-        /// How many a chunk has.
-        want: u64,
-        /// How many there are.
-        got: u64,
-    },
-    /// The node at the path is a group.
-    NotArray,
     /// The session was opened to read.
     ReadOnly,
-    /// The tree has as many nodes as a tree may have.
-    Full,
     /// The store has no object at a key that another object names.
     Missing(Key),
     /// The bytes at the key aren't what the key asks for.
@@ -109,5 +91,38 @@ pub enum Refusal {
     CutoffAhead {
         /// The store's time.
         now: u64,
+    },
+    /// The session was opened by a snapshot's id, so no ref can confirm a lease of it.
+    Unnamed,
+    /// A commit's property doesn't go in.
+    BadProp(PropFault),
+    /// A check found this many faults, at least one.
+    Unsound(u64),
+    /// The object under this key differs in the other store, or the ref there can't follow.
+    Differs(Key),
+    /// The other store failed.
+    TargetFault,
+    /// The box isn't one of the array's cells, or the cells don't fit it.
+    Region(RegionFault),
+}
+
+/// Why a box of cells can't be read or written: the first that holds in this order.
+#[derive(Clone, Copy, Debug, PartialEq, Eq)]
+pub enum RegionFault {
+    /// The ranks differ, or a corner lies outside the array's shape, or the box ends before it begins.
+    OutOfShape,
+    /// The box has more than 1,048,576 cells.
+    Large,
+    /// There aren't as many cells as the box has.
+    CellCount {
+        /// How many the box has.
+        want: u64,
+        /// How many there are.
+        got: u64,
+    },
+    /// The number of this cell, the first such, is outside the range of the array's type.
+    CellRange {
+        /// The cell's place.
+        at: u64,
     },
 }

@@ -7,7 +7,7 @@ use Rattle.std.proofs.lemmas.Bool.{ltb-true, ltb-false}
 use Rattle.std.proofs.lemmas.List.Folds.{list_any-append}
 use Rattle.ice_base.specs.Ends.{OutputAt, Rose}
 use Rattle.ice_ids.specs.declared.drawing.Draw.{Draw}
-use Rattle.store_api.specs.declared.events.Event.{Event}
+use Rattle.object_store.specs.declared.events.Event.{Event}
 use Rattle.store_api.specs.declared.machines.Refusal.{Refusal}
 use Rattle.store_api.specs.declared.machines.Refusal.TheVariants as R
 use Rattle.store_api.specs.Callers.{Caller, View, HasAll, as_client}
@@ -78,13 +78,10 @@ Rose-on a b c r l = (omega (arith, r.0, l), elim r.1 [ inl s ↦ inl (omega (ari
     decide true h e = let s = ltb-true b c h in inl (omega (arith, r.0, s))
     decide false h e = let s = ltb-false b c h in inr (omega (arith, l, s, e))
 
-fault-is : (why : Refusal) → is_fault why ≡ true → why ≡ R.StoreFault
-fault-is R.StoreFault e = refl
-fault-is _ e = absurd cc
-
-result-fault : {A : Type 0} (result : Result A Refusal) → list_any is_fault (why_of result) ≡ true → result ≡ Err R.StoreFault
-result-fault (Ok a) e = cc
-result-fault (Err why) e = ap (λ (w : Refusal). Err w) (fault-is why (sym (or-false (is_fault why)) ∙ e))
+-- what was refused for a fault rose the count
+result-rose : {A : Type 0} (m n : ℕ) (result : Result A Refusal) → ((why : Refusal) → result ≡ Err why → is_fault why ≡ true → Rose m n) → list_any is_fault (why_of result) ≡ true → Rose m n
+result-rose m n (Ok a) blames e = absurd cc
+result-rose m n (Err why) blames e = blames why refl (sym (or-false (is_fault why)) ∙ e)
 
 -- one of a list of outcomes tells a fault
 record HasFailed (outcomes : List Outcome) : Type 0 where
@@ -127,10 +124,10 @@ module _ (draw : Draw) (script : Script) where
       let last = c.reads.faults in
       let parts = or-cases (list_any is_fault (why_of opening)) (list_any is_fault (flat_map why_ended outcomes ++ why_of refs)) (sym (list_any-append is_fault (why_of opening) (flat_map why_ended outcomes ++ why_of refs)) ∙ e) in
       elim parts [
-        | inl here ↦ Rose-on old.faults c.begun.faults new.faults (c.begins.blames (result-fault opening here)) (omega (arith, mid, last))
+        | inl here ↦ Rose-on old.faults c.begun.faults new.faults (result-rose old.faults c.begun.faults opening c.begins.blames here) (omega (arith, mid, last))
         | inr later ↦ elim (or-cases (list_any is_fault (flat_map why_ended outcomes)) (list_any is_fault (why_of refs)) (sym (list_any-append is_fault (flat_map why_ended outcomes) (why_of refs)) ∙ later)) [
           | inl here ↦ Rose-later old.faults c.begun.faults new.faults first (Rose-on c.begun.faults c.played.faults new.faults (plays-blame c.begun c.played opening outcomes c.plays (has-failed outcomes here)) last)
-          | inr here ↦ Rose-later old.faults c.played.faults new.faults (omega (arith, first, mid)) (c.reads.blames (result-fault refs here))
+          | inr here ↦ Rose-later old.faults c.played.faults new.faults (omega (arith, first, mid)) (result-rose c.played.faults new.faults refs c.reads.blames here)
         ]
       ]
 

@@ -40,7 +40,12 @@ line_of S.NoMemory = codes "icerepo: no memory"
 abbrev pub is_told : Status → Bool
 is_told S.Ok = false
 is_told S.Refused = false
-is_told _ = true
+is_told (S.Usage fault) = true
+is_told (S.Script line kind) = true
+is_told S.ReadFault = true
+is_told S.WriteFault = true
+is_told S.StoreFault = true
+is_told S.NoMemory = true
 
 -- words that say nothing
 abbrev pub of_words : WordsFault → Status

@@ -53,11 +53,13 @@ Wrote old new text true = WroteLess old new text
 
 abbrev pub end_committed : End → Bool
 end_committed (E.Committed id) = true
-end_committed _ = false
+end_committed E.Done = false
+end_committed (E.Refused line why) = false
 
 abbrev pub end_refused : End → Bool
 end_refused (E.Refused line why) = true
-end_refused _ = false
+end_refused (E.Committed id) = false
+end_refused E.Done = false
 
 abbrev pub is_committed : Outcome → Bool
 is_committed outcome = end_committed outcome.end

@@ -35,6 +35,7 @@ fn add(causes: &mut Causes, why: &Refusal)
     match why {
         Refusal::NoMemory => causes.no_memory = true,
         Refusal::StoreFault => causes.store_fault = true,
+        Refusal::InDoubt { .. } => causes.store_fault = true,
         _ => causes.refused = true,
     }
 }

@@ -2,32 +2,26 @@
 
 ghost use Rattle.std.specs.Prelude.{◌≡◌, [], ◌∷◌, not, IfOk, OnOk, OnErr, IfSome, MatchOption, IsTrue};
 ghost use Rattle.std.specs.String.{string_bytes};
-ghost use Rattle.std.specs.Arc.{arc_value};
 ghost use Rattle.zarr_path.specs.Paths.{is_path, is_within};
 ghost use Rattle.zarr_changes.specs.Rows.{row_found, IsInOrder};
 ghost use Rattle.zarr_changes.specs.inside.Touching.{has_metadata};
 ghost use Rattle.std.specs.Option.{option_copied};
 ghost use Rattle.std.specs.FinMap as map;
 
-use crate::kinds::is_group;
-use crate::shared::{SharedNode, same};
+use crate::shared::SharedNode;
 use ice_ids::Id8;
 use std::alloc::{AllocError, Global};
 use std::collections::BTreeMap;
 use std::collections::btree_map::Iter;
 use std::marker::Model;
-use std::sync::Arc;
-use zarr_meta::Meta;
+use zarr_meta::SharedMeta;
 use zarr_path::{Path, is_within};
 use zarr_tree::Found;
 
-/// Nodes by their paths. Contracts see a finite map from the bytes of the paths. The metadata of the last group and of the
-/// last array is kept, and the next one with its text shares it.
+/// Nodes by their paths. Contracts see a finite map from the bytes of the paths.
 #[derive(Debug, Drop)]
 pub(crate) struct Added {
     nodes: BTreeMap<String, SharedNode>,
-    group: Option<Arc<Meta>>,
-    array: Option<Arc<Meta>>,
 }
 
 impl Model for Added {
@@ -54,8 +48,6 @@ impl Added {
     {
         Added {
             nodes: BTreeMap::new(alloc),
-            group: None,
-            array: None,
         }
     }
 
@@ -80,41 +72,6 @@ impl Added {
         self.nodes.get(path)
     }
 
-    /// The metadata that is kept, where it has the text of this.
-    fn kept(&self, meta: &Meta) -> Option<&Arc<Meta>>
-        ensures { IfSome result (λ kept. (arc_value kept.now).text ≡ meta.now.text) }
-    {
-        if is_group(meta) {
-            same(&self.group, meta)
-        } else {
-            same(&self.array, meta)
-        }
-    }
-
-    /// Keeps metadata, for the next node to share.
-    fn keep(&mut self, meta: Arc<Meta>)
-        ensures { self.new ≡ self.old }
-    {
-        if is_group(&meta) {
-            self.group = Some(meta);
-        } else {
-            self.array = Some(meta);
-        }
-    }
-
-    /// Metadata of this text for a node: what is kept, where it has the text, and else this, which is kept from now on.
-    fn share(&mut self, alloc: Global, meta: Meta) -> Result<Arc<Meta>, AllocError>
-        ensures text { IfOk result (λ shared. (arc_value shared).text ≡ meta.text) }
-        ensures same { self.new ≡ self.old }
-    {
-        if let Some(kept) = self.kept(&meta) {
-            return Arc::try_clone(kept);
-        }
-        let meta = Arc::new(alloc, meta)?;
-        self.keep(Arc::try_clone(&meta)?);
-        Ok(meta)
-    }
-
     /// Enters a node of this id with this metadata at a path, in place of one that stands there. Where memory runs out, all
     /// is as before.
     pub(crate) fn insert(
@@ -122,13 +79,12 @@ impl Added {
         alloc: Global,
         path: &Path,
         id: Id8,
-        meta: Meta,
+        meta: SharedMeta,
     ) -> Result<(), AllocError>
         ensures ok { OnOk result (self.new ≡ map.insert self.old path.now (record { id = id; text = meta.text })) }
         ensures err { OnErr result (self.new ≡ self.old) }
     {
         let text = String::from_str(alloc, path.as_str())?;
-        let meta = self.share(alloc, meta)?;
         self.enter(text, SharedNode::new(id, meta))
     }
 

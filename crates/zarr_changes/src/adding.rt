@@ -11,7 +11,7 @@ use crate::kinds::is_group;
 use crate::set::ChangeSet;
 use ice_ids::Id8;
 use std::alloc::Global;
-use zarr_meta::Meta;
+use zarr_meta::SharedMeta;
 use zarr_path::{Path, parent_text};
 use zarr_tree::{EditFault, MOST_NODES, TreeLike};
 
@@ -63,7 +63,7 @@ impl ChangeSet {
         base: &B,
         path: &Path,
         id: Id8,
-        meta: Meta,
+        meta: SharedMeta,
     ) -> Result<(), EditFault>
         ensures { Enters (add_refusal (nodes_over self.old (B.nodes base.now)) path.now) (with_added self.old path.now (record { id = id; text = meta.text })) self.old result self.new }
     {

@@ -8,7 +8,7 @@ ghost use Rattle.zarr_changes.specs.Sets.{text_refusal, Enters};
 use crate::frozen::frozen_change;
 use crate::set::ChangeSet;
 use std::alloc::Global;
-use zarr_meta::Meta;
+use zarr_meta::SharedMeta;
 use zarr_path::Path;
 use zarr_tree::{EditFault, TreeLike};
 
@@ -20,7 +20,7 @@ impl ChangeSet {
         alloc: Global,
         base: &B,
         path: &Path,
-        meta: Meta,
+        meta: SharedMeta,
     ) -> Result<(), EditFault>
         ensures { Enters (text_refusal (nodes_over self.old (B.nodes base.now)) path.now meta.text) (with_text_at self.old (B.nodes base.now) path.now meta.text) self.old result self.new }
     {

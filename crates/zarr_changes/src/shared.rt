@@ -1,25 +1,22 @@
-//! Nodes that share their metadata where its text is the same.
+//! Nodes that share their metadata.
 
-ghost use Rattle.std.specs.Prelude.{◌≡◌, IfOk, IfSome};
-ghost use Rattle.std.specs.Arc.{arc_value};
+ghost use Rattle.std.specs.Prelude.{◌≡◌, IfOk};
 ghost use Rattle.zarr_tree.specs.Rows.{node_found};
 
 use ice_ids::Id8;
 use std::alloc::AllocError;
 use std::marker::Model;
-use std::sync::Arc;
-use zarr_meta::Meta;
+use zarr_meta::SharedMeta;
 use zarr_tree::Found;
 
 /// A node whose metadata other nodes may have too. Contracts see its id and the text of its metadata.
 #[derive(Debug, Drop)]
 pub(crate) struct SharedNode {
     id: Id8,
-    meta: Arc<Meta>,
+    meta: SharedMeta,
 }
 
 impl Model for SharedNode {
-    ghost use Rattle.std.specs.Arc.{arc_value};
     ghost use Rattle.zarr_tree.specs.Nodes.{Node as TheNode};
     ghost use Rattle.zarr_tree.specs.Codes.{coded_node};
 
@@ -27,13 +24,13 @@ impl Model for SharedNode {
 
     ghost coded = { coded_node };
 
-    ghost view = { λ n. record { id = n.id; text = (arc_value n.meta).text } };
+    ghost view = { λ n. record { id = n.id; text = n.meta.text } };
 }
 
 impl SharedNode {
     /// The node of this id with this metadata.
-    pub(crate) fn new(id: Id8, meta: Arc<Meta>) -> SharedNode
-        ensures { result ≡ record { id = id; text = (arc_value meta).text } }
+    pub(crate) fn new(id: Id8, meta: SharedMeta) -> SharedNode
+        ensures { result ≡ record { id = id; text = meta.text } }
     {
         SharedNode { id, meta }
     }
@@ -54,19 +51,7 @@ impl SharedNode {
     {
         Ok(SharedNode {
             id: self.id,
-            meta: Arc::try_clone(&self.meta)?,
+            meta: self.meta.share()?,
         })
-    }
-}
-
-/// Metadata that is kept, where it has the text of this.
-pub(crate) fn same<'a>(kept: &'a Option<Arc<Meta>>, meta: &Meta) -> Option<&'a Arc<Meta>>
-    ensures { IfSome result (λ kept. (arc_value kept.now).text ≡ meta.now.text) }
-{
-    let kept = kept.as_ref()?;
-    if kept.text == meta.text {
-        Some(kept)
-    } else {
-        None
     }
 }

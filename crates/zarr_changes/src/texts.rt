@@ -12,12 +12,12 @@ use ice_items::Items;
 use std::alloc::{AllocError, Global};
 use std::collections::BTreeMap;
 use std::marker::Model;
-use zarr_meta::Meta;
+use zarr_meta::{Meta, SharedMeta};
 
 /// Metadata of nodes. Contracts see the ids and the texts, in the order of the ids' bytes.
 #[derive(Debug, Drop)]
 pub(crate) struct Texts {
-    metas: BTreeMap<Id8, Meta>,
+    metas: BTreeMap<Id8, SharedMeta>,
 }
 
 impl Model for Texts {
@@ -55,11 +55,14 @@ impl Texts {
     pub(crate) fn get(&self, id: &Id8) -> Option<&Meta>
         ensures { option_map (λ meta. meta.now.text) result ≡ meta_in self.now id.now }
     {
-        self.metas.get(id)
+        match self.metas.get(id) {
+            Some(meta) => Some(meta),
+            None => None,
+        }
     }
 
     /// Metadata of a node, in place of what it has here. Where memory runs out, all is as before.
-    pub(crate) fn insert(&mut self, id: Id8, meta: Meta) -> Result<(), AllocError>
+    pub(crate) fn insert(&mut self, id: Id8, meta: SharedMeta) -> Result<(), AllocError>
         ensures ok { OnOk result (self.new ≡ with_row self.old id meta.text) }
         ensures err { OnErr result (self.new ≡ self.old) }
     {
@@ -92,7 +95,7 @@ impl Texts {
     {
         let mut copy = Texts::new(alloc);
         for (id, meta) in self.metas.iter() {
-            copy.insert(*id, meta.copy(alloc)?)?;
+            copy.insert(*id, meta.share()?)?;
         }
         Ok(copy)
     }

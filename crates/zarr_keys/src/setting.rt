@@ -1,6 +1,9 @@
 //! Edits at keys.
 
+ghost use Rattle.std.specs.Prelude.{◌≡◌, is_some};
+ghost use Rattle.std.specs.FinMap.{get};
 ghost use Rattle.store_api.specs.Program.{Done};
+ghost use Rattle.session.specs.Sessions.{nodes_seen};
 ghost use Rattle.session.specs.Editing.{Leaves};
 ghost use Rattle.session.specs.Setting.{Sets};
 ghost use Rattle.zarr_keys.specs.Keys.{key_set_program, key_erased, meta_put};
@@ -12,11 +15,18 @@ use std::alloc::Global;
 use store_api::Refusal;
 use zarr_path::{Path, ZarrKey};
 
+/// Whether a node is at the path.
+fn has_node(session: &Session, path: &Path) -> bool
+    ensures { result ≡ is_some (get (nodes_seen session.now) path.now) }
+{
+    session.get_meta(path).is_ok()
+}
+
 /// Gives the node at a path this metadata, or adds it.
 fn put_meta(session: &mut Session, path: &Path, text: &[u8]) -> Result<(), Refusal>
     ensures { Puts (meta_put session.old path.now text.now) session.old result session.new }
 {
-    if session.get_meta(path).is_ok() {
+    if has_node(session, path) {
         return session.set_meta(path, text);
     }
     match session.add_node(path, text) {

@@ -27,14 +27,22 @@ abbrev pub codec_text : IntKind → List ℕ
 codec_text kind =
     if size_of kind == 1 then codes "{\"name\":\"bytes\"}" else codes "{\"name\":\"bytes\",\"configuration\":{\"endian\":\"little\"}}"
 
-unfoldable pub array_text : IntKind → List ℕ → List ℕ → ℤ → List ℕ
-array_text kind shape chunks fill =
+-- the text about a type, which stands there as it is quoted, and the codec of its elements
+unfoldable pub text_about : List ℕ → List ℕ → List ℕ → List ℕ → ℤ → List ℕ
+text_about quoted codec shape chunks fill =
     codes "{\"zarr_format\":3,\"node_type\":\"array\",\"shape\":[" ++ listed shape
-    ++ codes "],\"data_type\":\"" ++ name_of kind
-    ++ codes "\",\"chunk_grid\":{\"name\":\"regular\",\"configuration\":{\"chunk_shape\":[" ++ listed chunks
+    ++ codes "],\"data_type\":" ++ quoted
+    ++ codes ",\"chunk_grid\":{\"name\":\"regular\",\"configuration\":{\"chunk_shape\":[" ++ listed chunks
     ++ codes "]}},\"chunk_key_encoding\":{\"name\":\"default\",\"configuration\":{\"separator\":\"/\"}},\"fill_value\":"
     ++ signed_decimal fill
-    ++ codes ",\"codecs\":[" ++ codec_text kind ++ codes "]}"
+    ++ codes ",\"codecs\":[" ++ codec ++ codes "]}"
+
+-- a name in quotes
+abbrev pub quoted_name : IntKind → List ℕ
+quoted_name kind = 34 ∷ (name_of kind ++ 34 ∷ [])
+
+unfoldable pub array_text : IntKind → List ℕ → List ℕ → ℤ → List ℕ
+array_text kind shape chunks fill = text_about (quoted_name kind) (codec_text kind) shape chunks fill
 
 -- what the plain text of an array says: what is asked, or the first fault of that
 unfoldable pub plain_view : IntKind → List ℕ → List ℕ → ℤ → Result View MetaFault

@@ -19,7 +19,9 @@ mod metas;
 mod names;
 mod parts;
 mod plain;
+mod reader;
 mod shapes;
+mod shared;
 mod views;
 
 pub use faults::MetaFault;
@@ -27,4 +29,7 @@ pub use kinds::IntKind;
 pub use laws::{extra_law, plain_law, text_law};
 pub use lists::{DimensionNames, Lengths};
 pub use metas::Meta;
+pub use plain::{codec_text, text_about};
+pub use reader::MetaReader;
+pub use shared::SharedMeta;
 pub use views::{ArrayView, NodeType, View};

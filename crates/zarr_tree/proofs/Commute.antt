@@ -11,11 +11,11 @@ use Rattle.zarr_tree.specs.Nodes.{Node, is_metadata, is_group, is_array, SameFro
 use Rattle.zarr_tree.specs.Trees.{Tree, node_at, IsWellFormed, HasGroup, HasArray}
 use Rattle.zarr_tree.specs.Changes.{Changes, is_gone, patched, has_id, own_chunk, chunk_of, apply, IsNormal, StillHas, EntryFits}
 use Rattle.zarr_tree.specs.Touched.{Touched, Touches, lists, lists_chunk, lists_new, lists_updated}
-use Rattle.zarr_tree.specs.Conflicts.{same_node, NoConflict, NoHardConflict, IsApart}
+use Rattle.zarr_tree.specs.Conflicts.{same_node, NoConflict, NoHardConflict, IsApart, AddsUnlike}
 use Rattle.zarr_tree.specs.Laws.{CommuteLaw}
 use Rattle.zarr_tree.proofs.Maps.{Path, Index}
 use Rattle.zarr_tree.proofs.NodeLaws.{Text, frozen-refl, frozen-sym, frozen-trans, frozen-array, frozen-group, frozen-metadata, fits-frozen, fits-array, group_or_array}
-use Rattle.zarr_tree.proofs.Above.{group_above}
+use Rattle.zarr_tree.proofs.Above.{Has, group_above, above}
 use Rattle.zarr_tree.proofs.Apply.{Gone, gone-intro, gone-elim, gone-false, id-true, id-refl, id-false, Own, node_cases, added_node, own_node, no_node, some_id}
 use Rattle.zarr_tree.proofs.Extend.{same_tree, own-id}
 
@@ -38,7 +38,7 @@ gone-below : (d : Id8 → Bool) (t : Tree) (p q : Path) → is_gone d t.nodes p 
 gone-below d t p q h w = let g = gone-elim d t p h in gone-intro d t q (record { path = g.path; node = g.node; found = g.found; dropped_id = g.dropped_id; within = within-trans g.path p q g.within w })
 
 -- ---- what holds whether or not there are conflicts
-module _ (c d : Changes) (t : Tree) (wt : IsWellFormed t) (nc : IsNormal c t) (nd : IsNormal d t) (acd : IsApart c d) (adc : IsApart d c) where
+module _ (c d : Changes) (t : Tree) (wt : IsWellFormed t) (nc : IsNormal c t) (nd : IsNormal d t) (acd : AddsUnlike c d) (adc : AddsUnlike d c) where
   pub patched_frozen : (p : Path) (n : Node) → node_at t p ≡ Some n → SameFrozen n.text (patched c.metas n).text
   patched_frozen p n f = by_case (c.metas n.id) refl
     where
@@ -46,11 +46,17 @@ module _ (c d : Changes) (t : Tree) (wt : IsWellFormed t) (nc : IsNormal c t) (n
       by_case None e = frozen-refl n.text
       by_case (Some m) e = nc.frozen n.id m p n e f refl
 
-  pub back : (p : Path) → is_gone c.dropped (apply d t).nodes p ≡ true → is_gone c.dropped t.nodes p ≡ true
-  back p h = let g = gone-elim c.dropped (apply d t) p h in by_case g (node_cases d t g.path g.node g.found)
+  -- what we drop of the later tree, at a node of t that the later commit left, we drop of t
+  pub back : (p : Path) (n : Node) → node_at t p ≡ Some n → is_gone d.dropped t.nodes p ≡ false → is_gone c.dropped (apply d t).nodes p ≡ true → is_gone c.dropped t.nodes p ≡ true
+  back p n f stays h = let g = gone-elim c.dropped (apply d t) p h in by_case g (node_cases d t g.path g.node g.found)
     where
+      new : (g : Gone c.dropped (apply d t) p) → get d.added g.path ≡ Some g.node → is_gone d.dropped t.nodes p ≡ true
+      new g a =
+          let there : Has t g.path = above t wt g.path (nd.well_formed.named g.path g.node g.found) p n f g.within in
+          gone-below d.dropped t g.path p (nd.free g.path g.node there.node a there.found) g.within
+
       by_case : (g : Gone c.dropped (apply d t) p) → (get d.added g.path ≡ Some g.node) ⊎ Own d t g.path g.node → is_gone c.dropped t.nodes p ≡ true
-      by_case g (inl a) = let k : c.dropped g.node.id ≡ false = (adc g.path g.node a).0 in cc (g.dropped_id)
+      by_case g (inl a) = let k : is_gone d.dropped t.nodes p ≡ true = new g a in cc (stays)
       by_case g (inr o) = gone-intro c.dropped t p (record { path = g.path; node = o.before; found = o.found; dropped_id = ap c.dropped (sym (own-id d t g.path g.node o)) ∙ g.dropped_id; within = g.within })
 
   forth : (p : Path) → is_gone c.dropped t.nodes p ≡ true → (is_gone c.dropped (apply d t).nodes p ≡ true) ⊎ (is_gone d.dropped t.nodes p ≡ true)
@@ -77,7 +83,7 @@ pub record There (c : Changes) (t : Tree) (p : Path) (id : Id8) (i : Index) (e :
   pub fits : Fits node.text i e
 
 -- ---- what holds of chunks, whether or not there are conflicts
-module _ (c d : Changes) (t : Tree) (wt : IsWellFormed t) (nc : IsNormal c t) (nd : IsNormal d t) (acd : IsApart c d) (adc : IsApart d c) where
+module _ (c d : Changes) (t : Tree) (wt : IsWellFormed t) (nc : IsNormal c t) (nd : IsNormal d t) (acd : AddsUnlike c d) (adc : AddsUnlike d c) where
   -- our metadata leaves what is frozen in a node of the other tree
   pub frozen_under : (p : Path) (y : Node) → node_at (apply d t) p ≡ Some y → SameFrozen y.text (patched c.metas y).text
   frozen_under p y f = by_case (node_cases d t p y f)
@@ -97,7 +103,7 @@ module _ (c d : Changes) (t : Tree) (wt : IsWellFormed t) (nc : IsNormal c t) (n
   foreign p q x m g f = by_case (node_cases d t q m f)
     where
       by_case : (get d.added q ≡ Some m) ⊎ Own d t q m → m.id ≢ x.id
-      by_case (inl b) h = (acd p x g).1 q m b h
+      by_case (inl b) h = acd p x g q m b h
       by_case (inr o) h = nc.fresh p q x o.before g o.found (sym h ∙ own-id d t q m o)
 
   -- an entry of ours at a node x of the whole: x is in our tree, at the same path
@@ -114,7 +120,7 @@ module _ (c d : Changes) (t : Tree) (wt : IsWellFormed t) (nc : IsNormal c t) (n
 
       -- x is the other side's
       never : (m : Node) → get d.added p ≡ Some m → x.id ≡ m.id → (f : EntryFits t (apply c t) x.id i e) → (get c.added f.path ≡ Some f.node) ⊎ Own c t f.path f.node → f.path ≡ p
-      never m a h f (inl b) = absurd ((adc p m a).1 f.path f.node b (f.same ∙ h))
+      never m a h f (inl b) = absurd (adc p m a f.path f.node b (f.same ∙ h))
       never m a h f (inr o) = absurd (nd.fresh p f.path m o.before a o.found (sym h ∙ sym f.same ∙ own-id c t f.path f.node o))
 
       under : (o : Own c (apply d t) p x) → EntryFits t (apply c t) x.id i e → (get d.added p ≡ Some o.before) ⊎ Own d t p o.before → There c t p x.id i e
@@ -164,7 +170,7 @@ module _ (c d : Changes) (t : Tree) (wt : IsWellFormed t) (nc : IsNormal c t) (n
           frozen-trans v.node.text r.before.text x.text (frozen-sym r.before.text v.node.text own) (frozen-trans r.before.text o.before.text x.text other whole)
 
       theirs : (o : Own c (apply d t) p x) → get d.added p ≡ Some o.before → (get c.added p ≡ Some v.node) ⊎ Own c t p v.node → SameFrozen v.node.text x.text
-      theirs o b (inl a) = absurd ((adc p o.before b).1 p v.node a (v.same ∙ own-id c (apply d t) p x o))
+      theirs o b (inl a) = absurd (adc p o.before b p v.node a (v.same ∙ own-id c (apply d t) p x o))
       theirs o b (inr z) = absurd (nd.fresh p p o.before z.before b z.found (sym (own-id c (apply d t) p x o) ∙ sym v.same ∙ own-id c t p v.node z))
 
       under : (o : Own c (apply d t) p x) → (get d.added p ≡ Some o.before) ⊎ Own d t p o.before → SameFrozen v.node.text x.text
@@ -176,7 +182,7 @@ module _ (c d : Changes) (t : Tree) (wt : IsWellFormed t) (nc : IsNormal c t) (n
       by_case (inr o) = under o (node_cases d t p o.before o.found)
 
 -- ---- the tree of both is well formed where no conflict is hard
-module _ (c d : Changes) (t : Tree) (s : Touched) (wt : IsWellFormed t) (nc : IsNormal c t) (nd : IsNormal d t) (acd : IsApart c d) (adc : IsApart d c) (hard : NoHardConflict c s t (apply d t)) where
+module _ (c d : Changes) (t : Tree) (s : Touched) (wt : IsWellFormed t) (nc : IsNormal c t) (nd : IsNormal d t) (acd : AddsUnlike c d) (adc : AddsUnlike d c) (hard : NoHardConflict c s t (apply d t)) where
   -- ---- the tree of both is well formed
   not_gone : (b : Bool) → (b ≡ true → ⊥) → b ≡ false
   not_gone true h = absurd (h refl)
@@ -217,10 +223,14 @@ module _ (c d : Changes) (t : Tree) (s : Touched) (wt : IsWellFormed t) (nc : Is
       kept : (g : HasGroup (apply c t) (parent_of p)) (r : Own c t (parent_of p) g.node) (y : Node) → node_at (apply d t) (parent_of p) ≡ Some y → y.id ≡ r.before.id → HasGroup (apply c (apply d t)) (parent_of p)
       kept g r y h id = record {
         node = patched c.metas y;
-        found = own_node c (apply d t) (parent_of p) y r.not_added (not_gone _ (λ i. let j : is_gone c.dropped t.nodes (parent_of p) ≡ true = back c d t wt nc nd acd adc (parent_of p) i in cc (r.stays))) h;
+        found = own_node c (apply d t) (parent_of p) y r.not_added (not_gone _ (λ i. let j : is_gone c.dropped t.nodes (parent_of p) ≡ true = back c d t wt nc nd acd adc (parent_of p) r.before r.found (left (node_cases d t (parent_of p) y h)) i in cc (r.stays))) h;
         group = sym (frozen-group y.text (patched c.metas y).text (frozen_under c d t wt nc nd acd adc (parent_of p) y h)) ∙ kind (node_cases d t (parent_of p) y h);
       }
         where
+          left : (get d.added (parent_of p) ≡ Some y) ⊎ Own d t (parent_of p) y → is_gone d.dropped t.nodes (parent_of p) ≡ false
+          left (inl b) = absurd (nd.fresh (parent_of p) (parent_of p) y r.before b r.found id)
+          left (inr o) = o.stays
+
           kind : (get d.added (parent_of p) ≡ Some y) ⊎ Own d t (parent_of p) y → is_group y.text ≡ true
           kind (inl b) = absurd (nd.fresh (parent_of p) (parent_of p) y r.before b r.found id)
           kind (inr o) =
@@ -295,6 +305,12 @@ module _ (c d : Changes) (t : Tree) (s : Touched) (wt : IsWellFormed t) (nc : Is
 
 -- ---- where nothing conflicts
 module _ (c d : Changes) (t : Tree) (s : Touched) (wt : IsWellFormed t) (nc : IsNormal c t) (nd : IsNormal d t) (acd : IsApart c d) (adc : IsApart d c) (ts : Touches d t s) (free : NoConflict c s t (apply d t)) where
+  ours_unlike : AddsUnlike c d
+  ours_unlike p n a = (acd p n a).1
+
+  theirs_unlike : AddsUnlike d c
+  theirs_unlike p n a = (adc p n a).1
+
   new_listed : (p : Path) (m : Node) → get d.added p ≡ Some m → lists_new s m.id ≡ true
   new_listed p m a = by_case (group_or_array m.text (nd.well_formed.readable p m (added_node d t p m a)))
     where
@@ -319,7 +335,7 @@ module _ (c d : Changes) (t : Tree) (s : Touched) (wt : IsWellFormed t) (nc : Is
           ne e = let k : None ≡ Some m = sym o.not_added ∙ ap (get d.added) e ∙ a in cc
 
           kind : is_group o.before.text ≡ true
-          kind = frozen-group o.before.text (patched d.metas o.before).text (patched_frozen d c t wt nd nc adc acd g.path o.before o.found) ∙ ap (λ (x : Node). is_group x.text) (sym o.same)
+          kind = frozen-group o.before.text (patched d.metas o.before).text (patched_frozen d c t wt nd nc theirs_unlike ours_unlike g.path o.before o.found) ∙ ap (λ (x : Node). is_group x.text) (sym o.same)
               ∙ group_above (apply d t) nd.well_formed g.path (nd.well_formed.named g.path g.node g.found) p m g.node (added_node d t p m a) g.within ne g.found
 
           gone : is_gone c.dropped t.nodes g.path ≡ true
@@ -403,24 +419,24 @@ module _ (c d : Changes) (t : Tree) (s : Touched) (wt : IsWellFormed t) (nc : Is
 
       own : get c.added p ≡ None → get d.added p ≡ None → (x : Option Node) → node_at t p ≡ x → (g : Bool) → is_gone d.dropped t.nodes p ≡ g → (h : Bool) → is_gone c.dropped t.nodes p ≡ h → node_at (apply c (apply d t)) p ≡ node_at (apply d (apply c t)) p
       own e k None f g eg h eh = no_node c (apply d t) p e (inr (no_node d t p k (inr f))) ∙ sym (no_node d (apply c t) p k (inr (no_node c t p e (inr f))))
-      own e k (Some n) f true eg h eh = no_node c (apply d t) p e (inr (no_node d t p k (inl eg))) ∙ sym (gone_too (forth d c t wt nd nc adc acd p eg))
+      own e k (Some n) f true eg h eh = no_node c (apply d t) p e (inr (no_node d t p k (inl eg))) ∙ sym (gone_too (forth d c t wt nd nc theirs_unlike ours_unlike p eg))
         where
           gone_too : (is_gone d.dropped (apply c t).nodes p ≡ true) ⊎ (is_gone c.dropped t.nodes p ≡ true) → node_at (apply d (apply c t)) p ≡ None
           gone_too (inl i) = no_node d (apply c t) p k (inl i)
           gone_too (inr i) = no_node d (apply c t) p k (inr (no_node c t p e (inl i)))
-      own e k (Some n) f false eg true eh = gone_too (forth c d t wt nc nd acd adc p eh) ∙ sym (no_node d (apply c t) p k (inr (no_node c t p e (inl eh))))
+      own e k (Some n) f false eg true eh = gone_too (forth c d t wt nc nd ours_unlike theirs_unlike p eh) ∙ sym (no_node d (apply c t) p k (inr (no_node c t p e (inl eh))))
         where
           gone_too : (is_gone c.dropped (apply d t).nodes p ≡ true) ⊎ (is_gone d.dropped t.nodes p ≡ true) → node_at (apply c (apply d t)) p ≡ None
           gone_too (inl i) = no_node c (apply d t) p e (inl i)
           gone_too (inr i) = cc
       own e k (Some n) f false eg false eh =
-          own_node c (apply d t) p (patched d.metas n) e (not_gone _ (λ i. let j = back c d t wt nc nd acd adc p i in cc)) (own_node d t p n k eg f)
+          own_node c (apply d t) p (patched d.metas n) e (not_gone _ (λ i. let j = back c d t wt nc nd ours_unlike theirs_unlike p n f eg i in cc)) (own_node d t p n k eg f)
           ∙ ap (λ (x : Node). Some x) (metas_commute p n k eg f)
-          ∙ sym (own_node d (apply c t) p (patched c.metas n) k (not_gone _ (λ i. let j = back d c t wt nd nc adc acd p i in cc)) (own_node c t p n e eh f))
+          ∙ sym (own_node d (apply c t) p (patched c.metas n) k (not_gone _ (λ i. let j = back d c t wt nd nc theirs_unlike ours_unlike p n f eh i in cc)) (own_node c t p n e eh f))
 
       by_case : (x : Option Node) → get c.added p ≡ x → (y : Option Node) → get d.added p ≡ y → node_at (apply c (apply d t)) p ≡ node_at (apply d (apply c t)) p
-      by_case (Some n) e y k = added_node c (apply d t) p n e ∙ sym (own_node d (apply c t) p n (no_both p n e) (kept_above p n e) (added_node c t p n e) ∙ ap (λ (x : Node). Some x) (meta_own c d t wt nc nd acd adc p n e))
-      by_case None e (Some m) k = own_node c (apply d t) p m e (new_kept p m k) (added_node d t p m k) ∙ ap (λ (x : Node). Some x) (meta_own d c t wt nd nc adc acd p m k) ∙ sym (added_node d (apply c t) p m k)
+      by_case (Some n) e y k = added_node c (apply d t) p n e ∙ sym (own_node d (apply c t) p n (no_both p n e) (kept_above p n e) (added_node c t p n e) ∙ ap (λ (x : Node). Some x) (meta_own c d t wt nc nd ours_unlike theirs_unlike p n e))
+      by_case None e (Some m) k = own_node c (apply d t) p m e (new_kept p m k) (added_node d t p m k) ∙ ap (λ (x : Node). Some x) (meta_own d c t wt nd nc theirs_unlike ours_unlike p m k) ∙ sym (added_node d (apply c t) p m k)
       by_case None e None k = own e k (node_at t p) refl (is_gone d.dropped t.nodes p) refl (is_gone c.dropped t.nodes p) refl
 
   -- ---- chunks
@@ -431,20 +447,20 @@ module _ (c d : Changes) (t : Tree) (s : Touched) (wt : IsWellFormed t) (nc : Is
       both_entries x f e k g l = by_case (node_cases c t p ours.node ours.found) (node_cases d t p theirs.node theirs.found)
         where
           ours : There c t p x.id i e
-          ours = entry_there c d t wt nc nd acd adc p x i e f k
+          ours = entry_there c d t wt nc nd ours_unlike theirs_unlike p x i e f k
 
           theirs : There d t p x.id i g
-          theirs = entry_there d c t wt nd nc adc acd p x i g (sym (nodes_commute p) ∙ f) l
+          theirs = entry_there d c t wt nd nc theirs_unlike ours_unlike p x i g (sym (nodes_commute p) ∙ f) l
 
           by_case : (get c.added p ≡ Some ours.node) ⊎ Own c t p ours.node → (get d.added p ≡ Some theirs.node) ⊎ Own d t p theirs.node → ⊥
-          by_case (inl a) y = foreign c d t wt nc nd acd adc p p ours.node theirs.node a theirs.found (theirs.same ∙ sym ours.same)
+          by_case (inl a) y = foreign c d t wt nc nd ours_unlike theirs_unlike p p ours.node theirs.node a theirs.found (theirs.same ∙ sym ours.same)
           by_case (inr o) y =
               let id : x.id ≡ o.before.id = sym ours.same ∙ own-id c t p ours.node o in
               free case.ChunkDoubleUpdate p (Some i) (
                 o.before,
                 o.found,
                 (
-                  frozen-array o.before.text (patched c.metas o.before).text (patched_frozen c d t wt nc nd acd adc p o.before o.found) ∙ ap (λ (z : Node). is_array z.text) (sym o.same) ∙ fits-array ours.node.text i e ours.fits,
+                  frozen-array o.before.text (patched c.metas o.before).text (patched_frozen c d t wt nc nd ours_unlike theirs_unlike p o.before o.found) ∙ ap (λ (z : Node). is_array z.text) (sym o.same) ∙ fits-array ours.node.text i e ours.fits,
                   ap (λ n. is_some (c.chunks n i)) (sym id) ∙ ap is_some k,
                   ap (λ n. lists_chunk s.updated_chunks n i) (sym id) ∙ (ts.updated_chunks x.id i).1 (record { path = p; node = theirs.node; found = theirs.found; same = theirs.same; kind_of = fits-array theirs.node.text i g theirs.fits; entry = ap is_some l }),
                 ),
@@ -452,9 +468,9 @@ module _ (c d : Changes) (t : Tree) (s : Touched) (wt : IsWellFormed t) (nc : Is
 
       by_entries : (x : Node) → node_at (apply c (apply d t)) p ≡ Some x → is_array x.text ≡ true → (e : Option (Option (List ℕ))) → c.chunks x.id i ≡ e → (g : Option (Option (List ℕ))) → d.chunks x.id i ≡ g
           → unwrap_or e (own_chunk (node_at (apply d t) p) x.id ((apply d t).chunk p i)) ≡ unwrap_or g (own_chunk (node_at (apply c t) p) x.id ((apply c t).chunk p i))
-      by_entries x f a None k None l = own_alone c d t wt nc nd acd adc p x i f a l ∙ sym (own_alone d c t wt nd nc adc acd p x i (sym (nodes_commute p) ∙ f) a k)
-      by_entries x f a (Some e) k None l = sym (entry_alone c d t wt nc nd acd adc p x i e f k)
-      by_entries x f a None k (Some g) l = entry_alone d c t wt nd nc adc acd p x i g (sym (nodes_commute p) ∙ f) l
+      by_entries x f a None k None l = own_alone c d t wt nc nd ours_unlike theirs_unlike p x i f a l ∙ sym (own_alone d c t wt nd nc theirs_unlike ours_unlike p x i (sym (nodes_commute p) ∙ f) a k)
+      by_entries x f a (Some e) k None l = sym (entry_alone c d t wt nc nd ours_unlike theirs_unlike p x i e f k)
+      by_entries x f a None k (Some g) l = entry_alone d c t wt nd nc theirs_unlike ours_unlike p x i g (sym (nodes_commute p) ∙ f) l
       by_entries x f a (Some e) k (Some g) l = absurd (both_entries x f e k g l)
 
       by_array : (x : Node) → node_at (apply c (apply d t)) p ≡ Some x → (b : Bool) → is_array x.text ≡ b
@@ -469,5 +485,5 @@ module _ (c d : Changes) (t : Tree) (s : Touched) (wt : IsWellFormed t) (nc : Is
 pub commute-law : CommuteLaw
 commute-law c d t s wt nc nd acd adc ts free = (
   same_tree _ _ (nodes_commute c d t s wt nc nd acd adc ts free) (chunks_commute c d t s wt nc nd acd adc ts free),
-  well_formed c d t s wt nc nd acd adc (λ k p i h. free k p i),
+  well_formed c d t s wt nc nd (λ p n a. (acd p n a).1) (λ p n a. (adc p n a).1) (λ k p i h. free k p i),
 )

@@ -10,7 +10,7 @@ use Rattle.zarr_tree.specs.Nodes.{Node, is_group, is_array, SameFrozen}
 use Rattle.zarr_tree.specs.Trees.{Tree, node_at, IsWellFormed, HasArray}
 use Rattle.zarr_tree.specs.Changes.{Changes, is_gone, patched, own_chunk, chunk_of, apply, IsNormal, StillHas, EntryFits}
 use Rattle.zarr_tree.specs.Touched.{Touched, Touches}
-use Rattle.zarr_tree.specs.Conflicts.{IsConflict, HasEntry, NoHardConflict, IsApart, is_hard, without}
+use Rattle.zarr_tree.specs.Conflicts.{IsConflict, HasEntry, NoHardConflict, AddsUnlike, is_hard, without}
 use Rattle.zarr_tree.specs.Laws.{RebaseLaw}
 use Rattle.zarr_tree.proofs.Maps.{Path, Index}
 use Rattle.zarr_tree.proofs.NodeLaws.{Text, frozen-refl, frozen-sym, frozen-trans, frozen-array, fits-frozen, fits-array, group_or_array}
@@ -87,7 +87,7 @@ module _ (c : Changes) (t : Tree) (out : Id8 → Index → Bool) (wt : IsWellFor
   }
 
 -- ---- the later tree
-module _ (c d : Changes) (t : Tree) (s : Touched) (wt : IsWellFormed t) (nc : IsNormal c t) (nd : IsNormal d t) (acd : IsApart c d) (adc : IsApart d c) (ts : Touches d t s) (hard : NoHardConflict c s t (apply d t)) where
+module _ (c d : Changes) (t : Tree) (s : Touched) (wt : IsWellFormed t) (nc : IsNormal c t) (nd : IsNormal d t) (acd : AddsUnlike c d) (adc : AddsUnlike d c) (ts : Touches d t s) (hard : NoHardConflict c s t (apply d t)) where
   not_gone : (b : Bool) → (b ≡ true → ⊥) → b ≡ false
   not_gone true h = absurd (h refl)
   not_gone false h = refl
@@ -109,7 +109,7 @@ module _ (c d : Changes) (t : Tree) (s : Touched) (wt : IsWellFormed t) (nc : Is
       by_added (Some x) e = let k : is_gone d.dropped t.nodes p ≡ true = nd.free p x o.before e o.found in cc
       by_added None e =
           let under : node_at (apply d t) p ≡ Some (patched d.metas o.before) = own_node d t p o.before e g o.found in
-          let stays : is_gone c.dropped (apply d t).nodes p ≡ false = not_gone _ (λ h. let k : is_gone c.dropped t.nodes p ≡ true = back c d t wt nc nd acd adc p h in cc (o.stays)) in
+          let stays : is_gone c.dropped (apply d t).nodes p ≡ false = not_gone _ (λ h. let k : is_gone c.dropped t.nodes p ≡ true = back c d t wt nc nd acd adc p o.before o.found g h in cc (o.stays)) in
           let own : SameFrozen o.before.text v.text = subst (λ (n : Node). SameFrozen o.before.text n.text) (sym o.same) (patched_frozen c d t wt nc nd acd adc p o.before o.found) in
           let other : SameFrozen o.before.text (patched d.metas o.before).text = patched_frozen d c t wt nd nc adc acd p o.before o.found in
           record {
@@ -228,5 +228,5 @@ still_hard c s t u out case.DeleteOfUpdatedArray p i h x = cc
 still_hard c s t u out case.DeleteOfUpdatedGroup p i h x = cc
 
 pub rebase-law : RebaseLaw
-rebase-law c d t s out wt nc nd acd adc ts hard =
-    later (without c out) d t s wt (without-normal c t out wt nc) nd acd adc ts (λ k p i h x. hard k p i h (still_hard c s t (apply d t) out k p i h x))
+rebase-law c d t s out wt nc nd unlike ts hard =
+    later (without c out) d t s wt (without-normal c t out wt nc) nd unlike (λ p n a q m b e. unlike q m b p n a (sym e)) ts (λ k p i h x. hard k p i h (still_hard c s t (apply d t) out k p i h x))

@@ -82,6 +82,10 @@ NoHardConflict c s t u = (k : Case) (p : List ℕ) (i : Option (List ℕ)) → i
 abbrev pub without : Changes → (out : Id8 → List ℕ → Bool) → Changes
 without c out = record c { chunks = λ id i. if out id i then None else c.chunks id i }
 
+-- changes add no id that other changes add
+abbrev pub AddsUnlike : (c other : Changes) → Type 0
+AddsUnlike c other = (p : List ℕ) (n : Node) → get c.added p ≡ Some n → (q : List ℕ) (m : Node) → get other.added q ≡ Some m → m.id ≢ n.id
+
 -- the ids that changes add are absent from other changes
 abbrev pub IsApart : (c other : Changes) → Type 0
 IsApart c other = (p : List ℕ) (n : Node) → get c.added p ≡ Some n → (other.dropped n.id ≡ false) × ((q : List ℕ) (m : Node) → get other.added q ≡ Some m → m.id ≢ n.id)

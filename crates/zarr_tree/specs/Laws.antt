@@ -11,7 +11,7 @@ use Rattle.zarr_tree.specs.Trees.{Tree, no_tree, IsWellFormed}
 use Rattle.zarr_tree.specs.Edits.{Edit, refusal, change}
 use Rattle.zarr_tree.specs.Changes.{Changes, none, apply, extended, extend, IsOver, IsNormal, CanExtend, NamesPath, HasMetadata, result_map}
 use Rattle.zarr_tree.specs.Touched.{Touched, Touches, IsOrdered, DiffersIn}
-use Rattle.zarr_tree.specs.Conflicts.{IsApart, NoConflict, NoHardConflict, without}
+use Rattle.zarr_tree.specs.Conflicts.{IsApart, AddsUnlike, NoConflict, NoHardConflict, without}
 use Rattle.zarr_tree.specs.Held.{Held, changes_of, touched}
 
 -- the chunks of an array that a text describes are those of a grid
@@ -62,7 +62,7 @@ CommuteLaw = (c d : Changes) (t : Tree) (s : Touched) → IsWellFormed t → IsN
     → Touches d t s → NoConflict c s t (apply d t)
     → (apply c (apply d t) ≡ apply d (apply c t)) × IsWellFormed (apply c (apply d t))
 
--- where all conflicts can be solved, changes are normal for the later tree, whatever entries are given up
+-- Where all conflicts can be solved, changes are normal for the later tree, whatever entries are given up. They may drop ids that the later commit adds.
 abbrev pub RebaseLaw : Type 0
-RebaseLaw = (c d : Changes) (t : Tree) (s : Touched) (out : Id8 → List ℕ → Bool) → IsWellFormed t → IsNormal c t → IsNormal d t → IsApart c d → IsApart d c
+RebaseLaw = (c d : Changes) (t : Tree) (s : Touched) (out : Id8 → List ℕ → Bool) → IsWellFormed t → IsNormal c t → IsNormal d t → AddsUnlike c d
     → Touches d t s → NoHardConflict c s t (apply d t) → IsNormal (without c out) (apply d t)

@@ -9,7 +9,6 @@ use Rattle.manifest_file.specs.declared.manifest.ArrayRefs.{ArrayRefs}
 use Rattle.manifest_file.specs.Layout.{file_bytes}
 use Rattle.held_manifest.specs.LookUp.{Listed}
 use Rattle.manifest_index.specs.Merging.{merged_array}
-use Rattle.manifest_index.specs.Extents.{extents_for}
 use Rattle.zarr_changes.specs.declared.chunks.ChangedArray.{ChangedArray}
 use Rattle.zarr_changes.specs.Sets.{chunks_of}
 use Rattle.changed_snapshot.specs.declared.written.NewManifest.{NewManifest}
@@ -22,7 +21,7 @@ use Rattle.session.specs.Sessions.{SessionState}
 use Rattle.commit_path.specs.declared.commit.Tried.{Tried}
 use Rattle.commit_path.specs.declared.commit.Commit.{Commit}
 use Rattle.commit_path.specs.declared.committing.Committing.TheVariants.{Ended}
-use Rattle.commit_path.specs.Committing.{Answer, Written, is_long, manifest_for, write_array, arrays_program, after_arrays}
+use Rattle.commit_path.specs.Committing.{Answer, Written, is_long, manifest_for, new_manifest, write_array, arrays_program, after_arrays}
 
 -- why a file isn't written
 abbrev pub IsUnwritten : Kind → WriteFault → Refusal → Type 0
@@ -36,13 +35,9 @@ WritesFile kind file (Err NoMemory) = Unit {0}
 WritesFile kind file (Err why) = (why ≡ TooLarge kind) × (is_long file ≡ true)
 
 -- ---- manifests
--- what a list says of the manifest of one array
-abbrev pub info_of : Id12 → (rank : ℕ) → ArrayRefs → NewManifest
-info_of id rank array = record { id = id; extents = extents_for rank array.refs; size = length (file_bytes (manifest_for id array)); refs = length array.refs }
-
 -- a manifest's file is made, with what a list says of it
 abbrev pub MakesManifest : Id12 → (rank : ℕ) → ArrayRefs → Result (NewManifest × List ℕ) Refusal → Type 0
-MakesManifest id rank array (Ok made) = (made.0 ≡ info_of id rank array) × (made.1 ≡ file_bytes (manifest_for id array)) × (is_long (file_bytes (manifest_for id array)) ≡ false)
+MakesManifest id rank array (Ok made) = (made.0 ≡ new_manifest id rank array) × (made.1 ≡ file_bytes (manifest_for id array)) × (is_long (file_bytes (manifest_for id array)) ≡ false)
 MakesManifest id rank array (Err NoMemory) = Unit {0}
 MakesManifest id rank array (Err why) = (why ≡ TooLarge kinds.Manifest) × (is_long (file_bytes (manifest_for id array)) ≡ true)
 

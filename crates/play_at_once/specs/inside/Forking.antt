@@ -5,7 +5,7 @@ use Rattle.ice_ids.specs.declared.drawing.Draw.{Draw}
 use Rattle.turn_cell.specs.declared.known.Known.{Known}
 use Rattle.turn_cell.specs.declared.known.Owners.{Owners}
 use Rattle.turn_cell.specs.Owners.{IsOwner}
-use Rattle.store_api.specs.declared.events.Event.{Event}
+use Rattle.object_store.specs.declared.events.Event.{Event}
 use Rattle.store_api.specs.Journal.{Each}
 use Rattle.store_api.specs.Program.{events_of}
 use Rattle.store_api.specs.Plays.{Play}

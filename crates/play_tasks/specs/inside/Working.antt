@@ -3,7 +3,7 @@ use Rattle.std.specs.Prelude.{◌≡◌, ℕ, zero, suc, ◌+◌, ◌-◌, ◌*�
 use Rattle.ice_ids.specs.declared.Id8.{Id8}
 use Rattle.ice_ids.specs.declared.drawing.AnyIds.{AnyIds}
 use Rattle.conflicts.specs.declared.solving.Policy.{Policy}
-use Rattle.store_api.specs.declared.events.Version.{Version}
+use Rattle.object_store.specs.declared.events.Version.{Version}
 use Rattle.store_api.specs.declared.machines.Refusal.{Refusal}
 use Rattle.store_api.specs.declared.machines.Refusal.TheVariants.{NoMemory, Conflict}
 use Rattle.store_api.specs.Program.{Done, is_ask, is_fault}

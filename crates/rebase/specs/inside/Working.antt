@@ -17,7 +17,7 @@ use Rattle.zarr_tree.specs.Held.{Held, Rows, meta_in}
 use Rattle.conflicts.specs.declared.solving.Policy.{Policy}
 use Rattle.conflicts.specs.Found.{found}
 use Rattle.conflicts.specs.Solving.{given_up, keys_in}
-use Rattle.store_api.specs.declared.keys.Key.TheVariants.{Txn}
+use Rattle.object_store.specs.declared.keys.Key.TheVariants.{Txn}
 use Rattle.store_api.specs.declared.machines.Refusal.{Refusal}
 use Rattle.store_api.specs.declared.machines.Refusal.TheVariants.{BadFile, Left, NotAncestor, NoMemory}
 use Rattle.store_api.specs.Program.{Done, is_no_memory}

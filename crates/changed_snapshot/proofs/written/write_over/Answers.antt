@@ -18,6 +18,7 @@ write_rows-requires c =
       nodes = nodes;
       flushed_at = c.args.stamp.flushed_at;
       message = c.args.message.now;
+      props = c.args.props.now;
       manifest_files = files;
     } in
     let rows : c.in_ok-rows.rows ≡ rows_over c.args.changes.now c.args.news.now base.nodes = c.in_ok-rows.ensures in
@@ -26,4 +27,4 @@ write_rows-requires c =
     let files : c.in_ok-manifest_files.manifest_files ≡ files_over all (rows_over c.args.changes.now c.args.news.now base.nodes) =
     c.in_ok-manifest_files.ensures ∙ (λ i. files_over ((c.as_slice-2.ensures ∙ with) i) (rows i))
     in
-    subst IsWritable (λ i. file (sym rows i) (sym files i)) (writable_over base c.args.changes.now c.args.news.now c.args.stamp c.args.message.now c.file.ensures.writable c.requires.few)
+    subst IsWritable (λ i. file (sym rows i) (sym files i)) (writable_over base c.args.changes.now c.args.news.now c.args.stamp c.args.message.now c.args.props.now c.file.ensures.writable c.requires.few)

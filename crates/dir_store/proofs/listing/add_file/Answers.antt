@@ -1,13 +1,12 @@
-use Rattle.std.proofs.Common.{rules, ◌≡◌}
-use Rattle.store_api.specs.Machine.{part_of}
-use Rattle.dir_store.proofs.Listed.{inserted, kept}
-use Rattle.dir_store.proofs.listing.add_file.Goals.{in-Ok, in-Err}
+use Rattle.std.proofs.Common.{◌≡◌}
+use Rattle.object_store.specs.Names.{key_name}
+use Rattle.dir_store.specs.Paths.{IsKey}
+use Rattle.dir_store.specs.inside.Finding.{AddsKey, AddsName}
+use Rattle.dir_store.proofs.Found.{name-some, named-some, on-ok}
 use Rattle.dir_store.proofs.listing.add_file.Goals as goal
 
-pub returns : goal.returns
-returns g c =
-    let of : part_of c.in-Some.key ≡ c.args.part = search rules in
-    elim c.match-insert.branch [
-      | in-Ok w ↦ inserted c.args.part c.args.found.now c.insert.new.self c.in-Some.key c.in-Some-2.measures c.requires c.insert.ensures.ordered of w.in-Ok.ensures.updates
-      | in-Err w ↦ kept c.args.part c.args.found.now c.insert.new.self c.requires c.insert.ensures.ordered w.in-Err.ensures.err
-    ]
+pub returns-in-Some-clause-adds : goal.returns-in-Some-clause-adds
+returns-in-Some-clause-adds g c = λ tells.
+    let named : IsKey c.in-Some.key × (c.args.name.now ≡ key_name c.in-Some.key) = named-some c.args.name.now c.key_of.result c.in_ok-key.field-0 c.in-Some.key c.key_of.ensures c.in_ok-key.ensures.value c.in-Some.is in
+    on-ok c.add_key.result (AddsKey (g.F.Folder.files c.args.tree.now) c.args.root.now c.args.part c.in-Some.key c.args.found.now c.add_key.new.found) (AddsName (g.F.Folder.files c.args.tree.now) c.args.root.now c.args.part c.args.name.now c.args.found.now c.add_key.new.found)
+    (c.add_key.ensures.adds tells) (name-some (g.F.Folder.files c.args.tree.now) c.args.root.now c.args.part c.args.name.now c.in-Some.key c.args.found.now c.add_key.new.found named)

@@ -1,9 +1,11 @@
-use Rattle.dir_store.specs.inside.Finding.{IsOfPart}
+use Rattle.std.proofs.Common.{take, map}
+use Rattle.std.specs.Prelude.{IsTrue, string_bytes}
+use Rattle.dir_store.specs.inside.Finding.{IsOfPart, AllRight, AllFound}
 use Rattle.dir_store.proofs.listing.found_in.Given as goal
 
-abbrev pub invariant-loop-entry : goal.invariant-loop-entry
-invariant-loop-entry g l = record {
-  can_next : (goal.iterator-loop-entry g).can_next l.entry-iterator;
-  is_finite : (goal.iterator-loop-entry g).is_finite l.entry-iterator;
+abbrev pub invariant-loop-name : goal.invariant-loop-name
+invariant-loop-name g l = record {
   of_part : IsOfPart l.part l.found;
+  right : IsTrue g.F.Folder.tells → AllRight (g.F.Folder.files l.tree) l.root l.found;
+  all : IsTrue g.F.Folder.tells → AllFound (g.F.Folder.files l.tree) l.root l.part (map string_bytes (take l.name-index l.names)) l.found;
 }

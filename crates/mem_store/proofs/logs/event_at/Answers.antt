@@ -1,7 +1,7 @@
 use Rattle.std.proofs.Common.{◌≡◌, ◌∙◌, length, Some, refl, sym, ap, rules}
 use Rattle.std.specs.Prelude.{slice_get}
 use Rattle.std.proofs.lemmas.Option.{slice_get_read}
-use Rattle.store_api.specs.declared.events.Reply.{Reply}
+use Rattle.object_store.specs.declared.events.Reply.{Reply}
 use Rattle.mem_store.specs.declared.logs.Logged.{Logged}
 use Rattle.mem_store.proofs.Told.{told-at, told-past}
 use Rattle.mem_store.proofs.logs.event_at.Goals as goal

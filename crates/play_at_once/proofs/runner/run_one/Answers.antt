@@ -14,7 +14,7 @@ pub returns-clause-ran : goal.returns-clause-ran
 returns-clause-ran g c =
     let port = c.port-port.result in
     let last = c.run_to_end.new.store in
-    let ended = subst (λ (q : Play Outcome). Went c.args.place (port_view g.S.Base.tells port.client port.pass) (port_view g.S.Base.tells last.client last.pass) (worker_rest c.args.worker) q) c.into_outcome.ensures c.run_to_end.ensures.went in
-    subst (λ (x : Token _ _). RanOne g.S.Base.tells c.args.place (known c.args.pass) (known x) (worker_rest c.args.worker) c.into_outcome.result) (sym c.into_pass.ensures.pass)
-    (subst (λ (x : Token _ _). RanOne g.S.Base.tells c.args.place (known x) (known last.pass) (worker_rest c.args.worker) c.into_outcome.result) c.port-port.ensures.pass
-    (RanOne-went g.S.Base.tells c.args.place port.pass last.pass port.client last.client (worker_rest c.args.worker) c.into_outcome.result last.idle ended))
+    let ended = subst (λ (q : Play Outcome). Went c.args.place (port_view g.S.WholeStore.tells port.client port.pass) (port_view g.S.WholeStore.tells last.client last.pass) (worker_rest c.args.worker) q) c.into_outcome.ensures c.run_to_end.ensures.went in
+    subst (λ (x : Token _ _). RanOne g.S.WholeStore.tells c.args.place (known c.args.pass) (known x) (worker_rest c.args.worker) c.into_outcome.result) (sym c.into_pass.ensures.pass)
+    (subst (λ (x : Token _ _). RanOne g.S.WholeStore.tells c.args.place (known x) (known last.pass) (worker_rest c.args.worker) c.into_outcome.result) c.port-port.ensures.pass
+    (RanOne-went g.S.WholeStore.tells c.args.place port.pass last.pass port.client last.client (worker_rest c.args.worker) c.into_outcome.result last.idle ended))

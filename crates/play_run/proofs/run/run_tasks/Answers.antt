@@ -23,7 +23,7 @@ run_workers-requires-clause-small g c =
 
 pub run_workers-requires-clause-stand : goal.run_workers-requires-clause-stand
 run_workers-requires-clause-stand g c =
-    begins c.task_law.ensures c.args.draw c.args.tasks.now (g.S.Store.view c.args.store.now) (map worker_rest c.deref_mut.result.now) c.requires.tasks (subst (λ (ws : List Worker). Begin c.args.draw c.args.tasks.now (map worker_rest ws)) (sym c.deref_mut.ensures.value) c.in_ok-workers.ensures)
+    begins c.task_law.ensures c.args.draw c.args.tasks.now (g.S.Viewed.view c.args.store.now) (map worker_rest c.deref_mut.result.now) c.requires.tasks (subst (λ (ws : List Worker). Begin c.args.draw c.args.tasks.now (map worker_rest ws)) (sym c.deref_mut.ensures.value) c.in_ok-workers.ensures)
 
 pub take_outcomes-requires-clause-room : goal.take_outcomes-requires-clause-room
 take_outcomes-requires-clause-room g c =
@@ -42,30 +42,30 @@ pub returns-clause-ran : goal.returns-clause-ran
 returns-clause-ran g c =
     let same = went_size _ _ _ _ _ c.run_workers.ensures.went.1 ∙ ap length c.deref_mut.ensures.value in
     let back = written_back c.in_ok-workers.workers.len c.run_workers.new.workers c.in_ok-workers.workers.items same c.in_ok-workers.workers.ok.0 in
-    let whole : (counts : List ℕ) × Went (places_of c.args.turns.now ++ turns_of 0 counts) (g.S.Store.view c.args.store.now) (g.S.Store.view c.run_workers.new.store) (map worker_rest c.deref_mut.result.now) (ends_of c.take_outcomes.new.outcomes.items) = (c.run_workers.ensures.went.0, subst (λ (ps : List (Play Outcome)). Went (places_of c.args.turns.now ++ turns_of 0 c.run_workers.ensures.went.0) (g.S.Store.view c.args.store.now) (g.S.Store.view c.run_workers.new.store) (map worker_rest c.deref_mut.result.now) ps) (sym (c.take_outcomes.ensures ∙ ap (map worker_rest) back)) c.run_workers.ensures.went.1) in
+    let whole : (counts : List ℕ) × Went (places_of c.args.turns.now ++ turns_of 0 counts) (g.S.Viewed.view c.args.store.now) (g.S.Viewed.view c.run_workers.new.store) (map worker_rest c.deref_mut.result.now) (ends_of c.take_outcomes.new.outcomes.items) = (c.run_workers.ensures.went.0, subst (λ (ps : List (Play Outcome)). Went (places_of c.args.turns.now ++ turns_of 0 c.run_workers.ensures.went.0) (g.S.Viewed.view c.args.store.now) (g.S.Viewed.view c.run_workers.new.store) (map worker_rest c.deref_mut.result.now) ps) (sym (c.take_outcomes.ensures ∙ ap (map worker_rest) back)) c.run_workers.ensures.went.1) in
     let first = subst (λ (ws : List Worker). Begin c.args.draw c.args.tasks.now (map worker_rest ws)) (sym c.deref_mut.ensures.value) c.in_ok-workers.ensures in
-    ran_all c.task_law.ensures c.args.draw c.args.tasks.now (places_of c.args.turns.now) (g.S.Store.view c.args.store.now) (g.S.Store.view c.run_workers.new.store) (map worker_rest c.deref_mut.result.now) c.take_outcomes.new.outcomes.items c.requires.tasks first whole
+    ran_all c.task_law.ensures c.args.draw c.args.tasks.now (places_of c.args.turns.now) (g.S.Viewed.view c.args.store.now) (g.S.Viewed.view c.run_workers.new.store) (map worker_rest c.deref_mut.result.now) c.take_outcomes.new.outcomes.items c.requires.tasks first whole
 
 pub returns-clause-told : goal.returns-clause-told
 returns-clause-told g c =
     let same = went_size _ _ _ _ _ c.run_workers.ensures.went.1 ∙ ap length c.deref_mut.ensures.value in
     let back = written_back c.in_ok-workers.workers.len c.run_workers.new.workers c.in_ok-workers.workers.items same c.in_ok-workers.workers.ok.0 in
-    let whole : (counts : List ℕ) × Went (places_of c.args.turns.now ++ turns_of 0 counts) (g.S.Store.view c.args.store.now) (g.S.Store.view c.run_workers.new.store) (map worker_rest c.deref_mut.result.now) (ends_of c.take_outcomes.new.outcomes.items) = (c.run_workers.ensures.went.0, subst (λ (ps : List (Play Outcome)). Went (places_of c.args.turns.now ++ turns_of 0 c.run_workers.ensures.went.0) (g.S.Store.view c.args.store.now) (g.S.Store.view c.run_workers.new.store) (map worker_rest c.deref_mut.result.now) ps) (sym (c.take_outcomes.ensures ∙ ap (map worker_rest) back)) c.run_workers.ensures.went.1) in
+    let whole : (counts : List ℕ) × Went (places_of c.args.turns.now ++ turns_of 0 counts) (g.S.Viewed.view c.args.store.now) (g.S.Viewed.view c.run_workers.new.store) (map worker_rest c.deref_mut.result.now) (ends_of c.take_outcomes.new.outcomes.items) = (c.run_workers.ensures.went.0, subst (λ (ps : List (Play Outcome)). Went (places_of c.args.turns.now ++ turns_of 0 c.run_workers.ensures.went.0) (g.S.Viewed.view c.args.store.now) (g.S.Viewed.view c.run_workers.new.store) (map worker_rest c.deref_mut.result.now) ps) (sym (c.take_outcomes.ensures ∙ ap (map worker_rest) back)) c.run_workers.ensures.went.1) in
     let first = subst (λ (ws : List Worker). Begin c.args.draw c.args.tasks.now (map worker_rest ws)) (sym c.deref_mut.ensures.value) c.in_ok-workers.ensures in
-    told_all c.task_law.ensures c.args.draw c.args.tasks.now (places_of c.args.turns.now) (g.S.Store.view c.args.store.now) (g.S.Store.view c.run_workers.new.store) (map worker_rest c.deref_mut.result.now) c.take_outcomes.new.outcomes.items c.requires.tasks first whole
+    told_all c.task_law.ensures c.args.draw c.args.tasks.now (places_of c.args.turns.now) (g.S.Viewed.view c.args.store.now) (g.S.Viewed.view c.run_workers.new.store) (map worker_rest c.deref_mut.result.now) c.take_outcomes.new.outcomes.items c.requires.tasks first whole
 
 pub returns-clause-size : goal.returns-clause-size
 returns-clause-size g c =
     let same = went_size _ _ _ _ _ c.run_workers.ensures.went.1 ∙ ap length c.deref_mut.ensures.value in
     let back = written_back c.in_ok-workers.workers.len c.run_workers.new.workers c.in_ok-workers.workers.items same c.in_ok-workers.workers.ok.0 in
-    let whole : (counts : List ℕ) × Went (places_of c.args.turns.now ++ turns_of 0 counts) (g.S.Store.view c.args.store.now) (g.S.Store.view c.run_workers.new.store) (map worker_rest c.deref_mut.result.now) (ends_of c.take_outcomes.new.outcomes.items) = (c.run_workers.ensures.went.0, subst (λ (ps : List (Play Outcome)). Went (places_of c.args.turns.now ++ turns_of 0 c.run_workers.ensures.went.0) (g.S.Store.view c.args.store.now) (g.S.Store.view c.run_workers.new.store) (map worker_rest c.deref_mut.result.now) ps) (sym (c.take_outcomes.ensures ∙ ap (map worker_rest) back)) c.run_workers.ensures.went.1) in
+    let whole : (counts : List ℕ) × Went (places_of c.args.turns.now ++ turns_of 0 counts) (g.S.Viewed.view c.args.store.now) (g.S.Viewed.view c.run_workers.new.store) (map worker_rest c.deref_mut.result.now) (ends_of c.take_outcomes.new.outcomes.items) = (c.run_workers.ensures.went.0, subst (λ (ps : List (Play Outcome)). Went (places_of c.args.turns.now ++ turns_of 0 c.run_workers.ensures.went.0) (g.S.Viewed.view c.args.store.now) (g.S.Viewed.view c.run_workers.new.store) (map worker_rest c.deref_mut.result.now) ps) (sym (c.take_outcomes.ensures ∙ ap (map worker_rest) back)) c.run_workers.ensures.went.1) in
     let first = subst (λ (ws : List Worker). Begin c.args.draw c.args.tasks.now (map worker_rest ws)) (sym c.deref_mut.ensures.value) c.in_ok-workers.ensures in
-    size_all c.task_law.ensures c.args.draw c.args.tasks.now (places_of c.args.turns.now) (g.S.Store.view c.args.store.now) (g.S.Store.view c.run_workers.new.store) (map worker_rest c.deref_mut.result.now) c.take_outcomes.new.outcomes.items c.requires.tasks first whole
+    size_all c.task_law.ensures c.args.draw c.args.tasks.now (places_of c.args.turns.now) (g.S.Viewed.view c.args.store.now) (g.S.Viewed.view c.run_workers.new.store) (map worker_rest c.deref_mut.result.now) c.take_outcomes.new.outcomes.items c.requires.tasks first whole
 
 pub returns-clause-blames : goal.returns-clause-blames
 returns-clause-blames g c =
     let same = went_size _ _ _ _ _ c.run_workers.ensures.went.1 ∙ ap length c.deref_mut.ensures.value in
     let back = written_back c.in_ok-workers.workers.len c.run_workers.new.workers c.in_ok-workers.workers.items same c.in_ok-workers.workers.ok.0 in
-    let whole : (counts : List ℕ) × Went (places_of c.args.turns.now ++ turns_of 0 counts) (g.S.Store.view c.args.store.now) (g.S.Store.view c.run_workers.new.store) (map worker_rest c.deref_mut.result.now) (ends_of c.take_outcomes.new.outcomes.items) = (c.run_workers.ensures.went.0, subst (λ (ps : List (Play Outcome)). Went (places_of c.args.turns.now ++ turns_of 0 c.run_workers.ensures.went.0) (g.S.Store.view c.args.store.now) (g.S.Store.view c.run_workers.new.store) (map worker_rest c.deref_mut.result.now) ps) (sym (c.take_outcomes.ensures ∙ ap (map worker_rest) back)) c.run_workers.ensures.went.1) in
+    let whole : (counts : List ℕ) × Went (places_of c.args.turns.now ++ turns_of 0 counts) (g.S.Viewed.view c.args.store.now) (g.S.Viewed.view c.run_workers.new.store) (map worker_rest c.deref_mut.result.now) (ends_of c.take_outcomes.new.outcomes.items) = (c.run_workers.ensures.went.0, subst (λ (ps : List (Play Outcome)). Went (places_of c.args.turns.now ++ turns_of 0 c.run_workers.ensures.went.0) (g.S.Viewed.view c.args.store.now) (g.S.Viewed.view c.run_workers.new.store) (map worker_rest c.deref_mut.result.now) ps) (sym (c.take_outcomes.ensures ∙ ap (map worker_rest) back)) c.run_workers.ensures.went.1) in
     let first = subst (λ (ws : List Worker). Begin c.args.draw c.args.tasks.now (map worker_rest ws)) (sym c.deref_mut.ensures.value) c.in_ok-workers.ensures in
-    blamed_all c.task_law.ensures c.args.draw c.args.tasks.now (places_of c.args.turns.now) (g.S.Store.view c.args.store.now) (g.S.Store.view c.run_workers.new.store) (map worker_rest c.deref_mut.result.now) c.take_outcomes.new.outcomes.items c.requires.tasks first whole
+    blamed_all c.task_law.ensures c.args.draw c.args.tasks.now (places_of c.args.turns.now) (g.S.Viewed.view c.args.store.now) (g.S.Viewed.view c.run_workers.new.store) (map worker_rest c.deref_mut.result.now) c.take_outcomes.new.outcomes.items c.requires.tasks first whole

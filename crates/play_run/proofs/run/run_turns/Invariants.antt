@@ -5,4 +5,4 @@ use Rattle.play_run.specs.inside.Going.{Went}
 use Rattle.play_run.proofs.run.run_turns.Given as goal
 
 abbrev pub invariant-loop-turn : goal.invariant-loop-turn
-invariant-loop-turn g l = Went (places_of (take l.turn-index l.turns)) (g.S.Store.view l.fn.store) (g.S.Store.view l.store) (map worker_rest l.fn.workers) (map worker_rest l.workers)
+invariant-loop-turn g l = Went (places_of (take l.turn-index l.turns)) (g.S.Viewed.view l.fn.store) (g.S.Viewed.view l.store) (map worker_rest l.fn.workers) (map worker_rest l.workers)

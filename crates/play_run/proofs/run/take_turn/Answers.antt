@@ -18,14 +18,14 @@ pub step-requires-clause-polite : goal.step-requires-clause-polite
 step-requires-clause-polite g c =
     let x = c.index-workers-t-2.result in
     let at = slice_get-place worker_rest c.args.workers.now c.args.t x c.requires.within c.index-workers-t-2.is in
-    polite_at (g.S.Store.view c.args.store.now) (g.S.Store.view c.set_client.new.self) c.args.t (map worker_rest c.args.workers.now) (worker_rest (get_or c.args.workers.now c.args.t x)) c.set_client.ensures c.requires.stand (at ∙ ap (λ (w : Worker). Some (worker_rest w)) c.index-workers-t-2.is)
+    polite_at (g.S.Viewed.view c.args.store.now) (g.S.Viewed.view c.set_client.new.self) c.args.t (map worker_rest c.args.workers.now) (worker_rest (get_or c.args.workers.now c.args.t x)) c.set_client.ensures c.requires.stand (at ∙ ap (λ (w : Worker). Some (worker_rest w)) c.index-workers-t-2.is)
 
 pub returns-clause-took : goal.returns-clause-took
 returns-clause-took g c =
     let x = c.index-workers-t-2.result in
     let at = slice_get-place worker_rest c.args.workers.now c.args.t x c.requires.within c.index-workers-t-2.is in
-    stepped_at (g.S.Store.view c.args.store.now) (g.S.Store.view c.set_client.new.self) (g.S.Store.view c.step.new.store) c.args.t (map worker_rest c.args.workers.now) (worker_rest (get_or c.args.workers.now c.args.t x)) (worker_rest c.step.new.self)
-    c.set_client.ensures (g.met.S.Base.alone c.args.store.now) (at ∙ ap (λ (w : Worker). Some (worker_rest w)) c.index-workers-t-2.is) (live_at c.args.workers.now c.args.t c.index-workers-t.result x c.requires.within c.index-workers-t.is c.index-workers-t-2.is (c.if-has_ended.ensures.live refl)) c.step.ensures.acts _ (map-set worker_rest c.args.workers.now c.args.t c.step.new.self)
+    stepped_at (g.S.Viewed.view c.args.store.now) (g.S.Viewed.view c.set_client.new.self) (g.S.Viewed.view c.step.new.store) c.args.t (map worker_rest c.args.workers.now) (worker_rest (get_or c.args.workers.now c.args.t x)) (worker_rest c.step.new.self)
+    c.set_client.ensures (g.met.S.WholeStore.alone c.args.store.now) (at ∙ ap (λ (w : Worker). Some (worker_rest w)) c.index-workers-t-2.is) (live_at c.args.workers.now c.args.t c.index-workers-t.result x c.requires.within c.index-workers-t.is c.index-workers-t-2.is (c.if-has_ended.ensures.live refl)) c.step.ensures.acts _ (map-set worker_rest c.args.workers.now c.args.t c.step.new.self)
 
 pub returns-clause-falls : goal.returns-clause-falls
 returns-clause-falls g c = λ went.

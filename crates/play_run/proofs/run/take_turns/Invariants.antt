@@ -4,4 +4,4 @@ use Rattle.play_run.specs.inside.Going.{Went}
 use Rattle.play_run.proofs.run.take_turns.Given as goal
 
 abbrev pub invariant-loop : goal.invariant-loop
-invariant-loop g l = Went (replicate l.counter l.t) (g.S.Store.view l.fn.store) (g.S.Store.view l.store) (map worker_rest l.fn.workers) (map worker_rest l.workers)
+invariant-loop g l = Went (replicate l.counter l.t) (g.S.Viewed.view l.fn.store) (g.S.Viewed.view l.store) (map worker_rest l.fn.workers) (map worker_rest l.workers)

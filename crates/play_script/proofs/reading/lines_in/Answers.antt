@@ -9,6 +9,7 @@ returns-in-Err c = line_err _ _ _ _ _ _ _ _ c.loop-left.invariant.left c.cut_lin
 pub loop-left-preserved : goal.loop-left-preserved
 loop-left-preserved c = record {
   left = line_ok _ _ _ _ _ _ _ _ c.loop-left.invariant.left c.cut_line.ensures.lines c.in_ok-script.ensures.value c.in-Ok.is;
+  names = rw c.in-Ok.is at c.in_ok-script.ensures.named;
   few = rw c.in-Ok.is at c.in_ok-script.ensures.few;
   counted = omega (arith, c.cut_line.ensures.shorter, c.loop-left.invariant.counted);
 }

@@ -2,7 +2,7 @@ use Rattle.std.proofs.Common.{sym, subst}
 use Rattle.ice_ids.specs.declared.drawing.AnyIds.{AnyIds}
 use Rattle.std.specs.Prelude.{Option}
 use Rattle.store_api.specs.Plays.{Play, Comes}
-use Rattle.store_api.specs.declared.events.Version.{Version}
+use Rattle.object_store.specs.declared.events.Version.{Version}
 use Rattle.commit_path.specs.Committing.{session_in, message_in, commit_rest}
 use Rattle.play_outcome.specs.declared.outcome.Outcome.{Outcome}
 use Rattle.play_tasks.specs.Playing.{after_commit}
@@ -20,8 +20,8 @@ returns-clause-acts g c =
     let tries = c.args.tries in
     let was = c.args.commit in
     let now = c.step-answer.new.self in
-    let old = g.S.Store.view c.args.store.now in
-    let new = g.S.Store.view c.step-answer.new.store in
+    let old = g.S.Viewed.view c.args.store.now in
+    let new = g.S.Viewed.view c.step-answer.new.store in
     let to = working_rest task c.after_committing.result in
     let lost = lost-same tries.left tries.policy line shown (message_in was) (message_in now) (session_in was) (session_in now) c.step-answer.ensures.session c.step-answer.ensures.message in
     let comes = subst (λ (f : Version → Option Version → AnyIds → Play Outcome). Comes (settled (after_commit line shown f) (commit_rest now) c.step-answer.result) to) (sym lost) (c.after_committing.ensures.goes task) in

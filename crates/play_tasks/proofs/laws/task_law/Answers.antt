@@ -9,9 +9,11 @@ returns c =
       session = c.session_law.ensures;
       commit = c.commit_law.ensures;
       single = c.single_law.ensures;
+      owning = c.owning_law.ensures;
       rebase = c.rebase_law.ensures;
       set = c.set_law.ensures;
       get = c.get_law.ensures;
+      calls = c.owning_calls_law.ensures;
       refs = c.refs_task_law.ensures;
     } in
     λ by ids task start well. task-well L by ids task start well

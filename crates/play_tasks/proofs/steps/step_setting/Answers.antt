@@ -6,6 +6,6 @@ use Rattle.play_tasks.proofs.steps.step_setting.Goals as goal
 pub returns-clause-acts : goal.returns-clause-acts
 returns-clause-acts g c =
     let task = c.args.task.now in
-    let old = g.S.Store.view c.args.store.now in
-    let new = g.S.Store.view c.step-answer.new.store in
+    let old = g.S.Viewed.view c.args.store.now in
+    let new = g.S.Viewed.view c.step-answer.new.store in
     acts (after_set c.args.line c.args.shown.items (lines_from task c.args.at)) (working_rest task c.after_setting.result) old new (set_rest c.args.set) (set_rest c.step-answer.new.self) c.step-answer.result c.requires.live c.step-answer.ensures.step c.after_setting.ensures.comes c.after_setting.ensures.blames

@@ -1,5 +1,3 @@
-use Rattle.std.proofs.Common.{subst}
-use Rattle.std.specs.Str.{IsUtf8}
 use Rattle.std.proofs.lemmas.Result.{on_ok_weaker}
 use Rattle.snapshot_file.specs.Layout.{node_block, IsNode}
 use Rattle.snapshot_file.proofs.Told.{each_told}
@@ -7,11 +5,14 @@ use Rattle.snapshot_file.proofs.writing.rows_payload.Goals as goal
 
 pub returns-clause-sized : goal.returns-clause-sized
 returns-clause-sized g c =
+    let before = c.in_ok-before.ensures in
+    let after = c.in_ok-after.ensures in
     on_ok_weaker c.framed_write.result (λ told. record {
-      id = c.in_ok-id12_slot.ensures.id;
-      parent = c.in_ok-parent_slot.ensures.sized;
+      id = before.id;
+      parent = before.parent;
       nodes = each_told IsNode node_block (g.S.RowSource.rows c.args.rows.now) told;
-      flushed_at = c.u64_slot.ensures.small;
-      message = subst IsUtf8 c.as_str.ensures c.in_ok-text_slot.ensures.text;
-      files = c.in_ok-files_slot.ensures.sized;
+      flushed_at = after.flushed_at;
+      message = after.message;
+      props = after.props;
+      files = after.files;
     }) c.framed_write.ensures.told

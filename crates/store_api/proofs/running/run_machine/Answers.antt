@@ -2,7 +2,7 @@ use Rattle.store_api.proofs.RunLaws.{stands-again, stands-ready, stands-refused,
 use Rattle.store_api.proofs.running.run_machine.Goals as goal
 
 pub drive-requires-clause-polite : goal.drive-requires-clause-polite
-drive-requires-clause-polite g c = polite-now (g.S.Store.view c.loop-answer.store) _ c.loop-answer.invariant.polite
+drive-requires-clause-polite g c = polite-now (g.S.Viewed.view c.loop-answer.store) _ c.loop-answer.invariant.polite
 
 pub loop-answer-preserved : goal.loop-answer-preserved
 loop-answer-preserved g c = stands-again _ _ _ _ c.loop-answer.invariant _ _ c.in-Ok-Again.field-0 c.in-Ok-Again.field-0-is c.in-Ok-Again.ensures.step

@@ -8,8 +8,8 @@ pub returns-in-Ok : goal.returns-in-Ok
 returns-in-Ok g c = λ a b h.
     let draw = c.args.draw in
     let script = c.args.script.now in
-    let s = g.S.Store.view c.args.store in
-    let t = g.S.Store.view c.play-store.result.0 in
+    let s = g.S.Viewed.view c.args.store in
+    let t = g.S.Viewed.view c.play-store.result.0 in
     let x = g.K.Sink.at c.args.out.now in
     let y = g.K.Sink.at c.finish.new.out in
     let p = c.in-Ok.played in
@@ -24,8 +24,8 @@ returns-in-Ok g c = λ a b h.
 
 pub returns-in-Err : goal.returns-in-Err
 returns-in-Err g c = λ a b h.
-    let s = g.S.Store.view c.args.store in
-    let t = g.S.Store.view c.play-store.result.0 in
+    let s = g.S.Viewed.view c.args.store in
+    let t = g.S.Viewed.view c.play-store.result.0 in
     let x = g.K.Sink.at c.args.out.now in
     let began = rw c.in-Err.is at c.play-store.ensures.began in
     let kept = rw c.in-Err.is at c.play-store.ensures.kept in

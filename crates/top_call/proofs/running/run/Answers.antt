@@ -10,26 +10,26 @@ pub returns-in-Ok-clause-usage : goal.returns-in-Ok-clause-usage
 returns-in-Ok-clause-usage g c = λ fault k. not_said c.in-Ok.ensures.says k
 
 pub returns-in-Ok-clause-ends : goal.returns-in-Ok-clause-ends
-returns-in-Ok-clause-ends g c = of_said _ _ c.in-Ok.ensures.says (λ command. Ends command c.args.draw (g.I.Source.at c.args.input.now) (g.I.Source.at c.run_command.new.input) (g.S.Store.view c.args.store) (g.S.Store.view c.run_command.result.store) (g.K.Sink.at c.args.out.now) (g.K.Sink.at c.run_command.new.out) c.run_command.result.status) c.run_command.ensures.ends
+returns-in-Ok-clause-ends g c = of_said _ _ c.in-Ok.ensures.says (λ command. Ends command c.args.draw (g.I.Source.at c.args.input.now) (g.I.Source.at c.run_command.new.input) (g.S.Viewed.view c.args.store) (g.S.Viewed.view c.run_command.result.store) (g.K.Sink.at c.args.out.now) (g.K.Sink.at c.run_command.new.out) c.run_command.result.status) c.run_command.ensures.ends
 
 pub returns-in-Ok-clause-refused : goal.returns-in-Ok-clause-refused
 returns-in-Ok-clause-refused g c = of_said _ _ c.in-Ok.ensures.says (λ command. TellsRefused command (g.I.Source.at c.args.input.now) c.run_command.result.status)
-    (tells_refused c.args.draw (g.I.Source.at c.args.input.now) (g.I.Source.at c.run_command.new.input) (g.S.Store.view c.args.store) (g.S.Store.view c.run_command.result.store) (g.K.Sink.at c.args.out.now) (g.K.Sink.at c.run_command.new.out) c.run_command.result.status c.in-Ok.command c.run_command.ensures.ends)
+    (tells_refused c.args.draw (g.I.Source.at c.args.input.now) (g.I.Source.at c.run_command.new.input) (g.S.Viewed.view c.args.store) (g.S.Viewed.view c.run_command.result.store) (g.K.Sink.at c.args.out.now) (g.K.Sink.at c.run_command.new.out) c.run_command.result.status c.in-Ok.command c.run_command.ensures.ends)
 
 pub returns-in-Ok-clause-store_fault : goal.returns-in-Ok-clause-store_fault
-returns-in-Ok-clause-store_fault g c = store_faulted c.args.draw (g.I.Source.at c.args.input.now) (g.I.Source.at c.run_command.new.input) (g.S.Store.view c.args.store) (g.S.Store.view c.run_command.result.store) (g.K.Sink.at c.args.out.now) (g.K.Sink.at c.run_command.new.out) c.run_command.result.status c.in-Ok.command c.run_command.ensures.ends
+returns-in-Ok-clause-store_fault g c = store_faulted c.args.draw (g.I.Source.at c.args.input.now) (g.I.Source.at c.run_command.new.input) (g.S.Viewed.view c.args.store) (g.S.Viewed.view c.run_command.result.store) (g.K.Sink.at c.args.out.now) (g.K.Sink.at c.run_command.new.out) c.run_command.result.status c.in-Ok.command c.run_command.ensures.ends
 
 pub returns-in-Ok-clause-write_fault : goal.returns-in-Ok-clause-write_fault
-returns-in-Ok-clause-write_fault g c = sink_faulted c.args.draw (g.I.Source.at c.args.input.now) (g.I.Source.at c.run_command.new.input) (g.S.Store.view c.args.store) (g.S.Store.view c.run_command.result.store) (g.K.Sink.at c.args.out.now) (g.K.Sink.at c.run_command.new.out) c.run_command.result.status c.in-Ok.command c.run_command.ensures.ends
+returns-in-Ok-clause-write_fault g c = sink_faulted c.args.draw (g.I.Source.at c.args.input.now) (g.I.Source.at c.run_command.new.input) (g.S.Viewed.view c.args.store) (g.S.Viewed.view c.run_command.result.store) (g.K.Sink.at c.args.out.now) (g.K.Sink.at c.run_command.new.out) c.run_command.result.status c.in-Ok.command c.run_command.ensures.ends
 
 pub returns-in-Ok-clause-calm : goal.returns-in-Ok-clause-calm
-returns-in-Ok-clause-calm g c = λ command k. faultless c.args.draw (g.I.Source.at c.args.input.now) (g.I.Source.at c.run_command.new.input) (g.S.Store.view c.args.store) (g.S.Store.view c.run_command.result.store) (g.K.Sink.at c.args.out.now) (g.K.Sink.at c.run_command.new.out) c.run_command.result.status c.in-Ok.command c.run_command.ensures.ends
+returns-in-Ok-clause-calm g c = λ command k. faultless c.args.draw (g.I.Source.at c.args.input.now) (g.I.Source.at c.run_command.new.input) (g.S.Viewed.view c.args.store) (g.S.Viewed.view c.run_command.result.store) (g.K.Sink.at c.args.out.now) (g.K.Sink.at c.run_command.new.out) c.run_command.result.status c.in-Ok.command c.run_command.ensures.ends
 
 pub returns-in-Err-clause-usage : goal.returns-in-Err-clause-usage
 returns-in-Err-clause-usage g c = rw c.from.ensures (λ fault k. (usage_told (command_of c.args.words.now) c.in-Err.fault c.in-Err.ensures.says fault k, refl, refl, refl))
 
 pub returns-in-Err-clause-ends : goal.returns-in-Err-clause-ends
-returns-in-Err-clause-ends g c = rw c.from.ensures (λ command k. starved (command_of c.args.words.now) c.in-Err.fault c.in-Err.ensures.says (Ends command c.args.draw (g.I.Source.at c.args.input.now) (g.I.Source.at c.args.input.now) (g.S.Store.view c.args.store) (g.S.Store.view c.args.store) (g.K.Sink.at c.args.out.now) (g.K.Sink.at c.args.out.now)) (ends_starved command c.args.draw (g.I.Source.at c.args.input.now) (g.S.Store.view c.args.store) (g.K.Sink.at c.args.out.now)) command k)
+returns-in-Err-clause-ends g c = rw c.from.ensures (λ command k. starved (command_of c.args.words.now) c.in-Err.fault c.in-Err.ensures.says (Ends command c.args.draw (g.I.Source.at c.args.input.now) (g.I.Source.at c.args.input.now) (g.S.Viewed.view c.args.store) (g.S.Viewed.view c.args.store) (g.K.Sink.at c.args.out.now) (g.K.Sink.at c.args.out.now)) (ends_starved command c.args.draw (g.I.Source.at c.args.input.now) (g.S.Viewed.view c.args.store) (g.K.Sink.at c.args.out.now)) command k)
 
 pub returns-in-Err-clause-refused : goal.returns-in-Err-clause-refused
 returns-in-Err-clause-refused g c = rw c.from.ensures (λ command k. starved (command_of c.args.words.now) c.in-Err.fault c.in-Err.ensures.says (TellsRefused command (g.I.Source.at c.args.input.now)) (refused_starved command (g.I.Source.at c.args.input.now)) command k)

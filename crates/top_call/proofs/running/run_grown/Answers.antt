@@ -3,4 +3,4 @@ use Rattle.top_call.proofs.Endings.{ends_unread}
 use Rattle.top_call.proofs.running.run_grown.Goals as goal
 
 pub returns-in-Err : goal.returns-in-Err
-returns-in-Err g c = λ at. ends_unread (C.Grow c.args.tasks) c.args.draw at at (g.S.Store.view c.args.store) (g.K.Sink.at c.args.out.now) c.in-Err.status (c.in-Err.ensures.reads at)
+returns-in-Err g c = λ at. ends_unread (C.Grow c.args.tasks) c.args.draw at at (g.S.Viewed.view c.args.store) (g.K.Sink.at c.args.out.now) c.in-Err.status (c.in-Err.ensures.reads at)

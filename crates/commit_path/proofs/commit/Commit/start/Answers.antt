@@ -1,6 +1,6 @@
-use Rattle.std.proofs.Common.{sym, ◌∙◌, subst}
+use Rattle.std.proofs.Common.{sym, ◌∙◌, ap, subst}
 use Rattle.session.specs.Sessions.{SessionState, base_nodes}
-use Rattle.commit_path.specs.Committing.{IsDrawn}
+use Rattle.commit_path.specs.Committing.{IsDrawn, ids_for}
 use Rattle.commit_path.proofs.Ascending.{these-ascend}
 use Rattle.commit_path.proofs.Walking.{undrawn, read-only, nothing-changed, begins}
 use Rattle.commit_path.proofs.commit.Commit.start.Goals as goal
@@ -21,6 +21,7 @@ returns-in-Ok-go_on-clause-starts c =
       sym (begins c.args.session c.new-session.result c.args.message c.new.result c.in-Ok.arrays c.new-session.ensures (sym c.writes.ensures ∙ c.if-not-writes.false) (sym c.is_unchanged.ensures ∙ c.if-is_unchanged.false) c.new.ensures.news c.new.ensures.left c.in-Ok.ensures ∙ r.0),
       r.1,
       subst (λ (x : SessionState). IsDrawn x c.go_on.new.self.session) c.new-session.ensures c.in-Ok-go_on.ensures.kept,
+      c.in-Ok-go_on.ensures.drew ∙ ap (λ (x : SessionState). ids_for c.go_on.new.self.state x.ids) c.new-session.ensures,
     )
 
 pub returns-in-Err-clause-starts : goal.returns-in-Err-clause-starts

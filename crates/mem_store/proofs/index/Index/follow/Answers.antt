@@ -1,6 +1,6 @@
 use Rattle.std.proofs.Common.{◌≡◌, ◌∙◌, ℕ, cond, Option, Some, None, sym, ap, rules}
-use Rattle.store_api.specs.declared.keys.Key.{Key}
-use Rattle.store_api.specs.Machine.{same_key}
+use Rattle.object_store.specs.declared.keys.Key.{Key}
+use Rattle.object_store.specs.Machine.{same_key}
 use Rattle.mem_store.specs.Logs.{key_changed}
 use Rattle.mem_store.specs.Places.{place_in, place_left}
 use Rattle.mem_store.proofs.Changing.{after-some, after-same, same-option, OnOk-then}

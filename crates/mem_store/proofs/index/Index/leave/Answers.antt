@@ -1,8 +1,8 @@
 use Rattle.std.proofs.Common.{◌≡◌, ◌∙◌, ℕ, Some, None, ap, get_or, rules}
 use Rattle.std.specs.BTreeMap.{BTreeMap}
-use Rattle.store_api.specs.declared.keys.Key.{Key}
-use Rattle.store_api.specs.Machine.{part_of}
-use Rattle.store_api.specs.Orders.{place_of}
+use Rattle.object_store.specs.declared.keys.Key.{Key}
+use Rattle.object_store.specs.Machine.{part_of}
+use Rattle.object_store.specs.Orders.{place_of}
 use Rattle.mem_store.specs.Shelves.{shelf_at}
 use Rattle.mem_store.proofs.Placing.{shelf-read, set-place, sorted-set}
 use Rattle.mem_store.proofs.index.Index.leave.Goals as goal

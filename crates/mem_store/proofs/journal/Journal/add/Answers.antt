@@ -1,6 +1,6 @@
 use Rattle.std.proofs.Common.{◌≡◌, ◌∙◌, ℕ, Bool, List, [], ◌∷◌, ◌++◌, length, Option, sym, ap, rules}
-use Rattle.store_api.specs.declared.events.Event.{Event}
-use Rattle.store_api.specs.Machine.{found, was_done}
+use Rattle.object_store.specs.declared.events.Event.{Event}
+use Rattle.object_store.specs.Machine.{found, was_done}
 use Rattle.mem_store.specs.declared.logs.Logged.{Logged}
 use Rattle.mem_store.specs.Places.{place_in, place_after}
 use Rattle.mem_store.specs.Logs.{puts_in, told, event_in}

@@ -1,5 +1,5 @@
 use Rattle.std.proofs.Common.{◌≡◌, ◌∙◌, List, length, sym, ap, rules}
-use Rattle.store_api.specs.declared.events.Event.{Event}
+use Rattle.object_store.specs.declared.events.Event.{Event}
 use Rattle.mem_store.specs.Logs.{told}
 use Rattle.mem_store.proofs.Told.{length-told}
 use Rattle.mem_store.proofs.journal.Journal.len.Goals as goal

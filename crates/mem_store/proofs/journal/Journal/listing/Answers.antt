@@ -1,7 +1,7 @@
 use Rattle.std.proofs.Common.{◌≡◌, ◌∙◌, List, subst, sym, ap, rules}
-use Rattle.store_api.specs.declared.events.Event.{Event}
-use Rattle.store_api.specs.declared.events.Entry.{Entry}
-use Rattle.store_api.specs.Machine.{found, IsListing}
+use Rattle.object_store.specs.declared.events.Event.{Event}
+use Rattle.object_store.specs.declared.events.Entry.{Entry}
+use Rattle.object_store.specs.Machine.{found, IsListing}
 use Rattle.mem_store.specs.Logs.{told}
 use Rattle.mem_store.specs.Listed.{entries_in}
 use Rattle.mem_store.proofs.Shelved.{IsShelf, listing-shelf, IfOk-then}

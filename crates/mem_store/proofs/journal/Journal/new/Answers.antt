@@ -1,6 +1,6 @@
 use Rattle.std.proofs.Common.{◌≡◌, ◌∙◌, List, [], sym, ap}
-use Rattle.store_api.specs.declared.events.Event.{Event}
-use Rattle.store_api.specs.Machine.{found}
+use Rattle.object_store.specs.declared.events.Event.{Event}
+use Rattle.object_store.specs.Machine.{found}
 use Rattle.mem_store.specs.declared.logs.Logged.{Logged}
 use Rattle.mem_store.specs.Logs.{puts_in, told}
 use Rattle.mem_store.proofs.HeldLemmas.{found-none}

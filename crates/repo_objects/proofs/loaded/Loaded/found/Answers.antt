@@ -15,4 +15,4 @@ returns c =
     let below : at < length rows = subst (λ (xs : List NodeRow). at < length xs) (sym same) c.requires in
     let is = c.index-as_slice-at.is ∙ ap (λ (xs : List NodeRow). get_or xs at row) c.as_slice.ensures in
     let has = c.index-as_slice-at-2.is ∙ ap (λ (xs : List Meta). get_or xs at meta) c.as_slice-2.ensures in
-    rw (← same, ← c.index-as_slice-at.is) (node_read rows c.self.inside.metas at row meta c.self.invariant.1 below is has)
+    rw (← same, ← c.index-as_slice-at.is, c.deref.ensures) (node_read rows c.self.inside.metas at row meta c.self.invariant.1 below is has)

@@ -1,7 +1,6 @@
 use Rattle.std.proofs.Common.{refl, sym, ap, subst, ◌∙◌, Err}
 use Rattle.std.proofs.lemmas.Result.{err_from_is_err_and}
 use Rattle.session.specs.Sessions.{SessionState, writes}
-use Rattle.session.specs.Viewed.{viewed}
 use Rattle.session.specs.Editing.{Adds, array_added, array_fault}
 use Rattle.session.proofs.Adding.{read_only, bad_text, added_text}
 use Rattle.session.proofs.session.Session.add_array.Goals as goal
@@ -12,8 +11,10 @@ returns-then-not-writes c = (read_only array_fault c.args.self.now c.args.path.n
 pub returns-in_err-meta : goal.returns-in_err-meta
 returns-in_err-meta c =
     let p = err_from_is_err_and c.from_residual.result c.from_residual.ensures.1 in
-    rw (p.1, p.2) (subst (λ (s : SessionState). Adds (array_added s c.args.path.now c.args.text.now) s (Err c.in_err-meta.field-0.0) s) c.self.view_is
-    (bad_text array_fault (viewed c.self.inside) c.args.path.now c.args.text.now c.in_err-meta.field-0.0 (ap writes c.self.view_is ∙ (sym c.writes.ensures ∙ c.if-not-writes.false)) c.in_err-meta.ensures))
+    rw (p.1, p.2, c.read_array.ensures.same)
+    (bad_text array_fault c.args.self.now c.args.path.now c.args.text.now c.in_err-meta.field-0.0 (sym c.writes.ensures ∙ c.if-not-writes.false) c.in_err-meta.ensures.reads)
 
 pub returns : goal.returns
-returns c = added_text array_fault c.args.self.now c.args.path.now c.args.text.now c.in_ok-meta.meta c.add.new.self c.add.result (sym c.writes.ensures ∙ c.if-not-writes.false) c.in_ok-meta.ensures c.add.ensures
+returns c =
+    subst (λ (s : SessionState). Adds (array_added s c.args.path.now c.args.text.now) s c.add.result c.add.new.self) c.read_array.ensures.same
+    (added_text array_fault c.read_array.new.self c.args.path.now c.args.text.now c.in_ok-meta.meta c.add.new.self c.add.result (ap writes c.read_array.ensures.same ∙ (sym c.writes.ensures ∙ c.if-not-writes.false)) c.in_ok-meta.ensures.reads c.add.ensures)

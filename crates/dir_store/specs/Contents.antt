@@ -1,0 +1,60 @@
+-- The directory as the machine of a store, where the version of an object is told by its content, and its time is that of
+-- its file's last change.
+use Rattle.std.specs.Prelude.{◌≡◌, ◌<◌, ◌⊎◌, ℕ, List, Option, Some, option_map, Result, Ok, Err, IfOk, slice_get}
+use Rattle.std.specs.declared.cmp.Ordering.TheVariants.{Less}
+use Rattle.folder.specs.Files.{Stored as StoredFile}
+use Rattle.whole_files.specs.Whole.{OnlyAt}
+use Rattle.object_store.specs.declared.keys.Key.{Key}
+use Rattle.object_store.specs.declared.keys.Part.{Part}
+use Rattle.object_store.specs.declared.events.Op.{Op}
+use Rattle.object_store.specs.declared.events.Op.TheVariants.{Get, PutNew, PutOver, Remove, RemoveAt, List as ListPart}
+use Rattle.object_store.specs.declared.events.Reply.{Reply}
+use Rattle.object_store.specs.declared.events.Entry.{Entry}
+use Rattle.object_store.specs.declared.events.StoreFault.{StoreFault}
+use Rattle.object_store.specs.declared.events.StoreFault.TheVariants.{Failed, NoMemory}
+use Rattle.object_store.specs.Machine.{Stored, fresh_slot, leaves, IsHonest, IsEntry, HasEntry, part_of, listing_cmp}
+use Rattle.dir_store.specs.Versions.{version_of}
+use Rattle.dir_store.specs.Paths.{IsKey, path_in, aside_folder_in}
+
+-- the object that a file is
+abbrev pub object_of : StoredFile → Stored
+object_of file = record { bytes = file.bytes; version = version_of file.bytes; created = file.changed }
+
+-- what stands at a key, of the files of a directory
+abbrev pub object_at : (List ℕ → Option StoredFile) → List ℕ → Key → Option Stored
+object_at files root key = option_map object_of (files (path_in root key))
+
+-- the version of what an operation puts
+abbrev pub version_put : Op → ℕ
+version_put (Get key) = 0
+version_put (PutNew key bytes why) = version_of bytes
+version_put (PutOver key bytes old why) = version_of bytes
+version_put (Remove key why) = 0
+version_put (RemoveAt key old why) = 0
+version_put (ListPart part) = 0
+
+-- what stands at its key after an operation that was done at this time
+abbrev pub after : Op → ℕ → Option Stored → Option Stored
+after op time at = (leaves (version_put op) time op (record fresh_slot { stands = at })).stands
+
+abbrev pub IsDone : Op → Option Stored → Option Stored → Type 0
+IsDone op old new = (time : ℕ) × (new ≡ after op time old)
+
+-- an operation that answers was done, one that failed was or not, and where memory was wanting nothing was done
+abbrev pub Did : {A : Type 0} → Op → Option Stored → Option Stored → Result A StoreFault → Type 0
+Did op old new (Ok a) = IsDone op old new
+Did op old new (Err Failed) = (new ≡ old) ⊎ IsDone op old new
+Did op old new (Err NoMemory) = new ≡ old
+
+-- The operation is answered as the machine does, at what stands at the keys; it leaves at its key what the machine does, and
+-- all other files but those aside as they were.
+pub record Answers {A : Type 0} (reply : A → Reply) (time : A → ℕ) (root : List ℕ) (key : Key) (op : Op) (result : Result A StoreFault) (old new : List ℕ → Option StoredFile) : Type 0 where
+  pub honest : IfOk result (λ a. IsHonest (object_at old root) (version_put op) (time a) op (reply a))
+  pub did : Did op (object_at old root key) (object_at new root key) result
+  pub others : OnlyAt (aside_folder_in root) (path_in root key) old new
+
+-- The entries are those of what stands in the part, each once, in the order of listings.
+pub record ListsAll (at : Key → Option Stored) (part : Part) (entries : List Entry) : Type 0 where
+  pub right : (k : ℕ) (e : Entry) → slice_get entries k ≡ Some e → IsEntry at part e
+  pub whole : (key : Key) (s : Stored) → IsKey key → part_of key ≡ part → at key ≡ Some s → HasEntry entries key
+  pub ascending : (j k : ℕ) (d e : Entry) → j < k → slice_get entries j ≡ Some d → slice_get entries k ≡ Some e → listing_cmp d.key e.key ≡ Less

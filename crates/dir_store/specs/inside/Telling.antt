@@ -1,0 +1,68 @@
+-- What is told of a fault on files, and of what came of changes of files; no public contract cites this.
+use Rattle.std.specs.Prelude.{◌≡◌, ◌≢◌, ◌⊎◌, ℕ, List, Bool, true, false, Option, Some, None, option_map, Result, Ok, Err}
+use Rattle.folder.specs.Files.{Stored}
+use Rattle.folder.specs.declared.faults.FileFault.{FileFault}
+use Rattle.folder.specs.declared.faults.FileFault.TheVariants as F
+use Rattle.whole_files.specs.Whole.{version_at}
+use Rattle.whole_files.specs.Changes.{IsGone}
+use Rattle.whole_files.specs.declared.changing.Change.{Change}
+use Rattle.whole_files.specs.declared.changing.Change.TheVariants as C
+use Rattle.object_store.specs.declared.events.StoreFault.{StoreFault}
+use Rattle.object_store.specs.declared.events.StoreFault.TheVariants.{Failed, NoMemory}
+use Rattle.object_store.specs.declared.events.Got.{Got}
+use Rattle.object_store.specs.declared.events.Got.TheVariants as G
+use Rattle.object_store.specs.declared.events.New.{New}
+use Rattle.object_store.specs.declared.events.New.TheVariants as N
+use Rattle.object_store.specs.declared.events.Over.{Over}
+use Rattle.object_store.specs.declared.events.Over.TheVariants as O
+use Rattle.object_store.specs.declared.events.Gone.{Gone}
+use Rattle.object_store.specs.declared.events.Gone.TheVariants as R
+use Rattle.object_store.specs.declared.events.GoneAt.{GoneAt}
+use Rattle.object_store.specs.declared.events.GoneAt.TheVariants as A
+use Rattle.object_store.specs.Machine.{version_at as as_version}
+use Rattle.dir_store.specs.Versions.{version_of}
+
+abbrev pub as_told : {A : Type 0} → Result A FileFault → Result A StoreFault
+as_told (Ok a) = Ok a
+as_told (Err (F.Failed trouble)) = Err Failed
+as_told (Err F.NoMemory) = Err NoMemory
+
+-- something came of which this holds, and it is told
+pub record Through {A : Type 0} (P : Result A FileFault → Type 0) (told : Result A StoreFault) : Type 0 where
+  pub came : Result A FileFault
+  pub so : P came
+  pub is : told ≡ as_told came
+
+-- what came of a removal; where memory was wanting, all stays
+abbrev pub Removed : Option Stored → Option Stored → Result Bool FileFault → Type 0
+Removed old new (Ok true) = (old ≢ None) × (new ≡ None)
+Removed old new (Ok false) = (old ≡ None) × (new ≡ None)
+Removed old new (Err (F.Failed trouble)) = (new ≡ old) ⊎ (new ≡ None)
+Removed old new (Err F.NoMemory) = new ≡ old
+
+abbrev pub RemovedVersion : ℕ → Option Stored → Option Stored → Result Change FileFault → Type 0
+RemovedVersion version old new (Ok C.Made) = IsGone version old new
+RemovedVersion version old new (Ok (C.Moved found)) = (found ≡ version_at old) × (found ≢ Some version) × (new ≡ old)
+RemovedVersion version old new (Err (F.Failed trouble)) = (new ≡ old) ⊎ IsGone version old new
+RemovedVersion version old new (Err F.NoMemory) = new ≡ old
+
+-- ---- answers
+abbrev pub told_new : Option ℕ → ℕ → ℕ → New
+told_new None version now = N.Done (as_version version) now
+told_new (Some found) version now = N.Present (as_version found) now
+
+abbrev pub told_over : Change → ℕ → ℕ → Over
+told_over C.Made version now = O.Done (as_version version) now
+told_over (C.Moved found) version now = O.Moved (option_map as_version found) now
+
+abbrev pub told_gone : Bool → ℕ → Gone
+told_gone true now = R.Done now
+told_gone false now = R.Absent now
+
+abbrev pub told_gone_at : Change → ℕ → GoneAt
+told_gone_at C.Made now = A.Done now
+told_gone_at (C.Moved found) now = A.Moved (option_map as_version found) now
+
+abbrev pub told_got : Option (List ℕ) → ℕ → Got
+told_got None now = G.Absent now
+told_got (Some bytes) now = G.Found bytes (as_version (version_of bytes)) now

@@ -1,0 +1,83 @@
+//! Answers of the operations.
+
+ghost use Rattle.std.specs.Prelude.{◌≡◌};
+ghost use Rattle.dir_store.specs.Versions.{version_of};
+ghost use Rattle.dir_store.specs.inside.Telling.{told_got, told_new, told_over, told_gone, told_gone_at};
+
+use crate::versions::content_version;
+use ice_base::Bytes;
+use object_store::{Gone, GoneAt, Got, New, Over, Version};
+use whole_files::Change;
+
+/// What a get answers, where this was read.
+pub(crate) fn got(found: Option<Bytes>, now: u64) -> Got
+    ensures { result ≡ told_got found now }
+{
+    match found {
+        None => Got::Absent { now },
+        Some(bytes) => {
+            let version = content_version(bytes.as_slice());
+            Got::Found {
+                bytes,
+                version,
+                now,
+            }
+        }
+    }
+}
+
+/// What a put of a new key answers, where this was found.
+pub(crate) fn new(found: Option<u64>, bytes: &[u8], now: u64) -> New
+    ensures { result ≡ told_new found (version_of bytes.now) now }
+{
+    match found {
+        None => New::Done {
+            version: content_version(bytes),
+            now,
+        },
+        Some(found) => New::Present {
+            version: Version(found),
+            now,
+        },
+    }
+}
+
+/// What a put over a version answers.
+pub(crate) fn over(change: Change, bytes: &[u8], now: u64) -> Over
+    ensures { result ≡ told_over change (version_of bytes.now) now }
+{
+    match change {
+        Change::Made => Over::Done {
+            version: content_version(bytes),
+            now,
+        },
+        Change::Moved(found) => Over::Moved {
+            found: found.map(Version),
+            now,
+        },
+    }
+}
+
+/// What a removal answers.
+pub(crate) fn gone(was_there: bool, now: u64) -> Gone
+    ensures { result ≡ told_gone was_there now }
+{
+    if was_there {
+        Gone::Done { now }
+    } else {
+        Gone::Absent { now }
+    }
+}
+
+/// What a removal of a version answers.
+pub(crate) fn gone_at(change: Change, now: u64) -> GoneAt
+    ensures { result ≡ told_gone_at change now }
+{
+    match change {
+        Change::Made => GoneAt::Done { now },
+        Change::Moved(found) => GoneAt::Moved {
+            found: found.map(Version),
+            now,
+        },
+    }
+}

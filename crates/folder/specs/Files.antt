@@ -1,0 +1,128 @@
+-- Folders and files as a map from paths to plain files: what calls see of it, and what they change.
+use Rattle.std.specs.Prelude.{◌≡◌, ◌≢◌, ◌++◌, ◌∷◌, ◌⊎◌, ℕ, List, [], length, take, Option, Some, None, codes, Bool, true, false, Result, Ok, Err, slice_get}
+use Rattle.folder.specs.declared.seen.Seen.{Seen}
+use Rattle.folder.specs.declared.seen.Kind.{Kind}
+use Rattle.folder.specs.declared.seen.Kind.TheVariants.{File, Folder, Other}
+
+-- a plain file: its bytes, and the time of its last change in microseconds
+pub record Stored : Type 0 where
+  pub bytes : List ℕ
+  pub changed : ℕ
+
+-- a file of these bytes
+abbrev pub HasBytes : List ℕ → Option Stored → Type 0
+HasBytes bytes None = ⊥
+HasBytes bytes (Some stored) = stored.bytes ≡ bytes
+
+-- a file as long as is seen, and changed then
+abbrev pub IsMeasured : Seen → Option Stored → Type 0
+IsMeasured seen None = ⊥
+IsMeasured seen (Some stored) = (seen.size ≡ length stored.bytes) × (seen.changed ≡ stored.changed)
+
+-- of this kind: only a plain file is in the map
+abbrev pub IsOfKind : Kind → Seen → Option Stored → Type 0
+IsOfKind File seen file = IsMeasured seen file
+IsOfKind Folder seen file = file ≡ None
+IsOfKind Other seen file = file ≡ None
+
+-- what is seen of whatever lies at a path
+abbrev pub IsSeen : Option Stored → Option Seen → Type 0
+IsSeen file None = file ≡ None
+IsSeen file (Some seen) = IsOfKind seen.kind seen file
+
+-- what is seen of a plain file
+abbrev pub IsFileSeen : Option Stored → Option Seen → Type 0
+IsFileSeen file None = file ≡ None
+IsFileSeen file (Some seen) = IsMeasured seen file
+
+-- From a file of which this was left a piece was read, that is behind it less; where room was and nothing was read, it is at
+-- its end.
+pub record ReadsOn (room count : ℕ) (piece old new : List ℕ) : Type 0 where
+  pub read : old ≡ take count piece ++ new
+  pub ends : count ≡ 0 → (room ≡ 0) ⊎ (old ≡ [])
+
+-- all but the file at this path stayed
+abbrev pub SameBut : List ℕ → (List ℕ → Option Stored) → (List ℕ → Option Stored) → Type 0
+SameBut path old new = (p : List ℕ) → p ≢ path → new p ≡ old p
+
+-- all but the files at these two paths stayed
+abbrev pub SameButTwo : List ℕ → List ℕ → (List ℕ → Option Stored) → (List ℕ → Option Stored) → Type 0
+SameButTwo path aside old new = (p : List ℕ) → p ≢ path → p ≢ aside → new p ≡ old p
+
+-- What came at a path of a move that overwrites nothing: the file is there where none was, or what was there stays; where
+-- the call failed, one of both.
+abbrev pub PlacesNew : {E : Type 0} → List ℕ → Option Stored → Option Stored → Result Bool E → Type 0
+PlacesNew bytes old new (Ok true) = (old ≡ None) × HasBytes bytes new
+PlacesNew bytes old new (Ok false) = (old ≢ None) × (new ≡ old)
+PlacesNew bytes old new (Err e) = (new ≡ old) ⊎ ((old ≡ None) × HasBytes bytes new)
+
+-- what came at a path of a move that overwrites
+abbrev pub PlacesOver : {A E : Type 0} → List ℕ → Option Stored → Option Stored → Result A E → Type 0
+PlacesOver bytes old new (Ok a) = HasBytes bytes new
+PlacesOver bytes old new (Err e) = (new ≡ old) ⊎ HasBytes bytes new
+
+-- what came at a path of a removal
+abbrev pub Removes : {E : Type 0} → Option Stored → Option Stored → Result Bool E → Type 0
+Removes old new (Ok true) = (old ≢ None) × (new ≡ None)
+Removes old new (Ok false) = (old ≡ None) × (new ≡ None)
+Removes old new (Err e) = (new ≡ old) ⊎ (new ≡ None)
+
+-- ---- listings
+-- a path's part behind a name: its end, or a slash
+abbrev pub IsBehind : List ℕ → Type 0
+IsBehind [] = Unit {0}
+IsBehind (byte ∷ rest) = byte ≡ 47
+
+-- a name has no slash
+abbrev pub IsName : List ℕ → Type 0
+IsName [] = Unit {0}
+IsName (byte ∷ rest) = (byte ≢ 47) × IsName rest
+
+-- a place in the list where this name stands
+pub record HasName (names : List (List ℕ)) (name : List ℕ) : Type 0 where
+  pub place : ℕ
+  pub here : slice_get names place ≡ Some name
+
+-- each name in the folder at which or beneath which a file lies is told
+abbrev pub TellsNames : (List ℕ → Option Stored) → List ℕ → List (List ℕ) → Type 0
+TellsNames files folder names = (name rest : List ℕ) → IsName name → IsBehind rest → files (folder ++ codes "/" ++ name ++ rest) ≢ None → HasName names name
+
+-- nothing lies in the folder
+abbrev pub HoldsNone : (List ℕ → Option Stored) → List ℕ → Type 0
+HoldsNone files folder = (rest : List ℕ) → files (folder ++ codes "/" ++ rest) ≡ None
+
+-- ---- what a loss of power may take
+-- From one call to the next: which names are loose, so that a loss of power may leave at them what lay there before.
+-- None but those that were:
+abbrev pub NoLooser : (List ℕ → Type 0) → (List ℕ → Type 0) → Type 0
+NoLooser old new = (p : List ℕ) → new p → old p
+
+-- ... or this one
+abbrev pub LooserAt : List ℕ → (List ℕ → Type 0) → (List ℕ → Type 0) → Type 0
+LooserAt path old new = (p : List ℕ) → new p → old p ⊎ (p ≡ path)
+
+-- ... or these two
+abbrev pub LooserAtTwo : List ℕ → List ℕ → (List ℕ → Type 0) → (List ℕ → Type 0) → Type 0
+LooserAtTwo path aside old new = (p : List ℕ) → new p → old p ⊎ ((p ≡ path) ⊎ (p ≡ aside))
+
+-- this path is a name in this folder
+pub record IsIn (folder path : List ℕ) : Type 0 where
+  pub name : List ℕ
+  pub plain : IsName name
+  pub is : path ≡ folder ++ codes "/" ++ name
+
+-- no name in the folder is loose any more
+abbrev pub Firms : List ℕ → (List ℕ → Type 0) → (List ℕ → Type 0) → Type 0
+Firms folder old new = (p : List ℕ) → new p → old p × (IsIn folder p → ⊥)
+
+-- a move that overwrites nothing loosens the path only where it moved
+abbrev pub LoosensNew : {E : Type 0} → List ℕ → List ℕ → (List ℕ → Type 0) → (List ℕ → Type 0) → Result Bool E → Type 0
+LoosensNew path aside old new (Ok true) = LooserAtTwo path aside old new
+LoosensNew path aside old new (Ok false) = LooserAt aside old new
+LoosensNew path aside old new (Err e) = LooserAtTwo path aside old new
+
+-- ... and a removal only where it removed
+abbrev pub LoosensGone : {E : Type 0} → List ℕ → (List ℕ → Type 0) → (List ℕ → Type 0) → Result Bool E → Type 0
+LoosensGone path old new (Ok true) = LooserAt path old new
+LoosensGone path old new (Ok false) = NoLooser old new
+LoosensGone path old new (Err e) = LooserAt path old new

@@ -1,0 +1,88 @@
+//! A store in a directory of the system, in a type of its own.
+
+ghost use Rattle.std.specs.Prelude.{false, refl};
+ghost use Rattle.dir_store.specs.Store.{view_of};
+
+use dir_store::{DirStore, FirstFault};
+use ice_base::Clock;
+use std::rt::Files;
+use store_api::{
+    CountingStore, Gone, GoneAt, Got, Key, Listed, New, ObjectStore, Over, Part, Rule, StoreFault,
+    Version, Viewed, WholeStore, Why,
+};
+
+/// A store in a directory of the system. Each call is that of [`DirStore`]; the type names no folder, so that threads that share
+/// such a store ask only for files.
+#[derive(Drop)]
+pub struct SystemStore<R, C> {
+    store: DirStore<R, C>,
+}
+
+impl<R, C> SystemStore<R, C> {
+    /// This store.
+    pub fn new(store: DirStore<R, C>) -> SystemStore<R, C> {
+        SystemStore { store }
+    }
+}
+
+impl<R: Files + AllocGlobal + Clone + Drop, C: Clock> SystemStore<R, C> {
+    /// The first call on files that failed, if one has.
+    pub fn first_fault(&self) -> Option<&FirstFault> {
+        self.store.first_fault()
+    }
+}
+
+impl<R: Files + AllocGlobal + Clone + Drop, C: Clock> Viewed for SystemStore<R, C> {
+    ghost view = { λ s. view_of s.store };
+}
+
+impl<L: Rule, R: Files + AllocGlobal + Clone + Drop, C: Clock> ObjectStore<L>
+    for SystemStore<R, C> {
+    fn get(&mut self, key: &Key) -> Result<Got, StoreFault> {
+        ObjectStore::<L>::get(&mut self.store, key)
+    }
+
+    fn put_new(&mut self, key: &Key, bytes: &[u8], why: Why) -> Result<New, StoreFault> {
+        ObjectStore::<L>::put_new(&mut self.store, key, bytes, why)
+    }
+
+    fn put_over(
+        &mut self,
+        key: &Key,
+        bytes: &[u8],
+        old: Version,
+        why: Why,
+    ) -> Result<Over, StoreFault> {
+        ObjectStore::<L>::put_over(&mut self.store, key, bytes, old, why)
+    }
+
+    fn remove(&mut self, key: &Key, why: Why) -> Result<Gone, StoreFault> {
+        ObjectStore::<L>::remove(&mut self.store, key, why)
+    }
+
+    fn remove_at(&mut self, key: &Key, old: Version, why: Why) -> Result<GoneAt, StoreFault> {
+        ObjectStore::<L>::remove_at(&mut self.store, key, old, why)
+    }
+
+    fn list(&mut self, part: Part) -> Result<Listed, StoreFault> {
+        ObjectStore::<L>::list(&mut self.store, part)
+    }
+}
+
+impl<R: Files + AllocGlobal + Clone + Drop, C: Clock> WholeStore for SystemStore<R, C> {
+    ghost tells = { false };
+
+    fn set_client(&mut self, client: u32) {
+        self.store.set_client(client);
+    }
+
+    ghost told = { λ s. refl };
+
+    ghost alone = { λ s. record { low = refl; end = refl } };
+}
+
+impl<R: Files + AllocGlobal + Clone + Drop, C: Clock> CountingStore for SystemStore<R, C> {
+    fn operations(&self) -> u64 {
+        self.store.operations()
+    }
+}

@@ -1,0 +1,4 @@
+pub mod Slots
+pub mod Journals
+pub mod Ties
+pub mod Waits

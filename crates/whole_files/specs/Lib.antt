@@ -1,0 +1,4 @@
+pub mod Versions
+pub mod Whole
+pub mod Places
+pub mod Changes

@@ -1,0 +1,156 @@
+//! Files that are made, replaced and removed.
+
+ghost use Rattle.std.specs.Prelude.{◌≡◌, IfOk, OnOk, IsTrue};
+ghost use Rattle.folder.specs.Files.{SameBut, SameButTwo, PlacesOver, Removes, IsIn, NoLooser, LooserAt};
+ghost use Rattle.whole_files.specs.Places.{asides_of};
+ghost use Rattle.whole_files.specs.Whole.{SameFiles, OnlyAt, IsOutside, LooserAside, version_at};
+ghost use Rattle.whole_files.specs.Changes.{Makes, Places as PlacesFile, Replaces, RemovesVersion, IsMoved};
+
+use crate::asides::write_aside;
+use crate::places::{Places, flush_folder, make_folders, reached};
+use crate::reading::{file_version, number_at};
+use folder::{Call, Cause, FileFault, Folder, Kind, Seen, Trouble, failed};
+use std::alloc::Global;
+
+/// What came of a change of a version that was to stand at a path.
+#[derive(Clone, Copy, Debug)]
+pub enum Change {
+    /// It was made.
+    Made,
+    /// Another version stands there, or none.
+    Moved(Option<u64>),
+}
+
+/// The number by which the content of the file at a path is known whose folders are there, if one is there.
+fn version_in<F: Folder>(tree: &F, path: &str) -> Result<Option<u64>, Trouble>
+    ensures { IsTrue F.tells → IfOk result (λ found. found ≡ version_at (F.files tree.now path.now)) }
+{
+    match tree.look(path)? {
+        None => Ok(None),
+        Some(seen) if seen.kind != Kind::File => Err(failed(Call::Look, Cause::NotFile)),
+        Some(seen) => Ok(Some(number_at(tree, path, &seen)?)),
+    }
+}
+
+/// Moves a draft to a path in a folder that was seen, which lies at another path: it is there then, or something stands there, whose
+/// version is told.
+fn place_file<F: Folder>(
+    tree: &mut F,
+    draft: F::Draft,
+    path: &str,
+    above: &str,
+    folder: &Seen,
+) -> Result<Option<u64>, Trouble>
+    requires within { IsIn above.now path.now }
+    requires flushed { IsTrue F.tells → IsTrue (F.flushed draft) }
+    ensures firm { IsTrue F.tells → OnOk result (LooserAt (F.aside draft) (F.loose tree.old) (F.loose tree.new)) }
+    ensures placed { IsTrue F.tells → PlacesFile (F.written draft) (F.files tree.old path.now) (F.files tree.new path.now) result }
+    ensures files { IsTrue F.tells → SameButTwo path.now (F.aside draft) (F.files tree.old) (F.files tree.new) }
+{
+    if tree.place_new(draft, path)? {
+        tree.flush_folder(above, folder)?;
+        return Ok(None);
+    }
+    match version_in(tree, path)? {
+        Some(version) => Ok(Some(version)),
+        None => Err(failed(Call::Link, Cause::Changed)),
+    }
+}
+
+/// Makes a file of these bytes where none is, or tells the version that stands there.
+pub fn make_file<F: Folder>(
+    tree: &mut F,
+    places: &Places,
+    alloc: Global,
+    path: &str,
+    bytes: &[u8],
+) -> Result<Option<u64>, FileFault>
+    requires { IsOutside (asides_of places.now) path.now }
+    ensures made { IsTrue F.tells → Makes bytes.now (F.files tree.old path.now) (F.files tree.new path.now) result }
+    ensures files { IsTrue F.tells → OnlyAt (asides_of places.now) path.now (F.files tree.old) (F.files tree.new) }
+    ensures firm { IsTrue F.tells → OnOk result (LooserAside (asides_of places.now) (F.loose tree.old) (F.loose tree.new)) }
+{
+    let above = reached(Call::Link, path)?;
+    let folder = make_folders(tree, places.root(), path)?;
+    if let Some(version) = version_in(tree, path)? {
+        return Ok(Some(version));
+    }
+    let draft = write_aside(tree, places, alloc, bytes)?;
+    Ok(place_file(tree, draft, path, above, &folder)?)
+}
+
+/// Moves a draft over the file at a path.
+fn move_over<F: Folder>(
+    tree: &mut F,
+    root: &str,
+    draft: F::Draft,
+    path: &str,
+) -> Result<(), Trouble>
+    requires { IsTrue F.tells → IsTrue (F.flushed draft) }
+    ensures firm { IsTrue F.tells → OnOk result (LooserAt (F.aside draft) (F.loose tree.old) (F.loose tree.new)) }
+    ensures placed { IsTrue F.tells → PlacesOver (F.written draft) (F.files tree.old path.now) (F.files tree.new path.now) result }
+    ensures files { IsTrue F.tells → SameButTwo path.now (F.aside draft) (F.files tree.old) (F.files tree.new) }
+{
+    tree.place_over(draft, path)?;
+    flush_folder(tree, root, path)
+}
+
+/// Puts a file of these bytes in the place of the one with this version.
+pub fn replace_file<F: Folder>(
+    tree: &mut F,
+    places: &Places,
+    alloc: Global,
+    path: &str,
+    bytes: &[u8],
+    old: u64,
+) -> Result<Change, FileFault>
+    requires { IsOutside (asides_of places.now) path.now }
+    ensures moved { IfOk result (IsMoved old) }
+    ensures replaced { IsTrue F.tells → Replaces bytes.now old (F.files tree.old path.now) (F.files tree.new path.now) result }
+    ensures files { IsTrue F.tells → OnlyAt (asides_of places.now) path.now (F.files tree.old) (F.files tree.new) }
+    ensures firm { IsTrue F.tells → OnOk result (LooserAside (asides_of places.now) (F.loose tree.old) (F.loose tree.new)) }
+{
+    let found = file_version(tree, path)?;
+    if found != Some(old) {
+        return Ok(Change::Moved(found));
+    }
+    let draft = write_aside(tree, places, alloc, bytes)?;
+    move_over(tree, places.root(), draft, path)?;
+    Ok(Change::Made)
+}
+
+/// Removes the plain file at a path, and tells whether one was there.
+pub fn remove_file<F: Folder>(tree: &mut F, root: &str, path: &str) -> Result<bool, Trouble>
+    ensures removed { IsTrue F.tells → Removes (F.files tree.old path.now) (F.files tree.new path.now) result }
+    ensures files { IsTrue F.tells → SameBut path.now (F.files tree.old) (F.files tree.new) }
+    ensures firm { IsTrue F.tells → OnOk result (NoLooser (F.loose tree.old) (F.loose tree.new)) }
+{
+    if !tree.remove(path)? {
+        return Ok(false);
+    }
+    flush_folder(tree, root, path)?;
+    Ok(true)
+}
+
+/// Removes the file with this version.
+pub fn remove_version<F: Folder>(
+    tree: &mut F,
+    root: &str,
+    path: &str,
+    old: u64,
+) -> Result<Change, Trouble>
+    ensures moved { IfOk result (IsMoved old) }
+    ensures removed { IsTrue F.tells → RemovesVersion old (F.files tree.old path.now) (F.files tree.new path.now) result }
+    ensures files { IsTrue F.tells → SameBut path.now (F.files tree.old) (F.files tree.new) }
+    ensures firm { IsTrue F.tells → OnOk result (NoLooser (F.loose tree.old) (F.loose tree.new)) }
+{
+    let standing = file_version(tree, path)?;
+    if standing != Some(old) {
+        return Ok(Change::Moved(standing));
+    }
+    if remove_file(tree, root, path)? {
+        Ok(Change::Made)
+    } else {
+        Ok(Change::Moved(None))
+    }
+}

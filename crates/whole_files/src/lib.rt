@@ -1,0 +1,13 @@
+//! Files as wholes: read, told apart by their contents, written aside and moved to their places, and removed, over any folder.
+#![tactic(auto)]
+
+mod asides;
+mod changing;
+mod places;
+mod reading;
+mod versions;
+
+pub use changing::{Change, make_file, remove_file, remove_version, replace_file};
+pub use places::{Places, folder_at};
+pub use reading::{MOST, file_version, read_file};
+pub use versions::content_number;

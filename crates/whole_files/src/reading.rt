@@ -1,0 +1,130 @@
+//! Files that are read whole.
+
+ghost use Rattle.std.specs.Prelude.{◌≡◌, ◌≤◌, ◌<◌, Ok, Some, IfOk, IsTrue, MatchResult};
+ghost use Rattle.folder.specs.declared.faults.FileFault.TheVariants as FileFault;
+ghost use Rattle.folder.specs.Files.{HasBytes};
+ghost use Rattle.whole_files.specs.Versions.{version_of};
+ghost use Rattle.whole_files.specs.Whole.{Takes, bytes_at, version_at};
+
+use crate::versions::number_of_digest;
+use folder::{Call, Cause, FileFault, Folder, Seen, Trouble, failed};
+use ice_base::Bytes;
+use sha2::{Digest, Sha256};
+use std::alloc::{AllocError, Global};
+
+/// The most bytes that a file may have.
+pub const MOST: u64 = 268_435_456;
+
+/// How many bytes are read at once.
+const PIECE: usize = 4096;
+
+/// More times than a file of the greatest length is read: each time but the last gives a byte.
+const TURNS: u64 = MOST + 2;
+
+/// How many bytes are still read behind so many: one more than a file may have, at most.
+fn room_behind(taken: u64) -> usize
+    ensures most { result ≤ 4096 }
+    ensures some { taken ≤ 268435456 → 0 < result }
+{
+    let left = (MOST + 1).saturating_sub(taken);
+    usize::try_from(left).unwrap_or(PIECE).min(PIECE)
+}
+
+/// The next bytes of a file behind so many; none at its end.
+fn next_piece<F: Folder>(
+    tree: &F,
+    file: &mut F::Reading,
+    taken: u64,
+    piece: &mut [u8; PIECE],
+) -> Result<usize, Trouble>
+    ensures within { IfOk result (λ count. count ≤ 4096) }
+    ensures read { IsTrue F.tells → IfOk result (λ count. Takes count piece.new (F.rest file.old) (F.rest file.new)) }
+{
+    if taken > MOST {
+        return Err(failed(Call::Read, Cause::TooLong));
+    }
+    tree.read(file, &mut piece[..room_behind(taken)])
+}
+
+/// Want of memory.
+pub(crate) fn in_memory<T>(made: Result<T, AllocError>) -> Result<T, FileFault>
+    ensures { MatchResult result (λ value. made ≡ Ok value) (λ fault. fault ≡ FileFault.NoMemory) }
+{
+    match made {
+        Ok(value) => Ok(value),
+        Err(_) => Err(FileFault::NoMemory),
+    }
+}
+
+/// The bytes of an open file.
+fn bytes_of<F: Folder>(tree: &F, file: &mut F::Reading, alloc: Global) -> Result<Bytes, FileFault>
+    ensures { IsTrue F.tells → IfOk result (λ bytes. bytes ≡ F.rest file.old) }
+{
+    let mut piece = [0u8; PIECE];
+    let mut bytes = Bytes::new(alloc);
+    for _ in 0..TURNS {
+        let count = next_piece(tree, file, bytes.len() as u64, &mut piece)?;
+        if count == 0 {
+            return Ok(bytes);
+        }
+        bytes.extend(&piece[..count])?;
+    }
+    Err(FileFault::from(failed(Call::Read, Cause::TooLong)))
+}
+
+/// The number by which the content of an open file is known.
+fn number_of<F: Folder>(tree: &F, file: &mut F::Reading) -> Result<u64, Trouble>
+    ensures { IsTrue F.tells → IfOk result (λ number. number ≡ version_of (F.rest file.old)) }
+{
+    let mut piece = [0u8; PIECE];
+    let mut hasher = Sha256::new();
+    let mut taken = 0u64;
+    for _ in 0..TURNS {
+        let count = next_piece(tree, file, taken, &mut piece)?;
+        if count == 0 {
+            return Ok(number_of_digest(hasher.finalize()));
+        }
+        hasher.update(&piece[..count]);
+        taken = taken.saturating_add(count as u64);
+    }
+    Err(failed(Call::Read, Cause::TooLong))
+}
+
+/// Opens the file that was seen at a path, if it isn't too long, to be read.
+fn opened<F: Folder>(tree: &F, path: &str, seen: &Seen) -> Result<F::Reading, Trouble>
+    ensures { IsTrue F.tells → IfOk result (λ file. HasBytes (F.rest file) (F.files tree.now path.now)) }
+{
+    if seen.size > MOST {
+        return Err(failed(Call::Open, Cause::TooLong));
+    }
+    tree.open(path, seen)
+}
+
+/// The bytes of the plain file at a path, if one is there.
+pub fn read_file<F: Folder>(tree: &F, alloc: Global, path: &str) -> Result<Option<Bytes>, FileFault>
+    ensures { IsTrue F.tells → IfOk result (λ found. found ≡ bytes_at (F.files tree.now path.now)) }
+{
+    let Some(seen) = tree.file(path)? else {
+        return Ok(None);
+    };
+    let mut file = opened(tree, path, &seen)?;
+    Ok(Some(bytes_of(tree, &mut file, alloc)?))
+}
+
+/// The number by which the content of the file that was seen at a path is known.
+pub(crate) fn number_at<F: Folder>(tree: &F, path: &str, seen: &Seen) -> Result<u64, Trouble>
+    ensures { IsTrue F.tells → IfOk result (λ number. version_at (F.files tree.now path.now) ≡ Some number) }
+{
+    let mut file = opened(tree, path, seen)?;
+    number_of(tree, &mut file)
+}
+
+/// The number by which the content of the plain file at a path is known, if one is there. It takes no memory.
+pub fn file_version<F: Folder>(tree: &F, path: &str) -> Result<Option<u64>, Trouble>
+    ensures { IsTrue F.tells → IfOk result (λ found. found ≡ version_at (F.files tree.now path.now)) }
+{
+    match tree.file(path)? {
+        Some(seen) => Ok(Some(number_at(tree, path, &seen)?)),
+        None => Ok(None),
+    }
+}
