@@ -1,6 +1,6 @@
 //! A store in a directory of the system, in a type of its own.
 
-ghost use Rattle.std.specs.Prelude.{false, refl};
+ghost use Rattle.std.specs.Prelude.{◌≡◌, false, refl};
 ghost use Rattle.dir_store.specs.Store.{view_of};
 
 use dir_store::{DirStore, FirstFault};
@@ -19,8 +19,10 @@ pub struct SystemStore<R, C> {
 }
 
 impl<R, C> SystemStore<R, C> {
-    /// This store.
-    pub fn new(store: DirStore<R, C>) -> SystemStore<R, C> {
+    /// The store over this one.
+    pub fn new(store: DirStore<R, C>) -> SystemStore<R, C>
+        ensures { result.store ≡ store }
+    {
         SystemStore { store }
     }
 }
