@@ -23,7 +23,8 @@ use Rattle.store_api.specs.Program.{Prog, Done, Ask, Leads}
 use Rattle.session.specs.Sessions.{SessionState, nodes_seen}
 use Rattle.session.specs.Sources.{IsLater}
 use Rattle.session.specs.Chunks.{with_chunk, after_draw, after_object, set_program, get_program}
-use Rattle.commit_path.specs.Own.{PutItself, OwnsChunks, HasPutDrawn, OwesOwn, Owns}
+use Rattle.reach.specs.Own.{PutItself}
+use Rattle.commit_path.specs.Own.{OwnsChunks, HasPutDrawn, OwesOwn, Owns}
 use Rattle.commit_path.proofs.Listing.{more-makes}
 use Rattle.commit_path.proofs.OwnPuts.{HasPutDrawn-later, HasPutDrawn-makes, OwnsChunks-append, drawn-now, not-put, one-object, puts-made, owns-set}
 use Rattle.commit_path.proofs.Sources.{later-drawn12}

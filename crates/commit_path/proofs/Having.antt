@@ -29,7 +29,7 @@ use Rattle.changed_snapshot.specs.declared.written.NewList.{NewList}
 use Rattle.changed_snapshot.specs.Laws.{IsSized}
 use Rattle.session.specs.Sources.{IsLater, MayDrawObject}
 use Rattle.commit_path.specs.Committing.{Written, unwritten}
-use Rattle.commit_path.specs.Own.{PutItself}
+use Rattle.reach.specs.Own.{PutItself}
 use Rattle.commit_path.specs.Answered.{WasRead, WereRead, ids_behind, AreInTurn, WereListed}
 use Rattle.store_api.specs.Telling.{ChangedNothing}
 use Rattle.commit_path.specs.Opened.{IsOpened}

@@ -24,7 +24,7 @@ use Rattle.store_api.specs.Callers.{Caller, Makes, own_event}
 use Rattle.store_api.proofs.Happening.{HasOwn-append, WasGot-append}
 use Rattle.session.specs.Sessions.{SessionState}
 use Rattle.commit_path.specs.Committing.{manifest_for}
-use Rattle.commit_path.specs.Own.{PutsItself, PutItself}
+use Rattle.reach.specs.Own.{PutsItself, PutItself}
 use Rattle.commit_path.specs.Answered.{WasRead, WereRead, IsManifestOf, IsListed, ids_past, ids_behind, IsNext, AreInTurn, WereListed, WereWritten}
 use Rattle.commit_path.proofs.Rewriting.{zip-weaker}
 

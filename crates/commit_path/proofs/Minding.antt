@@ -21,7 +21,8 @@ use Rattle.session.specs.Sessions.{SessionState, base_nodes}
 use Rattle.commit_path.specs.Committing.{Written}
 use Rattle.commit_path.specs.Owed.{Sessions, IsCareful}
 use Rattle.reach.specs.Holding.{HoldsManifest, HoldsChunk}
-use Rattle.commit_path.specs.Own.{PutItself, OwnsChunks, IsOwn, IsOwnCommit}
+use Rattle.reach.specs.Own.{PutItself, IsOwn}
+use Rattle.commit_path.specs.Own.{OwnsChunks, IsOwnCommit}
 use Rattle.commit_path.specs.Answered.{WasLogged, WasSnapped}
 use Rattle.commit_path.proofs.Spelling.{Spellings}
 use Rattle.commit_path.proofs.Having.{Wrote}

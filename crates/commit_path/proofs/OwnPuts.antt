@@ -69,7 +69,8 @@ use Rattle.commit_path.specs.declared.commit.Tried.{Tried}
 use Rattle.commit_path.specs.declared.commit.Tried.TheVariants.{Done as Was_done, Lost}
 use Rattle.commit_path.specs.Committing.{Written, manifest_for, with_list, with_manifest, after_manifest, put_manifest, write_array, old_program, array_program, arrays_program, unwritten, write_all, commit_program, after_arrays, put_log, after_log, after_snapshot, after_branch, log_for, snap_for, is_long}
 use Rattle.commit_path.specs.Owed.{Sessions}
-use Rattle.commit_path.specs.Own.{PutsItself, PutItself, OwnsChunks, DrawsOnceOf, id_of, WasDrawn, PutsDrawn, HasPutDrawn, PutsElsewhere, HasNotPut, OwesOwn, Owns, OwnsNext, OwningLaw}
+use Rattle.reach.specs.Own.{PutsItself, PutItself}
+use Rattle.commit_path.specs.Own.{OwnsChunks, DrawsOnceOf, id_of, WasDrawn, PutsDrawn, HasPutDrawn, PutsElsewhere, HasNotPut, OwesOwn, Owns, OwnsNext, OwningLaw}
 use Rattle.commit_path.proofs.Answering.{commit-walks}
 use Rattle.commit_path.proofs.Editing.{node-is, text-set, node-dropped, text-fewer, drop-fewer}
 use Rattle.commit_path.proofs.Entries.{AreFewer, without-fewer, entered}

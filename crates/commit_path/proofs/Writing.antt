@@ -50,7 +50,7 @@ use Rattle.session.specs.Sources.{IsLater, MayDrawObject}
 use Rattle.repo_read.specs.Programs.{manifest_program}
 use Rattle.commit_path.specs.Committing.{Written, manifest_for, with_list, with_manifest, after_manifest, put_manifest, write_array, old_program, array_program, arrays_program, is_long}
 use Rattle.commit_path.specs.Owed.{Sessions}
-use Rattle.commit_path.specs.Own.{PutsItself}
+use Rattle.reach.specs.Own.{PutsItself}
 use Rattle.commit_path.specs.Answered.{IsManifestOf, IsListed, ids_behind, IsNext, WereListed, IsOfCommit, CommitTells}
 use Rattle.store_api.specs.Telling.{ChangedNothing}
 use Rattle.commit_path.specs.Opened.{IsOpened}

@@ -48,7 +48,7 @@ use Rattle.commit_path.specs.declared.commit.Tried.{Tried}
 use Rattle.commit_path.specs.declared.commit.Tried.TheVariants.{Done as Was_done, Lost}
 use Rattle.commit_path.specs.Committing.{log_for, snap_for, manifest_for, new_manifest, is_long}
 use Rattle.commit_path.specs.Owed.{IsMade}
-use Rattle.commit_path.specs.Own.{PutsItself}
+use Rattle.reach.specs.Own.{PutsItself}
 
 -- ---- the answers
 -- a put of the session's branch for a commit, over the version that the session had read

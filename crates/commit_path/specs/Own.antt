@@ -1,5 +1,5 @@
 -- What a client puts itself: under which ids, and that its commits hold nothing else but what their bases hold. (Own.)
-use Rattle.std.specs.Prelude.{◌≡◌, ◌≢◌, ◌⊎◌, ℕ, ◌<◌, List, ◌++◌, Option, Some, None, Result, Ok, Err, IfOk}
+use Rattle.std.specs.Prelude.{◌≡◌, ◌≢◌, ℕ, ◌<◌, List, ◌++◌, Option, Some, None, Result, Ok, Err, IfOk}
 use Rattle.std.specs.Option.{option_and_then}
 use Rattle.std.specs.Str.{IsUtf8}
 use Rattle.ice_ids.specs.declared.Id8.{Id8}
@@ -16,19 +16,15 @@ use Rattle.repo_objects.specs.Readings.{ref_of}
 use Rattle.object_store.specs.declared.keys.Key.{Key}
 use Rattle.object_store.specs.declared.keys.Key.TheVariants.{Snapshot, Manifest, Txn, Chunk, Branch, Tag, TagGone, Lease}
 use Rattle.object_store.specs.declared.keys.Why.{Why}
-use Rattle.object_store.specs.declared.keys.Why.TheVariants.{Set}
-use Rattle.object_store.specs.declared.events.Version.{Version}
 use Rattle.object_store.specs.declared.events.Op.{Op}
 use Rattle.object_store.specs.declared.events.Op.TheVariants.{Get, PutNew, PutOver, Remove, RemoveAt, List as ListPart}
-use Rattle.object_store.specs.declared.events.New.TheVariants.{Done as New_done}
-use Rattle.object_store.specs.declared.events.Reply.TheVariants.{New as Is_new}
 use Rattle.object_store.specs.declared.events.Event.{Event}
 use Rattle.store_api.specs.declared.machines.Refusal.{Refusal}
 use Rattle.store_api.specs.Journal.{Each, WasPut, snap_made, IsOnce}
 use Rattle.store_api.specs.Callers.{Caller, IsOther}
-use Rattle.reach.specs.Holding.{Holds}
+use Rattle.reach.specs.Own.{PutItself, IsOwn}
 use Rattle.store_api.specs.Program.{Done, Keeps, Leads}
-use Rattle.store_api.specs.Telling.{ChangedNothing, HasOwn}
+use Rattle.store_api.specs.Telling.{ChangedNothing}
 use Rattle.session.specs.Sessions.{SessionState}
 use Rattle.session.specs.Sources.{IsLater}
 use Rattle.session.specs.Chunks.{set_program, chunk_unset}
@@ -41,26 +37,11 @@ use Rattle.commit_path.specs.Opened.{IsOpened}
 use Rattle.commit_path.specs.Spelled.{IsSpelled}
 
 -- ---- own puts
--- the client's own put of these bytes at the key was done, and told so
-pub record PutsItself (client : ℕ) (key : Key) (bytes : List ℕ) (start journal : List Event) : Type 0 where
-  pub version : Version
-  pub now : ℕ
-  pub own : HasOwn client (PutNew key bytes Set) (Is_new (New_done version now)) start journal
-
--- the client itself put what is at the key
-pub record PutItself (client : ℕ) (key : Key) (start journal : List Event) : Type 0 where
-  pub bytes : List ℕ
-  pub put : PutsItself client key bytes start journal
-
 -- the client itself put the objects of the chunks that were set
 abbrev pub OwnsChunks : ℕ → List (Entry Place) → List Event → List Event → Type 0
 OwnsChunks client entries start journal = (node : Id8) (i : List ℕ) (id : Id12) (offset size : ℕ) → entry_in entries node i ≡ Some (Some (Object id offset size)) → PutItself client (Chunk id) start journal
 
 -- ---- commits of one's own
--- whatever the snapshot holds, its base holds, or the client put it itself
-abbrev pub IsOwn : ℕ → (base id : Id12) → List Event → List Event → Type 0
-IsOwn client base id start journal = (key : Key) → Holds journal id key → Holds journal base key ⊎ PutItself client key start journal
-
 -- the parent that a snapshot first named
 abbrev pub parent_made : List Event → Id12 → Option Id12
 parent_made journal id = option_and_then (λ (s : SnapshotFile). s.parent) (snap_made journal id)

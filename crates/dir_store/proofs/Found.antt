@@ -264,8 +264,8 @@ place-of key m (e ∷ es) at = place-in key m e es (is_at (key_cmp key) e.0) ref
 measured-entry : (files : List ℕ → Option Stored) (root : List ℕ) (part : Part) (key : Key) (m : Measures) (file : Option Stored) → files (path_in root key) ≡ file → IsMeasuredBy m file → part_of key ≡ part → IsEntry (object_at files root) part (entry_of (key, m))
 measured-entry files root part key m None is measured of = absurd measured
 measured-entry files root part key m (Some file) is measured of = record {
-  stored = object_of file;
-  stands = ap (λ (f : Option Stored). option_map object_of f) is;
+  stored = object_of key file;
+  stands = ap (λ (f : Option Stored). option_map (object_of key) f) is;
   part_is = of;
   size = measured.0;
   created = measured.1;
@@ -293,7 +293,7 @@ module _ (files : List ℕ → Option Stored) (root : List ℕ) (part : Part) (f
   lists-all entries is listed all = record {
     right = λ k e at. entry-listed k e (sym (ap (λ (es : List Entry). slice_get es k) is) ∙ at);
     whole = λ key s known in-part at.
-        let there : files (path_in root key) ≢ None = λ none. let bad : None ≡ Some s = sym (ap (λ (f : Option Stored). option_map object_of f) none) ∙ at in cc in
+        let there : files (path_in root key) ≢ None = λ none. let bad : None ≡ Some s = sym (ap (λ (f : Option Stored). option_map (object_of key) f) none) ∙ at in cc in
         subst (λ (es : List Entry). HasEntry es key) (sym is) (entry-found key (all key (record { known = known; of = in-part; there = there })));
     ascending = listed.ascending;
   }
@@ -301,7 +301,7 @@ module _ (files : List ℕ → Option Stored) (root : List ℕ) (part : Part) (f
 pub nothing-lies : (files : List ℕ → Option Stored) (root : List ℕ) (part : Part) → IsListed part [] → ((key : Key) → Lies files root part key → ⊥) → ListsAll (object_at files root) part []
 nothing-lies files root part listed none = record {
   right = λ k e at. let bad : None ≡ Some e = sym (get-no-entry k) ∙ at in cc;
-  whole = λ key s known in-part at. absurd (none key (record { known = known; of = in-part; there = λ missing. some-none s (sym (ap (λ (f : Option Stored). option_map object_of f) missing) ∙ at) }));
+  whole = λ key s known in-part at. absurd (none key (record { known = known; of = in-part; there = λ missing. some-none s (sym (ap (λ (f : Option Stored). option_map (object_of key) f) missing) ∙ at) }));
   ascending = listed.ascending;
 }
   where

@@ -3,3 +3,4 @@ pub mod Apart
 pub mod Listed
 pub mod Answering
 pub mod Found
+pub mod Leaving

@@ -1,9 +1,9 @@
--- The directory as the machine of a store, where the version of an object is told by its content, and its time is that of
--- its file's last change.
-use Rattle.std.specs.Prelude.{◌≡◌, ◌<◌, ◌⊎◌, ℕ, List, Option, Some, option_map, Result, Ok, Err, IfOk, slice_get}
+-- The directory as the machine of a store, where the version of an object is told by its key and its content, and its time
+-- is that of its file's last change.
+use Rattle.std.specs.Prelude.{◌≡◌, ◌≢◌, ◌<◌, ◌⊎◌, ℕ, List, Option, Some, option_map, Result, Ok, Err, IfOk, slice_get}
 use Rattle.std.specs.declared.cmp.Ordering.TheVariants.{Less}
 use Rattle.folder.specs.Files.{Stored as StoredFile}
-use Rattle.whole_files.specs.Whole.{OnlyAt}
+use Rattle.whole_files.specs.Whole.{OnlyAt, IsOutside}
 use Rattle.object_store.specs.declared.keys.Key.{Key}
 use Rattle.object_store.specs.declared.keys.Part.{Part}
 use Rattle.object_store.specs.declared.events.Op.{Op}
@@ -13,22 +13,22 @@ use Rattle.object_store.specs.declared.events.Entry.{Entry}
 use Rattle.object_store.specs.declared.events.StoreFault.{StoreFault}
 use Rattle.object_store.specs.declared.events.StoreFault.TheVariants.{Failed, NoMemory}
 use Rattle.object_store.specs.Machine.{Stored, fresh_slot, leaves, IsHonest, IsEntry, HasEntry, part_of, listing_cmp}
-use Rattle.dir_store.specs.Versions.{version_of}
+use Rattle.dir_store.specs.Versions.{version_for}
 use Rattle.dir_store.specs.Paths.{IsKey, path_in, aside_folder_in}
 
--- the object that a file is
-abbrev pub object_of : StoredFile → Stored
-object_of file = record { bytes = file.bytes; version = version_of file.bytes; created = file.changed }
+-- the object that a key's file is
+abbrev pub object_of : Key → StoredFile → Stored
+object_of key file = record { bytes = file.bytes; version = version_for key file.bytes; created = file.changed }
 
 -- what stands at a key, of the files of a directory
 abbrev pub object_at : (List ℕ → Option StoredFile) → List ℕ → Key → Option Stored
-object_at files root key = option_map object_of (files (path_in root key))
+object_at files root key = option_map (object_of key) (files (path_in root key))
 
 -- the version of what an operation puts
 abbrev pub version_put : Op → ℕ
 version_put (Get key) = 0
-version_put (PutNew key bytes why) = version_of bytes
-version_put (PutOver key bytes old why) = version_of bytes
+version_put (PutNew key bytes why) = version_for key bytes
+version_put (PutOver key bytes old why) = version_for key bytes
 version_put (Remove key why) = 0
 version_put (RemoveAt key old why) = 0
 version_put (ListPart part) = 0
@@ -52,6 +52,16 @@ pub record Answers {A : Type 0} (reply : A → Reply) (time : A → ℕ) (root :
   pub honest : IfOk result (λ a. IsHonest (object_at old root) (version_put op) (time a) op (reply a))
   pub did : Did op (object_at old root key) (object_at new root key) result
   pub others : OnlyAt (aside_folder_in root) (path_in root key) old new
+
+-- What a loss of power may leave at a path, at each moment of an operation: at its key what was there, or what the operation
+-- leaves there; at any other path but those aside what lay there.
+pub record IsLeftBy (root : List ℕ) (key : Key) (op : Op) (files : List ℕ → Option StoredFile) (p : List ℕ) (f : Option StoredFile) : Type 0 where
+  pub others : p ≢ path_in root key → IsOutside (aside_folder_in root) p → f ≡ files p
+  pub here : p ≡ path_in root key → (f ≡ files (path_in root key)) ⊎ IsDone op (object_at files root key) (option_map (object_of key) f)
+
+-- Where no name was loose before, a loss of power now leaves what lies there, but for files aside.
+abbrev pub Lasts : List ℕ → (List ℕ → Type 0) → (List ℕ → Option StoredFile → Type 0) → (List ℕ → Option StoredFile) → Type 0
+Lasts asides loose left files = (p : List ℕ) (f : Option StoredFile) → (loose p → ⊥) → IsOutside asides p → left p f → f ≡ files p
 
 -- The entries are those of what stands in the part, each once, in the order of listings.
 pub record ListsAll (at : Key → Option Stored) (part : Part) (entries : List Entry) : Type 0 where

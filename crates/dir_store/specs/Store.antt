@@ -17,7 +17,8 @@ use Rattle.object_store.specs.declared.events.GoneAt.TheVariants as A
 use Rattle.object_store.specs.Callers.{Caller, View}
 use Rattle.dir_store.specs.declared.store.FolderStore.{FolderStore}
 use Rattle.whole_files.specs.Places.{root_of as root_in, asides_of as asides_in}
-use Rattle.dir_store.specs.Versions.{version_of}
+use Rattle.object_store.specs.declared.keys.Key.{Key}
+use Rattle.dir_store.specs.Versions.{version_for}
 
 -- ---- what is seen
 abbrev pub client_of : {F C : Type 0} → FolderStore F C → ℕ
@@ -69,19 +70,19 @@ IsMade (Err Failed) old new = new ≡ raised old
 IsMade (Err NoMemory) old new = new ≡ old
 
 -- ---- what answers say
--- the version that is told is that of the bytes
-abbrev pub IsRightGot : Got → Type 0
-IsRightGot (G.Found bytes version now) = version.0 ≡ version_of bytes
-IsRightGot (G.Absent now) = Unit {0}
+-- the version that is told is that of the bytes at this key
+abbrev pub IsRightGot : Key → Got → Type 0
+IsRightGot key (G.Found bytes version now) = version.0 ≡ version_for key bytes
+IsRightGot key (G.Absent now) = Unit {0}
 
-abbrev pub IsRightNew : List ℕ → New → Type 0
-IsRightNew bytes (N.Done version now) = version.0 ≡ version_of bytes
-IsRightNew bytes (N.Present version now) = Unit {0}
+abbrev pub IsRightNew : Key → List ℕ → New → Type 0
+IsRightNew key bytes (N.Done version now) = version.0 ≡ version_for key bytes
+IsRightNew key bytes (N.Present version now) = Unit {0}
 
 -- ... and what moved isn't the old version
-abbrev pub IsRightOver : List ℕ → Version → Over → Type 0
-IsRightOver bytes old (O.Done version now) = version.0 ≡ version_of bytes
-IsRightOver bytes old (O.Moved found now) = found ≢ Some old
+abbrev pub IsRightOver : Key → List ℕ → Version → Over → Type 0
+IsRightOver key bytes old (O.Done version now) = version.0 ≡ version_for key bytes
+IsRightOver key bytes old (O.Moved found now) = found ≢ Some old
 
 abbrev pub IsRightGoneAt : Version → GoneAt → Type 0
 IsRightGoneAt old (A.Done now) = Unit {0}

@@ -1,22 +1,22 @@
 //! Answers of the operations.
 
 ghost use Rattle.std.specs.Prelude.{◌≡◌};
-ghost use Rattle.dir_store.specs.Versions.{version_of};
+ghost use Rattle.dir_store.specs.Versions.{version_for};
 ghost use Rattle.dir_store.specs.inside.Telling.{told_got, told_new, told_over, told_gone, told_gone_at};
 
-use crate::versions::content_version;
+use crate::versions::version_for;
 use ice_base::Bytes;
-use object_store::{Gone, GoneAt, Got, New, Over, Version};
+use object_store::{Gone, GoneAt, Got, Key, New, Over, Version};
 use whole_files::Change;
 
 /// What a get answers, where this was read.
-pub(crate) fn got(found: Option<Bytes>, now: u64) -> Got
-    ensures { result ≡ told_got found now }
+pub(crate) fn got(key: &Key, found: Option<Bytes>, now: u64) -> Got
+    ensures { result ≡ told_got key.now found now }
 {
     match found {
         None => Got::Absent { now },
         Some(bytes) => {
-            let version = content_version(bytes.as_slice());
+            let version = version_for(key, bytes.as_slice());
             Got::Found {
                 bytes,
                 version,
@@ -27,12 +27,12 @@ pub(crate) fn got(found: Option<Bytes>, now: u64) -> Got
 }
 
 /// What a put of a new key answers, where this was found.
-pub(crate) fn new(found: Option<u64>, bytes: &[u8], now: u64) -> New
-    ensures { result ≡ told_new found (version_of bytes.now) now }
+pub(crate) fn new(key: &Key, found: Option<u64>, bytes: &[u8], now: u64) -> New
+    ensures { result ≡ told_new found (version_for key.now bytes.now) now }
 {
     match found {
         None => New::Done {
-            version: content_version(bytes),
+            version: version_for(key, bytes),
             now,
         },
         Some(found) => New::Present {
@@ -43,12 +43,12 @@ pub(crate) fn new(found: Option<u64>, bytes: &[u8], now: u64) -> New
 }
 
 /// What a put over a version answers.
-pub(crate) fn over(change: Change, bytes: &[u8], now: u64) -> Over
-    ensures { result ≡ told_over change (version_of bytes.now) now }
+pub(crate) fn over(key: &Key, change: Change, bytes: &[u8], now: u64) -> Over
+    ensures { result ≡ told_over change (version_for key.now bytes.now) now }
 {
     match change {
         Change::Made => Over::Done {
-            version: content_version(bytes),
+            version: version_for(key, bytes),
             now,
         },
         Change::Moved(found) => Over::Moved {

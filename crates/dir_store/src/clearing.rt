@@ -1,7 +1,7 @@
 //! What a program that was cut off has left: files aside, and entries of folders that aren't flushed.
 
 ghost use Rattle.std.specs.Prelude.{IsTrue};
-ghost use Rattle.folder.specs.Files.{NoLooser};
+ghost use Rattle.folder.specs.Files.{NoLooser, Leaves, IsKept};
 ghost use Rattle.whole_files.specs.Whole.{SameFiles};
 
 use crate::names::{aside_folder, is_aside};
@@ -82,6 +82,7 @@ fn flush_part<F: Folder>(
 ) -> Result<(), FileFault>
     ensures files { IsTrue F.tells → SameFiles (F.files tree.old) (F.files tree.new) }
     ensures loose { IsTrue F.tells → NoLooser (F.loose tree.old) (F.loose tree.new) }
+    ensures left { IsTrue F.tells → Leaves (IsKept (F.files tree.old)) (F.left tree.old) (F.left tree.new) }
 {
     let path = path_in(alloc, folder, name)?;
     if let Some(seen) = folder_at(tree, path.as_str())? {
@@ -94,6 +95,7 @@ fn flush_part<F: Folder>(
 fn flush_folders<F: Folder>(tree: &mut F, alloc: Global, folder: &str) -> Result<(), FileFault>
     ensures files { IsTrue F.tells → SameFiles (F.files tree.old) (F.files tree.new) }
     ensures loose { IsTrue F.tells → NoLooser (F.loose tree.old) (F.loose tree.new) }
+    ensures left { IsTrue F.tells → Leaves (IsKept (F.files tree.old)) (F.left tree.old) (F.left tree.new) }
 {
     let Some(names) = names_in(tree, alloc, folder)? else {
         return Ok(());
@@ -109,6 +111,7 @@ fn flush_folders<F: Folder>(tree: &mut F, alloc: Global, folder: &str) -> Result
 pub(crate) fn flush_all<F: Folder>(tree: &mut F, alloc: Global, root: &str) -> Result<(), FileFault>
     ensures files { IsTrue F.tells → SameFiles (F.files tree.old) (F.files tree.new) }
     ensures loose { IsTrue F.tells → NoLooser (F.loose tree.old) (F.loose tree.new) }
+    ensures left { IsTrue F.tells → Leaves (IsKept (F.files tree.old)) (F.left tree.old) (F.left tree.new) }
 {
     let refs = path_in(alloc, root, "refs")?;
     flush_folders(tree, alloc, refs.as_str())?;

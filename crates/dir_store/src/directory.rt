@@ -1,11 +1,12 @@
 //! The directory on disk, as it is worked on.
 
-ghost use Rattle.std.specs.Prelude.{◌≡◌, Ok, IfOk, OnOk, IsTrue, MatchResult, string_bytes};
-ghost use Rattle.folder.specs.Files.{SameBut, NoLooser};
+ghost use Rattle.std.specs.Prelude.{◌≡◌, None, Ok, IfOk, OnOk, IsTrue, MatchResult, string_bytes};
+ghost use Rattle.folder.specs.Files.{SameBut, NoLooser, Leaves, IsKept, IsChanged};
 ghost use Rattle.whole_files.specs.Places.{root_of, asides_of};
-ghost use Rattle.whole_files.specs.Whole.{SameFiles, OnlyAt, IsOutside, LooserAside, bytes_at};
-ghost use Rattle.whole_files.specs.Changes.{Makes, Replaces, IsMoved};
+ghost use Rattle.whole_files.specs.Whole.{SameFiles, OnlyAt, IsOutside, LooserAside, IsLeft, bytes_at};
+ghost use Rattle.whole_files.specs.Changes.{Makes, Replaces, IsMoved, IsNew, IsOver, IsGone};
 ghost use Rattle.dir_store.specs.Paths.{path_in, aside_folder_in};
+ghost use Rattle.dir_store.specs.Versions.{putting_of};
 ghost use Rattle.dir_store.specs.inside.Telling.{as_told, Through, Removed, RemovedVersion};
 ghost use Rattle.dir_store.specs.Listings.{IsListed};
 ghost use Rattle.dir_store.specs.Contents.{object_at, ListsAll};
@@ -14,13 +15,14 @@ ghost use Rattle.object_store.specs.declared.events.StoreFault.TheVariants as St
 use crate::clearing::flush_all;
 use crate::listing::{ListFault, folder_of, list_files};
 use crate::names::{aside_folder, path_of};
+use crate::versions::putting_of;
 use folder::{FileFault, Folder, Trouble};
 use ice_base::Bytes;
 use object_store::{Entries, Key, Part, StoreFault};
 use std::alloc::{AllocError, Global};
 use std::fmt;
 use whole_files::{
-    Change, Places, make_file, read_file, remove_file, remove_version, replace_file,
+    Change, Places, Putting, make_file, read_file, remove_file, remove_version, replace_file,
 };
 
 /// The first call on files that failed, and where.
@@ -85,6 +87,13 @@ impl<F: Folder> Directory<F> {
         })
     }
 
+    /// The folder that it is worked on in.
+    pub(crate) fn into_tree(self) -> F
+        ensures { result ≡ self.tree }
+    {
+        self.tree
+    }
+
     /// The first call that failed.
     pub(crate) fn first_fault(&self) -> Option<&FirstFault> {
         self.first_fault.as_ref()
@@ -137,6 +146,7 @@ impl<F: Folder> Directory<F> {
         ensures files { IsTrue F.tells → SameFiles (F.files self.old.tree) (F.files self.new.tree) }
         ensures loose { IsTrue F.tells → NoLooser (F.loose self.old.tree) (F.loose self.new.tree) }
         ensures places { self.new.places ≡ self.old.places }
+        ensures left { IsTrue F.tells → Leaves (IsKept (F.files self.old.tree)) (F.left self.old.tree) (F.left self.new.tree) }
     {
         if !self.settled {
             flush_all(&mut self.tree, self.alloc, self.places.root())?;
@@ -145,27 +155,55 @@ impl<F: Folder> Directory<F> {
         Ok(())
     }
 
-    fn try_make(&mut self, path: &str, bytes: &[u8]) -> Result<Option<u64>, FileFault>
+    fn try_make(
+        &mut self,
+        putting: Putting,
+        path: &str,
+        bytes: &[u8],
+    ) -> Result<Option<u64>, FileFault>
         requires { IsOutside (asides_of self.old.places) path.now }
-        ensures made { IsTrue F.tells → Makes bytes.now (F.files self.old.tree path.now) (F.files self.new.tree path.now) result }
+        ensures made { IsTrue F.tells → Makes putting bytes.now (F.files self.old.tree path.now) (F.files self.new.tree path.now) result }
         ensures files { IsTrue F.tells → OnlyAt (asides_of self.old.places) path.now (F.files self.old.tree) (F.files self.new.tree) }
         ensures firm { IsTrue F.tells → OnOk result (LooserAside (asides_of self.old.places) (F.loose self.old.tree) (F.loose self.new.tree)) }
         ensures places { self.new.places ≡ self.old.places }
+        ensures left { IsTrue F.tells → Leaves (IsLeft (asides_of self.old.places) path.now (IsNew bytes.now (F.files self.old.tree path.now)) (F.files self.old.tree)) (F.left self.old.tree) (F.left self.new.tree) }
     {
         self.settle()?;
-        make_file(&mut self.tree, &self.places, self.alloc, path, bytes)
+        make_file(
+            &mut self.tree,
+            &self.places,
+            self.alloc,
+            putting,
+            path,
+            bytes,
+        )
     }
 
-    fn try_replace(&mut self, path: &str, bytes: &[u8], old: u64) -> Result<Change, FileFault>
+    fn try_replace(
+        &mut self,
+        putting: Putting,
+        path: &str,
+        bytes: &[u8],
+        old: u64,
+    ) -> Result<Change, FileFault>
         requires { IsOutside (asides_of self.old.places) path.now }
-        ensures replaced { IsTrue F.tells → Replaces bytes.now old (F.files self.old.tree path.now) (F.files self.new.tree path.now) result }
+        ensures replaced { IsTrue F.tells → Replaces putting bytes.now old (F.files self.old.tree path.now) (F.files self.new.tree path.now) result }
         ensures moved { IfOk result (IsMoved old) }
         ensures files { IsTrue F.tells → OnlyAt (asides_of self.old.places) path.now (F.files self.old.tree) (F.files self.new.tree) }
         ensures firm { IsTrue F.tells → OnOk result (LooserAside (asides_of self.old.places) (F.loose self.old.tree) (F.loose self.new.tree)) }
         ensures places { self.new.places ≡ self.old.places }
+        ensures left { IsTrue F.tells → Leaves (IsLeft (asides_of self.old.places) path.now (IsOver putting bytes.now old (F.files self.old.tree path.now)) (F.files self.old.tree)) (F.left self.old.tree) (F.left self.new.tree) }
     {
         self.settle()?;
-        replace_file(&mut self.tree, &self.places, self.alloc, path, bytes, old)
+        replace_file(
+            &mut self.tree,
+            &self.places,
+            self.alloc,
+            putting,
+            path,
+            bytes,
+            old,
+        )
     }
 
     fn try_remove(&mut self, path: &str) -> Result<bool, FileFault>
@@ -173,20 +211,27 @@ impl<F: Folder> Directory<F> {
         ensures files { IsTrue F.tells → SameBut path.now (F.files self.old.tree) (F.files self.new.tree) }
         ensures firm { IsTrue F.tells → OnOk result (NoLooser (F.loose self.old.tree) (F.loose self.new.tree)) }
         ensures places { self.new.places ≡ self.old.places }
+        ensures left { IsTrue F.tells → Leaves (IsChanged path.now (λ f. f ≡ None) (F.files self.old.tree)) (F.left self.old.tree) (F.left self.new.tree) }
     {
         self.settle()?;
         Ok(remove_file(&mut self.tree, self.places.root(), path)?)
     }
 
-    fn try_remove_version(&mut self, path: &str, old: u64) -> Result<Change, FileFault>
-        ensures removed { IsTrue F.tells → RemovedVersion old (F.files self.old.tree path.now) (F.files self.new.tree path.now) result }
+    fn try_remove_version(
+        &mut self,
+        putting: Putting,
+        path: &str,
+        old: u64,
+    ) -> Result<Change, FileFault>
+        ensures removed { IsTrue F.tells → RemovedVersion putting old (F.files self.old.tree path.now) (F.files self.new.tree path.now) result }
         ensures moved { IfOk result (IsMoved old) }
         ensures files { IsTrue F.tells → SameBut path.now (F.files self.old.tree) (F.files self.new.tree) }
         ensures firm { IsTrue F.tells → OnOk result (NoLooser (F.loose self.old.tree) (F.loose self.new.tree)) }
         ensures places { self.new.places ≡ self.old.places }
+        ensures left { IsTrue F.tells → Leaves (IsChanged path.now (IsGone putting old (F.files self.old.tree path.now)) (F.files self.old.tree)) (F.left self.old.tree) (F.left self.new.tree) }
     {
         self.settle()?;
-        Ok(remove_version(&mut self.tree, self.places.root(), path, old)?)
+        Ok(remove_version(&mut self.tree, self.places.root(), putting, path, old)?)
     }
 
     /// The bytes of the file at this path, if one is there.
@@ -199,33 +244,41 @@ impl<F: Folder> Directory<F> {
         self.noted(path, read)
     }
 
-    /// Makes a file of these bytes where none is, or tells the version that stands there.
-    pub(crate) fn make(&mut self, path: String, bytes: &[u8]) -> Result<Option<u64>, StoreFault>
+    /// Makes a file of these bytes for this key where none is, or tells the version that stands there.
+    pub(crate) fn make(
+        &mut self,
+        key: &Key,
+        path: String,
+        bytes: &[u8],
+    ) -> Result<Option<u64>, StoreFault>
         requires { IsOutside (asides_of self.old.places) (string_bytes path) }
-        ensures made { IsTrue F.tells → Through (Makes bytes.now (F.files self.old.tree (string_bytes path)) (F.files self.new.tree (string_bytes path))) result }
+        ensures made { IsTrue F.tells → Through (Makes (putting_of key.now) bytes.now (F.files self.old.tree (string_bytes path)) (F.files self.new.tree (string_bytes path))) result }
         ensures files { IsTrue F.tells → OnlyAt (asides_of self.old.places) (string_bytes path) (F.files self.old.tree) (F.files self.new.tree) }
         ensures firm { IsTrue F.tells → OnOk result (LooserAside (asides_of self.old.places) (F.loose self.old.tree) (F.loose self.new.tree)) }
         ensures places { self.new.places ≡ self.old.places }
+        ensures left { IsTrue F.tells → Leaves (IsLeft (asides_of self.old.places) (string_bytes path) (IsNew bytes.now (F.files self.old.tree (string_bytes path))) (F.files self.old.tree)) (F.left self.old.tree) (F.left self.new.tree) }
     {
-        let made = self.try_make(path.as_str(), bytes);
+        let made = self.try_make(putting_of(key), path.as_str(), bytes);
         self.noted(path, made)
     }
 
     /// Puts a file of these bytes in the place of the one with this version.
     pub(crate) fn replace(
         &mut self,
+        key: &Key,
         path: String,
         bytes: &[u8],
         old: u64,
     ) -> Result<Change, StoreFault>
         requires { IsOutside (asides_of self.old.places) (string_bytes path) }
         ensures moved { IfOk result (IsMoved old) }
-        ensures replaced { IsTrue F.tells → Through (Replaces bytes.now old (F.files self.old.tree (string_bytes path)) (F.files self.new.tree (string_bytes path))) result }
+        ensures replaced { IsTrue F.tells → Through (Replaces (putting_of key.now) bytes.now old (F.files self.old.tree (string_bytes path)) (F.files self.new.tree (string_bytes path))) result }
         ensures files { IsTrue F.tells → OnlyAt (asides_of self.old.places) (string_bytes path) (F.files self.old.tree) (F.files self.new.tree) }
         ensures firm { IsTrue F.tells → OnOk result (LooserAside (asides_of self.old.places) (F.loose self.old.tree) (F.loose self.new.tree)) }
         ensures places { self.new.places ≡ self.old.places }
+        ensures left { IsTrue F.tells → Leaves (IsLeft (asides_of self.old.places) (string_bytes path) (IsOver (putting_of key.now) bytes.now old (F.files self.old.tree (string_bytes path))) (F.files self.old.tree)) (F.left self.old.tree) (F.left self.new.tree) }
     {
-        let replaced = self.try_replace(path.as_str(), bytes, old);
+        let replaced = self.try_replace(putting_of(key), path.as_str(), bytes, old);
         self.noted(path, replaced)
     }
 
@@ -235,20 +288,27 @@ impl<F: Folder> Directory<F> {
         ensures files { IsTrue F.tells → SameBut (string_bytes path) (F.files self.old.tree) (F.files self.new.tree) }
         ensures firm { IsTrue F.tells → OnOk result (NoLooser (F.loose self.old.tree) (F.loose self.new.tree)) }
         ensures places { self.new.places ≡ self.old.places }
+        ensures left { IsTrue F.tells → Leaves (IsChanged (string_bytes path) (λ f. f ≡ None) (F.files self.old.tree)) (F.left self.old.tree) (F.left self.new.tree) }
     {
         let removed = self.try_remove(path.as_str());
         self.noted(path, removed)
     }
 
     /// Removes the file with this version.
-    pub(crate) fn remove_version(&mut self, path: String, old: u64) -> Result<Change, StoreFault>
+    pub(crate) fn remove_version(
+        &mut self,
+        key: &Key,
+        path: String,
+        old: u64,
+    ) -> Result<Change, StoreFault>
         ensures moved { IfOk result (IsMoved old) }
-        ensures removed { IsTrue F.tells → Through (RemovedVersion old (F.files self.old.tree (string_bytes path)) (F.files self.new.tree (string_bytes path))) result }
+        ensures removed { IsTrue F.tells → Through (RemovedVersion (putting_of key.now) old (F.files self.old.tree (string_bytes path)) (F.files self.new.tree (string_bytes path))) result }
         ensures files { IsTrue F.tells → SameBut (string_bytes path) (F.files self.old.tree) (F.files self.new.tree) }
         ensures firm { IsTrue F.tells → OnOk result (NoLooser (F.loose self.old.tree) (F.loose self.new.tree)) }
         ensures places { self.new.places ≡ self.old.places }
+        ensures left { IsTrue F.tells → Leaves (IsChanged (string_bytes path) (IsGone (putting_of key.now) old (F.files self.old.tree (string_bytes path))) (F.files self.old.tree)) (F.left self.old.tree) (F.left self.new.tree) }
     {
-        let removed = self.try_remove_version(path.as_str(), old);
+        let removed = self.try_remove_version(putting_of(key), path.as_str(), old);
         self.noted(path, removed)
     }
 

@@ -24,4 +24,4 @@ pub use names::key_of;
 pub use opening::{Opened, open};
 pub use seeds::random_seed;
 pub use store::{DirStore, FolderStore};
-pub use versions::content_version;
+pub use versions::{content_version, version_for};

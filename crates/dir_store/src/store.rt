@@ -4,9 +4,9 @@ ghost use Rattle.std.specs.Prelude.{◌≡◌, refl, false, IfOk, OnOk, IsTrue};
 ghost use Rattle.object_store.specs.Callers.{Called, Counted, as_client};
 ghost use Rattle.dir_store.specs.Store.{view_of, client_of, faults_of, operations_of, clock_of, tree_of, root_of, asides_of, IsNewIn, IsMade, IsRightGot, IsRightNew, IsRightOver, IsRightGoneAt, time_of_got, time_of_new, time_of_over, time_of_gone, time_of_gone_at};
 ghost use Rattle.dir_store.specs.Listings.{IsListed};
-ghost use Rattle.folder.specs.Files.{NoLooser};
+ghost use Rattle.folder.specs.Files.{NoLooser, Leaves};
 ghost use Rattle.whole_files.specs.Whole.{LooserAside};
-ghost use Rattle.dir_store.specs.Contents.{Answers, object_at, ListsAll};
+ghost use Rattle.dir_store.specs.Contents.{Answers, IsLeftBy, Lasts, object_at, ListsAll};
 
 use crate::answers;
 use crate::directory::{Directory, FirstFault};
@@ -93,6 +93,13 @@ impl<F: Folder + Drop, C: Clock + Drop> FolderStore<F, C> {
             operations: 0,
         })
     }
+
+    /// The folder on which the store stands.
+    pub fn into_tree(self) -> F
+        ensures { result ≡ tree_of self }
+    {
+        self.directory.into_tree()
+    }
 }
 
 impl<F: Folder, C: Clock> FolderStore<F, C> {
@@ -143,7 +150,7 @@ impl<F: Folder, C: Clock> Viewed for FolderStore<F, C> {
 impl<L: Rule, F: Folder, C: Clock> ObjectStore<L> for FolderStore<F, C> {
     fn get(&mut self, key: &Key) -> Result<Got, StoreFault>
         ensures call { Called L.may (λ got. Reply.Got got) (Op.Get key.now) result (view_of self.old) (view_of self.new) }
-        ensures content { IfOk result IsRightGot }
+        ensures content { IfOk result (IsRightGot key.now) }
         ensures machine { IsTrue F.tells → Answers (λ got. Reply.Got got) time_of_got (root_of self.old) key.now (Op.Get key.now) result (F.files (tree_of self.old)) (F.files (tree_of self.new)) }
         ensures tree { tree_of self.new ≡ tree_of self.old }
         ensures made { IsMade result (operations_of self.old) (operations_of self.new) }
@@ -153,22 +160,24 @@ impl<L: Rule, F: Folder, C: Clock> ObjectStore<L> for FolderStore<F, C> {
         let read = self.directory.read(path);
         let found = self.counted(read)?;
         let now = self.clock.now();
-        Ok(answers::got(found, now))
+        Ok(answers::got(key, found, now))
     }
 
     fn put_new(&mut self, key: &Key, bytes: &[u8], why: Why) -> Result<New, StoreFault>
         ensures call { Called L.may (λ new. Reply.New new) (Op.PutNew key.now bytes.now why) result (view_of self.old) (view_of self.new) }
-        ensures content { IfOk result (IsRightNew bytes.now) }
+        ensures content { IfOk result (IsRightNew key.now bytes.now) }
         ensures machine { IsTrue F.tells → Answers (λ new. Reply.New new) time_of_new (root_of self.old) key.now (Op.PutNew key.now bytes.now why) result (F.files (tree_of self.old)) (F.files (tree_of self.new)) }
         ensures firm { IsTrue F.tells → OnOk result (LooserAside (asides_of self.old) (F.loose (tree_of self.old)) (F.loose (tree_of self.new))) }
         ensures made { IsMade result (operations_of self.old) (operations_of self.new) }
         ensures time { IfOk result (λ new. C.gives (clock_of self.old) (time_of_new new) (clock_of self.new)) }
+        ensures left { IsTrue F.tells → Leaves (IsLeftBy (root_of self.old) key.now (Op.PutNew key.now bytes.now why) (F.files (tree_of self.old))) (F.left (tree_of self.old)) (F.left (tree_of self.new)) }
+        ensures lasts { IsTrue F.tells → OnOk result (Lasts (asides_of self.old) (F.loose (tree_of self.old)) (F.left (tree_of self.new) (F.moment (tree_of self.new))) (F.files (tree_of self.new))) }
     {
         let path = self.directory.path(key)?;
-        let made = self.directory.make(path, bytes);
+        let made = self.directory.make(key, path, bytes);
         let found = self.counted(made)?;
         let now = self.clock.now();
-        Ok(answers::new(found, bytes, now))
+        Ok(answers::new(key, found, bytes, now))
     }
 
     fn put_over(
@@ -179,17 +188,19 @@ impl<L: Rule, F: Folder, C: Clock> ObjectStore<L> for FolderStore<F, C> {
         why: Why,
     ) -> Result<Over, StoreFault>
         ensures call { Called L.may (λ over. Reply.Over over) (Op.PutOver key.now bytes.now old why) result (view_of self.old) (view_of self.new) }
-        ensures content { IfOk result (IsRightOver bytes.now old) }
+        ensures content { IfOk result (IsRightOver key.now bytes.now old) }
         ensures machine { IsTrue F.tells → Answers (λ over. Reply.Over over) time_of_over (root_of self.old) key.now (Op.PutOver key.now bytes.now old why) result (F.files (tree_of self.old)) (F.files (tree_of self.new)) }
         ensures firm { IsTrue F.tells → OnOk result (LooserAside (asides_of self.old) (F.loose (tree_of self.old)) (F.loose (tree_of self.new))) }
         ensures made { IsMade result (operations_of self.old) (operations_of self.new) }
         ensures time { IfOk result (λ over. C.gives (clock_of self.old) (time_of_over over) (clock_of self.new)) }
+        ensures left { IsTrue F.tells → Leaves (IsLeftBy (root_of self.old) key.now (Op.PutOver key.now bytes.now old why) (F.files (tree_of self.old))) (F.left (tree_of self.old)) (F.left (tree_of self.new)) }
+        ensures lasts { IsTrue F.tells → OnOk result (Lasts (asides_of self.old) (F.loose (tree_of self.old)) (F.left (tree_of self.new) (F.moment (tree_of self.new))) (F.files (tree_of self.new))) }
     {
         let path = self.directory.path(key)?;
-        let replaced = self.directory.replace(path, bytes, old.0);
+        let replaced = self.directory.replace(key, path, bytes, old.0);
         let change = self.counted(replaced)?;
         let now = self.clock.now();
-        Ok(answers::over(change, bytes, now))
+        Ok(answers::over(key, change, bytes, now))
     }
 
     fn remove(&mut self, key: &Key, why: Why) -> Result<Gone, StoreFault>
@@ -198,6 +209,8 @@ impl<L: Rule, F: Folder, C: Clock> ObjectStore<L> for FolderStore<F, C> {
         ensures firm { IsTrue F.tells → OnOk result (NoLooser (F.loose (tree_of self.old)) (F.loose (tree_of self.new))) }
         ensures made { IsMade result (operations_of self.old) (operations_of self.new) }
         ensures time { IfOk result (λ gone. C.gives (clock_of self.old) (time_of_gone gone) (clock_of self.new)) }
+        ensures left { IsTrue F.tells → Leaves (IsLeftBy (root_of self.old) key.now (Op.Remove key.now why) (F.files (tree_of self.old))) (F.left (tree_of self.old)) (F.left (tree_of self.new)) }
+        ensures lasts { IsTrue F.tells → OnOk result (Lasts (asides_of self.old) (F.loose (tree_of self.old)) (F.left (tree_of self.new) (F.moment (tree_of self.new))) (F.files (tree_of self.new))) }
     {
         let path = self.directory.path(key)?;
         let removed = self.directory.remove(path);
@@ -213,9 +226,11 @@ impl<L: Rule, F: Folder, C: Clock> ObjectStore<L> for FolderStore<F, C> {
         ensures firm { IsTrue F.tells → OnOk result (NoLooser (F.loose (tree_of self.old)) (F.loose (tree_of self.new))) }
         ensures made { IsMade result (operations_of self.old) (operations_of self.new) }
         ensures time { IfOk result (λ gone. C.gives (clock_of self.old) (time_of_gone_at gone) (clock_of self.new)) }
+        ensures left { IsTrue F.tells → Leaves (IsLeftBy (root_of self.old) key.now (Op.RemoveAt key.now old why) (F.files (tree_of self.old))) (F.left (tree_of self.old)) (F.left (tree_of self.new)) }
+        ensures lasts { IsTrue F.tells → OnOk result (Lasts (asides_of self.old) (F.loose (tree_of self.old)) (F.left (tree_of self.new) (F.moment (tree_of self.new))) (F.files (tree_of self.new))) }
     {
         let path = self.directory.path(key)?;
-        let removed = self.directory.remove_version(path, old.0);
+        let removed = self.directory.remove_version(key, path, old.0);
         let change = self.counted(removed)?;
         let now = self.clock.now();
         Ok(answers::gone_at(change, now))

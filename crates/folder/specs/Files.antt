@@ -126,3 +126,31 @@ abbrev pub LoosensGone : {E : Type 0} → List ℕ → (List ℕ → Type 0) →
 LoosensGone path old new (Ok true) = LooserAt path old new
 LoosensGone path old new (Ok false) = NoLooser old new
 LoosensGone path old new (Err e) = LooserAt path old new
+
+-- ---- what a loss of power leaves
+-- What a loss of power may leave at a path, at the nth moment or a later one up to now. From one call to the next: what it
+-- might have left before, or what is so.
+abbrev pub Leaves : (List ℕ → Option Stored → Type 0) → (ℕ → List ℕ → Option Stored → Type 0) → (ℕ → List ℕ → Option Stored → Type 0) → Type 0
+Leaves P old new = (n : ℕ) (p : List ℕ) (f : Option Stored) → new n p f → old n p f ⊎ P p f
+
+-- what lies there
+abbrev pub IsKept : (List ℕ → Option Stored) → List ℕ → Option Stored → Type 0
+IsKept files p f = f ≡ files p
+
+-- ... where no draft lies
+abbrev pub IsKeptBut : List ℕ → (List ℕ → Option Stored) → List ℕ → Option Stored → Type 0
+IsKeptBut aside files p f = p ≢ aside → f ≡ files p
+
+-- What lies there, or, at the path of a change, what it makes.
+pub record IsChanged (path : List ℕ) (Made : Option Stored → Type 0) (files : List ℕ → Option Stored) (p : List ℕ) (f : Option Stored) : Type 0 where
+  pub others : p ≢ path → f ≡ files p
+  pub here : p ≡ path → (f ≡ files path) ⊎ Made f
+
+-- ... where no draft lies
+pub record IsPlaced (path aside : List ℕ) (Made : Option Stored → Type 0) (files : List ℕ → Option Stored) (p : List ℕ) (f : Option Stored) : Type 0 where
+  pub others : p ≢ path → p ≢ aside → f ≡ files p
+  pub here : p ≡ path → (f ≡ files path) ⊎ Made f
+
+-- a file of these bytes where none was
+abbrev pub IsNew : List ℕ → Option Stored → Option Stored → Type 0
+IsNew bytes old new = (old ≡ None) × HasBytes bytes new

@@ -1,5 +1,5 @@
 -- A folder in memory: what the last change of a path left there.
-use Rattle.std.specs.Prelude.{◌≡◌, ℕ, List, [], ◌∷◌, ◌++◌, Option, Some, None, if◌then◌else◌, bytes_eq, string_bytes, codes, slice_get}
+use Rattle.std.specs.Prelude.{◌≡◌, ◌≤◌, ℕ, length, take, List, [], ◌∷◌, ◌++◌, Option, Some, None, if◌then◌else◌, bytes_eq, string_bytes, codes, slice_get}
 use Rattle.folder.specs.Files.{Stored, IsName, IsBehind, HasName}
 use Rattle.folder.specs.declared.memory.Change.{Change}
 use Rattle.folder.specs.declared.memory.Content.{Content}
@@ -45,3 +45,10 @@ pub record AddsName (path folder : List ℕ) (old new : List (List ℕ)) : Type 
 abbrev pub TellsChanges : List Change → List ℕ → List (List ℕ) → Type 0
 TellsChanges changes folder names = (k : ℕ) (change : Change) → slice_get changes k ≡ Some change
     → (name rest : List ℕ) → IsName name → IsBehind rest → string_bytes change.path ≡ folder ++ codes "/" ++ name ++ rest → HasName names name
+
+-- this lay at the path at the nth moment or a later one: after so many changes, each of which is on disk at once
+pub record Lay (changes : List Change) (n : ℕ) (p : List ℕ) (f : Option Stored) : Type 0 where
+  pub moment : ℕ
+  pub from : n ≤ moment
+  pub upto : moment ≤ length changes
+  pub is : f ≡ file_at (take moment changes) p

@@ -73,6 +73,8 @@ pub enum Cause {
     Changed,
     /// A folder in memory had no memory for it.
     NoRoom,
+    /// A folder in memory was cut off before it.
+    CutOff,
 }
 
 impl fmt::Display for Cause {
@@ -87,6 +89,7 @@ impl fmt::Display for Cause {
             Cause::TooLong => f.write_str("it is longer than a file may be"),
             Cause::Changed => f.write_str("it was changed meanwhile"),
             Cause::NoRoom => f.write_str("there is no room"),
+            Cause::CutOff => f.write_str("it was cut off"),
         }
     }
 }

@@ -1,7 +1,7 @@
 //! What is asked of folders and files.
 
-ghost use Rattle.std.specs.Prelude.{◌≡◌, ◌≤◌, ◌++◌, ℕ, Bool, List, [], Option, IsTrue, length, map, string_bytes, IfOk, OnOk, IfSome, MatchOption};
-ghost use Rattle.folder.specs.Files.{Stored, HasBytes, IsSeen, IsFileSeen, ReadsOn, SameBut, SameButTwo, PlacesNew, PlacesOver, Removes, TellsNames, HoldsNone, NoLooser, LooserAt, LooserAtTwo, LoosensNew, LoosensGone, Firms};
+ghost use Rattle.std.specs.Prelude.{◌≡◌, ◌≤◌, ◌++◌, ℕ, Bool, List, [], Option, None, IsTrue, length, map, string_bytes, IfOk, OnOk, IfSome, MatchOption};
+ghost use Rattle.folder.specs.Files.{Stored, HasBytes, IsSeen, IsFileSeen, ReadsOn, SameBut, SameButTwo, PlacesNew, PlacesOver, Removes, TellsNames, HoldsNone, NoLooser, LooserAt, LooserAtTwo, LoosensNew, LoosensGone, Firms, Leaves, IsKept, IsKeptBut, IsChanged, IsPlaced, IsNew};
 
 use crate::{FileFault, Seen, Trouble};
 use std::alloc::Global;
@@ -40,6 +40,13 @@ pub trait Folder {
     /// names until its folder is flushed.
     ghost loose: { Self → List ℕ → Type 0 };
 
+    /// The moment that it is: it grows from call to call.
+    ghost moment: { Self → ℕ };
+
+    /// What a loss of power may leave at a path, at this moment or a later one up to now, in the midst of a call too. At the
+    /// path of a draft nothing is said.
+    ghost left: { Self → ℕ → List ℕ → Option Stored → Type 0 };
+
     /// What lies at a path, if anything does: a link itself, and not what it leads to.
     fn look(&self, path: &str) -> Result<Option<Seen>, Trouble>
         ensures { IsTrue tells → IfOk result (IsSeen (files self.now path.now)) };
@@ -66,14 +73,16 @@ pub trait Folder {
     fn create(&mut self, path: String) -> Result<Option<Self::Draft>, Trouble>
         ensures draft { IsTrue tells → IfOk result (λ made. IfSome made (λ draft. (aside draft ≡ string_bytes path) × (written draft ≡ []))) }
         ensures files { IsTrue tells → SameBut (string_bytes path) (files self.old) (files self.new) }
-        ensures loose { IsTrue tells → LooserAt (string_bytes path) (loose self.old) (loose self.new) };
+        ensures loose { IsTrue tells → LooserAt (string_bytes path) (loose self.old) (loose self.new) }
+        ensures left { IsTrue tells → Leaves (IsKeptBut (string_bytes path) (files self.old)) (left self.old) (left self.new) };
 
     /// Writes on in a draft.
     fn write(&mut self, draft: &mut Self::Draft, bytes: &[u8]) -> Result<(), Trouble>
         ensures written { IsTrue tells → OnOk result (written draft.new ≡ written draft.old ++ bytes.now) }
         ensures aside { IsTrue tells → aside draft.new ≡ aside draft.old }
         ensures files { IsTrue tells → SameBut (aside draft.old) (files self.old) (files self.new) }
-        ensures loose { IsTrue tells → NoLooser (loose self.old) (loose self.new) };
+        ensures loose { IsTrue tells → NoLooser (loose self.old) (loose self.new) }
+        ensures left { IsTrue tells → Leaves (IsKeptBut (aside draft.old) (files self.old)) (left self.old) (left self.new) };
 
     /// Flushes a draft to disk.
     fn flush(&mut self, draft: &mut Self::Draft) -> Result<(), Trouble>
@@ -81,47 +90,58 @@ pub trait Folder {
         ensures written { IsTrue tells → written draft.new ≡ written draft.old }
         ensures aside { IsTrue tells → aside draft.new ≡ aside draft.old }
         ensures files { IsTrue tells → SameBut (aside draft.old) (files self.old) (files self.new) }
-        ensures loose { IsTrue tells → NoLooser (loose self.old) (loose self.new) };
+        ensures loose { IsTrue tells → NoLooser (loose self.old) (loose self.new) }
+        ensures left { IsTrue tells → Leaves (IsKeptBut (aside draft.old) (files self.old)) (left self.old) (left self.new) };
 
     /// Moves a draft to a path where nothing is, and tells whether it did. The draft is gone then.
     fn place_new(&mut self, draft: Self::Draft, path: &str) -> Result<bool, Trouble>
         requires { IsTrue tells → IsTrue (flushed draft) }
         ensures loose { IsTrue tells → LoosensNew path.now (aside draft) (loose self.old) (loose self.new) result }
         ensures placed { IsTrue tells → PlacesNew (written draft) (files self.old path.now) (files self.new path.now) result }
-        ensures files { IsTrue tells → SameButTwo path.now (aside draft) (files self.old) (files self.new) };
+        ensures files { IsTrue tells → SameButTwo path.now (aside draft) (files self.old) (files self.new) }
+        ensures left { IsTrue tells → Leaves (IsPlaced path.now (aside draft) (IsNew (written draft) (files self.old path.now)) (files self.old)) (left self.old) (left self.new) };
 
     /// Moves a draft to a path, over the plain file there. The draft is gone then.
     fn place_over(&mut self, draft: Self::Draft, path: &str) -> Result<(), Trouble>
         requires { IsTrue tells → IsTrue (flushed draft) }
         ensures loose { IsTrue tells → LooserAtTwo path.now (aside draft) (loose self.old) (loose self.new) }
         ensures placed { IsTrue tells → PlacesOver (written draft) (files self.old path.now) (files self.new path.now) result }
-        ensures files { IsTrue tells → SameButTwo path.now (aside draft) (files self.old) (files self.new) };
+        ensures files { IsTrue tells → SameButTwo path.now (aside draft) (files self.old) (files self.new) }
+        ensures left { IsTrue tells → Leaves (IsPlaced path.now (aside draft) (HasBytes (written draft)) (files self.old)) (left self.old) (left self.new) };
 
     /// Removes a draft, if that can be done.
     fn discard(&mut self, draft: Self::Draft)
         ensures files { IsTrue tells → SameBut (aside draft) (files self.old) (files self.new) }
-        ensures loose { IsTrue tells → LooserAt (aside draft) (loose self.old) (loose self.new) };
+        ensures loose { IsTrue tells → LooserAt (aside draft) (loose self.old) (loose self.new) }
+        ensures left { IsTrue tells → Leaves (IsKeptBut (aside draft) (files self.old)) (left self.old) (left self.new) };
 
     /// Removes the plain file at a path, and tells whether one was there.
     fn remove(&mut self, path: &str) -> Result<bool, Trouble>
         ensures removed { IsTrue tells → Removes (files self.old path.now) (files self.new path.now) result }
         ensures files { IsTrue tells → SameBut path.now (files self.old) (files self.new) }
-        ensures loose { IsTrue tells → LoosensGone path.now (loose self.old) (loose self.new) result };
+        ensures loose { IsTrue tells → LoosensGone path.now (loose self.old) (loose self.new) result }
+        ensures left { IsTrue tells → Leaves (IsChanged path.now (λ f. f ≡ None) (files self.old)) (left self.old) (left self.new) };
 
     /// Makes a folder where nothing is.
     fn make_folder(&mut self, path: &str) -> Result<(), Trouble>
         ensures files { IsTrue tells → (p : List ℕ) → files self.new p ≡ files self.old p }
-        ensures loose { IsTrue tells → LooserAt path.now (loose self.old) (loose self.new) };
+        ensures loose { IsTrue tells → LooserAt path.now (loose self.old) (loose self.new) }
+        ensures left { IsTrue tells → Leaves (IsKept (files self.old)) (left self.old) (left self.new) };
 
     /// Flushes to disk which files a folder holds that was seen at a path.
     fn flush_folder(&mut self, path: &str, seen: &Seen) -> Result<(), Trouble>
         ensures files { IsTrue tells → (p : List ℕ) → files self.new p ≡ files self.old p }
         ensures loose { IsTrue tells → NoLooser (loose self.old) (loose self.new) }
-        ensures firm { IsTrue tells → OnOk result (Firms path.now (loose self.old) (loose self.new)) };
+        ensures firm { IsTrue tells → OnOk result (Firms path.now (loose self.old) (loose self.new)) }
+        ensures left { IsTrue tells → Leaves (IsKept (files self.old)) (left self.old) (left self.new) };
 
     /// Flushes to disk which files and folders the folder at a path holds, wherever the path leads.
     fn flush_root(&mut self, path: &str) -> Result<(), Trouble>
         ensures files { IsTrue tells → (p : List ℕ) → files self.new p ≡ files self.old p }
         ensures loose { IsTrue tells → NoLooser (loose self.old) (loose self.new) }
-        ensures firm { IsTrue tells → OnOk result (Firms path.now (loose self.old) (loose self.new)) };
+        ensures firm { IsTrue tells → OnOk result (Firms path.now (loose self.old) (loose self.new)) }
+        ensures left { IsTrue tells → Leaves (IsKept (files self.old)) (left self.old) (left self.new) };
+
+    /// A loss of power now leaves what lies there, but for loose names.
+    ghost keeps: { (s : Self) (p : List ℕ) (f : Option Stored) → IsTrue Self.tells → (Self.loose s p → ⊥) → Self.left s (Self.moment s) p f → f ≡ Self.files s p };
 }

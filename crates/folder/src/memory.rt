@@ -1,9 +1,11 @@
 //! A folder in memory.
 
 ghost use Rattle.std.specs.Prelude.{◌≢◌, ◌==◌, min, take, MatchOption, codes, List, ℕ, map, ◌≡◌, ◌≤◌, true, length, drop, option_copied, Some, IfOk, IfSome, OnErr, OnOk, ◌++◌, ◌∷◌, [], string_bytes};
-ghost use Rattle.folder.specs.Files.{IsSeen, IsFileSeen, HasBytes, SameBut, IsName, IsBehind, HasName};
+ghost use Rattle.std.proofs.Common.{ap, ◌∙◌};
+ghost use Rattle.folder.specs.Files.{Leaves, IsKept, IsSeen, IsFileSeen, HasBytes, SameBut, IsName, IsBehind, HasName};
 ghost use Rattle.std.specs.List.{before_first};
-ghost use Rattle.folder.specs.Memory.{content_at, file_at, content_of, file_of, ChangedTo, AddsName};
+ghost use Rattle.folder.specs.Memory.{content_at, file_at, content_of, file_of, ChangedTo, AddsName, Lay};
+ghost use Rattle.std.proofs.lemmas.List.{take_all};
 
 use crate::{Call, Cause, FileFault, Folder, Kind, Seen, Trouble, failed};
 use ice_base::Bytes;
@@ -24,11 +26,13 @@ struct Change {
     content: Content,
 }
 
-/// A folder in memory, which tells what it holds. It keeps each change.
+/// A folder in memory, which tells what it holds. It keeps each change. After so many more calls that change something it is cut
+/// off, as where a program is killed: each further one fails, and changes nothing.
 #[derive(Drop)]
 pub struct MemoryFolder {
     alloc: Global,
     changes: Vec<Change>,
+    calls_left: u64,
 }
 
 /// A file in memory that is read.
@@ -84,7 +88,31 @@ impl MemoryFolder {
         MemoryFolder {
             alloc,
             changes: Vec::new(alloc),
+            calls_left: u64::MAX,
         }
+    }
+
+    /// Cuts the folder off after so many more calls that change something.
+    pub fn cut_after(&mut self, calls: u64)
+        ensures files { self.new.changes.items ≡ self.old.changes.items }
+    {
+        self.calls_left = calls;
+    }
+
+    /// How many more calls that change something are made before it is cut off.
+    pub fn calls_left(&self) -> u64 {
+        self.calls_left
+    }
+
+    /// Counts a call that changes something, and fails where the folder was cut off before.
+    fn begin(&mut self, call: Call) -> Result<(), Trouble>
+        ensures { self.new.changes.items ≡ self.old.changes.items }
+    {
+        if self.calls_left == 0 {
+            return Err(failed(call, Cause::CutOff));
+        }
+        self.calls_left -= 1;
+        Ok(())
     }
 
     /// What lies at a path.
@@ -99,6 +127,7 @@ impl MemoryFolder {
         ensures ok { OnOk result (HasBytes draft.bytes (file_at self.new.changes.items path.now)) }
         ensures others { SameBut path.now (file_at self.old.changes.items) (file_at self.new.changes.items) }
         ensures err { OnErr result (self.new.changes.items ≡ self.old.changes.items) }
+        ensures left { Leaves (IsKept (file_at self.new.changes.items)) (Lay self.old.changes.items) (Lay self.new.changes.items) }
     {
         let content = Content::File {
             bytes: draft.bytes,
@@ -114,6 +143,7 @@ impl MemoryFolder {
     fn change(&mut self, path: &str, content: Content) -> Result<(), ()>
         ensures ok { OnOk result (ChangedTo self.old.changes.items self.new.changes.items path.now content) }
         ensures err { OnErr result (self.new.changes.items ≡ self.old.changes.items) }
+        ensures left { Leaves (IsKept (file_at self.new.changes.items)) (Lay self.old.changes.items) (Lay self.new.changes.items) }
     {
         let Ok(path) = String::from_str(self.alloc, path) else {
             return Err(());
@@ -208,6 +238,10 @@ impl Folder for MemoryFolder {
 
     ghost loose = { λ _ _. ⊥ };
 
+    ghost moment = { λ folder. length folder.changes.items };
+
+    ghost left = { λ folder. Lay folder.changes.items };
+
     fn look(&self, path: &str) -> Result<Option<Seen>, Trouble> {
         Ok(seen_of(self.content(path)))
     }
@@ -241,6 +275,7 @@ impl Folder for MemoryFolder {
     }
 
     fn create(&mut self, path: String) -> Result<Option<MemoryDraft>, Trouble> {
+        self.begin(Call::Open)?;
         if seen_of(self.content(path.as_str())).is_some() {
             return Ok(None);
         }
@@ -252,6 +287,7 @@ impl Folder for MemoryFolder {
     }
 
     fn write(&mut self, draft: &mut MemoryDraft, bytes: &[u8]) -> Result<(), Trouble> {
+        self.begin(Call::Write)?;
         draft.flushed = false;
         match draft.bytes.extend(bytes) {
             Ok(()) => Ok(()),
@@ -260,11 +296,13 @@ impl Folder for MemoryFolder {
     }
 
     fn flush(&mut self, draft: &mut MemoryDraft) -> Result<(), Trouble> {
+        self.begin(Call::Flush)?;
         draft.flushed = true;
         Ok(())
     }
 
     fn place_new(&mut self, draft: MemoryDraft, path: &str) -> Result<bool, Trouble> {
+        self.begin(Call::Link)?;
         match plain(self.content(path))? {
             Some(_) => Ok(false),
             None => {
@@ -275,6 +313,7 @@ impl Folder for MemoryFolder {
     }
 
     fn place_over(&mut self, draft: MemoryDraft, path: &str) -> Result<(), Trouble> {
+        self.begin(Call::Move)?;
         self.place(Call::Move, draft, path)
     }
 
@@ -283,6 +322,7 @@ impl Folder for MemoryFolder {
     }
 
     fn remove(&mut self, path: &str) -> Result<bool, Trouble> {
+        self.begin(Call::Remove)?;
         if plain(self.content(path))?.is_none() {
             return Ok(false);
         }
@@ -293,6 +333,7 @@ impl Folder for MemoryFolder {
     }
 
     fn make_folder(&mut self, path: &str) -> Result<(), Trouble> {
+        self.begin(Call::MakeFolder)?;
         if seen_of(self.content(path)).is_some() {
             return Err(failed(Call::MakeFolder, Cause::Unnamed));
         }
@@ -303,10 +344,12 @@ impl Folder for MemoryFolder {
     }
 
     fn flush_folder(&mut self, _path: &str, _seen: &Seen) -> Result<(), Trouble> {
-        Ok(())
+        self.begin(Call::Flush)
     }
 
     fn flush_root(&mut self, _path: &str) -> Result<(), Trouble> {
-        Ok(())
+        self.begin(Call::Flush)
     }
+
+    ghost keeps = { λ folder p f tells firm lay. lay.is ∙ ap (λ changes. file_at changes p) (take_all lay.moment folder.changes.items lay.from) };
 }

@@ -191,6 +191,10 @@ impl<R: Files + AllocGlobal + Clone + Drop> Folder for SystemFolder<R> {
 
     ghost loose = { λ _ _. Unit {0} };
 
+    ghost moment = { λ _. 0 };
+
+    ghost left = { λ _ _ _ _. Unit {0} };
+
     fn look(&self, path: &str) -> Result<Option<Seen>, Trouble> {
         look(&self.rt, path)
     }
@@ -289,4 +293,6 @@ impl<R: Files + AllocGlobal + Clone + Drop> Folder for SystemFolder<R> {
         let folder = done(Call::Open, fs::open(&self.rt, path))?;
         done(Call::Flush, folder.sync_all())
     }
+
+    ghost keeps = { λ _ _ _ _ firm _. absurd (firm tt) };
 }

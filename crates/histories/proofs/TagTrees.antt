@@ -12,7 +12,9 @@ use Rattle.store_api.proofs.Standing.{standing}
 use Rattle.histories.specs.Repository.{Entry}
 use Rattle.histories.specs.Calls.{HasItsTree, StandsAs}
 use Rattle.histories.specs.Tags.{TagState, Absent, Stands, Gone, made_as, GoesOnAs}
-use Rattle.histories.specs.TagCalls.{tag_of, IsBuriedAs, StandsByState, KeepsItsTree}
+use Rattle.histories.specs.TagCalls.{tag_of, IsBuriedAs, StandsByState}
+use Rattle.histories.specs.Formats.{files_by}
+use Rattle.histories.specs.Laws.{KeepsItsTree}
 use Rattle.histories.proofs.Tagging.{never-moves, tags-law}
 
 pub entry-same : (a b : Entry) → a.version ≡ b.version → a.id ≡ b.id → a.tree ≡ b.tree → a ≡ b
@@ -23,7 +25,7 @@ entry-same a b v i t =
 
 -- two states beside the same store, by trees that agree on the snapshot that is named there
 module _ (T U : Id12 → Option Tree) (at : Option Stored) (agree : (x : Stored) (id : Id12) → at ≡ Some x → ref_of x.bytes ≡ Some id → T id ≡ U id) where
-  made-same : (a b : Option Entry) → (o : Option Stored) → at ≡ o → StandsAs o a → StandsAs o b → HasItsTree T a → HasItsTree U b → a ≡ b
+  made-same : (a b : Option Entry) → (o : Option Stored) → at ≡ o → StandsAs (files_by T) o a → StandsAs (files_by U) o b → HasItsTree T a → HasItsTree U b → a ≡ b
   made-same None None o e h k t u = refl
   made-same None (Some y) None e h k t u = absurd k
   made-same None (Some y) (Some x) e h k t u = absurd h
@@ -49,7 +51,7 @@ module _ (T U : Id12 → Option Tree) (at : Option Stored) (agree : (x : Stored)
 
 pub keeps-its-tree : KeepsItsTree
 keeps-its-tree journal more name good once goods firsts =
-    subst (λ (s : TagState). GoesOnAs s (tag_of (tree_of (journal ++ more)) (journal ++ more) name)) same (never-moves (tree_of (journal ++ more)) journal more name)
+    subst (λ (s : TagState). GoesOnAs s (tag_of (files_by (tree_of (journal ++ more))) (journal ++ more) name)) same (never-moves (files_by (tree_of (journal ++ more))) journal more name)
   where
     agree : (x : Stored) (id : Id12) → found journal (Tag name) ≡ Some x → ref_of x.bytes ≡ Some id → tree_of (journal ++ more) id ≡ tree_of journal id
     agree x id e r =
@@ -58,10 +60,10 @@ keeps-its-tree journal more name good once goods firsts =
         let same : put.id ≡ id = cc in
         subst (λ (i : Id12). tree_of (journal ++ more) i ≡ tree_of journal i) same (standing put.id journal more once put.put goods firsts)
 
-    same : tag_of (tree_of (journal ++ more)) journal name ≡ tag_of (tree_of journal) journal name
+    same : tag_of (files_by (tree_of (journal ++ more))) journal name ≡ tag_of (files_by (tree_of journal)) journal name
     same =
-        let new : StandsByState (tree_of (journal ++ more)) journal name = (tags-law (tree_of (journal ++ more)) journal good).1 name in
-        let old : StandsByState (tree_of journal) journal name = (tags-law (tree_of journal) journal good).1 name in
-        state-same (tree_of (journal ++ more)) (tree_of journal) (found journal (Tag name)) agree (tag_of (tree_of (journal ++ more)) journal name) (tag_of (tree_of journal) journal name) (found journal (Tombstone name))
-        (made-same (tree_of (journal ++ more)) (tree_of journal) (found journal (Tag name)) agree (made_as (tag_of (tree_of (journal ++ more)) journal name)) (made_as (tag_of (tree_of journal) journal name)) (found journal (Tag name)) refl new.tag old.tag new.tree old.tree)
+        let new : StandsByState (files_by (tree_of (journal ++ more))) journal name = (tags-law (tree_of (journal ++ more)) journal good).1 name in
+        let old : StandsByState (files_by (tree_of journal)) journal name = (tags-law (tree_of journal) journal good).1 name in
+        state-same (tree_of (journal ++ more)) (tree_of journal) (found journal (Tag name)) agree (tag_of (files_by (tree_of (journal ++ more))) journal name) (tag_of (files_by (tree_of journal)) journal name) (found journal (Tombstone name))
+        (made-same (tree_of (journal ++ more)) (tree_of journal) (found journal (Tag name)) agree (made_as (tag_of (files_by (tree_of (journal ++ more))) journal name)) (made_as (tag_of (files_by (tree_of journal)) journal name)) (found journal (Tag name)) refl new.tag old.tag new.tree old.tree)
         new.tombstone old.tombstone

@@ -17,23 +17,26 @@ use Rattle.object_store.proofs.Slots.{bytes-true, same_key-true, slot-append_one
 use Rattle.histories.specs.Repository.{Entry}
 use Rattle.histories.specs.Calls.{HasItsTree, StandsAs}
 use Rattle.histories.specs.Tags.{TagState, Absent, Stands, Gone, made_as, TagCall, Open, Make, Drop, tag_called, GoesOnAs}
-use Rattle.histories.specs.TagCalls.{tag_call, tag_called_if, tag_after, tag_along, tag_of, IsBuriedAs, GotTag, PutTag, GotTombstone, PutTombstone, TagAgrees, TagsLaw, NeverMoves}
+use Rattle.histories.specs.TagCalls.{tag_call, tag_called_if, tag_after, tag_along, tag_of, IsBuriedAs, GotTag, PutTag, GotTombstone, PutTombstone, TagAgrees}
+use Rattle.histories.specs.Files.{Files}
+use Rattle.histories.specs.Formats.{files_by}
+use Rattle.histories.specs.Laws.{TagsLaw, NeverMoves}
 use Rattle.histories.proofs.Linked.{told, unless-failed}
 
 -- ---- states along journals
-module _ (trees : Id12 → Option Tree) (name : List ℕ) where
-  along-append : (n : ℕ) (s : TagState) (xs ys : List Event) → tag_along trees name n s (xs ++ ys) ≡ tag_along trees name (n + length xs) (tag_along trees name n s xs) ys
+module _ (files : Files) (name : List ℕ) where
+  along-append : (n : ℕ) (s : TagState) (xs ys : List Event) → tag_along files name n s (xs ++ ys) ≡ tag_along files name (n + length xs) (tag_along files name n s xs) ys
   unfolding tag_along
   along-append n s [] ys = rw add-zero
   along-append n s (x ∷ xs) ys =
       let e : (n + 1) + length xs ≡ n + length (x ∷ xs) = omega arith in
-      along-append (n + 1) (tag_after trees name n s x) xs ys ∙ ap (λ (k : ℕ). tag_along trees name k (tag_along trees name (n + 1) (tag_after trees name n s x) xs) ys) e
+      along-append (n + 1) (tag_after files name n s x) xs ys ∙ ap (λ (k : ℕ). tag_along files name k (tag_along files name (n + 1) (tag_after files name n s x) xs) ys) e
 
-  pub tag-append : (journal more : List Event) → tag_of trees (journal ++ more) name ≡ tag_along trees name (length journal) (tag_of trees journal name) more
+  pub tag-append : (journal more : List Event) → tag_of files (journal ++ more) name ≡ tag_along files name (length journal) (tag_of files journal name) more
   unfolding tag_of
-  tag-append journal more = along-append 0 Absent journal more ∙ ap (λ (k : ℕ). tag_along trees name k (tag_along trees name 0 Absent journal) more) (omega arith)
+  tag-append journal more = along-append 0 Absent journal more ∙ ap (λ (k : ℕ). tag_along files name k (tag_along files name 0 Absent journal) more) (omega arith)
 
-  tag-append_one : (journal : List Event) (event : Event) → tag_of trees (journal ++ event ∷ []) name ≡ tag_after trees name (length journal) (tag_of trees journal name) event
+  tag-append_one : (journal : List Event) (event : Event) → tag_of files (journal ++ event ∷ []) name ≡ tag_after files name (length journal) (tag_of files journal name) event
   unfolding tag_along
   tag-append_one journal event = tag-append journal (event ∷ [])
 
@@ -49,7 +52,7 @@ module _ (trees : Id12 → Option Tree) (name : List ℕ) where
   goes-further (Stands e) b c (inr h) k = inr (subst (λ (s : TagState). GoesOnAs s c) h k)
   goes-further (Gone e) b c h k = subst (λ (s : TagState). GoesOnAs s c) h k
 
-  called-goes : (n : ℕ) (call : TagCall) (s : TagState) → GoesOnAs s (tag_called trees n call s)
+  called-goes : (n : ℕ) (call : TagCall) (s : TagState) → GoesOnAs s (tag_called files.tree n call s)
   called-goes n call Absent = tt
   called-goes n Open (Stands e) = inl refl
   called-goes n (Make id) (Stands e) = inl refl
@@ -58,22 +61,22 @@ module _ (trees : Id12 → Option Tree) (name : List ℕ) where
   called-goes n (Make id) (Gone e) = refl
   called-goes n Drop (Gone e) = refl
 
-  after-goes : (n : ℕ) (s : TagState) (event : Event) → GoesOnAs s (tag_after trees name n s event)
+  after-goes : (n : ℕ) (s : TagState) (event : Event) → GoesOnAs s (tag_after files name n s event)
   unfolding tag_after
-  after-goes n s event = by_done (was_done event.reply) (tag_call name event.op)
+  after-goes n s event = by_done (was_done event.reply) (tag_call files name event.op)
     where
-      by_done : (b : Bool) (call : Option TagCall) → GoesOnAs s (cond b (tag_called_if trees n call s) s)
+      by_done : (b : Bool) (call : Option TagCall) → GoesOnAs s (cond b (tag_called_if files.tree n call s) s)
       by_done true None = goes-on s
       by_done true (Some call) = called-goes n call s
       by_done false call = goes-on s
 
-  along-goes : (n : ℕ) (s : TagState) (events : List Event) → GoesOnAs s (tag_along trees name n s events)
+  along-goes : (n : ℕ) (s : TagState) (events : List Event) → GoesOnAs s (tag_along files name n s events)
   unfolding tag_along
   along-goes n s [] = goes-on s
-  along-goes n s (x ∷ xs) = goes-further s (tag_after trees name n s x) _ (after-goes n s x) (along-goes (n + 1) (tag_after trees name n s x) xs)
+  along-goes n s (x ∷ xs) = goes-further s (tag_after files name n s x) _ (after-goes n s x) (along-goes (n + 1) (tag_after files name n s x) xs)
 
 pub never-moves : NeverMoves
-never-moves trees journal more name = subst (λ (s : TagState). GoesOnAs (tag_of trees journal name) s) (sym (tag-append trees name journal more)) (along-goes trees name (length journal) (tag_of trees journal name) more)
+never-moves files journal more name = subst (λ (s : TagState). GoesOnAs (tag_of files journal name) s) (sym (tag-append files name journal more)) (along-goes files name (length journal) (tag_of files journal name) more)
 
 -- ---- a tag that was put is there
 module _ (name : List ℕ) where
@@ -93,7 +96,7 @@ module _ (name : List ℕ) where
 
 -- ---- what stands beside a state
 pub record Beside (trees : Id12 → Option Tree) (s : TagState) (tag tombstone : Option Stored) : Type 0 where
-  pub stands : StandsAs tag (made_as s)
+  pub stands : StandsAs (files_by trees) tag (made_as s)
   pub buried : IsBuriedAs s tombstone
   pub tree : HasItsTree trees (made_as s)
 
@@ -107,14 +110,14 @@ cond-same true x = refl
 cond-same false x = refl
 
 -- a state at which something is there was made
-was-made : (s : TagState) (x : Stored) → StandsAs (Some x) (made_as s) → (e : Entry) × (made_as s ≡ Some e)
-was-made Absent x h = absurd h
-was-made (Stands e) x h = (e, refl)
-was-made (Gone e) x h = (e, refl)
+was-made : (files : Files) (s : TagState) (x : Stored) → StandsAs files (Some x) (made_as s) → (e : Entry) × (made_as s ≡ Some e)
+was-made files Absent x h = absurd h
+was-made files (Stands e) x h = (e, refl)
+was-made files (Gone e) x h = (e, refl)
 
 module _ (trees : Id12 → Option Tree) where
   -- a put of the tag
-  make-cases : (n : ℕ) (id : Id12) (s : TagState) (at tombstone : Option Stored) (new slot : Slot) → StandsAs at (made_as s) → Beside trees s slot.stands tombstone → StandsAs new.stands (Some (record { version = n; id = id; tree = trees id })) → Beside trees (tag_called trees n (Make id) s) (where_free at new slot).stands tombstone
+  make-cases : (n : ℕ) (id : Id12) (s : TagState) (at tombstone : Option Stored) (new slot : Slot) → StandsAs (files_by trees) at (made_as s) → Beside trees s slot.stands tombstone → StandsAs (files_by trees) new.stands (Some (record { version = n; id = id; tree = trees id })) → Beside trees (tag_called trees n (Make id) s) (where_free at new slot).stands tombstone
   make-cases n id Absent None tombstone new slot h b put = record { stands = put; buried = b.buried; tree = refl }
   make-cases n id Absent (Some x) tombstone new slot h b put = absurd h
   make-cases n id (Stands e) None tombstone new slot h b put = absurd h
@@ -148,7 +151,7 @@ module _ (trees : Id12 → Option Tree) where
     tombstone-put time tag bytes why p true e = drop-cases (length journal) s (found journal (Tombstone name)) (found journal (Tag name)) (put_at (length journal) time bytes (slot_of journal (Tombstone name))) (slot_of journal (Tombstone name)) _ beside.buried (made (subst (λ (t : List ℕ). WasPut journal (Tag t)) (bytes-true tag name e) p)) beside refl
     tombstone-put time tag bytes why p false e = beside
 
-    op-beside : (time : ℕ) (op : Op) → IsPolite journal op → After (tag_called_if trees (length journal) (tag_call name op) s) time op
+    op-beside : (time : ℕ) (op : Op) → IsPolite journal op → After (tag_called_if trees (length journal) (tag_call (files_by trees) name op) s) time op
     op-beside time (Get key) p = rw (cond-same (is_on (Tag name) (Get key)) (slot_of journal (Tag name)), cond-same (is_on (Tombstone name) (Get key)) (slot_of journal (Tombstone name))) beside
     op-beside time (PutNew (Tag tag) bytes why) p = tag-put time tag bytes why p (bytes_eq tag name) refl
     op-beside time (PutNew (Tombstone tag) bytes why) p = tombstone-put time tag bytes why p (bytes_eq tag name) refl
@@ -164,26 +167,26 @@ module _ (trees : Id12 → Option Tree) where
     op-beside time (RemoveAt _ old why) p = beside
     op-beside time (ListPart part) p = beside
 
-    event-beside : (event : Event) → IsPolite journal event.op → Beside trees (tag_after trees name (length journal) s event) (effect (Tag name) (length journal) (slot_of journal (Tag name)) event).stands (effect (Tombstone name) (length journal) (slot_of journal (Tombstone name)) event).stands
+    event-beside : (event : Event) → IsPolite journal event.op → Beside trees (tag_after (files_by trees) name (length journal) s event) (effect (Tag name) (length journal) (slot_of journal (Tag name)) event).stands (effect (Tombstone name) (length journal) (slot_of journal (Tombstone name)) event).stands
     unfolding tag_after effect
     event-beside event p = by_done (was_done event.reply)
       where
-        by_done : (b : Bool) → Beside trees (cond b (tag_called_if trees (length journal) (tag_call name event.op) s) s) (cond (is_on (Tag name) event.op) (cond b (leaves (length journal) event.time event.op (slot_of journal (Tag name))) (slot_of journal (Tag name))) (slot_of journal (Tag name))).stands (cond (is_on (Tombstone name) event.op) (cond b (leaves (length journal) event.time event.op (slot_of journal (Tombstone name))) (slot_of journal (Tombstone name))) (slot_of journal (Tombstone name))).stands
+        by_done : (b : Bool) → Beside trees (cond b (tag_called_if trees (length journal) (tag_call (files_by trees) name event.op) s) s) (cond (is_on (Tag name) event.op) (cond b (leaves (length journal) event.time event.op (slot_of journal (Tag name))) (slot_of journal (Tag name))) (slot_of journal (Tag name))).stands (cond (is_on (Tombstone name) event.op) (cond b (leaves (length journal) event.time event.op (slot_of journal (Tombstone name))) (slot_of journal (Tombstone name))) (slot_of journal (Tombstone name))).stands
         by_done true = op-beside event.time event.op p
         by_done false = rw (cond-same (is_on (Tag name) event.op) (slot_of journal (Tag name)), cond-same (is_on (Tombstone name) event.op) (slot_of journal (Tombstone name))) beside
 
 -- ---- answers
-got-tag : (now : ℕ) (at : Option Stored) (l : Option Entry) → StandsAs at l → GotTag l (Is_got (got_of now at))
-got-tag now None None h = (now, refl)
-got-tag now None (Some e) h = absurd h
-got-tag now (Some x) None h = absurd h
-got-tag now (Some x) (Some e) h = record { bytes = x.bytes; now = now; is = ap (λ (v : ℕ). Is_got (got_of now (Some (record x { version = v })))) h.0; names = h.1 }
+got-tag : (files : Files) (now : ℕ) (at : Option Stored) (l : Option Entry) → StandsAs files at l → GotTag files l (Is_got (got_of now at))
+got-tag files now None None h = (now, refl)
+got-tag files now None (Some e) h = absurd h
+got-tag files now (Some x) None h = absurd h
+got-tag files now (Some x) (Some e) h = record { bytes = x.bytes; now = now; is = ap (λ (v : ℕ). Is_got (got_of now (Some (record x { version = v })))) h.0; names = h.1 }
 
-put-tag : (n now : ℕ) (at : Option Stored) (l : Option Entry) → StandsAs at l → PutTag n l (Is_new (new_of n now at))
-put-tag n now None None h = (now, refl)
-put-tag n now None (Some e) h = absurd h
-put-tag n now (Some x) None h = absurd h
-put-tag n now (Some x) (Some e) h = (now, ap (λ (v : ℕ). Is_new (new_of n now (Some (record x { version = v })))) h.0)
+put-tag : (files : Files) (n now : ℕ) (at : Option Stored) (l : Option Entry) → StandsAs files at l → PutTag n l (Is_new (new_of n now at))
+put-tag files n now None None h = (now, refl)
+put-tag files n now None (Some e) h = absurd h
+put-tag files n now (Some x) None h = absurd h
+put-tag files n now (Some x) (Some e) h = (now, ap (λ (v : ℕ). Is_new (new_of n now (Some (record x { version = v })))) h.0)
 
 got-tombstone : (now : ℕ) (at : Option Stored) (s : TagState) → IsBuriedAs s at → GotTombstone s (Is_got (got_of now at))
 got-tombstone now at Absent h = (now, ap (λ o. Is_got (got_of now o)) h)
@@ -198,45 +201,45 @@ put-tombstone n now at (Gone e) h m = (h.0.version, now, ap (λ o. Is_new (new_o
 module _ (trees : Id12 → Option Tree) where
   -- what stands at a tag is as its state says, and one that was put is there
   pub record IsRun (journal : List Event) (name : List ℕ) : Type 0 where
-    pub beside : Beside trees (tag_of trees journal name) (found journal (Tag name)) (found journal (Tombstone name))
+    pub beside : Beside trees (tag_of (files_by trees) journal name) (found journal (Tag name)) (found journal (Tombstone name))
     pub unused : Unused name (slot_of journal (Tag name))
 
   abbrev AllRun : List Event → Type 0
   AllRun journal = (name : List ℕ) → IsRun journal name
 
   -- a tag that was put was made
-  put-made : (journal : List Event) (name : List ℕ) → IsRun journal name → WasPut journal (Tag name) → (e : Entry) × (made_as (tag_of trees journal name) ≡ Some e)
+  put-made : (journal : List Event) (name : List ℕ) → IsRun journal name → WasPut journal (Tag name) → (e : Entry) × (made_as (tag_of (files_by trees) journal name) ≡ Some e)
   put-made journal name r w = there (found journal (Tag name)) refl
     where
-      there : (o : Option Stored) → found journal (Tag name) ≡ o → (e : Entry) × (made_as (tag_of trees journal name) ≡ Some e)
+      there : (o : Option Stored) → found journal (Tag name) ≡ o → (e : Entry) × (made_as (tag_of (files_by trees) journal name) ≡ Some e)
       there None f = let never : first_put journal (Tag name) ≡ None = r.unused f in let first = w.1 in cc
-      there (Some x) f = was-made (tag_of trees journal name) x (subst (λ (o : Option Stored). StandsAs o (made_as (tag_of trees journal name))) f r.beside.stands)
+      there (Some x) f = was-made (files_by trees) (tag_of (files_by trees) journal name) x (subst (λ (o : Option Stored). StandsAs (files_by trees) o (made_as (tag_of (files_by trees) journal name))) f r.beside.stands)
 
-  agrees-one : (journal : List Event) (event : Event) → AllRun journal → IsGood journal event → TagAgrees trees journal event
+  agrees-one : (journal : List Event) (event : Event) → AllRun journal → IsGood journal event → TagAgrees (files_by trees) journal event
   agrees-one journal event run good = record {
-    got = λ name e. unless-failed _ _ (λ r h. told (GotTag (made_as (tag_of trees journal name))) _ r (got-tag event.time (found journal (Tag name)) (made_as (tag_of trees journal name)) (run name).beside.stands) h) event.reply (answered (Get (Tag name)) e);
-    put = λ name bytes why e. unless-failed _ _ (λ r h. told (PutTag (length journal) (made_as (tag_of trees journal name))) _ r (put-tag (length journal) event.time (found journal (Tag name)) (made_as (tag_of trees journal name)) (run name).beside.stands) h) event.reply (answered (PutNew (Tag name) bytes why) e);
-    got_tombstone = λ name e. unless-failed _ _ (λ r h. told (GotTombstone (tag_of trees journal name)) _ r (got-tombstone event.time (found journal (Tombstone name)) (tag_of trees journal name) (run name).beside.buried) h) event.reply (answered (Get (Tombstone name)) e);
-    put_tombstone = λ name bytes why e. unless-failed _ _ (λ r h. told (PutTombstone (length journal) (tag_of trees journal name)) _ r (put-tombstone (length journal) event.time (found journal (Tombstone name)) (tag_of trees journal name) (run name).beside.buried (after name bytes why e)) h) event.reply (answered (PutNew (Tombstone name) bytes why) e);
+    got = λ name e. unless-failed _ _ (λ r h. told (GotTag (files_by trees) (made_as (tag_of (files_by trees) journal name))) _ r (got-tag (files_by trees) event.time (found journal (Tag name)) (made_as (tag_of (files_by trees) journal name)) (run name).beside.stands) h) event.reply (answered (Get (Tag name)) e);
+    put = λ name bytes why e. unless-failed _ _ (λ r h. told (PutTag (length journal) (made_as (tag_of (files_by trees) journal name))) _ r (put-tag (files_by trees) (length journal) event.time (found journal (Tag name)) (made_as (tag_of (files_by trees) journal name)) (run name).beside.stands) h) event.reply (answered (PutNew (Tag name) bytes why) e);
+    got_tombstone = λ name e. unless-failed _ _ (λ r h. told (GotTombstone (tag_of (files_by trees) journal name)) _ r (got-tombstone event.time (found journal (Tombstone name)) (tag_of (files_by trees) journal name) (run name).beside.buried) h) event.reply (answered (Get (Tombstone name)) e);
+    put_tombstone = λ name bytes why e. unless-failed _ _ (λ r h. told (PutTombstone (length journal) (tag_of (files_by trees) journal name)) _ r (put-tombstone (length journal) event.time (found journal (Tombstone name)) (tag_of (files_by trees) journal name) (run name).beside.buried (after name bytes why e)) h) event.reply (answered (PutNew (Tombstone name) bytes why) e);
     after_tag = after;
   }
     where
       answered : (op : Op) → event.op ≡ op → UnlessFailed (IsHonest (found journal) (length journal) event.time op) event.reply
       answered op e = subst (λ (o : Op). UnlessFailed (IsHonest (found journal) (length journal) event.time o) event.reply) e good.legal.answered
 
-      after : (name bytes : List ℕ) (why : Why) → event.op ≡ PutNew (Tombstone name) bytes why → (e : Entry) × (made_as (tag_of trees journal name) ≡ Some e)
+      after : (name bytes : List ℕ) (why : Why) → event.op ≡ PutNew (Tombstone name) bytes why → (e : Entry) × (made_as (tag_of (files_by trees) journal name) ≡ Some e)
       after name bytes why e = put-made journal name (run name) (subst (λ (o : Op). IsPolite journal o) e good.polite)
 
   run-one : (journal : List Event) (event : Event) → AllRun journal → IsGood journal event → AllRun (journal ++ event ∷ [])
   run-one journal event run good name =
-      let b = event-beside trees journal name (tag_of trees journal name) (run name).beside (put-made journal name (run name)) event good.polite in
+      let b = event-beside trees journal name (tag_of (files_by trees) journal name) (run name).beside (put-made journal name (run name)) event good.polite in
       record {
-        beside = Beside-same trees _ _ (slot_of (journal ++ event ∷ []) (Tag name)) _ (slot_of (journal ++ event ∷ []) (Tombstone name)) _ (tag-append_one trees name journal event) (slot-append_one journal event (Tag name)) (slot-append_one journal event (Tombstone name)) b;
+        beside = Beside-same trees _ _ (slot_of (journal ++ event ∷ []) (Tag name)) _ (slot_of (journal ++ event ∷ []) (Tombstone name)) _ (tag-append_one (files_by trees) name journal event) (slot-append_one journal event (Tag name)) (slot-append_one journal event (Tombstone name)) b;
         unused = subst (Unused name) (sym (slot-append_one journal event (Tag name))) (effect-unused name journal event good.polite (run name).unused);
       }
 
   pub record Along (old more : List Event) : Type 0 where
-    pub answers : Each (TagAgrees trees) old more
+    pub answers : Each (TagAgrees (files_by trees)) old more
     pub run : AllRun (old ++ more)
 
   along : (old more : List Event) → AllRun old → Each IsGood old more → Along old more

@@ -2,7 +2,10 @@
 use Rattle.std.specs.Prelude.{ℕ, ◌==◌, if◌then◌else◌, List, [], ◌∷◌, Option, Some, None, option_map}
 use Rattle.ice_ids.specs.declared.Id12.{Id12}
 use Rattle.zarr_tree.specs.Trees.{Tree}
-use Rattle.zarr_tree.specs.Changes.{Changes, apply}
+
+-- what a commit makes of the tree before it
+abbrev pub Change : Type 0
+Change = Tree → Tree
 
 -- what a branch named from some version on: a snapshot, and the tree that it has, if it is readable
 pub record Entry : Type 0 where
@@ -22,7 +25,7 @@ last (e ∷ es) = e
 pub data Call : Type 0 where
   Open : Call
   Create : (id : Id12) → Call
-  Commit : (old : ℕ) (id : Id12) → Changes → Call
+  Commit : (old : ℕ) (id : Id12) → Change → Call
   Reset : (old : ℕ) (id : Id12) → Call
   Drop : (old : ℕ) → Call
 
@@ -61,7 +64,7 @@ tree_at (Some e) = e.tree
 abbrev pub appended : (Id12 → Option Tree) → ℕ → Call → Option Entry → Option Entry
 appended trees n Open l = l
 appended trees n (Create id) l = Some (record { version = n; id = id; tree = trees id })
-appended trees n (Commit old id c) l = Some (record { version = n; id = id; tree = option_map (apply c) (tree_at l) })
+appended trees n (Commit old id c) l = Some (record { version = n; id = id; tree = option_map c (tree_at l) })
 appended trees n (Reset old id) l = Some (record { version = n; id = id; tree = trees id })
 appended trees n (Drop old) l = None
 

@@ -2,8 +2,7 @@
 //! object, file or retry.
 #![tactic(auto)]
 
-ghost use Rattle.histories.specs.Calls.{HistoryLaw};
-ghost use Rattle.histories.specs.TagCalls.{TagsLaw, NeverMoves, KeepsItsTree};
+ghost use Rattle.histories.specs.Laws.{HistoryLaw, TagsLaw, NeverMoves, KeepsItsTree};
 
 /// In a legal polite journal that puts nothing again, each call on a branch got the answer of the
 /// branch's history, each entry has its snapshot's tree, and each commit that took effect has the

@@ -1,18 +1,20 @@
 //! A store in a directory of the system, in a type of its own.
 
-ghost use Rattle.std.specs.Prelude.{◌≡◌, false, refl};
-ghost use Rattle.dir_store.specs.Store.{view_of};
+ghost use Rattle.std.specs.Prelude.{◌≡◌, false, refl, IfOk};
+ghost use Rattle.object_store.specs.Callers.{Called};
+ghost use Rattle.dir_store.specs.Store.{view_of, operations_of, IsMade, IsRightGot, IsRightNew, IsRightOver, IsRightGoneAt};
+ghost use Rattle.dir_store.specs.Listings.{IsListed};
 
 use dir_store::{DirStore, FirstFault};
 use ice_base::Clock;
 use std::rt::Files;
 use store_api::{
-    CountingStore, Gone, GoneAt, Got, Key, Listed, New, ObjectStore, Over, Part, Rule, StoreFault,
-    Version, Viewed, WholeStore, Why,
+    CountingStore, Gone, GoneAt, Got, Key, Listed, New, ObjectStore, Op, Over, Part, Reply, Rule,
+    StoreFault, Version, Viewed, WholeStore, Why,
 };
 
-/// A store in a directory of the system. Each call is that of [`DirStore`]; the type names no folder, so that threads that share
-/// such a store ask only for files.
+/// A store in a directory of the system. Each call is that of [`DirStore`], with its clauses on answers; the type names no folder,
+/// so that threads that share such a store ask only for files.
 #[derive(Drop)]
 pub struct SystemStore<R, C> {
     store: DirStore<R, C>,
@@ -40,11 +42,19 @@ impl<R: Files + AllocGlobal + Clone + Drop, C: Clock> Viewed for SystemStore<R, 
 
 impl<L: Rule, R: Files + AllocGlobal + Clone + Drop, C: Clock> ObjectStore<L>
     for SystemStore<R, C> {
-    fn get(&mut self, key: &Key) -> Result<Got, StoreFault> {
+    fn get(&mut self, key: &Key) -> Result<Got, StoreFault>
+        ensures call { Called L.may (λ a. Reply.Got a) (Op.Get key.now) result (view_of self.old.store) (view_of self.new.store) }
+        ensures content { IfOk result (IsRightGot key.now) }
+        ensures made { IsMade result (operations_of self.old.store) (operations_of self.new.store) }
+    {
         ObjectStore::<L>::get(&mut self.store, key)
     }
 
-    fn put_new(&mut self, key: &Key, bytes: &[u8], why: Why) -> Result<New, StoreFault> {
+    fn put_new(&mut self, key: &Key, bytes: &[u8], why: Why) -> Result<New, StoreFault>
+        ensures call { Called L.may (λ a. Reply.New a) (Op.PutNew key.now bytes.now why) result (view_of self.old.store) (view_of self.new.store) }
+        ensures content { IfOk result (IsRightNew key.now bytes.now) }
+        ensures made { IsMade result (operations_of self.old.store) (operations_of self.new.store) }
+    {
         ObjectStore::<L>::put_new(&mut self.store, key, bytes, why)
     }
 
@@ -54,19 +64,34 @@ impl<L: Rule, R: Files + AllocGlobal + Clone + Drop, C: Clock> ObjectStore<L>
         bytes: &[u8],
         old: Version,
         why: Why,
-    ) -> Result<Over, StoreFault> {
+    ) -> Result<Over, StoreFault>
+        ensures call { Called L.may (λ a. Reply.Over a) (Op.PutOver key.now bytes.now old why) result (view_of self.old.store) (view_of self.new.store) }
+        ensures content { IfOk result (IsRightOver key.now bytes.now old) }
+        ensures made { IsMade result (operations_of self.old.store) (operations_of self.new.store) }
+    {
         ObjectStore::<L>::put_over(&mut self.store, key, bytes, old, why)
     }
 
-    fn remove(&mut self, key: &Key, why: Why) -> Result<Gone, StoreFault> {
+    fn remove(&mut self, key: &Key, why: Why) -> Result<Gone, StoreFault>
+        ensures call { Called L.may (λ a. Reply.Gone a) (Op.Remove key.now why) result (view_of self.old.store) (view_of self.new.store) }
+        ensures made { IsMade result (operations_of self.old.store) (operations_of self.new.store) }
+    {
         ObjectStore::<L>::remove(&mut self.store, key, why)
     }
 
-    fn remove_at(&mut self, key: &Key, old: Version, why: Why) -> Result<GoneAt, StoreFault> {
+    fn remove_at(&mut self, key: &Key, old: Version, why: Why) -> Result<GoneAt, StoreFault>
+        ensures call { Called L.may (λ a. Reply.GoneAt a) (Op.RemoveAt key.now old why) result (view_of self.old.store) (view_of self.new.store) }
+        ensures content { IfOk result (IsRightGoneAt old) }
+        ensures made { IsMade result (operations_of self.old.store) (operations_of self.new.store) }
+    {
         ObjectStore::<L>::remove_at(&mut self.store, key, old, why)
     }
 
-    fn list(&mut self, part: Part) -> Result<Listed, StoreFault> {
+    fn list(&mut self, part: Part) -> Result<Listed, StoreFault>
+        ensures call { Called L.may (λ a. Reply.Listed a) (Op.List part) result (view_of self.old.store) (view_of self.new.store) }
+        ensures content { IfOk result (λ listed. IsListed part listed.entries) }
+        ensures made { IsMade result (operations_of self.old.store) (operations_of self.new.store) }
+    {
         ObjectStore::<L>::list(&mut self.store, part)
     }
 }

@@ -1,53 +1,19 @@
 //! Tasks at once: two workers that meet, and sixty-four that commit on one branch.
 
+use crate::checking::{holds, says};
+use crate::gates::Meeting;
 use crate::runs::{Asked, perform, report, script};
 use crate::untold::Untold;
 use ice_base::{Bytes, TickClock};
 use ice_ids::{Draw, Id12};
 use mem_store::{EventRef, MemStore, ReplyRef};
-use play_at_once::{Gate, OpenGate};
 use ref_file::ref_read;
 use snapshot_file::SnapshotFile;
 use std::alloc::{AllocError, Global};
-use std::hint::spin_loop;
 use std::sync::Wait;
-use std::sync::atomic::{AtomicU64, Ordering};
 use std::test::Fail;
 use std::thread::Threads;
 use store_api::{Got, Key, ObjectStore, Op, Over, Polite, StoreFault, Version};
-
-/// The most turns that a client waits for the other one.
-const MOST_TURNS: u32 = 200_000_000;
-
-/// A gate that holds each of two clients before its first step until the other one is there too, or so many turns are over.
-#[derive(Drop)]
-struct Meeting {
-    first: AtomicU64,
-    second: AtomicU64,
-    met: AtomicU64,
-}
-
-impl Gate for Meeting {
-    fn hold<R: Wait>(&self, rt: &R, client: u32, steps: u64) {
-        let _ = rt;
-        if steps > 0 {
-            return;
-        }
-        let (own, other) = if client == 1 {
-            (&self.first, &self.second)
-        } else {
-            (&self.second, &self.first)
-        };
-        own.store(1, Ordering::SeqCst);
-        for _ in 0..MOST_TURNS {
-            if other.load(Ordering::SeqCst) == 1 {
-                self.met.fetch_add(1, Ordering::SeqCst);
-                return;
-            }
-            spin_loop();
-        }
-    }
-}
 
 const TWO: &str = "task a write main 0 fail\ngroup /\ntask b write main 0 fail\ngroup /\n";
 
@@ -56,7 +22,7 @@ fn report_of_two<R: Threads + Wait + Sync>(
     rt: &R,
     alloc: Global,
     gate: &Meeting,
-) -> Result<String, AllocError> {
+) -> Option<String> {
     let mut asked = script(alloc, TWO)?;
     let store = Untold::new(alloc, None);
     drop(perform(rt, alloc, Draw::Count, &mut asked, store, gate));
@@ -67,18 +33,12 @@ fn report_of_two<R: Threads + Wait + Sync>(
 
 #[test]
 fn two_workers_meet(rt: HostRuntime) -> Result<(), Fail> {
-    let gate = Meeting {
-        first: AtomicU64::new(0),
-        second: AtomicU64::new(0),
-        met: AtomicU64::new(0),
-    };
-    let report = report_of_two(&rt, rt.alloc(), &gate)?;
-    assert_eq!(rt; gate.met.load(Ordering::SeqCst), 2);
-    assert_eq!(rt;
-        report.as_str(),
-        "a done\nb done\nbranch main 1CECHNKREP0F1RSTCMT0\n"
-    );
-    Ok(())
+    let gate = Meeting::new(true);
+    let report = report_of_two(&rt, rt.alloc(), &gate);
+    let met = gate.met();
+    drop(gate);
+    says(report, "a done\nb done\nbranch main 1CECHNKREP0F1RSTCMT0\n")?;
+    holds(met == 2, "two have met")
 }
 
 /// A commit on `main`: whose it is, the version that it was put over, its own, and the snapshot.
@@ -90,33 +50,46 @@ struct Entry {
     snapshot: Id12,
 }
 
-/// The commit that this event is, if it is one.
-fn entry_of(alloc: Global, event: EventRef<'_>) -> Result<Option<Entry>, Fail> {
-    match (event.op, event.reply) {
-        (
-            Op::PutOver {
-                key: Key::Branch(_),
-                bytes,
-                old,
-                ..
-            },
-            ReplyRef::Over(Over::Done { version, .. }),
-        ) => Ok(Some(Entry {
-            client: event.client,
-            old: *old,
-            version,
-            snapshot: ref_read(alloc, bytes.as_slice())?,
-        })),
-        _ => Ok(None),
+/// The bytes that an operation puts over a version of a branch.
+fn put_of(op: &Op) -> Option<(&Bytes, Version)> {
+    match op {
+        Op::PutOver {
+            key: Key::Branch(_),
+            bytes,
+            old,
+            ..
+        } => Some((bytes, *old)),
+        _ => None,
     }
 }
 
+/// The version that was put.
+fn version_of(reply: ReplyRef<'_>) -> Option<Version> {
+    match reply {
+        ReplyRef::Over(Over::Done { version, .. }) => Some(version),
+        _ => None,
+    }
+}
+
+/// The commit that this event is, if it is one.
+fn entry_of(alloc: Global, event: EventRef<'_>) -> Option<Entry> {
+    let (bytes, old) = put_of(event.op)?;
+    let version = version_of(event.reply)?;
+    let snapshot = ref_read(alloc, bytes.as_slice()).ok()?;
+    Some(Entry {
+        client: event.client,
+        old,
+        version,
+        snapshot,
+    })
+}
+
 /// The commits of a journal whose one branch is `main`, in their order.
-fn entries(alloc: Global, memory: &MemStore<TickClock>) -> Result<Vec<Entry>, Fail> {
+fn entries(alloc: Global, memory: &MemStore<TickClock>) -> Result<Vec<Entry>, AllocError> {
     let mut entries = Vec::new(alloc);
     for place in 0..memory.number_of_events() {
         if let Some(event) = memory.event(place)
-            && let Some(entry) = entry_of(alloc, event)?
+            && let Some(entry) = entry_of(alloc, event)
         {
             entries.push(entry)?;
         }
@@ -125,19 +98,19 @@ fn entries(alloc: Global, memory: &MemStore<TickClock>) -> Result<Vec<Entry>, Fa
 }
 
 /// The bytes that were found.
-fn found(got: Got) -> Option<Bytes> {
+fn found(got: Result<Got, StoreFault>) -> Option<Bytes> {
     match got {
-        Got::Found { bytes, .. } => Some(bytes),
-        Got::Absent { .. } => None,
+        Ok(Got::Found { bytes, .. }) => Some(bytes),
+        _ => None,
     }
 }
 
 /// The bytes of the snapshot under this id.
-fn snapshot_bytes(memory: &mut MemStore<TickClock>, id: Id12) -> Result<Option<Bytes>, StoreFault> {
+fn snapshot_bytes(memory: &mut MemStore<TickClock>, id: Id12) -> Option<Bytes> {
     let key = Key::Snapshot(id);
     let got = ObjectStore::<Polite>::get(memory, &key);
     drop(key);
-    Ok(found(got?))
+    found(got)
 }
 
 /// Whether the nodes of a snapshot stand at exactly these paths.
@@ -185,13 +158,13 @@ fn is_in_line(
     entry: &Entry,
     last: Option<&Entry>,
     paths: &[String],
-) -> Result<bool, StoreFault> {
-    let Some(bytes) = snapshot_bytes(memory, entry.snapshot)? else {
-        return Ok(false);
+) -> bool {
+    let Some(bytes) = snapshot_bytes(memory, entry.snapshot) else {
+        return false;
     };
     let is = has_snapshot(alloc, &bytes, entry, last, paths);
     drop(bytes);
-    Ok(is)
+    is
 }
 
 /// Adds the path of the group that a task of this client adds, in order.
@@ -214,13 +187,13 @@ fn follow_on(
     memory: &mut MemStore<TickClock>,
     entries: &[Entry],
     paths: &mut Vec<String>,
-) -> Result<bool, Fail> {
+) -> Result<bool, AllocError> {
     let mut last: Option<&Entry> = None;
     for entry in entries {
         if last.is_some() {
             add_path(alloc, paths, entry.client)?;
         }
-        if !is_in_line(alloc, memory, entry, last, paths.as_slice())? {
+        if !is_in_line(alloc, memory, entry, last, paths.as_slice()) {
             return Ok(false);
         }
         last = Some(entry);
@@ -229,15 +202,13 @@ fn follow_on(
 }
 
 /// Whether the commits are one list, from the root's on.
-fn are_one_list(
-    alloc: Global,
-    memory: &mut MemStore<TickClock>,
-    entries: &[Entry],
-) -> Result<bool, Fail> {
-    let mut paths = root_path(alloc)?;
+fn are_one_list(alloc: Global, memory: &mut MemStore<TickClock>, entries: &[Entry]) -> bool {
+    let Ok(mut paths) = root_path(alloc) else {
+        return false;
+    };
     let are = follow_on(alloc, memory, entries, &mut paths);
     drop(paths);
-    are
+    are == Ok(true)
 }
 
 /// Adds the lines of a task that adds a group that bears its number, and commits.
@@ -258,8 +229,8 @@ fn commits(alloc: Global, tasks: u32) -> Result<String, AllocError> {
 }
 
 /// A run of that script.
-fn committing(alloc: Global, tasks: u32) -> Result<Asked, AllocError> {
-    let text = commits(alloc, tasks)?;
+fn committing(alloc: Global, tasks: u32) -> Option<Asked> {
+    let text = commits(alloc, tasks).ok()?;
     let asked = script(alloc, text.as_str());
     drop(text);
     asked
@@ -267,13 +238,25 @@ fn committing(alloc: Global, tasks: u32) -> Result<Asked, AllocError> {
 
 const ROOT: &str = "task a write main 0 fail\ngroup /\ncommit root\n";
 
+/// What a run leaves in this store.
+fn left<R: Threads + Wait + Sync>(
+    rt: &R,
+    alloc: Global,
+    draw: Draw,
+    asked: &mut Asked,
+    store: Untold,
+) -> Untold {
+    let gate = Meeting::new(false);
+    perform(rt, alloc, draw, asked, store, &gate).store
+}
+
 /// A store on which the root was committed.
-fn with_root<R: Threads + Wait + Sync>(rt: &R, alloc: Global) -> Result<Untold, AllocError> {
+fn with_root<R: Threads + Wait + Sync>(rt: &R, alloc: Global) -> Option<Untold> {
     let mut asked = script(alloc, ROOT)?;
     let store = Untold::new(alloc, None);
-    let ended = perform(rt, alloc, Draw::Count, &mut asked, store, &OpenGate);
+    let store = left(rt, alloc, Draw::Count, &mut asked, store);
     drop(asked);
-    Ok(ended.store)
+    Some(store)
 }
 
 /// What a run leaves in the store on which the root was committed.
@@ -281,11 +264,10 @@ fn played<R: Threads + Wait + Sync>(
     rt: &R,
     alloc: Global,
     asked: &mut Asked,
-) -> Result<MemStore<TickClock>, AllocError> {
+) -> Option<MemStore<TickClock>> {
     let store = with_root(rt, alloc)?;
-    let draw = Draw::Stream([7; 32]);
-    let ended = perform(rt, alloc, draw, asked, store, &OpenGate);
-    Ok(ended.store.into_memory())
+    let store = left(rt, alloc, Draw::Stream([7; 32]), asked, store);
+    Some(store.into_memory())
 }
 
 /// How many tasks committed, as their report tells, where each of so many was committed or refused.
@@ -296,53 +278,53 @@ fn committed_in(report: &str, tasks: usize) -> Option<usize> {
 }
 
 /// How many tasks committed, as is told.
-fn committed(alloc: Global, asked: &Asked, tasks: usize) -> Result<Option<usize>, AllocError> {
+fn committed(alloc: Global, asked: &Asked, tasks: usize) -> Option<usize> {
     let report = report(alloc, asked)?;
     let committed = committed_in(report.as_str(), tasks);
     drop(report);
-    Ok(committed)
+    committed
 }
 
 /// Whether the journal behind the root's commit has so many commits, in one list.
-fn has_one_list(
-    alloc: Global,
-    memory: &mut MemStore<TickClock>,
-    committed: usize,
-) -> Result<bool, Fail> {
-    let entries = entries(alloc, memory)?;
-    let is = if entries.len().checked_sub(1) == Some(committed) {
-        are_one_list(alloc, memory, entries.as_slice())
-    } else {
-        Ok(false)
+fn has_one_list(alloc: Global, memory: &mut MemStore<TickClock>, committed: usize) -> bool {
+    let Ok(entries) = entries(alloc, memory) else {
+        return false;
     };
+    let is = entries.len().checked_sub(1) == Some(committed)
+        && are_one_list(alloc, memory, entries.as_slice());
     drop(entries);
     is
 }
 
-/// Plays so many tasks: how many committed, as is told, and whether the journal has one list of so many.
-fn committed_and_listed<R: Threads + Wait + Sync>(
+/// Plays so many tasks: whether the journal has one list of as many as have committed, as is told.
+fn are_listed<R: Threads + Wait + Sync>(
     rt: &R,
     alloc: Global,
     asked: &mut Asked,
     tasks: usize,
-) -> Result<(Option<usize>, bool), Fail> {
+) -> Option<bool> {
     let mut memory = played(rt, alloc, asked)?;
-    let committed = committed(alloc, asked, tasks);
-    let is = has_one_list(alloc, &mut memory, committed.unwrap_or(None).unwrap_or(0));
+    let is = match committed(alloc, asked, tasks) {
+        Some(committed) => has_one_list(alloc, &mut memory, committed),
+        None => false,
+    };
     drop(memory);
-    let is = is?;
-    Ok((committed?, is))
+    Some(is)
+}
+
+/// Plays sixty-four tasks.
+fn are_sixty_four_listed<R: Threads + Wait + Sync>(rt: &R, alloc: Global) -> Option<bool> {
+    let mut asked = committing(alloc, 64)?;
+    let are = are_listed(rt, alloc, &mut asked, 64);
+    drop(asked);
+    are
 }
 
 /// The journal has one list for the branch, as long as the report tells.
 #[test]
 fn sixty_four_commit_at_once(rt: HostRuntime) -> Result<(), Fail> {
-    let alloc = rt.alloc();
-    let mut asked = committing(alloc, 64)?;
-    let came = committed_and_listed(&rt, alloc, &mut asked, 64);
-    drop(asked);
-    let (committed, listed) = came?;
-    assert!(rt; committed.is_some());
-    assert!(rt; listed);
-    Ok(())
+    holds(
+        are_sixty_four_listed(&rt, rt.alloc()) == Some(true),
+        "one list",
+    )
 }

@@ -1,19 +1,19 @@
 //! Files of the system that break, and what the store over them says and leaves.
 
-ghost use Rattle.std.specs.Prelude.{◌≤◌};
-
-use crate::directories::{branch, has_failed, make_folder, put_snapshot};
-use dir_store::{DirStore, content_version, open};
+use crate::calls::{Call, answers, branch, fails, reply};
+use crate::checking::{holds, made, none, removed};
+use dir_store::{DirStore, FolderStore, open};
+use folder::Folder;
 use ice_base::TickClock;
 use ice_ids::Id12;
-use std::alloc::{AllocError, Allocator, Global};
+use std::alloc::{Allocator, Global};
 use std::cell::Cell;
 use std::fs::{File, Metadata, OpenFile, OpenOptions};
 use std::io::{ErrorKind, Read, Seek, SeekFrom, Write};
 use std::rt::Files;
 use std::test::Fail;
 use std::{fs, io};
-use store_api::{Got, Key, ObjectStore, Over, Part, Polite, StoreFault, Version, Why};
+use store_api::{Got, Key, Over, Part, Reply};
 
 /// The number of the calls so far, and of the last call that made a folder in the directory itself, and
 /// that flushed it.
@@ -50,14 +50,11 @@ struct Breaking<'a> {
 }
 
 impl<'a> Breaking<'a> {
-    /// Counts a call, and fails where it breaks.
-    fn call(&self) -> io::Result<()> {
+    /// Counts a call, and tells whether it breaks.
+    fn breaks(&self) -> bool {
         let number = self.calls.count.get();
         self.calls.count.set(number.saturating_add(1));
-        if number == self.broken || (self.for_good && number > self.broken) {
-            return Err(io::Error::from(ErrorKind::StorageFull));
-        }
-        Ok(())
+        number == self.broken || (self.for_good && number > self.broken)
     }
 
     /// Notes that this call made a folder in the directory.
@@ -71,6 +68,11 @@ impl<'a> Breaking<'a> {
     }
 }
 
+/// Why a call breaks.
+fn full() -> io::Error {
+    io::Error::from(ErrorKind::StorageFull)
+}
+
 /// An open file of them.
 #[derive(Drop)]
 struct BreakingFile<'a> {
@@ -81,7 +83,9 @@ struct BreakingFile<'a> {
 
 impl<'a> Read for BreakingFile<'a> {
     fn read(&mut self, buf: &mut [u8]) -> io::Result<usize> {
-        self.files.call()?;
+        if self.files.breaks() {
+            return Err(full());
+        }
         self.file.read(buf)
     }
 }
@@ -89,9 +93,9 @@ impl<'a> Read for BreakingFile<'a> {
 impl<'a> Write for BreakingFile<'a> {
     /// A write that breaks has written one byte.
     fn write(&mut self, buf: &[u8]) -> io::Result<usize> {
-        if let Err(error) = self.files.call() {
+        if self.files.breaks() {
             let _ = self.file.write(buf.get(..1).unwrap_or(buf));
-            return Err(error);
+            return Err(full());
         }
         self.file.write(buf)
     }
@@ -110,17 +114,23 @@ impl<'a> Seek for BreakingFile<'a> {
 /// Nothing is flushed, so that the tests are quick.
 impl<'a> OpenFile for BreakingFile<'a> {
     fn metadata(&self) -> io::Result<Metadata> {
-        self.files.call()?;
+        if self.files.breaks() {
+            return Err(full());
+        }
         self.file.metadata()
     }
 
     fn set_len(&self, size: u64) -> io::Result<()> {
-        self.files.call()?;
+        if self.files.breaks() {
+            return Err(full());
+        }
         self.file.set_len(size)
     }
 
     fn sync_all(&self) -> io::Result<()> {
-        self.files.call()?;
+        if self.files.breaks() {
+            return Err(full());
+        }
         if self.is_root {
             self.files.note_flushed();
         }
@@ -128,7 +138,11 @@ impl<'a> OpenFile for BreakingFile<'a> {
     }
 
     fn sync_data(&self) -> io::Result<()> {
-        self.files.call()
+        if self.files.breaks() {
+            Err(full())
+        } else {
+            Ok(())
+        }
     }
 }
 
@@ -146,7 +160,9 @@ impl<'a> Files for Breaking<'a> {
     type Dir = <HostRuntime as Files>::Dir;
 
     fn open_file(&self, how: &OpenOptions, path: &str) -> io::Result<BreakingFile<'a>> {
-        self.call()?;
+        if self.breaks() {
+            return Err(full());
+        }
         Ok(BreakingFile {
             file: self.rt.open_file(how, path)?,
             files: *self,
@@ -155,54 +171,74 @@ impl<'a> Files for Breaking<'a> {
     }
 
     fn open_dir(&self, path: &str) -> io::Result<<HostRuntime as Files>::Dir> {
-        self.call()?;
+        if self.breaks() {
+            return Err(full());
+        }
         self.rt.open_dir(path)
     }
 
     fn metadata(&self, path: &str) -> io::Result<Metadata> {
-        self.call()?;
+        if self.breaks() {
+            return Err(full());
+        }
         Files::metadata(&self.rt, path)
     }
 
     fn symlink_metadata(&self, path: &str) -> io::Result<Metadata> {
-        self.call()?;
+        if self.breaks() {
+            return Err(full());
+        }
         Files::symlink_metadata(&self.rt, path)
     }
 
     fn copy(&self, from: &str, to: &str) -> io::Result<u64> {
-        self.call()?;
+        if self.breaks() {
+            return Err(full());
+        }
         Files::copy(&self.rt, from, to)
     }
 
     fn rename(&self, from: &str, to: &str) -> io::Result<()> {
-        self.call()?;
+        if self.breaks() {
+            return Err(full());
+        }
         Files::rename(&self.rt, from, to)
     }
 
     fn remove_file(&self, path: &str) -> io::Result<()> {
-        self.call()?;
+        if self.breaks() {
+            return Err(full());
+        }
         Files::remove_file(&self.rt, path)
     }
 
     fn create_dir(&self, path: &str) -> io::Result<()> {
-        self.call()?;
+        if self.breaks() {
+            return Err(full());
+        }
         Files::create_dir(&self.rt, path)?;
         self.note_made();
         Ok(())
     }
 
     fn remove_dir(&self, path: &str) -> io::Result<()> {
-        self.call()?;
+        if self.breaks() {
+            return Err(full());
+        }
         Files::remove_dir(&self.rt, path)
     }
 
     fn remove_dir_all<B: Allocator>(&self, alloc: B, path: &str) -> io::Result<()> {
-        self.call()?;
+        if self.breaks() {
+            return Err(full());
+        }
         Files::remove_dir_all(&self.rt, alloc, path)
     }
 
     fn hard_link(&self, original: &str, link: &str) -> io::Result<()> {
-        self.call()?;
+        if self.breaks() {
+            return Err(full());
+        }
         Files::hard_link(&self.rt, original, link)
     }
 }
@@ -218,94 +254,90 @@ struct Keys {
     other: Key,
 }
 
-fn make_keys(alloc: Global) -> Result<Keys, AllocError> {
-    let main = branch(alloc, "main")?;
-    let other = branch(alloc, "other")?;
-    Ok(Keys {
-        snapshot: Key::Snapshot(Id12::INITIAL),
-        main,
-        other,
-    })
+/// One of the keys.
+#[derive(Clone, Copy)]
+enum At {
+    Snapshot,
+    Main,
+    Other,
 }
 
-/// Puts a branch in the directory at this path.
-fn put<R: Files + AllocGlobal + Clone + Drop>(
+impl Keys {
+    fn make(alloc: Global) -> Option<Keys> {
+        let main = branch(alloc, "main")?;
+        let other = branch(alloc, "other")?;
+        Some(Keys {
+            snapshot: Key::Snapshot(Id12::INITIAL),
+            main,
+            other,
+        })
+    }
+
+    fn at(&self, at: At) -> &Key {
+        match at {
+            At::Snapshot => &self.snapshot,
+            At::Main => &self.main,
+            At::Other => &self.other,
+        }
+    }
+}
+
+/// Whether an operation is made in the directory at this path.
+fn makes<R: Files + AllocGlobal + Clone + Drop>(
     files: R,
     path: &str,
     key: &Key,
-    bytes: &[u8],
-) -> Result<(), StoreFault> {
-    let mut store = DirStore::at(files, path, TickClock::new())?;
-    let put = ObjectStore::<Polite>::put_new(&mut store, key, bytes, Why::Create);
+    call: &Call<'_>,
+) -> bool {
+    let Ok(mut store) = DirStore::at(files, path, TickClock::new()) else {
+        return false;
+    };
+    let makes = answers(&mut store, key, call);
     drop(store);
-    put?;
-    Ok(())
+    makes
 }
 
 /// Makes a directory with one branch.
-fn begin(rt: HostRuntime, path: &str, keys: &Keys) -> Result<(), Fail> {
-    make_folder(rt, path)?;
-    Ok(put(rt, path, &keys.main, b"one")?)
+fn begins(rt: HostRuntime, path: &str, keys: &Keys) -> bool {
+    made(rt, path) && makes(rt, path, &keys.main, &Call::New(b"one"))
 }
 
-fn failures<T: Drop>(done: Result<T, StoreFault>) -> u64
-    ensures { result ≤ 1 }
-{
-    u64::from(has_failed(done))
+/// Writes, reads and removals.
+const NINE: [(At, Call<'static>); 9] = [
+    (At::Snapshot, Call::New(b"whole")),
+    (At::Main, Call::Over(b"two", b"one")),
+    (At::Main, Call::New(b"never")),
+    (At::Other, Call::New(b"made")),
+    (At::Main, Call::Get),
+    (At::Main, Call::List(Part::Branches)),
+    (At::Main, Call::List(Part::Snapshots)),
+    (At::Other, Call::RemoveAt(b"made")),
+    (At::Snapshot, Call::Remove),
+];
+
+/// Makes the nine operations, and tells how many failed.
+fn failures<F: Folder>(store: &mut FolderStore<F, TickClock>, keys: &Keys) -> u64 {
+    let mut failed: u64 = 0;
+    for (at, call) in &NINE {
+        if fails(store, keys.at(*at), call) {
+            failed = failed.saturating_add(1);
+        }
+    }
+    failed
 }
 
-/// Writes, and tells how many writes failed.
-fn write<R: Files + AllocGlobal + Clone + Drop>(
-    store: &mut DirStore<R, TickClock>,
-    keys: &Keys,
-) -> u64
-    ensures { result ≤ 4 }
-{
-    let one = content_version(b"one");
-    let put = put_snapshot(store, Id12::INITIAL, b"whole", Why::Init);
-    let over = ObjectStore::<Polite>::put_over(store, &keys.main, b"two", one, Why::Commit);
-    let again = ObjectStore::<Polite>::put_new(store, &keys.main, b"never", Why::Create);
-    let made = ObjectStore::<Polite>::put_new(store, &keys.other, b"made", Why::Create);
-    failures(put) + failures(over) + failures(again) + failures(made)
-}
-
-/// Reads, and tells how many reads failed.
-fn read<R: Files + AllocGlobal + Clone + Drop>(
-    store: &mut DirStore<R, TickClock>,
-    keys: &Keys,
-) -> u64
-    ensures { result ≤ 3 }
-{
-    failures(ObjectStore::<Polite>::get(store, &keys.main))
-        + failures(ObjectStore::<Polite>::list(store, Part::Branches))
-        + failures(ObjectStore::<Polite>::list(store, Part::Snapshots))
-}
-
-/// Removes, and tells how many removals failed.
-fn remove<R: Files + AllocGlobal + Clone + Drop>(
-    store: &mut DirStore<R, TickClock>,
-    keys: &Keys,
-) -> u64
-    ensures { result ≤ 2 }
-{
-    let made = content_version(b"made");
-    let other = ObjectStore::<Polite>::remove_at(store, &keys.other, made, Why::Drop);
-    let snapshot = ObjectStore::<Polite>::remove(store, &keys.snapshot, Why::Collect);
-    failures(other) + failures(snapshot)
-}
-
-/// Makes nine operations in the directory at this path: how many failed, if those and no others were counted as failures, and
-/// all of them as operations.
+/// Makes the nine operations in the directory at this path: how many failed, and whether those and no others were counted as
+/// failures, and all of them as operations.
 fn failed_of_nine<R: Files + AllocGlobal + Clone + Drop>(
     files: R,
     path: &str,
     keys: &Keys,
-) -> Result<Option<u64>, StoreFault> {
-    let mut store = DirStore::at(files, path, TickClock::new())?;
-    let failed = write(&mut store, keys) + read(&mut store, keys) + remove(&mut store, keys);
+) -> Option<(u64, bool)> {
+    let mut store = DirStore::at(files, path, TickClock::new()).ok()?;
+    let failed = failures(&mut store, keys);
     let counted = store.faults() == failed && store.operations() == 9;
     drop(store);
-    Ok(counted.then_some(failed))
+    Some((failed, counted))
 }
 
 /// Makes the operations in a fresh directory, with this call broken: whether the call was made, and whether it, and no other,
@@ -316,8 +348,10 @@ fn work(
     keys: &Keys,
     broken: u64,
     for_good: bool,
-) -> Result<(bool, bool), Fail> {
-    begin(rt, path, keys)?;
+) -> Option<(bool, bool)> {
+    if !begins(rt, path, keys) {
+        return None;
+    }
     let calls = Calls::new();
     let files = Breaking {
         rt,
@@ -325,134 +359,135 @@ fn work(
         broken,
         for_good,
     };
-    let failed = failed_of_nine(files, path, keys)?;
+    let (failed, counted) = failed_of_nine(files, path, keys)?;
     let broke = calls.count.get() > broken;
-    Ok((broke, failed == Some(u64::from(broke))))
+    Some((broke, counted && failed == u64::from(broke)))
 }
 
 /// Breaks each call in turn, until none is left to break: the first whose failure isn't counted, if there is one.
-fn first_uncounted(rt: HostRuntime, keys: &Keys) -> Result<Option<u64>, Fail> {
+fn first_uncounted(rt: HostRuntime, keys: &Keys) -> Option<u64> {
     for broken in 1..MOST {
-        let (broke, counted) = work(rt, "failing_calls", keys, broken, false)?;
-        if !counted {
-            return Ok(Some(broken));
-        }
-        if !broke {
-            return Ok(None);
+        match work(rt, "failing_calls", keys, broken, false) {
+            Some((true, true)) => {}
+            Some((false, true)) => return None,
+            _ => return Some(broken),
         }
     }
-    Err(Fail::new("too many calls"))
+    Some(MOST)
+}
+
+fn uncounted(rt: HostRuntime) -> Option<u64> {
+    let Some(keys) = Keys::make(rt.alloc()) else {
+        return Some(0);
+    };
+    let uncounted = first_uncounted(rt, &keys);
+    drop(keys);
+    uncounted
 }
 
 #[test]
 fn each_failed_call_is_counted(rt: HostRuntime) -> Result<(), Fail> {
-    let keys = make_keys(rt.alloc())?;
-    let uncounted = first_uncounted(rt, &keys);
-    drop(keys);
-    assert_eq!(rt; uncounted?, None);
-    Ok(fs::remove_dir_all(&rt, "failing_calls")?)
+    none(uncounted(rt))?;
+    removed(rt, "failing_calls")
 }
 
-/// Whether these contents are among some, or, where that may be, there are none.
-fn is_one_of(got: &Got, contents: &[&[u8]], absent: bool) -> bool {
-    match got {
-        Got::Absent { .. } => absent,
-        Got::Found { bytes, .. } => contents.contains(&bytes.as_slice()),
+/// Whether these contents may stand at a key where a run of the operations is cut off.
+fn may_stand(at: At, bytes: &[u8]) -> bool {
+    match at {
+        At::Snapshot => bytes == b"whole".as_slice(),
+        At::Main => bytes == b"one".as_slice() || bytes == b"two".as_slice(),
+        At::Other => bytes == b"made".as_slice(),
     }
 }
 
-/// Whether a key has one of these contents, or, where that may be, none.
-fn has_one_of<R: Files + AllocGlobal + Clone + Drop>(
-    store: &mut DirStore<R, TickClock>,
-    key: &Key,
-    contents: &[&[u8]],
-    absent: bool,
-) -> Result<bool, StoreFault> {
-    let got = ObjectStore::<Polite>::get(store, key)?;
-    let is = is_one_of(&got, contents, absent);
-    drop(got);
-    Ok(is)
+/// Whether what was got may be what is at a key then.
+fn may_be(at: At, got: &Got) -> bool {
+    match got {
+        Got::Found { bytes, .. } => may_stand(at, bytes.as_slice()),
+        Got::Absent { .. } => !matches!(at, At::Main),
+    }
 }
 
-/// Whether each key has one of the contents that it may have.
-fn is_whole<R: Files + AllocGlobal + Clone + Drop>(
-    store: &mut DirStore<R, TickClock>,
-    keys: &Keys,
-) -> Result<bool, StoreFault> {
-    Ok(
-        has_one_of(store, &keys.main, &[b"one", b"two"], false)?
-            && has_one_of(store, &keys.snapshot, &[b"whole"], true)?
-            && has_one_of(store, &keys.other, &[b"made"], true)?,
+/// Whether a key has contents that it may have, or, where that may be, none.
+fn is_whole<F: Folder>(store: &mut FolderStore<F, TickClock>, keys: &Keys, at: At) -> bool {
+    let reply = reply(store, keys.at(at), &Call::Get);
+    let is = match &reply {
+        Ok(Reply::Got(got)) => may_be(at, got),
+        _ => false,
+    };
+    drop(reply);
+    is
+}
+
+/// Whether a branch that has one of its two contents is there, and can be put over.
+fn moves<F: Folder>(store: &mut FolderStore<F, TickClock>, main: &Key) -> bool {
+    moves_from(store, main, b"one") || moves_from(store, main, b"two")
+}
+
+/// Whether a branch of these contents can be put over.
+fn moves_from<F: Folder>(store: &mut FolderStore<F, TickClock>, main: &Key, bytes: &[u8]) -> bool {
+    matches!(
+        reply(store, main, &Call::Over(b"three", bytes)),
+        Ok(Reply::Over(Over::Done { .. }))
     )
 }
 
-/// Which version of a branch is there, if it is.
-fn version_of(got: &Got) -> Option<Version> {
-    match got {
-        Got::Found { version, .. } => Some(*version),
-        Got::Absent { .. } => None,
-    }
-}
-
-/// Whether a branch is there, and can be put over.
-fn moves<R: Files + AllocGlobal + Clone + Drop>(
-    store: &mut DirStore<R, TickClock>,
-    main: &Key,
-) -> Result<bool, StoreFault> {
-    let got = ObjectStore::<Polite>::get(store, main)?;
-    let version = version_of(&got);
-    drop(got);
-    let Some(version) = version else {
-        return Ok(false);
-    };
-    let over = ObjectStore::<Polite>::put_over(store, main, b"three", version, Why::Commit)?;
-    Ok(matches!(over, Over::Done { .. }))
-}
-
 /// Whether what is in a store is whole, and can be gone on with.
-fn is_sound<R: Files + AllocGlobal + Clone + Drop>(
-    store: &mut DirStore<R, TickClock>,
-    keys: &Keys,
-) -> Result<bool, StoreFault> {
-    Ok(is_whole(store, keys)? && moves(store, &keys.main)?)
+fn is_sound<F: Folder>(store: &mut FolderStore<F, TickClock>, keys: &Keys) -> bool {
+    is_whole(store, keys, At::Main)
+        && is_whole(store, keys, At::Snapshot)
+        && is_whole(store, keys, At::Other)
+        && moves(store, &keys.main)
 }
 
 /// Whether what a program that was cut off has left is whole, and can be gone on with.
-fn goes_on(rt: HostRuntime, path: &str, keys: &Keys) -> Result<bool, Fail> {
-    let mut opened = open(rt, path, TickClock::new())?;
+fn goes_on(rt: HostRuntime, path: &str, keys: &Keys) -> bool {
+    let Ok(mut opened) = open(rt, path, TickClock::new()) else {
+        return false;
+    };
     let is_sound = is_sound(&mut opened.store, keys);
     drop(opened);
-    Ok(is_sound?)
+    is_sound
 }
 
-/// How many files are left aside.
-fn left_aside(rt: HostRuntime, path: &str) -> io::Result<usize> {
-    let files = fs::read_dir(&rt, path)?;
-    Ok(files.count())
+/// Whether so many files are left aside.
+fn leaves(rt: HostRuntime, path: &str, count: usize) -> bool {
+    match fs::read_dir(&rt, path) {
+        Ok(files) => files.count() == count,
+        Err(_) => false,
+    }
 }
 
 /// Cuts a program off at each call in turn, until none is left: the first call behind which what is left isn't whole, or
 /// something is left aside, if there is one.
-fn first_broken(rt: HostRuntime, keys: &Keys) -> Result<Option<u64>, Fail> {
+fn first_broken(rt: HostRuntime, keys: &Keys) -> Option<u64> {
     for broken in 1..MOST {
-        let (broke, _) = work(rt, "cut_off", keys, broken, true)?;
-        if !goes_on(rt, "cut_off", keys)? || left_aside(rt, "cut_off/icerepo.new")? > 0 {
-            return Ok(Some(broken));
+        let Some((broke, _)) = work(rt, "cut_off", keys, broken, true) else {
+            return Some(broken);
+        };
+        if !goes_on(rt, "cut_off", keys) || !leaves(rt, "cut_off/icerepo.new", 0) {
+            return Some(broken);
         }
         if !broke {
-            return Ok(None);
+            return None;
         }
     }
-    Err(Fail::new("too many calls"))
+    Some(MOST)
+}
+
+fn broken_off(rt: HostRuntime) -> Option<u64> {
+    let Some(keys) = Keys::make(rt.alloc()) else {
+        return Some(0);
+    };
+    let broken = first_broken(rt, &keys);
+    drop(keys);
+    broken
 }
 
 #[test]
 fn a_program_that_is_cut_off_leaves_whole_files(rt: HostRuntime) -> Result<(), Fail> {
-    let keys = make_keys(rt.alloc())?;
-    let broken = first_broken(rt, &keys);
-    drop(keys);
-    assert_eq!(rt; broken?, None);
-    Ok(fs::remove_dir_all(&rt, "cut_off")?)
+    none(broken_off(rt))?;
+    removed(rt, "cut_off")
 }
 
 /// Leaves a thousand files and more where files are put aside, and one that was never put there.
@@ -465,39 +500,52 @@ fn litter<R: Files + AllocGlobal>(files: &R) -> io::Result<()> {
 }
 
 /// Whether a put is done beside leftovers, and what is there then can be gone on with.
-fn puts_beside_litter(rt: HostRuntime, keys: &Keys) -> Result<bool, Fail> {
-    begin(rt, "leftovers", keys)?;
-    litter(&rt)?;
-    put(rt, "leftovers", &keys.other, b"made")?;
-    goes_on(rt, "leftovers", keys)
+fn puts_beside_litter(rt: HostRuntime, keys: &Keys) -> bool {
+    begins(rt, "leftovers", keys)
+        && litter(&rt).is_ok()
+        && makes(rt, "leftovers", &keys.other, &Call::New(b"made"))
+        && goes_on(rt, "leftovers", keys)
+}
+
+fn goes_on_beside_litter(rt: HostRuntime) -> bool {
+    let Some(keys) = Keys::make(rt.alloc()) else {
+        return false;
+    };
+    let goes_on = puts_beside_litter(rt, &keys);
+    drop(keys);
+    goes_on
 }
 
 #[test]
 fn leftovers_never_stop_a_put(rt: HostRuntime) -> Result<(), Fail> {
-    let keys = make_keys(rt.alloc())?;
-    let goes_on = puts_beside_litter(rt, &keys);
-    drop(keys);
-    assert!(rt; goes_on?);
-    assert!(rt; left_aside(rt, "leftovers/icerepo.new")? == 1);
-    Ok(fs::remove_dir_all(&rt, "leftovers")?)
+    holds(goes_on_beside_litter(rt), "goes on")?;
+    holds(leaves(rt, "leftovers/icerepo.new", 1), "one is left")?;
+    removed(rt, "leftovers")
 }
 
-/// Puts two snapshots in the directory at this path: whether the first put was refused, and whether the second one was done.
-fn two_puts<R: Files + AllocGlobal + Clone + Drop>(
-    files: R,
-    path: &str,
-) -> Result<(bool, bool), StoreFault> {
-    let mut store = DirStore::at(files, path, TickClock::new())?;
-    let first = put_snapshot(&mut store, Id12([1; 12]), b"one", Why::Set);
-    let second = put_snapshot(&mut store, Id12([2; 12]), b"two", Why::Set);
+/// Whether a snapshot is put.
+fn puts<F: Folder>(store: &mut FolderStore<F, TickClock>, id: Id12) -> bool {
+    let key = Key::Snapshot(id);
+    let puts = answers(store, &key, &Call::New(b"one"));
+    drop(key);
+    puts
+}
+
+/// Puts two snapshots in the directory at this path: whether the first put was done, and whether the second one was.
+fn two_puts<R: Files + AllocGlobal + Clone + Drop>(files: R, path: &str) -> Option<(bool, bool)> {
+    let mut store = DirStore::at(files, path, TickClock::new()).ok()?;
+    let first = puts(&mut store, Id12([1; 12]));
+    let second = puts(&mut store, Id12([2; 12]));
     drop(store);
-    Ok((first.is_err(), second.is_ok()))
+    Some((first, second))
 }
 
 /// Puts two snapshots in an empty directory, with this call broken: whether the first put was refused, and
 /// whether the second put was done and the directory flushed behind the last folder made in it.
-fn put_two(rt: HostRuntime, path: &str, broken: u64) -> Result<(bool, bool), Fail> {
-    make_folder(rt, path)?;
+fn put_two(rt: HostRuntime, path: &str, broken: u64) -> Option<(bool, bool)> {
+    if !made(rt, path) {
+        return None;
+    }
     let calls = Calls::new();
     let files = Breaking {
         rt,
@@ -505,18 +553,25 @@ fn put_two(rt: HostRuntime, path: &str, broken: u64) -> Result<(bool, bool), Fai
         broken,
         for_good: false,
     };
-    let (refused, put) = two_puts(files, path)?;
-    Ok((refused, put && calls.are_flushed()))
+    let (first, second) = two_puts(files, path)?;
+    Some((!first, second && calls.are_flushed()))
+}
+
+/// Breaks each call in turn, until the first put isn't refused: the first behind which the second put wasn't done, or the
+/// directory not flushed, if there is one.
+fn first_unflushed(rt: HostRuntime) -> Option<u64> {
+    for broken in 1..MOST {
+        match put_two(rt, "flushed", broken) {
+            Some((true, true)) => {}
+            Some((false, _)) => return None,
+            _ => return Some(broken),
+        }
+    }
+    Some(MOST)
 }
 
 #[test]
 fn a_folder_is_made_once_it_is_flushed(rt: HostRuntime) -> Result<(), Fail> {
-    for broken in 1..MOST {
-        let (refused, flushed) = put_two(rt, "flushed", broken)?;
-        if !refused {
-            return Ok(fs::remove_dir_all(&rt, "flushed")?);
-        }
-        assert!(rt; flushed, "{broken}");
-    }
-    Err(Fail::new("too many calls"))
+    none(first_unflushed(rt))?;
+    removed(rt, "flushed")
 }

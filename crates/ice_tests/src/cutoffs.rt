@@ -1,5 +1,7 @@
+use crate::checking::holds;
 use ice_base::Clock;
 use moments::{CutoffFault, WallClock, cutoff_read};
+use std::test::Fail;
 
 const CUTOFFS: [(&str, Result<u64, CutoffFault>); 23] = [
     ("12", Ok(12)),
@@ -28,16 +30,16 @@ const CUTOFFS: [(&str, Result<u64, CutoffFault>); 23] = [
 ];
 
 #[test]
-fn cutoffs(rt: HostRuntime) {
-    for row in &CUTOFFS {
-        assert!(rt; cutoff_read(row.0) == row.1, "{}", row.0);
+fn cutoffs() -> Result<(), Fail> {
+    for (text, cutoff) in &CUTOFFS {
+        holds(cutoff_read(text) == *cutoff, text)?;
     }
+    Ok(())
 }
 
 #[test]
-fn clock_stays_or_goes_on(rt: HostRuntime) {
+fn clock_stays_or_goes_on(rt: HostRuntime) -> Result<(), Fail> {
     let mut clock = WallClock::new(rt);
     let first = clock.now();
-    assert!(rt; 0 < first);
-    assert!(rt; first <= clock.now());
+    holds(0 < first && first <= clock.now(), "moments")
 }

@@ -1,11 +1,13 @@
 //! The standard ends.
 
+use crate::checking::holds;
 use ice_base::{StdSink, StdSource, read_input, write_whole};
+use std::test::Fail;
 
 #[test]
-fn standard_ends(rt: HostRuntime) {
+fn standard_ends(rt: HostRuntime) -> Result<(), Fail> {
     let written = write_whole(&mut StdSink::new(rt), b"standard output\n");
-    assert!(rt; written.is_ok());
+    holds(written.is_ok(), "output")?;
     let read = read_input(rt.alloc(), &mut StdSource::new(rt), 10);
-    assert!(rt; read.is_ok());
+    holds(read.is_ok(), "input")
 }

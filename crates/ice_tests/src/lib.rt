@@ -8,11 +8,19 @@ mod at_once;
 #[cfg(test)]
 mod breaking;
 #[cfg(test)]
+mod calls;
+#[cfg(test)]
+mod checking;
+#[cfg(test)]
 mod cutoffs;
+#[cfg(test)]
+mod cuts;
 #[cfg(test)]
 mod directories;
 #[cfg(test)]
 mod ends;
+#[cfg(test)]
+mod gates;
 #[cfg(test)]
 mod grids;
 #[cfg(test)]
@@ -21,6 +29,8 @@ mod grown;
 mod manifests;
 #[cfg(test)]
 mod memory;
+#[cfg(test)]
+mod once;
 #[cfg(test)]
 mod rebases;
 #[cfg(test)]

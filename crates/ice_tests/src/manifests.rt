@@ -3,6 +3,7 @@
 ghost use Rattle.std.specs.Prelude.{IfOk, IsTrue, All};
 ghost use Rattle.manifest_index.specs.Extents.{are_low};
 
+use crate::checking::holds;
 use held_manifest::{Held, PlaceView, hold};
 use ice_base::Bytes;
 use ice_ids::{Id8, Id12};
@@ -93,14 +94,16 @@ fn held(alloc: Global) -> Option<Held> {
     hold(file).ok()
 }
 
+/// Whether each chunk of the manifest is found, time and again.
+fn are_found(alloc: Global) -> Option<bool> {
+    let held = held(alloc)?;
+    let has = has_all_often(alloc, &held);
+    drop(held);
+    has.ok()
+}
+
 /// A chunk is found by halves: a walk over the chunks would make more than 100,000,000,000 turns here.
 #[test]
 fn many_entries(rt: HostRuntime) -> Result<(), Fail> {
-    let Some(held) = held(rt.alloc()) else {
-        return Err(Fail::new("no manifest"));
-    };
-    let has = has_all_often(rt.alloc(), &held);
-    drop(held);
-    assert!(rt; has?);
-    Ok(())
+    holds(are_found(rt.alloc()) == Some(true), "all are found")
 }

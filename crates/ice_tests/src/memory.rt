@@ -1,5 +1,6 @@
 //! Stores in memory: a journal of many events, and a clock that goes back.
 
+use crate::checking::holds;
 use ice_base::{Clock, RefName, TickClock};
 use ice_ids::Id12;
 use mem_store::MemStore;
@@ -19,30 +20,48 @@ const PUTS: u32 = 200_000;
 
 const GETS: u32 = 400_000;
 
-fn put_all(store: &mut Memory) -> Result<(), StoreFault> {
+/// Whether the chunk of this number is put.
+fn puts(store: &mut Memory, number: u32) -> bool {
+    let key = chunk(number);
+    let put = ObjectStore::<Polite>::put_new(store, &key, b"x", Why::Set);
+    drop(key);
+    put.is_ok()
+}
+
+fn puts_all(store: &mut Memory) -> bool {
     for number in 0..PUTS {
-        let key = chunk(number);
-        ObjectStore::<Polite>::put_new(store, &key, b"x", Why::Set)?;
+        if !puts(store, number) {
+            return false;
+        }
     }
-    Ok(())
+    true
 }
 
-fn get_often(store: &mut Memory, key: &Key) -> Result<(), StoreFault> {
+/// Whether an object is got.
+fn gets(store: &mut Memory, key: &Key) -> bool {
+    let got = ObjectStore::<Polite>::get(store, key);
+    let gets = got.is_ok();
+    drop(got);
+    gets
+}
+
+fn gets_often(store: &mut Memory, key: &Key) -> bool {
     for _ in 0..GETS {
-        ObjectStore::<Polite>::get(store, key)?;
+        if !gets(store, key) {
+            return false;
+        }
     }
-    Ok(())
+    true
 }
 
-/// How many events there are behind all puts and gets, and which version of the first chunk stands.
-fn many_events_in(store: &mut Memory) -> Result<(usize, Option<Version>), StoreFault> {
-    put_all(store)?;
+/// Whether all is put and got, and behind that the first chunk stands at its version.
+fn stands(store: &mut Memory) -> bool {
     let first = chunk(0);
-    let got = get_often(store, &first);
-    let standing = store.standing(&first);
+    let stands = puts_all(store)
+        && gets_often(store, &first)
+        && store.standing(&first) == Some(Version(0));
     drop(first);
-    got?;
-    Ok((store.number_of_events(), standing))
+    stands
 }
 
 /// An operation reads what stands, and not the journal: a walk over the journal would make more than
@@ -50,12 +69,11 @@ fn many_events_in(store: &mut Memory) -> Result<(usize, Option<Version>), StoreF
 #[test]
 fn many_events(rt: HostRuntime) -> Result<(), Fail> {
     let mut store = MemStore::new(rt.alloc(), TickClock::new());
-    let came = many_events_in(&mut store);
+    let stands = stands(&mut store);
+    let events = store.number_of_events();
     drop(store);
-    let (events, standing) = came?;
-    assert!(rt; events == 600_000);
-    assert!(rt; standing == Some(Version(0)));
-    Ok(())
+    holds(stands, "the first chunk")?;
+    holds(events == 600_000, "events")
 }
 
 /// A clock that goes back.
@@ -79,21 +97,25 @@ fn absent_at(got: Result<Got, StoreFault>) -> Option<u64> {
     now
 }
 
-/// When nothing is found at `main`, of two gets.
-fn absent_twice(alloc: Global) -> Result<(Option<u64>, Option<u64>), Fail> {
-    let key = Key::Branch(RefName::main(alloc)?);
+/// When nothing is found at a key, of two gets.
+fn absent_twice(store: &mut MemStore<Falling>, key: &Key) -> [Option<u64>; 2] {
+    let first = absent_at(ObjectStore::<Polite>::get(store, key));
+    let second = absent_at(ObjectStore::<Polite>::get(store, key));
+    [first, second]
+}
+
+/// When nothing is found at `main`, of two gets by a clock that goes back.
+fn absent_behind(alloc: Global) -> Option<[Option<u64>; 2]> {
+    let key = Key::Branch(RefName::main(alloc).ok()?);
     let mut store = MemStore::new(alloc, Falling(9));
-    let first = absent_at(ObjectStore::<Polite>::get(&mut store, &key));
-    let second = absent_at(ObjectStore::<Polite>::get(&mut store, &key));
+    let times = absent_twice(&mut store, &key);
     drop(store);
     drop(key);
-    Ok((first, second))
+    Some(times)
 }
 
 #[test]
 fn times_never_fall(rt: HostRuntime) -> Result<(), Fail> {
-    let (first, second) = absent_twice(rt.alloc())?;
-    assert!(rt; first == Some(4));
-    assert!(rt; second == Some(4));
-    Ok(())
+    let times = absent_behind(rt.alloc());
+    holds(times == Some([Some(4), Some(4)]), "both are at 4")
 }

@@ -5,6 +5,7 @@ ghost use Rattle.store_api.specs.Program.{IsAsk};
 ghost use Rattle.commit_path.specs.Committing.{commit_rest};
 ghost use Rattle.rebase.specs.Rebasing.{rebase_rest};
 
+use crate::checking::holds;
 use crate::untold::{Untold, begun, opened, went};
 use commit_path::{Commit, Tried};
 use conflicts::{Pick, Policy};
@@ -13,6 +14,7 @@ use ice_ids::Draw;
 use rebase::{Rebase, Rebased};
 use session::Session;
 use std::alloc::{AllocError, Global};
+use std::test::Fail;
 use store_api::{Refusal, run_machine};
 use zarr_path::Path;
 use zarr_tree::EditFault;
@@ -206,14 +208,14 @@ fn second_loses(alloc: Global, nodes: u32) -> Option<Carried> {
 
 /// A tree has at most 65,536 nodes: where two sessions add the last one, the second isn't rebased.
 #[test]
-fn a_full_tree(rt: HostRuntime) {
+fn a_full_tree(rt: HostRuntime) -> Result<(), Fail> {
     let full = second_loses(rt.alloc(), 65_535);
-    assert!(rt; full == Some(Carried::Full));
+    holds(full == Some(Carried::Full), "full")
 }
 
 /// Where there is room for both, it is rebased over the first one's commit.
 #[test]
-fn a_tree_with_room(rt: HostRuntime) {
+fn a_tree_with_room(rt: HostRuntime) -> Result<(), Fail> {
     let moved = second_loses(rt.alloc(), 100);
-    assert!(rt; moved == Some(Carried::Over(1)));
+    holds(moved == Some(Carried::Over(1)), "moved")
 }

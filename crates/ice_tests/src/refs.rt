@@ -1,5 +1,6 @@
 //! A ref that is dropped while all are read.
 
+use crate::checking::holds;
 use crate::untold::{Untold, begun};
 use ice_base::RefName;
 use ice_ids::Id12;
@@ -7,6 +8,7 @@ use play_outcome::{RefLine, RefLines};
 use ref_file::ref_write;
 use repository::read_refs;
 use std::alloc::Global;
+use std::test::Fail;
 use store_api::{Key, ObjectStore, Polite, Refusal, Why};
 
 /// The key of the branch `late`.
@@ -65,6 +67,6 @@ fn reads_main(alloc: Global) -> Option<bool> {
 }
 
 #[test]
-fn a_ref_that_is_gone_is_passed_over(rt: HostRuntime) {
-    assert!(rt; reads_main(rt.alloc()) == Some(true));
+fn a_ref_that_is_gone_is_passed_over(rt: HostRuntime) -> Result<(), Fail> {
+    holds(reads_main(rt.alloc()) == Some(true), "main alone")
 }

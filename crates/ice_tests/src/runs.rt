@@ -1,10 +1,11 @@
 //! Runs over an empty store in memory that no case of `ice_faults` shows: ends that fail, and other words than `play`.
 
+use crate::checking::{holds, says};
+use crate::gates::Meeting;
 use crate::untold::Untold;
 use command_words::{UsageFault, Word, words_of};
 use ice_base::{ByteSink, ByteSource};
 use ice_ids::Draw;
-use play_at_once::{Gate, OpenGate};
 use play_script::ScriptKind;
 use std::alloc::{AllocError, Global};
 use std::sync::Wait;
@@ -15,9 +16,9 @@ use top_call::{Ended, Status, run};
 /// What a run is given: the words behind the program's name, and its ends.
 #[derive(Drop)]
 pub(crate) struct Asked {
-    words: Vec<Word>,
-    input: ByteSource,
-    output: ByteSink,
+    pub(crate) words: Vec<Word>,
+    pub(crate) input: ByteSource,
+    pub(crate) output: ByteSink,
 }
 
 /// The program's name and these words.
@@ -53,11 +54,11 @@ fn asking(
     script: &str,
     reads: &[u64],
     writes: &[u64],
-) -> Result<Asked, AllocError> {
-    let input = input(alloc, script, reads)?;
-    let output = output(alloc, writes)?;
-    let words = words(alloc, said)?;
-    Ok(Asked {
+) -> Option<Asked> {
+    let input = input(alloc, script, reads).ok()?;
+    let output = output(alloc, writes).ok()?;
+    let words = words(alloc, said).ok()?;
+    Some(Asked {
         words,
         input,
         output,
@@ -65,18 +66,18 @@ fn asking(
 }
 
 /// A run of a script, of which nothing fails.
-pub(crate) fn script(alloc: Global, script: &str) -> Result<Asked, AllocError> {
+pub(crate) fn script(alloc: Global, script: &str) -> Option<Asked> {
     asking(alloc, &["play"], script, &[], &[])
 }
 
 /// Does what is asked.
-pub(crate) fn perform<R: Threads + Wait + Sync, G: Gate + Sync>(
+pub(crate) fn perform<R: Threads + Wait + Sync>(
     rt: &R,
     alloc: Global,
     draw: Draw,
     asked: &mut Asked,
     store: Untold,
-    gate: &G,
+    gate: &Meeting,
 ) -> Ended<Untold> {
     run(
         rt,
@@ -91,42 +92,32 @@ pub(crate) fn perform<R: Threads + Wait + Sync, G: Gate + Sync>(
 }
 
 /// What was written.
-pub(crate) fn report(alloc: Global, asked: &Asked) -> Result<String, AllocError> {
-    String::from_utf8_lossy(alloc, asked.output.written())
+pub(crate) fn report(alloc: Global, asked: &Asked) -> Option<String> {
+    String::from_utf8_lossy(alloc, asked.output.written()).ok()
 }
 
 /// The status of a run over an empty store.
 fn status<R: Threads + Wait + Sync>(rt: &R, alloc: Global, asked: &mut Asked) -> Status {
+    let gate = Meeting::new(false);
     let store = Untold::new(alloc, None);
-    let ended = perform(rt, alloc, Draw::Count, asked, store, &OpenGate);
+    let ended = perform(rt, alloc, Draw::Count, asked, store, &gate);
     let status = ended.status;
     drop(ended);
     status
 }
 
-/// What a run writes, and its status.
-fn ran<R: Threads + Wait + Sync>(
+/// What a run writes that has this status.
+fn written<R: Threads + Wait + Sync>(
     rt: &R,
     alloc: Global,
-    asked: Result<Asked, AllocError>,
-) -> Result<(String, Status), AllocError> {
+    asked: Option<Asked>,
+    want: Status,
+) -> Option<String> {
     let mut asked = asked?;
     let status = status(rt, alloc, &mut asked);
     let report = report(alloc, &asked);
     drop(asked);
-    Ok((report?, status))
-}
-
-/// Whether a run writes this and has this status.
-fn comes_to<R: Threads + Wait + Sync>(
-    rt: &R,
-    alloc: Global,
-    asked: Result<Asked, AllocError>,
-    written: &str,
-    status: Status,
-) -> Result<bool, AllocError> {
-    let (report, came) = ran(rt, alloc, asked)?;
-    Ok(report.as_str() == written && came == status)
+    if status == want { report } else { None }
 }
 
 /// The smallest commit.
@@ -134,12 +125,10 @@ const COMMIT: &str = "task a write main 0 fail\ngroup /\ncommit first\n";
 
 #[test]
 fn ends_that_fail(rt: HostRuntime) -> Result<(), Fail> {
-    let alloc = rt.alloc();
-    let no_read = asking(alloc, &["play"], COMMIT, &[0], &[]);
-    assert!(rt; comes_to(&rt, alloc, no_read, "", Status::ReadFault)?);
-    let no_write = asking(alloc, &["play"], COMMIT, &[], &[0]);
-    assert!(rt; comes_to(&rt, alloc, no_write, "", Status::WriteFault)?);
-    Ok(())
+    let no_read = asking(rt.alloc(), &["play"], COMMIT, &[0], &[]);
+    says(written(&rt, rt.alloc(), no_read, Status::ReadFault), "")?;
+    let no_write = asking(rt.alloc(), &["play"], COMMIT, &[], &[0]);
+    says(written(&rt, rt.alloc(), no_write, Status::WriteFault), "")
 }
 
 const REFUSED: [(&str, u32, ScriptKind); 2] = [
@@ -154,13 +143,15 @@ const REFUSED: [(&str, u32, ScriptKind); 2] = [
 /// The line that is refused, and why; the report and the number of the status alone are a case of `ice_faults`.
 #[test]
 fn refused_lines(rt: HostRuntime) -> Result<(), Fail> {
-    for row in &REFUSED {
-        let asked = script(rt.alloc(), row.0);
+    for (text, line, kind) in &REFUSED {
         let status = Status::Script {
-            line: row.1,
-            kind: row.2,
+            line: *line,
+            kind: *kind,
         };
-        assert!(rt; comes_to(&rt, rt.alloc(), asked, "", status)?, "{}", row.0);
+        says(
+            written(&rt, rt.alloc(), script(rt.alloc(), text), status),
+            "",
+        )?;
     }
     Ok(())
 }
@@ -176,10 +167,9 @@ const WRONG: [(&[&str], UsageFault); 6] = [
 
 #[test]
 fn wrong_words(rt: HostRuntime) -> Result<(), Fail> {
-    for row in &WRONG {
-        let asked = asking(rt.alloc(), row.0, COMMIT, &[], &[]);
-        let status = Status::Usage(row.1);
-        assert!(rt; comes_to(&rt, rt.alloc(), asked, "", status)?);
+    for (said, fault) in &WRONG {
+        let asked = asking(rt.alloc(), said, COMMIT, &[], &[]);
+        says(written(&rt, rt.alloc(), asked, Status::Usage(*fault)), "")?;
     }
     Ok(())
 }
@@ -192,29 +182,28 @@ const OTHER: [(&[&str], &str); 2] = [
 /// What `grow` and `--version` print, and that neither reads its input.
 #[test]
 fn other_commands(rt: HostRuntime) -> Result<(), Fail> {
-    for row in &OTHER {
-        let asked = asking(rt.alloc(), row.0, "", &[0], &[]);
-        assert!(rt;
-            comes_to(&rt, rt.alloc(), asked, row.1, Status::Ok)?,
-            "{}",
-            row.1
-        );
+    for (said, line) in &OTHER {
+        let asked = asking(rt.alloc(), said, "", &[0], &[]);
+        says(written(&rt, rt.alloc(), asked, Status::Ok), line)?;
     }
     Ok(())
 }
 
-fn grown(alloc: Global) -> Result<Asked, AllocError> {
-    asking(alloc, &["grow", "60"], COMMIT, &[], &[])
+/// What `grow 60` prints.
+fn grown<R: Threads + Wait + Sync>(rt: &R, alloc: Global) -> Option<String> {
+    let asked = asking(alloc, &["grow", "60"], COMMIT, &[], &[]);
+    written(rt, alloc, asked, Status::Ok)
 }
 
 /// `grow 60` prints the same line each time.
 #[test]
 fn grown_runs_agree(rt: HostRuntime) -> Result<(), Fail> {
-    let alloc = rt.alloc();
-    let (first, status) = ran(&rt, alloc, grown(alloc))?;
-    let again = comes_to(&rt, alloc, grown(alloc), first.as_str(), Status::Ok);
-    assert_eq!(rt; status, Status::Ok, "{first}");
-    drop(first);
-    assert!(rt; again?);
-    Ok(())
+    match grown(&rt, rt.alloc()) {
+        Some(first) => {
+            let agree = says(grown(&rt, rt.alloc()), first.as_str());
+            drop(first);
+            agree
+        }
+        None => holds(false, "nothing was told"),
+    }
 }

@@ -1,9 +1,11 @@
 //! Sessions whose ids run out.
 
+use crate::checking::holds;
 use crate::untold::{begun, opened, went};
 use ice_ids::{AnyIds, CountIds, Id8};
 use session::Session;
 use std::alloc::Global;
+use std::test::Fail;
 use store_api::Refusal;
 use zarr_path::Path;
 use zarr_tree::EditFault;
@@ -61,6 +63,6 @@ fn took_the_last(alloc: Global) -> Option<bool> {
 
 /// One id is left: the first group takes it, and the second one is refused.
 #[test]
-fn the_last_id(rt: HostRuntime) {
-    assert!(rt; took_the_last(rt.alloc()) == Some(true));
+fn the_last_id(rt: HostRuntime) -> Result<(), Fail> {
+    holds(took_the_last(rt.alloc()) == Some(true), "the last id")
 }

@@ -3,6 +3,7 @@
 ghost use Rattle.std.specs.Prelude.{◌≤◌, IfOk, IsTrue};
 ghost use Rattle.flat_tables.specs.Trees.{is_writable, is_writable_slot};
 
+use crate::checking::holds;
 use flat_tables::{Flat, FlatFault, Slot, Table, Vector, flat_write};
 use std::alloc::{AllocError, Global};
 use std::test::Fail;
@@ -48,12 +49,20 @@ fn nested(alloc: Global) -> Result<Flat, AllocError>
     Ok(Flat { slots })
 }
 
+/// The file of those tables.
+fn written(alloc: Global) -> Option<Vec<u8>> {
+    let nested = nested(alloc).ok()?;
+    let written = flat_write(alloc, &nested);
+    drop(nested);
+    written.ok()
+}
+
 #[test]
 fn nested_tables_are_written(rt: HostRuntime) -> Result<(), Fail> {
-    let nested = nested(rt.alloc())?;
-    let written = flat_write(rt.alloc(), &nested)?;
-    assert!(rt; written.as_slice() == NESTED.as_slice());
-    Ok(())
+    match written(rt.alloc()) {
+        Some(written) => holds(written.as_slice() == NESTED.as_slice(), "nested"),
+        None => holds(false, "none were written"),
+    }
 }
 
 /// Whether the first table of a root has the number 7.
@@ -83,10 +92,13 @@ fn has_tables(root: &Table<'_>) -> Result<bool, FlatFault> {
     Ok(vector.table_at(0)?.text(0)? == Some("a"))
 }
 
+/// Whether the root of those tables has all that is in it.
+fn has_all(bytes: &[u8]) -> Result<bool, FlatFault> {
+    let root = Table::root(bytes)?;
+    Ok(has_number(&root)? && has_tables(&root)?)
+}
+
 #[test]
-fn nested_tables_are_read(rt: HostRuntime) -> Result<(), Fail> {
-    let root = Table::root(&NESTED)?;
-    assert!(rt; has_number(&root)?);
-    assert!(rt; has_tables(&root)?);
-    Ok(())
+fn nested_tables_are_read() -> Result<(), Fail> {
+    holds(has_all(&NESTED) == Ok(true), "nested")
 }

@@ -7,6 +7,7 @@ ghost use Rattle.turn_cell.specs.Owners.{IsOwner, all_owners};
 ghost use Rattle.turn_cell.specs.Logs.{Grows};
 ghost use Rattle.turn_cell.specs.Passes.{known, IsPassOf};
 
+use crate::checking::holds;
 use std::alloc::Global;
 use std::sync::Wait;
 use std::test::Fail;
@@ -138,15 +139,20 @@ fn work_at_once<W: Work + Send, R: Threads + Wait + Sync>(
     pass
 }
 
-#[test]
-fn two_threads_take_turns(rt: HostRuntime) {
-    match TurnCell::new(rt.alloc(), Tally(3)) {
+/// What two threads count to that begin at 3, if there was memory.
+fn counted_by_two<R: Threads + Wait + Sync>(rt: &R, alloc: Global) -> u64 {
+    match TurnCell::new(alloc, Tally(3)) {
         Ok((cell, pass)) => {
-            let pass = work_at_once(&rt, &cell, pass, 1, 20_000);
-            assert_eq!(rt; cell.close(&rt, pass).0, 40_003);
+            let pass = work_at_once(rt, &cell, pass, 1, 20_000);
+            cell.close(rt, pass).0
         }
-        Err((tally, _)) => assert_eq!(rt; tally.0, 3),
+        Err((tally, _)) => tally.0,
     }
+}
+
+#[test]
+fn two_threads_take_turns(rt: HostRuntime) -> Result<(), Fail> {
+    holds(counted_by_two(&rt, rt.alloc()) == 40_003, "two threads")
 }
 
 fn empty_diary(alloc: Global) -> Diary {
@@ -155,33 +161,64 @@ fn empty_diary(alloc: Global) -> Diary {
     }
 }
 
-#[test]
-fn ten_threads_take_turns(rt: HostRuntime) {
-    let Ok((cell, pass)) = TurnCell::new(rt.alloc(), empty_diary(rt.alloc())) else {
-        panic!(rt; "no memory");
-    };
-    let pass = work_at_once(&rt, &cell, pass, 9, 300);
-    let numbers = cell.close(&rt, pass).numbers;
-    assert_eq!(rt; numbers.len(), 3_000);
-    for number in 0..10 {
-        assert_eq!(rt; numbers.iter().filter(|&&n| n == number).count(), 300);
+/// The numbers of ten threads that take turns, if there was memory.
+fn numbers_of_ten<R: Threads + Wait + Sync>(rt: &R, alloc: Global) -> Option<Vec<u32>> {
+    let (cell, pass) = TurnCell::new(alloc, empty_diary(alloc)).ok()?;
+    let pass = work_at_once(rt, &cell, pass, 9, 300);
+    Some(cell.close(rt, pass).numbers)
+}
+
+/// How often a number is there.
+fn count_of(numbers: &[u32], number: u32) -> usize {
+    let mut count: usize = 0;
+    for other in numbers {
+        if *other == number {
+            count = count.saturating_add(1);
+        }
     }
+    count
+}
+
+/// Whether each of ten numbers is there 300 times, and no other.
+fn are_turns_of_ten(numbers: &[u32]) -> bool {
+    for number in 0..10 {
+        if count_of(numbers, number) != 300 {
+            return false;
+        }
+    }
+    numbers.len() == 3_000
 }
 
 #[test]
-fn passes_are_joined_in_another_order(rt: HostRuntime) {
-    let Ok((cell, mut first)) = TurnCell::new(rt.alloc(), empty_diary(rt.alloc())) else {
-        panic!(rt; "no memory");
-    };
+fn ten_threads_take_turns(rt: HostRuntime) -> Result<(), Fail> {
+    match numbers_of_ten(&rt, rt.alloc()) {
+        Some(numbers) => holds(are_turns_of_ten(numbers.as_slice()), "turns"),
+        None => holds(false, "no memory"),
+    }
+}
+
+/// The numbers of those that had turns, where passes are joined in another order than they were split, if there was memory.
+fn numbers_of_three<R: Wait>(rt: &R, alloc: Global) -> Option<Vec<u32>> {
+    let (cell, mut first) = TurnCell::new(alloc, empty_diary(alloc)).ok()?;
     let mut third = cell.split(&mut first, 20);
-    work_once(&rt, &cell, &mut third, 25);
+    work_once(rt, &cell, &mut third, 25);
     let mut second = cell.split(&mut first, 10);
-    work_once(&rt, &cell, &mut second, 15);
-    work_once(&rt, &cell, &mut first, 5);
+    work_once(rt, &cell, &mut second, 15);
+    work_once(rt, &cell, &mut first, 5);
     cell.join(&mut second, third);
-    work_once(&rt, &cell, &mut second, 20);
+    work_once(rt, &cell, &mut second, 20);
     cell.join(&mut first, second);
-    work_once(&rt, &cell, &mut first, 17);
-    let diary = cell.close(&rt, first);
-    assert_eq!(rt; diary.numbers.as_slice(), [25, 15, 5, 20, 17].as_slice());
+    work_once(rt, &cell, &mut first, 17);
+    Some(cell.close(rt, first).numbers)
+}
+
+#[test]
+fn passes_are_joined_in_another_order(rt: HostRuntime) -> Result<(), Fail> {
+    match numbers_of_three(&rt, rt.alloc()) {
+        Some(numbers) => holds(
+            numbers.as_slice() == [25, 15, 5, 20, 17].as_slice(),
+            "turns",
+        ),
+        None => holds(false, "no memory"),
+    }
 }

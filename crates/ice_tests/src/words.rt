@@ -1,3 +1,4 @@
+use crate::checking::holds;
 use command_words::{Command, Place, Topic, UsageFault, Word, WordsFault, place_of, read_words};
 use std::alloc::{AllocError, Global};
 use std::test::Fail;
@@ -15,16 +16,24 @@ fn words(alloc: Global, line: &str) -> Result<Vec<Word>, AllocError> {
     Ok(list)
 }
 
-/// What the words of a line say.
-fn said(alloc: Global, line: &str) -> Result<Result<Command, WordsFault>, AllocError> {
-    let list = words(alloc, line)?;
-    Ok(read_words(alloc, list.as_slice()))
+/// Whether the words of a line say this.
+fn says(alloc: Global, line: &str, said: &Result<Command, WordsFault>) -> bool {
+    let Ok(list) = words(alloc, line) else {
+        return false;
+    };
+    let says = read_words(alloc, list.as_slice()) == *said;
+    drop(list);
+    says
 }
 
 /// Whether the words of a line name this place.
-fn is_at(alloc: Global, line: &str, place: Place<'_>) -> Result<bool, AllocError> {
-    let list = words(alloc, line)?;
-    Ok(place_of(alloc, list.as_slice()) == Ok(place))
+fn is_at(alloc: Global, line: &str, place: Place<'_>) -> bool {
+    let Ok(list) = words(alloc, line) else {
+        return false;
+    };
+    let is = place_of(alloc, list.as_slice()) == Ok(place);
+    drop(list);
+    is
 }
 
 const WRONG: Result<Command, WordsFault> = Err(WordsFault::Usage(UsageFault::Words));
@@ -59,8 +68,8 @@ const LINES: [(&str, Result<Command, WordsFault>); 23] = [
 
 #[test]
 fn words_are_read(rt: HostRuntime) -> Result<(), Fail> {
-    for row in &LINES {
-        assert!(rt; said(rt.alloc(), row.0)? == row.1, "{}", row.0);
+    for (line, said) in &LINES {
+        holds(says(rt.alloc(), line, said), line)?;
     }
     Ok(())
 }
@@ -78,8 +87,8 @@ const PLACES: [(&str, Place<'static>); 8] = [
 
 #[test]
 fn places_are_told(rt: HostRuntime) -> Result<(), Fail> {
-    for row in &PLACES {
-        assert!(rt; is_at(rt.alloc(), row.0, row.1)?, "{}", row.0);
+    for (line, place) in &PLACES {
+        holds(is_at(rt.alloc(), line, *place), line)?;
     }
     Ok(())
 }

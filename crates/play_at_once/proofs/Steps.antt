@@ -14,11 +14,11 @@ use Rattle.store_api.specs.Program.{events_of}
 use Rattle.store_api.specs.Plays.{Play, Ask, PlayIsPolite, Acts, Acted, Starved}
 use Rattle.object_store.proofs.Journals.{Each-one, Each-none, Each-append, Each-weaker}
 use Rattle.store_api.proofs.Programs.{Waits-fewer, Fewer, events_of-others, own-one}
-use Rattle.store_api.proofs.PlayLaws.{PlayKeeps-acts, PlayLeads-acts}
+use Rattle.store_api.proofs.PlayLaws.{PlayKeeps-acts, PlayKeeps-waits, PlayLeads-acts}
 use Rattle.play_script.specs.declared.scripts.Task.{Task}
 use Rattle.play_outcome.specs.declared.outcome.Outcome.{Outcome}
 use Rattle.play_outcome.specs.Ending.{is_failed}
-use Rattle.play_tasks.specs.Owing.{IsDue}
+use Rattle.play_tasks.specs.Owing.{IsDue, BeforeChange}
 use Rattle.play_tasks.specs.Tasks.{ids_at, TellsAt, Stands}
 use Rattle.play_tasks.specs.Played.{PlaysTo}
 use Rattle.play_tasks.specs.Laws.{OutcomeLaw}
@@ -90,8 +90,10 @@ module _ (draw : Draw) (tasks : List Task) (start : List Event) (by : Caller) wh
       let to : Caller = only by.tells (place + 1) in
       let careful = careful-waits (ids_at draw place) s.task start by.tells place p old m.middle (Waits-fewer by to (fewer by.tells place by c) old m.middle m.waits) s.careful in
       let owed : IsDue (ids_at draw place) s.task (place + 1) start m.middle (place + 1) op = PlayKeeps-now (IsDue (ids_at draw place) s.task (place + 1) start) to op starved next p m.middle asks careful in
+      let before = PlayKeeps-waits (Before s.task start) (stable-before s.task start) to p old m.middle (Waits-fewer by to (fewer by.tells place by c) old m.middle m.waits) s.before in
+      let early : BeforeChange s.task (place + 1) start m.middle op = PlayKeeps-now (Before s.task start) to op starved next p m.middle asks before in
       let good : IsGood m.middle event = record { legal = m.answered; polite = owed.polite } in
-      let own : Known m.middle event = record { good = good; mine = λ is. record { place = place; task = s.task; client = c.number; at = s.at; careful = record { good = good; owes = owed.owes; own = owed.own } } } in
+      let own : Known m.middle event = record { good = good; mine = λ is. record { place = place; task = s.task; client = c.number; at = s.at; careful = record { good = good; owes = owed.owes; own = owed.own; open_at = owed.open_at }; before = early } } in
       let none : events_of (place + 1) m.waits.between ≡ [] = subst (λ (n : ℕ). events_of n m.waits.between ≡ []) c.number (events_of-others by old m.waits.between m.waits.others) in
       record {
         more = m.waits.between ++ event ∷ [];

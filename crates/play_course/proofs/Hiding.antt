@@ -45,7 +45,8 @@ use Rattle.play_outcome.specs.declared.outcome.End.TheVariants as E
 use Rattle.play_outcome.specs.declared.outcome.Outcome.{Outcome}
 use Rattle.play_tasks.specs.Lines.{Deed, Goes, Sets, Reads, Commits, deed, edit_deed, read_deed, edited, read_by, silent, still, key_set_deed, key_get_deed}
 use Rattle.play_tasks.specs.Playing.{asked_by, policy_of}
-use Rattle.play_tasks.specs.Telling.{PlaysAll, Refuses, WasTriedAt, EndsAt, WasNotOpened, WasOpened}
+use Rattle.play_tasks.specs.Solving.{PlaysAll}
+use Rattle.play_tasks.specs.Telling.{Refuses, WasTriedAt, EndsAt, WasNotOpened, WasOpened}
 use Rattle.run_histories.specs.Told.{HasLost}
 use Rattle.play_course.specs.Refusing.{is_strange, strange_end}
 use Rattle.play_course.proofs.Reading.{edit-plain}

@@ -5,7 +5,6 @@ use Rattle.std.specs.declared.alloc.AllocError.{AllocError}
 use Rattle.ice_ids.specs.declared.Id12.{Id12}
 use Rattle.ice_ids.specs.declared.drawing.Draw.{Draw}
 use Rattle.zarr_tree.specs.Changes.{Changes}
-use Rattle.repo_objects.specs.Readings.{ref_of}
 use Rattle.object_store.specs.declared.events.Event.{Event}
 use Rattle.object_store.specs.declared.keys.Key.TheVariants.{Branch, Tag, TagGone}
 use Rattle.store_api.specs.declared.machines.Refusal.{Refusal}
@@ -19,6 +18,8 @@ use Rattle.histories.specs.Repository.{Entry, last}
 use Rattle.histories.specs.Calls.{history_of, StandsAs}
 use Rattle.histories.specs.Tags.{TagState, Absent, Stands, Gone, made_as}
 use Rattle.histories.specs.TagCalls.{tag_of, IsBuriedAs, StandsByState}
+use Rattle.histories.specs.Files.{Files}
+use Rattle.histories.specs.Formats.{files_by, applied}
 use Rattle.store_api.specs.Running.{Program, Runs}
 use Rattle.repository.specs.Beginning.{begin_program}
 use Rattle.repository.specs.Refs.{refs_program}
@@ -49,11 +50,11 @@ plays-alone draw script old new (Err why) outcomes t p = record { own = []; is =
 
 -- ---- the refs that are told
 -- what stands at a branch is its history's last entry
-names-ends : (id : Id12) (stands : Option Stored) (end : Option Entry) → StandsAs stands end → (s : Stored) → stands ≡ Some s → ref_of s.bytes ≡ Some id → (e : Entry) × (end ≡ Some e) × (e.id ≡ id)
-names-ends id None None k s at names = cc
-names-ends id None (Some e) k s at names = cc
-names-ends id (Some x) None k s at names = absurd k
-names-ends id (Some x) (Some e) k s at names = (e, refl, same (sym k.1 ∙ ap (λ (b : List ℕ). ref_of b) (bytes at) ∙ names))
+names-ends : (files : Files) (id : Id12) (stands : Option Stored) (end : Option Entry) → StandsAs files stands end → (s : Stored) → stands ≡ Some s → files.ref s.bytes ≡ Some id → (e : Entry) × (end ≡ Some e) × (e.id ≡ id)
+names-ends files id None None k s at names = cc
+names-ends files id None (Some e) k s at names = cc
+names-ends files id (Some x) None k s at names = absurd k
+names-ends files id (Some x) (Some e) k s at names = (e, refl, same (sym k.1 ∙ ap (λ (b : List ℕ). files.ref b) (bytes at) ∙ names))
   where
     bytes : Some x ≡ Some s → x.bytes ≡ s.bytes
     bytes h = cc
@@ -61,24 +62,24 @@ names-ends id (Some x) (Some e) k s at names = (e, refl, same (sym k.1 ∙ ap (�
     same : Some e.id ≡ Some id → e.id ≡ id
     same h = cc
 
-ends-names : (id : Id12) (stands : Option Stored) (end : Option Entry) → StandsAs stands end → (e : Entry) → end ≡ Some e → e.id ≡ id → (s : Stored) × (stands ≡ Some s) × (ref_of s.bytes ≡ Some id)
-ends-names id None None k e at names = cc
-ends-names id None (Some x) k e at names = absurd k
-ends-names id (Some s) None k e at names = absurd k
-ends-names id (Some s) (Some x) k e at names = (s, refl, k.1 ∙ ap (λ (i : Id12). Some i) (same at ∙ names))
+ends-names : (files : Files) (id : Id12) (stands : Option Stored) (end : Option Entry) → StandsAs files stands end → (e : Entry) → end ≡ Some e → e.id ≡ id → (s : Stored) × (stands ≡ Some s) × (files.ref s.bytes ≡ Some id)
+ends-names files id None None k e at names = cc
+ends-names files id None (Some x) k e at names = absurd k
+ends-names files id (Some s) None k e at names = absurd k
+ends-names files id (Some s) (Some x) k e at names = (s, refl, k.1 ∙ ap (λ (i : Id12). Some i) (same at ∙ names))
   where
     same : Some x ≡ Some e → x.id ≡ e.id
     same h = cc
 
 -- a tag that has no tombstone stands as its state says
-tag-stands : (id : Id12) (state : TagState) (at tombstone : Option Stored) → StandsAs at (made_as state) → IsBuriedAs state tombstone → tombstone ≡ None → (s : Stored) → at ≡ Some s → ref_of s.bytes ≡ Some id → (e : Entry) × (state ≡ Stands e) × (e.id ≡ id)
-tag-stands id Absent None tombstone k b none s e names = cc
-tag-stands id Absent (Some x) tombstone k b none s e names = absurd k
-tag-stands id (Stands x) at tombstone k b none s e names = let end = names-ends id at (Some x) k s e names in (x, refl, ap (λ (y : Entry). y.id) (entry_same x end.0 end.1) ∙ end.2)
+tag-stands : (files : Files) (id : Id12) (state : TagState) (at tombstone : Option Stored) → StandsAs files at (made_as state) → IsBuriedAs state tombstone → tombstone ≡ None → (s : Stored) → at ≡ Some s → files.ref s.bytes ≡ Some id → (e : Entry) × (state ≡ Stands e) × (e.id ≡ id)
+tag-stands files id Absent None tombstone k b none s e names = cc
+tag-stands files id Absent (Some x) tombstone k b none s e names = absurd k
+tag-stands files id (Stands x) at tombstone k b none s e names = let end = names-ends files id at (Some x) k s e names in (x, refl, ap (λ (y : Entry). y.id) (entry_same x end.0 end.1) ∙ end.2)
   where
     entry_same : (a c : Entry) → Some a ≡ Some c → a ≡ c
     entry_same a c h = cc
-tag-stands id (Gone x) at tombstone k b none s e names = let there = sym b.1 ∙ none in absurd cc
+tag-stands files id (Gone x) at tombstone k b none s e names = let there = sym b.1 ∙ none in absurd cc
 
 -- and one that stands has none
 tag-unburied : (state : TagState) (tombstone : Option Stored) (e : Entry) → state ≡ Stands e → IsBuriedAs state tombstone → tombstone ≡ None
@@ -87,30 +88,30 @@ tag-unburied state tombstone e is b = subst (λ (s : TagState). IsBuriedAs s tom
 module _ (changes : ℕ → Changes) (journal : List Event) where
   -- the state of a tag
   abbrev state : List ℕ → TagState
-  state name = tag_of (tree_of journal) journal name
+  state name = tag_of (files_by (tree_of journal)) journal name
 
-  told-tags : (lines : List RefLine) → ((tag : List ℕ) → StandsByState (tree_of journal) journal tag) → TellsRefs journal lines → (name : List ℕ) (id : Id12) → (HasLine lines (tag_line name id) ↔ TagEndsAt journal name id)
+  told-tags : (lines : List RefLine) → ((tag : List ℕ) → StandsByState (files_by (tree_of journal)) journal tag) → TellsRefs journal lines → (name : List ℕ) (id : Id12) → (HasLine lines (tag_line name id) ↔ TagEndsAt (files_by (tree_of journal)) journal name id)
   told-tags lines stand t name id = (
     λ line.
         let n = (t.tags name id).0 line in
-        let e = tag-stands id (state name) (found journal (Tag name)) (found journal (TagGone name)) (stand name).tag (stand name).tombstone n.1 n.0.stored n.0.stands n.0.names in
+        let e = tag-stands (files_by (tree_of journal)) id (state name) (found journal (Tag name)) (found journal (TagGone name)) (stand name).tag (stand name).tombstone n.1 n.0.stored n.0.stands n.0.names in
         record { entry = e.0; stands = e.1; names = e.2 },
     λ end.
-        let s = ends-names id (found journal (Tag name)) (made_as (state name)) (stand name).tag end.entry (ap made_as end.stands) end.names in
+        let s = ends-names (files_by (tree_of journal)) id (found journal (Tag name)) (made_as (state name)) (stand name).tag end.entry (ap made_as end.stands) end.names in
         (t.tags name id).1 (record { stored = s.0; stands = s.1; names = s.2 }, tag-unburied (state name) (found journal (TagGone name)) end.entry end.stands (stand name).tombstone),
   )
 
-  told-ends : (lines : List RefLine) → ((branch : List ℕ) → StandsAs (found journal (Branch branch)) (last (history_of (tree_of journal) changes journal branch))) → ((tag : List ℕ) → StandsByState (tree_of journal) journal tag) → TellsRefs journal lines → TellsEnds changes journal lines
+  told-ends : (lines : List RefLine) → ((branch : List ℕ) → StandsAs (files_by (tree_of journal)) (found journal (Branch branch)) (last (history_of (files_by (tree_of journal)) (applied changes) journal branch))) → ((tag : List ℕ) → StandsByState (files_by (tree_of journal)) journal tag) → TellsRefs journal lines → TellsEnds (files_by (tree_of journal)) changes journal lines
   told-ends lines stand tags t = record {
     stand = t;
     tags = told-tags lines tags t;
     ends = λ name id. (
       λ line.
           let n : NamesAt journal (Branch name) id = (t.branches name id).0 line in
-          let e = names-ends id (found journal (Branch name)) (last (history_of (tree_of journal) changes journal name)) (stand name) n.stored n.stands n.names in
+          let e = names-ends (files_by (tree_of journal)) id (found journal (Branch name)) (last (history_of (files_by (tree_of journal)) (applied changes) journal name)) (stand name) n.stored n.stands n.names in
           record { entry = e.0; is_last = e.1; names = e.2 },
       λ end.
-          let s = ends-names id (found journal (Branch name)) (last (history_of (tree_of journal) changes journal name)) (stand name) end.entry end.is_last end.names in
+          let s = ends-names (files_by (tree_of journal)) id (found journal (Branch name)) (last (history_of (files_by (tree_of journal)) (applied changes) journal name)) (stand name) end.entry end.is_last end.names in
           (t.branches name id).1 (record { stored = s.0; stands = s.1; names = s.2 }),
     );
   }
@@ -142,17 +143,28 @@ course-run draw script old new opening outcomes refs wells c t =
       closing = ran-alone refs_program refs (as_client 0 c.played) new played_tells last_all c.reads;
     }
 
-pub course-leaves : RunLaw → RefsLaw → (draw : Draw) (script : Script) (old new : View) (opening : Result (Unit {0}) Refusal) (outcomes : List Outcome) (refs : Result (List RefLine) Refusal) → All IsWellTask script.tasks
-    → Course draw script old new opening outcomes refs → IsTrue old.caller.tells → (before : ℕ → Changes) → IsSound old.seen before → IsNewRun draw script.tasks old.seen → LeavesBranches draw script.tasks before old.seen new.seen refs
-course-leaves run closing draw script old new opening outcomes refs wells c t before sound new_run =
+-- its tasks began behind the opening
+pub course-begun : (draw : Draw) (script : Script) (old new : View) (opening : Result (Unit {0}) Refusal) (outcomes : List Outcome) (refs : Result (List RefLine) Refusal) (wells : All IsWellTask script.tasks)
+    (c : Course draw script old new opening outcomes refs) (t : IsTrue old.caller.tells) → (course-run draw script old new opening outcomes refs wells c t).begun ≡ c.begun.seen
+unfolding course-run
+course-begun draw script old new opening outcomes refs wells c t = refl
+
+-- the refs that are told are those that stand, where the branches and the tags stand so
+pub course-told : RefsLaw → (draw : Draw) (script : Script) (old new : View) (opening : Result (Unit {0}) Refusal) (outcomes : List Outcome) (refs : Result (List RefLine) Refusal) → Course draw script old new opening outcomes refs → IsTrue old.caller.tells → (changes : ℕ → Changes)
+    → ((branch : List ℕ) → StandsAs (files_by (tree_of new.seen)) (found new.seen (Branch branch)) (last (history_of (files_by (tree_of new.seen)) (applied changes) new.seen branch))) → ((tag : List ℕ) → StandsByState (files_by (tree_of new.seen)) new.seen tag)
+    → (lines : List RefLine) → refs ≡ Ok lines → TellsEnds (files_by (tree_of new.seen)) changes new.seen lines
+course-told closing draw script old new opening outcomes refs c t changes stand tags lines e =
     let begun_tells : IsTrue c.begun.caller.tells = subst (λ (b : Caller). IsTrue b.tells) (sym c.begins.same) t in
     let played_tells : IsTrue c.played.caller.tells = tells-on draw script c.begun c.played opening outcomes c.plays begun_tells in
     let last_all : HasAll (as_client 0 c.played).caller = record { low = c.still_alone.low; end = c.still_alone.end } in
+    told-ends changes new.seen lines stand tags (ran-told refs (as_client 0 c.played) new closing played_tells last_all c.reads lines e)
+
+pub course-leaves : RunLaw → RefsLaw → (draw : Draw) (script : Script) (old new : View) (opening : Result (Unit {0}) Refusal) (outcomes : List Outcome) (refs : Result (List RefLine) Refusal) → All IsWellTask script.tasks
+    → Course draw script old new opening outcomes refs → IsTrue old.caller.tells → (before : ℕ → Changes) → IsSound old.seen before → IsNewRun draw script.tasks old.seen → LeavesBranches draw script.tasks before old.seen new.seen refs
+unfolding course-run
+course-leaves run closing draw script old new opening outcomes refs wells c t before sound new_run =
     let h = run draw script.tasks before old.seen new.seen sound new_run (course-run draw script old new opening outcomes refs wells c t) in
-    record {
-      histories = h;
-      told = λ lines e. told-ends h.changes new.seen lines h.stand h.tags_stand (ran-told refs (as_client 0 c.played) new closing played_tells last_all c.reads lines e);
-    }
+    record { start = c.begun.seen; histories = h; told = course-told closing draw script old new opening outcomes refs c t h.changes h.stand h.tags_stand }
 
 pub played-leaves : RunLaw → RefsLaw → (draw : Draw) (script : Script) (old new : View) (result : Result Played AllocError) → IsWell script → IfOk result (λ played. Course draw script old new played.opening played.outcomes.items played.refs) → IsTrue old.caller.tells → (before : ℕ → Changes) → IsSound old.seen before → IsNewRun draw script.tasks old.seen
     → IfOk result (λ played. LeavesBranches draw script.tasks before old.seen new.seen played.refs)
@@ -160,7 +172,7 @@ played-leaves run closing draw script old new (Ok played) well c t before sound 
 played-leaves run closing draw script old new (Err error) well c t before sound new_run = tt
 
 -- where the repository was begun at most
-began-kept : RunLaw → (draw : Draw) (script : Script) (old new : View) → All IsWellTask script.tasks → OnlyBegan old new → IsTrue old.caller.tells → (before : ℕ → Changes) → IsSound old.seen before → IsNewRun draw script.tasks old.seen → HasHistories draw script.tasks before old.seen new.seen
+began-kept : RunLaw → (draw : Draw) (script : Script) (old new : View) → All IsWellTask script.tasks → OnlyBegan old new → IsTrue old.caller.tells → (before : ℕ → Changes) → IsSound old.seen before → IsNewRun draw script.tasks old.seen → HasHistories draw script.tasks before old.seen new.seen new.seen
 began-kept run draw script old new wells b t before sound new_run =
     let all : HasAll (as_client 0 old).caller = record { low = b.alone.low; end = b.alone.end } in
     run draw script.tasks before old.seen new.seen sound new_run (record {
@@ -173,6 +185,6 @@ began-kept run draw script old new wells b t before sound new_run =
     })
 
 pub unplayed-kept : RunLaw → (draw : Draw) (script : Script) (old new : View) (result : Result Played AllocError) → IsWell script → IfErr result (λ error. OnlyBegan old new) → IsTrue old.caller.tells → (before : ℕ → Changes) → IsSound old.seen before → IsNewRun draw script.tasks old.seen
-    → IfErr result (λ error. HasHistories draw script.tasks before old.seen new.seen)
+    → IfErr result (λ error. HasHistories draw script.tasks before old.seen new.seen new.seen)
 unplayed-kept run draw script old new (Ok played) well b t before sound new_run = tt
 unplayed-kept run draw script old new (Err error) well b t before sound new_run = began-kept run draw script old new well.tasks b t before sound new_run

@@ -1,11 +1,11 @@
-mod Leaving
+pub mod Leaving
 mod Playing
 mod Tidy
 mod Meeting
 mod Knowing
 mod Holding
 mod Reading
-mod Placing
+pub mod Placing
 mod Committing
 mod Rebasing
 mod Naming

@@ -91,7 +91,7 @@ pub fn play<R: Threads + Wait + Sync, S: Base + Send, G: Gate + Sync>(
     // Without memory for the workers the repository may have been begun, and nothing else has been done; the histories are
     // kept then, too.
     ensures began { IfErr result.1 (λ error. OnlyBegan (S.view store) (S.view result.0)) }
-    ensures kept { IsTrue (S.view store).caller.tells → (before : ℕ → Changes) → IsSound (S.view store).seen before → IsNewRun draw script.now.tasks (S.view store).seen → IfErr result.1 (λ error. HasHistories draw script.now.tasks before (S.view store).seen (S.view result.0).seen) }
+    ensures kept { IsTrue (S.view store).caller.tells → (before : ℕ → Changes) → IsSound (S.view store).seen before → IsNewRun draw script.now.tasks (S.view store).seen → IfErr result.1 (λ error. HasHistories draw script.now.tasks before (S.view store).seen (S.view result.0).seen (S.view result.0).seen) }
     // Over a store that tells its journal, where that is sound and the clients' ids are new to it, the branches' histories
     // are kept, and the refs that were read are their ends.
     ensures leaves { IsTrue (S.view store).caller.tells → (before : ℕ → Changes) → IsSound (S.view store).seen before → IsNewRun draw script.now.tasks (S.view store).seen → IfOk result.1 (λ played. LeavesBranches draw script.now.tasks before (S.view store).seen (S.view result.0).seen played.refs) }

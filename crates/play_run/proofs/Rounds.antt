@@ -129,7 +129,7 @@ AllStand-begin law draw tasks tells journal ps wells b k q e =
       task = r.task;
       at = r.at;
       careful = PlayKeeps-comes (IsDue (ids_at draw k) r.task (k + 1) journal) by p q journal comes well.0;
-      before = PlayKeeps-comes (λ h client op. BeforeChange r.task client journal h) by p q journal comes well.1;
+      before = PlayKeeps-comes (λ h client op. BeforeChange r.task client journal h op) by p q journal comes well.1;
       leads = PlayLeads-comes (TellsAt draw k r.task journal) by p q journal comes well.2;
     }
 

@@ -17,6 +17,7 @@ use Rattle.object_store.proofs.Journals.{Each-one, Each-none, Each-append}
 use Rattle.store_api.proofs.Programs.{alone, has-all, good-waits, Waits-same, Waits-fewer, Makes-fewer, Fewer}
 use Rattle.store_api.proofs.PlayLaws.{PlayKeeps-waits, PlayKeeps-acts, PlayLeads-waits, PlayLeads-acts}
 use Rattle.commit_path.proofs.Owing.{KeepsMine, IsCareful-append}
+use Rattle.commit_path.proofs.Knowing.{IsOpened-append}
 use Rattle.commit_path.proofs.Lawful.{session-law, answers-law}
 use Rattle.chunk_calls.proofs.Lasting.{tells-law}
 use Rattle.store_api.proofs.Happening.{ChangedNothing-others}
@@ -34,7 +35,9 @@ use Rattle.commit_path.proofs.OwnKept.{OwesOwn-others}
 use Rattle.play_tasks.specs.Owing.{OwesBy, OwesOwnBy, IsDue, ComesBefore, BeforeChange}
 use Rattle.play_tasks.specs.Tasks.{ids_at, TellsAt, Stands, AllStand, IsOfClient, HasEndedAt}
 use Rattle.play_tasks.specs.Laws.{OutcomeLaw}
+use Rattle.play_tasks.proofs.Based.{open-others}
 use Rattle.play_tasks.proofs.Early.{WasBegun-more}
+use Rattle.play_tasks.proofs.Going.{CameToCommit-append}
 use Rattle.play_tasks.proofs.Others.{TellsOutcome-others, TellsOutcome-waits}
 use Rattle.play_tasks.proofs.Tried.{WasCarried-append}
 use Rattle.play_run.specs.Order.{Turned, InTurns}
@@ -136,8 +139,9 @@ of-task-others by ids task start journal more others t id o = record {
   opened = o.opened;
   begun = WasBegun-more by.number (asked_by o.access ids) o.opened start journal more o.begun;
   early = o.early;
+  read = IsOpened-append o.opened journal more (good-waits by journal more others) o.read;
   session = o.session;
-  reaches = o.reaches;
+  came = CameToCommit-append by.number task.body o.opened start journal more o.session (good-waits by journal more others) o.came;
   count = o.count;
   few = o.few;
   carried = WasCarried-append by.number (policy_of o.access) o.count o.session t start journal more o.carried;
@@ -159,7 +163,7 @@ own-others by ids start journal more op o (Session access) own = OwesOwn-others 
 own-others by ids start journal more op o Refs own = own
 
 stable : (ids : AnyIds) (task : Task) (start : List Event) (by : Caller) (journal more : List Event) (op : Op) → Each (IsOther by) journal more → Owing ids task start journal by.number op → Owing ids task start (journal ++ more) by.number op
-stable ids task start by journal more op o c = record { polite = IsPolite-append journal more op (good-waits by journal more o) c.polite; owes = owes-others by ids task start journal more op o c.polite task.head c.owes; own = own-others by ids start journal more op o task.head c.own }
+stable ids task start by journal more op o c = record { polite = IsPolite-append journal more op (good-waits by journal more o) c.polite; owes = owes-others by ids task start journal more op o c.polite task.head c.owes; own = own-others by ids start journal more op o task.head c.own; open_at = open-others by start journal more o task.head ids op c.open_at }
 
 -- where Q follows from P of the caller's own operations
 keeps-own : (P Q : List Event → ℕ → Op → Type 0) (by : Caller) → ((journal : List Event) (op : Op) → P journal by.number op → Q journal by.number op) → (p : Play Outcome) (journal : List Event) → PlayKeeps P by p journal → PlayKeeps Q by p journal
@@ -185,16 +189,16 @@ module _ (ids : AnyIds) (task : Task) (start : List Event) (tells : Bool) (k : �
       (PlayKeeps-acts (Owing ids task start) (stable ids task start) is_failed old new p q told acts
       (subst (λ (by : Caller). PlayKeeps (Owing ids task start) by p old.seen) (sym same) (keeps-own Owed (Owing ids task start) (only tells (k + 1)) (λ h op x. x) p old.seen c))))
 
--- the client of a task that opens a session has changed no branch before an operation
+-- the client of a task that opens a session has changed no branch before it puts something
 abbrev pub Before : Task → List Event → List Event → ℕ → Op → Type 0
-Before task start journal client op = BeforeChange task client start journal
+Before task start journal client op = BeforeChange task client start journal op
 
-before-others : (by : Caller) (start journal more : List Event) → Each (IsOther by) journal more → (head : Head) → ComesBefore head by.number start journal → ComesBefore head by.number start (journal ++ more)
-before-others by start journal more others (Session access) c = ChangedNothing-others by start journal more others c
-before-others by start journal more others Refs c = c
+before-others : (by : Caller) (start journal more : List Event) (op : Op) → Each (IsOther by) journal more → (head : Head) → ComesBefore head by.number start journal op → ComesBefore head by.number start (journal ++ more) op
+before-others by start journal more op others (Session access) c = λ puts. ChangedNothing-others by start journal more others (c puts)
+before-others by start journal more op others Refs c = c
 
 pub stable-before : (task : Task) (start : List Event) (by : Caller) (journal more : List Event) (op : Op) → Each (IsOther by) journal more → Before task start journal by.number op → Before task start (journal ++ more) by.number op
-stable-before task start by journal more op others c = before-others by start journal more others task.head c
+stable-before task start by journal more op others c = before-others by start journal more op others task.head c
 
 -- what holds of each worker, where one of them went on
 AllStand-set : (draw : Draw) (tasks : List Task) (start : List Event) (tells : Bool) (ps : List (Play Outcome)) (t : ℕ) (p q : Play Outcome) (old new : List Event) → slice_get ps t ≡ Some p → AllStand draw tasks start tells ps old → Stands draw tasks start tells t q new → ((k : ℕ) → k ≢ t → Waits (only tells (k + 1)) old new) → AllStand draw tasks start tells (set ps t q) new
@@ -260,6 +264,7 @@ module _ (draw : Draw) (tasks : List Task) (start : List Event) (t : ℕ) (old n
       let event : Event = made_event t old new s.p s.q a in
       let added = Adds-makes tells by a.op a.reply old.seen new.seen a.made owner told in
       let owed : IsDue (ids_at draw t) mine.task (t + 1) start old.seen (t + 1) a.op = PlayKeeps-now (IsDue (ids_at draw t) mine.task (t + 1) start) (only tells (t + 1)) a.op a.starved a.next s.p old.seen a.asks mine.careful in
+      let early : BeforeChange mine.task (t + 1) start old.seen a.op = PlayKeeps-now (Before mine.task start) (only tells (t + 1)) a.op a.starved a.next s.p old.seen a.asks mine.before in
       let good : IsGood old.seen event = record { legal = added.answered; polite = owed.polite } in
       record {
         stand = all_stand s (λ k n. record {
@@ -268,7 +273,7 @@ module _ (draw : Draw) (tasks : List Task) (start : List Event) (t : ℕ) (old n
           is = added.is;
         });
         is = added.is;
-        careful = Each-one (IsOfClient draw tasks start) old.seen event (record { place = t; task = mine.task; client = refl; at = mine.at; careful = record { good = good; owes = owed.owes; own = owed.own } });
+        careful = Each-one (IsOfClient draw tasks start) old.seen event (record { place = t; task = mine.task; client = refl; at = mine.at; careful = record { good = good; owes = owed.owes; own = owed.own; open_at = owed.open_at }; before = early });
       }
 
   kept-starved : (s : Stepped t old new ps qs) → Starved (as_client (t + 1) old) new s.p s.q → Kept draw tasks start old new [] qs

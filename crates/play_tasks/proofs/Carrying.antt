@@ -21,7 +21,6 @@ use Rattle.commit_path.specs.Single.{PutsSnapshot, HasPutNone}
 use Rattle.commit_path.proofs.Singling.{HasPutNone-makes}
 use Rattle.store_api.proofs.Telling.{makes-keeps}
 use Rattle.rebase.proofs.Kept.{stays-makes}
-use Rattle.play_tasks.specs.Solving.{MayEnd}
 
 -- an operation is polite and owed, comes before its client changed a branch, and is owed of the client's own puts
 abbrev pub Minds : AnyIds → Sessions → List Event → List Event → ℕ → Op → Type 0
@@ -44,6 +43,12 @@ PlayKeeps-own P Q by f (Ended a) journal k = tt
 PlayKeeps-own P Q by f (Ask op s next) journal k = (f journal op k.0, PlayKeeps-own P Q by f s journal k.1, λ reply new m. PlayKeeps-own P Q by f (next reply) new (k.2 reply new m))
 PlayKeeps-own P Q by f (Or p q) journal k = (PlayKeeps-own P Q by f p journal k.0, PlayKeeps-own P Q by f q journal k.1)
 
+pub PlayKeeps-both : {A : Type 0} (P Q : List Event → ℕ → Op → Type 0) (by : Caller) (p : Play A) (journal : List Event) → PlayKeeps P by p journal → PlayKeeps Q by p journal → PlayKeeps (λ h client op. P h client op × Q h client op) by p journal
+unfolding PlayKeeps
+PlayKeeps-both P Q by (Ended a) journal k l = tt
+PlayKeeps-both P Q by (Ask op s next) journal k l = ((k.0, l.0), PlayKeeps-both P Q by s journal k.1 l.1, λ reply new m. PlayKeeps-both P Q by (next reply) new (k.2 reply new m) (l.2 reply new m))
+PlayKeeps-both P Q by (Or p q) journal k l = (PlayKeeps-both P Q by p journal k.0 l.0, PlayKeeps-both P Q by q journal k.1 l.1)
+
 -- two facts of each answer
 pub Leads-both : {A : Type 0} (Q R : A → List Event → Type 0) (by : Caller) (p : Prog A) (journal : List Event) → Leads Q by p journal → Leads R by p journal → Leads (λ a h. Q a h × R a h) by p journal
 unfolding Leads
@@ -61,6 +66,18 @@ PlayLeads-carry P stable ids mine start by (Ask op s g) journal Q k p l = (
 )
 PlayLeads-carry P stable ids mine start by (Or p q) journal Q k held l = (PlayLeads-carry P stable ids mine start by p journal Q k.0 held l.0, PlayLeads-carry P stable ids mine start by q journal Q k.1 held l.1)
 
+-- ... and at each of its operations
+pub PlayKeeps-good : {A : Type 0} (P : List Event → Type 0) → ((journal more : List Event) → Each IsGood journal more → P journal → P (journal ++ more)) → (ids : AnyIds) (mine : Sessions) (start : List Event) (by : Caller) (p : Play A) (journal : List Event)
+    → PlayKeeps (Minds ids mine start) by p journal → P journal → PlayKeeps (λ h client op. P h × Minds ids mine start h client op) by p journal
+unfolding PlayKeeps
+PlayKeeps-good P stable ids mine start by (Ended a) journal k held = tt
+PlayKeeps-good P stable ids mine start by (Ask op s g) journal k held = (
+  (held, k.0),
+  PlayKeeps-good P stable ids mine start by s journal k.1 held,
+  λ reply new m. PlayKeeps-good P stable ids mine start by (g reply) new (k.2 reply new m) (makes-keeps P stable by op reply journal new k.0.0.polite m held),
+)
+PlayKeeps-good P stable ids mine start by (Or p q) journal k held = (PlayKeeps-good P stable ids mine start by p journal k.0 held, PlayKeeps-good P stable ids mine start by q journal k.1 held)
+
 -- ---- what stays so, whatever comes
 module _ (P : List Event → Type 0) (stays : (journal more : List Event) → P journal → P (journal ++ more)) (by : Caller) where
   -- ... holds at each operation
@@ -75,19 +92,19 @@ module _ (P : List Event → Type 0) (stays : (journal more : List Event) → P 
   Leads-with Q (Done a) journal held l = (held, l)
   Leads-with Q (Ask_next op next) journal held l = λ reply new m. Leads-with Q (next reply) new (stays-makes P stays by op reply journal new m held) (l reply new m)
 
-  -- ... and at each operation of a play
-  pub PlayKeeps-with : {A : Type 0} (Q : List Event → ℕ → Op → Type 0) (p : Play A) (journal : List Event) → P journal → PlayKeeps Q by p journal → PlayKeeps (λ h client op. P h × Q h client op) by p journal
-  unfolding PlayKeeps
-  PlayKeeps-with Q (Ended a) journal held k = tt
-  PlayKeeps-with Q (Ask op s g) journal held k = ((held, k.0), PlayKeeps-with Q s journal held k.1, λ reply new m. PlayKeeps-with Q (g reply) new (stays-makes P stays by op reply journal new m held) (k.2 reply new m))
-  PlayKeeps-with Q (Or p q) journal held k = (PlayKeeps-with Q p journal held k.0, PlayKeeps-with Q q journal held k.1)
-
 -- what good events keep holds at each answer of a careful program
 pub Leads-good : {A : Type 0} (P : List Event → Type 0) → ((journal more : List Event) → Each IsGood journal more → P journal → P (journal ++ more)) → (ids : AnyIds) (mine : Sessions) (by : Caller) (Q : A → List Event → Type 0) (p : Prog A) (journal : List Event)
     → Keeps (IsCareful ids mine) by p journal → P journal → Leads Q by p journal → Leads (λ a h. P h × Q a h) by p journal
 unfolding Keeps Leads
 Leads-good P stable ids mine by Q (Done a) journal k held l = (held, l)
 Leads-good P stable ids mine by Q (Ask_next op next) journal k held l = λ reply new m. Leads-good P stable ids mine by Q (next reply) new (k.1 reply new m) (makes-keeps P stable by op reply journal new k.0.polite m held) (l reply new m)
+
+-- ... and at each of its operations
+pub Keeps-good : {A : Type 0} (P : List Event → Type 0) → ((journal more : List Event) → Each IsGood journal more → P journal → P (journal ++ more)) → (ids : AnyIds) (mine : Sessions) (by : Caller) (p : Prog A) (journal : List Event)
+    → Keeps (IsCareful ids mine) by p journal → P journal → Keeps (λ h client op. P h × IsCareful ids mine h client op) by p journal
+unfolding Keeps
+Keeps-good P stable ids mine by (Done a) journal k held = tt
+Keeps-good P stable ids mine by (Ask_next op next) journal k held = ((held, k.0), λ reply new m. Keeps-good P stable ids mine by (next reply) new (k.1 reply new m) (makes-keeps P stable by op reply journal new k.0.polite m held))
 
 -- ---- what is owed for fewer sessions is owed for more
 module _ (ids : AnyIds) (mine more : Sessions) (journal : List Event) (f : (s : SessionState) (id : Id12) → mine journal s id → more journal s id) where
@@ -155,9 +172,3 @@ pub puts-none : {A : Type 0} (by : Caller) (start : List Event) (p : Prog A) (jo
 unfolding Keeps Leads
 puts-none by start (Done a) journal k c = c
 puts-none by start (Ask_next op next) journal k c = λ reply new m. puts-none by start (next reply) new (k.1 reply new m) (HasPutNone-makes by start op reply journal new m k.0 c)
-
--- ---- what a program answers, it may answer
-pub may-end : {A : Type 0} (by : Caller) (p : Prog A) (journal : List Event) → Leads (λ a h. MayEnd p a) by p journal
-unfolding Leads MayEnd
-may-end by (Done a) journal = refl
-may-end by (Ask_next op next) journal = λ reply new m. Leads-weaker (λ a h. MayEnd (next reply) a) (λ a h. MayEnd (Ask_next op next) a) (λ a h e. (reply, e)) by (next reply) new (may-end by (next reply) new)

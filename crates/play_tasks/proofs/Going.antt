@@ -1,5 +1,5 @@
 -- What lines that are left come to.
-use Rattle.std.proofs.Common.{◌≡◌, ◌∙◌, inl, inr, ℕ, refl, sym, ap, List, [], ◌∷◌, ◌++◌, append_assoc, append-nil, Result, Err}
+use Rattle.std.proofs.Common.{◌≡◌, ◌∙◌, inl, inr, ℕ, refl, sym, ap, subst, List, [], ◌∷◌, ◌++◌, append_assoc, append-nil, Result, Err}
 use Rattle.ice_ids.specs.declared.drawing.AnyIds.{AnyIds}
 use Rattle.conflicts.specs.declared.solving.Policy.{Policy}
 use Rattle.object_store.specs.declared.events.Event.{Event}
@@ -29,7 +29,8 @@ use Rattle.play_outcome.specs.declared.outcome.End.TheVariants.{Refused}
 use Rattle.play_outcome.specs.declared.outcome.Outcome.{Outcome}
 use Rattle.play_tasks.specs.Lines.{Deed, Goes, Sets, Reads, Commits, deed}
 use Rattle.play_outcome.specs.Playing.{ended}
-use Rattle.play_tasks.specs.Telling.{DidPlay, PlaysAll, Refuses, EndsAt}
+use Rattle.play_tasks.specs.Solving.{DidPlay, PlaysAll, CameToCommit}
+use Rattle.play_tasks.specs.Telling.{Refuses, EndsAt}
 use Rattle.play_tasks.proofs.Carrying.{Minds, Keeps-minds, careful-more}
 
 -- the laws on which tasks stand
@@ -57,6 +58,39 @@ unfolding PlaysAll
 PlaysAll-append client [] s start shown t journal more g p = p
 PlaysAll-append client (l ∷ ls) s start shown t journal more g p = (p.0, p.1, p.2, p.3, DidPlay-append client (deed l.number l.call s) s start p.0 p.2 journal more g p.4, PlaysAll-append client ls p.2 start p.1 t journal more g p.5)
 
+pub CameToCommit-append : (client : ℕ) (body : List Line) (opened : SessionState) (start journal more : List Event) (s : SessionState) → Each IsGood journal more → CameToCommit client body opened start journal s → CameToCommit client body opened start (journal ++ more) s
+CameToCommit-append client body opened start journal more s g c = record {
+  played = c.played;
+  line = c.line;
+  left = c.left;
+  body_is = c.body_is;
+  shown = c.shown;
+  plays = PlaysAll-append client c.played opened start c.shown s journal more g c.plays;
+  message = c.message;
+  commits = c.commits;
+}
+
+-- ---- the lines before
+-- lines were played on a session that was opened, and these lines of the body are left
+abbrev pub Came : (client : ℕ) (body : List Line) (opened : SessionState) (start : List Event) (left : List Line) (s : SessionState) (journal : List Event) → Type 0
+Came client body opened start left s journal = (played : List Line) × (shown : List Shown) × (body ≡ played ++ left) × PlaysAll client played opened start shown s journal
+
+pub Came-append : (client : ℕ) (body : List Line) (opened : SessionState) (start : List Event) (left : List Line) (s : SessionState) (journal more : List Event) → Each IsGood journal more → Came client body opened start left s journal → Came client body opened start left s (journal ++ more)
+Came-append client body opened start left s journal more g c = (c.0, c.1, c.2, PlaysAll-append client c.0 opened start c.1 s journal more g c.3)
+
+pub plays-last : (client : ℕ) (played : List Line) (l : Line) (s mid t : SessionState) (start : List Event) (shown first : List Shown) (journal : List Event) → PlaysAll client played s start shown mid journal → DidPlay client (deed l.number l.call mid) mid start first t journal
+    → PlaysAll client (played ++ l ∷ []) s start (shown ++ first) t journal
+unfolding PlaysAll
+plays-last client [] l s mid t start shown first journal p d =
+    (first, [], t, ap (λ (x : List Shown). x ++ first) p.0 ∙ sym (append-nil first), subst (λ (x : SessionState). DidPlay client (deed l.number l.call x) x start first t journal) p.1 d, (refl, refl))
+plays-last client (x ∷ xs) l s mid t start shown first journal p d =
+    (p.0, p.1 ++ first, p.2, ap (λ (y : List Shown). y ++ first) p.3 ∙ append_assoc p.0 p.1 first, p.4, plays-last client xs l p.2 mid t start p.1 first journal p.5 d)
+
+-- one more was played
+pub came-on : (client : ℕ) (body : List Line) (opened : SessionState) (start : List Event) (l : Line) (ls : List Line) (s mid : SessionState) (first : List Shown) (journal : List Event) → DidPlay client (deed l.number l.call s) s start first mid journal
+    → Came client body opened start (l ∷ ls) s journal → Came client body opened start ls mid journal
+came-on client body opened start l ls s mid first journal d c = (c.0 ++ l ∷ [], c.1 ++ first, c.2 ∙ sym (append_assoc c.0 (l ∷ []) ls), plays-last client c.0 l opened s mid start c.1 first journal c.3 d)
+
 -- ---- the lines that are left
 -- what these lines come to on a session, where this was shown before them
 pub record Ending (client : ℕ) (access : Access) (start : List Event) (ls : List Line) (s : SessionState) (before : List Shown) (outcome : Outcome) (journal : List Event) : Type 0 where
@@ -69,7 +103,7 @@ pub record Ending (client : ℕ) (access : Access) (start : List Event) (ls : Li
   pub plays : PlaysAll client played s start more session journal
   pub ends : EndsAt client access left session start outcome.end journal
 
-plays-none : (client : ℕ) (s : SessionState) (start journal : List Event) → PlaysAll client [] s start [] s journal
+pub plays-none : (client : ℕ) (s : SessionState) (start journal : List Event) → PlaysAll client [] s start [] s journal
 unfolding PlaysAll
 plays-none client s start journal = (refl, refl)
 

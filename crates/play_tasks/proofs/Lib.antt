@@ -1,4 +1,7 @@
 pub mod Calm
+pub mod Within
+pub mod Based
+pub mod Basing
 pub mod Locals
 pub mod Machines
 pub mod Stepping

@@ -17,7 +17,7 @@ use Rattle.object_store.specs.declared.events.Op.{Op}
 use Rattle.store_api.specs.declared.machines.Refusal.{Refusal}
 use Rattle.store_api.specs.declared.machines.Refusal.TheVariants.{NoMemory}
 use Rattle.store_api.specs.Callers.{Caller}
-use Rattle.store_api.specs.Journal.{IsPolite}
+use Rattle.store_api.specs.Journal.{Each, IsGood, IsPolite}
 use Rattle.store_api.specs.Plays.{Play, PlayKeeps, PlayLeads}
 use Rattle.store_api.proofs.PlayLaws.{PlayKeeps-call, PlayKeeps-weaker, PlayLeads-call}
 use Rattle.session.specs.declared.chunks.Value.{Value}
@@ -55,15 +55,17 @@ use Rattle.play_outcome.specs.declared.outcome.Outcome.{Outcome}
 use Rattle.play_tasks.specs.Lines.{Deed, Goes, Sets, Reads, Commits, deed, edit_deed, read_deed, key_set_deed, key_get_deed, silent, filled}
 use Rattle.play_outcome.specs.Playing.{ended}
 use Rattle.play_tasks.specs.Playing.{tries_of, policy_of, commit_play, play_deed, play_lines, after_line, after_open, shown_by, asked_by, session_play, headed_play, task_play}
-use Rattle.play_tasks.specs.Solving.{MayEnd, ReachesBy, Reaches, WasCarried, IsOfTask}
+use Rattle.play_tasks.specs.Solving.{DidPlay, PlaysAll, WasCarried, IsOfTask}
 use Rattle.play_refs.specs.Playing.{refs_play}
 use Rattle.play_refs.specs.Telling.{OwesRefs}
+use Rattle.play_tasks.specs.Bases.{ComesOpen, OpensOrHasBase}
+use Rattle.play_tasks.proofs.Basing.{session-opens}
 use Rattle.play_tasks.specs.Owing.{OwesBy, OwesOwnBy, IsDue, ComesBefore, BeforeChange}
-use Rattle.play_tasks.specs.Telling.{DidPlay, PlaysAll, Refuses, TellsBy, TellsOutcome}
+use Rattle.play_tasks.specs.Telling.{Refuses, TellsBy, TellsOutcome}
 use Rattle.play_outcome.proofs.Plays.{PlayLeads-weaker}
-use Rattle.play_tasks.proofs.Carrying.{PlayKeeps-own, Minds, Keeps-minds, Leads-both, PlayLeads-carry, PlayKeeps-with, careful-more, puts-none, may-end}
+use Rattle.play_tasks.proofs.Carrying.{PlayKeeps-own, Minds, Keeps-minds, PlayKeeps-both, Leads-both, PlayLeads-carry, PlayKeeps-good, Leads-good, careful-more, puts-none}
 use Rattle.play_tasks.proofs.Early.{put-none-before, WasBegun-more}
-use Rattle.play_tasks.proofs.Going.{Laws, Ending, one-more, DidPlay-append, GoesWell, ends-well, refused-well, starved-well, called-well, none-careful}
+use Rattle.play_tasks.proofs.Going.{Laws, Ending, Came, Came-append, came-on, plays-none, one-more, DidPlay-append, GoesWell, ends-well, refused-well, starved-well, called-well, none-careful}
 use Rattle.play_tasks.proofs.Ready.{IsReady, deed-ready}
 use Rattle.play_tasks.proofs.Tried.{IsTried}
 use Rattle.play_tasks.proofs.Trying.{tries-well}
@@ -138,9 +140,9 @@ deed-utf8 line (call.Read look) s message well d = absurd (reads-no-message line
 deed-utf8 line (call.Ref own) s message well d = absurd cc
 deed-utf8 line (call.Commit own) s message well d = let is : own ≡ message = cc in subst IsUtf8 is (IsUtf8-from_is_utf8 own well)
 
-module _ (L : Laws) (by : Caller) (ids : AnyIds) (access : Access) (from : SessionState → Type 0) (start : List Event) where
+module _ (L : Laws) (by : Caller) (ids : AnyIds) (access : Access) (body : List Line) (opened : SessionState) (start : List Event) where
   abbrev Tried : Sessions
-  Tried = IsTried from by.number access start
+  Tried = IsTried body opened by.number access start
 
   abbrev Nothing : List Event → Type 0
   Nothing = ChangedNothing by.number start
@@ -157,10 +159,17 @@ module _ (L : Laws) (by : Caller) (ids : AnyIds) (access : Access) (from : Sessi
   starved : (l : Line) (ls : List Line) (s : SessionState) (shown : List Shown) (journal : List Event) → Nothing journal → Well (l ∷ ls) s shown (ended shown (Refused l.number NoMemory)) journal
   starved l ls s shown journal c = starved-well by ids access Tried start l ls s shown journal c
 
+  -- these lines are left of the body, and those before them led to the session
+  abbrev At : List Line → SessionState → List Event → Type 0
+  At ls s journal = Came by.number body opened start ls s journal
+
+  at-append : (ls : List Line) (s : SessionState) (journal more : List Event) → Each IsGood journal more → At ls s journal → At ls s (journal ++ more)
+  at-append ls s journal more g c = Came-append by.number body opened start ls s journal more g c
+
   -- ---- the lines
   -- the lines that are left go well on any session that is ready, wherever the client has changed no branch and put no snapshot
   abbrev AllGoWell : List Line → Type 0
-  AllGoWell ls = (journal : List Event) → Nothing journal → PutNone journal → (s : SessionState) (shown : List Shown) → IsReady ids by.number start s journal → ((t : SessionState) → Reaches ls s t → from t) → Well ls s shown (play_lines access ls s shown) journal
+  AllGoWell ls = (journal : List Event) → Nothing journal → PutNone journal → (s : SessionState) (shown : List Shown) → IsReady ids by.number start s journal → At ls s journal → Well ls s shown (play_lines access ls s shown) journal
 
   -- a line was played, and the others behind it go well
   went-well : (l : Line) (ls : List Line) (s : SessionState) (shown first : List Shown) (mid : SessionState) (journal : List Event) → DidPlay by.number (deed l.number l.call s) s start first mid journal → Well ls mid (shown ++ first) (play_lines access ls mid (shown ++ first)) journal
@@ -174,79 +183,83 @@ module _ (L : Laws) (by : Caller) (ids : AnyIds) (access : Access) (from : Sessi
       )
 
   -- ---- a line that sets a chunk
-  module _ (l : Line) (ls : List Line) (s : SessionState) (shown : List Shown) (path index bytes : List ℕ) (sets : deed l.number l.call s ≡ Sets path index bytes) (go : AllGoWell ls)
-      (own : (t : SessionState) → ReachesBy (Sets path index bytes) s t (λ mid. Reaches ls mid t) → from t) where
+  module _ (l : Line) (ls : List Line) (s : SessionState) (shown : List Shown) (path index bytes : List ℕ) (sets : deed l.number l.call s ≡ Sets path index bytes) (go : AllGoWell ls) where
     abbrev SetAnswers : Result SessionState Refusal → List Event → Type 0
-    SetAnswers answer h = (SetTells by.number s path index bytes start answer h × IfOk answer (λ t. IsSpelled t × IsOpened t h × IsLater ids t.ids)) × (PutNone h × (MayEnd (set_program s path index bytes) answer × IfOk answer (λ t. Owns ids by.number t start h)))
+    SetAnswers answer h = (SetTells by.number s path index bytes start answer h × IfOk answer (λ t. IsSpelled t × IsOpened t h × IsLater ids t.ids)) × (PutNone h × IfOk answer (λ t. Owns ids by.number t start h))
 
-    set-answered : (answer : Result SessionState Refusal) (h : List Event) → SetAnswers answer h → Well (l ∷ ls) s shown (after_line l.number shown (silent answer) (play_lines access ls)) h
+    set-answered : (answer : Result SessionState Refusal) (h : List Event) → At (l ∷ ls) s h × SetAnswers answer h → Well (l ∷ ls) s shown (after_line l.number shown (silent answer) (play_lines access ls)) h
     set-answered (Ok t) h q =
-        let did = subst (λ (d : Deed). DidPlay by.number d s start [] t h) (sym sets) (refl, q.0.0.0) in
+        let did = subst (λ (d : Deed). DidPlay by.number d s start [] t h) (sym sets) (refl, q.1.0.0.0) in
         went-well l ls s shown [] t h did
-        (go h q.0.0.1 q.1.0 t (shown ++ []) (record { opened = q.0.1.1; spelled = q.0.1.0; later = q.0.1.2; owned = q.1.1.1 }) (λ u reaches. own u (t, q.1.1.0, reaches)))
-    set-answered (Err why) h q = refused l ls s shown why h (subst (λ (d : Deed). Refuses by.number d s start why h) (sym sets) q.0.0)
+        (go h q.1.0.0.1 q.1.1.0 t (shown ++ []) (record { opened = q.1.0.1.1; spelled = q.1.0.1.0; later = q.1.0.1.2; owned = q.1.1.1 }) (came-on by.number body opened start l ls s t [] h did q.0))
+    set-answered (Err why) h q = refused l ls s shown why h (subst (λ (d : Deed). Refuses by.number d s start why h) (sym sets) q.1.0.0)
 
-    set-well : (journal : List Event) → list_all (λ n. nat_lt n 256) bytes ≡ true → IsReady ids by.number start s journal → Nothing journal → PutNone journal → Well (l ∷ ls) s shown (play_deed access l.number shown s (Sets path index bytes) (play_lines access ls)) journal
-    set-well journal are ready c f =
+    set-well : (journal : List Event) → list_all (λ n. nat_lt n 256) bytes ≡ true → IsReady ids by.number start s journal → Nothing journal → PutNone journal → At (l ∷ ls) s journal → Well (l ∷ ls) s shown (play_deed access l.number shown s (Sets path index bytes) (play_lines access ls)) journal
+    set-well journal are ready c f came =
         let law = L.set by ids s path index bytes start journal ready.later are ready.spelled ready.opened c in
         let owning = L.calls.sets by ids s path index bytes start journal ready.later ready.owned in
         let p = set_program s path index bytes in
-        let told = Leads-both (λ answer h. SetTells by.number s path index bytes start answer h × IfOk answer (λ t. IsSpelled t × IsOpened t h × IsLater ids t.ids)) (λ answer h. PutNone h × (MayEnd p answer × IfOk answer (λ t. Owns ids by.number t start h))) by p journal law.3
-        (Leads-both (λ answer h. PutNone h) (λ answer h. MayEnd p answer × IfOk answer (λ t. Owns ids by.number t start h)) by p journal (puts-none by start p journal law.1 f)
-        (Leads-both (λ answer h. MayEnd p answer) (λ answer h. IfOk answer (λ t. Owns ids by.number t start h)) by p journal (may-end by p journal) owning.1)) in
-        called-well by ids access Tried start (l ∷ ls) s shown p (λ answer. after_line l.number shown (silent answer) (play_lines access ls)) SetAnswers journal (none-careful by ids Tried p journal law.0) law.2 owning.0 told set-answered (λ h n. starved l ls s shown h n)
+        let careful = none-careful by ids Tried p journal law.0 in
+        let told = Leads-both (λ answer h. SetTells by.number s path index bytes start answer h × IfOk answer (λ t. IsSpelled t × IsOpened t h × IsLater ids t.ids)) (λ answer h. PutNone h × IfOk answer (λ t. Owns ids by.number t start h)) by p journal law.3
+        (Leads-both (λ answer h. PutNone h) (λ answer h. IfOk answer (λ t. Owns ids by.number t start h)) by p journal (puts-none by start p journal law.1 f) owning.1) in
+        called-well by ids access Tried start (l ∷ ls) s shown p (λ answer. after_line l.number shown (silent answer) (play_lines access ls)) (λ answer h. At (l ∷ ls) s h × SetAnswers answer h) journal careful law.2 owning.0
+        (Leads-good (At (l ∷ ls) s) (at-append (l ∷ ls) s) ids Tried by SetAnswers p journal careful came told) set-answered (λ h n. starved l ls s shown h n)
 
   -- ---- a line that reads a chunk
-  module _ (l : Line) (ls : List Line) (s : SessionState) (shown : List Shown) (path index : List ℕ) (show : Value → Shown) (reads : deed l.number l.call s ≡ Reads path index show) (go : AllGoWell ls)
-      (own : (t : SessionState) → ReachesBy (Reads path index show) s t (λ mid. Reaches ls mid t) → from t) (spelled : IsSpelled s) (later : IsLater ids s.ids) where
+  module _ (l : Line) (ls : List Line) (s : SessionState) (shown : List Shown) (path index : List ℕ) (show : Value → Shown) (reads : deed l.number l.call s ≡ Reads path index show) (go : AllGoWell ls) (spelled : IsSpelled s) (later : IsLater ids s.ids) where
     abbrev GetAnswers : Result Value Refusal → List Event → Type 0
-    GetAnswers answer h = (GetTells by.number s path index start answer h × IsOpened s h) × (PutNone h × (MayEnd (get_program s path index) answer × Owns ids by.number s start h))
+    GetAnswers answer h = (GetTells by.number s path index start answer h × IsOpened s h) × (PutNone h × Owns ids by.number s start h)
 
-    get-answered : (answer : Result Value Refusal) (h : List Event) → GetAnswers answer h → Well (l ∷ ls) s shown (after_line l.number shown (shown_by s show answer) (play_lines access ls)) h
+    get-answered : (answer : Result Value Refusal) (h : List Event) → At (l ∷ ls) s h × GetAnswers answer h → Well (l ∷ ls) s shown (after_line l.number shown (shown_by s show answer) (play_lines access ls)) h
     get-answered (Ok value) h q =
-        let did = subst (λ (d : Deed). DidPlay by.number d s start (show value ∷ []) s h) (sym reads) (refl, value, refl, q.0.0.0) in
-        went-well l ls s shown (show value ∷ []) s h did (go h q.0.0.1 q.1.0 s (shown ++ show value ∷ []) (record { opened = q.0.1; spelled = spelled; later = later; owned = q.1.1.1 }) (λ u reaches. own u (value, q.1.1.0, reaches)))
-    get-answered (Err why) h q = refused l ls s shown why h (subst (λ (d : Deed). Refuses by.number d s start why h) (sym reads) q.0.0)
+        let did = subst (λ (d : Deed). DidPlay by.number d s start (show value ∷ []) s h) (sym reads) (refl, value, refl, q.1.0.0.0) in
+        went-well l ls s shown (show value ∷ []) s h did
+        (go h q.1.0.0.1 q.1.1.0 s (shown ++ show value ∷ []) (record { opened = q.1.0.1; spelled = spelled; later = later; owned = q.1.1.1 }) (came-on by.number body opened start l ls s s (show value ∷ []) h did q.0))
+    get-answered (Err why) h q = refused l ls s shown why h (subst (λ (d : Deed). Refuses by.number d s start why h) (sym reads) q.1.0.0)
 
-    get-well : (journal : List Event) → IsOpened s journal → Owns ids by.number s start journal → Nothing journal → PutNone journal → Well (l ∷ ls) s shown (play_deed access l.number shown s (Reads path index show) (play_lines access ls)) journal
-    get-well journal opened owned c f =
-        let law = L.get by ids s path index start journal spelled opened c in
+    get-well : (journal : List Event) → IsOpened s journal → Owns ids by.number s start journal → Nothing journal → PutNone journal → At (l ∷ ls) s journal → Well (l ∷ ls) s shown (play_deed access l.number shown s (Reads path index show) (play_lines access ls)) journal
+    get-well journal ready owned c f came =
+        let law = L.get by ids s path index start journal spelled ready c in
         let owning = L.calls.gets by ids s path index start journal owned in
         let p = get_program s path index in
-        let told = Leads-both (λ answer h. GetTells by.number s path index start answer h × IsOpened s h) (λ answer h. PutNone h × (MayEnd p answer × Owns ids by.number s start h)) by p journal law.3
-        (Leads-both (λ answer h. PutNone h) (λ answer h. MayEnd p answer × Owns ids by.number s start h) by p journal (puts-none by start p journal law.1 f)
-        (Leads-both (λ answer h. MayEnd p answer) (λ answer h. Owns ids by.number s start h) by p journal (may-end by p journal) owning.1)) in
-        called-well by ids access Tried start (l ∷ ls) s shown p (λ answer. after_line l.number shown (shown_by s show answer) (play_lines access ls)) GetAnswers journal (none-careful by ids Tried p journal law.0) law.2 owning.0 told get-answered (λ h n. starved l ls s shown h n)
+        let careful = none-careful by ids Tried p journal law.0 in
+        let told = Leads-both (λ answer h. GetTells by.number s path index start answer h × IsOpened s h) (λ answer h. PutNone h × Owns ids by.number s start h) by p journal law.3
+        (Leads-both (λ answer h. PutNone h) (λ answer h. Owns ids by.number s start h) by p journal (puts-none by start p journal law.1 f) owning.1) in
+        called-well by ids access Tried start (l ∷ ls) s shown p (λ answer. after_line l.number shown (shown_by s show answer) (play_lines access ls)) (λ answer h. At (l ∷ ls) s h × GetAnswers answer h) journal careful law.2 owning.0
+        (Leads-good (At (l ∷ ls) s) (at-append (l ∷ ls) s) ids Tried by GetAnswers p journal careful came told) get-answered (λ h n. starved l ls s shown h n)
 
   -- ---- a line that commits
-  commit-well : (l : Line) (ls : List Line) (s : SessionState) (shown : List Shown) (message : List ℕ) → deed l.number l.call s ≡ Commits message → (journal : List Event) → IsUtf8 message → IsReady ids by.number start s journal → Nothing journal → PutNone journal → from s
+  commit-well : (l : Line) (ls : List Line) (s : SessionState) (shown : List Shown) (message : List ℕ) → deed l.number l.call s ≡ Commits message → (journal : List Event) → IsUtf8 message → IsReady ids by.number start s journal → Nothing journal → PutNone journal → At (l ∷ ls) s journal
       → Well (l ∷ ls) s shown (commit_play (tries_of access) (policy_of access) l.number shown message s) journal
   unfolding WasCarried
-  commit-well l ls s shown message commits journal utf8 ready c f is_from =
-      tries-well L by ids access from start l ls s shown message commits utf8 is_from (tries_of access) 0 (zero-add (tries_of access)) s journal
-      (record { few = omega arith; carried = refl; alike = none-alike by.number s start journal f; ready = ready; nothing = c })
+  commit-well l ls s shown message commits journal utf8 ready c f came =
+      tries-well L by ids access body opened start l ls s shown message commits utf8 (tries_of access) 0 (zero-add (tries_of access)) s journal
+      (record {
+        few = omega arith;
+        carried = refl;
+        alike = none-alike by.number s start journal f;
+        ready = ready;
+        nothing = c;
+        came = record { played = came.0; line = l; left = ls; body_is = came.2; shown = came.1; plays = came.3; message = message; commits = commits };
+      })
 
   -- ---- any line
-  -- the sessions that a line leads to, as its deed tells them
-  leads-to : (l : Line) (ls : List Line) (s : SessionState) (d : Deed) → deed l.number l.call s ≡ d → ((t : SessionState) → ReachesBy (deed l.number l.call s) s t (λ mid. Reaches ls mid t) → from t)
-      → (t : SessionState) → ReachesBy d s t (λ mid. Reaches ls mid t) → from t
-  leads-to l ls s d e own t reaches = own t (subst (λ (x : Deed). ReachesBy x s t (λ mid. Reaches ls mid t)) (sym e) reaches)
-
-  deed-well : (l : Line) (ls : List Line) (s : SessionState) (shown : List Shown) (journal : List Event) → IsWellCall l.call → IsReady ids by.number start s journal → Nothing journal → PutNone journal → ((t : SessionState) → ReachesBy (deed l.number l.call s) s t (λ mid. Reaches ls mid t) → from t) → AllGoWell ls
+  deed-well : (l : Line) (ls : List Line) (s : SessionState) (shown : List Shown) (journal : List Event) → IsWellCall l.call → IsReady ids by.number start s journal → Nothing journal → PutNone journal → At (l ∷ ls) s journal → AllGoWell ls
       → (d : Deed) → deed l.number l.call s ≡ d → Well (l ∷ ls) s shown (play_deed access l.number shown s d (play_lines access ls)) journal
-  deed-well l ls s shown journal well ready c f own go (Goes (Err why)) e = refused l ls s shown why journal (subst (λ (d : Deed). Refuses by.number d s start why journal) (sym e) (refl, c))
-  deed-well l ls s shown journal well ready c f own go (Goes (Ok went)) e =
-      went-well l ls s shown went.0 went.1 journal (subst (λ (d : Deed). DidPlay by.number d s start went.0 went.1 journal) (sym e) refl)
-      (go journal c f went.1 (shown ++ went.0) (deed-ready L.session L.owning ids by.number start l.number l.call s went journal well ready e) (leads-to l ls s (Goes (Ok went)) e own))
-  deed-well l ls s shown journal well ready c f own go (Sets path index bytes) e = set-well l ls s shown path index bytes e go (leads-to l ls s (Sets path index bytes) e own) journal (deed-bytes l.number l.call s path index bytes well e) ready c f
-  deed-well l ls s shown journal well ready c f own go (Reads path index show) e = get-well l ls s shown path index show e go (leads-to l ls s (Reads path index show) e own) ready.spelled ready.later journal ready.opened ready.owned c f
-  deed-well l ls s shown journal well ready c f own go (Commits message) e = commit-well l ls s shown message e journal (deed-utf8 l.number l.call s message well e) ready c f (leads-to l ls s (Commits message) e own s refl)
+  deed-well l ls s shown journal well ready c f came go (Goes (Err why)) e = refused l ls s shown why journal (subst (λ (d : Deed). Refuses by.number d s start why journal) (sym e) (refl, c))
+  deed-well l ls s shown journal well ready c f came go (Goes (Ok went)) e =
+      let did = subst (λ (d : Deed). DidPlay by.number d s start went.0 went.1 journal) (sym e) refl in
+      went-well l ls s shown went.0 went.1 journal did
+      (go journal c f went.1 (shown ++ went.0) (deed-ready L.session L.owning ids by.number start l.number l.call s went journal well ready e) (came-on by.number body opened start l ls s went.1 went.0 journal did came))
+  deed-well l ls s shown journal well ready c f came go (Sets path index bytes) e = set-well l ls s shown path index bytes e go journal (deed-bytes l.number l.call s path index bytes well e) ready c f came
+  deed-well l ls s shown journal well ready c f came go (Reads path index show) e = get-well l ls s shown path index show e go ready.spelled ready.later journal ready.opened ready.owned c f came
+  deed-well l ls s shown journal well ready c f came go (Commits message) e = commit-well l ls s shown message e journal (deed-utf8 l.number l.call s message well e) ready c f came
 
   lines-well : (ls : List Line) → All IsWellLine ls → AllGoWell ls
-  unfolding PlayKeeps PlayLeads play_lines Reaches
-  lines-well [] well journal c f s shown ready own = ends-well by ids access Tried start [] s shown Done journal (refl, c)
-  lines-well (l ∷ ls) well journal c f s shown ready own =
-      let played = deed-well l ls s shown journal (All-head IsWellLine l ls well).call ready c f own (lines-well ls (All-tail IsWellLine l ls well)) (deed l.number l.call s) refl in
+  unfolding PlayKeeps PlayLeads play_lines
+  lines-well [] well journal c f s shown ready came = ends-well by ids access Tried start [] s shown Done journal (refl, c)
+  lines-well (l ∷ ls) well journal c f s shown ready came =
+      let played = deed-well l ls s shown journal (All-head IsWellLine l ls well).call ready c f came (lines-well ls (All-tail IsWellLine l ls well)) (deed l.number l.call s) refl in
       let off = starved l ls s shown journal c in
       ((played.0, off.0), (played.1, off.1))
 
@@ -292,31 +305,27 @@ module _ (L : Laws) (by : Caller) (ids : AnyIds) (access : Access) (task : Task)
   unfolding PlayKeeps PlayLeads
   refused-task why journal q = (tt, inl (record { why = why; shown_is = refl; end_is = refl; tells = q }))
 
-  -- the session was begun so, whatever comes
-  abbrev Starts : SessionState → List Event → Type 0
-  Starts s h = (begun : WasBegun by.number (asked_by access ids) s start h) × HasPutNone by.number start begun.got.own.before
-
   opened-task : IsWellTask task → (r : Result SessionState Refusal) (journal : List Event) → Answers r journal → TaskGoesWell (after_open access task.line task.body r) journal
   opened-task well (Err why) journal q = refused-task why journal q.0.0
   opened-task well (Ok s) journal q =
       let begun = q.0.0.0 in
       let drawing : s.ids ≡ ids = ap (λ (x : SessionState). x.ids) begun.begins ∙ asked-ids access ids in
       let ready : IsReady ids by.number start s journal = record { opened = q.0.0.1; spelled = q.0.1; later = subst (IsLater ids) (sym drawing) (later-same ids); owned = q.1.1 } in
-      let from : SessionState → Type 0 = λ t. Reaches task.body s t in
-      let tried : Sessions = IsTried from by.number access start in
-      let lines = lines-well L by ids access from start task.body well.body journal q.0.0.2 q.1.0 s [] ready (λ t reaches. reaches) in
+      let tried : Sessions = IsTried task.body s by.number access start in
+      let lines = lines-well L by ids access task.body s start task.body well.body journal q.0.0.2 q.1.0 s [] ready ([], [], refl, plays-none by.number s start journal) in
       let p = play_lines access task.body s [] in
       let own = begun.got.own in
       let early : HasPutNone by.number start own.before = put-none-before by.number start journal own.before own.since own.after own.event own.before_is own.is q.1.0 in
-      let keeps = PlayKeeps-weaker (λ h client op. Starts s h × Minds ids tried start h client op) (Minds ids Mine start)
-      (λ h client op k. (careful-more ids tried Mine h (λ t id x. of-task s h t id k.0 x) client op k.1.0, k.1.1)) by p journal
-      (PlayKeeps-with (Starts s) (λ h more b. (WasBegun-more by.number (asked_by access ids) s start h more b.0, b.1)) by (Minds ids tried start) p journal (begun, early) lines.0) in
       let first : Begun s journal = record { begun = begun; early = early; opened = q.0.0.1 } in
-      let carried = PlayLeads-carry (Begun s) (λ h more g b. record { begun = WasBegun-more by.number (asked_by access ids) s start h more b.begun; early = b.early; opened = L.session.kept s h more g b.opened }) ids tried start by p journal (Ending by.number access start task.body s []) lines.0 first lines.1 in
+      let lasts : (h more : List Event) → Each IsGood h more → Begun s h → Begun s (h ++ more) = λ h more g b. record { begun = WasBegun-more by.number (asked_by access ids) s start h more b.begun; early = b.early; opened = L.session.kept s h more g b.opened } in
+      let keeps = PlayKeeps-weaker (λ h client op. Begun s h × Minds ids tried start h client op) (Minds ids Mine start)
+      (λ h client op k. (careful-more ids tried Mine h (λ t id x. of-task s h t id k.0 x) client op k.1.0, k.1.1)) by p journal
+      (PlayKeeps-good (Begun s) lasts ids tried start by p journal lines.0 first) in
+      let carried = PlayLeads-carry (Begun s) lasts ids tried start by p journal (Ending by.number access start task.body s []) lines.0 first lines.1 in
       (keeps, PlayLeads-weaker (λ outcome h. Begun s h × Ending by.number access start task.body s [] outcome h) Outcomes (λ outcome h x. played s outcome h x.0 x.1) by p journal carried)
     where
-      of-task : (s : SessionState) (h : List Event) (t : SessionState) (id : Id12) → Starts s h → IsTried (λ u. Reaches task.body s u) by.number access start h t id → Mine h t id
-      of-task s h t id b x = record { access = access; head_is = head_is; opened = s; begun = b.0; early = b.1; session = x.session; reaches = x.is_from; count = x.count; few = x.few; carried = x.carried; alike = x.alike; drawn = x.drawn }
+      of-task : (s : SessionState) (h : List Event) (t : SessionState) (id : Id12) → Begun s h → IsTried task.body s by.number access start h t id → Mine h t id
+      of-task s h t id b x = record { access = access; head_is = head_is; opened = s; begun = b.begun; early = b.early; read = b.opened; session = x.session; came = x.came; count = x.count; few = x.few; carried = x.carried; alike = x.alike; drawn = x.drawn }
 
   session-well : IsWellTask task → PlayKeeps (λ h client op. IsCareful ids Mine h client op × OwesOwn ids client start op h) by (session_play ids access task.line task.body) start × PlayKeeps (λ journal client op. ChangedNothing client start journal) by (session_play ids access task.line task.body) start × PlayLeads Outcomes by (session_play ids access task.line task.body) start
   session-well well =
@@ -340,26 +349,33 @@ all-before : (P : List Event → ℕ → Op → Type 0) (by : Caller) (p : Play 
 all-before P by p journal k = PlayKeeps-weaker P (λ h client op. Unit {0}) (λ h client op x. tt) by p journal k
 
 module _ (L : Laws) (by : Caller) (ids : AnyIds) (task : Task) (start : List Event) (well : IsWellTask task) where
-  -- the operation is polite, and what a task owes that begins so
+  -- the operation is polite, and what a task owes that begins so, and comes where its session is open
   abbrev Pays : Head → List Event → ℕ → Op → Type 0
-  Pays head h client op = IsPolite h op × (OwesBy head ids task by.number start h op × OwesOwnBy head ids by.number start h op)
+  Pays head h client op = IsPolite h op × (OwesBy head ids task by.number start h op × (OwesOwnBy head ids by.number start h op × ComesOpen head ids by.number start h op))
 
   abbrev GoesBy : Head → Type 0
   GoesBy head =
       let p = headed_play head ids task in
-      PlayKeeps (Pays head) by p start × PlayKeeps (λ h client op. ComesBefore head client start h) by p start × PlayLeads (TellsBy head ids task by.number start) by p start
+      PlayKeeps (Pays head) by p start × PlayKeeps (λ h client op. ComesBefore head client start h op) by p start × PlayLeads (TellsBy head ids task by.number start) by p start
 
   by_head : (head : Head) → task.head ≡ head → GoesBy head
   by_head (Session access) is =
       let told = session-well L by ids access task start is well in
-      (PlayKeeps-own (λ h client op. IsCareful ids (IsOfTask ids task by.number start) h client op × OwesOwn ids client start op h) (Pays (Session access)) by (λ h op c. (c.0.polite, (c.0.owes, c.1))) (headed_play (Session access) ids task) start told.0, told.1, told.2)
+      let p = headed_play (Session access) ids task in
+      let minds : List Event → ℕ → Op → Type 0 = λ h client op. IsCareful ids (IsOfTask ids task by.number start) h client op × OwesOwn ids client start op h in
+      let opens : List Event → ℕ → Op → Type 0 = λ h client op. OpensOrHasBase client (asked_by access ids) start h op in
+      let both = PlayKeeps-both minds opens by p start told.0 (session-opens by ids access task.line task.body start) in (
+        PlayKeeps-own (λ h client op. minds h client op × opens h client op) (Pays (Session access)) by (λ h op c. (c.0.0.polite, (c.0.0.owes, (c.0.1, c.1)))) p start both,
+        PlayKeeps-weaker (λ h client op. ChangedNothing client start h) (λ h client op. ComesBefore (Session access) client start h op) (λ h client op c puts. c) by (headed_play (Session access) ids task) start told.1,
+        told.2,
+      )
   by_head Refs is =
       let told = L.refs by task.body start in
-      let pays = PlayKeeps-weaker (λ h client op. IsPolite h op × OwesRefs op) (Pays Refs) (λ h client op x. (x.0, (x.1, tt))) by (refs_play task.body []) start told.0 in
+      let pays = PlayKeeps-weaker (λ h client op. IsPolite h op × OwesRefs op) (Pays Refs) (λ h client op x. (x.0, (x.1, (tt, tt)))) by (refs_play task.body []) start told.0 in
       (pays, all-before (Pays Refs) by (refs_play task.body []) start pays, told.1)
 
-  pub task-well : PlayKeeps (IsDue ids task by.number start) by (task_play ids task) start × PlayKeeps (λ journal client op. BeforeChange task client start journal) by (task_play ids task) start
+  pub task-well : PlayKeeps (IsDue ids task by.number start) by (task_play ids task) start × PlayKeeps (λ journal client op. BeforeChange task client start journal op) by (task_play ids task) start
       × PlayLeads (TellsOutcome ids task by.number start) by (task_play ids task) start
   task-well =
       let told = by_head task.head refl in
-      (PlayKeeps-weaker (Pays task.head) (IsDue ids task by.number start) (λ h client op x. record { polite = x.0; owes = x.1.0; own = x.1.1 }) by (task_play ids task) start told.0, told.1, told.2)
+      (PlayKeeps-weaker (Pays task.head) (IsDue ids task by.number start) (λ h client op x. record { polite = x.0; owes = x.1.0; own = x.1.1.0; open_at = x.1.1.1 }) by (task_play ids task) start told.0, told.1, told.2)

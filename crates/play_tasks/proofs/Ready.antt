@@ -50,15 +50,15 @@ later-drawn8 : (ids : AnyIds) → IsLater ids (after8 ids)
 later-drawn8 ids = let moves = any_source8.moves ids in record { way = after8-draw ids; client = any_source8.keeps ids; left = omega (arith, moves) }
 
 module _ {A : Type 0} (P : A → Type 0) where
-  by_writes : (writes : Bool) (r : Result A Refusal) → IfOk r P → IfOk (if_writes writes r) P
+  pub by_writes : (writes : Bool) (r : Result A Refusal) → IfOk r P → IfOk (if_writes writes r) P
   by_writes true r p = p
   by_writes false r p = tt
 
-  by_text : (fault : Option MetaFault) (r : Result A Refusal) → IfOk r P → IfOk (unless_bad fault r) P
+  pub by_text : (fault : Option MetaFault) (r : Result A Refusal) → IfOk r P → IfOk (unless_bad fault r) P
   by_text None r p = p
   by_text (Some fault) r p = tt
 
-  by_edit : (fault : Option EditFault) (r : Result A Refusal) → IfOk r P → IfOk (unless_refused fault r) P
+  pub by_edit : (fault : Option EditFault) (r : Result A Refusal) → IfOk r P → IfOk (unless_refused fault r) P
   by_edit None r p = p
   by_edit (Some fault) r p = tt
 

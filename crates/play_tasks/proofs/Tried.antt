@@ -13,14 +13,15 @@ use Rattle.commit_path.specs.Spelled.{IsSpelled}
 use Rattle.rebase.specs.Telling.{HasMoved, WasUpToDate}
 use Rattle.rebase.proofs.Kept.{ref-append, met-append}
 use Rattle.play_script.specs.declared.scripts.Access.{Access}
+use Rattle.play_script.specs.declared.scripts.Line.{Line}
 use Rattle.play_tasks.specs.Playing.{tries_of, policy_of}
-use Rattle.play_tasks.specs.Solving.{WasRebased, WasCarried}
+use Rattle.play_tasks.specs.Solving.{CameToCommit, WasRebased, WasCarried}
 
--- A session at its commit, with an object id that it draws: it was carried over the commits of others from one of these, no more often than the
+-- A session at its commit, with an object id that it draws: the lines of a body led to it from this one, and it was carried over the commits of others no more often than the
 -- task may try; and the client put snapshots of sessions alone that added and dropped the same nodes.
-pub record IsTried (from : SessionState → Type 0) (client : ℕ) (access : Access) (start journal : List Event) (t : SessionState) (id : Id12) : Type 0 where
+pub record IsTried (body : List Line) (opened : SessionState) (client : ℕ) (access : Access) (start journal : List Event) (t : SessionState) (id : Id12) : Type 0 where
   pub session : SessionState
-  pub is_from : from session
+  pub came : CameToCommit client body opened start journal session
   pub count : ℕ
   pub few : count ≤ tries_of access
   pub carried : WasCarried client (policy_of access) count session t start journal

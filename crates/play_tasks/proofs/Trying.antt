@@ -9,7 +9,7 @@ use Rattle.object_store.specs.declared.events.Op.TheVariants.{Get}
 use Rattle.object_store.specs.declared.events.Event.{Event}
 use Rattle.store_api.specs.declared.machines.Refusal.{Refusal}
 use Rattle.store_api.specs.declared.machines.Refusal.TheVariants.{NoMemory, Conflict}
-use Rattle.store_api.specs.Journal.{IsPolite}
+use Rattle.store_api.specs.Journal.{Each, IsGood, IsPolite}
 use Rattle.store_api.specs.Callers.{Caller}
 use Rattle.store_api.specs.Plays.{Play, call, PlayKeeps, PlayLeads}
 use Rattle.store_api.specs.Telling.{ChangedNothing, IsGet, MadeGets}
@@ -40,11 +40,11 @@ use Rattle.play_outcome.specs.declared.outcome.Outcome.{Outcome}
 use Rattle.play_tasks.specs.Lines.{Commits, deed}
 use Rattle.play_outcome.specs.Playing.{ended, refused}
 use Rattle.play_tasks.specs.Playing.{tries_of, policy_of, after_commit, after_rebase, commit_play}
-use Rattle.play_tasks.specs.Solving.{WasLost, WasCarried}
+use Rattle.play_tasks.specs.Solving.{CameToCommit, WasLost, WasCarried}
 use Rattle.play_tasks.specs.Telling.{HasCommitted, WasCommitRefused, WasLostAtLast, WasNotRebased}
 use Rattle.play_outcome.proofs.Plays.{Keeps-both}
-use Rattle.play_tasks.proofs.Carrying.{Keeps-own, Keeps-with, Leads-with, Leads-good, Leads-both, careful-more}
-use Rattle.play_tasks.proofs.Going.{Laws, GoesWell, ends-well, starved-well, called-well}
+use Rattle.play_tasks.proofs.Carrying.{Keeps-own, Keeps-with, Keeps-good, Leads-with, Leads-good, Leads-both, careful-more}
+use Rattle.play_tasks.proofs.Going.{Laws, CameToCommit-append, GoesWell, ends-well, starved-well, called-well}
 use Rattle.play_tasks.proofs.Ready.{IsReady}
 use Rattle.play_tasks.proofs.Tried.{IsTried, WasCarried-append, other-spelled, other-opened}
 
@@ -57,9 +57,9 @@ get-owes : (ids : AnyIds) (mine : Sessions) (journal : List Event) (op : Op) →
 get-owes ids mine journal (Get key) g = tt
 get-owes ids mine journal _ g = absurd g
 
-module _ (L : Laws) (by : Caller) (ids : AnyIds) (access : Access) (from : SessionState → Type 0) (start : List Event) where
+module _ (L : Laws) (by : Caller) (ids : AnyIds) (access : Access) (body : List Line) (opened : SessionState) (start : List Event) where
   abbrev Mine : Sessions
-  Mine = IsTried from by.number access start
+  Mine = IsTried body opened by.number access start
 
   abbrev Nothing : List Event → Type 0
   Nothing = ChangedNothing by.number start
@@ -67,9 +67,16 @@ module _ (L : Laws) (by : Caller) (ids : AnyIds) (access : Access) (from : Sessi
   abbrev policy : Policy
   policy = policy_of access
 
-  module _ (l : Line) (ls : List Line) (s : SessionState) (shown : List Shown) (message : List ℕ) (commits : deed l.number l.call s ≡ Commits message) (utf8 : IsUtf8 message) (is_from : from s) where
+  module _ (l : Line) (ls : List Line) (s : SessionState) (shown : List Shown) (message : List ℕ) (commits : deed l.number l.call s ≡ Commits message) (utf8 : IsUtf8 message) where
     abbrev Well : Play Outcome → List Event → Type 0
     Well p journal = GoesWell by ids access Mine start (l ∷ ls) s shown p journal
+
+    -- the lines of the body led to the session that is to be committed
+    abbrev pub From : List Event → Type 0
+    From journal = CameToCommit by.number body opened start journal s
+
+    from-append : (journal more : List Event) → Each IsGood journal more → From journal → From (journal ++ more)
+    from-append journal more g c = CameToCommit-append by.number body opened start journal more s g c
 
     -- how often the session was carried until here, and that it may commit
     pub record Stands (count : ℕ) (t : SessionState) (journal : List Event) : Type 0 where
@@ -78,6 +85,7 @@ module _ (L : Laws) (by : Caller) (ids : AnyIds) (access : Access) (from : Sessi
       pub alike : HasPutAlike by.number t start journal
       pub ready : IsReady ids by.number start t journal
       pub nothing : Nothing journal
+      pub came : From journal
 
     -- how its commit ends the task
     abbrev Ends : ℕ → SessionState → End → List Event → Type 0
@@ -99,28 +107,28 @@ module _ (L : Laws) (by : Caller) (ids : AnyIds) (access : Access) (from : Sessi
       Carried journal = WasCarried by.number policy count s t start journal
 
       abbrev Answers : Result Tried Refusal → List Event → Type 0
-      Answers answer journal = Carried journal × ((IsOpened t journal × CommitTells by.number t message start answer journal) × (HasPutAlike by.number t start journal × OwnsNext ids by.number t start answer journal))
+      Answers answer journal = Carried journal × (((IsOpened t journal × From journal) × CommitTells by.number t message start answer journal) × (HasPutAlike by.number t start journal × OwnsNext ids by.number t start answer journal))
 
       carried-append : (journal more : List Event) → Carried journal → Carried (journal ++ more)
       carried-append journal more c = WasCarried-append by.number policy count s t start journal more c
 
       -- what is owed for this session is owed for one of the task
       owed : count ≤ tries_of access → (journal : List Event) (op : Op)
-          → Carried journal × (HasPutAlike by.number t start journal × IsCareful ids (λ h u id. (u ≡ t) × MayDrawObject t.ids id) journal by.number op) → IsCareful ids Mine journal by.number op
+          → Carried journal × (HasPutAlike by.number t start journal × (From journal × IsCareful ids (λ h u id. (u ≡ t) × MayDrawObject t.ids id) journal by.number op)) → IsCareful ids Mine journal by.number op
       owed few journal op k =
           careful-more ids (λ h u id. (u ≡ t) × MayDrawObject t.ids id) Mine journal
-          (λ u id is. subst (λ (x : SessionState). Mine journal x id) (sym is.0) (record { session = s; is_from = is_from; count = count; few = few; carried = k.0; alike = k.1.0; drawn = is.1 }))
-          by.number op k.1.1
+          (λ u id is. subst (λ (x : SessionState). Mine journal x id) (sym is.0) (record { session = s; came = k.1.1.0; count = count; few = few; carried = k.0; alike = k.1.0; drawn = is.1 }))
+          by.number op k.1.1.1
 
       answered : count ≤ tries_of access → (lost : Version → Option Version → AnyIds → Play Outcome)
-          → ((old : Version) (found : Option Version) (next : AnyIds) (h : List Event) → WasMoved by.number t old found next start h → Carried h → IsOpened t h → HasPutAlike by.number t start h → Owns ids by.number (record t { ids = next }) start h → Well (lost old found next) h)
+          → ((old : Version) (found : Option Version) (next : AnyIds) (h : List Event) → WasMoved by.number t old found next start h → Carried h → IsOpened t h → From h → HasPutAlike by.number t start h → Owns ids by.number (record t { ids = next }) start h → Well (lost old found next) h)
           → (answer : Result Tried Refusal) (h : List Event) → Answers answer h → Well (after_commit l.number shown lost answer) h
       answered few lost go (Ok (Was_done made)) h q = tried count t (Committed made.id) h few q.0 (inl (record { made = made; took = q.1.0.1; end_is = refl }))
-      answered few lost go (Ok (Lost old found next)) h q = go old found next h q.1.0.1 q.0 q.1.0.0 q.1.1.0 q.1.1.1
+      answered few lost go (Ok (Lost old found next)) h q = go old found next h q.1.0.1 q.0 q.1.0.0.0 q.1.0.0.1 q.1.1.0 q.1.1.1
       answered few lost go (Err why) h q = tried count t (Refused l.number why) h few q.0 (inr (inl (record { why = why; tells = q.1.0.1; end_is = refl })))
 
       commit-called : (journal : List Event) → Stands count t journal → (lost : Version → Option Version → AnyIds → Play Outcome)
-          → ((old : Version) (found : Option Version) (next : AnyIds) (h : List Event) → WasMoved by.number t old found next start h → Carried h → IsOpened t h → HasPutAlike by.number t start h → Owns ids by.number (record t { ids = next }) start h → Well (lost old found next) h)
+          → ((old : Version) (found : Option Version) (next : AnyIds) (h : List Event) → WasMoved by.number t old found next start h → Carried h → IsOpened t h → From h → HasPutAlike by.number t start h → Owns ids by.number (record t { ids = next }) start h → Well (lost old found next) h)
           → Well (call (commit_program t message) (after_commit l.number shown lost)) journal
       commit-called journal x lost go =
           let p = commit_program t message in
@@ -129,15 +137,16 @@ module _ (L : Laws) (by : Caller) (ids : AnyIds) (access : Access) (from : Sessi
           let owning = L.owning.commits by ids t message start journal x.ready.later utf8 x.ready.spelled x.ready.opened x.nothing x.ready.owned in
           let own : Sessions = λ h u id. (u ≡ t) × MayDrawObject t.ids id in
           let put : List Event → ℕ → Op → Type 0 = λ h client op. HasPutAlike client t start h in
-          let keeps = Keeps-with Carried carried-append by (λ h client op. put h client op × IsCareful ids own h client op) p journal x.carried (Keeps-both put (IsCareful ids own) by p journal single.0 law.0) in
-          let knows = Leads-good (IsOpened t) (λ h more g o. L.session.kept t h more g o) ids own by (CommitTells by.number t message start) p journal law.0 x.ready.opened law.2 in
-          let tells = Leads-both (λ answer h. IsOpened t h × CommitTells by.number t message start answer h) (λ answer h. HasPutAlike by.number t start h × OwnsNext ids by.number t start answer h) by p journal knows
+          let careful : List Event → ℕ → Op → Type 0 = λ h client op. From h × IsCareful ids own h client op in
+          let keeps = Keeps-with Carried carried-append by (λ h client op. put h client op × careful h client op) p journal x.carried (Keeps-both put careful by p journal single.0 (Keeps-good From from-append ids own by p journal law.0 x.came)) in
+          let knows = Leads-good (λ h. IsOpened t h × From h) (λ h more g o. (L.session.kept t h more g o.0, from-append h more g o.1)) ids own by (CommitTells by.number t message start) p journal law.0 (x.ready.opened, x.came) law.2 in
+          let tells = Leads-both (λ answer h. (IsOpened t h × From h) × CommitTells by.number t message start answer h) (λ answer h. HasPutAlike by.number t start h × OwnsNext ids by.number t start answer h) by p journal knows
           (Leads-both (λ answer h. HasPutAlike by.number t start h) (OwnsNext ids by.number t start) by p journal single.1 owning.1) in
           called-well by ids access Mine start (l ∷ ls) s shown p (after_commit l.number shown lost) Answers journal
-          (Keeps-own (λ h client op. Carried h × (put h client op × IsCareful ids own h client op)) (IsCareful ids Mine) by (owed x.few) p journal keeps)
+          (Keeps-own (λ h client op. Carried h × (put h client op × careful h client op)) (IsCareful ids Mine) by (owed x.few) p journal keeps)
           law.1
           owning.0
-          (Leads-with Carried carried-append by (λ answer h. (IsOpened t h × CommitTells by.number t message start answer h) × (HasPutAlike by.number t start h × OwnsNext ids by.number t start answer h)) p journal x.carried tells)
+          (Leads-with Carried carried-append by (λ answer h. ((IsOpened t h × From h) × CommitTells by.number t message start answer h) × (HasPutAlike by.number t start h × OwnsNext ids by.number t start answer h)) p journal x.carried tells)
           (answered x.few lost go)
           starved
 
@@ -150,7 +159,7 @@ module _ (L : Laws) (by : Caller) (ids : AnyIds) (access : Access) (from : Sessi
 
     -- ---- it was lost, and is tried again
     module _ (count : ℕ) (t : SessionState) (less : count < tries_of access) (old : Version) (found : Option Version) (next : AnyIds) (h : List Event) (moved : WasMoved by.number t old found next start h) (c : WasCarried by.number policy count s t start h)
-        (ready : IsReady ids by.number start (record t { ids = next }) h) (alike : HasPutAlike by.number t start h) where
+        (ready : IsReady ids by.number start (record t { ids = next }) h) (came : From h) (alike : HasPutAlike by.number t start h) where
       abbrev lost : SessionState
       lost = record t { ids = next }
 
@@ -182,49 +191,53 @@ module _ (L : Laws) (by : Caller) (ids : AnyIds) (access : Access) (from : Sessi
       carried u journal w = (t, lost, since, subst (λ (x : List Event). WasCarried by.number policy count s t start x) there c, was_lost, w)
 
       stands : (u : SessionState) (journal : List Event) → MadeGets by.number h journal → ((n : ℕ) × HasMoved by.number policy lost u n (start ++ since) journal) ⊎ WasUpToDate by.number lost u (start ++ since) journal
-          → HasPutAlike by.number u start journal → u.ids ≡ next → GoesOn (Ok (UpToDate u)) journal → Owns ids by.number u start journal → Stands (suc count) u journal
-      stands u journal gets w put drawn goes owned = record {
+          → HasPutAlike by.number u start journal → u.ids ≡ next → GoesOn (Ok (UpToDate u)) journal → Owns ids by.number u start journal → From journal → Stands (suc count) u journal
+      stands u journal gets w put drawn goes owned from = record {
         few = less;
         carried = carried u journal w;
         alike = put;
         ready = record { opened = goes.1; spelled = goes.0; later = subst (IsLater ids) (sym drawn) ready.later; owned = owned };
         nothing = nothing journal gets;
+        came = from;
       }
 
       abbrev Rebases : Result Rebased Refusal → List Event → Type 0
-      Rebases answer journal = RebaseTells by.number policy lost h answer journal × (GoesOn answer journal × OwnsOn ids by.number start answer journal)
+      Rebases answer journal = From journal × (RebaseTells by.number policy lost h answer journal × (GoesOn answer journal × OwnsOn ids by.number start answer journal))
 
       rebased : (again : SessionState → Play Outcome) → ((u : SessionState) (journal : List Event) → Stands (suc count) u journal → Well (again u) journal)
           → (answer : Result Rebased Refusal) (journal : List Event) → Rebases answer journal → Well (after_rebase l.number shown again answer) journal
       unfolding PlayKeeps PlayLeads
       rebased again go (Ok (Moved u n)) journal q =
-          let w = (tells (Ok (Moved u n)) journal q.0).0 in
-          let put = moved-alike by.number policy lost u n (start ++ since) journal start journal w (puts journal q.0.1) in
-          let on = go u journal (stands u journal q.0.1 (inl (n, w)) put (ap (λ (x : SessionState). x.ids) w.becomes) q.1.0 q.1.1) in
-          let off = starved journal (nothing journal q.0.1) in
+          let w = (tells (Ok (Moved u n)) journal q.1.0).0 in
+          let put = moved-alike by.number policy lost u n (start ++ since) journal start journal w (puts journal q.1.0.1) in
+          let on = go u journal (stands u journal q.1.0.1 (inl (n, w)) put (ap (λ (x : SessionState). x.ids) w.becomes) q.1.1.0 q.1.1.1 q.0) in
+          let off = starved journal (nothing journal q.1.0.1) in
           ((on.0, off.0), (on.1, off.1))
       rebased again go (Ok (UpToDate u)) journal q =
-          let w = (tells (Ok (UpToDate u)) journal q.0).0 in
-          let put = up_to_date-alike by.number lost u (start ++ since) journal start journal w (puts journal q.0.1) in
-          let on = go u journal (stands u journal q.0.1 (inr w) put (ap (λ (x : SessionState). x.ids) w.becomes) q.1.0 q.1.1) in
-          let off = starved journal (nothing journal q.0.1) in
+          let w = (tells (Ok (UpToDate u)) journal q.1.0).0 in
+          let put = up_to_date-alike by.number lost u (start ++ since) journal start journal w (puts journal q.1.0.1) in
+          let on = go u journal (stands u journal q.1.0.1 (inr w) put (ap (λ (x : SessionState). x.ids) w.becomes) q.1.1.0 q.1.1.1 q.0) in
+          let off = starved journal (nothing journal q.1.0.1) in
           ((on.0, off.0), (on.1, off.1))
       rebased again go (Err why) journal q =
           let few : count ≤ tries_of access = omega (arith, less) in
-          let c' = subst (λ (x : List Event). WasCarried by.number policy count s t start x) (sym q.0.1.is) (WasCarried-append by.number policy count s t start h q.0.1.more c) in
+          let c' = subst (λ (x : List Event). WasCarried by.number policy count s t start x) (sym q.1.0.1.is) (WasCarried-append by.number policy count s t start h q.1.0.1.more c) in
           tried count t (Refused l.number why) journal few c'
-          (inr (inr (inr (record { left = less; lost = lost; since = since; was_lost = was_lost; alike = puts journal q.0.1; why = why; tells = tells (Err why) journal q.0; nothing = nothing journal q.0.1; end_is = refl }))))
+          (inr (inr (inr (record { left = less; lost = lost; since = since; was_lost = was_lost; alike = puts journal q.1.0.1; why = why; tells = tells (Err why) journal q.1.0; nothing = nothing journal q.1.0.1; end_is = refl }))))
 
       rebase-called : (again : SessionState → Play Outcome) → ((u : SessionState) (journal : List Event) → Stands (suc count) u journal → Well (again u) journal) → Well (call (rebase_program policy lost) (after_rebase l.number shown again)) h
       rebase-called again go =
           let p = rebase_program policy lost in
           let both = Keeps-both (λ j client op. IsPolite j op) (λ j client op. IsGet op) by p h (law.told.polite h) (law.gets h) in
+          let careful = Keeps-own (λ j client op. IsPolite j op × IsGet op) (IsCareful ids Mine) by (λ j op k. record { polite = k.0; owes = get-owes ids Mine j op k.1 }) p h both in
+          let says : Result Rebased Refusal → List Event → Type 0 = λ answer j. RebaseTells by.number policy lost h answer j × (GoesOn answer j × OwnsOn ids by.number start answer j) in
           called-well by ids access Mine start (l ∷ ls) s shown p (after_rebase l.number shown again) Rebases h
-          (Keeps-own (λ j client op. IsPolite j op × IsGet op) (IsCareful ids Mine) by (λ j op k. record { polite = k.0; owes = get-owes ids Mine j op k.1 }) p h both)
+          careful
           (law.stays start h moved.nothing)
           (Keeps-own (λ j client op. IsGet op) (λ j client op. OwesOwn ids client start op j) by (λ j op g. get-own ids by.number start j op g) p h (law.gets h))
+          (Leads-good From from-append ids Mine by says p h careful came
           (Leads-both (RebaseTells by.number policy lost h) (λ answer j. GoesOn answer j × OwnsOn ids by.number start answer j) by p h (law.told.leads h)
-          (Leads-both GoesOn (OwnsOn ids by.number start) by p h (law.goes_on h ready.spelled ready.opened) (law.owns ids start h ready.owned)))
+          (Leads-both GoesOn (OwnsOn ids by.number start) by p h (law.goes_on h ready.spelled ready.opened) (law.owns ids start h ready.owned))))
           (rebased again go)
           starved
 
@@ -233,11 +246,11 @@ module _ (L : Laws) (by : Caller) (ids : AnyIds) (access : Access) (from : Sessi
     unfolding commit_play
     tries-well zero count all t journal x =
         let spent : count ≡ tries_of access = omega (arith, all) in
-        commit-called count t journal x (λ old found next. refused l.number shown (Conflict old found)) (λ old found next h moved c opened alike owned. spent-well count t spent old found next h moved c)
+        commit-called count t journal x (λ old found next. refused l.number shown (Conflict old found)) (λ old found next h moved c opened came alike owned. spent-well count t spent old found next h moved c)
     tries-well (suc left) count all t journal x =
         let more : suc count + left ≡ tries_of access = omega (arith, all) in
         let less : count < tries_of access = omega (arith, all) in
         commit-called count t journal x (λ old found next. call (rebase_program policy (record t { ids = next })) (after_rebase l.number shown (commit_play left policy l.number shown message)))
-        (λ old found next h moved c opened alike owned.
-        rebase-called count t less old found next h moved c (record { opened = other-opened t next h opened; spelled = other-spelled t next x.ready.spelled; later = later-later ids t.ids next x.ready.later moved.next_is; owned = owned }) alike (commit_play left policy l.number shown message)
+        (λ old found next h moved c opened came alike owned.
+        rebase-called count t less old found next h moved c (record { opened = other-opened t next h opened; spelled = other-spelled t next x.ready.spelled; later = later-later ids t.ids next x.ready.later moved.next_is; owned = owned }) came alike (commit_play left policy l.number shown message)
         (λ u j y. tries-well left (suc count) more u j y))

@@ -1,6 +1,7 @@
 pub mod Lines
 pub mod Playing
 pub mod Solving
+pub mod Bases
 pub mod Owing
 pub mod Workers
 pub mod Telling

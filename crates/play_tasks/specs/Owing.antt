@@ -2,6 +2,7 @@
 use Rattle.std.specs.Prelude.{ℕ, List}
 use Rattle.ice_ids.specs.declared.drawing.AnyIds.{AnyIds}
 use Rattle.object_store.specs.declared.events.Op.{Op}
+use Rattle.object_store.specs.declared.events.Op.TheVariants.{Get, PutNew, PutOver, Remove, RemoveAt, List as ListPart}
 use Rattle.object_store.specs.declared.events.Event.{Event}
 use Rattle.store_api.specs.Journal.{IsPolite, IsGood}
 use Rattle.store_api.specs.Telling.{ChangedNothing}
@@ -12,6 +13,7 @@ use Rattle.play_script.specs.declared.scripts.Head.TheVariants.{Session, Refs}
 use Rattle.play_script.specs.declared.scripts.Task.{Task}
 use Rattle.play_refs.specs.Telling.{OwesRefs}
 use Rattle.play_tasks.specs.Solving.{IsOfTask}
+use Rattle.play_tasks.specs.Bases.{IsOpenAt}
 
 -- a task that opens a session owes what clients owe who open and commit sessions, its own being those of the task; one that calls on refs,
 -- what clients owe who call on refs
@@ -28,22 +30,33 @@ abbrev pub OwesOwnBy : Head → AnyIds → (client : ℕ) → (start journal : L
 OwesOwnBy (Session access) ids client start journal op = OwesOwn ids client start op journal
 OwesOwnBy Refs ids client start journal op = Unit {0}
 
--- the operation is polite, and owed
+-- the operation is polite, and owed; in a task that opens a session it is the first one, or comes where the session has a base
 pub record IsDue (ids : AnyIds) (task : Task) (number : ℕ) (start journal : List Event) (client : ℕ) (op : Op) : Type 0 where
   pub polite : IsPolite journal op
   pub owes : OwesOfTask ids task number start journal op
   pub own : OwesOwnBy task.head ids number start journal op
+  pub open_at : IsOpenAt ids task number start journal op
 
--- the event is good, and owed
+-- the event is good, and owed, and comes so
 pub record IsDueEvent (ids : AnyIds) (task : Task) (number : ℕ) (start journal : List Event) (event : Event) : Type 0 where
   pub good : IsGood journal event
   pub owes : OwesOfTask ids task number start journal event.op
   pub own : OwesOwnBy task.head ids number start journal event.op
+  pub open_at : IsOpenAt ids task number start journal event.op
 
--- a task that opens a session makes each operation before its client changed a branch; one that calls on refs changes as many as it likes
-abbrev pub ComesBefore : Head → (client : ℕ) → (start journal : List Event) → Type 0
-ComesBefore (Session access) client start journal = ChangedNothing client start journal
-ComesBefore Refs client start journal = Unit {0}
+-- it puts something, under a new key or over what stands
+abbrev pub IsPut : Op → Type 0
+IsPut (Get key) = ⊥
+IsPut (PutNew key bytes why) = Unit {0}
+IsPut (PutOver key bytes old why) = Unit {0}
+IsPut (Remove key why) = ⊥
+IsPut (RemoveAt key old why) = ⊥
+IsPut (ListPart part) = ⊥
 
-abbrev pub BeforeChange : Task → (client : ℕ) → (start journal : List Event) → Type 0
-BeforeChange task client start journal = ComesBefore task.head client start journal
+-- a task that opens a session puts nothing behind its client's change of a branch; one that calls on refs changes as many as it likes
+abbrev pub ComesBefore : Head → (client : ℕ) → (start journal : List Event) → Op → Type 0
+ComesBefore (Session access) client start journal op = IsPut op → ChangedNothing client start journal
+ComesBefore Refs client start journal op = Unit {0}
+
+abbrev pub BeforeChange : Task → (client : ℕ) → (start journal : List Event) → Op → Type 0
+BeforeChange task client start journal op = ComesBefore task.head client start journal op

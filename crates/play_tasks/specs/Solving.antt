@@ -6,40 +6,45 @@ use Rattle.conflicts.specs.declared.solving.Policy.{Policy}
 use Rattle.session.specs.declared.chunks.Value.{Value}
 use Rattle.session.specs.Sessions.{SessionState}
 use Rattle.session.specs.Sources.{MayDrawObject}
-use Rattle.session.specs.Chunks.{set_program, get_program}
 use Rattle.object_store.specs.declared.events.Version.{Version}
-use Rattle.object_store.specs.declared.events.Reply.{Reply}
 use Rattle.object_store.specs.declared.events.Event.{Event}
-use Rattle.store_api.specs.Program.{Prog, Done, Ask}
+use Rattle.chunk_calls.specs.Told.{WasSet, IsChunk}
 use Rattle.commit_path.specs.Answered.{WasMoved}
-use Rattle.commit_path.specs.Opened.{WasBegun}
+use Rattle.commit_path.specs.Opened.{IsOpened, WasBegun}
 use Rattle.commit_path.specs.Single.{HasPutNone, HasPutAlike}
 use Rattle.rebase.specs.Telling.{HasMoved, WasUpToDate}
 use Rattle.play_script.specs.declared.scripts.Access.{Access}
 use Rattle.play_script.specs.declared.scripts.Head.TheVariants.{Session}
 use Rattle.play_script.specs.declared.scripts.Line.{Line}
 use Rattle.play_script.specs.declared.scripts.Task.{Task}
+use Rattle.play_outcome.specs.declared.outcome.Shown.{Shown}
 use Rattle.play_tasks.specs.Lines.{Deed, Goes, Sets, Reads, Commits, deed}
 use Rattle.play_tasks.specs.Playing.{asked_by, tries_of, policy_of}
 
 -- ---- as the lines lead to it
--- the program ends with this answer, for some replies
-unfoldable pub MayEnd : {A : Type 0} → Prog A → A → Type 0
-MayEnd (Done a) b = a ≡ b
-MayEnd (Ask op k) b = (reply : Reply) × MayEnd (k reply) b
+-- a line that does this was played on a session: what it showed, and the session that it led to
+abbrev pub DidPlay : ℕ → Deed → SessionState → List Event → List Shown → SessionState → List Event → Type 0
+DidPlay client (Goes went) s start shown t journal = went ≡ Ok (shown, t)
+DidPlay client (Sets path index bytes) s start shown t journal = (shown ≡ []) × WasSet client s path index bytes t start journal
+DidPlay client (Reads path index show) s start shown t journal = (t ≡ s) × (value : Value) × (shown ≡ show value ∷ []) × IsChunk s path index value journal
+DidPlay client (Commits message) s start shown t journal = ⊥
 
--- what a line that does this leads to: the session behind it, or where it commits, the session itself
-abbrev pub ReachesBy : Deed → SessionState → SessionState → (SessionState → Type 0) → Type 0
-ReachesBy (Goes (Ok went)) s t next = next went.1
-ReachesBy (Goes (Err why)) s t next = ⊥
-ReachesBy (Sets path index bytes) s t next = (mid : SessionState) × MayEnd (set_program s path index bytes) (Ok mid) × next mid
-ReachesBy (Reads path index show) s t next = (value : Value) × MayEnd (get_program s path index) (Ok value) × next s
-ReachesBy (Commits message) s t next = t ≡ s
+-- lines that were played one after another, none of them refused and none of them a commit: what they showed, and the session that they led to
+unfoldable pub PlaysAll : ℕ → List Line → SessionState → List Event → List Shown → SessionState → List Event → Type 0
+PlaysAll client [] s start shown t journal = (shown ≡ []) × (t ≡ s)
+PlaysAll client (l ∷ ls) s start shown t journal =
+    (first more : List Shown) × (mid : SessionState) × (shown ≡ first ++ more) × DidPlay client (deed l.number l.call s) s start first mid journal × PlaysAll client ls mid start more t journal
 
--- the lines lead from a session to the one that they commit
-unfoldable pub Reaches : List Line → SessionState → SessionState → Type 0
-Reaches [] s t = ⊥
-Reaches (l ∷ ls) s t = ReachesBy (deed l.number l.call s) s t (λ mid. Reaches ls mid t)
+-- The first lines of a body were played on a session, led to this one and showed this; the next line commits it.
+pub record CameToCommit (client : ℕ) (body : List Line) (opened : SessionState) (start journal : List Event) (s : SessionState) : Type 0 where
+  pub played : List Line
+  pub line : Line
+  pub left : List Line
+  pub body_is : body ≡ played ++ line ∷ left
+  pub shown : List Shown
+  pub plays : PlaysAll client played opened start shown s journal
+  pub message : List ℕ
+  pub commits : deed line.number line.call s ≡ Commits message
 
 -- ---- carried over the commits of others
 -- A commit of the session was lost, and the session draws other ids from then on.
@@ -63,7 +68,7 @@ WasCarried client policy (suc count) s t start journal =
 
 -- ---- of a task
 -- A session of a task at its commit, with an object id that it draws. The task opens one, and it was opened at what the client got, before the client put a snapshot; the
--- task's lines lead to it, and it was carried over the commits of others as often as the task may try, as its client's own gets read them. All
+-- task's lines before a commit led to it, and it was carried over the commits of others as often as the task may try, as its client's own gets read them. All
 -- snapshots that the client has put are of sessions that added and dropped the same nodes.
 pub record IsOfTask (ids : AnyIds) (task : Task) (client : ℕ) (start journal : List Event) (t : SessionState) (id : Id12) : Type 0 where
   pub access : Access
@@ -71,8 +76,9 @@ pub record IsOfTask (ids : AnyIds) (task : Task) (client : ℕ) (start journal :
   pub opened : SessionState
   pub begun : WasBegun client (asked_by access ids) opened start journal
   pub early : HasPutNone client start begun.got.own.before
+  pub read : IsOpened opened journal
   pub session : SessionState
-  pub reaches : Reaches task.body opened session
+  pub came : CameToCommit client task.body opened start journal session
   pub count : ℕ
   pub few : count ≤ tries_of access
   pub carried : WasCarried client (policy_of access) count session t start journal

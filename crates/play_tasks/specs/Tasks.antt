@@ -27,25 +27,27 @@ plays_from draw place (t ∷ ts) = task_play (ids_at draw place) t ∷ plays_fro
 abbrev pub TellsAt : Draw → ℕ → Task → List Event → Outcome → List Event → Type 0
 TellsAt draw place task start outcome journal = TellsOutcome (ids_at draw place) task (place + 1) start outcome journal
 
--- Whatever others do, each operation that the worker at this place comes to is polite, and what its task owes, and comes before its client
--- changed a branch if the task opens a session; and its outcome will tell the journal, where the tasks began at `start`.
+-- Whatever others do, each operation that the worker at this place comes to is polite, and what its task owes, and if it puts something and the task
+-- opens a session, comes before its client changed a branch; and its outcome will tell the journal, where the tasks began at `start`.
 pub record Stands (draw : Draw) (tasks : List Task) (start : List Event) (tells : Bool) (place : ℕ) (p : Play Outcome) (journal : List Event) : Type 0 where
   pub task : Task
   pub at : slice_get tasks place ≡ Some task
   pub careful : PlayKeeps (IsDue (ids_at draw place) task (place + 1) start) (only tells (place + 1)) p journal
-  pub before : PlayKeeps (λ h client op. BeforeChange task client start h) (only tells (place + 1)) p journal
+  pub before : PlayKeeps (λ h client op. BeforeChange task client start h op) (only tells (place + 1)) p journal
   pub leads : PlayLeads (TellsAt draw place task start) (only tells (place + 1)) p journal
 
 abbrev pub AllStand : Draw → List Task → List Event → Bool → List (Play Outcome) → List Event → Type 0
 AllStand draw tasks start tells ps journal = (place : ℕ) (p : Play Outcome) → slice_get ps place ≡ Some p → Stands draw tasks start tells place p journal
 
--- The event is good, its client's, and what the task of that client owes, where the tasks began at `start`.
+-- The event is good, its client's, and what the task of that client owes, where the tasks began at `start`; and if it puts something and the task opens
+-- a session, the client had changed no branch.
 pub record IsOfClient (draw : Draw) (tasks : List Task) (start journal : List Event) (event : Event) : Type 0 where
   pub place : ℕ
   pub task : Task
   pub client : event.client ≡ place + 1
   pub at : slice_get tasks place ≡ Some task
   pub careful : IsDueEvent (ids_at draw place) task (place + 1) start journal event
+  pub before : BeforeChange task (place + 1) start journal event.op
 
 -- the worker at this place, if there is one, has ended
 abbrev pub HasEndedAt : ℕ → List (Play Outcome) → Type 0

@@ -17,8 +17,7 @@ use Rattle.play_outcome.specs.declared.outcome.Shown.{Shown}
 use Rattle.play_outcome.specs.declared.outcome.End.{End}
 use Rattle.play_outcome.specs.declared.outcome.End.TheVariants.{Committed, Done, Refused}
 use Rattle.play_outcome.specs.declared.outcome.Outcome.{Outcome}
-use Rattle.session.specs.declared.chunks.Value.{Value}
-use Rattle.chunk_calls.specs.Told.{WasSet, IsChunk, SetTells, GetTells}
+use Rattle.chunk_calls.specs.Told.{SetTells, GetTells}
 use Rattle.play_tasks.specs.Lines.{Deed, Goes, Sets, Reads, Commits, deed}
 use Rattle.rebase.specs.Telling.{RebaseTells}
 use Rattle.play_script.specs.declared.scripts.Access.{Access}
@@ -26,21 +25,7 @@ use Rattle.play_script.specs.declared.scripts.Head.{Head}
 use Rattle.play_script.specs.declared.scripts.Head.TheVariants.{Session, Refs}
 use Rattle.play_refs.specs.Telling.{RefsTells}
 use Rattle.play_tasks.specs.Playing.{asked_by, tries_of, policy_of}
-use Rattle.play_tasks.specs.Solving.{WasLost, WasCarried}
-
--- ---- the lines
--- a line that does this was played on a session: what it showed, and the session that it led to
-abbrev pub DidPlay : ℕ → Deed → SessionState → List Event → List Shown → SessionState → List Event → Type 0
-DidPlay client (Goes went) s start shown t journal = went ≡ Ok (shown, t)
-DidPlay client (Sets path index bytes) s start shown t journal = (shown ≡ []) × WasSet client s path index bytes t start journal
-DidPlay client (Reads path index show) s start shown t journal = (t ≡ s) × (value : Value) × (shown ≡ show value ∷ []) × IsChunk s path index value journal
-DidPlay client (Commits message) s start shown t journal = ⊥
-
--- lines that were played one after another, none of them refused and none of them a commit: what they showed, and the session that they led to
-unfoldable pub PlaysAll : ℕ → List Line → SessionState → List Event → List Shown → SessionState → List Event → Type 0
-PlaysAll client [] s start shown t journal = (shown ≡ []) × (t ≡ s)
-PlaysAll client (l ∷ ls) s start shown t journal =
-    (first more : List Shown) × (mid : SessionState) × (shown ≡ first ++ more) × DidPlay client (deed l.number l.call s) s start first mid journal × PlaysAll client ls mid start more t journal
+use Rattle.play_tasks.specs.Solving.{PlaysAll, WasLost, WasCarried}
 
 -- ---- the end
 -- a line that does this was refused, for this reason

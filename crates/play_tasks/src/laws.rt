@@ -7,8 +7,8 @@ use commit_path::{answers_law, commit_law, opening_law, owning_law, session_law,
 use play_refs::{refs_outcome_law, refs_task_law};
 use rebase::rebase_law;
 
-/// Whatever others do, each operation of a task is polite, and what the task owes; if it opens a session, each comes before
-/// the task's client changed a branch; and its outcome tells the journal: which session was opened,
+/// Whatever others do, each operation of a task is polite, and what the task owes; if it opens a session, each that puts
+/// something comes before the task's client changed a branch; and its outcome tells the journal: which session was opened,
 /// what each of its lines set and showed, over which commits of others it was carried, and what became of its commit; or
 /// what came of each of its calls on refs.
 pub fn task_law()

@@ -12,13 +12,14 @@ use Rattle.store_api.specs.Journal.{IsGoodJournal}
 use Rattle.store_api.specs.Telling.{RefWasBad, WasAbsent, WasPresent}
 use Rattle.histories.specs.Tags.{TagCall, Open, Make, Drop, TagAnswer, Opened, Done, NoRef, RefExists, TagGone, tag_answer}
 use Rattle.histories.specs.TagCalls.{tag_of}
+use Rattle.histories.specs.Formats.{files_by}
 use Rattle.repo_read.specs.declared.resolving.At.{At}
 use Rattle.repo_read.specs.Naming.{WasTagged}
 use Rattle.refs_admin.specs.TagTelling.{WasTagPut, TagWasGone, TagStands, WasBuried, HadTombstone}
 
 -- the state of the tag behind this journal gives the call this answer
 abbrev pub Gives : (Id12 → Option Tree) → List Event → List ℕ → TagCall → TagAnswer → Type 0
-Gives trees journal tag call answer = tag_answer call (tag_of trees journal tag) ≡ answer
+Gives trees journal tag call answer = tag_answer call (tag_of (files_by trees) journal tag) ≡ answer
 
 -- A tag that was opened; one that was absent, so that it was neither opened nor dropped; one that was gone, so that it wasn't opened; one that
 -- was made; one that was not, since it stood or was gone; one that was dropped; and one that was not, since it was gone. And a

@@ -23,7 +23,7 @@ use Rattle.object_store.proofs.Slots.{effect-cases, slot-append_one}
 use Rattle.play_outcome.specs.declared.outcome.RefLine.{RefLine}
 use Rattle.store_api.specs.Running.{Program, ◌>>=◌, on_answer}
 use Rattle.repository.specs.Refs.{list_part, on_listed, on_got, on_id, line_of, read_each, read_ref, with_line}
-use Rattle.repository.specs.Laws.{HasKey}
+use Rattle.live_refs.specs.Laws.{HasKey}
 use Rattle.repository.proofs.Listed.{IsRead, OnlyReads}
 
 -- ---- a reading changes nothing

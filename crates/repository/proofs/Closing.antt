@@ -18,10 +18,10 @@ use Rattle.object_store.specs.Machine.{Stored, found, part_of, listing_cmp, IsLi
 use Rattle.store_api.specs.Program.{Done}
 use Rattle.play_outcome.specs.declared.outcome.RefLine.{RefLine}
 use Rattle.repository.specs.Refs.{refs_program, list_part, read_each, live, is_gone}
-use Rattle.repository.specs.Laws.{HasKey, IsNotGone, IsRefIn}
+use Rattle.live_refs.specs.Laws.{HasKey, IsNotGone, IsRefIn}
 use Rattle.repository.specs.Closing.{HasLine, branch_line, tag_line, NamesAt, line_cmp, TellsRefs, RefsLaw}
 use Rattle.repository.proofs.Listed.{after_branches, after_lines, after_tags, refs-reads}
-use Rattle.repository.proofs.Live.{live-step, live-stays, live-law}
+use Rattle.live_refs.proofs.Live.{live-step, live-stays, live-law}
 use Rattle.repository.proofs.Answered.{AllRead, found-reads, path-reads, Yields, path-yields, yields-then, list-yields, each-yields, key_of, Told, IsLine, HasOne, AllTold}
 
 -- ---- places in lists

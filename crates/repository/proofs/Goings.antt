@@ -15,8 +15,9 @@ use Rattle.store_api.specs.Running.{Program, on_answer}
 use Rattle.play_outcome.specs.declared.outcome.RefLine.{RefLine}
 use Rattle.repository.specs.declared.refs.Reading.{Reading}
 use Rattle.repository.specs.declared.refs.Reading.TheVariants.{Branch, Tags, Ended}
-use Rattle.repository.specs.Refs.{on_got, read_each, read_tags, read_branches, with_line, live}
-use Rattle.repository.specs.Reading.{reading_rest, read_on, first_and_live, AddsLine}
+use Rattle.repository.specs.Refs.{on_got, read_each, read_tags, read_branches, with_line}
+use Rattle.repository.specs.Reading.{reading_rest, read_on, AddsLine}
+use Rattle.live_refs.specs.Live.{live, first_and_live}
 
 abbrev Goes : Program (List RefLine) → Program (List RefLine) → Type 0
 Goes p q = (p ≡ q) × IsAsk q

@@ -1,6 +1,5 @@
 pub mod Puts
 pub mod Listed
 pub mod Goings
-pub mod Live
 pub mod Answered
 pub mod Closing

@@ -20,35 +20,7 @@ use Rattle.store_api.specs.Callers.{Caller}
 use Rattle.store_api.specs.Program.{Prog, Done, Ask, bind, Keeps}
 use Rattle.play_outcome.specs.declared.outcome.RefLine.{RefLine}
 use Rattle.store_api.specs.Running.{Program, StaysPolite, ◌>>=◌, on_answer}
-use Rattle.repository.specs.Reading.{first_and_live}
 use Rattle.repository.specs.Refs.{refs_program, list_part, on_listed, on_got, read_each, read_ref, with_line, live, is_gone}
-
--- ---- what is left of a listing
--- a slice up to the end
-behind-slice : (entries : List Entry) (from : ℕ) → take (length entries - from) (drop from entries) ≡ drop from entries
-behind-slice entries from = ap (λ (n : ℕ). take n (drop from entries)) (sym (length-drop from entries)) ∙ take-length (drop from entries)
-
-live-at : (entries : List Entry) (place : ℕ) (entry : Entry) (b : Bool) → place < length entries → b ≡ is_gone (get_or entries place entry).key (take (length entries - (place + 1)) (drop (place + 1) entries)) → live (drop place entries) ≡ cond b (live (drop (place + 1) entries)) ((get_or entries place entry).key ∷ live (drop (place + 1) entries))
-live-at entries place entry b l e =
-    let same : is_gone (get_or entries place entry).key (drop (place + 1) entries) ≡ b = ap (is_gone (get_or entries place entry).key) (sym (behind-slice entries (place + 1))) ∙ sym e in
-    ap live (drop_more entries place entry l) ∙ ap (λ (x : Bool). cond x (live (drop (place + 1) entries)) ((get_or entries place entry).key ∷ live (drop (place + 1) entries))) same
-
-pub live-gone : (entries : List Entry) (place : ℕ) (entry : Entry) (b : Bool) → place < length entries → b ≡ is_gone (get_or entries place entry).key (take (length entries - (place + 1)) (drop (place + 1) entries)) → b ≡ true → live (drop place entries) ≡ live (drop (place + 1) entries)
-live-gone entries place entry b l e gone = live-at entries place entry b l e ∙ ap (λ (x : Bool). cond x (live (drop (place + 1) entries)) ((get_or entries place entry).key ∷ live (drop (place + 1) entries))) gone
-
-pub live-stands : (entries : List Entry) (place : ℕ) (entry : Entry) (b : Bool) → place < length entries → b ≡ is_gone (get_or entries place entry).key (take (length entries - (place + 1)) (drop (place + 1) entries)) → b ≡ false → live (drop place entries) ≡ (get_or entries place entry).key ∷ live (drop (place + 1) entries)
-live-stands entries place entry b l e stands = live-at entries place entry b l e ∙ ap (λ (x : Bool). cond x (live (drop (place + 1) entries)) ((get_or entries place entry).key ∷ live (drop (place + 1) entries))) stands
-
-pub live-none : (entries : List Entry) (place : ℕ) → length entries ≤ place → live (drop place entries) ≡ []
-live-none entries place l = ap live (drop_of_length-le entries l)
-
--- the first that stands
-pub first-stands : (entries : List Entry) (place : ℕ) (entry : Entry) (b : Bool) → place < length entries → b ≡ is_gone (get_or entries place entry).key (take (length entries - (place + 1)) (drop (place + 1) entries)) → b ≡ false → live (drop place entries) ≡ first_and_live (drop place entries)
-first-stands entries place entry b l e stands = live-stands entries place entry b l e stands ∙ ap first_and_live (sym (drop_more entries place entry l))
-
--- at the end none is left
-pub none-left : (entries : List Entry) (place : ℕ) → length entries ≤ place → (n : ℕ) → length entries ≤ n → live (drop place entries) ≡ first_and_live (drop n entries)
-none-left entries place l n m = live-none entries place l ∙ sym (ap first_and_live (drop_of_length-le entries m))
 
 -- ---- the parts of a reading
 abbrev pub after_tags : List RefLine → List Entry → Program (List RefLine)

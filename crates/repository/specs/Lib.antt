@@ -1,5 +1,4 @@
 pub mod Beginning
 pub mod Refs
 pub mod Reading
-pub mod Laws
 pub mod Closing

@@ -10,14 +10,10 @@ use Rattle.play_outcome.specs.declared.outcome.RefLine.{RefLine}
 use Rattle.repository.specs.declared.refs.Reading.{Reading}
 use Rattle.repository.specs.declared.refs.Reading.TheVariants.{Branches, Branch, Tags, Tag, Ended}
 use Rattle.repository.specs.declared.refs.ReadRefs.{ReadRefs}
-use Rattle.repository.specs.Refs.{read_each, read_tags, read_all, live, with_line}
+use Rattle.live_refs.specs.Live.{live, first_and_live}
+use Rattle.repository.specs.Refs.{read_each, read_tags, read_all, with_line}
 
 -- ---- the rest of a listing
--- the first key, and of those behind it the ones whose refs stand
-abbrev pub first_and_live : List Entry → List Key
-first_and_live [] = []
-first_and_live (entry ∷ behind) = entry.key ∷ live behind
-
 -- gets the first ref, and then those behind it that stand
 abbrev pub read_on : List RefLine → List Entry → Program (List RefLine)
 read_on lines [] = Done (Err NoMemory)

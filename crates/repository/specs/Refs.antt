@@ -15,7 +15,7 @@ use Rattle.object_store.specs.declared.events.Reply.{Reply}
 use Rattle.object_store.specs.declared.events.Reply.TheVariants.{Got as Is_got, Listed as Is_listed}
 use Rattle.store_api.specs.declared.machines.Refusal.{Refusal}
 use Rattle.store_api.specs.declared.machines.Refusal.TheVariants.{BadFile, StoreFault, NoMemory}
-use Rattle.object_store.specs.Machine.{same_key}
+pub use Rattle.live_refs.specs.Live.{live, is_gone}
 use Rattle.store_api.specs.Program.{Done, Ask}
 use Rattle.play_outcome.specs.declared.outcome.RefLine.{RefLine}
 use Rattle.store_api.specs.Running.{Program, ◌>>=◌}
@@ -27,23 +27,6 @@ on_listed _ = Done (Err StoreFault)
 
 abbrev pub list_part : Part → Program (List Entry)
 list_part part = Ask (ListPart part) on_listed
-
--- a tombstone, or the tag of the tombstone that is listed right behind it
-abbrev pub is_gone : Key → List Entry → Bool
-is_gone (TagGone name) behind = true
-is_gone (Tag name) (next ∷ behind) = same_key next.key (TagGone name)
-is_gone (Tag name) [] = false
-is_gone (Snapshot id) behind = false
-is_gone (Manifest id) behind = false
-is_gone (Txn id) behind = false
-is_gone (Chunk id) behind = false
-is_gone (Branch name) behind = false
-is_gone (Lease id) behind = false
-
--- the keys of a listing whose refs stand
-abbrev pub live : List Entry → List Key
-live [] = []
-live (entry ∷ behind) = if is_gone entry.key behind then live behind else entry.key ∷ live behind
 
 -- ---- a ref
 -- the line of a branch or a tag

@@ -1,13 +1,6 @@
 //! Laws of the definitions, as the contracts of functions that do nothing.
 
-ghost use Rattle.repository.specs.Laws.{LiveLaw};
 ghost use Rattle.repository.specs.Closing.{RefsLaw};
-
-/// Of an honest listing, the refs that are read are those that stand, and of tags those that have no
-/// tombstone.
-pub fn live_law()
-    ensures { LiveLaw }
-{}
 
 /// The closing reading: where nobody else acts while the refs are read, the lines that are read are
 /// those of the refs that stand at the end. Each branch, and each tag without a tombstone, has one

@@ -8,5 +8,5 @@ mod refs;
 
 pub use beginning::Begin;
 pub use calls::{begin, read_refs};
-pub use laws::{live_law, refs_law};
+pub use laws::refs_law;
 pub use refs::ReadRefs;

@@ -1,21 +1,19 @@
 //! The machine that reads the refs of a repository.
 
 ghost use Rattle.std.specs.Prelude.{◌≡◌, ◌<◌, ◌≤◌, ◌+◌, ◌-◌, drop, length, false, IfOk, IfErr};
-ghost use Rattle.object_store.specs.Machine.{same_key};
 ghost use Rattle.store_api.specs.Program.{IsAsk, Steps, Lands, is_fault};
-ghost use Rattle.repository.specs.Refs.{refs_program, read_each, read_branches, on_got, line_of, live, is_gone, MayRefuseRefs};
+ghost use Rattle.repository.specs.Refs.{refs_program, read_each, read_branches, on_got, line_of, MayRefuseRefs};
+ghost use Rattle.live_refs.specs.Live.{live};
 ghost use Rattle.store_api.specs.Driving.{Awaits, Took};
-ghost use Rattle.repository.specs.Reading.{reading_rest, reading_left, refs_rest, refs_left, no_length, first_and_live, Answers, AddsLine};
+ghost use Rattle.repository.specs.Reading.{reading_rest, reading_left, refs_rest, refs_left, no_length, Answers, AddsLine};
 
-use ice_base::RefName;
 use ice_ids::Id12;
+use live_refs::next_live;
 use play_outcome::{RefLine, RefLines};
 use repo_objects::{Unread, ref_read};
 use std::alloc::{AllocError, Global};
 use std::mem;
-use store_api::{
-    Entries, Entry, Got, Key, Machine, Next, Part, Refusal, Reply, Request, Store, drive,
-};
+use store_api::{Entries, Got, Key, Machine, Next, Part, Refusal, Reply, Request, Store, drive};
 
 /// The operation that comes next.
 #[derive(Drop)]
@@ -175,43 +173,6 @@ impl ReadRefs {
             return Next::Again;
         }
         Next::Ready(mem::replace(&mut self.lines, RefLines::new(self.alloc)))
-    }
-}
-
-/// The place of the next ref that stands, from this place on, or the end.
-fn next_live(entries: &[Entry], from: usize) -> usize
-    requires { from ≤ length entries.now }
-    ensures live { live (drop from entries.now) ≡ first_and_live (drop result entries.now) }
-    ensures behind { from ≤ result }
-    ensures within { result ≤ length entries.now }
-{
-    for place in from..entries.len() {
-        if !is_gone(&entries[place].key, &entries[place + 1..]) {
-            return place;
-        }
-    }
-    entries.len()
-}
-
-/// Whether the key is a tombstone, or the tag of the tombstone that is listed right behind it.
-fn is_gone(key: &Key, behind: &[Entry]) -> bool
-    ensures { result ≡ is_gone key.now behind.now }
-{
-    match key {
-        Key::TagGone(_) => true,
-        Key::Tag(name) => !behind.is_empty() && is_tombstone(&behind[0].key, name),
-        Key::Snapshot(_) | Key::Manifest(_) | Key::Txn(_) | Key::Chunk(_) => false,
-        Key::Branch(_) | Key::Lease(_) => false,
-    }
-}
-
-fn is_tombstone(key: &Key, name: &RefName) -> bool
-    ensures { result ≡ same_key key.now (Key.TagGone name.now) }
-{
-    match key {
-        Key::TagGone(gone) => gone == name,
-        Key::Snapshot(_) | Key::Manifest(_) | Key::Txn(_) | Key::Chunk(_) => false,
-        Key::Branch(_) | Key::Tag(_) | Key::Lease(_) => false,
     }
 }
 

@@ -23,6 +23,7 @@ use Rattle.store_api.specs.Laws.{PutsOnce}
 use Rattle.object_store.proofs.Journals.{Each-append}
 use Rattle.store_api.proofs.Once.{first-law}
 use Rattle.object_store.proofs.Slots.{effect-cases, free-cases, old-cases, same_key-true, slot-append_one}
+use Rattle.store_api.specs.Telling.{ChangedNothing}
 use Rattle.histories.proofs.Choosing.{Knows}
 use Rattle.session.specs.Sessions.{changes_in}
 use Rattle.session.specs.Sources.{MayDrawObject}
@@ -34,7 +35,7 @@ use Rattle.play_script.specs.declared.scripts.Head.TheVariants.{Session, Refs}
 use Rattle.play_script.specs.declared.scripts.Task.{Task}
 use Rattle.play_script.specs.Well.{IsWellTask}
 use Rattle.commit_path.specs.Own.{IsOwnCommit, OwesOwn}
-use Rattle.play_tasks.specs.Owing.{OwesBy, OwesOwnBy}
+use Rattle.play_tasks.specs.Owing.{ComesBefore, IsPut, OwesBy, OwesOwnBy}
 use Rattle.play_tasks.specs.Solving.{IsOfTask}
 use Rattle.play_tasks.specs.Tasks.{ids_at, IsOfClient}
 use Rattle.run_histories.specs.Sources.{ObjectsAreNew}
@@ -43,6 +44,7 @@ use Rattle.run_histories.proofs.Sources.{object-not_initial}
 use Rattle.run_histories.proofs.Carrying.{task-object}
 use Rattle.run_histories.proofs.Drawing.{are-among, ids_at-of}
 use Rattle.run_histories.proofs.Programs.{IsBranch, IsPlain, IsPlainOrCut, PutsOverSnapshot}
+use Rattle.run_histories.proofs.Single.{CommitsFirst}
 
 -- ---- a key from which nothing is removed
 abbrev Unused : Slot → Type 0
@@ -105,13 +107,14 @@ CommitsOwn start journal event = (branch bytes : List ℕ) (old : Version) → e
 
 -- ---- an event of a run
 -- it is good, it removes no object, it puts what wasn't put before, where its clients' objects are new, its changes are known, and a commit is its
--- client's own
+-- client's own, and comes before its client changed a branch
 pub record Fits (draw : Draw) (tasks : List Task) (start journal : List Event) (event : Event) : Type 0 where
   pub good : IsGood journal event
   pub keeps : ¬ Removes event.op
   pub first : AllObjectsAreNew draw tasks journal → IsOnce journal → IsFirst journal event
   pub knows : IsOnce journal → Knows (λ h e c. CommitsSession draw tasks start c h e.client e.op) journal event
   pub own : CommitsOwn start journal event
+  pub early : CommitsFirst start journal event
 
 -- of the opening, the closing reading, or a task on refs; or a cut
 plain-keeps : (op : Op) → IsPlain op → ¬ Removes op
@@ -177,6 +180,7 @@ module _ (draw : Draw) (tasks : List Task) where
     first = λ new once d. first-law journal event.op once good.polite (either-once journal event.op p);
     knows = λ once. (none, plain-none start journal event.client event.op p);
     own = λ branch bytes old e. absurd (plain-no-commit event.op branch bytes old p e);
+    early = λ branch bytes old e. absurd (plain-no-commit event.op branch bytes old p e);
   }
 
 -- an event of a task that opens a session
@@ -189,6 +193,7 @@ pub record IsOfOpener (draw : Draw) (tasks : List Task) (start journal : List Ev
   pub head_is : task.head ≡ Session access
   pub careful : IsCarefulEvent (ids_at draw place) (IsOfTask (ids_at draw place) task (place + 1) start) journal event
   pub own : OwesOwn (ids_at draw place) (place + 1) start event.op journal
+  pub early : IsPut event.op → ChangedNothing (place + 1) start journal
 
 -- what a task on refs owes is plain
 owes-plain : (op : Op) → OwesRefs op → IsPlain op
@@ -222,11 +227,11 @@ owes-plain (ListPart part) o = tt
 
 -- each event of a client is of a task that opens a session, or plain
 pub by-head : (draw : Draw) (tasks : List Task) (start journal : List Event) (event : Event) → IsOfClient draw tasks start journal event → IsOfOpener draw tasks start journal event ⊎ (IsGood journal event × IsPlain event.op)
-by-head draw tasks start journal event c = by_cases c.task.head refl c.careful.owes c.careful.own
+by-head draw tasks start journal event c = by_cases c.task.head refl c.careful.owes c.careful.own c.before
   where
-    by_cases : (head : Head) → c.task.head ≡ head → OwesBy head (ids_at draw c.place) c.task (c.place + 1) start journal event.op → OwesOwnBy head (ids_at draw c.place) (c.place + 1) start journal event.op → IsOfOpener draw tasks start journal event ⊎ (IsGood journal event × IsPlain event.op)
-    by_cases (Session access) e o own = inl (record { place = c.place; task = c.task; client = c.client; at = c.at; access = access; head_is = e; careful = record { good = c.careful.good; owes = o }; own = own })
-    by_cases Refs e o own = inr (c.careful.good, owes-plain event.op o)
+    by_cases : (head : Head) → c.task.head ≡ head → OwesBy head (ids_at draw c.place) c.task (c.place + 1) start journal event.op → OwesOwnBy head (ids_at draw c.place) (c.place + 1) start journal event.op → ComesBefore head (c.place + 1) start journal event.op → IsOfOpener draw tasks start journal event ⊎ (IsGood journal event × IsPlain event.op)
+    by_cases (Session access) e o own early = inl (record { place = c.place; task = c.task; client = c.client; at = c.at; access = access; head_is = e; careful = record { good = c.careful.good; owes = o }; own = own; early = early })
+    by_cases Refs e o own early = inr (c.careful.good, owes-plain event.op o)
 
 -- of a task that opens a session
 owes-keeps : (ids : AnyIds) (mine : Sessions) (journal : List Event) (op : Op) → Owes ids mine journal op → ¬ Removes op
@@ -325,6 +330,7 @@ module _ (draw : Draw) (tasks : List Task) where
             (owes-once draw (length tasks) draws (ids_at draw c.place) c.task (c.place + 1) start journal event.op (among-at c.place (slice_get_within tasks c.place c.task c.at)) (well-at wells c.place c.task c.at) (new c.place (slice_get_within tasks c.place c.task c.at)) owes);
         knows = λ once. op-knows draw tasks start event.client c.place c.task c.client c.at journal once event.op owes;
         own = λ branch bytes old e. subst (λ (n : ℕ). IsOwnCommit n bytes start journal) (sym c.client) (subst (λ (op : Op). OwesOwn (ids_at draw c.place) (c.place + 1) start op journal) e c.own);
+        early = λ branch bytes old e. subst (λ (n : ℕ). ChangedNothing n start journal) (sym c.client) (c.early (subst IsPut (sym e) tt));
       }
 
   -- ---- along a run

@@ -3,7 +3,6 @@ use Rattle.std.proofs.Common.{◌≡◌, ℕ, Bool, true, List, [], ◌∷◌, �
 use Rattle.std.specs.Prelude.{Option, Some, None}
 use Rattle.ice_ids.specs.declared.Id12.{Id12}
 use Rattle.zarr_tree.specs.Changes.{Changes}
-use Rattle.repo_objects.specs.Readings.{ref_of}
 use Rattle.object_store.specs.declared.keys.Key.TheVariants.{Branch}
 use Rattle.object_store.specs.declared.events.Version.{Version}
 use Rattle.object_store.specs.declared.events.Op.{Op}
@@ -21,6 +20,8 @@ use Rattle.histories.specs.Calls.{history_of, call_of, TellsCall, Agrees, IsHist
 use Rattle.histories.specs.Tags.{TagState, Absent, Stands, Gone, tag_answer}
 use Rattle.histories.specs.Tags as tags
 use Rattle.histories.specs.TagCalls.{tag_of}
+use Rattle.histories.specs.Files.{Files}
+use Rattle.histories.specs.Formats.{files_by, applied}
 use Rattle.repo_read.specs.declared.resolving.At.{At}
 use Rattle.repo_read.specs.declared.resolving.Named.{Named}
 use Rattle.repo_read.specs.Naming.{WasTagged, WasResolved}
@@ -39,14 +40,14 @@ record WasLast (l : Option Entry) (version : ℕ) (base : Id12) : Type 0 where
   version_is : entry.version ≡ version
   base_is : entry.id ≡ base
 
-was_last : (n : ℕ) (l : Option Entry) (bytes : List ℕ) (version now : ℕ) (base : Id12) → ref_of bytes ≡ Some base → TellsCall n (Some Open) l (Is_got (Found bytes (version_at version) now)) → WasLast l version base
-was_last n None bytes version now base names t = absurd (let e = t.1 in cc)
-was_last n (Some e) bytes version now base names t =
+was_last : (files : Files) (n : ℕ) (l : Option Entry) (bytes : List ℕ) (version now : ℕ) (base : Id12) → files.ref bytes ≡ Some base → TellsCall files n (Some Open) l (Is_got (Found bytes (version_at version) now)) → WasLast l version base
+was_last files n None bytes version now base names t = absurd (let e = t.1 in cc)
+was_last files n (Some e) bytes version now base names t =
     let is = t.is in
     let same_bytes : bytes ≡ t.bytes = cc in
     let versions : version_at e.version ≡ version_at version = cc in
     let same_version : e.version ≡ version = ap (λ (v : Version). v.0) versions in
-    record { entry = e; is = refl; version_is = same_version; base_is = same_id (sym t.names ∙ ap ref_of (sym same_bytes) ∙ names) }
+    record { entry = e; is = refl; version_is = same_version; base_is = same_id (sym t.names ∙ ap (λ (b : List ℕ). files.ref b) (sym same_bytes) ∙ names) }
   where
     same_id : Some e.id ≡ Some base → e.id ≡ base
     same_id h = cc
@@ -57,17 +58,17 @@ opened-stands Absent e told = cc
 opened-stands (Stands x) e told = let same : x ≡ e = cc in ap Stands same
 opened-stands (Gone x) e told = cc
 
-module _ (whole : List Event) (changes : ℕ → Changes) (good : IsGoodJournal whole) (history : IsHistory (tree_of whole) changes whole) (client : ℕ) (start : List Event) where
-  at-branch : (branch : List ℕ) (version : Version) (base : Id12) (read : WasRef client (Branch branch) version base start whole) → WasLast (last (history_of (tree_of whole) changes read.got.own.before branch)) version.0 base
+module _ (whole : List Event) (changes : ℕ → Changes) (good : IsGoodJournal whole) (history : IsHistory (files_by (tree_of whole)) (applied changes) whole) (client : ℕ) (start : List Event) where
+  at-branch : (branch : List ℕ) (version : Version) (base : Id12) (read : WasRef client (Branch branch) version base start whole) → WasLast (last (history_of (files_by (tree_of whole)) (applied changes) read.got.own.before branch)) version.0 base
   at-branch branch version base read =
       let own = read.got.own in
-      let answers : Each (Agrees (tree_of whole) changes) [] (own.before ++ own.event ∷ own.after) = subst (λ (h : List Event). Each (Agrees (tree_of whole) changes) [] h) own.is history.answers in
+      let answers : Each (Agrees (files_by (tree_of whole)) (applied changes)) [] (own.before ++ own.event ∷ own.after) = subst (λ (h : List Event). Each (Agrees (files_by (tree_of whole)) (applied changes)) [] h) own.is history.answers in
       let on : is_on (Branch branch) own.event.op ≡ true = ap (is_on (Branch branch)) own.op_is ∙ same_key-refl (Branch branch) in
-      let agrees = Each-at (Agrees (tree_of whole) changes) [] own.before own.event own.after answers branch on in
-      let l : Option Entry = last (history_of (tree_of whole) changes own.before branch) in
-      let told : TellsCall (length own.before) (Some Open) l (Is_got (Found read.bytes version read.got.now)) =
-      subst (λ (r : Reply). TellsCall (length own.before) (Some Open) l r) own.reply_is (subst (λ (op : Op). TellsCall (length own.before) (call_of (changes (length own.before)) op) l own.event.reply) own.op_is agrees) in
-      was_last (length own.before) l read.bytes version.0 read.got.now base read.names told
+      let agrees = Each-at (Agrees (files_by (tree_of whole)) (applied changes)) [] own.before own.event own.after answers branch on in
+      let l : Option Entry = last (history_of (files_by (tree_of whole)) (applied changes) own.before branch) in
+      let told : TellsCall (files_by (tree_of whole)) (length own.before) (Some Open) l (Is_got (Found read.bytes version read.got.now)) =
+      subst (λ (r : Reply). TellsCall (files_by (tree_of whole)) (length own.before) (Some Open) l r) own.reply_is (subst (λ (op : Op). TellsCall (files_by (tree_of whole)) (length own.before) (call_of (files_by (tree_of whole)) (applied changes (length own.before)) op) l own.event.reply) own.op_is agrees) in
+      was_last (files_by (tree_of whole)) (length own.before) l read.bytes version.0 read.got.now base read.names told
 
   module _ (s : SessionState) (writes : Bool) (named : Named) (base : s.base ≡ named.id) where
     began-at_branch : (branch : List ℕ) → s.origin ≡ origin_named writes (At.Branch branch) named.version → WasResolved client (At.Branch branch) named start whole → BeganAtBranch (tree_of whole) changes client branch writes s start whole
@@ -91,7 +92,7 @@ module _ (whole : List Event) (changes : ℕ → Changes) (good : IsGoodJournal 
         record {
           read = read;
           entry = record { version = read.version.0; id = s.base; tree = tree_of whole s.base };
-          stood = opened-stands (tag_of (tree_of whole) read.stands.own.before tag) _ told;
+          stood = opened-stands (tag_of (files_by (tree_of whole)) read.stands.own.before tag) _ told;
           version_is = refl;
           base = refl;
           origin = origin;
@@ -102,7 +103,7 @@ module _ (whole : List Event) (changes : ℕ → Changes) (good : IsGoodJournal 
     began-at (At.Tag tag) origin w = began-at_tag tag origin w
     began-at (At.Snapshot id) origin w = (base ∙ ap (λ (n : Named). n.id) w, origin)
 
-pub began-at-last : (whole : List Event) (changes : ℕ → Changes) → IsGoodJournal whole → IsOnce whole → IsHistory (tree_of whole) changes whole → (client : ℕ) (a : Asked) (s : SessionState) (start : List Event) → WasBegun client a s start whole → IsOpened s whole → BeganAtLast (puts_of whole) (tree_of whole) changes client a s start whole
+pub began-at-last : (whole : List Event) (changes : ℕ → Changes) → IsGoodJournal whole → IsOnce whole → IsHistory (files_by (tree_of whole)) (applied changes) whole → (client : ℕ) (a : Asked) (s : SessionState) (start : List Event) → WasBegun client a s start whole → IsOpened s whole → BeganAtLast (puts_of whole) (tree_of whole) changes client a s start whole
 began-at-last whole changes good once history client a s start begun opened = record {
   began = began-at whole changes good history client start s a.writes begun.named begun.base a.at (ap (λ (x : SessionState). x.origin) begun.begins) begun.resolved;
   tree = tree-by_rows whole s.base s.rows (opened.rows once);

@@ -1,5 +1,6 @@
 -- Sessions of tasks at their commits: what lines and the commits of others leave of them, whatever the journal.
 use Rattle.std.proofs.Common.{◌≡◌, inl, inr, ℕ, zero, suc, List, [], ◌∷◌, ◌++◌, refl, sym, ◌∙◌, ap, subst, append_assoc}
+use Rattle.std.specs.Prelude.{All}
 use Rattle.std.specs.FinMap.{FinMap}
 use Rattle.ice_ids.specs.declared.Id12.{Id12}
 use Rattle.ice_ids.specs.declared.drawing.AnyIds.{AnyIds}
@@ -21,12 +22,12 @@ use Rattle.rebase.specs.Along.{Link, Solves, left_at, solved_at, first_hidden, a
 use Rattle.rebase.proofs.Following.{past-solves}
 use Rattle.play_script.specs.declared.scripts.Access.{Access}
 use Rattle.play_script.specs.declared.scripts.Task.{Task}
-use Rattle.play_script.specs.Well.{IsWellTask}
+use Rattle.play_script.specs.Well.{IsWellLine, IsWellTask}
 use Rattle.play_tasks.specs.Playing.{asked_by, policy_of}
 use Rattle.play_tasks.specs.Solving.{WasLost, WasRebased, WasCarried, IsOfTask}
 use Rattle.run_histories.proofs.Drawing.{IsDrawnBy, AreOf, object-draws, access-ids}
 use Rattle.run_histories.proofs.Edits.{GoesOn}
-use Rattle.run_histories.proofs.Editing.{WentOn, lines-end, begun-goes}
+use Rattle.run_histories.proofs.Editing.{WentOn, all-front, lines-went, begun-goes}
 
 -- ---- a journal that another one is the beginning of
 pub record IsFront (journal whole : List Event) : Type 0 where
@@ -116,7 +117,9 @@ opened-goes ids access client start journal opened b = begun-goes ids opened (ap
 module _ (ids : AnyIds) (task : Task) (client : ℕ) (start journal : List Event) where
   module _ (t : SessionState) (id : Id12) (well : IsWellTask task) (o : IsOfTask ids task client start journal t id) where
     pub task-lines : WentOn ids o.opened o.session
-    task-lines = lines-end ids task.body o.opened o.session well.body (opened-goes ids o.access client start journal o.opened o.begun) o.reaches
+    task-lines =
+        let lines : All IsWellLine o.came.played = all-front IsWellLine o.came.played (o.came.line ∷ o.came.left) (subst (All IsWellLine) o.came.body_is well.body) in
+        lines-went ids client start journal o.came.played o.opened o.session o.came.shown lines (opened-goes ids o.access client start journal o.opened o.begun) o.came.plays
 
     pub task-carried : IsSameSession o.session t
     task-carried = carried-same client (policy_of o.access) o.count o.session t start journal o.carried

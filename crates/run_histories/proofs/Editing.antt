@@ -1,8 +1,8 @@
 -- Where the lines of a task lead: along them the session's changes stay normal for its base, where its source draws no id of the base's nodes.
-use Rattle.std.proofs.Common.{◌≡◌, ◌⊎◌, inl, inr, ℕ, true, false, List, [], ◌∷◌, refl, sym, ◌∙◌, ap, subst}
+use Rattle.std.proofs.Common.{◌≡◌, ◌⊎◌, inl, inr, ℕ, true, false, List, [], ◌∷◌, ◌++◌, refl, sym, ◌∙◌, ap, subst}
 use Rattle.std.specs.Prelude.{Option, Some, None, Result, Ok, Err, All}
 use Rattle.std.specs.FinMap.{get, get-empty}
-use Rattle.std.proofs.lemmas.List.Elements.{All-nil, All-head, All-tail}
+use Rattle.std.proofs.lemmas.List.Elements.{All-cons, All-nil, All-head, All-tail}
 use Rattle.ice_ids.specs.declared.Id8.{Id8}
 use Rattle.ice_ids.specs.declared.drawing.AnyIds.{AnyIds}
 use Rattle.zarr_path.specs.Paths.{path_cmp, is_path}
@@ -40,11 +40,10 @@ use Rattle.play_script.specs.declared.scripts.Line.{Line}
 use Rattle.play_script.specs.Well.{IsWellEdit, IsWellCall, IsWellLine}
 use Rattle.play_outcome.specs.declared.outcome.Shown.{Shown}
 use Rattle.play_tasks.specs.Lines.{Deed, Goes, Sets, Reads, Commits, deed, edit_deed, read_deed, edited, read_by, key_shown, key_set_deed, key_get_deed, silent, still}
-use Rattle.play_tasks.specs.Solving.{ReachesBy, Reaches}
-use Rattle.play_tasks.specs.Telling.{DidPlay, PlaysAll}
+use Rattle.play_tasks.specs.Solving.{DidPlay, PlaysAll}
 use Rattle.run_histories.proofs.Sized.{sized}
 use Rattle.run_histories.proofs.Texts.{same-texts}
-use Rattle.run_histories.proofs.Setting.{chunk-set, set-told, unset-edits}
+use Rattle.run_histories.proofs.Setting.{set-told, unset-edits}
 use Rattle.run_histories.proofs.Edits.{SetsChunk, Edits, GoesOn, edit-at, edit-base, edit-goes}
 
 -- ---- the edits of a script
@@ -159,20 +158,11 @@ module _ (ids : AnyIds) where
   went-nowhere : (s t : SessionState) → t ≡ s → GoesOn ids s → WentOn ids s t
   went-nowhere s t same g = record { goes = subst (GoesOn ids) (sym same) g; base = ap (λ (x : SessionState). x.base) same; rows = ap (λ (x : SessionState). x.rows) same }
 
-  deed-ends : (s t : SessionState) (next : SessionState → Type 0) → GoesOn ids s → ((mid : SessionState) → GoesOn ids mid → next mid → WentOn ids mid t) → (d : Deed) → Leads d s → ReachesBy d s t next → WentOn ids s t
-  deed-ends s t next g go (Goes (Ok went)) leads r = let led = leads went.0 went.1 refl in went-behind s went.1 t led (go went.1 (led-goes ids s went.1 led g) r)
-  deed-ends s t next g go (Goes (Err why)) leads r = absurd r
-  deed-ends s t next g go (Sets path index bytes) leads r = let led = sets s r.0 (chunk-set s r.0 path index bytes r.1) in went-behind s r.0 t led (go r.0 (led-goes ids s r.0 led g) r.2)
-  deed-ends s t next g go (Reads path index show) leads r = go s g r.2
-  deed-ends s t next g go (Commits message) leads r = went-nowhere s t r g
-
-  pub lines-end : (lines : List Line) (s t : SessionState) → All IsWellLine lines → GoesOn ids s → Reaches lines s t → WentOn ids s t
-  unfolding Reaches
-  lines-end [] s t well g r = absurd r
-  lines-end (l ∷ ls) s t well g r =
-      deed-ends s t (λ mid. Reaches ls mid t) g (λ mid k n. lines-end ls mid t (All-tail IsWellLine l ls well) k n) (deed l.number l.call s) (call-leads l.number l.call s (All-head IsWellLine l ls well).call) r
-
 -- ---- lines that were played
+pub all-front : {A : Type 0} (P : A → Type 0) (xs ys : List A) → All P (xs ++ ys) → All P xs
+all-front P [] ys all = All-nil P
+all-front P (x ∷ xs) ys all = All-cons P x xs (All-head P x (xs ++ ys) all) (all-front P xs ys (All-tail P x (xs ++ ys) all))
+
 module _ (ids : AnyIds) (client : ℕ) (start journal : List Event) where
   deed-went : (s t : SessionState) (shown : List Shown) (d : Deed) → Leads d s → DidPlay client d s start shown t journal → (t ≡ s) ⊎ Edits s t
   deed-went s t shown (Goes r) leads p = leads shown t p

@@ -1,6 +1,6 @@
 -- The changes given for each commit, in the whole journal.
 use Rattle.std.proofs.Common.{◌≡◌, ℕ, ◌<◌, ◌≤◌, cond, ltb, List, [], ◌∷◌, ◌++◌, length, refl, sym, ◌∙◌, ap, subst, arith, append_assoc, length-append}
-use Rattle.std.specs.Prelude.{Some, option_map}
+use Rattle.std.specs.Prelude.{Option, Some, None, option_map}
 use Rattle.std.specs.Option.{option_and_then}
 use Rattle.std.proofs.lemmas.Bool.{lt-ltb, le-ltb}
 use Rattle.ice_ids.specs.declared.Id12.{Id12}
@@ -20,13 +20,16 @@ use Rattle.object_store.proofs.Journals.{Each-back, Each-both}
 use Rattle.object_store.proofs.Slots.{WasPut-append}
 use Rattle.store_api.proofs.Standing.{standing, rows-stay, snap_made-put, puts-stay}
 use Rattle.histories.specs.Calls.{LeadsFromParent, IsGiven, CommitsApply}
+use Rattle.histories.specs.Formats.{files_by, applied}
 use Rattle.histories.proofs.Choosing.{Knows, chosen, choice}
 use Rattle.session.specs.Sessions.{SessionState, base_tree, changes_in, overlay}
 use Rattle.commit_path.specs.Owed.{IsMade}
-use Rattle.commit_path.specs.Own.{IsOwn, IsOwnCommit, parent_made}
+use Rattle.reach.specs.Own.{IsOwn}
+use Rattle.commit_path.specs.Own.{IsOwnCommit, parent_made}
 use Rattle.commit_path.proofs.Knowing.{once-front, once-back, tree-by_rows}
 use Rattle.commit_path.proofs.Putting.{extends-same}
 use Rattle.play_script.specs.declared.scripts.Task.{Task}
+use Rattle.run_histories.specs.Runs.{IsChildOf}
 use Rattle.run_histories.specs.Told.{IsOfSession, IsSolved, CommitsEnter}
 use Rattle.run_histories.proofs.Along.{CommitsOwn}
 use Rattle.run_histories.proofs.Sized.{changes-stay}
@@ -73,14 +76,9 @@ record Follows (journal rest : List Event) : Type 0 where
 -- ---- a commit of a session
 -- in any journal that goes on so, its parent is the base, and both have their trees
 module _ (journal rest : List Event) (f : Follows journal rest) (session : SessionState) (id : Id12) (m : IsMade session id journal) where
-  made-base : (base : Id12) (snap : Snap) → snap_made journal id ≡ Some snap → snap.parent ≡ Some base → session.base ≡ base
-  made-base base snap made parent =
-      let snaps : m.snap ≡ snap = snap_same (sym m.made ∙ made) in
-      base_same (sym m.parent ∙ ap (λ (s : Snap). s.parent) snaps ∙ parent)
+  made-base : (base : Id12) → parent_made journal id ≡ Some base → session.base ≡ base
+  made-base base parent = base_same (sym (ap (option_and_then (λ (s : Snap). s.parent)) m.made ∙ m.parent) ∙ parent)
     where
-      snap_same : Some m.snap ≡ Some snap → m.snap ≡ snap
-      snap_same e = cc
-
       base_same : Some session.base ≡ Some base → session.base ≡ base
       base_same e = cc
 
@@ -119,12 +117,12 @@ module _ (journal rest : List Event) (f : Follows journal rest) (session : Sessi
       tree-by_rows (journal ++ rest) id m.snap.nodes (rows-stay id journal rest f.once (snap_made-put journal id m.snap m.made) f.good f.first ∙ m.rows)
       ∙ ap (λ (t : Tree). Some t) (m.tree (puts_of (journal ++ rest)) grown (normal-last normal))
 
-  made-leads : NormalThen → (c : Changes) → c ≡ changes_in (puts_of journal) session → LeadsFromParent (tree_of (journal ++ rest)) c journal id
-  made-leads normal c changes base snap made parent =
+  made-leads : NormalThen → (c : Changes) → c ≡ changes_in (puts_of journal) session → LeadsFromParent (files_by (tree_of (journal ++ rest))) (apply c) journal id
+  made-leads normal c changes base parent =
       made-stands normal
       ∙ ap (λ (x : Changes). Some (apply x (base_tree (puts_of journal) session))) (sym changes)
       ∙ ap (option_map (apply c)) (sym base-stands)
-      ∙ ap (λ (i : Id12). option_map (apply c) (tree_of (journal ++ rest) i)) (made-base base snap made parent)
+      ∙ ap (λ (i : Id12). option_map (apply c) (tree_of (journal ++ rest) i)) (made-base base parent)
 
 -- where the event is a commit, the changes of a session that it may be of are normal for its base
 abbrev pub CommitsNormal : Draw → List Task → (start journal : List Event) → Event → Type 0
@@ -160,19 +158,19 @@ module _ (draw : Draw) (tasks : List Task) (start : List Event) (changes : ℕ �
   Solved journal event = IsSolved draw tasks start changes journal event × CommitsNormal draw tasks start journal event
 
   abbrev Applied : List Event → Event → Type 0
-  Applied journal event = Solved journal event × (CommitsApply (tree_of whole) changes journal event × CommitsOwn start journal event)
+  Applied journal event = Solved journal event × (CommitsApply (files_by (tree_of whole)) (applied changes) journal event × CommitsOwn start journal event)
 
-  solved-one : (journal : List Event) (event : Event) (rest : List Event) → whole ≡ journal ++ event ∷ rest → Solved journal event → IsGiven (tree_of whole) changes journal event
+  solved-one : (journal : List Event) (event : Event) (rest : List Event) → whole ≡ journal ++ event ∷ rest → Solved journal event → IsGiven (files_by (tree_of whole)) (applied changes) journal event
   solved-one journal event rest w (solved, normal) branch bytes old id op_is names =
       let s = solved branch bytes old id op_is names in
       let f = follows journal (event ∷ rest) w in
       let then = normal (changes (length journal)) branch bytes old id op_is s in
-      subst (λ (h : List Event). LeadsFromParent (tree_of h) (changes (length journal)) journal id) (sym w)
+      subst (λ (h : List Event). LeadsFromParent (files_by (tree_of h)) (apply (changes (length journal))) journal id) (sym w)
       (made-leads journal (event ∷ rest) f s.session id s.made then (changes (length journal)) s.changes_are)
 
-  pub solved-given : (old more : List Event) → whole ≡ old ++ more → Each (IsSolved draw tasks start changes) old more → Each (CommitsNormal draw tasks start) old more → Each (IsGiven (tree_of whole) changes) old more
+  pub solved-given : (old more : List Event) → whole ≡ old ++ more → Each (IsSolved draw tasks start changes) old more → Each (CommitsNormal draw tasks start) old more → Each (IsGiven (files_by (tree_of whole)) (applied changes)) old more
   solved-given old more w a n =
-      along-whole Solved (IsGiven (tree_of whole) changes) whole old more w solved-one
+      along-whole Solved (IsGiven (files_by (tree_of whole)) (applied changes)) whole old more w solved-one
       (Each-both (IsSolved draw tasks start changes) (CommitsNormal draw tasks start) Solved (λ h e p q. (p, q)) old more a n)
 
   -- ---- the commits that took effect
@@ -181,7 +179,7 @@ module _ (draw : Draw) (tasks : List Task) (start : List Event) (changes : ℕ �
       let s = solved branch bytes old id op_is names in
       let c = applied branch bytes old id stored op_is names done stands version in
       let f = follows journal (event ∷ rest) w in
-      let base : s.session.base ≡ c.before.id = made-base journal (event ∷ rest) f s.session id s.made c.before.id c.child.snap c.child.made c.child.parent_is in
+      let base : s.session.base ≡ c.before.id = made-base journal (event ∷ rest) f s.session id s.made c.before.id c.child in
       let base_has : tree_of whole s.session.base ≡ Some (base_tree (puts_of whole) s.session) = base-has journal (event ∷ rest) w s.session id s.made in
       let then = normal (changes (length journal)) branch bytes old id op_is s in
       record {
@@ -196,31 +194,40 @@ module _ (draw : Draw) (tasks : List Task) (start : List Event) (changes : ℕ �
         own = own-commit event.client start journal bytes id s.session f.once s.made names (own branch bytes old op_is);
       }
 
-  pub solved-enter : (old more : List Event) → whole ≡ old ++ more → Each (IsSolved draw tasks start changes) old more → Each (CommitsNormal draw tasks start) old more → Each (CommitsApply (tree_of whole) changes) old more → Each (CommitsOwn start) old more
+  pub solved-enter : (old more : List Event) → whole ≡ old ++ more → Each (IsSolved draw tasks start changes) old more → Each (CommitsNormal draw tasks start) old more → Each (CommitsApply (files_by (tree_of whole)) (applied changes)) old more → Each (CommitsOwn start) old more
       → Each (CommitsEnter draw tasks start (puts_of whole) (tree_of whole) changes) old more
   solved-enter old more w a n b c =
       along-whole Applied (CommitsEnter draw tasks start (puts_of whole) (tree_of whole) changes) whole old more w enters-one
-      (Each-both Solved (λ h e. CommitsApply (tree_of whole) changes h e × CommitsOwn start h e) Applied (λ h e p q. (p, q)) old more
+      (Each-both Solved (λ h e. CommitsApply (files_by (tree_of whole)) (applied changes) h e × CommitsOwn start h e) Applied (λ h e p q. (p, q)) old more
       (Each-both (IsSolved draw tasks start changes) (CommitsNormal draw tasks start) Solved (λ h e p q. (p, q)) old more a n)
-      (Each-both (CommitsApply (tree_of whole) changes) (CommitsOwn start) (λ h e. CommitsApply (tree_of whole) changes h e × CommitsOwn start h e) (λ h e p q. (p, q)) old more b c))
+      (Each-both (CommitsApply (files_by (tree_of whole)) (applied changes)) (CommitsOwn start) (λ h e. CommitsApply (files_by (tree_of whole)) (applied changes) h e × CommitsOwn start h e) (λ h e p q. (p, q)) old more b c))
 
 -- ---- the commits before
+-- the snapshot whose parent that is
+child-of : (journal : List Event) (base id : Id12) → parent_made journal id ≡ Some base → IsChildOf journal base id
+child-of journal base id e = at (snap_made journal id) refl e
+  where
+    at : (o : Option Snap) → snap_made journal id ≡ o → option_and_then (λ (s : Snap). s.parent) o ≡ Some base → IsChildOf journal base id
+    at None is k = cc
+    at (Some s) is k = record { snap = s; made = is; parent = k }
+
 module _ (before after : ℕ → Changes) (old more : List Event) (good : IsGoodJournal old) (once : IsOnce old) (goes_on : Each IsGood old more) (first : Each IsFirst old more) (same : (n : ℕ) → n < length old → after n ≡ before n) where
-  before-one : (journal : List Event) (event : Event) (rest : List Event) → old ≡ journal ++ event ∷ rest → IsGiven (tree_of old) before journal event → IsGiven (tree_of (old ++ more)) after journal event
-  before-one journal event rest w given branch bytes version id op_is names base snap made parent =
+  before-one : (journal : List Event) (event : Event) (rest : List Event) → old ≡ journal ++ event ∷ rest → IsGiven (files_by (tree_of old)) (applied before) journal event → IsGiven (files_by (tree_of (old ++ more))) (applied after) journal event
+  before-one journal event rest w given branch bytes version id op_is names base parent =
+      let child = child-of journal base id parent in
       let within : length journal < length old = omega (arith, ap length w, length-append journal (event ∷ rest)) in
       let c : after (length journal) ≡ before (length journal) = same (length journal) within in
       let good' : IsGoodJournal (journal ++ event ∷ rest) = subst (λ (h : List Event). IsGoodJournal h) w good in
       let prefix : IsGoodJournal journal = (Each-back IsGood [] journal (event ∷ rest) good').0 in
-      let id_put : WasPut old (Snapshot id) = later journal (event ∷ rest) id w (snap_made-put journal id snap made) in
-      let base_put : WasPut old (Snapshot base) = later journal (event ∷ rest) base w (parent-put journal id base snap prefix made parent) in
+      let id_put : WasPut old (Snapshot id) = later journal (event ∷ rest) id w (snap_made-put journal id child.snap child.made) in
+      let base_put : WasPut old (Snapshot base) = later journal (event ∷ rest) base w (parent-put journal id base child.snap prefix child.made child.parent) in
       standing id old more once id_put goes_on first
-      ∙ given branch bytes version id op_is names base snap made parent
+      ∙ given branch bytes version id op_is names base parent
       ∙ ap (λ (x : Changes). option_map (apply x) (tree_of old base)) (sym c)
       ∙ ap (option_map (apply (after (length journal)))) (sym (standing base old more once base_put goes_on first))
     where
       later : (xs ys : List Event) (i : Id12) → old ≡ xs ++ ys → WasPut xs (Snapshot i) → WasPut old (Snapshot i)
       later xs ys i e p = subst (λ (h : List Event). WasPut h (Snapshot i)) (sym e) (WasPut-append xs ys (Snapshot i) p)
 
-  pub before-given : Each (IsGiven (tree_of old) before) [] old → Each (IsGiven (tree_of (old ++ more)) after) [] old
-  before-given a = along-whole (IsGiven (tree_of old) before) (IsGiven (tree_of (old ++ more)) after) old [] old refl before-one a
+  pub before-given : Each (IsGiven (files_by (tree_of old)) (applied before)) [] old → Each (IsGiven (files_by (tree_of (old ++ more))) (applied after)) [] old
+  before-given a = along-whole (IsGiven (files_by (tree_of old)) (applied before)) (IsGiven (files_by (tree_of (old ++ more))) (applied after)) old [] old refl before-one a

@@ -1,8 +1,10 @@
 -- The law of runs.
-use Rattle.std.proofs.Common.{◌≡◌, ℕ, ◌+◌, List, [], ◌++◌, refl, sym, ◌∙◌, ap, subst, arith}
+use Rattle.std.proofs.Common.{◌≡◌, ℕ, ◌+◌, List, [], ◌++◌, length, ◌<◌, refl, sym, ◌∙◌, ap, subst, append_assoc, arith}
+use Rattle.std.specs.Prelude.{Some, slice_get}
 use Rattle.ice_ids.specs.declared.drawing.AnyIds.{AnyIds}
 use Rattle.ice_ids.specs.declared.drawing.Draw.{Draw}
-use Rattle.ice_ids.specs.Drawing.{IsAmong}
+use Rattle.ice_ids.specs.Drawing.{DrawsOnce, IsAmong}
+use Rattle.ice_ids.specs.Text.{initial_id}
 use Rattle.ice_ids.proofs.Drawn.{count-once}
 use Rattle.zarr_tree.specs.Changes.{Changes, none}
 use Rattle.repo_objects.specs.Laws.{InitialLaw}
@@ -15,40 +17,54 @@ use Rattle.object_store.proofs.Journals.{Each-append, Each-back, Each-none, Each
 use Rattle.object_store.proofs.Slots.{slot-none}
 use Rattle.store_api.proofs.Standing.{snap_made-put}
 use Rattle.histories.specs.Calls.{CommitsApply, IsGiven}
+use Rattle.histories.specs.Formats.{files_by, applied}
 use Rattle.histories.proofs.Choosing.{chosen}
 use Rattle.histories.proofs.Linked.{history-law}
 use Rattle.histories.proofs.TagTrees.{keeps-its-tree}
 use Rattle.histories.proofs.Tagging.{tags-law}
+use Rattle.play_script.specs.declared.scripts.Head.{Head}
+use Rattle.play_script.specs.declared.scripts.Head.TheVariants.{Session}
 use Rattle.play_script.specs.declared.scripts.Task.{Task}
 use Rattle.repository.specs.Beginning.{begin_program}
-use Rattle.play_tasks.specs.Tasks.{ids_at}
-use Rattle.run_histories.specs.Runs.{AllCaused, AllTrees, IsSound, RanAlone}
-use Rattle.run_histories.specs.Sources.{IsNewRun, IsNewSource, IsOfAnother}
-use Rattle.run_histories.specs.Told.{AllKeepFrozen, AllNormal, BegunLaw, CommitsSession, HasHistories, IsSolved, NoneHidden, NothingLaw, OthersLaw, RunLaw}
+use Rattle.repository.specs.Refs.{refs_program}
+use Rattle.play_tasks.specs.Bases.{ComesOpen, OpensOrHasBase}
+use Rattle.play_tasks.specs.Playing.{asked_by}
+use Rattle.play_tasks.specs.Tasks.{ids_at, IsOfClient}
+use Rattle.run_histories.specs.Runs.{AllCaused, AllTrees, IsRun, IsSound, RanAlone}
+use Rattle.run_histories.specs.Sources.{DrawsOthers, IsLeftUnput, IsNewRun, IsNewSource, IsOfAnother, IsUnputRun, ObjectsAreUnput, PutsUnput}
+use Rattle.run_histories.specs.Told.{AllKeepFrozen, AllNormal, BegunLaw, ComesWhereOpen, CommitsSession, HasHistories, IsSolved, NoneHidden, NothingLaw, OthersLaw, RunLaw}
 use Rattle.run_histories.proofs.Along.{CommitsOwn, Fits, goes}
 use Rattle.run_histories.proofs.Beginnings.{began-at-last}
 use Rattle.run_histories.proofs.Drawing.{AreOf, are-among, ids_at-of}
 use Rattle.run_histories.proofs.Given.{CommitsNormal, before-given, joined, joined-before, joined-right, solved-enter, solved-given}
 use Rattle.run_histories.proofs.Played.{all-frozen, all-normal, none-hidden}
+use Rattle.run_histories.proofs.Programs.{begin-plain, path-plain}
 use Rattle.run_histories.proofs.Putting.{tree-put}
-use Rattle.run_histories.proofs.Running.{HoldsOf, Known, NodesOf, known-is, run-begins, run-holds, run-known}
-use Rattle.run_histories.proofs.Sources.{node-apart}
+use Rattle.run_histories.proofs.Running.{HoldsOf, Known, NodesOf, OfRun, known-is, opening-each, run-begins, run-each, run-holds, run-known}
+use Rattle.run_histories.proofs.Single.{CommitsFirst, commits-once}
+use Rattle.run_histories.proofs.Sources.{node-apart, object-apart, object-not_initial}
+use Rattle.run_histories.proofs.Unput.{opened-left, others-unput, plain-each, run-left, unput-id}
 
 -- What a run leaves that goes on a journal.
 record Leaves (draw : Draw) (tasks : List Task) (old start added : List Event) : Type 0 where
   began : RanAlone begin_program old start
+  played : List Event
+  closed : RanAlone refs_program (start ++ played) (old ++ added)
+  bases : Each (ComesWhereOpen draw tasks start) start played
   fits : Each (Fits draw tasks start) old added
   normal : Each (CommitsNormal draw tasks start) old added
   trees : AllTrees (old ++ added)
   causes : AllCaused (old ++ added)
   others : (ids : AnyIds) → IsOfAnother draw tasks ids → IsNewSource ids old → IsNewSource ids (old ++ added)
+  unput : IsUnputRun draw tasks old → Each PutsUnput old added × IsLeftUnput draw tasks start (old ++ added)
+  unput_others : (ids : AnyIds) → DrawsOthers draw tasks ids → ObjectsAreUnput ids old → ObjectsAreUnput ids (old ++ added)
   frozen : AllKeepFrozen draw tasks old (old ++ added)
   sessions : AllNormal draw tasks old (old ++ added)
   unhidden : NoneHidden draw tasks old (old ++ added)
 
 module _ (draw : Draw) (tasks : List Task) where
   -- ---- the law, where the whole journal is what was added to the old one
-  whole-law : (before : ℕ → Changes) (old start added : List Event) → IsSound old before → IsNewRun draw tasks old → Leaves draw tasks old start added → HasHistories draw tasks before old (old ++ added)
+  whole-law : (before : ℕ → Changes) (old start added : List Event) → IsSound old before → IsNewRun draw tasks old → Leaves draw tasks old start added → HasHistories draw tasks before old start (old ++ added)
   whole-law before old start added s new_run l =
       let whole : List Event = old ++ added in
       let Q : List Event → Event → Changes → Type 0 = λ h e c. CommitsSession draw tasks start c h e.client e.op in
@@ -59,34 +75,74 @@ module _ (draw : Draw) (tasks : List Task) where
       let after : ℕ → Changes = chosen Q old added g.knows in
       let changes : ℕ → Changes = joined before old after in
       let solved : Each (IsSolved draw tasks start changes) old added = joined-right Q before old added g.knows in
-      let given : Each (IsGiven (tree_of whole) changes) [] whole =
-      Each-append (IsGiven (tree_of whole) changes) [] old added
+      let given : Each (IsGiven (files_by (tree_of whole)) (applied changes)) [] whole =
+      Each-append (IsGiven (files_by (tree_of whole)) (applied changes)) [] old added
       (before-given before changes old added s.good s.once good g.first (joined-before before after old) s.given)
       (solved-given draw tasks start changes whole all once old added refl solved l.normal)
       in
-      let law = history-law whole changes all once given in
+      let law = history-law whole (applied changes) all once given in
       let tags = tags-law (tree_of whole) whole all in
       record {
         added = added;
         is = refl;
-        start = start;
         began = l.began;
         changes = changes;
         same = joined-before before after old;
         solved = solved;
-        commits = solved-enter draw tasks start changes whole all once old added refl solved l.normal (Each-back (CommitsApply (tree_of whole) changes) [] old added law.0.commits).1 (Each-weaker (Fits draw tasks start) (CommitsOwn start) (λ h e f. f.own) old added l.fits);
+        commits = solved-enter draw tasks start changes whole all once old added refl solved l.normal (Each-back (CommitsApply (files_by (tree_of whole)) (applied changes)) [] old added law.0.commits).1 (Each-weaker (Fits draw tasks start) (CommitsOwn start) (λ h e f. f.own) old added l.fits);
+        once = commits-once start old added (Each-weaker (Fits draw tasks start) (CommitsFirst start) (λ h e f. f.early) old added l.fits);
+        played = l.played;
+        closed = l.closed;
+        bases = l.bases;
         opened = began-at-last whole changes all once law.0;
         frozen = l.frozen;
         normal = l.sessions;
         unhidden = l.unhidden;
         sound = record { good = all; once = once; given = given; trees = l.trees; causes = l.causes };
         others = l.others;
+        unput = λ u. (l.unput u).0;
+        unput_left = λ u. (l.unput u).1;
+        unput_others = l.unput_others;
         history = law.0;
         stand = law.1;
         tags = tags.0;
         tags_stand = tags.1;
         tags_last = λ tag. keeps-its-tree old added tag s.good s.once good g.first;
       }
+
+-- where an event of a client comes
+comes-open : (draw : Draw) (tasks : List Task) (start journal : List Event) (event : Event) → IsOfClient draw tasks start journal event → ComesWhereOpen draw tasks start journal event
+comes-open draw tasks start journal event c place task access at head_is client =
+    let places : c.place ≡ place = same-place (c.place) (sym c.client ∙ client) in
+    let tasks_same : c.task ≡ task = some-same c.task (sym c.at ∙ ap (slice_get tasks) places ∙ at) in
+    let head : c.task.head ≡ Session access = ap (λ (t : Task). t.head) tasks_same ∙ head_is in
+    subst (λ (k : ℕ). OpensOrHasBase (k + 1) (asked_by access (ids_at draw k)) start journal event.op) places
+    (subst (λ (h : Head). ComesOpen h (ids_at draw c.place) (c.place + 1) start journal event.op) head c.careful.open_at)
+  where
+    same-place : (k : ℕ) → k + 1 ≡ place + 1 → k ≡ place
+    same-place k e = omega (arith, e)
+
+    some-same : (x : Task) → Some x ≡ Some task → x ≡ task
+    some-same x e = cc
+
+-- ---- what was never put
+module _ (initial : InitialLaw) (draw : Draw) (tasks : List Task) (once : DrawsOnce draw (length tasks)) (old new : List Event) (r : IsRun draw tasks old new) where
+  abbrev rest : List Event
+  rest = r.playing.own ++ r.closing.own
+
+  abbrev OfIt : List Event → Event → Type 0
+  OfIt = OfRun draw tasks once initial old new r
+
+  all-of-run : Each OfIt old (r.opening.own ++ rest)
+  all-of-run = Each-append OfIt old r.opening.own rest (opening-each draw tasks once initial old new r) (subst (λ (j : List Event). Each OfIt j rest) r.opening.is (run-each draw tasks once initial old new r))
+
+  unput-run : IsUnputRun draw tasks old → Each PutsUnput old (r.opening.own ++ rest) × IsLeftUnput draw tasks r.begun (old ++ (r.opening.own ++ rest))
+  unput-run u =
+      let plain = path-plain begin_program old r.opening.own r.opening.left begin-plain r.opening.path in
+      let both = run-left draw tasks once r.well r.begun rest (run-each draw tasks once initial old new r) (opened-left draw tasks once r.well r.begun old r.opening.own plain u r.opening.is) in (
+        Each-append PutsUnput old r.opening.own rest (plain-each draw tasks once r.well r.begun old r.opening.own plain) (subst (λ (j : List Event). Each PutsUnput j rest) r.opening.is both.0),
+        subst (IsLeftUnput draw tasks r.begun) (ap (λ (j : List Event). j ++ rest) r.opening.is ∙ append_assoc old r.opening.own rest) both.1,
+      )
 
 pub run-law : InitialLaw → RunLaw
 run-law initial draw tasks before old new s new_run r =
@@ -96,14 +152,19 @@ run-law initial draw tasks before old new s new_run r =
     let is : new ≡ old ++ added = known-is draw tasks new_run.once initial old new r in
     let known : Each (Known draw tasks new_run.once initial old new r) old added = run-known draw tasks new_run.once initial old new r first nodes in
     let last : HoldsOf draw tasks new_run.once initial old new r (old ++ added) = subst (HoldsOf draw tasks new_run.once initial old new r) is (run-holds draw tasks new_run.once initial old new r first nodes) in
-    subst (λ (h : List Event). HasHistories draw tasks before old h) (sym is)
+    subst (λ (h : List Event). HasHistories draw tasks before old r.begun h) (sym is)
     (whole-law draw tasks before old r.begun added s new_run (record {
       began = r.opening;
+      played = r.playing.own;
+      closed = subst (λ (h : List Event). RanAlone refs_program h (old ++ added)) r.playing.is (subst (λ (h : List Event). RanAlone refs_program r.played h) is r.closing);
+      bases = Each-weaker (IsOfClient draw tasks r.begun) (ComesWhereOpen draw tasks r.begun) (λ h e c. comes-open draw tasks r.begun h e c) r.begun r.playing.own r.playing.owed;
       fits = Each-weaker (Known draw tasks new_run.once initial old new r) (Fits draw tasks r.begun) (λ h e k. k.fits) old added known;
       normal = Each-weaker (Known draw tasks new_run.once initial old new r) (CommitsNormal draw tasks r.begun) (λ h e k. k.commits) old added known;
       trees = last.trees;
       causes = last.causes;
       others = last.others;
+      unput = λ u. unput-run initial draw tasks new_run.once old new r u;
+      unput_others = λ ids other u. others-unput draw tasks new_run.once r.well r.begun ids other old added (all-of-run initial draw tasks new_run.once old new r) u;
       frozen = subst (AllKeepFrozen draw tasks old) is (all-frozen initial draw tasks before old new s new_run r);
       sessions = subst (AllNormal draw tasks old) is (all-normal initial draw tasks before old new s new_run r);
       unhidden = subst (NoneHidden draw tasks old) is (none-hidden initial draw tasks before old new s new_run r);
@@ -120,7 +181,7 @@ nothing-sound : (before : ℕ → Changes) → IsSound [] before
 nothing-sound before = record {
   good = Each-none IsGood [];
   once = Each-none IsFirst [];
-  given = Each-none (IsGiven (tree_of []) before) [];
+  given = Each-none (IsGiven (files_by (tree_of [])) (applied before)) [];
   trees = λ id w. absurd (nothing-put (Snapshot id) w);
   causes = λ base id child. absurd (nothing-put (Snapshot id) (snap_made-put [] id child.snap child.made));
 }
@@ -131,8 +192,11 @@ nothing-new ids = record {
   nodes = λ id t p n tree node may. nothing-put (Snapshot id) (tree-put [] id t tree);
 }
 
+nothing-unput : (ids : AnyIds) → ObjectsAreUnput ids []
+nothing-unput ids id may = unput-id [] id (λ key is. ap (λ (s : Slot). s.first) (slot-none key))
+
 pub nothing-law : NothingLaw
-nothing-law = (nothing-sound, nothing-new)
+nothing-law = (nothing-sound, nothing-new, nothing-unput)
 
 pub begun-law : InitialLaw → BegunLaw
 begun-law initial draw tasks new once r =
@@ -140,7 +204,16 @@ begun-law initial draw tasks new once r =
 
 -- ---- sources that count for others
 pub others-law : OthersLaw
-others-law tasks ids most small fits among differs place within id own may =
-    let source : AreOf Draw.Count (place + 1) (ids_at Draw.Count place) = ids_at-of Draw.Count place in
-    let among_too : IsAmong Draw.Count most (ids_at Draw.Count place) = are-among Draw.Count (place + 1) most (ids_at Draw.Count place) (omega (arith, within, fits)) source in
-    differs place within (node-apart Draw.Count most (count-once most small) ids (ids_at Draw.Count place) id among among_too may own ∙ source.1)
+others-law tasks ids most small fits among differs = (
+  λ place within id own may. differs place within (node-apart Draw.Count most (count-once most small) ids (ids_at Draw.Count place) id among (among_too place within) may own ∙ (source place).1),
+  record {
+    others = λ place within id own may. differs place within (object-apart Draw.Count most (count-once most small) ids (ids_at Draw.Count place) id among (among_too place within) may own ∙ (source place).1);
+    initial = λ may. object-not_initial Draw.Count most (count-once most small) ids initial_id among may refl;
+  },
+)
+  where
+    source : (place : ℕ) → AreOf Draw.Count (place + 1) (ids_at Draw.Count place)
+    source place = ids_at-of Draw.Count place
+
+    among_too : (place : ℕ) → place < length tasks → IsAmong Draw.Count most (ids_at Draw.Count place)
+    among_too place within = are-among Draw.Count (place + 1) most (ids_at Draw.Count place) (omega (arith, within, fits)) (source place)

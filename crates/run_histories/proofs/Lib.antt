@@ -17,11 +17,13 @@ pub mod Began
 pub mod Linked
 pub mod Moved
 pub mod Walked
+pub mod Single
 pub mod Along
 pub mod Growing
 pub mod Given
 pub mod Passing
 pub mod Running
+pub mod Unput
 pub mod Beginnings
 pub mod Played
 pub mod Joined

@@ -24,16 +24,12 @@ use Rattle.run_histories.specs.Told.{AllKeepFrozen, AllNormal, NoneHidden, WasPl
 use Rattle.run_histories.proofs.Along.{well-at}
 use Rattle.run_histories.proofs.Began.{lines-carried, lost-carried}
 use Rattle.run_histories.proofs.Carrying.{IsFront, alike-back, lost-same, opened-goes}
-use Rattle.run_histories.proofs.Editing.{lines-went}
+use Rattle.run_histories.proofs.Editing.{all-front, lines-went}
 use Rattle.run_histories.proofs.Grounds.{Grounds, IsCarried}
 use Rattle.run_histories.proofs.Passing.{grounds}
 use Rattle.run_histories.proofs.Running.{HoldsOf, Known, NodesOf, known-is, opening-nodes, run-begins, run-holds, run-known}
 use Rattle.run_histories.proofs.Sized.{normal-in, sized-keeps}
 use Rattle.run_histories.proofs.Walked.{carried, rebase-honest}
-
-all-front : {A : Type 0} (P : A → Type 0) (xs ys : List A) → All P (xs ++ ys) → All P xs
-all-front P [] ys all = All-nil P
-all-front P (x ∷ xs) ys all = All-cons P x xs (All-head P x (xs ++ ys) all) (all-front P xs ys (All-tail P x (xs ++ ys) all))
 
 module _ (initial : InitialLaw) (draw : Draw) (tasks : List Task) (before : ℕ → Changes) (old new : List Event) (sound_old : IsSound old before) (new_run : IsNewRun draw tasks old) (r : IsRun draw tasks old new) where
   abbrev Hold : List Event → Type 0

@@ -40,16 +40,22 @@ module _ (draw : Draw) (tasks : List Task) (draws : DrawsOnce draw (length tasks
     abbrev pub Known : List Event → Event → Type 0
     Known = IsKnown draw tasks draws r.well initial old r.begun
 
-    abbrev OfRun : List Event → Event → Type 0
+    abbrev pub OfRun : List Event → Event → Type 0
     OfRun = IsOfRun draw tasks draws r.well initial old r.begun
 
-    run-each : Each OfRun r.begun (r.playing.own ++ r.closing.own)
+    pub run-each : Each OfRun r.begun (r.playing.own ++ r.closing.own)
     run-each =
         let plain = path-plain refs_program r.played r.closing.own r.closing.left refs-plain r.closing.path in
         let closing : Each OfRun r.played r.closing.own = Each-both IsGood (λ h e. IsPlain e.op) OfRun (λ h e good p. inr (good, inl p)) r.played r.closing.own r.closing.good plain in
         Each-append OfRun r.begun r.playing.own r.closing.own
         (Each-weaker (IsOfClient draw tasks r.begun) OfRun (client-of_run draw tasks draws r.well initial old r.begun) r.begun r.playing.own r.playing.owed)
         (subst (λ (j : List Event). Each OfRun j r.closing.own) r.playing.is closing)
+
+    -- the opening's events are of the run too
+    pub opening-each : Each OfRun old r.opening.own
+    opening-each =
+        let plain = path-plain begin_program old r.opening.own r.opening.left begin-plain r.opening.path in
+        Each-both IsGood (λ h e. IsPlain e.op) OfRun (λ h e good p. inr (good, inl p)) old r.opening.own r.opening.good plain
 
     -- behind any opening the nodes are new still
     pub opening-nodes : (start : List Event) → RanAlone begin_program old start → HoldsOf old → NodesOf old → NodesOf start

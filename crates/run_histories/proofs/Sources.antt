@@ -63,6 +63,10 @@ module _ (draw : Draw) (most : ℕ) where
     node-apart a b id among other m n =
         sym m.is_later.client ∙ ((once.nodes m.later n.later id (among-later a m.later m.is_later among) (among-later b n.later n.is_later other) m.drawn n.drawn).0 ∙ n.is_later.client)
 
+    pub object-apart : (a b : AnyIds) (id : Id12) → IsAmong draw most a → IsAmong draw most b → MayDrawObject a id → MayDrawObject b id → client_of a ≡ client_of b
+    object-apart a b id among other m n =
+        sym m.is_later.client ∙ ((once.objects m.later n.later id (among-later a m.later m.is_later among) (among-later b n.later n.is_later other) m.drawn n.drawn).0 ∙ n.is_later.client)
+
     -- no object id that is drawn is the initial snapshot's
     pub object-not_initial : (ids : AnyIds) (id : Id12) → IsAmong draw most ids → MayDrawObject ids id → id ≢ initial_id
     object-not_initial ids id among m = once.others m.later id (among-later ids m.later m.is_later among) m.drawn

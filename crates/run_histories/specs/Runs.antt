@@ -17,6 +17,7 @@ use Rattle.object_store.specs.declared.events.Event.{Event}
 use Rattle.store_api.specs.Journal.{Each, WasPut, IsGood, IsGoodJournal, IsOnce, puts_of, rows_of, tree_of, snap_made, log_made}
 use Rattle.store_api.specs.Program.{Prog, Path}
 use Rattle.histories.specs.Calls.{IsGiven}
+use Rattle.histories.specs.Formats.{files_by, applied}
 use Rattle.repository.specs.Beginning.{begin_program}
 use Rattle.repository.specs.Refs.{refs_program}
 use Rattle.play_script.specs.declared.scripts.Task.{Task}
@@ -85,7 +86,7 @@ AllCaused journal = (base id : Id12) → IsChildOf journal base id → HasCause 
 pub record IsSound (journal : List Event) (changes : ℕ → Changes) : Type 0 where
   pub good : IsGoodJournal journal
   pub once : IsOnce journal
-  pub given : Each (IsGiven (tree_of journal) changes) [] journal
+  pub given : Each (IsGiven (files_by (tree_of journal)) (applied changes)) [] journal
   pub trees : AllTrees journal
   pub causes : AllCaused journal
 

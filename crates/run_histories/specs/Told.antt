@@ -14,6 +14,7 @@ use Rattle.object_store.specs.declared.keys.Why.TheVariants.{Commit}
 use Rattle.object_store.specs.declared.events.Version.{Version}
 use Rattle.object_store.specs.declared.events.Op.{Op}
 use Rattle.object_store.specs.declared.events.Op.TheVariants.{PutOver}
+use Rattle.object_store.specs.declared.events.Reply.{Reply}
 use Rattle.object_store.specs.declared.events.Event.{Event}
 use Rattle.object_store.specs.Machine.{Stored, found, was_done}
 use Rattle.store_api.specs.Journal.{Each, puts_of, tree_of}
@@ -21,30 +22,32 @@ use Rattle.histories.specs.Repository.{Entry, last}
 use Rattle.histories.specs.Calls.{history_of, IsHistory, BranchesStand}
 use Rattle.histories.specs.Tags.{Stands, GoesOnAs}
 use Rattle.histories.specs.TagCalls.{tag_of, TagAgrees, StandsByState}
+use Rattle.histories.specs.Formats.{files_by, applied}
 use Rattle.repo_objects.specs.Trees.{Puts}
 use Rattle.changed_snapshot.specs.Laws.{KeepsFrozen}
-use Rattle.store_api.specs.Telling.{WasRef}
+use Rattle.store_api.specs.Telling.{HasOwn, WasRef}
 use Rattle.repo_read.specs.declared.resolving.At.{At}
 use Rattle.repo_read.specs.Naming.{WasTagged}
 use Rattle.session.specs.Sessions.{SessionState, branch_of, version_of, base_tree, changes_in, overlay}
 use Rattle.session.specs.declared.origin.Origin.TheVariants.{ReadsTag, ReadsId}
 use Rattle.session.specs.Opening.{Asked, of_branch}
 use Rattle.commit_path.specs.Owed.{HasChunks, IsMade}
-use Rattle.commit_path.specs.Own.{IsOwn}
+use Rattle.reach.specs.Own.{IsOwn}
 use Rattle.commit_path.specs.Opened.{IsOpened, WasBegun}
 use Rattle.commit_path.specs.Single.{HasPutNone, HasPutAlike}
 use Rattle.rebase.specs.Telling.{WasHidden}
 use Rattle.repository.specs.Beginning.{begin_program}
+use Rattle.repository.specs.Refs.{refs_program}
 use Rattle.play_script.specs.declared.scripts.Access.{Access}
 use Rattle.play_script.specs.declared.scripts.Head.TheVariants.{Session}
 use Rattle.play_script.specs.declared.scripts.Line.{Line}
 use Rattle.play_script.specs.declared.scripts.Task.{Task}
 use Rattle.play_outcome.specs.declared.outcome.Shown.{Shown}
+use Rattle.play_tasks.specs.Bases.{OpensOrHasBase}
 use Rattle.play_tasks.specs.Playing.{asked_by, policy_of}
-use Rattle.play_tasks.specs.Solving.{WasLost, WasCarried, IsOfTask}
-use Rattle.play_tasks.specs.Telling.{PlaysAll}
+use Rattle.play_tasks.specs.Solving.{PlaysAll, WasLost, WasCarried, IsOfTask}
 use Rattle.play_tasks.specs.Tasks.{ids_at}
-use Rattle.run_histories.specs.Sources.{IsNewSource, IsNewRun, IsOfAnother}
+use Rattle.run_histories.specs.Sources.{DrawsOthers, IsLeftUnput, IsNewSource, IsNewRun, IsOfAnother, IsUnputRun, ObjectsAreUnput, PutsUnput}
 use Rattle.run_histories.specs.Runs.{IsSound, RanAlone, IsRun}
 
 -- A commit of a session of its client's task, where the tasks began at `start`: the task's lines lead to the session, carried over the commits of
@@ -80,7 +83,7 @@ IsSolved draw tasks start changes journal event = CommitsSession draw tasks star
 pub record IsEntered (draw : Draw) (tasks : List Task) (start : List Event) (puts : Puts) (trees : Id12 → Option Tree) (changes : ℕ → Changes) (journal : List Event) (client : ℕ) (branch : List ℕ) (old : ℕ) (id : Id12) : Type 0 where
   pub of_session : IsOfSession draw tasks start (changes (length journal)) journal client branch old id
   pub before : Entry
-  pub is_last : last (history_of trees changes journal branch) ≡ Some before
+  pub is_last : last (history_of (files_by trees) (applied changes) journal branch) ≡ Some before
   pub version : before.version ≡ old
   pub base : before.id ≡ of_session.session.base
   pub base_is : trees before.id ≡ Some (base_tree puts of_session.session)
@@ -93,6 +96,22 @@ abbrev pub CommitsEnter : Draw → List Task → List Event → Puts → (Id12 �
 CommitsEnter draw tasks start puts trees changes journal event = (branch bytes : List ℕ) (old : Version) (id : Id12) (s : Stored) → event.op ≡ PutOver (Branch branch) bytes old Commit → ref_of bytes ≡ Some id
     → was_done event.reply ≡ true → found journal (Branch branch) ≡ Some s → s.version ≡ old.0 → IsEntered draw tasks start puts trees changes journal event.client branch old.0 id
 
+-- A commit that the client made since `start` took effect, also by a lost answer: its branch stood at the version that it put over.
+pub record HasCommitted (client : ℕ) (start journal : List Event) : Type 0 where
+  pub branch : List ℕ
+  pub bytes : List ℕ
+  pub old : Version
+  pub reply : Reply
+  pub own : HasOwn client (PutOver (Branch branch) bytes old Commit) reply start journal
+  pub done : was_done reply ≡ true
+  pub stored : Stored
+  pub stood : found own.before (Branch branch) ≡ Some stored
+  pub version_is : stored.version ≡ old.0
+
+-- Of each client at most one commit took effect since `start`: two such ones are one event.
+abbrev pub CommitsOnce : (start journal : List Event) → Type 0
+CommitsOnce start journal = (client : ℕ) (a b : HasCommitted client start journal) → (a.own.before ≡ b.own.before) × (a.own.event ≡ b.own.event)
+
 -- ---- where sessions begin
 -- A branch was asked for: its history's last entry, as that was where the client got the branch, has the version and the snapshot that the client read,
 -- and the session begins at that snapshot. It keeps the branch and the version.
@@ -100,7 +119,7 @@ pub record BeganAtBranch (trees : Id12 → Option Tree) (changes : ℕ → Chang
   pub version : Version
   pub read : WasRef client (Branch branch) version s.base start journal
   pub entry : Entry
-  pub is_last : last (history_of trees changes read.got.own.before branch) ≡ Some entry
+  pub is_last : last (history_of (files_by trees) (applied changes) read.got.own.before branch) ≡ Some entry
   pub version_is : entry.version ≡ version.0
   pub base : entry.id ≡ s.base
   pub origin : s.origin ≡ of_branch writes (record { branch = branch; version = version })
@@ -109,7 +128,7 @@ pub record BeganAtBranch (trees : Id12 → Option Tree) (changes : ℕ → Chang
 pub record BeganAtTag (trees : Id12 → Option Tree) (client : ℕ) (tag : List ℕ) (s : SessionState) (start journal : List Event) : Type 0 where
   pub read : WasTagged client tag s.base start journal
   pub entry : Entry
-  pub stood : tag_of trees read.stands.own.before tag ≡ Stands entry
+  pub stood : tag_of (files_by trees) read.stands.own.before tag ≡ Stands entry
   pub version_is : entry.version ≡ read.version.0
   pub base : entry.id ≡ s.base
   pub origin : s.origin ≡ ReadsTag tag
@@ -123,6 +142,13 @@ BeganAt trees changes client (At.Snapshot id) writes s start journal = (s.base �
 pub record BeganAtLast (puts : Puts) (trees : Id12 → Option Tree) (changes : ℕ → Changes) (client : ℕ) (a : Asked) (s : SessionState) (start journal : List Event) : Type 0 where
   pub began : BeganAt trees changes client a.at a.writes s start journal
   pub tree : trees s.base ≡ Some (base_tree puts s)
+
+-- ---- where sessions are open
+-- An event of the client of a task that opens a session is its first one since the tasks began, a get of what the task asks for; or it comes where the
+-- client's session has a base: what the client's own last read of its branch named, or while a rebase reads that anew, the read before.
+abbrev pub ComesWhereOpen : Draw → List Task → (start journal : List Event) → Event → Type 0
+ComesWhereOpen draw tasks start journal event = (place : ℕ) (task : Task) (access : Access) → slice_get tasks place ≡ Some task → task.head ≡ Session access → event.client ≡ place + 1
+    → OpensOrHasBase (place + 1) (asked_by access (ids_at draw place)) start journal event.op
 
 -- ---- sessions that lines were played on
 -- A session of a task of this client, which opens one: it was opened at a snapshot that the client got before it put one itself, and lines of
@@ -173,46 +199,54 @@ NoneHidden draw tasks old new = (start since : List Event) (place : ℕ) (task :
 
 -- ---- a run
 -- After a run, whose tasks began at `start`: the changes for each position are those before it, and for each commit that it added those of a session
--- of its client's task; each commit that took effect follows on the entry before it; each session that was opened began
+-- of its client's task; each commit that took effect follows on the entry before it, and no client has two; from the tasks' start on these events were
+-- played, each where its client's session is open, and then the refs were read; each session that was opened began
 -- at the last entry of its branch, or at its tag as that stood, or at the snapshot of its id, and keeps through its lines what stays of its nodes'
 -- metadata, and its changes are normal; and no log hides a node from one that is rebased. With these changes the journal is sound, and what another source may draw
--- is new to it where it was before, so that another run may go on; the histories run over its calls, and so do the states of the tags; the
+-- is new to it where it was before, so that another run may go on; if nothing was ever put under the ids that the clients may draw, each object is put
+-- under one under which nothing ever was, and so it stays of what they and others may draw; the histories run over its calls, and so do the states of the tags; the
 -- branches stand as their histories say, and the tags as their states do; and a tag that was there before is as it was, or was dropped. Trees are by
 -- what was put in the whole journal.
-pub record HasHistories (draw : Draw) (tasks : List Task) (before : ℕ → Changes) (old new : List Event) : Type 0 where
+pub record HasHistories (draw : Draw) (tasks : List Task) (before : ℕ → Changes) (old start new : List Event) : Type 0 where
   pub added : List Event
   pub is : new ≡ old ++ added
-  pub start : List Event
   pub began : RanAlone begin_program old start
   pub changes : ℕ → Changes
   pub same : (n : ℕ) → n < length old → changes n ≡ before n
   pub solved : Each (IsSolved draw tasks start changes) old added
   pub commits : Each (CommitsEnter draw tasks start (puts_of new) (tree_of new) changes) old added
+  pub once : CommitsOnce old new
+  pub played : List Event
+  pub closed : RanAlone refs_program (start ++ played) new
+  pub bases : Each (ComesWhereOpen draw tasks start) start played
   pub opened : (client : ℕ) (a : Asked) (s : SessionState) (start : List Event) → WasBegun client a s start new → IsOpened s new → BeganAtLast (puts_of new) (tree_of new) changes client a s start new
   pub frozen : AllKeepFrozen draw tasks old new
   pub normal : AllNormal draw tasks old new
   pub unhidden : NoneHidden draw tasks old new
   pub sound : IsSound new changes
   pub others : (ids : AnyIds) → IsOfAnother draw tasks ids → IsNewSource ids old → IsNewSource ids new
-  pub history : IsHistory (tree_of new) changes new
-  pub stand : BranchesStand (tree_of new) changes new
-  pub tags : Each (TagAgrees (tree_of new)) [] new
-  pub tags_stand : (tag : List ℕ) → StandsByState (tree_of new) new tag
-  pub tags_last : (tag : List ℕ) → GoesOnAs (tag_of (tree_of old) old tag) (tag_of (tree_of new) new tag)
+  pub unput : IsUnputRun draw tasks old → Each PutsUnput old added
+  pub unput_left : IsUnputRun draw tasks old → IsLeftUnput draw tasks start new
+  pub unput_others : (ids : AnyIds) → DrawsOthers draw tasks ids → ObjectsAreUnput ids old → ObjectsAreUnput ids new
+  pub history : IsHistory (files_by (tree_of new)) (applied changes) new
+  pub stand : BranchesStand (files_by (tree_of new)) (applied changes) new
+  pub tags : Each (TagAgrees (files_by (tree_of new))) [] new
+  pub tags_stand : (tag : List ℕ) → StandsByState (files_by (tree_of new)) new tag
+  pub tags_last : (tag : List ℕ) → GoesOnAs (tag_of (files_by (tree_of old)) old tag) (tag_of (files_by (tree_of new)) new tag)
 
 -- of a run that goes on a sound journal, to which its clients' ids are new
 abbrev pub RunLaw : Type 0
-RunLaw = (draw : Draw) (tasks : List Task) (before : ℕ → Changes) (old new : List Event) → IsSound old before → IsNewRun draw tasks old → IsRun draw tasks old new → HasHistories draw tasks before old new
+RunLaw = (draw : Draw) (tasks : List Task) (before : ℕ → Changes) (old new : List Event) → IsSound old before → IsNewRun draw tasks old → (r : IsRun draw tasks old new) → HasHistories draw tasks before old r.begun new
 
 -- of a run over an empty store, whose clients draw no id twice, as it always is where they count
 abbrev pub BegunLaw : Type 0
-BegunLaw = (draw : Draw) (tasks : List Task) (new : List Event) → DrawsOnce draw (length tasks) → IsRun draw tasks [] new → HasHistories draw tasks (λ n. none) [] new
+BegunLaw = (draw : Draw) (tasks : List Task) (new : List Event) → DrawsOnce draw (length tasks) → (r : IsRun draw tasks [] new) → HasHistories draw tasks (λ n. none) [] r.begun new
 
--- Sources that count for other clients than a run's, which counts too, draw no node id of these.
+-- Sources that count for other clients than a run's, which counts too, draw no node id and no object id of these, nor the initial snapshot's.
 abbrev pub OthersLaw : Type 0
 OthersLaw = (tasks : List Task) (ids : AnyIds) (most : ℕ) → most < 2 ^ 32 → length tasks ≤ most → IsAmong Draw.Count most ids
-    → ((place : ℕ) → place < length tasks → client_of ids ≢ place + 1) → IsOfAnother Draw.Count tasks ids
+    → ((place : ℕ) → place < length tasks → client_of ids ≢ place + 1) → IsOfAnother Draw.Count tasks ids × DrawsOthers Draw.Count tasks ids
 
--- the journal of an empty store is sound, and each source is new to it
+-- the journal of an empty store is sound, each source is new to it, and nothing was ever put under what it may draw
 abbrev pub NothingLaw : Type 0
-NothingLaw = ((changes : ℕ → Changes) → IsSound [] changes) × ((ids : AnyIds) → IsNewSource ids [])
+NothingLaw = ((changes : ℕ → Changes) → IsSound [] changes) × ((ids : AnyIds) → IsNewSource ids []) × ((ids : AnyIds) → ObjectsAreUnput ids [])

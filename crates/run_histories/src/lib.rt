@@ -23,12 +23,12 @@ pub fn begun_law()
     initial_law();
 }
 
-/// Another run's source draws no node id of a run's where both count, for other clients.
+/// Another run's source draws no node id and no object id of a run's where both count, for other clients.
 pub fn others_law()
     ensures { OthersLaw }
 {}
 
-/// The journal of an empty store is sound, and each source of ids is new to it.
+/// The journal of an empty store is sound, each source of ids is new to it, and nothing was ever put under what it may draw.
 pub fn nothing_law()
     ensures { NothingLaw }
 {}

@@ -3,3 +3,4 @@ pub mod Endings
 pub mod Tellings
 pub mod Readings
 pub mod Commands
+mod Promises

@@ -23,13 +23,15 @@ use Rattle.play_outcome.specs.declared.outcome.End.TheVariants as E
 use Rattle.play_outcome.specs.declared.outcome.Outcome.{Outcome}
 use Rattle.play_outcome.specs.declared.outcome.RefLine.{RefLine}
 use Rattle.play_outcome.specs.Ending.{end_failed, is_failed}
+use Rattle.play_script.specs.Well.{IsWell}
+use Rattle.run_promise.specs.Law.{PromiseLaw}
 use Rattle.play_course.specs.Course.{Course, OnlyBegan, Plays, RanBy}
 use Rattle.top_call.specs.declared.statuses.Causes.{Causes}
 use Rattle.top_call.specs.declared.statuses.Status.{Status}
 use Rattle.top_call.specs.declared.statuses.Status.TheVariants as S
 use Rattle.top_call.specs.Statuses.{status_of}
 use Rattle.play_outcome.specs.Ending.{end_why, why_ended}
-use Rattle.top_call.specs.Telling.{why_of, refusals, is_other, causes, line_text, IsText, Wrote, Told, KeepsHistories, KeepsBranches, IsRegular, WasPlayed, WasUntold}
+use Rattle.top_call.specs.Telling.{why_of, refusals, is_other, causes, line_text, IsText, Wrote, Told, KeepsHistories, KeepsBranches, KeepsAll, IsRegular, WasPlayed, WasUntold}
 use Rattle.top_call.specs.inside.Adding.{added, all_added}
 use Rattle.top_call.proofs.Rows.{rows-all}
 
@@ -152,13 +154,17 @@ module _ (command : Command) (draw : Draw) (script : Script) (s t : View) (x y :
       let is : status_of given ≡ S.WriteFault = sym p.told.status_is ∙ e in
       wrote-rose x y _ p.told.unwritten p.told.wrote (((rows-all given).write_fault.0 is).2)
 
+-- ---- what is promised
+pub kept-all : PromiseLaw → (draw : Draw) (script : Script) (s t : View) (opening : Result (Unit {0}) Refusal) (outcomes : List Outcome) (refs : Result (List RefLine) Refusal) → IsWell script → (c : Course draw script s t opening outcomes refs) → KeepsAll draw script s c.begun t outcomes refs
+kept-all law draw script s t opening outcomes refs well c tells before sound new = law draw script before s t opening outcomes refs well.tasks c tells sound new
+
 -- ---- what was played and told
 pub finished : (command : Command) (draw : Draw) (script : Script) (s t : View) (x y : OutputAt) (opening : Result (Unit {0}) Refusal) (outcomes : List Outcome) (refs : Result (List RefLine) Refusal) (result : Result Status AllocError)
-    → Course draw script s t opening outcomes refs → KeepsHistories draw script s t refs → IsRegular draw script s opening outcomes refs
+    → (c : Course draw script s t opening outcomes refs) → KeepsAll draw script s c.begun t outcomes refs → KeepsHistories draw script s t refs → IsRegular draw script s opening outcomes refs
     → IfOk result (λ status. Told (IsText command script s t opening outcomes refs) (refusals opening outcomes refs) x y status)
     → IfOk result (λ status. WasPlayed command draw script s t x y status)
-finished command draw script s t x y opening outcomes refs (Ok status) c kept regular told = record { opening = opening; outcomes = outcomes; refs = refs; course = c; histories = kept; regular = regular; told = told }
-finished command draw script s t x y opening outcomes refs (Err error) c kept regular told = tt
+finished command draw script s t x y opening outcomes refs (Ok status) c all kept regular told = record { opening = opening; outcomes = outcomes; refs = refs; course = c; promise = all; histories = kept; regular = regular; told = told }
+finished command draw script s t x y opening outcomes refs (Err error) c all kept regular told = tt
 
 -- ---- the line of a grown script
 -- a run adds to a journal that is told
@@ -206,9 +212,10 @@ told-line tasks events script s t opening outcomes refs x y (Err error) grew tol
 
 -- ---- where memory ran out
 pub untold : (draw : Draw) (script : Script) (s t : View) (x y : OutputAt) (opening : Result (Unit {0}) Refusal) (outcomes : List Outcome) (refs : Result (List RefLine) Refusal) (result : Result Status AllocError)
-    → Course draw script s t opening outcomes refs → KeepsHistories draw script s t refs → IfErr result (λ error. y ≡ x) → IfErr result (λ error. WasUntold draw script s t x y)
-untold draw script s t x y opening outcomes refs (Ok status) c kept out = tt
-untold draw script s t x y opening outcomes refs (Err error) c kept out = record { out = out; came = inl (record { opening = opening; outcomes = outcomes; refs = refs; course = c }); histories = λ told before sound new. (kept told before sound new).histories }
+    → (c : Course draw script s t opening outcomes refs) → KeepsAll draw script s c.begun t outcomes refs → KeepsHistories draw script s t refs → IfErr result (λ error. y ≡ x) → IfErr result (λ error. WasUntold draw script s t x y)
+untold draw script s t x y opening outcomes refs (Ok status) c all kept out = tt
+untold draw script s t x y opening outcomes refs (Err error) c all kept out =
+    record { out = out; came = inl (record { opening = opening; outcomes = outcomes; refs = refs; course = c; promise = all }); histories = λ told before sound new. let k = kept told before sound new in (k.start, k.histories) }
 
 pub unplayed : (draw : Draw) (script : Script) (s t : View) (x : OutputAt) → OnlyBegan s t → KeepsBranches draw script s t → WasUntold draw script s t x x
 unplayed draw script s t x b kept = record { out = refl; came = inr b; histories = kept }

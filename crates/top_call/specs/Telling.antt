@@ -4,6 +4,7 @@ use Rattle.std.specs.List.{list_any, flat_map, count_by}
 use Rattle.ice_base.specs.Ends.{OutputAt, WroteWhole, WroteLess}
 use Rattle.ice_ids.specs.declared.drawing.Draw.{Draw}
 use Rattle.ice_ids.specs.Drawing.{DrawsOnce}
+use Rattle.object_store.specs.declared.events.Event.{Event}
 use Rattle.store_api.specs.declared.machines.Refusal.{Refusal}
 use Rattle.store_api.specs.Callers.{View}
 use Rattle.store_api.specs.Program.{is_no_memory, is_fault}
@@ -24,6 +25,7 @@ use Rattle.run_histories.specs.Told.{HasHistories}
 use Rattle.play_course.specs.Course.{Course, OnlyBegan}
 use Rattle.play_course.specs.Leaving.{LeavesBranches}
 use Rattle.play_course.specs.Refusing.{NothingStrange}
+use Rattle.run_promise.specs.Law.{KeepsPromise}
 use Rattle.top_call.specs.declared.statuses.Causes.{Causes}
 use Rattle.top_call.specs.declared.statuses.Status.{Status}
 use Rattle.top_call.specs.Statuses.{status_of}
@@ -98,7 +100,12 @@ KeepsHistories draw script old new refs = IsTrue old.caller.tells → (before : 
 
 -- the same of the histories alone, where no refs are told
 abbrev pub KeepsBranches : Draw → Script → View → View → Type 0
-KeepsBranches draw script old new = IsTrue old.caller.tells → (before : ℕ → Changes) → IsSound old.seen before → IsNewRun draw script.tasks old.seen → HasHistories draw script.tasks before old.seen new.seen
+KeepsBranches draw script old new = IsTrue old.caller.tells → (before : ℕ → Changes) → IsSound old.seen before → IsNewRun draw script.tasks old.seen → (start : List Event) × HasHistories draw script.tasks before old.seen start new.seen
+
+-- and what is promised of the tasks is kept: each branch's updates form one list, each commit that took effect is its session's solved changes on the
+-- entry before it, each read sees its session's base under the session's own changes, and each task ends as it tells
+abbrev pub KeepsAll : Draw → Script → (old begun new : View) → List Outcome → Result (List RefLine) Refusal → Type 0
+KeepsAll draw script old begun new outcomes refs = IsTrue old.caller.tells → (before : ℕ → Changes) → IsSound old.seen before → IsNewRun draw script.tasks old.seen → KeepsPromise draw script before old outcomes refs begun new
 
 -- over a store that tells its journal and on which nothing was done before, where the clients draw no id twice, nothing is
 -- refused because an id was taken, an object is missing or a file can't be read
@@ -111,6 +118,7 @@ pub record HasCourse (draw : Draw) (script : Script) (old new : View) : Type 0 w
   pub outcomes : List Outcome
   pub refs : Result (List RefLine) Refusal
   pub course : Course draw script old new opening outcomes refs
+  pub promise : KeepsAll draw script old course.begun new outcomes refs
 
 -- Memory ran out before anything was written: behind all that was to be played, or before the first task.
 pub record WasUntold (draw : Draw) (script : Script) (store_old store_new : View) (out_old out_new : OutputAt) : Type 0 where
@@ -124,6 +132,7 @@ pub record WasPlayed (command : Command) (draw : Draw) (script : Script) (store_
   pub outcomes : List Outcome
   pub refs : Result (List RefLine) Refusal
   pub course : Course draw script store_old store_new opening outcomes refs
+  pub promise : KeepsAll draw script store_old course.begun store_new outcomes refs
   pub histories : KeepsHistories draw script store_old store_new refs
   pub regular : IsRegular draw script store_old opening outcomes refs
   pub told : Told (IsText command script store_old store_new opening outcomes refs) (refusals opening outcomes refs) out_old out_new status

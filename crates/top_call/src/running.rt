@@ -4,6 +4,7 @@ ghost use Rattle.std.specs.Prelude.{◌≡◌, ◌≤◌, ◌⊎◌, true, Ok, E
 ghost use Rattle.ice_base.specs.Ends.{InputAt, Rose, TakesAtMost};
 ghost use Rattle.store_api.specs.Journal.{IsGoodJournal};
 ghost use Rattle.play_script.specs.Well.{IsWell};
+ghost use Rattle.top_call.specs.Promise.{KeepsOwn, KeepsSound};
 ghost use Rattle.top_call.specs.Run.{most_input, HasScript, HasNone, PlayEnds, Ends, TellsRefused, IsCalm, IsFaultless};
 ghost use Rattle.command_words.specs.Words.{command_of, IsInRange};
 ghost use Rattle.command_words.specs.declared.reading.UsageFault.{UsageFault};
@@ -19,6 +20,8 @@ use ice_ids::Draw;
 use play_at_once::Gate;
 use play_course::play;
 use play_script::Script;
+use run_histories::nothing_law;
+use run_promise::promise_law;
 use std::alloc::{AllocError, Global};
 use std::sync::Wait;
 use std::thread::Threads;
@@ -55,6 +58,7 @@ fn play_and_report<R: Threads + Wait + Sync, S: Counting + Send, K: Sink, G: Gat
     requires good { S.tells ≡ true → IsGoodJournal (S.view store).seen }
     ensures { (a : InputAt) (b : InputAt) → HasScript Command.Play a b script.now → PlayEnds Command.Play draw a b (S.view store) (S.view result.store) (K.at out.old) (K.at out.new) result.status }
 {
+    promise_law();
     let (store, played) = play(rt, alloc, script, draw, store, gate);
     match played {
         Ok(played) => ended(store, finish(alloc, script, &played, out)),
@@ -78,6 +82,7 @@ fn play_and_count<R: Threads + Wait + Sync, S: Counting + Send, K: Sink, G: Gate
     ensures { (a : InputAt) (b : InputAt) → HasScript (Command.Grow tasks) a b script.now → PlayEnds (Command.Grow tasks) draw a b (S.view store) (S.view result.store) (K.at out.old) (K.at out.new) result.status }
 {
     let before = store.operations();
+    promise_law();
     let (store, played) = play(rt, alloc, script, draw, store, gate);
     match played {
         Ok(played) => {
@@ -200,6 +205,15 @@ pub fn run<R: Threads + Wait + Sync, I: Source, S: Counting + Send, K: Sink, G: 
     // been read, done or written.
     ensures usage { (fault : UsageFault) → command_of words.now ≡ Err fault → ((result.status ≡ Status.Usage fault) ⊎ (result.status ≡ Status.NoMemory)) × (S.view result.store ≡ S.view store) × (I.at input.new ≡ I.at input.old) × (K.at out.new ≡ K.at out.old) }
 
+    // Over an empty store that tells its journal, where ids are drawn by counting, each script that was played keeps what is
+    // promised, with no premise: each branch's updates form one list, each commit is its session's solved changes on the entry
+    // before it, each read sees its session's base under its own changes, each task ends as it tells, the refs that are told are
+    // those that stand, and the status is that of the first cause that holds.
+    ensures ours { (command : Command) → command_of words.now ≡ Ok command → KeepsOwn draw command (record { input = I.at input.old; store = S.view store; out = K.at out.old }) (record { input = I.at input.new; store = S.view result.store; out = K.at out.new }) result.status }
+
+    // The same over each store that tells a sound journal, to which the clients' ids are new.
+    ensures promise { (command : Command) → command_of words.now ≡ Ok command → KeepsSound draw command (record { input = I.at input.old; store = S.view store; out = K.at out.old }) (record { input = I.at input.new; store = S.view result.store; out = K.at out.new }) result.status }
+
     // Else the status tells of the input: a fault of the source only where it rose; the first line that is refused, exactly; and
     // then nothing has been done or written. Every other status but want of memory has read a script, played it over the
     // store, and written its report, whole, or less where the sink failed. Of want of memory it tells how far all this came.
@@ -222,6 +236,7 @@ pub fn run<R: Threads + Wait + Sync, I: Source, S: Counting + Send, K: Sink, G: 
     ensures write_fault { result.status ≡ Status.WriteFault → Rose (K.at out.old).faults (K.at out.new).faults }
     ensures calm { (command : Command) → command_of words.now ≡ Ok command → IsCalm (I.at input.old) (I.at input.new) (S.view store) (S.view result.store) (K.at out.old) (K.at out.new) → IsFaultless result.status }
 {
+    nothing_law();
     match read_words(alloc, words) {
         Ok(command) => run_command(rt, alloc, command, draw, input, store, gate, out),
         Err(fault) => Ended {

@@ -2,15 +2,16 @@
 use Rattle.std.specs.Prelude.{◌⊎◌, ◌≡◌, ◌≢◌, ◌++◌, ℕ, List, [], take, Option, option_map, codes}
 use Rattle.std.specs.Fmt.{decimal}
 use Rattle.folder.specs.Files.{Stored}
-use Rattle.whole_files.specs.Versions.{version_of}
+use Rattle.whole_files.specs.declared.versions.Putting.{Putting}
+use Rattle.whole_files.specs.Versions.{version_by}
 
 -- the bytes of a file, if one is there
 abbrev pub bytes_at : Option Stored → Option (List ℕ)
 bytes_at file = option_map (λ (stored : Stored). stored.bytes) file
 
--- the number by which its content is known
-abbrev pub version_at : Option Stored → Option ℕ
-version_at file = option_map (λ (stored : Stored). version_of stored.bytes) file
+-- its version, where it is put so
+abbrev pub version_at : Putting → Option Stored → Option ℕ
+version_at putting file = option_map (λ (stored : Stored). version_by putting stored.bytes) file
 
 -- Behind a piece of a file this is left; the empty piece is read at its end alone.
 pub record Takes (count : ℕ) (piece old new : List ℕ) : Type 0 where
@@ -47,3 +48,13 @@ LooserAside asides old new = (p : List ℕ) → new p → old p ⊎ IsAside asid
 -- ... and not this one
 abbrev pub FirmAt : List ℕ → (List ℕ → Type 0) → (List ℕ → Type 0) → Type 0
 FirmAt path old new = (p : List ℕ) → new p → old p × (p ≢ path)
+
+-- ---- what a loss of power may leave, in the midst of a call too
+-- outside the folder of files aside, what lies there
+abbrev pub IsKeptAside : List ℕ → (List ℕ → Option Stored) → List ℕ → Option Stored → Type 0
+IsKeptAside asides files p f = IsOutside asides p → f ≡ files p
+
+-- Outside the folder of files aside what lies there, or, at the path of a change, what it makes.
+pub record IsLeft (asides path : List ℕ) (Made : Option Stored → Type 0) (files : List ℕ → Option Stored) (p : List ℕ) (f : Option Stored) : Type 0 where
+  pub others : p ≢ path → IsOutside asides p → f ≡ files p
+  pub here : p ≡ path → (f ≡ files path) ⊎ Made f

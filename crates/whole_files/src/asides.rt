@@ -1,9 +1,9 @@
 //! Files that are written aside.
 
 ghost use Rattle.std.specs.Prelude.{◌≡◌, ◌++◌, [], IfOk, OnOk, IsTrue, string_bytes};
-ghost use Rattle.folder.specs.Files.{SameBut, NoLooser};
+ghost use Rattle.folder.specs.Files.{SameBut, NoLooser, Leaves, IsKeptBut};
 ghost use Rattle.whole_files.specs.Places.{asides_of};
-ghost use Rattle.whole_files.specs.Whole.{SameFiles, OnlyAside, IsAside, aside_in, LooserAside};
+ghost use Rattle.whole_files.specs.Whole.{SameFiles, OnlyAside, IsAside, aside_in, LooserAside, IsKeptAside};
 
 use crate::places::{Places, make_folder};
 use crate::reading::in_memory;
@@ -26,6 +26,7 @@ fn new_draft<F: Folder>(tree: &mut F, places: &Places, alloc: Global) -> Result<
     ensures written { IsTrue F.tells → IfOk result (λ draft. F.written draft ≡ []) }
     ensures files { IsTrue F.tells → OnlyAside (asides_of places.now) (F.files tree.old) (F.files tree.new) }
     ensures firm { IsTrue F.tells → OnOk result (LooserAside (asides_of places.now) (F.loose tree.old) (F.loose tree.new)) }
+    ensures left { IsTrue F.tells → Leaves (IsKeptAside (asides_of places.now) (F.files tree.old)) (F.left tree.old) (F.left tree.new) }
 {
     make_folder(tree, places.root(), places.asides(), Cause::NoAside)?;
     for number in 0..u32::MAX {
@@ -44,6 +45,7 @@ fn write_whole<F: Folder>(tree: &mut F, draft: &mut F::Draft, bytes: &[u8]) -> R
     ensures flushed { IsTrue F.tells → OnOk result (IsTrue (F.flushed draft.new)) }
     ensures files { IsTrue F.tells → SameBut (F.aside draft.old) (F.files tree.old) (F.files tree.new) }
     ensures loose { IsTrue F.tells → NoLooser (F.loose tree.old) (F.loose tree.new) }
+    ensures left { IsTrue F.tells → Leaves (IsKeptBut (F.aside draft.old) (F.files tree.old)) (F.left tree.old) (F.left tree.new) }
 {
     tree.write(draft, bytes)?;
     tree.flush(draft)
@@ -61,6 +63,7 @@ pub(crate) fn write_aside<F: Folder>(
     ensures flushed { IsTrue F.tells → IfOk result (λ draft. IsTrue (F.flushed draft)) }
     ensures files { IsTrue F.tells → OnlyAside (asides_of places.now) (F.files tree.old) (F.files tree.new) }
     ensures firm { IsTrue F.tells → OnOk result (LooserAside (asides_of places.now) (F.loose tree.old) (F.loose tree.new)) }
+    ensures left { IsTrue F.tells → Leaves (IsKeptAside (asides_of places.now) (F.files tree.old)) (F.left tree.old) (F.left tree.new) }
 {
     let mut draft = new_draft(tree, places, alloc)?;
     match write_whole(tree, &mut draft, bytes) {

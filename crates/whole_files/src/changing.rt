@@ -1,14 +1,15 @@
 //! Files that are made, replaced and removed.
 
-ghost use Rattle.std.specs.Prelude.{◌≡◌, IfOk, OnOk, IsTrue};
-ghost use Rattle.folder.specs.Files.{SameBut, SameButTwo, PlacesOver, Removes, IsIn, NoLooser, LooserAt};
+ghost use Rattle.std.specs.Prelude.{◌≡◌, None, IfOk, OnOk, IsTrue};
+ghost use Rattle.folder.specs.Files.{SameBut, SameButTwo, PlacesOver, Removes, IsIn, NoLooser, LooserAt, HasBytes, Leaves, IsChanged, IsPlaced};
 ghost use Rattle.whole_files.specs.Places.{asides_of};
-ghost use Rattle.whole_files.specs.Whole.{SameFiles, OnlyAt, IsOutside, LooserAside, version_at};
-ghost use Rattle.whole_files.specs.Changes.{Makes, Places as PlacesFile, Replaces, RemovesVersion, IsMoved};
+ghost use Rattle.whole_files.specs.Whole.{SameFiles, OnlyAt, IsOutside, LooserAside, IsLeft, version_at};
+ghost use Rattle.whole_files.specs.Changes.{Makes, Places as PlacesFile, Replaces, RemovesVersion, IsMoved, IsNew, IsOver, IsGone};
 
 use crate::asides::write_aside;
 use crate::places::{Places, flush_folder, make_folders, reached};
-use crate::reading::{file_version, number_at};
+use crate::reading::{file_version, version_seen};
+use crate::versions::Putting;
 use folder::{Call, Cause, FileFault, Folder, Kind, Seen, Trouble, failed};
 use std::alloc::Global;
 
@@ -21,14 +22,14 @@ pub enum Change {
     Moved(Option<u64>),
 }
 
-/// The number by which the content of the file at a path is known whose folders are there, if one is there.
-fn version_in<F: Folder>(tree: &F, path: &str) -> Result<Option<u64>, Trouble>
-    ensures { IsTrue F.tells → IfOk result (λ found. found ≡ version_at (F.files tree.now path.now)) }
+/// The version of the file at a path whose folders are there, if one is there.
+fn version_in<F: Folder>(tree: &F, putting: Putting, path: &str) -> Result<Option<u64>, Trouble>
+    ensures { IsTrue F.tells → IfOk result (λ found. found ≡ version_at putting (F.files tree.now path.now)) }
 {
     match tree.look(path)? {
         None => Ok(None),
         Some(seen) if seen.kind != Kind::File => Err(failed(Call::Look, Cause::NotFile)),
-        Some(seen) => Ok(Some(number_at(tree, path, &seen)?)),
+        Some(seen) => Ok(Some(version_seen(tree, putting, path, &seen)?)),
     }
 }
 
@@ -36,6 +37,7 @@ fn version_in<F: Folder>(tree: &F, path: &str) -> Result<Option<u64>, Trouble>
 /// version is told.
 fn place_file<F: Folder>(
     tree: &mut F,
+    putting: Putting,
     draft: F::Draft,
     path: &str,
     above: &str,
@@ -44,14 +46,15 @@ fn place_file<F: Folder>(
     requires within { IsIn above.now path.now }
     requires flushed { IsTrue F.tells → IsTrue (F.flushed draft) }
     ensures firm { IsTrue F.tells → OnOk result (LooserAt (F.aside draft) (F.loose tree.old) (F.loose tree.new)) }
-    ensures placed { IsTrue F.tells → PlacesFile (F.written draft) (F.files tree.old path.now) (F.files tree.new path.now) result }
+    ensures placed { IsTrue F.tells → PlacesFile putting (F.written draft) (F.files tree.old path.now) (F.files tree.new path.now) result }
     ensures files { IsTrue F.tells → SameButTwo path.now (F.aside draft) (F.files tree.old) (F.files tree.new) }
+    ensures left { IsTrue F.tells → Leaves (IsPlaced path.now (F.aside draft) (IsNew (F.written draft) (F.files tree.old path.now)) (F.files tree.old)) (F.left tree.old) (F.left tree.new) }
 {
     if tree.place_new(draft, path)? {
         tree.flush_folder(above, folder)?;
         return Ok(None);
     }
-    match version_in(tree, path)? {
+    match version_in(tree, putting, path)? {
         Some(version) => Ok(Some(version)),
         None => Err(failed(Call::Link, Cause::Changed)),
     }
@@ -62,21 +65,23 @@ pub fn make_file<F: Folder>(
     tree: &mut F,
     places: &Places,
     alloc: Global,
+    putting: Putting,
     path: &str,
     bytes: &[u8],
 ) -> Result<Option<u64>, FileFault>
     requires { IsOutside (asides_of places.now) path.now }
-    ensures made { IsTrue F.tells → Makes bytes.now (F.files tree.old path.now) (F.files tree.new path.now) result }
+    ensures made { IsTrue F.tells → Makes putting bytes.now (F.files tree.old path.now) (F.files tree.new path.now) result }
     ensures files { IsTrue F.tells → OnlyAt (asides_of places.now) path.now (F.files tree.old) (F.files tree.new) }
     ensures firm { IsTrue F.tells → OnOk result (LooserAside (asides_of places.now) (F.loose tree.old) (F.loose tree.new)) }
+    ensures left { IsTrue F.tells → Leaves (IsLeft (asides_of places.now) path.now (IsNew bytes.now (F.files tree.old path.now)) (F.files tree.old)) (F.left tree.old) (F.left tree.new) }
 {
     let above = reached(Call::Link, path)?;
     let folder = make_folders(tree, places.root(), path)?;
-    if let Some(version) = version_in(tree, path)? {
+    if let Some(version) = version_in(tree, putting, path)? {
         return Ok(Some(version));
     }
     let draft = write_aside(tree, places, alloc, bytes)?;
-    Ok(place_file(tree, draft, path, above, &folder)?)
+    Ok(place_file(tree, putting, draft, path, above, &folder)?)
 }
 
 /// Moves a draft over the file at a path.
@@ -90,6 +95,7 @@ fn move_over<F: Folder>(
     ensures firm { IsTrue F.tells → OnOk result (LooserAt (F.aside draft) (F.loose tree.old) (F.loose tree.new)) }
     ensures placed { IsTrue F.tells → PlacesOver (F.written draft) (F.files tree.old path.now) (F.files tree.new path.now) result }
     ensures files { IsTrue F.tells → SameButTwo path.now (F.aside draft) (F.files tree.old) (F.files tree.new) }
+    ensures left { IsTrue F.tells → Leaves (IsPlaced path.now (F.aside draft) (HasBytes (F.written draft)) (F.files tree.old)) (F.left tree.old) (F.left tree.new) }
 {
     tree.place_over(draft, path)?;
     flush_folder(tree, root, path)
@@ -100,17 +106,19 @@ pub fn replace_file<F: Folder>(
     tree: &mut F,
     places: &Places,
     alloc: Global,
+    putting: Putting,
     path: &str,
     bytes: &[u8],
     old: u64,
 ) -> Result<Change, FileFault>
     requires { IsOutside (asides_of places.now) path.now }
     ensures moved { IfOk result (IsMoved old) }
-    ensures replaced { IsTrue F.tells → Replaces bytes.now old (F.files tree.old path.now) (F.files tree.new path.now) result }
+    ensures replaced { IsTrue F.tells → Replaces putting bytes.now old (F.files tree.old path.now) (F.files tree.new path.now) result }
     ensures files { IsTrue F.tells → OnlyAt (asides_of places.now) path.now (F.files tree.old) (F.files tree.new) }
     ensures firm { IsTrue F.tells → OnOk result (LooserAside (asides_of places.now) (F.loose tree.old) (F.loose tree.new)) }
+    ensures left { IsTrue F.tells → Leaves (IsLeft (asides_of places.now) path.now (IsOver putting bytes.now old (F.files tree.old path.now)) (F.files tree.old)) (F.left tree.old) (F.left tree.new) }
 {
-    let found = file_version(tree, path)?;
+    let found = file_version(tree, putting, path)?;
     if found != Some(old) {
         return Ok(Change::Moved(found));
     }
@@ -124,6 +132,7 @@ pub fn remove_file<F: Folder>(tree: &mut F, root: &str, path: &str) -> Result<bo
     ensures removed { IsTrue F.tells → Removes (F.files tree.old path.now) (F.files tree.new path.now) result }
     ensures files { IsTrue F.tells → SameBut path.now (F.files tree.old) (F.files tree.new) }
     ensures firm { IsTrue F.tells → OnOk result (NoLooser (F.loose tree.old) (F.loose tree.new)) }
+    ensures left { IsTrue F.tells → Leaves (IsChanged path.now (λ f. f ≡ None) (F.files tree.old)) (F.left tree.old) (F.left tree.new) }
 {
     if !tree.remove(path)? {
         return Ok(false);
@@ -136,15 +145,17 @@ pub fn remove_file<F: Folder>(tree: &mut F, root: &str, path: &str) -> Result<bo
 pub fn remove_version<F: Folder>(
     tree: &mut F,
     root: &str,
+    putting: Putting,
     path: &str,
     old: u64,
 ) -> Result<Change, Trouble>
     ensures moved { IfOk result (IsMoved old) }
-    ensures removed { IsTrue F.tells → RemovesVersion old (F.files tree.old path.now) (F.files tree.new path.now) result }
+    ensures removed { IsTrue F.tells → RemovesVersion putting old (F.files tree.old path.now) (F.files tree.new path.now) result }
     ensures files { IsTrue F.tells → SameBut path.now (F.files tree.old) (F.files tree.new) }
     ensures firm { IsTrue F.tells → OnOk result (NoLooser (F.loose tree.old) (F.loose tree.new)) }
+    ensures left { IsTrue F.tells → Leaves (IsChanged path.now (IsGone putting old (F.files tree.old path.now)) (F.files tree.old)) (F.left tree.old) (F.left tree.new) }
 {
-    let standing = file_version(tree, path)?;
+    let standing = file_version(tree, putting, path)?;
     if standing != Some(old) {
         return Ok(Change::Moved(standing));
     }

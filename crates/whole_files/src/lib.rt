@@ -10,4 +10,4 @@ mod versions;
 pub use changing::{Change, make_file, remove_file, remove_version, replace_file};
 pub use places::{Places, folder_at};
 pub use reading::{MOST, file_version, read_file};
-pub use versions::content_number;
+pub use versions::{Putting, content_number, version_by};

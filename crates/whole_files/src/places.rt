@@ -1,7 +1,7 @@
 //! Folders of a directory, in which files lie.
 
 ghost use Rattle.std.specs.Prelude.{◌≡◌, IfOk, IfSome, OnOk, IsTrue, string_bytes};
-ghost use Rattle.folder.specs.Files.{IsIn, NoLooser};
+ghost use Rattle.folder.specs.Files.{IsIn, NoLooser, Leaves, IsKept};
 ghost use Rattle.whole_files.specs.Whole.{SameFiles, FirmAt};
 ghost use Rattle.whole_files.specs.Places.{root_of, asides_of};
 
@@ -68,6 +68,7 @@ pub fn folder_at<F: Folder>(tree: &F, path: &str) -> Result<Option<Seen>, Troubl
 pub(crate) fn flush_folder<F: Folder>(tree: &mut F, root: &str, path: &str) -> Result<(), Trouble>
     ensures files { IsTrue F.tells → SameFiles (F.files tree.old) (F.files tree.new) }
     ensures firm { IsTrue F.tells → OnOk result (FirmAt path.now (F.loose tree.old) (F.loose tree.new)) }
+    ensures left { IsTrue F.tells → Leaves (IsKept (F.files tree.old)) (F.left tree.old) (F.left tree.new) }
 {
     let folder = reached(Call::Flush, path)?;
     if folder == root {
@@ -96,6 +97,7 @@ pub(crate) fn make_folder<F: Folder>(
 ) -> Result<Seen, Trouble>
     ensures files { IsTrue F.tells → SameFiles (F.files tree.old) (F.files tree.new) }
     ensures firm { IsTrue F.tells → OnOk result (NoLooser (F.loose tree.old) (F.loose tree.new)) }
+    ensures left { IsTrue F.tells → Leaves (IsKept (F.files tree.old)) (F.left tree.old) (F.left tree.new) }
 {
     if let Some(seen) = seen_folder(tree, folder, cause)? {
         return Ok(seen);
@@ -113,6 +115,7 @@ pub(crate) fn make_folder<F: Folder>(
 pub(crate) fn make_folders<F: Folder>(tree: &mut F, root: &str, path: &str) -> Result<Seen, Trouble>
     ensures files { IsTrue F.tells → SameFiles (F.files tree.old) (F.files tree.new) }
     ensures firm { IsTrue F.tells → OnOk result (NoLooser (F.loose tree.old) (F.loose tree.new)) }
+    ensures left { IsTrue F.tells → Leaves (IsKept (F.files tree.old)) (F.left tree.old) (F.left tree.new) }
 {
     let folder = reached(Call::MakeFolder, path)?;
     let above = folder_of(folder).unwrap_or(root);

@@ -2,11 +2,11 @@
 
 ghost use Rattle.std.specs.Prelude.{◌≡◌, ◌≤◌, ◌<◌, Ok, Some, IfOk, IsTrue, MatchResult};
 ghost use Rattle.folder.specs.declared.faults.FileFault.TheVariants as FileFault;
-ghost use Rattle.folder.specs.Files.{HasBytes};
+ghost use Rattle.folder.specs.Files.{HasBytes, IsMeasured};
 ghost use Rattle.whole_files.specs.Versions.{version_of};
 ghost use Rattle.whole_files.specs.Whole.{Takes, bytes_at, version_at};
 
-use crate::versions::number_of_digest;
+use crate::versions::{Putting, number_of_digest};
 use folder::{Call, Cause, FileFault, Folder, Seen, Trouble, failed};
 use ice_base::Bytes;
 use sha2::{Digest, Sha256};
@@ -56,12 +56,17 @@ pub(crate) fn in_memory<T>(made: Result<T, AllocError>) -> Result<T, FileFault>
     }
 }
 
-/// The bytes of an open file.
-fn bytes_of<F: Folder>(tree: &F, file: &mut F::Reading, alloc: Global) -> Result<Bytes, FileFault>
+/// The bytes of an open file, which was seen to have so many.
+fn bytes_of<F: Folder>(
+    tree: &F,
+    file: &mut F::Reading,
+    alloc: Global,
+    size: usize,
+) -> Result<Bytes, FileFault>
     ensures { IsTrue F.tells → IfOk result (λ bytes. bytes ≡ F.rest file.old) }
 {
     let mut piece = [0u8; PIECE];
-    let mut bytes = Bytes::new(alloc);
+    let mut bytes = Bytes::from_vec(Vec::with_capacity(alloc, size)?);
     for _ in 0..TURNS {
         let count = next_piece(tree, file, bytes.len() as u64, &mut piece)?;
         if count == 0 {
@@ -108,23 +113,39 @@ pub fn read_file<F: Folder>(tree: &F, alloc: Global, path: &str) -> Result<Optio
         return Ok(None);
     };
     let mut file = opened(tree, path, &seen)?;
-    Ok(Some(bytes_of(tree, &mut file, alloc)?))
+    let size = usize::try_from(seen.size).unwrap_or(0);
+    Ok(Some(bytes_of(tree, &mut file, alloc, size)?))
 }
 
-/// The number by which the content of the file that was seen at a path is known.
-pub(crate) fn number_at<F: Folder>(tree: &F, path: &str, seen: &Seen) -> Result<u64, Trouble>
-    ensures { IsTrue F.tells → IfOk result (λ number. version_at (F.files tree.now path.now) ≡ Some number) }
+/// The version of the file that was seen at a path. Where it is put once, it isn't opened.
+pub(crate) fn version_seen<F: Folder>(
+    tree: &F,
+    putting: Putting,
+    path: &str,
+    seen: &Seen,
+) -> Result<u64, Trouble>
+    requires { IsTrue F.tells → IsMeasured seen.now (F.files tree.now path.now) }
+    ensures { IsTrue F.tells → IfOk result (λ version. version_at putting (F.files tree.now path.now) ≡ Some version) }
 {
-    let mut file = opened(tree, path, seen)?;
-    number_of(tree, &mut file)
+    match putting {
+        Putting::Once => Ok(0),
+        Putting::Over => {
+            let mut file = opened(tree, path, seen)?;
+            number_of(tree, &mut file)
+        }
+    }
 }
 
-/// The number by which the content of the plain file at a path is known, if one is there. It takes no memory.
-pub fn file_version<F: Folder>(tree: &F, path: &str) -> Result<Option<u64>, Trouble>
-    ensures { IsTrue F.tells → IfOk result (λ found. found ≡ version_at (F.files tree.now path.now)) }
+/// The version of the plain file at a path, if one is there. It takes no memory.
+pub fn file_version<F: Folder>(
+    tree: &F,
+    putting: Putting,
+    path: &str,
+) -> Result<Option<u64>, Trouble>
+    ensures { IsTrue F.tells → IfOk result (λ found. found ≡ version_at putting (F.files tree.now path.now)) }
 {
     match tree.file(path)? {
-        Some(seen) => Ok(Some(number_at(tree, path, &seen)?)),
+        Some(seen) => Ok(Some(version_seen(tree, putting, path, &seen)?)),
         None => Ok(None),
     }
 }

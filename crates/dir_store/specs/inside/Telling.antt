@@ -3,6 +3,7 @@ use Rattle.std.specs.Prelude.{◌≡◌, ◌≢◌, ◌⊎◌, ℕ, List, Bool, 
 use Rattle.folder.specs.Files.{Stored}
 use Rattle.folder.specs.declared.faults.FileFault.{FileFault}
 use Rattle.folder.specs.declared.faults.FileFault.TheVariants as F
+use Rattle.whole_files.specs.declared.versions.Putting.{Putting}
 use Rattle.whole_files.specs.Whole.{version_at}
 use Rattle.whole_files.specs.Changes.{IsGone}
 use Rattle.whole_files.specs.declared.changing.Change.{Change}
@@ -20,7 +21,8 @@ use Rattle.object_store.specs.declared.events.Gone.TheVariants as R
 use Rattle.object_store.specs.declared.events.GoneAt.{GoneAt}
 use Rattle.object_store.specs.declared.events.GoneAt.TheVariants as A
 use Rattle.object_store.specs.Machine.{version_at as as_version}
-use Rattle.dir_store.specs.Versions.{version_of}
+use Rattle.object_store.specs.declared.keys.Key.{Key}
+use Rattle.dir_store.specs.Versions.{version_for}
 
 abbrev pub as_told : {A : Type 0} → Result A FileFault → Result A StoreFault
 as_told (Ok a) = Ok a
@@ -40,11 +42,11 @@ Removed old new (Ok false) = (old ≡ None) × (new ≡ None)
 Removed old new (Err (F.Failed trouble)) = (new ≡ old) ⊎ (new ≡ None)
 Removed old new (Err F.NoMemory) = new ≡ old
 
-abbrev pub RemovedVersion : ℕ → Option Stored → Option Stored → Result Change FileFault → Type 0
-RemovedVersion version old new (Ok C.Made) = IsGone version old new
-RemovedVersion version old new (Ok (C.Moved found)) = (found ≡ version_at old) × (found ≢ Some version) × (new ≡ old)
-RemovedVersion version old new (Err (F.Failed trouble)) = (new ≡ old) ⊎ IsGone version old new
-RemovedVersion version old new (Err F.NoMemory) = new ≡ old
+abbrev pub RemovedVersion : Putting → ℕ → Option Stored → Option Stored → Result Change FileFault → Type 0
+RemovedVersion putting version old new (Ok C.Made) = IsGone putting version old new
+RemovedVersion putting version old new (Ok (C.Moved found)) = (found ≡ version_at putting old) × (found ≢ Some version) × (new ≡ old)
+RemovedVersion putting version old new (Err (F.Failed trouble)) = (new ≡ old) ⊎ IsGone putting version old new
+RemovedVersion putting version old new (Err F.NoMemory) = new ≡ old
 
 -- ---- answers
 abbrev pub told_new : Option ℕ → ℕ → ℕ → New
@@ -63,6 +65,6 @@ abbrev pub told_gone_at : Change → ℕ → GoneAt
 told_gone_at C.Made now = A.Done now
 told_gone_at (C.Moved found) now = A.Moved (option_map as_version found) now
 
-abbrev pub told_got : Option (List ℕ) → ℕ → Got
-told_got None now = G.Absent now
-told_got (Some bytes) now = G.Found bytes (as_version (version_of bytes)) now
+abbrev pub told_got : Key → Option (List ℕ) → ℕ → Got
+told_got key None now = G.Absent now
+told_got key (Some bytes) now = G.Found bytes (as_version (version_for key bytes)) now

@@ -1,5 +1,5 @@
 use Rattle.std.specs.Prelude.{IsTrue}
-use Rattle.folder.specs.Files.{NoLooser}
+use Rattle.folder.specs.Files.{NoLooser, Leaves, IsKept}
 use Rattle.whole_files.specs.Whole.{SameFiles}
 use Rattle.dir_store.proofs.clearing.flush_all.Given as goal
 
@@ -7,4 +7,5 @@ abbrev pub invariant-loop-folder : goal.invariant-loop-folder
 invariant-loop-folder g l = record {
   files : IsTrue g.F.Folder.tells → SameFiles (g.F.Folder.files l.fn.tree) (g.F.Folder.files l.tree);
   loose : IsTrue g.F.Folder.tells → NoLooser (g.F.Folder.loose l.fn.tree) (g.F.Folder.loose l.tree);
+  left : IsTrue g.F.Folder.tells → Leaves (IsKept (g.F.Folder.files l.fn.tree)) (g.F.Folder.left l.fn.tree) (g.F.Folder.left l.tree);
 }

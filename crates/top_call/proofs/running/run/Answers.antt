@@ -4,6 +4,8 @@ use Rattle.top_call.specs.Run.{Ends, TellsRefused, IsFaultless}
 use Rattle.top_call.proofs.Commands.{of_said, not_said, usage_told, starved, refused_starved, no_store, no_sink}
 use Rattle.top_call.proofs.Endings.{ends_starved, store_faulted, sink_faulted}
 use Rattle.top_call.proofs.Readings.{tells_refused, faultless}
+use Rattle.top_call.specs.Promise.{KeepsSound, KeepsOwn}
+use Rattle.top_call.proofs.Promises.{keeps-sound, keeps-own, unplayed-sound, unplayed-own}
 use Rattle.top_call.proofs.running.run.Goals as goal
 
 pub returns-in-Ok-clause-usage : goal.returns-in-Ok-clause-usage
@@ -42,3 +44,17 @@ returns-in-Err-clause-write_fault g c = λ k. no_sink c.in-Err.fault (sym c.from
 
 pub returns-in-Err-clause-calm : goal.returns-in-Err-clause-calm
 returns-in-Err-clause-calm g c = rw c.from.ensures (λ command k calm. starved (command_of c.args.words.now) c.in-Err.fault c.in-Err.ensures.says IsFaultless tt command k)
+
+pub returns-in-Ok-clause-promise : goal.returns-in-Ok-clause-promise
+returns-in-Ok-clause-promise g c = of_said _ _ c.in-Ok.ensures.says (λ command. KeepsSound c.args.draw command (record { input = g.I.Source.at c.args.input.now; store = g.S.Viewed.view c.args.store; out = g.K.Sink.at c.args.out.now }) (record { input = g.I.Source.at c.run_command.new.input; store = g.S.Viewed.view c.run_command.result.store; out = g.K.Sink.at c.run_command.new.out }) c.run_command.result.status)
+    (keeps-sound c.args.draw (record { input = g.I.Source.at c.args.input.now; store = g.S.Viewed.view c.args.store; out = g.K.Sink.at c.args.out.now }) (record { input = g.I.Source.at c.run_command.new.input; store = g.S.Viewed.view c.run_command.result.store; out = g.K.Sink.at c.run_command.new.out }) c.in-Ok.command c.run_command.result.status c.run_command.ensures.ends)
+
+pub returns-in-Ok-clause-ours : goal.returns-in-Ok-clause-ours
+returns-in-Ok-clause-ours g c = of_said _ _ c.in-Ok.ensures.says (λ command. KeepsOwn c.args.draw command (record { input = g.I.Source.at c.args.input.now; store = g.S.Viewed.view c.args.store; out = g.K.Sink.at c.args.out.now }) (record { input = g.I.Source.at c.run_command.new.input; store = g.S.Viewed.view c.run_command.result.store; out = g.K.Sink.at c.run_command.new.out }) c.run_command.result.status)
+    (keeps-own c.args.draw (record { input = g.I.Source.at c.args.input.now; store = g.S.Viewed.view c.args.store; out = g.K.Sink.at c.args.out.now }) (record { input = g.I.Source.at c.run_command.new.input; store = g.S.Viewed.view c.run_command.result.store; out = g.K.Sink.at c.run_command.new.out }) c.nothing_law.ensures c.in-Ok.command c.run_command.result.status c.run_command.ensures.ends)
+
+pub returns-in-Err-clause-promise : goal.returns-in-Err-clause-promise
+returns-in-Err-clause-promise g c = rw c.from.ensures (λ command k. starved (command_of c.args.words.now) c.in-Err.fault c.in-Err.ensures.says (λ status. KeepsSound c.args.draw command (record { input = g.I.Source.at c.args.input.now; store = g.S.Viewed.view c.args.store; out = g.K.Sink.at c.args.out.now }) (record { input = g.I.Source.at c.args.input.now; store = g.S.Viewed.view c.args.store; out = g.K.Sink.at c.args.out.now }) status) (unplayed-sound c.args.draw command (record { input = g.I.Source.at c.args.input.now; store = g.S.Viewed.view c.args.store; out = g.K.Sink.at c.args.out.now }) (record { input = g.I.Source.at c.args.input.now; store = g.S.Viewed.view c.args.store; out = g.K.Sink.at c.args.out.now })) command k)
+
+pub returns-in-Err-clause-ours : goal.returns-in-Err-clause-ours
+returns-in-Err-clause-ours g c = rw c.from.ensures (λ command k. starved (command_of c.args.words.now) c.in-Err.fault c.in-Err.ensures.says (λ status. KeepsOwn c.args.draw command (record { input = g.I.Source.at c.args.input.now; store = g.S.Viewed.view c.args.store; out = g.K.Sink.at c.args.out.now }) (record { input = g.I.Source.at c.args.input.now; store = g.S.Viewed.view c.args.store; out = g.K.Sink.at c.args.out.now }) status) (unplayed-own c.args.draw command (record { input = g.I.Source.at c.args.input.now; store = g.S.Viewed.view c.args.store; out = g.K.Sink.at c.args.out.now }) (record { input = g.I.Source.at c.args.input.now; store = g.S.Viewed.view c.args.store; out = g.K.Sink.at c.args.out.now })) command k)

@@ -1,0 +1,150 @@
+-- A step of a collection.
+use Rattle.std.proofs.Common.{Bool, true, false, ◌≡◌, ◌⊎◌, inl, inr, refl, sym, ap, subst, ℕ, ◌≤◌, List, [], ◌∷◌, Result, Ok, Err}
+use Rattle.std.specs.Prelude.{IsTrue}
+use Rattle.ice_base.specs.Ends.{Rose}
+use Rattle.object_store.specs.declared.keys.Key.{Key}
+use Rattle.object_store.specs.declared.keys.Why.TheVariants.{Collect as For_collect}
+use Rattle.object_store.specs.declared.events.Gone.{Gone}
+use Rattle.object_store.specs.declared.events.Op.{Op}
+use Rattle.object_store.specs.declared.events.Op.TheVariants.{Remove}
+use Rattle.object_store.specs.declared.events.Reply.TheVariants.{Gone as Is_gone, Failed as Reply_failed}
+use Rattle.object_store.specs.declared.events.StoreFault.{StoreFault}
+use Rattle.object_store.specs.declared.events.StoreFault.TheVariants.{Failed, NoMemory as No_room}
+use Rattle.store_api.specs.declared.machines.Next.{Next}
+use Rattle.store_api.specs.declared.machines.Next.TheVariants.{Again, Ready}
+use Rattle.store_api.specs.declared.machines.Refusal.{Refusal}
+use Rattle.store_api.specs.declared.machines.Refusal.TheVariants.{NoMemory}
+use Rattle.store_api.specs.Callers.{View, Called, Waits}
+use Rattle.store_api.specs.Program.{Prog, Done, Ask as Ask_next, is_ask, moves_branch, is_no_memory, Lands, IsSure, Steps, Blames}
+use Rattle.store_api.specs.Plays.{Play, Ended, Ask, Or, call, behind, Comes, Acts, Starved, BlamesEnd}
+use Rattle.store_api.proofs.Programs.{made-done}
+use Rattle.cleanup_reports.specs.declared.Removed.{Removed}
+use Rattle.chunk_gc.specs.declared.standing.Collected.{Collected}
+use Rattle.chunk_gc.specs.Plays.{tells_failure, sweep, ends_with, after_removal}
+use Rattle.chunk_gc.specs.inside.Collecting.{settled, faults, Blamed, removing_rest, removal_rest}
+
+-- ---- a step of the marking
+is-memory : (why : Refusal) → is_no_memory why ≡ true → why ≡ NoMemory
+is-memory NoMemory e = refl
+is-memory _ e = absurd cc
+
+blames-end : (result : Result (Next (List Key)) Refusal) (r : Play Collected) (m n : ℕ) → Blames result m n → Blamed (faults result) r → BlamesEnd tells_failure r m n
+blames-end (Ok t) (Ended outcome) m n b g = (b, λ failed. let x = g failed in absurd cc)
+blames-end (Ok t) (Ask op s next) m n b g = b
+blames-end (Ok t) (Or p q) m n b g = b
+blames-end (Err why) (Ended outcome) m n b g = (b.0, λ failed. b.1 (g failed))
+blames-end (Err why) (Ask op s next) m n b g = b.0
+blames-end (Err why) (Or p q) m n b g = b.0
+
+module _ (f : Result (List Key) Refusal → Play Collected) (r : Play Collected) where
+  goes : (x y : Prog (Result (List Key) Refusal)) → x ≡ y → Comes (call y f) r → Comes (call x f) r
+  goes x y e c = subst (λ (z : Prog (Result (List Key) Refusal)). Comes (call z f) r) (sym e) c
+
+  -- behind a put over
+  sure : (next q : Prog (Result (List Key) Refusal)) (result : Result (Next (List Key)) Refusal) → Lands next q result → IsSure next result → Comes (settled f q result) r → Comes (call next f) r
+  sure next q (Ok Again) l s c = goes next q l.0 c
+  sure next q (Ok (Ready t)) l s c = goes next (Done (Ok t)) l.0 c
+  sure next q (Err why) l s c = goes next (Done (Err why)) s c
+
+  refused : (next q : Prog (Result (List Key) Refusal)) (why : Refusal) (starved : Bool) → is_no_memory why ≡ starved → Lands next q (Err why) → Comes (f (Err why)) r → Comes (call next f) r ⊎ Comes (f (Err NoMemory)) r
+  refused next q why true e l c = inr (subst (λ (w : Refusal). Comes (f (Err w)) r) (is-memory why e) c)
+  refused next q why false e l c = inl (goes next (Done (Err why)) (l.1 e) c)
+
+  free : (next q : Prog (Result (List Key) Refusal)) (result : Result (Next (List Key)) Refusal) → Lands next q result → Comes (settled f q result) r → Comes (call next f) r ⊎ Comes (f (Err NoMemory)) r
+  free next q (Ok Again) l c = inl (goes next q l.0 c)
+  free next q (Ok (Ready t)) l c = inl (goes next (Done (Ok t)) l.0 c)
+  free next q (Err why) l c = refused next q why (is_no_memory why) refl l c
+
+  landed : (op : Op) (over : Bool) (next q : Prog (Result (List Key) Refusal)) (result : Result (Next (List Key)) Refusal) → moves_branch op ≡ over → Lands next q result → (moves_branch op ≡ true → IsSure next result) → Comes (settled f q result) r → Comes (behind op (call next f) (f (Err NoMemory))) r
+  landed op true next q result e l s c = rw e (sure next q result l (s e) c)
+  landed op false next q result e l s c = rw e (free next q result l c)
+
+  -- where there was no memory for an operation
+  starves : (old new : View) (p : Prog (Result (List Key) Refusal)) → is_ask p ≡ true → (IsTrue old.caller.tells → Waits old.caller old.seen new.seen) → Comes (f (Err NoMemory)) r → Starved old new (call p f) r
+  starves old new (Done a) e w c = absurd cc
+  starves old new (Ask_next op k) e w c = record { op = op; starved = f (Err NoMemory); next = λ reply. behind op (call (k reply) f) (f (Err NoMemory)); asks = refl; waits = w; comes = c }
+
+  pub acts : (old new : View) (p q : Prog (Result (List Key) Refusal)) (result : Result (Next (List Key)) Refusal) → is_ask p ≡ true → Steps old new p q result → Comes (settled f q result) r → Blamed (faults result) r → Acts tells_failure old new (call p f) r
+  acts old new p q result live s c b = record {
+    same = s.same;
+    blames = blames-end result r old.faults new.faults s.blames b;
+    went = elim s.went [
+      | inl m ↦ inl (record {
+        op = m.op;
+        starved = f (Err NoMemory);
+        next = λ reply. behind m.op (call (m.next reply) f) (f (Err NoMemory));
+        reply = m.reply;
+        asks = ap (λ (x : Prog (Result (List Key) Refusal)). call x f) m.asks;
+        fits = m.fits;
+        made = m.made;
+        comes = landed m.op (moves_branch m.op) (m.next m.reply) q result refl m.lands m.sure c;
+      })
+      | inr n ↦ inr (starves old new p live n.waits (subst (λ (x : Result (Next (List Key)) Refusal). Comes (settled f q x) r) n.result_is c))
+    ];
+  }
+
+-- ---- removals
+pub sweep-end : (keys : List Key) (removed : Removed) (q : Play Collected) → keys ≡ [] → q ≡ ends_with removed (Ok tt) → Comes (sweep keys removed) q
+unfolding sweep
+sweep-end keys removed q e s = rw e s
+
+pub sweep-more : (keys behind : List Key) (key : Key) (removed : Removed) (q : Play Collected) → keys ≡ key ∷ behind → q ≡ removing_rest key behind removed → Comes (sweep keys removed) q
+unfolding sweep
+sweep-more keys behind key removed q e s = rw e s
+
+-- an end that tells no fault, or a removal
+calm-end : (q : Play Collected) (m n : ℕ) → m ≤ n → Blamed false q → BlamesEnd tells_failure q m n
+calm-end (Ended outcome) m n l b = (l, λ failed. let x = b failed in absurd cc)
+calm-end (Ask op s next) m n l b = l
+calm-end (Or p q) m n l b = l
+
+failed-end : (q : Play Collected) (outcome : Collected) (m n : ℕ) → Rose m n → q ≡ Ended outcome → BlamesEnd tells_failure q m n
+failed-end q outcome m n r e = subst (λ (x : Play Collected). BlamesEnd tells_failure x m n) (sym e) (r.0, λ failed. r)
+
+pub removed-acts : (key : Key) (keys : List Key) (removed : Removed) (answer : Result Gone StoreFault) (old new : View) (q : Play Collected) → Called (λ gone. Is_gone gone) (Remove key For_collect) answer old new
+    → Comes (removal_rest key keys removed answer) q → ((gone : Gone) → answer ≡ Ok gone → Blamed false q) → Acts tells_failure old new (removing_rest key keys removed) q
+removed-acts key keys removed (Ok gone) old new q c comes b = record {
+  same = c.same;
+  blames = calm-end q old.faults new.faults c.counted (b gone refl);
+  went = inl (record {
+    op = Remove key For_collect;
+    starved = ends_with removed (Err NoMemory);
+    next = after_removal key (sweep keys) removed;
+    reply = Is_gone gone;
+    asks = refl;
+    fits = tt;
+    made = c.did;
+    comes = comes;
+  });
+}
+removed-acts key keys removed (Err Failed) old new q c comes b =
+    let made = made-done (λ (gone : Gone). Is_gone gone) old.caller (Remove key For_collect) old.seen new.seen old.caller.tells c.did in
+    record {
+      same = c.same;
+      blames = failed-end q _ old.faults new.faults c.counted comes;
+      went = inl (record {
+        op = Remove key For_collect;
+        starved = ends_with removed (Err NoMemory);
+        next = after_removal key (sweep keys) removed;
+        reply = Reply_failed made.0;
+        asks = refl;
+        fits = tt;
+        made = made.1;
+        comes = comes;
+      });
+    }
+removed-acts key keys removed (Err No_room) old new q c comes b = record {
+  same = c.same;
+  blames = starved-end q old.faults new.faults c.counted comes;
+  went = inr (record {
+    op = Remove key For_collect;
+    starved = ends_with removed (Err NoMemory);
+    next = after_removal key (sweep keys) removed;
+    asks = refl;
+    waits = c.did;
+    comes = comes;
+  });
+}
+  where
+    starved-end : (q : Play Collected) (m n : ℕ) → m ≤ n → q ≡ ends_with removed (Err NoMemory) → BlamesEnd tells_failure q m n
+    starved-end q m n l e = subst (λ (x : Play Collected). BlamesEnd tells_failure x m n) (sym e) (l, λ failed. absurd cc)

@@ -1,0 +1,10 @@
+pub mod Stepping
+pub mod Answering
+pub mod Sets
+pub mod Marking
+pub mod Sweeping
+pub mod Going
+pub mod Playing
+pub mod Journals
+pub mod Acting
+pub mod Vanishing

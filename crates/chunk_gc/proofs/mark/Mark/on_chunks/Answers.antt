@@ -1,0 +1,10 @@
+use Rattle.std.proofs.Common.{sym}
+use Rattle.object_store.specs.declared.keys.Part.TheVariants.{Chunks}
+use Rattle.chunk_gc.proofs.Answering.{refused, went, listing-tells}
+use Rattle.chunk_gc.proofs.mark.Mark.on_chunks.Goals as goal
+
+pub returns-in-Ok-clause-took : goal.returns-in-Ok-clause-took
+returns-in-Ok-clause-took c = went _ _ _ (listing-tells Chunks) c.args.reply c.in-Ok.listed (sym c.in-Ok.ensures.told) _ _ (rw c.as_slice.ensures at c.after_chunks.ensures.lands) c.after_chunks.ensures.calm
+
+pub returns-in-Err-clause-took : goal.returns-in-Err-clause-took
+returns-in-Err-clause-took c = refused _ _ _ (listing-tells Chunks) c.args.reply c.in-Err.why c.requires.fits (λ n. sym c.in-Err.ensures.told) _ (rw c.requires.ended tt)

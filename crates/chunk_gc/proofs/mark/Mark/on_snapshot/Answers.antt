@@ -1,0 +1,8 @@
+use Rattle.chunk_gc.proofs.Answering.{refused, went, snapshot-tells}
+use Rattle.chunk_gc.proofs.mark.Mark.on_snapshot.Goals as goal
+
+pub returns-in-Ok-clause-took : goal.returns-in-Ok-clause-took
+returns-in-Ok-clause-took c = went _ _ _ (snapshot-tells c.args.id) c.args.reply c.in-Ok.loaded c.in-Ok.ensures.told _ _ c.after_loaded.ensures.lands c.after_loaded.ensures.calm
+
+pub returns-in-Err-clause-took : goal.returns-in-Err-clause-took
+returns-in-Err-clause-took c = refused _ _ _ (snapshot-tells c.args.id) c.args.reply c.in-Err.why c.requires.fits (c.in-Err.ensures.told) _ (rw c.requires.ended tt)

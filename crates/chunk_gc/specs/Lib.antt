@@ -1,0 +1,9 @@
+pub mod Lines
+pub mod Told
+pub mod Programs
+pub mod Plays
+pub mod Exact
+pub mod Laws
+pub mod Gone
+pub mod Resting
+pub mod inside

@@ -1,0 +1,161 @@
+-- The program that marks, and answers the keys of what is doomed (own).
+use Rattle.std.specs.Prelude.{ℕ, zero, suc, ◌||◌, ◌&&◌, not, nat_lt, Bool, true, false, List, [], ◌∷◌, ◌++◌, Option, Result, Ok, Err}
+use Rattle.ice_ids.specs.declared.Id12.{Id12}
+use Rattle.ice_ids.specs.Text.{same_id12, initial_id}
+use Rattle.ice_ids.specs.Sets.{has_object}
+use Rattle.snapshot_file.specs.declared.snapshot.SnapshotFile.{SnapshotFile}
+use Rattle.manifest_file.specs.declared.manifest.ManifestFile.{ManifestFile}
+use Rattle.held_manifest.specs.Objects.{objects_of}
+use Rattle.object_store.specs.declared.keys.Key.{Key}
+use Rattle.object_store.specs.declared.keys.Key.TheVariants.{Snapshot, Manifest, Txn, Chunk, Branch, Tag, TagGone, Lease}
+use Rattle.object_store.specs.declared.keys.Part.{Part}
+use Rattle.object_store.specs.declared.keys.Part.TheVariants.{Snapshots, Manifests, Txns, Chunks, Branches, Tags}
+use Rattle.object_store.specs.declared.events.Entry.{Entry}
+use Rattle.object_store.specs.declared.events.Op.{Op}
+use Rattle.object_store.specs.declared.events.Op.TheVariants.{Get, List as ListPart}
+use Rattle.object_store.specs.declared.events.Reply.{Reply}
+use Rattle.store_api.specs.declared.machines.Refusal.{Refusal}
+use Rattle.store_api.specs.declared.machines.Refusal.TheVariants.{Missing, BadFile, TooDeep, StoreFault, NoMemory, CutoffAhead}
+use Rattle.store_api.specs.Program.{Done, Ask}
+use Rattle.store_api.specs.Running.{Program, on_answer}
+use Rattle.repo_read.specs.Answers.{snapshot_told, manifest_told}
+use Rattle.live_refs.specs.Live.{live}
+use Rattle.chunk_gc.specs.Lines.{Line, no_ids, enter_some, enter_rows, with_ids}
+use Rattle.chunk_gc.specs.Told.{first_told, listed_told, ref_got}
+
+-- What a marking holds: the snapshots and the manifests that are found, the objects with chunks, and the keys of what is doomed.
+pub record Work : Type 0 where
+  pub cutoff : ℕ
+  pub snapshots : Line
+  pub files : Line
+  pub chunks : List Id12
+  pub doomed : List Key
+
+abbrev pub no_work : ℕ → Work
+no_work cutoff = record { cutoff = cutoff; snapshots = no_ids; files = no_ids; chunks = []; doomed = [] }
+
+abbrev pub Answer : Type 0
+Answer = Program (List Key)
+
+-- one operation, and what follows with what its reply tells
+abbrev pub asks : {A : Type 0} → Op → (Reply → Result A Refusal) → (A → Answer) → Answer
+asks op told next = Ask op (λ reply. on_answer next (told reply))
+
+-- ---- refs
+abbrev pub with_ref : Option Id12 → Work → Work
+with_ref id w = record w { snapshots = enter_some id w.snapshots }
+
+-- gets each of these refs
+unfoldable pub get_refs : List Key → Work → (Work → Answer) → Answer
+get_refs [] w next = next w
+get_refs (key ∷ keys) w next = asks (Get key) (ref_got key) (λ id. get_refs keys (with_ref id w) next)
+
+-- ---- manifests
+abbrev pub with_file : ManifestFile → Work → Work
+with_file m w = record w { chunks = with_ids w.chunks (objects_of m) }
+
+abbrev pub leaving_files : List Id12 → Work → Work
+leaving_files ids w = record w { files = record { all = w.files.all; todo = ids } }
+
+-- gets each of these manifests
+unfoldable pub get_files : List Id12 → Work → (Work → Answer) → Answer
+get_files [] w next = next w
+get_files (id ∷ ids) w next = asks (Get (Manifest id)) (manifest_told id) (λ m. get_files ids (with_file m (leaving_files ids w)) next)
+
+-- ---- snapshots
+abbrev pub with_snapshot : SnapshotFile → Work → Work
+with_snapshot s w = record w { snapshots = enter_some s.parent w.snapshots; files = enter_rows s.nodes w.files }
+
+abbrev pub leaving_snapshots : List Id12 → Work → Work
+leaving_snapshots ids w = record w { snapshots = record { all = w.snapshots.all; todo = ids } }
+
+-- the manifests of a snapshot that was got, those that weren't got before
+abbrev pub mark_files : Work → (Work → Answer) → Answer
+mark_files w next = get_files w.files.todo w next
+
+-- The marking: no more than so many snapshots are got. `end` follows it.
+abbrev pub mark_last : Work → (Work → Answer) → List Id12 → Answer
+mark_last w end [] = end w
+mark_last w end (id ∷ ids) = Done (Err TooDeep)
+
+abbrev pub mark_next : Work → (Work → Answer) → (Work → Answer) → List Id12 → Answer
+mark_next w end again [] = end w
+mark_next w end again (id ∷ ids) = asks (Get (Snapshot id)) (snapshot_told id) (λ s. mark_files (with_snapshot s (leaving_snapshots ids w)) again)
+
+unfoldable pub mark : ℕ → Work → (Work → Answer) → Answer
+mark zero w end = mark_last w end w.snapshots.todo
+mark (suc left) w end = mark_next w end (λ v. mark left v end) w.snapshots.todo
+
+-- ---- what is doomed
+-- whether a key is marked, where these are found; what is no object is never removed
+abbrev pub is_kept : (snapshots files chunks : List Id12) → Key → Bool
+is_kept snapshots files chunks (Snapshot id) = same_id12 id initial_id || has_object snapshots id
+is_kept snapshots files chunks (Txn id) = same_id12 id initial_id || has_object snapshots id
+is_kept snapshots files chunks (Manifest id) = has_object files id
+is_kept snapshots files chunks (Chunk id) = has_object chunks id
+is_kept snapshots files chunks (Branch name) = true
+is_kept snapshots files chunks (Tag name) = true
+is_kept snapshots files chunks (TagGone name) = true
+is_kept snapshots files chunks (Lease id) = true
+
+abbrev pub keeps : Work → Key → Bool
+keeps w key = is_kept w.snapshots.all w.files.all w.chunks key
+
+abbrev pub dooms : Work → Entry → Bool
+dooms w entry = nat_lt entry.created w.cutoff && not (keeps w entry.key)
+
+abbrev pub with_key : Bool → Key → List Key → List Key
+with_key true key keys = key ∷ keys
+with_key false key keys = keys
+
+-- the keys of the entries that pass the test, in their order
+abbrev pub swept : (Entry → Bool) → List Entry → List Key
+swept test [] = []
+swept test (entry ∷ entries) = with_key (test entry) entry.key (swept test entries)
+
+abbrev pub sweeping : List Entry → Work → Work
+sweeping entries w = record w { doomed = w.doomed ++ swept (dooms w) entries }
+
+-- ---- listings of objects
+abbrev pub list_objects : Part → (Work → Answer) → Work → Answer
+list_objects part next w = asks (ListPart part) listed_told (λ l. next (sweeping l.entries w))
+
+abbrev pub told_doomed : Work → Answer
+told_doomed w = Done (Ok w.doomed)
+
+abbrev pub list_chunks : Work → Answer
+list_chunks w = list_objects Chunks told_doomed w
+
+abbrev pub list_manifests : Work → Answer
+list_manifests w = list_objects Manifests list_chunks w
+
+abbrev pub list_logs : Work → Answer
+list_logs w = list_objects Txns list_manifests w
+
+abbrev pub list_snapshots : Work → Answer
+list_snapshots w = list_objects Snapshots list_logs w
+
+-- ---- all of it
+abbrev pub marking : ℕ → Work → Answer
+marking left w = mark left w list_snapshots
+
+abbrev pub list_tags : ℕ → Work → Answer
+list_tags left w = asks (ListPart Tags) listed_told (λ l. get_refs (live l.entries) w (marking left))
+
+abbrev pub list_branches : ℕ → Work → Answer
+list_branches left w = asks (ListPart Branches) (first_told w.cutoff) (λ l. get_refs (live l.entries) w (list_tags left))
+
+-- Lists the branches and gets each, then the tags without a tombstone; marks what these reach, of which it gets so many snapshots at
+-- most; and lists the objects. It answers the keys of those that are older than the cutoff and not marked, in the order of the listings.
+abbrev pub mark_program : (most cutoff : ℕ) → Answer
+mark_program most cutoff = list_branches most (no_work cutoff)
+
+-- the refusals of a marking
+abbrev pub MayRefuseMark : Refusal → Type 0
+MayRefuseMark (CutoffAhead now) = Unit {0}
+MayRefuseMark (Missing key) = Unit {0}
+MayRefuseMark (BadFile key bad) = Unit {0}
+MayRefuseMark TooDeep = Unit {0}
+MayRefuseMark StoreFault = Unit {0}
+MayRefuseMark NoMemory = Unit {0}
+MayRefuseMark _ = ⊥

@@ -1,0 +1,2 @@
+//! What a collection marks and dooms, by what its operations were told.
+#![tactic(auto)]

@@ -1,0 +1,16 @@
+mod Steps
+mod Down
+mod Past
+mod Safe
+pub mod Walking
+pub mod Telling
+mod Moving
+pub mod Young
+mod Kept
+mod Settled
+mod Running
+mod Ending
+mod Found
+mod Anchors
+mod Given
+mod Example

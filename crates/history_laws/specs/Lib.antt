@@ -1,0 +1,3 @@
+pub mod Refs
+pub mod Collections
+pub mod Laws

@@ -1,0 +1,465 @@
+-- Each operation of a task that opens a session is the first one, or comes where the session has a base.
+use Rattle.std.proofs.Common.{◌≡◌, inl, inr, refl, sym, ◌∙◌, ap, subst, cond, Bool, true, false, ℕ, zero, suc, List, [], ◌∷◌, ◌++◌, append-nil, Option, None, Some, Result, Ok, Err}
+use Rattle.std.specs.Prelude.{IfOk}
+use Rattle.std.specs.Result.{result_ok}
+use Rattle.std.specs.FinMap.{get}
+use Rattle.ice_ids.specs.declared.Id8.{Id8}
+use Rattle.ice_ids.specs.declared.Id12.{Id12}
+use Rattle.ice_ids.specs.declared.drawing.AnyIds.{AnyIds}
+use Rattle.ice_ids.specs.Drawing.{drawn8}
+use Rattle.zarr_path.specs.declared.keys.ZarrKey.{ZarrKey}
+use Rattle.zarr_path.specs.declared.keys.ZarrKey.TheVariants as zarr
+use Rattle.zarr_path.specs.Keys.{key_of}
+use Rattle.zarr_meta.specs.declared.faults.MetaFault.{MetaFault}
+use Rattle.zarr_meta.specs.declared.views.View.{View}
+use Rattle.zarr_meta.specs.Meta.{meta_of}
+use Rattle.zarr_meta.specs.Plain.{group_text}
+use Rattle.zarr_tree.specs.Nodes.{Node}
+use Rattle.zarr_changes.specs.Sets.{add_refusal, text_refusal, drop_refusal, unset_refusal}
+use Rattle.snapshot_file.specs.declared.snapshot.SnapshotFile.{SnapshotFile}
+use Rattle.repo_objects.specs.declared.bad.Bad.{Bad}
+use Rattle.repo_objects.specs.Readings.{read_ref, read_snapshot, ref_of}
+use Rattle.conflicts.specs.declared.solving.Policy.{Policy}
+use Rattle.object_store.specs.declared.keys.Key.TheVariants.{Snapshot, Branch, Tag}
+use Rattle.object_store.specs.declared.events.Op.TheVariants.{Get}
+use Rattle.object_store.specs.declared.events.Got.TheVariants.{Found, Absent}
+use Rattle.object_store.specs.declared.events.Reply.{Reply}
+use Rattle.object_store.specs.declared.events.Reply.TheVariants.{Got as Is_got, New as Is_new, Over as Is_over, Gone as Is_gone, GoneAt as Is_gone_at, Listed as Is_listed, Failed}
+use Rattle.object_store.specs.declared.events.Event.{Event}
+use Rattle.object_store.specs.declared.events.Version.{Version}
+use Rattle.object_store.proofs.Journals.{Each-weaker}
+use Rattle.store_api.specs.declared.machines.Refusal.{Refusal}
+use Rattle.store_api.specs.declared.machines.Refusal.TheVariants.{Conflict, ReadOnly}
+use Rattle.store_api.specs.Callers.{Caller, IsOther, Makes}
+use Rattle.store_api.specs.Program.{Done, bind, Keeps, Leads}
+use Rattle.store_api.specs.Running.{Program, ◌>>=◌, on_answer}
+use Rattle.store_api.specs.Plays.{Play, PlayKeeps, call}
+use Rattle.store_api.proofs.Programs.{Leads-weaker}
+use Rattle.repo_read.specs.declared.answers.Resolved.{Resolved}
+use Rattle.repo_read.specs.declared.resolving.At.{At}
+use Rattle.repo_read.specs.declared.resolving.Named.{Named}
+use Rattle.repo_read.specs.Answers.{at_key, ref_told, resolved_at}
+use Rattle.repo_read.specs.Naming.{key_of as naming_of}
+use Rattle.repo_read.specs.Programs.{resolve_program}
+use Rattle.repo_read.specs.Resolving.{alone, tag_told, tombstone_told, tombstone_program, base_told, but_refused, no_ref}
+use Rattle.repo_read.proofs.Replies.{got-cases}
+use Rattle.session.specs.declared.origin.Tip.{Tip}
+use Rattle.session.specs.declared.origin.Origin.{Origin}
+use Rattle.session.specs.declared.origin.Origin.TheVariants.{Writes, ReadsBranch, ReadsTag, ReadsId}
+use Rattle.session.specs.Sessions.{SessionState, branch_of, nodes_seen, origin_at, tip_at, tip_branch, tip_in, writes, writes_in}
+use Rattle.session.specs.Opening.{Asked, of_branch, origin_for, begun, base_program, open_program}
+use Rattle.session.specs.Chunks.{set_program, get_program, chunk_unset}
+use Rattle.session.specs.Editing.{group_fault, array_fault, node_fault, added, group_added, array_added, node_added, meta_set, node_dropped, drawn_node}
+use Rattle.zarr_keys.specs.Keys.{meta_put, put_over, erased_at, key_erased, session_of}
+use Rattle.commit_path.specs.declared.commit.Tried.{Tried}
+use Rattle.commit_path.specs.declared.commit.Tried.TheVariants.{Done as Was_done, Lost}
+use Rattle.commit_path.specs.Committing.{commit_program}
+use Rattle.rebase.specs.declared.machine.Rebased.{Rebased}
+use Rattle.rebase.specs.declared.machine.Rebased.TheVariants.{Moved, UpToDate}
+use Rattle.rebase.specs.Rebasing.{after_ref, rebase_program}
+use Rattle.play_script.specs.declared.scripts.Access.{Access}
+use Rattle.play_script.specs.declared.scripts.Call.{Call}
+use Rattle.play_script.specs.declared.scripts.Call.TheVariants as call
+use Rattle.play_script.specs.declared.scripts.EditCall.{EditCall}
+use Rattle.play_script.specs.declared.scripts.EditCall.TheVariants as edit
+use Rattle.play_script.specs.declared.scripts.Line.{Line}
+use Rattle.play_script.specs.declared.scripts.ReadCall.{ReadCall}
+use Rattle.play_script.specs.declared.scripts.ReadCall.TheVariants as read
+use Rattle.play_outcome.specs.declared.outcome.Outcome.{Outcome}
+use Rattle.play_outcome.specs.declared.outcome.Shown.{Shown}
+use Rattle.play_outcome.specs.Playing.{refused}
+use Rattle.play_tasks.specs.Lines.{Deed, Goes, Sets, Reads, Commits, deed, edit_deed, read_deed, key_set_deed, key_get_deed, read_by, silent, still}
+use Rattle.play_tasks.specs.Playing.{after_commit, after_line, after_open, after_rebase, asked_by, commit_play, play_deed, play_lines, policy_of, session_play, shown_by, tries_of}
+use Rattle.play_tasks.specs.Bases.{HasAsked, IsAskedFor, NamesBase, naming_key}
+use Rattle.play_tasks.proofs.Ready.{by_writes, by_text, by_edit}
+use Rattle.play_tasks.proofs.Within.{Within, WithinOk, Still, IsSame, IsOnHead, set-within, get-within, commit-within, ref-within}
+use Rattle.play_tasks.proofs.Based.{GoesOn, Opens, Settled, Rebasing, alone-none, climb-keeps, climb-leads, opens-call, own-now, rebase-begins, rebasing-makes, settled-has, settled-now, still-call, still-keeps, still-leads}
+
+-- ---- lines leave a session's base
+abbrev Leaves : SessionState → Result SessionState Refusal → Type 0
+Leaves s r = IfOk r (IsSame s)
+
+same : (s : SessionState) → IsSame s s
+same s = record { base = refl; origin = refl }
+
+drawn-leaves : (s : SessionState) (path text : List ℕ) (id : Option Id8) → IfOk (drawn_node s path text id) (λ a. IsSame s a.1)
+drawn-leaves s path text None = tt
+drawn-leaves s path text (Some id) = record { base = refl; origin = refl }
+
+added-leaves : (fault : Result View MetaFault → Option MetaFault) (s : SessionState) (path text : List ℕ) → IfOk (added fault s path text) (λ a. IsSame s a.1)
+unfolding added
+added-leaves fault s path text = by_writes _ (writes s) _ (by_text _ (fault (meta_of text)) _ (by_edit _ (add_refusal (nodes_seen s) path) _ (drawn-leaves s path text (drawn8 s.ids))))
+
+text-leaves : (s : SessionState) (path text : List ℕ) → Leaves s (meta_set s path text)
+unfolding meta_set
+text-leaves s path text = by_writes _ (writes s) _ (by_text _ (node_fault (meta_of text)) _ (by_edit _ (text_refusal (nodes_seen s) path text) _ (record { base = refl; origin = refl })))
+
+drop-leaves : (s : SessionState) (path : List ℕ) → Leaves s (node_dropped s path)
+unfolding node_dropped
+drop-leaves s path = by_writes _ (writes s) _ (by_edit _ (drop_refusal (nodes_seen s) path) _ (record { base = refl; origin = refl }))
+
+unset-leaves : (s : SessionState) (path index : List ℕ) → Leaves s (chunk_unset s path index)
+unfolding chunk_unset
+unset-leaves s path index = by_writes _ (writes s) _ (by_edit _ (unset_refusal (nodes_seen s) path index) _ (record { base = refl; origin = refl }))
+
+node-leaves : (s : SessionState) (r : Result (Id8 × SessionState) Refusal) → IfOk r (λ a. IsSame s a.1) → Leaves s (session_of r)
+node-leaves s (Ok a) l = l
+node-leaves s (Err why) l = tt
+
+put-leaves : (o : Option Node) (s : SessionState) (path text : List ℕ) → Leaves s (put_over o s path text)
+put-leaves (Some node) s path text = text-leaves s path text
+put-leaves None s path text = node-leaves s (node_added s path text) (added-leaves node_fault s path text)
+
+erase-leaves : (o : Option ZarrKey) (s : SessionState) → Leaves s (erased_at s o)
+erase-leaves None s = tt
+erase-leaves (Some (zarr.Meta path)) s = drop-leaves s path
+erase-leaves (Some (zarr.Chunk path index)) s = unset-leaves s path index
+
+key-erase-leaves : (key : List ℕ) (s : SessionState) → Leaves s (key_erased s key)
+unfolding key_erased
+key-erase-leaves key s = erase-leaves (key_of key) s
+
+-- what a deed goes to
+abbrev GoesSame : SessionState → Deed → Type 0
+GoesSame s (Goes r) = IfOk r (λ went. IsSame s went.1)
+GoesSame s (Sets path index bytes) = Unit {0}
+GoesSame s (Reads path index show) = Unit {0}
+GoesSame s (Commits message) = Unit {0}
+
+silent-same : (s : SessionState) (r : Result SessionState Refusal) → Leaves s r → IfOk (silent r) (λ went. IsSame s went.1)
+silent-same s (Ok t) l = l
+silent-same s (Err why) l = tt
+
+still-same : (s : SessionState) (r : Result (List Shown) Refusal) → IfOk (still s r) (λ went. IsSame s went.1)
+still-same s (Ok shown) = same s
+still-same s (Err why) = tt
+
+key-set-same : (s : SessionState) (bytes : List ℕ) (o : Option ZarrKey) → GoesSame s (key_set_deed bytes o s)
+key-set-same s bytes None = tt
+key-set-same s bytes (Some (zarr.Meta path)) = silent-same s (meta_put s path bytes) (put-leaves (get (nodes_seen s) path) s path bytes)
+key-set-same s bytes (Some (zarr.Chunk path index)) = tt
+
+key-get-same : (line : ℕ) (s : SessionState) (o : Option ZarrKey) → GoesSame s (key_get_deed line o s)
+key-get-same line s None = tt
+key-get-same line s (Some (zarr.Meta path)) = same s
+key-get-same line s (Some (zarr.Chunk path index)) = tt
+
+edit-same : (s : SessionState) (x : EditCall) → GoesSame s (edit_deed x s)
+edit-same s (edit.Group path) = silent-same s (session_of (group_added s path group_text)) (node-leaves s (group_added s path group_text) (added-leaves group_fault s path group_text))
+edit-same s (edit.Array path text) = silent-same s (session_of (array_added s path text)) (node-leaves s (array_added s path text) (added-leaves array_fault s path text))
+edit-same s (edit.Make path text) = silent-same s (session_of (node_added s path text)) (node-leaves s (node_added s path text) (added-leaves node_fault s path text))
+edit-same s (edit.Meta path text) = silent-same s (meta_set s path text) (text-leaves s path text)
+edit-same s (edit.Drop path) = silent-same s (node_dropped s path) (drop-leaves s path)
+edit-same s (edit.Unset path index) = silent-same s (chunk_unset s path index) (unset-leaves s path index)
+edit-same s (edit.KeyErase key) = silent-same s (key_erased s key) (key-erase-leaves key s)
+edit-same s (edit.Set path index bytes) = tt
+edit-same s (edit.Fill path index byte) = tt
+edit-same s (edit.KeySet key bytes) = key-set-same s bytes (key_of key)
+
+read-same : (line : ℕ) (s : SessionState) (x : ReadCall) → GoesSame s (read_deed line x s)
+read-same line s (read.List path) = still-same s (read_by line (read.List path) s)
+read-same line s (read.Get path) = still-same s (read_by line (read.Get path) s)
+read-same line s (read.Chunk path index) = tt
+read-same line s (read.KeyGet key) = key-get-same line s (key_of key)
+
+deed-same : (line : ℕ) (s : SessionState) (x : Call) → GoesSame s (deed line x s)
+deed-same line s (call.Edit change) = edit-same s change
+deed-same line s (call.Read look) = read-same line s look
+deed-same line s (call.Commit message) = tt
+deed-same line s (call.Ref own) = same s
+
+-- ---- what was asked for
+-- the same branch at another version
+asked-again : (at : At) (w : Bool) (tip next : Tip) (base other : Id12) → next.branch ≡ tip.branch → IsAskedFor at w (Writes tip) base → IsAskedFor at w (Writes next) other
+asked-again (At.Branch branch) true tip next base other same_branch x = let is : tip ≡ x.0 = cc in (next, same_branch ∙ ap (λ (t : Tip). t.branch) is ∙ x.1, refl)
+asked-again (At.Branch branch) false tip next base other same_branch x = let no = x.2 in absurd (cc)
+asked-again (At.Tag tag) w tip next base other same_branch x = absurd (cc)
+asked-again (At.Snapshot id) w tip next base other same_branch x = let no = x.0 in absurd (cc)
+
+writes-tip : (o : Origin) → writes_in o ≡ true → (tip : Tip) × (o ≡ Writes tip)
+writes-tip (Writes tip) e = (tip, refl)
+writes-tip (ReadsBranch tip) e = absurd (cc)
+writes-tip (ReadsTag tag) e = absurd (cc)
+writes-tip ReadsId e = absurd (cc)
+
+-- a branch names its session's base under its own key
+branch-key : (w : Bool) (tip : Tip) (base : Id12) → Branch tip.branch ≡ naming_key (of_branch w tip) base
+branch-key true tip base = refl
+branch-key false tip base = refl
+
+branch-names : (w : Bool) (branch bytes : List ℕ) (version : Version) (base : Id12) → ref_of bytes ≡ Some base → NamesBase (of_branch w (record { branch = branch; version = version })) base bytes version.0
+branch-names true branch bytes version base e = (e, refl)
+branch-names false branch bytes version base e = (e, refl)
+
+module _ (by : Caller) (a : Asked) (start : List Event) where
+  abbrev Base : SessionState → List Event → Type 0
+  Base s h = Settled by a start s.base s.origin h
+
+  abbrev OpensAll : Play Outcome → List Event → Type 0
+  OpensAll p h = PlayKeeps (Opens by a start) by p h
+
+  settled-as : (s : SessionState) (base : Id12) (origin : Origin) (h : List Event) → s.base ≡ base → s.origin ≡ origin → Settled by a start base origin h → Base s h
+  settled-as s base origin h e f x = subst (λ (b : Id12). Settled by a start b s.origin h) (sym e) (subst (λ (o : Origin). Settled by a start base o h) (sym f) x)
+
+  settled-same : (s t : SessionState) (h : List Event) → IsSame s t → Base s h → Base t h
+  settled-same s t h i x = settled-as t s.base s.origin h i.base i.origin x
+
+  refused-opens : (line : ℕ) (shown : List Shown) (why : Refusal) (h : List Event) → OpensAll (refused line shown why) h
+  unfolding PlayKeeps
+  refused-opens line shown why h = tt
+
+  -- ---- a rebase
+  abbrev OnHead : Rebased → List Event → Type 0
+  OnHead (Moved t count) h = Base t h
+  OnHead (UpToDate t) h = Base t h
+
+  module _ (policy : Policy) (s : SessionState) (tip : Tip) (is : s.origin ≡ Writes tip) where
+    abbrev rest : Reply → Program Rebased
+    rest reply = on_answer (after_ref policy s) (ref_told tip.branch reply)
+
+    abbrev Goes_on : Program Rebased → List Event → Type 0
+    Goes_on p h = Keeps (Opens by a start) by p h × Leads (λ r j. IfOk r (λ x. OnHead x j)) by p h
+
+    ends-there : (why : Refusal) (h : List Event) → Goes_on (Done (Err why)) h
+    unfolding Keeps Leads
+    ends-there why h = (tt, tt)
+
+    on-head : (named : Resolved) (r : Result Rebased Refusal) (h : List Event) → IfOk r (IsOnHead s named) × Settled by a start named.id (Writes (tip_at named.version.0 tip)) h → IfOk r (λ x. OnHead x h)
+    on-head named (Ok (Moved t count)) h q = settled-as t named.id (Writes (tip_at named.version.0 tip)) h q.0.0 (q.0.1 ∙ ap (origin_at named.version.0) is) q.1
+    on-head named (Ok (UpToDate t)) h q = settled-as t named.id (Writes (tip_at named.version.0 tip)) h q.0.0 (q.0.1 ∙ ap (origin_at named.version.0) is) q.1
+    on-head named (Err why) h q = tt
+
+    named-goes : (bytes : List ℕ) (version : Version) (now : ℕ) (h new : List Event) → Base s h → Makes by (Get (Branch tip.branch)) (Is_got (Found bytes version now)) h new → (r : Result Id12 Bad) → read_ref bytes ≡ r
+        → Goes_on (on_answer (after_ref policy s) (resolved_at version (at_key (Branch tip.branch) r))) new
+    named-goes bytes version now h new x m (Err bad) e = ends-there _ new
+    named-goes bytes version now h new x m (Ok id) e =
+        let named : Resolved = record { id = id; version = version } in
+        let next : Tip = tip_at version.0 tip in
+        let within = ref-within policy s named in
+        let old : IsAskedFor a.at a.writes (Writes tip) s.base = subst (λ (o : Origin). IsAskedFor a.at a.writes o s.base) is x.of_asked in
+        let rebasing : Rebasing by a start s.base s.origin new = rebasing-makes by a start s.base s.origin (Get (Branch tip.branch)) (Is_got (Found bytes version now)) h new m tt (rebase-begins by a start s.base s.origin h x) in
+        let settled : Settled by a start id (Writes next) new = settled-now by a start id (Writes next) (Branch tip.branch) bytes version now h new m refl (ap result_ok e, refl) (asked-again a.at a.writes tip next s.base id refl old) x.goes rebasing.asked in (
+          climb-keeps by a start (λ r. IfOk r (IsOnHead s named)) s.base s.origin (after_ref policy s named) new within rebasing,
+          Leads-weaker (λ r j. IfOk r (IsOnHead s named) × Settled by a start id (Writes next) j) (λ r j. IfOk r (λ y. OnHead y j)) (λ r j q. on-head named r j q) by (after_ref policy s named) new
+              (climb-leads by a start (λ r. IfOk r (IsOnHead s named)) id (Writes next) (after_ref policy s named) new within settled),
+        )
+
+    ref-goes : (h : List Event) → Base s h → (reply : Reply) (new : List Event) → Makes by (Get (Branch tip.branch)) reply h new → Goes_on (rest reply) new
+    ref-goes h x reply new m =
+        got-cases by h new (λ r. Goes_on (rest r) new) (Branch tip.branch)
+        (λ bytes version now n. named-goes bytes version now h new x n (read_ref bytes) refl) (λ now n. ends-there _ new) (λ done n. ends-there _ new) reply m
+
+    program-goes : (h : List Event) → Base s h → Goes_on (resolve_program tip.branch >>= after_ref policy s) h
+    unfolding Keeps Leads
+    program-goes h x = ((inr (settled-has by a start s.base s.origin h x), λ reply new m. (ref-goes h x reply new m).0), λ reply new m. (ref-goes h x reply new m).1)
+
+  rebased-opens : (line : ℕ) (shown : List Shown) (again : SessionState → Play Outcome) → ((u : SessionState) (h : List Event) → Base u h → OpensAll (again u) h) → (x : Rebased) (h : List Event) → OnHead x h → OpensAll (after_rebase line shown again (Ok x)) h
+  unfolding PlayKeeps
+  rebased-opens line shown again go (Moved t count) h q = (go t h q, tt)
+  rebased-opens line shown again go (UpToDate t) h q = (go t h q, tt)
+
+  rebase-opens : (policy : Policy) (line : ℕ) (shown : List Shown) (again : SessionState → Play Outcome) → ((u : SessionState) (h : List Event) → Base u h → OpensAll (again u) h) → (s : SessionState) (h : List Event) → Base s h → OpensAll (call (rebase_program policy s) (after_rebase line shown again)) h
+  unfolding rebase_program
+  rebase-opens policy line shown again go s h x = by_writing (writes s) refl
+    where
+      by_writing : (b : Bool) → writes s ≡ b → OpensAll (call (cond b (resolve_program (branch_of s) >>= after_ref policy s) (Done (Err ReadOnly))) (after_rebase line shown again)) h
+      by_writing false e = refused-opens line shown ReadOnly h
+      by_writing true e =
+          let tip = writes-tip s.origin e in
+          let branch : tip.0.branch ≡ branch_of s = ap (λ (o : Origin). tip_branch (tip_in o)) (sym tip.1) in
+          subst (λ (b : List ℕ). OpensAll (call (resolve_program b >>= after_ref policy s) (after_rebase line shown again)) h) branch
+          (let goes = program-goes policy s tip.0 tip.1 h x in
+          opens-call by a start (resolve_program tip.0.branch >>= after_ref policy s) (after_rebase line shown again) OnHead h goes.0 goes.1 (λ y j q. rebased-opens line shown again go y j q) (λ why j. refused-opens line shown why j))
+
+  -- ---- a commit
+  tried-opens : (line : ℕ) (shown : List Shown) (lost : Version → Option Version → AnyIds → Play Outcome) (h : List Event) → ((old : Version) (there : Option Version) (next : AnyIds) → OpensAll (lost old there next) h) → (t : Tried) → OpensAll (after_commit line shown lost (Ok t)) h
+  unfolding PlayKeeps
+  tried-opens line shown lost h go (Was_done made) = tt
+  tried-opens line shown lost h go (Lost old there next) = go old there next
+
+  -- one commit of the session, and what follows where it was lost
+  once-opens : (line : ℕ) (shown : List Shown) (message : List ℕ) (s : SessionState) (lost : Version → Option Version → AnyIds → Play Outcome) (h : List Event) → Base s h
+      → ((old : Version) (there : Option Version) (next : AnyIds) (j : List Event) → Base s j → OpensAll (lost old there next) j) → OpensAll (call (commit_program s message) (after_commit line shown lost)) h
+  once-opens line shown message s lost h x go =
+      still-call by a start (commit_program s message) (after_commit line shown lost) (λ t. Unit {0}) s.base s.origin h (commit-within s message) x
+      (λ t j q y. tried-opens line shown lost j (λ old there next. go old there next j y) t) (λ why j. refused-opens line shown why j)
+
+  commit-opens : (tries : ℕ) (policy : Policy) (line : ℕ) (shown : List Shown) (message : List ℕ) (s : SessionState) (h : List Event) → Base s h → OpensAll (commit_play tries policy line shown message s) h
+  unfolding commit_play
+  commit-opens zero policy line shown message s h x =
+      once-opens line shown message s (λ old there next. refused line shown (Conflict old there)) h x (λ old there next j y. refused-opens line shown (Conflict old there) j)
+  commit-opens (suc tries) policy line shown message s h x =
+      once-opens line shown message s (λ old there next. call (rebase_program policy (record s { ids = next })) (after_rebase line shown (commit_play tries policy line shown message))) h x
+      (λ old there next j y. rebase-opens policy line shown (commit_play tries policy line shown message) (λ u k z. commit-opens tries policy line shown message u k z) (record s { ids = next }) j (settled-same s (record s { ids = next }) j (record { base = refl; origin = refl }) y))
+
+  -- ---- lines
+  module _ (access : Access) where
+    -- whatever follows a line
+    abbrev GoOn : (SessionState → List Shown → Play Outcome) → Type 0
+    GoOn rest = (t : SessionState) (shown : List Shown) (h : List Event) → Base t h → OpensAll (rest t shown) h
+
+    deed-opens : (line : ℕ) (shown : List Shown) (s : SessionState) (rest : SessionState → List Shown → Play Outcome) (h : List Event) → Base s h → GoOn rest → (d : Deed) → GoesSame s d → OpensAll (play_deed access line shown s d rest) h
+    deed-opens line shown s rest h x go (Goes (Ok went)) leaves = go went.1 (shown ++ went.0) h (settled-same s went.1 h leaves x)
+    deed-opens line shown s rest h x go (Goes (Err why)) leaves = refused-opens line shown why h
+    deed-opens line shown s rest h x go (Sets path index bytes) leaves =
+        still-call by a start (set_program s path index bytes) (λ answer. after_line line shown (silent answer) rest) (IsSame s) s.base s.origin h (set-within s path index bytes) x
+        (λ t j i y. go t (shown ++ []) j (settled-same s t j i y)) (λ why j. refused-opens line shown why j)
+    deed-opens line shown s rest h x go (Reads path index show) leaves =
+        still-call by a start (get_program s path index) (λ answer. after_line line shown (shown_by s show answer) rest) (λ v. Unit {0}) s.base s.origin h (get-within s path index) x
+        (λ v j q y. go s (shown ++ show v ∷ []) j y) (λ why j. refused-opens line shown why j)
+    deed-opens line shown s rest h x go (Commits message) leaves = commit-opens (tries_of access) (policy_of access) line shown message s h x
+
+    lines-open : (ls : List Line) (s : SessionState) (shown : List Shown) (h : List Event) → Base s h → OpensAll (play_lines access ls s shown) h
+    unfolding PlayKeeps play_lines
+    lines-open [] s shown h x = tt
+    lines-open (l ∷ ls) s shown h x =
+        (deed-opens l.number shown s (play_lines access ls) h x (λ t more j y. lines-open ls t more j y) (deed l.number l.call s) (deed-same l.number s l.call), tt)
+
+-- ---- the opening
+module _ (by : Caller) (start : List Event) (at : At) (w : Bool) (ids : AnyIds) where
+  abbrev asks : Asked
+  asks = record { at = at; writes = w; ids = ids }
+
+  -- what is asked for is got first
+  asked-now : (reply : Reply) (new : List Event) → Makes by (Get (naming_of at)) reply start new → HasAsked by.number at start new
+  asked-now reply new m = record {
+    reply = reply;
+    own = own-now by start (Get (naming_of at)) reply start new m (record { more = []; is = sym (append-nil start) });
+    first = record {
+      more = m.waits.between;
+      is = m.waits.is;
+      each = Each-weaker (IsOther by) (λ before event. event.client ≡ by.number → ⊥) (λ h e o k. absurd (o.other k)) start m.waits.between m.waits.others;
+    };
+  }
+
+  -- what follows the first operation, or what the opening answers
+  abbrev Follows : Program SessionState → List Event → Type 0
+  Follows p h = Keeps (Opens by asks start) by p h × Leads (λ r j. IfOk r (λ s. Base by asks start s j)) by p h
+
+  abbrev Begins : (base : Id12) → Origin → SessionState → Type 0
+  Begins base origin s = (s.base ≡ base) × (s.origin ≡ origin)
+
+  refused-follows : (why : Refusal) (h : List Event) → Follows (Done (Err why)) h
+  unfolding Keeps Leads
+  refused-follows why h = (tt, tt)
+
+  settled-follows : (base : Id12) (origin : Origin) (p : Program SessionState) (h : List Event) → WithinOk Still (Begins base origin) p → Settled by asks start base origin h → Follows p h
+  settled-follows base origin p h within x = (
+    still-keeps by asks start (λ r. IfOk r (Begins base origin)) base origin p h within x,
+    Leads-weaker (λ r j. IfOk r (Begins base origin) × Settled by asks start base origin j) (λ r j. IfOk r (λ s. Base by asks start s j)) begins by p h (still-leads by asks start (λ r. IfOk r (Begins base origin)) base origin p h within x),
+  )
+    where
+      begins : (r : Result SessionState Refusal) (j : List Event) → IfOk r (Begins base origin) × Settled by asks start base origin j → IfOk r (λ s. Base by asks start s j)
+      begins (Ok s) j q = settled-as by asks start s base origin j q.0.0 q.0.1 q.1
+      begins (Err why) j q = tt
+
+  -- the get of the snapshot that was named
+  base-told : (named : Named) (r : Result SnapshotFile Refusal) → WithinOk Still (Begins named.id (origin_for asks named)) (on_answer (λ (snap : SnapshotFile). Done (Ok (begun asks named snap))) r)
+  unfolding Within
+  base-told named (Ok snap) = (refl, refl)
+  base-told named (Err why) = tt
+
+  base-within : (named : Named) → WithinOk Still (Begins named.id (origin_for asks named)) (base_program asks named)
+  unfolding Within
+  base-within named = (λ g. cc, λ reply. base-told named (base_told at named.id reply))
+
+  goes-first : GoesOn start start
+  goes-first = record { more = []; is = sym (append-nil start) }
+
+-- a branch
+module _ (by : Caller) (start : List Event) (branch : List ℕ) (w : Bool) (ids : AnyIds) where
+  branch-named : (bytes : List ℕ) (version : Version) (now : ℕ) (new : List Event) → Makes by (Get (Branch branch)) (Is_got (Found bytes version now)) start new → (r : Result Id12 Bad) → read_ref bytes ≡ r
+      → Follows by start (At.Branch branch) w ids (bind (on_answer (λ (read : Resolved). Done (Ok (record { id = read.id; version = Some read.version }))) (resolved_at version (at_key (Branch branch) r))) (on_answer (base_program (asks by start (At.Branch branch) w ids)))) new
+  branch-named bytes version now new m (Err bad) e = refused-follows by start (At.Branch branch) w ids _ new
+  branch-named bytes version now new m (Ok id) e =
+      let at : At = At.Branch branch in
+      let tip : Tip = record { branch = branch; version = version } in
+      let named : Named = record { id = id; version = Some version } in
+      settled-follows by start at w ids id (of_branch w tip) (base_program (asks by start at w ids) named) new (base-within by start at w ids named)
+      (settled-now by (asks by start at w ids) start id (of_branch w tip) (Branch branch) bytes version now start new m (branch-key w tip id) (branch-names w branch bytes version id (ap result_ok e)) (tip, refl, refl) (goes-first by start at w ids)
+      (asked-now by start at w ids (Is_got (Found bytes version now)) new m))
+
+  branch-follows : (reply : Reply) (new : List Event) → Makes by (Get (Branch branch)) reply start new
+      → Follows by start (At.Branch branch) w ids (bind (on_answer (λ (read : Resolved). Done (Ok (record { id = read.id; version = Some read.version }))) (ref_told branch reply)) (on_answer (base_program (asks by start (At.Branch branch) w ids)))) new
+  branch-follows reply new m =
+      got-cases by start new (λ r. Follows by start (At.Branch branch) w ids (bind (on_answer (λ (read : Resolved). Done (Ok (record { id = read.id; version = Some read.version }))) (ref_told branch r)) (on_answer (base_program (asks by start (At.Branch branch) w ids)))) new) (Branch branch)
+      (λ bytes version now n. branch-named bytes version now new n (read_ref bytes) refl) (λ now n. refused-follows by start (At.Branch branch) w ids _ new) (λ done n. refused-follows by start (At.Branch branch) w ids _ new) reply m
+
+-- a tag
+module _ (by : Caller) (start : List Event) (tag : List ℕ) (w : Bool) (ids : AnyIds) where
+  abbrev of_tag : Asked
+  of_tag = asks by start (At.Tag tag) w ids
+
+  alone-within : (id : Id12) (r : Result Id12 Refusal) → IfOk r (λ x. x ≡ id) → WithinOk Still (Begins by start (At.Tag tag) w ids id (ReadsTag tag)) (bind (on_answer (λ (x : Id12). Done (Ok (alone x))) r) (on_answer (base_program of_tag)))
+  unfolding Within
+  alone-within id (Ok x) e = subst (λ (y : Id12). WithinOk Still (Begins by start (At.Tag tag) w ids y (ReadsTag tag)) (base_program of_tag (alone x))) e (base-within by start (At.Tag tag) w ids (alone x))
+  alone-within id (Err why) e = tt
+
+  tombstone-id : (id : Id12) (reply : Reply) → IfOk (tombstone_told id reply) (λ x. x ≡ id)
+  tombstone-id id (Is_got (Found bytes version now)) = tt
+  tombstone-id id (Is_got (Absent now)) = refl
+  tombstone-id id (Is_new x) = tt
+  tombstone-id id (Is_over x) = tt
+  tombstone-id id (Is_gone x) = tt
+  tombstone-id id (Is_gone_at x) = tt
+  tombstone-id id (Is_listed x) = tt
+  tombstone-id id (Failed done) = tt
+
+  tombstone-within : (id : Id12) → WithinOk Still (Begins by start (At.Tag tag) w ids id (ReadsTag tag)) (bind (tombstone_program tag id >>= (λ (x : Id12). Done (Ok (alone x)))) (on_answer (base_program of_tag)))
+  unfolding Within
+  tombstone-within id = (λ g. cc, λ reply. alone-within id (tombstone_told id reply) (tombstone-id id reply))
+
+  tag-named : (bytes : List ℕ) (version : Version) (now : ℕ) (new : List Event) → Makes by (Get (Tag tag)) (Is_got (Found bytes version now)) start new → (r : Result Id12 Bad) → read_ref bytes ≡ r
+      → Follows by start (At.Tag tag) w ids (bind (on_answer (λ (x : Id12). tombstone_program tag x >>= (λ (y : Id12). Done (Ok (alone y)))) (at_key (Tag tag) r)) (on_answer (base_program of_tag))) new
+  tag-named bytes version now new m (Err bad) e = refused-follows by start (At.Tag tag) w ids _ new
+  tag-named bytes version now new m (Ok id) e =
+      settled-follows by start (At.Tag tag) w ids id (ReadsTag tag) _ new (tombstone-within id)
+      (settled-now by of_tag start id (ReadsTag tag) (Tag tag) bytes version now start new m refl (ap result_ok e) refl (goes-first by start (At.Tag tag) w ids) (asked-now by start (At.Tag tag) w ids (Is_got (Found bytes version now)) new m))
+
+  tag-follows : (reply : Reply) (new : List Event) → Makes by (Get (Tag tag)) reply start new
+      → Follows by start (At.Tag tag) w ids (bind (on_answer (λ (x : Id12). tombstone_program tag x >>= (λ (y : Id12). Done (Ok (alone y)))) (tag_told tag reply)) (on_answer (base_program of_tag))) new
+  tag-follows reply new m =
+      got-cases by start new (λ r. Follows by start (At.Tag tag) w ids (bind (on_answer (λ (x : Id12). tombstone_program tag x >>= (λ (y : Id12). Done (Ok (alone y)))) (tag_told tag r)) (on_answer (base_program of_tag))) new) (Tag tag)
+      (λ bytes version now n. tag-named bytes version now new n (read_ref bytes) refl) (λ now n. refused-follows by start (At.Tag tag) w ids _ new) (λ done n. refused-follows by start (At.Tag tag) w ids _ new) reply m
+
+-- a snapshot's own id
+module _ (by : Caller) (start : List Event) (id : Id12) (w : Bool) (ids : AnyIds) where
+  abbrev of_id : Asked
+  of_id = asks by start (At.Snapshot id) w ids
+
+  id-read : (bytes : List ℕ) (version : Version) (now : ℕ) (new : List Event) → Makes by (Get (Snapshot id)) (Is_got (Found bytes version now)) start new → (r : Result SnapshotFile Bad) → read_snapshot id bytes ≡ r
+      → Follows by start (At.Snapshot id) w ids (on_answer (λ (snap : SnapshotFile). Done (Ok (begun of_id (alone id) snap))) (but_refused no_ref (at_key (Snapshot id) r))) new
+  id-read bytes version now new m (Err bad) e = refused-follows by start (At.Snapshot id) w ids _ new
+  id-read bytes version now new m (Ok snap) e =
+      settled-follows by start (At.Snapshot id) w ids id ReadsId (Done (Ok (begun of_id (alone id) snap))) new (base-told by start (At.Snapshot id) w ids (alone id) (Ok snap))
+      (settled-now by of_id start id ReadsId (Snapshot id) bytes version now start new m refl (snap, ap result_ok e) (refl, refl) (goes-first by start (At.Snapshot id) w ids) (asked-now by start (At.Snapshot id) w ids (Is_got (Found bytes version now)) new m))
+
+  id-follows : (reply : Reply) (new : List Event) → Makes by (Get (Snapshot id)) reply start new
+      → Follows by start (At.Snapshot id) w ids (on_answer (λ (snap : SnapshotFile). Done (Ok (begun of_id (alone id) snap))) (base_told (At.Snapshot id) id reply)) new
+  id-follows reply new m =
+      got-cases by start new (λ r. Follows by start (At.Snapshot id) w ids (on_answer (λ (snap : SnapshotFile). Done (Ok (begun of_id (alone id) snap))) (base_told (At.Snapshot id) id r)) new) (Snapshot id)
+      (λ bytes version now n. id-read bytes version now new n (read_snapshot id bytes) refl) (λ now n. refused-follows by start (At.Snapshot id) w ids _ new) (λ done n. refused-follows by start (At.Snapshot id) w ids _ new) reply m
+
+-- what was asked for
+opening-follows : (by : Caller) (start : List Event) (at : At) (w : Bool) (ids : AnyIds) → Follows by start at w ids (open_program (asks by start at w ids)) start
+unfolding Keeps Leads
+opening-follows by start (At.Branch branch) w ids =
+    let first = alone-none (λ op. ⊥) by.number start in
+    ((inl (first, refl), λ reply new m. (branch-follows by start branch w ids reply new m).0), λ reply new m. (branch-follows by start branch w ids reply new m).1)
+opening-follows by start (At.Tag tag) w ids =
+    let first = alone-none (λ op. ⊥) by.number start in
+    ((inl (first, refl), λ reply new m. (tag-follows by start tag w ids reply new m).0), λ reply new m. (tag-follows by start tag w ids reply new m).1)
+opening-follows by start (At.Snapshot id) w ids =
+    let first = alone-none (λ op. ⊥) by.number start in
+    ((inl (first, refl), λ reply new m. (id-follows by start id w ids reply new m).0), λ reply new m. (id-follows by start id w ids reply new m).1)
+
+-- ---- a task that opens a session
+asked-follows : (by : Caller) (start : List Event) (a : Asked) → Keeps (Opens by a start) by (open_program a) start × Leads (λ r h. IfOk r (λ s. Base by a start s h)) by (open_program a) start
+asked-follows by start a = opening-follows by start a.at a.writes a.ids
+
+pub session-opens : (by : Caller) (ids : AnyIds) (access : Access) (line : ℕ) (body : List Line) (start : List Event) → PlayKeeps (Opens by (asked_by access ids) start) by (session_play ids access line body) start
+session-opens by ids access line body start =
+    let a : Asked = asked_by access ids in
+    let opening = asked-follows by start a in
+    opens-call by a start (open_program a) (after_open access line body) (λ s h. Base by a start s h) start opening.0 opening.1
+    (λ s h x. lines-open by a start access body s [] h x) (λ why h. refused-opens by a start line [] why h)

@@ -1,0 +1,9 @@
+pub mod BoxLaws
+pub mod ElementLaws
+pub mod PartLaws
+pub mod RowLaws
+pub mod WriteLaws
+pub mod WalkLaws
+pub mod ReadLaws
+pub mod NumberLaws
+pub mod FillLaws

@@ -1,0 +1,230 @@
+-- The commits of a run, and what its tasks showed, in words of trees.
+use Rattle.std.proofs.Common.{◌≡◌, inl, inr, ℕ, ◌+◌, List, [], ◌∷◌, ◌++◌, length, refl, sym, ◌∙◌, ap, subst, append_assoc}
+use Rattle.std.proofs.lemmas.List.{append_cancel_left}
+use Rattle.std.specs.Prelude.{Option, Some, None, slice_get}
+use Rattle.ice_ids.specs.declared.Id12.{Id12}
+use Rattle.ice_ids.specs.declared.drawing.AnyIds.{AnyIds}
+use Rattle.ice_ids.specs.declared.drawing.Draw.{Draw}
+use Rattle.zarr_path.specs.declared.keys.ZarrKey.{ZarrKey}
+use Rattle.zarr_path.specs.declared.keys.ZarrKey.TheVariants as K
+use Rattle.zarr_path.specs.Keys.{key_of}
+use Rattle.zarr_tree.specs.Trees.{Tree, IsWellFormed}
+use Rattle.zarr_tree.specs.Changes.{Changes, none, apply}
+use Rattle.zarr_tree.specs.Held.{Held, changes_of}
+use Rattle.zarr_tree.proofs.Normal.{none-law}
+use Rattle.zarr_changes.specs.Edits.{nothing}
+use Rattle.manifest_file.specs.declared.manifest.Place.{Place}
+use Rattle.snapshot_file.specs.declared.nodes.NodeRow.{NodeRow}
+use Rattle.repo_objects.specs.Laws.{InitialLaw}
+use Rattle.histories.specs.Formats.{files_by}
+use Rattle.repo_objects.specs.Trees.{Puts, bytes_at, tree_under}
+use Rattle.object_store.specs.declared.events.Event.{Event}
+use Rattle.object_store.specs.Machine.{version_at}
+use Rattle.object_store.proofs.Journals.{Each-at, Each-back}
+use Rattle.store_api.specs.Journal.{Each, IsGood, IsOnce, puts_of, tree_of}
+use Rattle.repo_read.specs.declared.resolving.At.{At}
+use Rattle.session.specs.Sessions.{SessionState, base_tree, changes_in, overlay}
+use Rattle.commit_path.specs.Opened.{IsOpened, WasBegun}
+use Rattle.commit_path.specs.Single.{HasPutNone}
+use Rattle.commit_path.proofs.Knowing.{IsOpened-append}
+use Rattle.commit_path.proofs.Putting.{puts-kept}
+use Rattle.rebase.specs.AlongLaws.{MeansLaw}
+use Rattle.play_script.specs.declared.scripts.Access.{Access}
+use Rattle.play_script.specs.declared.scripts.Access.TheVariants.{Write, Read}
+use Rattle.play_script.specs.declared.scripts.Call.{Call}
+use Rattle.play_script.specs.declared.scripts.Call.TheVariants as C
+use Rattle.play_script.specs.declared.scripts.EditCall.{EditCall}
+use Rattle.play_script.specs.declared.scripts.EditCall.TheVariants as E
+use Rattle.play_script.specs.declared.scripts.ReadCall.{ReadCall}
+use Rattle.play_script.specs.declared.scripts.ReadCall.TheVariants as L
+use Rattle.play_script.specs.declared.scripts.Head.TheVariants.{Session}
+use Rattle.play_script.specs.declared.scripts.Line.{Line}
+use Rattle.play_script.specs.declared.scripts.Task.{Task}
+use Rattle.play_outcome.specs.declared.outcome.Outcome.{Outcome}
+use Rattle.play_outcome.specs.declared.outcome.Shown.{Shown}
+use Rattle.play_tasks.specs.Lines as line
+use Rattle.play_tasks.specs.Playing.{asked_by, policy_of}
+use Rattle.play_tasks.specs.Solving.{PlaysAll}
+use Rattle.play_tasks.specs.Tasks.{ids_at}
+use Rattle.play_tasks.specs.Telling.{WasOpened}
+use Rattle.play_tasks.proofs.Early.{WasBegun-more}
+use Rattle.play_tasks.proofs.Going.{PlaysAll-append, plays-none}
+use Rattle.run_histories.specs.Told as told
+use Rattle.run_histories.specs.Told.{HasHistories, CommitsEnter}
+use Rattle.run_histories.proofs.Carrying.{IsFront}
+use Rattle.run_histories.proofs.Sized.{changes-stay}
+use Rattle.run_promise.specs.Lines.{Plays}
+use Rattle.run_promise.specs.Ways.{Carried}
+use Rattle.run_promise.specs.Promise.{at_of, Began, FoundBranch, FoundTag, IsSession, ShowsRight, TakesEffect, IsCommit}
+use Rattle.run_promise.proofs.Bodies.{PlayedOn, plays-on}
+use Rattle.run_promise.proofs.Ways.{carried-way}
+
+-- ---- a line that commits
+key-set-commits : (bytes : List ℕ) (o : Option ZarrKey) (s : SessionState) (message : List ℕ) → line.key_set_deed bytes o s ≡ line.Commits message → ⊥
+key-set-commits bytes None s message e = cc
+key-set-commits bytes (Some (K.Meta path)) s message e = cc
+key-set-commits bytes (Some (K.Chunk path index)) s message e = cc
+
+edit-commits : (edit : EditCall) (s : SessionState) (message : List ℕ) → line.edit_deed edit s ≡ line.Commits message → ⊥
+edit-commits (E.Set path index bytes) s message e = cc
+edit-commits (E.Fill path index byte) s message e = cc
+edit-commits (E.Group path) s message e = cc
+edit-commits (E.Array path text) s message e = cc
+edit-commits (E.Make path text) s message e = cc
+edit-commits (E.Meta path text) s message e = cc
+edit-commits (E.Drop path) s message e = cc
+edit-commits (E.Unset path index) s message e = cc
+edit-commits (E.KeySet key bytes) s message e = key-set-commits bytes (key_of key) s message e
+edit-commits (E.KeyErase key) s message e = cc
+
+key-get-commits : (number : ℕ) (o : Option ZarrKey) (s : SessionState) (message : List ℕ) → line.key_get_deed number o s ≡ line.Commits message → ⊥
+key-get-commits number None s message e = cc
+key-get-commits number (Some (K.Meta path)) s message e = cc
+key-get-commits number (Some (K.Chunk path index)) s message e = cc
+
+read-commits : (number : ℕ) (look : ReadCall) (s : SessionState) (message : List ℕ) → line.read_deed number look s ≡ line.Commits message → ⊥
+read-commits number (L.List path) s message e = cc
+read-commits number (L.Get path) s message e = cc
+read-commits number (L.Chunk path index) s message e = cc
+read-commits number (L.KeyGet key) s message e = key-get-commits number (key_of key) s message e
+
+call-commits : (number : ℕ) (call : Call) (s : SessionState) (message : List ℕ) → line.deed number call s ≡ line.Commits message → call ≡ C.Commit message
+call-commits number (C.Edit edit) s message e = absurd (edit-commits edit s message e)
+call-commits number (C.Read look) s message e = absurd (read-commits number look s message e)
+call-commits number (C.Commit own) s message e = let is : own ≡ message = cc in ap (λ (m : List ℕ). C.Commit m) is
+call-commits number (C.Ref call) s message e = absurd cc
+
+-- ---- where a session began
+began-branch : (trees : Id12 → Option Tree) (changes : ℕ → Changes) (client : ℕ) (branch : List ℕ) (writes : _) (s : SessionState) (start journal : List Event) → told.BeganAtBranch trees changes client branch writes s start journal → FoundBranch (files_by trees) changes client branch s.base start journal
+began-branch trees changes client branch writes s start journal b =
+    let own = b.read.got.own in
+    record { before = own.before; event = own.event; after = own.after; is = own.is; since = own.since; before_is = own.before_is; own = own.client_is; get = own.op_is; entry = b.entry; is_last = b.is_last; names = b.base }
+
+began-tag : (trees : Id12 → Option Tree) (client : ℕ) (tag : List ℕ) (s : SessionState) (start journal : List Event) → told.BeganAtTag trees client tag s start journal → FoundTag (files_by trees) client tag s.base start journal
+began-tag trees client tag s start journal b =
+    let own = b.read.stands.own in
+    record { before = own.before; event = own.event; after = own.after; is = own.is; since = own.since; before_is = own.before_is; own = own.client_is; get = own.op_is; entry = b.entry; stood = b.stood; names = b.base }
+
+began-at : (trees : Id12 → Option Tree) (changes : ℕ → Changes) (client : ℕ) (at : At) (writes : _) (s : SessionState) (start journal : List Event) → told.BeganAt trees changes client at writes s start journal → Began (files_by trees) changes client at s.base start journal
+began-at trees changes client (At.Branch branch) writes s start journal b = began-branch trees changes client branch writes s start journal b
+began-at trees changes client (At.Tag tag) writes s start journal b = began-tag trees client tag s start journal b
+began-at trees changes client (At.Snapshot id) writes s start journal b = b.0
+
+asked-at : (access : Access) (ids : AnyIds) → (asked_by access ids).at ≡ at_of access
+asked-at (Write branch tries policy) ids = refl
+asked-at (Read at) ids = refl
+
+module _ (initial : InitialLaw) (means : (bytes_at : Place → Option (List ℕ)) → MeansLaw bytes_at) (draw : Draw) (tasks : List Task) (before : ℕ → Changes) (old start new : List Event) (h : HasHistories draw tasks before old start new) where
+  abbrev put : Puts
+  put = puts_of new
+
+  abbrev trees : Id12 → Option Tree
+  trees = tree_of new
+
+  module _ (place : ℕ) (task : Task) (at : slice_get tasks place ≡ Some task) (access : Access) (head_is : task.head ≡ Session access) (opened : SessionState) (begun : WasBegun (place + 1) (asked_by access (ids_at draw place)) opened start new) (early : HasPutNone (place + 1) start begun.got.own.before) (read : IsOpened opened new) where
+    -- what the first lines of the body lead to
+    played-on : (played left : List Line) (shown : List Shown) (s : SessionState) → task.body ≡ played ++ left → PlaysAll (place + 1) played opened start shown s new → PlayedOn draw tasks before old start new h place task at access head_is opened begun early read played opened s shown
+    played-on played left shown s body plays =
+        plays-on draw tasks before old start new h place task at access head_is opened begun early read played left [] opened s [] shown body (plays-none (place + 1) opened start new) read plays
+
+    -- a session that began has no changes
+    opened-tree : overlay put opened ≡ base_tree put opened
+    opened-tree =
+        let held : opened.held ≡ nothing = ap (λ (x : SessionState). x.held) begun.begins in
+        let well = (h.sound.trees opened.base read.put) in
+        ap (λ (x : Held Place). apply (changes_of (bytes_at put) x) (base_tree put opened)) held
+        ∙ (none-law (base_tree put opened) (subst (λ (rows : List NodeRow). IsWellFormed (tree_under put rows)) (rows-same well.rows opened.rows (sym well.is ∙ read.rows h.sound.once)) well.has.well_formed)).0
+      where
+        rows-same : (a b : List NodeRow) → Some a ≡ Some b → a ≡ b
+        rows-same a b e = cc
+
+    pub played-session : (played left : List Line) (shown : List Shown) (s : SessionState) → task.body ≡ played ++ left → PlaysAll (place + 1) played opened start shown s new → IsSession (files_by trees) h.changes task access (place + 1) start new played shown s.base (changes_in put s)
+    played-session played left shown s body plays =
+        let on = played-on played left shown s body plays in
+        let began = h.opened (place + 1) (asked_by access (ids_at draw place)) opened start begun read in
+        let tree : base_tree put s ≡ base_tree put opened = ap (tree_under put) on.rows in
+        record {
+          head_is = head_is;
+          began = subst (λ (i : Id12). Began (files_by trees) h.changes (place + 1) (at_of access) i start new) (sym on.based)
+              (subst (λ (a : At). Began (files_by trees) h.changes (place + 1) a opened.base start new) (asked-at access (ids_at draw place)) (began-at trees h.changes (place + 1) (asked_by access (ids_at draw place)).at (asked_by access (ids_at draw place)).writes opened start new began.began));
+          tree = base_tree put s;
+          has = ap trees on.based ∙ began.tree ∙ ap (λ (t : Tree). Some t) (sym tree);
+          plays = subst (λ (t : Tree). Plays played t shown (overlay put s)) (opened-tree ∙ sym tree) on.plays;
+        }
+
+    pub session-opened : (played left : List Line) (shown : List Shown) (s : SessionState) → task.body ≡ played ++ left → PlaysAll (place + 1) played opened start shown s new → IsOpened s new
+    session-opened played left shown s body plays = (played-on played left shown s body plays).knows
+
+-- ---- commits that took effect
+module _ (initial : InitialLaw) (means : (bytes_at : Place → Option (List ℕ)) → MeansLaw bytes_at) (draw : Draw) (tasks : List Task) (before : ℕ → Changes) (old start since rest : List Event) (event : Event) where
+  abbrev journal : List Event
+  journal = old ++ since
+
+  abbrev whole : List Event
+  whole = journal ++ event ∷ rest
+
+  enters : (g : HasHistories draw tasks before old start whole) → CommitsEnter draw tasks start (puts_of whole) (tree_of whole) g.changes journal event
+  enters g =
+      let added : g.added ≡ since ++ event ∷ rest = append_cancel_left old g.added (since ++ event ∷ rest) (sym g.is ∙ append_assoc old since (event ∷ rest)) in
+      let Enters : List Event → Event → Type 0 = CommitsEnter draw tasks start (puts_of whole) (tree_of whole) g.changes in
+      Each-at Enters old since event rest (subst (Each Enters old) added g.commits)
+
+  committed-at : (g : HasHistories draw tasks before old start whole) (branch : List ℕ) (version : ℕ) (id : Id12) → TakesEffect (files_by (tree_of whole)) journal event branch version id → IsCommit (files_by (tree_of whole)) g.changes tasks start whole journal event branch version id
+  committed-at g branch version id e =
+      let c = enters g branch e.bytes (version_at version) id e.stored e.op_is e.names e.done e.stands e.version in
+      let s = c.of_session in
+      let o = s.of_task in
+      let good = (Each-back IsGood [] journal (event ∷ rest) g.sound.good).1 in
+      let client : ℕ = s.place + 1 in
+      let begun = WasBegun-more client (asked_by o.access (ids_at draw s.place)) o.opened start journal (event ∷ rest) o.begun in
+      let read = IsOpened-append o.opened journal (event ∷ rest) good o.read in
+      let plays = PlaysAll-append client o.came.played o.opened start o.came.shown o.session journal (event ∷ rest) good o.came.plays in
+      let session = played-session initial means draw tasks before old start whole g s.place s.task s.at o.access o.head_is o.opened begun o.early read o.came.played (o.came.line ∷ o.came.left) o.came.shown o.session o.came.body_is plays in
+      let known = session-opened initial means draw tasks before old start whole g s.place s.task s.at o.access o.head_is o.opened begun o.early read o.came.played (o.came.line ∷ o.came.left) o.came.shown o.session o.came.body_is plays in
+      let way = carried-way initial means whole g.changes g.sound client (policy_of o.access) o.count o.session s.session start journal (record { more = event ∷ rest; is = refl }) (known.rows g.sound.once, known.put) o.carried in
+      let stay : changes_in (puts_of whole) s.session ≡ changes_in (puts_of journal) s.session = changes-stay (puts_of journal) (puts_of whole) s.session (puts-kept journal (event ∷ rest) good g.sound.once) s.made.chunks in
+      record {
+        place = s.place;
+        client_is = s.client_is;
+        task = s.task;
+        at = s.at;
+        access = o.access;
+        played = o.came.played;
+        line = o.came.line;
+        left = o.came.left;
+        body_is = o.came.body_is;
+        message = o.came.message;
+        commits = call-commits o.came.line.number o.came.line.call o.session o.came.message o.came.commits;
+        shown = o.came.shown;
+        base = o.session.base;
+        own = changes_in (puts_of whole) o.session;
+        session = subst (λ (n : ℕ). IsSession (files_by (tree_of whole)) g.changes s.task o.access n start whole o.came.played o.came.shown o.session.base (changes_in (puts_of whole) o.session)) (sym s.client_is) session;
+        before = c.before;
+        is_last = c.is_last;
+        version_is = c.version;
+        solved = changes_in (puts_of whole) s.session;
+        carried = subst (λ (i : Id12). Carried (tree_of whole) (policy_of o.access) o.session.base (changes_in (puts_of whole) o.session) i (changes_in (puts_of whole) s.session)) (sym c.base) way.0;
+        under = base_tree (puts_of whole) s.session;
+        has = c.base_is;
+        tree = c.tree;
+        given = s.changes_are ∙ sym stay;
+      }
+
+pub committed : InitialLaw → ((bytes_at : Place → Option (List ℕ)) → MeansLaw bytes_at) → (draw : Draw) (tasks : List Task) (before : ℕ → Changes) (old start new since rest : List Event) (event : Event) (h : HasHistories draw tasks before old start new) → new ≡ (old ++ since) ++ event ∷ rest
+    → (branch : List ℕ) (version : ℕ) (id : Id12) → TakesEffect (files_by (tree_of new)) (old ++ since) event branch version id → IsCommit (files_by (tree_of new)) h.changes tasks start new (old ++ since) event branch version id
+committed initial means draw tasks before old start new since rest event h is branch version id e =
+    subst (λ (n : List Event). (g : HasHistories draw tasks before old start n) → TakesEffect (files_by (tree_of n)) (old ++ since) event branch version id → IsCommit (files_by (tree_of n)) g.changes tasks start n (old ++ since) event branch version id) (sym is)
+    (λ g f. committed-at initial means draw tasks before old start since rest event g branch version id f) h e
+
+-- ---- what tasks showed
+pub showed : InitialLaw → ((bytes_at : Place → Option (List ℕ)) → MeansLaw bytes_at) → (draw : Draw) (tasks : List Task) (before : ℕ → Changes) (old start new : List Event) (h : HasHistories draw tasks before old start new) (place : ℕ) (task : Task) (access : Access) (outcome : Outcome)
+    → slice_get tasks place ≡ Some task → task.head ≡ Session access → (w : WasOpened (ids_at draw place) access task (place + 1) start outcome new) → ShowsRight (files_by (tree_of new)) h.changes task access (place + 1) start new outcome.shown
+showed initial means draw tasks before old start new h place task access outcome at head_is w =
+    inr (
+      w.played,
+      w.left,
+      w.body,
+      w.session.base,
+      changes_in (puts_of new) w.session,
+      played-session initial means draw tasks before old start new h place task at access head_is w.opened w.begun w.early w.read w.played w.left outcome.shown w.session w.body w.plays,
+    )

@@ -1,0 +1,7 @@
+mod Objects
+mod Lines
+mod Bodies
+mod Ways
+mod Commits
+mod Ends
+mod Promises

@@ -1,0 +1,73 @@
+-- A run keeps what is promised.
+use Rattle.std.proofs.Common.{◌≡◌, inl, inr, ℕ, ◌+◌, List, refl, sym, subst}
+use Rattle.std.specs.Prelude.{Option, Some, All, Result, Ok, IsTrue, slice_get}
+use Rattle.ice_ids.specs.declared.drawing.Draw.{Draw}
+use Rattle.zarr_tree.specs.Changes.{Changes}
+use Rattle.manifest_file.specs.declared.manifest.Place.{Place}
+use Rattle.repo_objects.specs.Laws.{InitialLaw}
+use Rattle.histories.specs.Formats.{files_by}
+use Rattle.object_store.specs.declared.events.Event.{Event}
+use Rattle.store_api.specs.declared.machines.Refusal.{Refusal}
+use Rattle.store_api.specs.Callers.{View}
+use Rattle.store_api.specs.Journal.{tree_of}
+use Rattle.rebase.specs.AlongLaws.{MeansLaw}
+use Rattle.play_script.specs.declared.scripts.Access.{Access}
+use Rattle.play_script.specs.declared.scripts.Head.{Head}
+use Rattle.play_script.specs.declared.scripts.Head.TheVariants.{Session}
+use Rattle.play_script.specs.declared.scripts.Script.{Script}
+use Rattle.play_script.specs.declared.scripts.Task.{Task}
+use Rattle.play_script.specs.Well.{IsWellTask}
+use Rattle.play_outcome.specs.declared.outcome.Outcome.{Outcome}
+use Rattle.play_outcome.specs.declared.outcome.RefLine.{RefLine}
+use Rattle.play_tasks.specs.Playing.{asked_by}
+use Rattle.play_tasks.specs.Tasks.{ids_at, TellsAt}
+use Rattle.play_tasks.specs.Telling.{WasNotOpened, WasOpened, TellsBy}
+use Rattle.run_histories.specs.Runs.{IsSound}
+use Rattle.run_histories.specs.Sources.{IsNewRun}
+use Rattle.run_histories.specs.Told.{HasHistories, RunLaw}
+use Rattle.repository.specs.Closing.{RefsLaw}
+use Rattle.play_course.specs.Course.{Course}
+use Rattle.play_course.specs.Leaving.{TellsEnds}
+use Rattle.play_course.proofs.Leaving.{course-run, course-begun, course-told}
+use Rattle.run_promise.specs.Promise.{ShowsRight, EndsRight, Keeps}
+use Rattle.run_promise.specs.Law.{PromiseLaw}
+use Rattle.run_promise.proofs.Commits.{committed, showed}
+use Rattle.run_promise.proofs.Ends.{lines-end, unopened-end}
+
+module _ (initial : InitialLaw) (means : (bytes_at : Place → Option (List ℕ)) → MeansLaw bytes_at) (draw : Draw) (tasks : List Task) (before : ℕ → Changes) (old start new : List Event) (h : HasHistories draw tasks before old start new) where
+  -- ---- a task that opens a session
+  module _ (place : ℕ) (task : Task) (outcome : Outcome) (access : Access) (at : slice_get tasks place ≡ Some task) (head_is : task.head ≡ Session access) where
+    abbrev Opens : Type 0
+    Opens = TellsBy (Session access) (ids_at draw place) task (place + 1) start outcome new
+
+    opens : TellsAt draw place task start outcome new → Opens
+    opens t = subst (λ (x : Head). TellsBy x (ids_at draw place) task (place + 1) start outcome new) head_is t
+
+    shows : Opens → ShowsRight (files_by (tree_of new)) h.changes task access (place + 1) start new outcome.shown
+    shows (inl none) = inl none.shown_is
+    shows (inr w) = showed initial means draw tasks before old start new h place task access outcome at head_is w
+
+    ends : Opens → EndsRight (files_by (tree_of new)) (place + 1) outcome.end start new
+    ends (inl none) = unopened-end (tree_of new) (place + 1) start new (asked_by access (ids_at draw place)) task.line none.why outcome.end none.end_is none.tells
+    ends (inr w) = lines-end (tree_of new) (place + 1) start new access w.left w.session outcome.end w.ends
+
+  keeps : (outcomes : List Outcome) (refs : Result (List RefLine) Refusal) → ((place : ℕ) (task : Task) (outcome : Outcome) → slice_get tasks place ≡ Some task → slice_get outcomes place ≡ Some outcome → TellsAt draw place task start outcome new) → ((lines : List RefLine) → refs ≡ Ok lines → TellsEnds (files_by (tree_of new)) h.changes new lines)
+      → Keeps (files_by (tree_of new)) tasks outcomes refs h.changes old start new
+  keeps outcomes refs told ends_told = record {
+    opening = h.began.own;
+    start_is = h.began.is;
+    lists = h.history;
+    stand = h.stand;
+    commits = λ since rest event branch version id is e. committed initial means draw tasks before old start new since rest event h is branch version id e;
+    reads = λ place task outcome access at out head_is. shows place task outcome access at head_is (opens place task outcome access at head_is (told place task outcome at out));
+    ends = λ place task outcome access at out head_is. ends place task outcome access at head_is (opens place task outcome access at head_is (told place task outcome at out));
+    tags = h.tags_stand;
+    tag_calls = h.tags;
+    told = ends_told;
+  }
+
+pub promise-law : InitialLaw → ((bytes_at : Place → Option (List ℕ)) → MeansLaw bytes_at) → RunLaw → RefsLaw → PromiseLaw
+promise-law initial means run closing draw script before old new opening outcomes refs wells c tells sound new_run =
+    let h = subst (λ (start : List Event). HasHistories draw script.tasks before old.seen start new.seen) (course-begun draw script old new opening outcomes refs wells c tells)
+    (run draw script.tasks before old.seen new.seen sound new_run (course-run draw script old new opening outcomes refs wells c tells)) in
+    record { histories = h; keeps = keeps initial means draw script.tasks before old.seen c.begun.seen new.seen h outcomes refs (c.told tells) (course-told closing draw script old new opening outcomes refs c tells h.changes h.stand h.tags_stand) }

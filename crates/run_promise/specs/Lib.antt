@@ -1,0 +1,4 @@
+pub mod Lines
+pub mod Ways
+pub mod Promise
+pub mod Law

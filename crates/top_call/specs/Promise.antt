@@ -1,0 +1,75 @@
+-- What the top call promises of a script that it played.
+use Rattle.std.specs.Prelude.{◌≡◌, ℕ, List, [], Result, IsTrue}
+use Rattle.ice_base.specs.Ends.{InputAt, OutputAt}
+use Rattle.ice_ids.specs.declared.drawing.Draw.{Draw}
+use Rattle.zarr_tree.specs.Changes.{Changes}
+use Rattle.object_store.specs.declared.events.Event.{Event}
+use Rattle.store_api.specs.declared.machines.Refusal.{Refusal}
+use Rattle.store_api.specs.Callers.{View}
+use Rattle.store_api.specs.Journal.{tree_of}
+use Rattle.histories.specs.Files.{Files}
+use Rattle.histories.specs.Formats.{files_by}
+use Rattle.play_script.specs.declared.scripts.Script.{Script}
+use Rattle.play_outcome.specs.declared.outcome.Outcome.{Outcome}
+use Rattle.play_outcome.specs.declared.outcome.RefLine.{RefLine}
+use Rattle.run_histories.specs.Sources.{IsNewRun}
+use Rattle.run_histories.specs.Runs.{IsSound}
+use Rattle.run_promise.specs.Promise.{Keeps}
+use Rattle.command_words.specs.declared.reading.Command.{Command}
+use Rattle.command_words.specs.declared.reading.Command.TheVariants as C
+use Rattle.top_call.specs.declared.statuses.Status.{Status}
+use Rattle.top_call.specs.declared.statuses.Status.TheVariants as S
+use Rattle.top_call.specs.Run.{HasScript}
+use Rattle.top_call.specs.Telling.{IsText, refusals, Told}
+
+-- what a call reads, acts on and writes to
+pub record World : Type 0 where
+  pub input : InputAt
+  pub store : View
+  pub out : OutputAt
+
+-- The tasks began at some moment, and ended with these outcomes; each branch's updates form one list, each commit that took effect is its session's solved
+-- changes on the entry before it, each read sees its session's base under the session's own changes, each task ends as it tells, and so do the refs.
+-- This was told: the report, or the line of a grown script, and the status of the first cause that holds.
+pub record Promise (files : Files) (command : Command) (script : Script) (a b : World) (status : Status) : Type 0 where
+  pub opening : Result (Unit {0}) Refusal
+  pub outcomes : List Outcome
+  pub refs : Result (List RefLine) Refusal
+  pub changes : ℕ → Changes
+  pub start : List Event
+  pub keeps : Keeps files script.tasks outcomes refs changes a.store.seen start b.store.seen
+  pub told : Told (IsText command script a.store b.store opening outcomes refs) (refusals opening outcomes refs) a.out b.out status
+
+-- ---- when it is promised
+-- a script was played, and what came of it was told; of want of memory it is open how far the run came
+abbrev pub HasPlayed : Command → Status → Type 0
+HasPlayed C.Play S.Ok = Unit {0}
+HasPlayed C.Play S.Refused = Unit {0}
+HasPlayed C.Play S.StoreFault = Unit {0}
+HasPlayed C.Play S.WriteFault = Unit {0}
+HasPlayed (C.Grow tasks) S.Ok = Unit {0}
+HasPlayed (C.Grow tasks) S.Refused = Unit {0}
+HasPlayed (C.Grow tasks) S.StoreFault = Unit {0}
+HasPlayed (C.Grow tasks) S.WriteFault = Unit {0}
+HasPlayed command status = ⊥
+
+-- a script that was read, and what is promised of it
+pub record Played (P : Script → Type 0) (command : Command) (a b : World) : Type 0 where
+  pub script : Script
+  pub reads : HasScript command a.input b.input script
+  pub promise : P script
+
+-- by the formats of the repository
+abbrev pub Promised : Command → World → World → Status → Script → Type 0
+Promised command a b status script = Promise (files_by (tree_of b.store.seen)) command script a b status
+
+-- over a store that tells its journal, where that is sound and the clients' ids are new to it
+abbrev pub OverSound : Draw → Command → World → World → Status → Script → Type 0
+OverSound draw command a b status script = (before : ℕ → Changes) → IsSound a.store.seen before → IsNewRun draw script.tasks a.store.seen → Promised command a b status script
+
+abbrev pub KeepsSound : Draw → Command → World → World → Status → Type 0
+KeepsSound draw command a b status = HasPlayed command status → IsTrue a.store.caller.tells → Played (OverSound draw command a b status) command a b
+
+-- over an empty store, where ids are drawn by counting: with no premise
+abbrev pub KeepsOwn : Draw → Command → World → World → Status → Type 0
+KeepsOwn draw command a b status = HasPlayed command status → draw ≡ Draw.Count → IsTrue a.store.caller.tells → a.store.seen ≡ [] → Played (Promised command a b status) command a b
