@@ -15,7 +15,7 @@ use std::rt::Files;
 
 /// What a run over a directory needs.
 #[derive(Drop)]
-pub struct Opened<R, C> {
+pub struct Opened<R: Files, C> {
     /// The claim, to be kept as long as the store is used.
     pub claim: Claim,
     /// The store.

@@ -13,12 +13,21 @@ use std::os::unix::fs::MetadataExt;
 use std::rt::Files;
 use std::{fs, io};
 
-/// A folder of the system, and what lies beneath it. What lies at a path is asked before it is opened, without following
-/// links, and again of the open file.
+/// A folder that is open, and what was seen of it before.
 #[derive(Drop)]
-pub struct SystemFolder<R> {
+struct OpenFolder<F> {
+    file: F,
+    seen: Seen,
+}
+
+/// A folder of the system, and what lies beneath it. What lies at a path is asked before it is opened, without following
+/// links, and again of the open file. The folder that was flushed last stays open: as long as it is, no other one has its
+/// numbers.
+#[derive(Drop)]
+pub struct SystemFolder<R: Files> {
     rt: R,
     root: String,
+    flushed: Option<OpenFolder<R::File>>,
 }
 
 /// A file of the system that is written, and where it lies.
@@ -107,14 +116,16 @@ fn plain_at<R: Files>(rt: &R, path: &str) -> Result<Option<Seen>, Trouble> {
     }
 }
 
+/// Whether the same file or folder was seen twice.
+fn is_same(one: &Seen, other: &Seen) -> bool {
+    one.kind == other.kind && one.device == other.device && one.number == other.number
+}
+
 /// That an open file is what was seen where it was opened. So a link that was put there meanwhile was
 /// followed, but nothing behind it is read.
 pub(crate) fn check_same<F: OpenFile>(file: &F, seen: &Seen) -> Result<(), Trouble> {
     let opened = seen_of(&done(Call::Look, file.metadata())?);
-    let same = opened.kind == seen.kind
-        && opened.device == seen.device
-        && opened.number == seen.number;
-    if same {
+    if is_same(&opened, seen) {
         Ok(())
     } else {
         Err(failed(Call::Open, Cause::Changed))
@@ -168,7 +179,18 @@ impl<R: Files + AllocGlobal + Clone + Drop> SystemFolder<R> {
         Ok(SystemFolder {
             root: String::from_str(rt.alloc(), path)?,
             rt,
+            flushed: None,
         })
+    }
+
+    /// The folder that was seen at a path, open: the one that was flushed last, where it is that one.
+    fn opened(&mut self, path: &str, seen: &Seen) -> Result<R::File, Trouble> {
+        if let Some(OpenFolder { file, seen: last }) = self.flushed.take() {
+            if is_same(&last, seen) {
+                return Ok(file);
+            }
+        }
+        open_seen(&self.rt, path, seen)
     }
 }
 
@@ -285,8 +307,10 @@ impl<R: Files + AllocGlobal + Clone + Drop> Folder for SystemFolder<R> {
     }
 
     fn flush_folder(&mut self, path: &str, seen: &Seen) -> Result<(), Trouble> {
-        let folder = open_seen(&self.rt, path, seen)?;
-        done(Call::Flush, folder.sync_all())
+        let file = self.opened(path, seen)?;
+        done(Call::Flush, file.sync_all())?;
+        self.flushed = Some(OpenFolder { file, seen: *seen });
+        Ok(())
     }
 
     fn flush_root(&mut self, path: &str) -> Result<(), Trouble> {

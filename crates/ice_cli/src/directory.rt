@@ -32,7 +32,7 @@ fn tell_loss<R: Eprint>(rt: &R, main_is_lost: bool) {
 }
 
 /// Says on standard error which call on files failed first, if one did.
-fn tell_fault<R: Eprint>(rt: &R, store: &SystemStore<HostRuntime, WallClock<HostRuntime>>) {
+fn tell_fault<R: Eprint>(rt: &R, store: &SystemStore) {
     if let Some(first) = store.first_fault() {
         let _ = eprintln!(rt; "icerepo: {first}");
     }

@@ -6,42 +6,41 @@ ghost use Rattle.dir_store.specs.Store.{view_of, operations_of, IsMade, IsRightG
 ghost use Rattle.dir_store.specs.Listings.{IsListed};
 
 use dir_store::{DirStore, FirstFault};
-use ice_base::Clock;
-use std::rt::Files;
+use moments::WallClock;
 use store_api::{
     CountingStore, Gone, GoneAt, Got, Key, Listed, New, ObjectStore, Op, Over, Part, Reply, Rule,
     StoreFault, Version, Viewed, WholeStore, Why,
 };
 
-/// A store in a directory of the system. Each call is that of [`DirStore`], with its clauses on answers; the type names no folder,
-/// so that threads that share such a store ask only for files.
+/// The directory of the system as a store.
+type Directory = DirStore<HostRuntime, WallClock<HostRuntime>>;
+
+/// A store in a directory of the system. Each call is that of [`DirStore`], with its clauses on answers; the type names no folder
+/// and no files, so that who runs over it proves nothing of these anew.
 #[derive(Drop)]
-pub struct SystemStore<R, C> {
-    store: DirStore<R, C>,
+pub struct SystemStore {
+    store: Directory,
 }
 
-impl<R, C> SystemStore<R, C> {
+impl SystemStore {
     /// The store over this one.
-    pub fn new(store: DirStore<R, C>) -> SystemStore<R, C>
+    pub fn new(store: Directory) -> SystemStore
         ensures { result.store ≡ store }
     {
         SystemStore { store }
     }
-}
 
-impl<R: Files + AllocGlobal + Clone + Drop, C: Clock> SystemStore<R, C> {
     /// The first call on files that failed, if one has.
     pub fn first_fault(&self) -> Option<&FirstFault> {
         self.store.first_fault()
     }
 }
 
-impl<R: Files + AllocGlobal + Clone + Drop, C: Clock> Viewed for SystemStore<R, C> {
+impl Viewed for SystemStore {
     ghost view = { λ s. view_of s.store };
 }
 
-impl<L: Rule, R: Files + AllocGlobal + Clone + Drop, C: Clock> ObjectStore<L>
-    for SystemStore<R, C> {
+impl<L: Rule> ObjectStore<L> for SystemStore {
     fn get(&mut self, key: &Key) -> Result<Got, StoreFault>
         ensures call { Called L.may (λ a. Reply.Got a) (Op.Get key.now) result (view_of self.old.store) (view_of self.new.store) }
         ensures content { IfOk result (IsRightGot key.now) }
@@ -96,7 +95,7 @@ impl<L: Rule, R: Files + AllocGlobal + Clone + Drop, C: Clock> ObjectStore<L>
     }
 }
 
-impl<R: Files + AllocGlobal + Clone + Drop, C: Clock> WholeStore for SystemStore<R, C> {
+impl WholeStore for SystemStore {
     ghost tells = { false };
 
     fn set_client(&mut self, client: u32) {
@@ -108,7 +107,7 @@ impl<R: Files + AllocGlobal + Clone + Drop, C: Clock> WholeStore for SystemStore
     ghost alone = { λ s. record { low = refl; end = refl } };
 }
 
-impl<R: Files + AllocGlobal + Clone + Drop, C: Clock> CountingStore for SystemStore<R, C> {
+impl CountingStore for SystemStore {
     fn operations(&self) -> u64 {
         self.store.operations()
     }

@@ -1,12 +1,14 @@
 //! Reports of runs. ` | ` stands between the opening, the tasks and the refs. A task is a name, what it showed and how it ended:
-//! `c - refused 10 NoNode`; `a 2=/,13:array=/a/b done` showed a group and an array in the lines 2 and 13. `; ` stands between
-//! tasks, and `, ` between refs like `tag v 1=1CECHNKREP0F1RSTCMT0`. In the place of an opening that went well stands `-`, and a
-//! refusal may stand in that of the refs, behind `!`.
+//! `c - refused 10 NoNode`; `a 2=/,13:array=/a/b done` showed a group and an array in the lines 2 and 13; `d - collected 3 2 1 40`
+//! collected, and `e - stopped 7 3 2 1 40 StoreFault` was refused in the line 7 behind so many removals. `; ` stands between tasks,
+//! and `, ` between refs like `tag v 1=1CECHNKREP0F1RSTCMT0`. In the place of an opening that went well stands `-`, and a refusal
+//! may stand in that of the refs, behind `!`.
 
 use crate::refusals::refusal_of;
 use crate::store_keys::id_of;
 use crate::texts::{name_of, path_of};
-use crate::words::{NoAnswer, first_word, parted, small_number_of, text_of};
+use crate::words::{NoAnswer, first_word, number_of, parted, small_number_of, text_of};
+use cleanup_reports::Removed;
 use play_outcome::{End, Outcome, RefLine, RefLines, Shown, Shows};
 use play_report::report;
 use std::alloc::{AllocError, Global};
@@ -41,13 +43,44 @@ fn refused_of(alloc: Global, words: &str) -> Result<End, NoAnswer> {
     refusal_of(alloc, rest).map(|why| End::Refused { line, why })
 }
 
+/// How many objects of each kind were removed, and what stands behind these numbers.
+fn removed_of(words: &str) -> Result<(Removed, &str), NoAnswer> {
+    let (snapshots, rest) = first_word(words);
+    let (logs, rest) = first_word(rest);
+    let (manifests, rest) = first_word(rest);
+    let (chunks, rest) = first_word(rest);
+    let removed = Removed {
+        snapshots: number_of(snapshots)?,
+        logs: number_of(logs)?,
+        manifests: number_of(manifests)?,
+        chunks: number_of(chunks)?,
+    };
+    Ok((removed, rest))
+}
+
+/// A collection that ended well.
+fn collected_of(words: &str) -> Result<End, NoAnswer> {
+    let (removed, _) = removed_of(words)?;
+    Ok(End::Collected(removed))
+}
+
+/// The refusal of a collection, in a line, behind what it removed.
+fn stopped_of(alloc: Global, words: &str) -> Result<End, NoAnswer> {
+    let (line, rest) = first_word(words);
+    let line = small_number_of(line)?;
+    let (removed, rest) = removed_of(rest)?;
+    refusal_of(alloc, rest).map(|why| End::Stopped { line, why, removed })
+}
+
 /// How a task ended.
 fn end_of(alloc: Global, words: &str) -> Result<End, NoAnswer> {
     let (kind, rest) = first_word(words);
     match kind {
         "committed" => Ok(End::Committed(id_of(rest)?)),
+        "collected" => collected_of(rest),
         "done" => Ok(End::Done),
         "refused" => refused_of(alloc, rest),
+        "stopped" => stopped_of(alloc, rest),
         _ => Err(NoAnswer::Words),
     }
 }

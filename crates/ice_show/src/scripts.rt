@@ -205,6 +205,7 @@ fn push_head(told: &mut String, head: &Head) -> Result<(), AllocError> {
     match head {
         Head::Session(access) => push_access(told, access),
         Head::Refs => told.push_str("refs"),
+        Head::Collect { cutoff } => write!(told, "collects before {cutoff}"),
     }
 }
 

@@ -239,7 +239,7 @@ fn committing(alloc: Global, tasks: u32) -> Option<Asked> {
 const ROOT: &str = "task a write main 0 fail\ngroup /\ncommit root\n";
 
 /// What a run leaves in this store.
-fn left<R: Threads + Wait + Sync>(
+pub(crate) fn left<R: Threads + Wait + Sync>(
     rt: &R,
     alloc: Global,
     draw: Draw,

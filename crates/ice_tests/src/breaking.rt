@@ -1,9 +1,9 @@
 //! Files of the system that break, and what the store over them says and leaves.
 
-use crate::calls::{Call, answers, branch, fails, reply};
+use crate::calls::{Answering, Call, Counts, answers, branch, fails, made_on};
 use crate::checking::{holds, made, none, removed};
-use dir_store::{DirStore, FolderStore, open};
-use folder::Folder;
+use crate::stores::{HostStore, claim_at};
+use dir_store::DirStore;
 use ice_base::TickClock;
 use ice_ids::Id12;
 use std::alloc::{Allocator, Global};
@@ -13,7 +13,7 @@ use std::io::{ErrorKind, Read, Seek, SeekFrom, Write};
 use std::rt::Files;
 use std::test::Fail;
 use std::{fs, io};
-use store_api::{Got, Key, Over, Part, Reply};
+use store_api::{Got, Key, Over, Part, Reply, StoreFault};
 
 /// The number of the calls so far, and of the last call that made a folder in the directory itself, and
 /// that flushed it.
@@ -40,7 +40,7 @@ impl Calls {
 }
 
 /// Files of the system. A call breaks: that one alone, or all from it on, as where a program is cut
-/// off there.
+/// off there. What no store calls breaks always.
 #[derive(Clone, Copy)]
 struct Breaking<'a> {
     rt: HostRuntime,
@@ -106,8 +106,8 @@ impl<'a> Write for BreakingFile<'a> {
 }
 
 impl<'a> Seek for BreakingFile<'a> {
-    fn seek(&mut self, to: SeekFrom) -> io::Result<u64> {
-        self.file.seek(to)
+    fn seek(&mut self, _to: SeekFrom) -> io::Result<u64> {
+        Err(full())
     }
 }
 
@@ -120,11 +120,8 @@ impl<'a> OpenFile for BreakingFile<'a> {
         self.file.metadata()
     }
 
-    fn set_len(&self, size: u64) -> io::Result<()> {
-        if self.files.breaks() {
-            return Err(full());
-        }
-        self.file.set_len(size)
+    fn set_len(&self, _size: u64) -> io::Result<()> {
+        Err(full())
     }
 
     fn sync_all(&self) -> io::Result<()> {
@@ -138,11 +135,7 @@ impl<'a> OpenFile for BreakingFile<'a> {
     }
 
     fn sync_data(&self) -> io::Result<()> {
-        if self.files.breaks() {
-            Err(full())
-        } else {
-            Ok(())
-        }
+        Err(full())
     }
 }
 
@@ -177,11 +170,8 @@ impl<'a> Files for Breaking<'a> {
         self.rt.open_dir(path)
     }
 
-    fn metadata(&self, path: &str) -> io::Result<Metadata> {
-        if self.breaks() {
-            return Err(full());
-        }
-        Files::metadata(&self.rt, path)
+    fn metadata(&self, _path: &str) -> io::Result<Metadata> {
+        Err(full())
     }
 
     fn symlink_metadata(&self, path: &str) -> io::Result<Metadata> {
@@ -191,11 +181,8 @@ impl<'a> Files for Breaking<'a> {
         Files::symlink_metadata(&self.rt, path)
     }
 
-    fn copy(&self, from: &str, to: &str) -> io::Result<u64> {
-        if self.breaks() {
-            return Err(full());
-        }
-        Files::copy(&self.rt, from, to)
+    fn copy(&self, _from: &str, _to: &str) -> io::Result<u64> {
+        Err(full())
     }
 
     fn rename(&self, from: &str, to: &str) -> io::Result<()> {
@@ -221,18 +208,12 @@ impl<'a> Files for Breaking<'a> {
         Ok(())
     }
 
-    fn remove_dir(&self, path: &str) -> io::Result<()> {
-        if self.breaks() {
-            return Err(full());
-        }
-        Files::remove_dir(&self.rt, path)
+    fn remove_dir(&self, _path: &str) -> io::Result<()> {
+        Err(full())
     }
 
-    fn remove_dir_all<B: Allocator>(&self, alloc: B, path: &str) -> io::Result<()> {
-        if self.breaks() {
-            return Err(full());
-        }
-        Files::remove_dir_all(&self.rt, alloc, path)
+    fn remove_dir_all<B: Allocator>(&self, _alloc: B, _path: &str) -> io::Result<()> {
+        Err(full())
     }
 
     fn hard_link(&self, original: &str, link: &str) -> io::Result<()> {
@@ -240,6 +221,32 @@ impl<'a> Files for Breaking<'a> {
             return Err(full());
         }
         Files::hard_link(&self.rt, original, link)
+    }
+}
+
+/// A store in a directory of them, and what it counts.
+#[derive(Drop)]
+struct BreakingStore<'a> {
+    store: DirStore<Breaking<'a>, TickClock>,
+    counts: Counts,
+}
+
+impl<'a> BreakingStore<'a> {
+    /// The store in the directory at this path, if that can be listed.
+    fn at(files: Breaking<'a>, path: &str) -> Option<BreakingStore<'a>> {
+        match DirStore::at(files, path, TickClock::new()) {
+            Ok(store) => Some(BreakingStore {
+                store,
+                counts: Counts::NONE,
+            }),
+            Err(_) => None,
+        }
+    }
+}
+
+impl<'a> Answering for BreakingStore<'a> {
+    fn reply(&mut self, key: &Key, call: &Call<'_>) -> Result<Reply, StoreFault> {
+        made_on(&mut self.store, &mut self.counts, key, call)
     }
 }
 
@@ -283,13 +290,8 @@ impl Keys {
 }
 
 /// Whether an operation is made in the directory at this path.
-fn makes<R: Files + AllocGlobal + Clone + Drop>(
-    files: R,
-    path: &str,
-    key: &Key,
-    call: &Call<'_>,
-) -> bool {
-    let Ok(mut store) = DirStore::at(files, path, TickClock::new()) else {
+fn makes(rt: HostRuntime, path: &str, key: &Key, call: &Call<'_>) -> bool {
+    let Ok(mut store) = HostStore::at(rt, path, TickClock::new()) else {
         return false;
     };
     let makes = answers(&mut store, key, call);
@@ -316,7 +318,7 @@ const NINE: [(At, Call<'static>); 9] = [
 ];
 
 /// Makes the nine operations, and tells how many failed.
-fn failures<F: Folder>(store: &mut FolderStore<F, TickClock>, keys: &Keys) -> u64 {
+fn failures<S: Answering>(store: &mut S, keys: &Keys) -> u64 {
     let mut failed: u64 = 0;
     for (at, call) in &NINE {
         if fails(store, keys.at(*at), call) {
@@ -328,14 +330,10 @@ fn failures<F: Folder>(store: &mut FolderStore<F, TickClock>, keys: &Keys) -> u6
 
 /// Makes the nine operations in the directory at this path: how many failed, and whether those and no others were counted as
 /// failures, and all of them as operations.
-fn failed_of_nine<R: Files + AllocGlobal + Clone + Drop>(
-    files: R,
-    path: &str,
-    keys: &Keys,
-) -> Option<(u64, bool)> {
-    let mut store = DirStore::at(files, path, TickClock::new()).ok()?;
+fn failed_of_nine(files: Breaking<'_>, path: &str, keys: &Keys) -> Option<(u64, bool)> {
+    let mut store = BreakingStore::at(files, path)?;
     let failed = failures(&mut store, keys);
-    let counted = store.faults() == failed && store.operations() == 9;
+    let counted = store.counts.faults == failed && store.counts.operations == 9;
     drop(store);
     Some((failed, counted))
 }
@@ -409,8 +407,8 @@ fn may_be(at: At, got: &Got) -> bool {
 }
 
 /// Whether a key has contents that it may have, or, where that may be, none.
-fn is_whole<F: Folder>(store: &mut FolderStore<F, TickClock>, keys: &Keys, at: At) -> bool {
-    let reply = reply(store, keys.at(at), &Call::Get);
+fn is_whole<S: Answering>(store: &mut S, keys: &Keys, at: At) -> bool {
+    let reply = store.reply(keys.at(at), &Call::Get);
     let is = match &reply {
         Ok(Reply::Got(got)) => may_be(at, got),
         _ => false,
@@ -420,20 +418,20 @@ fn is_whole<F: Folder>(store: &mut FolderStore<F, TickClock>, keys: &Keys, at: A
 }
 
 /// Whether a branch that has one of its two contents is there, and can be put over.
-fn moves<F: Folder>(store: &mut FolderStore<F, TickClock>, main: &Key) -> bool {
+fn moves<S: Answering>(store: &mut S, main: &Key) -> bool {
     moves_from(store, main, b"one") || moves_from(store, main, b"two")
 }
 
 /// Whether a branch of these contents can be put over.
-fn moves_from<F: Folder>(store: &mut FolderStore<F, TickClock>, main: &Key, bytes: &[u8]) -> bool {
-    matches!(
-        reply(store, main, &Call::Over(b"three", bytes)),
-        Ok(Reply::Over(Over::Done { .. }))
-    )
+fn moves_from<S: Answering>(store: &mut S, main: &Key, bytes: &[u8]) -> bool {
+    let reply = store.reply(main, &Call::Over(b"three", bytes));
+    let moves = matches!(&reply, Ok(Reply::Over(Over::Done { .. })));
+    drop(reply);
+    moves
 }
 
 /// Whether what is in a store is whole, and can be gone on with.
-fn is_sound<F: Folder>(store: &mut FolderStore<F, TickClock>, keys: &Keys) -> bool {
+fn is_sound<S: Answering>(store: &mut S, keys: &Keys) -> bool {
     is_whole(store, keys, At::Main)
         && is_whole(store, keys, At::Snapshot)
         && is_whole(store, keys, At::Other)
@@ -442,11 +440,11 @@ fn is_sound<F: Folder>(store: &mut FolderStore<F, TickClock>, keys: &Keys) -> bo
 
 /// Whether what a program that was cut off has left is whole, and can be gone on with.
 fn goes_on(rt: HostRuntime, path: &str, keys: &Keys) -> bool {
-    let Ok(mut opened) = open(rt, path, TickClock::new()) else {
+    let Ok(mut claimed) = claim_at(rt, path) else {
         return false;
     };
-    let is_sound = is_sound(&mut opened.store, keys);
-    drop(opened);
+    let is_sound = is_sound(&mut claimed.store, keys);
+    drop(claimed);
     is_sound
 }
 
@@ -491,18 +489,18 @@ fn a_program_that_is_cut_off_leaves_whole_files(rt: HostRuntime) -> Result<(), F
 }
 
 /// Leaves a thousand files and more where files are put aside, and one that was never put there.
-fn litter<R: Files + AllocGlobal>(files: &R) -> io::Result<()> {
+fn litter(rt: HostRuntime) -> io::Result<()> {
     for number in 0..1200u32 {
-        let path = format!(in files.alloc(); "leftovers/icerepo.new/{number}")?;
-        fs::write(files, path.as_str(), "cut off")?;
+        let path = format!(in rt.alloc(); "leftovers/icerepo.new/{number}")?;
+        fs::write(&rt, path.as_str(), "cut off")?;
     }
-    fs::write(files, "leftovers/icerepo.new/readme", "mine")
+    fs::write(&rt, "leftovers/icerepo.new/readme", "mine")
 }
 
 /// Whether a put is done beside leftovers, and what is there then can be gone on with.
 fn puts_beside_litter(rt: HostRuntime, keys: &Keys) -> bool {
     begins(rt, "leftovers", keys)
-        && litter(&rt).is_ok()
+        && litter(rt).is_ok()
         && makes(rt, "leftovers", &keys.other, &Call::New(b"made"))
         && goes_on(rt, "leftovers", keys)
 }
@@ -524,7 +522,7 @@ fn leftovers_never_stop_a_put(rt: HostRuntime) -> Result<(), Fail> {
 }
 
 /// Whether a snapshot is put.
-fn puts<F: Folder>(store: &mut FolderStore<F, TickClock>, id: Id12) -> bool {
+fn puts<S: Answering>(store: &mut S, id: Id12) -> bool {
     let key = Key::Snapshot(id);
     let puts = answers(store, &key, &Call::New(b"one"));
     drop(key);
@@ -532,8 +530,8 @@ fn puts<F: Folder>(store: &mut FolderStore<F, TickClock>, id: Id12) -> bool {
 }
 
 /// Puts two snapshots in the directory at this path: whether the first put was done, and whether the second one was.
-fn two_puts<R: Files + AllocGlobal + Clone + Drop>(files: R, path: &str) -> Option<(bool, bool)> {
-    let mut store = DirStore::at(files, path, TickClock::new()).ok()?;
+fn two_puts(files: Breaking<'_>, path: &str) -> Option<(bool, bool)> {
+    let mut store = BreakingStore::at(files, path)?;
     let first = puts(&mut store, Id12([1; 12]));
     let second = puts(&mut store, Id12([2; 12]));
     drop(store);

@@ -4,7 +4,7 @@ use dir_store::{FolderStore, version_for};
 use folder::Folder;
 use ice_base::{RefName, TickClock};
 use std::alloc::{AllocError, Global};
-use store_api::{Key, Listed, ObjectStore, Part, Polite, Reply, StoreFault, Why};
+use store_api::{CountingStore, Key, Listed, ObjectStore, Part, Polite, Reply, StoreFault, Why};
 
 /// An operation on a key, or on a part.
 #[derive(Clone, Copy)]
@@ -28,8 +28,42 @@ pub(crate) fn branch(alloc: Global, name: &str) -> Option<Key> {
     }
 }
 
-/// Makes an operation.
-pub(crate) fn reply<F: Folder>(
+/// A store that answers operations.
+pub(crate) trait Answering {
+    /// Makes an operation.
+    fn reply(&mut self, key: &Key, call: &Call<'_>) -> Result<Reply, StoreFault>;
+}
+
+/// What a store counts: the operations that were made, and those that failed.
+#[derive(Clone, Copy)]
+pub(crate) struct Counts {
+    pub(crate) operations: u64,
+    pub(crate) faults: u64,
+}
+
+impl Counts {
+    /// What a new store counts.
+    pub(crate) const NONE: Counts = Counts {
+        operations: 0,
+        faults: 0,
+    };
+}
+
+/// Makes an operation on a store, and tells what it counts then.
+pub(crate) fn made_on<F: Folder>(
+    store: &mut FolderStore<F, TickClock>,
+    counts: &mut Counts,
+    key: &Key,
+    call: &Call<'_>,
+) -> Result<Reply, StoreFault> {
+    let reply = reply_on(store, key, call);
+    counts.faults = store.faults();
+    counts.operations = CountingStore::operations(&*store);
+    reply
+}
+
+/// Makes an operation on a store over a folder.
+pub(crate) fn reply_on<F: Folder>(
     store: &mut FolderStore<F, TickClock>,
     key: &Key,
     call: &Call<'_>,
@@ -53,24 +87,16 @@ pub(crate) fn reply<F: Folder>(
 }
 
 /// Whether an operation failed.
-pub(crate) fn fails<F: Folder>(
-    store: &mut FolderStore<F, TickClock>,
-    key: &Key,
-    call: &Call<'_>,
-) -> bool {
-    let reply = reply(store, key, call);
+pub(crate) fn fails<S: Answering>(store: &mut S, key: &Key, call: &Call<'_>) -> bool {
+    let reply = store.reply(key, call);
     let failed = matches!(&reply, Err(StoreFault::Failed));
     drop(reply);
     failed
 }
 
 /// Whether an operation is answered.
-pub(crate) fn answers<F: Folder>(
-    store: &mut FolderStore<F, TickClock>,
-    key: &Key,
-    call: &Call<'_>,
-) -> bool {
-    let reply = reply(store, key, call);
+pub(crate) fn answers<S: Answering>(store: &mut S, key: &Key, call: &Call<'_>) -> bool {
+    let reply = store.reply(key, call);
     let answers = reply.is_ok();
     drop(reply);
     answers
@@ -92,22 +118,22 @@ fn add_reply(lines: &mut String, reply: &Result<Reply, StoreFault>) -> Result<()
 }
 
 /// Makes an operation, and adds what it answers.
-fn add_call<F: Folder>(
+fn add_call<S: Answering>(
     lines: &mut String,
-    store: &mut FolderStore<F, TickClock>,
+    store: &mut S,
     key: &Key,
     call: &Call<'_>,
 ) -> Result<(), AllocError> {
-    let reply = reply(store, key, call);
+    let reply = store.reply(key, call);
     let added = add_reply(lines, &reply);
     drop(reply);
     added
 }
 
 /// Makes operations on a key, and adds what they answer.
-pub(crate) fn add_calls<F: Folder>(
+pub(crate) fn add_calls<S: Answering>(
     lines: &mut String,
-    store: &mut FolderStore<F, TickClock>,
+    store: &mut S,
     key: &Key,
     calls: &[Call<'_>],
 ) -> Result<(), AllocError> {
@@ -118,9 +144,9 @@ pub(crate) fn add_calls<F: Folder>(
 }
 
 /// What the operations on a key answer, a line each; of a listing a line for each entry.
-pub(crate) fn told<F: Folder>(
+pub(crate) fn told<S: Answering>(
     alloc: Global,
-    store: &mut FolderStore<F, TickClock>,
+    store: &mut S,
     key: &Key,
     calls: &[Call<'_>],
 ) -> Option<String> {

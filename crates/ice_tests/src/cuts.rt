@@ -1,84 +1,16 @@
 //! A program that is killed at each call of one commit that changes something, over a folder in memory.
 
-ghost use Rattle.std.specs.Prelude.{false, refl};
-ghost use Rattle.dir_store.specs.Store.{view_of};
-
 use crate::checking::holds;
 use crate::runs::{report, script};
-use dir_store::FolderStore;
+use crate::stores::MemoryStore;
 use folder::MemoryFolder;
-use ice_base::TickClock;
 use ice_ids::Draw;
 use play_at_once::OpenGate;
 use std::alloc::{AllocError, Global};
 use std::sync::Wait;
 use std::test::Fail;
 use std::thread::Threads;
-use store_api::{
-    CountingStore, Gone, GoneAt, Got, Key, Listed, New, ObjectStore, Over, Part, Rule, StoreFault,
-    Version, Viewed, WholeStore, Why,
-};
 use top_call::{Ended, run};
-
-/// The store in a folder in memory, in a type of its own, so that threads that share it ask for no folder.
-#[derive(Drop)]
-struct InMemory {
-    store: FolderStore<MemoryFolder, TickClock>,
-}
-
-impl Viewed for InMemory {
-    ghost view = { λ s. view_of s.store };
-}
-
-impl<L: Rule> ObjectStore<L> for InMemory {
-    fn get(&mut self, key: &Key) -> Result<Got, StoreFault> {
-        ObjectStore::<L>::get(&mut self.store, key)
-    }
-
-    fn put_new(&mut self, key: &Key, bytes: &[u8], why: Why) -> Result<New, StoreFault> {
-        ObjectStore::<L>::put_new(&mut self.store, key, bytes, why)
-    }
-
-    fn put_over(
-        &mut self,
-        key: &Key,
-        bytes: &[u8],
-        old: Version,
-        why: Why,
-    ) -> Result<Over, StoreFault> {
-        ObjectStore::<L>::put_over(&mut self.store, key, bytes, old, why)
-    }
-
-    fn remove(&mut self, key: &Key, why: Why) -> Result<Gone, StoreFault> {
-        ObjectStore::<L>::remove(&mut self.store, key, why)
-    }
-
-    fn remove_at(&mut self, key: &Key, old: Version, why: Why) -> Result<GoneAt, StoreFault> {
-        ObjectStore::<L>::remove_at(&mut self.store, key, old, why)
-    }
-
-    fn list(&mut self, part: Part) -> Result<Listed, StoreFault> {
-        ObjectStore::<L>::list(&mut self.store, part)
-    }
-}
-
-impl WholeStore for InMemory {
-    ghost tells = { false };
-
-    fn set_client(&mut self, client: u32) {
-        self.store.set_client(client);
-    }
-
-    ghost told = { λ s. refl };
-
-    ghost alone = { λ s. record { low = refl; end = refl } };
-}
-
-impl CountingStore for InMemory {
-    fn operations(&self) -> u64 {
-        self.store.operations()
-    }
-}
 
 /// The first commit.
 const FIRST: &str = "task a write main 0 fail\n\
@@ -112,20 +44,19 @@ fn played<R: Threads + Wait + Sync>(
     tree: MemoryFolder,
 ) -> Result<(String, MemoryFolder), AllocError> {
     let mut asked = script(alloc, text).ok_or(AllocError)?;
-    let store = FolderStore::over(tree, alloc, "d", TickClock::new())?;
+    let store = MemoryStore::over(alloc, tree)?;
     let Ended { store, .. } = run(
         rt,
         alloc,
         asked.words.as_slice(),
         Draw::Stream([seed; 32]),
         &mut asked.input,
-        InMemory { store },
+        store,
         &OpenGate,
         &mut asked.output,
     );
     let report = report(alloc, &asked);
     drop(asked);
-    let InMemory { store } = store;
     let tree = store.into_tree();
     match report {
         Some(report) => Ok((report, tree)),

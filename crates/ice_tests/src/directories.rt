@@ -1,15 +1,14 @@
 //! The directory as a store, its claims, and its opening.
 
-use crate::calls::{Call, add_calls, branch, fails, told};
+use crate::calls::{Call, branch, fails, told};
 use crate::checking::{holds, made, removed, says};
-use dir_store::{Claim, DirStore, OpenFault, Opened, open};
+use crate::stores::{HostStore, claim_at};
+use dir_store::{Claim, OpenFault};
 use ice_base::TickClock;
 use ice_ids::Id12;
-use std::alloc::AllocError;
-use std::rt::Files;
 use std::test::Fail;
 use std::{fs, io};
-use store_api::{CountingStore, Key, Part, StoreFault};
+use store_api::{Key, Part, StoreFault};
 
 /// What operations on a key answer in the directory at this path.
 pub(crate) fn told_at(
@@ -18,7 +17,7 @@ pub(crate) fn told_at(
     key: &Key,
     calls: &[Call<'_>],
 ) -> Option<String> {
-    let mut store = DirStore::at(rt, path, TickClock::new()).ok()?;
+    let mut store = HostStore::at(rt, path, TickClock::new()).ok()?;
     let told = told(rt.alloc(), &mut store, key, calls);
     drop(store);
     told
@@ -98,17 +97,17 @@ fn listings_are_in_order(rt: HostRuntime) -> Result<(), Fail> {
 }
 
 /// Lays files and a folder that are no objects.
-fn litter<R: Files>(files: &R) -> io::Result<()> {
+fn litter(rt: HostRuntime) -> io::Result<()> {
     let aside = "passed_over/refs/branch.main/ref.json.0.new";
-    fs::write(files, aside, "cut off")?;
-    fs::write(files, "passed_over/refs/readme", "no object")?;
-    fs::create_dir_all(files, "passed_over/refs/branch.empty")
+    fs::write(&rt, aside, "cut off")?;
+    fs::write(&rt, "passed_over/refs/readme", "no object")?;
+    fs::create_dir_all(&rt, "passed_over/refs/branch.empty")
 }
 
 /// What is listed of a branch beside what is no object.
 fn listed_beside_litter(rt: HostRuntime, path: &str, main: &Key) -> Option<String> {
     drop(told_at(rt, path, main, &[Call::New(b"one")])?);
-    litter(&rt).ok()?;
+    litter(rt).ok()?;
     let calls = [
         Call::List(Part::Branches),
         Call::List(Part::Tags),
@@ -133,20 +132,14 @@ fn listings_pass_over_what_is_no_object(rt: HostRuntime) -> Result<(), Fail> {
 }
 
 /// Whether a put and a listing fail, and are counted.
-fn both_fail<R: Files + AllocGlobal + Clone + Drop>(
-    store: &mut DirStore<R, TickClock>,
-    key: &Key,
-) -> bool {
+fn both_fail(store: &mut HostStore, key: &Key) -> bool {
     fails(store, key, &Call::New(b"one"))
         && fails(store, key, &Call::List(Part::Branches))
-        && store.faults() == 2
+        && store.counts.faults == 2
 }
 
 /// Whether both fail in this store where a file is in the place of a folder.
-fn fail_where_blocked<R: Files + AllocGlobal + Clone + Drop>(
-    rt: HostRuntime,
-    store: &mut DirStore<R, TickClock>,
-) -> bool {
+fn fail_where_blocked(rt: HostRuntime, store: &mut HostStore) -> bool {
     let blocked = fs::write(&rt, "failing/refs", "a file in the place of the folder");
     let Some(main) = branch(rt.alloc(), "main") else {
         return false;
@@ -158,7 +151,7 @@ fn fail_where_blocked<R: Files + AllocGlobal + Clone + Drop>(
 
 /// Whether both fail where a file is in the place of a folder.
 fn fail_at(rt: HostRuntime, path: &str) -> bool {
-    let Ok(mut store) = DirStore::at(rt, path, TickClock::new()) else {
+    let Ok(mut store) = HostStore::at(rt, path, TickClock::new()) else {
         return false;
     };
     let fail = fail_where_blocked(rt, &mut store);
@@ -168,14 +161,14 @@ fn fail_at(rt: HostRuntime, path: &str) -> bool {
 
 #[test]
 fn failures_are_counted(rt: HostRuntime) -> Result<(), Fail> {
-    let missing = DirStore::at(rt, "not_there", TickClock::new()).err();
+    let missing = HostStore::at(rt, "not_there", TickClock::new()).err();
     holds(missing == Some(StoreFault::Failed), "not_there")?;
     holds(made(rt, "failing") && fail_at(rt, "failing"), "failing")?;
     removed(rt, "failing")
 }
 
 fn opening_fault(rt: HostRuntime, path: &str) -> Option<OpenFault> {
-    open(rt, path, TickClock::new()).err()
+    claim_at(rt, path).err()
 }
 
 fn is_taken(fault: Option<OpenFault>) -> bool {
@@ -227,33 +220,26 @@ fn what_is_no_directory_is_not_opened(rt: HostRuntime) -> Result<(), Fail> {
     holds(fs::remove_file(&rt, "a_file").is_ok(), "a file")
 }
 
-/// How many operations a store counts that may go to another thread.
-fn count<S: CountingStore + Send>(store: &S) -> u64 {
-    store.operations()
+/// A store that may go to another thread.
+fn sent<S: Send>(store: &S) -> &S {
+    store
 }
 
 fn is_drawn(seed: &[u8; 32]) -> bool {
     seed.as_slice() != [0; 32].as_slice()
 }
 
-/// Adds how many operations are counted, and whether a seed was drawn.
-fn add_counted(
-    told: &mut String,
-    opened: &Opened<HostRuntime, TickClock>,
-) -> Result<(), AllocError> {
-    let (counted, drawn) = (count(&opened.store), is_drawn(&opened.seed));
-    write!(told, "{counted} {drawn}")
-}
-
 /// What three operations answer, how many are counted, and whether a seed was drawn.
 fn counted(rt: HostRuntime, path: &str, key: &Key) -> Option<String> {
-    let mut opened = open(rt, path, TickClock::new()).ok()?;
+    let mut claimed = claim_at(rt, path).ok()?;
     let calls = [Call::New(b"one"), Call::Get, Call::List(Part::Tags)];
-    let mut told = String::new(rt.alloc());
-    let made = add_calls(&mut told, &mut opened.store, key, &calls);
-    let added = add_counted(&mut told, &opened);
-    drop(opened);
-    (made.is_ok() && added.is_ok()).then_some(told)
+    let told = told(rt.alloc(), &mut claimed.store, key, &calls);
+    let counted = sent(&claimed.store).counts.operations;
+    let drawn = is_drawn(&claimed.seed);
+    drop(claimed);
+    let mut told = told?;
+    write!(told, "{counted} {drawn}").ok()?;
+    Some(told)
 }
 
 fn counted_at(rt: HostRuntime, path: &str) -> Option<String> {

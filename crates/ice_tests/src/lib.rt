@@ -12,6 +12,8 @@ mod calls;
 #[cfg(test)]
 mod checking;
 #[cfg(test)]
+mod collections;
+#[cfg(test)]
 mod cutoffs;
 #[cfg(test)]
 mod cuts;
@@ -41,6 +43,8 @@ mod runs;
 mod sessions;
 #[cfg(test)]
 mod sizes;
+#[cfg(test)]
+mod stores;
 #[cfg(test)]
 mod tables;
 #[cfg(test)]

@@ -1,9 +1,10 @@
 //! Objects of many sizes, through all six operations: in a directory, with a reopening between, and over a folder in memory.
 
-use crate::calls::{Call, add_calls, reply, told};
+use crate::calls::{Answering, Call, add_calls, told};
 use crate::checking::{made, none, removed};
-use dir_store::{DirStore, FolderStore, content_version};
-use folder::{Folder, MemoryFolder};
+use crate::stores::{HostStore, MemoryStore};
+use dir_store::content_version;
+use folder::MemoryFolder;
 use ice_base::{Clock, TickClock};
 use ice_ids::Id12;
 use std::alloc::{AllocError, Global};
@@ -40,8 +41,8 @@ fn is_found(got: &Got, bytes: &[u8]) -> bool {
 }
 
 /// Whether these bytes stand at the key.
-fn has<F: Folder>(store: &mut FolderStore<F, TickClock>, key: &Key, bytes: &[u8]) -> bool {
-    let reply = reply(store, key, &Call::Get);
+fn has<S: Answering>(store: &mut S, key: &Key, bytes: &[u8]) -> bool {
+    let reply = store.reply(key, &Call::Get);
     let has = match &reply {
         Ok(Reply::Got(got)) => is_found(got, bytes),
         _ => false,
@@ -61,12 +62,7 @@ struct Two<'a> {
 
 /// What is answered where the first bytes are put once, and the second ones over them, at their version alone. Before those are,
 /// the first ones are to stand.
-fn begun<F: Folder>(
-    alloc: Global,
-    store: &mut FolderStore<F, TickClock>,
-    key: &Key,
-    two: Two<'_>,
-) -> Option<String> {
+fn begun<S: Answering>(alloc: Global, store: &mut S, key: &Key, two: Two<'_>) -> Option<String> {
     let calls = [
         Call::New(two.first),
         Call::New(two.second),
@@ -91,12 +87,7 @@ fn begun_text(alloc: Global, two: Two<'_>) -> Result<String, AllocError> {
 
 /// What is answered where what stands there, the second bytes, is listed, removed at its version alone, put again, and removed.
 /// Before that, those are to stand.
-fn ended<F: Folder>(
-    alloc: Global,
-    store: &mut FolderStore<F, TickClock>,
-    key: &Key,
-    two: Two<'_>,
-) -> Option<String> {
+fn ended<S: Answering>(alloc: Global, store: &mut S, key: &Key, two: Two<'_>) -> Option<String> {
     let calls = [
         Call::List(Part::Snapshots),
         Call::RemoveAt(two.first),
@@ -135,22 +126,12 @@ fn is(told: Option<String>, want: Result<String, AllocError>) -> bool {
 }
 
 /// Whether all goes well until the second bytes stand at the key.
-fn begins<F: Folder>(
-    alloc: Global,
-    store: &mut FolderStore<F, TickClock>,
-    key: &Key,
-    two: Two<'_>,
-) -> bool {
+fn begins<S: Answering>(alloc: Global, store: &mut S, key: &Key, two: Two<'_>) -> bool {
     is(begun(alloc, store, key, two), begun_text(alloc, two))
 }
 
 /// Whether all goes well from then on.
-fn ends<F: Folder>(
-    alloc: Global,
-    store: &mut FolderStore<F, TickClock>,
-    key: &Key,
-    two: Two<'_>,
-) -> bool {
+fn ends<S: Answering>(alloc: Global, store: &mut S, key: &Key, two: Two<'_>) -> bool {
     is(ended(alloc, store, key, two), ended_text(alloc, key, two))
 }
 
@@ -165,7 +146,7 @@ fn late_clock() -> TickClock {
 
 /// Whether all goes well in the directory at this path until the second bytes stand at the key.
 fn begins_in(rt: HostRuntime, path: &str, key: &Key, two: Two<'_>) -> bool {
-    let Ok(mut store) = DirStore::at(rt, path, TickClock::new()) else {
+    let Ok(mut store) = HostStore::at(rt, path, TickClock::new()) else {
         return false;
     };
     let begins = begins(rt.alloc(), &mut store, key, two);
@@ -175,7 +156,7 @@ fn begins_in(rt: HostRuntime, path: &str, key: &Key, two: Two<'_>) -> bool {
 
 /// Whether all goes well from then on in the directory at this path, which is opened again.
 fn ends_in(rt: HostRuntime, path: &str, key: &Key, two: Two<'_>) -> bool {
-    let Ok(mut store) = DirStore::at(rt, path, late_clock()) else {
+    let Ok(mut store) = HostStore::at(rt, path, late_clock()) else {
         return false;
     };
     let ends = ends(rt.alloc(), &mut store, key, two);
@@ -190,8 +171,7 @@ fn goes_in(rt: HostRuntime, path: &str, key: &Key, two: Two<'_>) -> bool {
 
 /// Whether all goes well over a folder in memory.
 fn goes_in_memory(alloc: Global, key: &Key, two: Two<'_>) -> bool {
-    let tree = MemoryFolder::new(alloc);
-    let Ok(mut store) = FolderStore::over(tree, alloc, "d", TickClock::new()) else {
+    let Ok(mut store) = MemoryStore::over(alloc, MemoryFolder::new(alloc)) else {
         return false;
     };
     let goes = begins(alloc, &mut store, key, two) && ends(alloc, &mut store, key, two);

@@ -28,7 +28,6 @@ use Rattle.store_api.specs.Journal.{Each, WasPut, ParentPut, snap_in, snap_made}
 use Rattle.store_api.specs.Program.{Done, Ask}
 use Rattle.store_api.specs.Plays.{Play}
 use Rattle.store_api.specs.Running.{Program, on_answer}
-use Rattle.object_store.proofs.Journals.{Each-append, Each-one, Each-weaker}
 use Rattle.object_store.proofs.Slots.{WasPut-append}
 use Rattle.store_api.proofs.Standing.{snap_made-append}
 use Rattle.repo_read.specs.declared.answers.Resolved.{Resolved}
@@ -53,165 +52,170 @@ use Rattle.play_outcome.specs.declared.outcome.End.TheVariants as E
 use Rattle.play_outcome.specs.declared.outcome.Outcome.{Outcome}
 use Rattle.play_outcome.specs.Playing.{refused}
 use Rattle.play_refs.specs.Playing.{Rest, logged, unseen, ref_play, after_ref, play_ref_line, refs_play}
-use Rattle.play_course.specs.Refusing.{is_strange, strange_answer, strange_end}
-use Rattle.play_course.proofs.Tidy.{Client, Draws, IsAny, any-of, stands-readable, stands-first, put-stands, all-named}
+use Rattle.play_course.specs.Refusing.{is_strange, strange_end}
+use Rattle.play_course.proofs.Tidy.{Client, stands-readable, stands-first, put-stands, all-named}
 use Rattle.play_course.proofs.Meeting.{was-read, Meets, PlayMeets, done-meets, ask-meets, then-meets, got-meets, ended-meets, or-meets, call-meets}
-use Rattle.play_course.proofs.Knowing.{OfOthers, OfOwn, beside}
+use Rattle.play_course.proofs.Knowing.{IsKept, OfOthers, OfOwn, beside, kept-next, kept-others, missing-plain}
 use Rattle.play_course.proofs.Naming.{Names, Reads, Resolves, branch-read, tag-read, Tags, resolve-meets}
 
 -- ---- what replies tell
-created-plain : (reply : Reply) → strange_answer (created reply) ≡ false
-created-plain (Is_new (New_done version now)) = refl
-created-plain (Is_new (Present version now)) = refl
-created-plain (Is_got x) = refl
-created-plain (Is_over x) = refl
-created-plain (Is_gone x) = refl
-created-plain (Is_gone_at x) = refl
-created-plain (Is_listed x) = refl
-created-plain (Failed done) = refl
+-- it is refused so
+abbrev strange_by : {A : Type 0} → (collects : Bool) → Result A Refusal → Bool
+strange_by collects (Ok a) = false
+strange_by collects (Err w) = is_strange collects w
 
-moved-plain : (reply : Reply) → strange_answer (moved reply) ≡ false
-moved-plain (Is_over (Over_done version now)) = refl
-moved-plain (Is_over (Over_moved there now)) = refl
-moved-plain (Is_got x) = refl
-moved-plain (Is_new x) = refl
-moved-plain (Is_gone x) = refl
-moved-plain (Is_gone_at x) = refl
-moved-plain (Is_listed x) = refl
-moved-plain (Failed done) = refl
+created-plain : (collects : Bool) (reply : Reply) → strange_by collects (created reply) ≡ false
+created-plain collects (Is_new (New_done version now)) = refl
+created-plain collects (Is_new (Present version now)) = refl
+created-plain collects (Is_got x) = refl
+created-plain collects (Is_over x) = refl
+created-plain collects (Is_gone x) = refl
+created-plain collects (Is_gone_at x) = refl
+created-plain collects (Is_listed x) = refl
+created-plain collects (Failed done) = refl
 
-dropped-plain : (reply : Reply) → strange_answer (dropped reply) ≡ false
-dropped-plain (Is_gone_at (Gone_done now)) = refl
-dropped-plain (Is_gone_at (Gone_moved there now)) = refl
-dropped-plain (Is_got x) = refl
-dropped-plain (Is_new x) = refl
-dropped-plain (Is_over x) = refl
-dropped-plain (Is_gone x) = refl
-dropped-plain (Is_listed x) = refl
-dropped-plain (Failed done) = refl
+moved-plain : (collects : Bool) (reply : Reply) → strange_by collects (moved reply) ≡ false
+moved-plain collects (Is_over (Over_done version now)) = refl
+moved-plain collects (Is_over (Over_moved there now)) = refl
+moved-plain collects (Is_got x) = refl
+moved-plain collects (Is_new x) = refl
+moved-plain collects (Is_gone x) = refl
+moved-plain collects (Is_gone_at x) = refl
+moved-plain collects (Is_listed x) = refl
+moved-plain collects (Failed done) = refl
 
-buried-plain : (reply : Reply) → strange_answer (buried reply) ≡ false
-buried-plain (Is_new (New_done version now)) = refl
-buried-plain (Is_new (Present version now)) = refl
-buried-plain (Is_got x) = refl
-buried-plain (Is_over x) = refl
-buried-plain (Is_gone x) = refl
-buried-plain (Is_gone_at x) = refl
-buried-plain (Is_listed x) = refl
-buried-plain (Failed done) = refl
+dropped-plain : (collects : Bool) (reply : Reply) → strange_by collects (dropped reply) ≡ false
+dropped-plain collects (Is_gone_at (Gone_done now)) = refl
+dropped-plain collects (Is_gone_at (Gone_moved there now)) = refl
+dropped-plain collects (Is_got x) = refl
+dropped-plain collects (Is_new x) = refl
+dropped-plain collects (Is_over x) = refl
+dropped-plain collects (Is_gone x) = refl
+dropped-plain collects (Is_listed x) = refl
+dropped-plain collects (Failed done) = refl
 
-taken-plain : (version : Version) (reply : Reply) → is_strange (taken version reply) ≡ false
-taken-plain version (Is_got (Found bytes at now)) = refl
-taken-plain version (Is_got (Absent now)) = refl
-taken-plain version (Is_new x) = refl
-taken-plain version (Is_over x) = refl
-taken-plain version (Is_gone x) = refl
-taken-plain version (Is_gone_at x) = refl
-taken-plain version (Is_listed x) = refl
-taken-plain version (Failed done) = refl
+buried-plain : (collects : Bool) (reply : Reply) → strange_by collects (buried reply) ≡ false
+buried-plain collects (Is_new (New_done version now)) = refl
+buried-plain collects (Is_new (Present version now)) = refl
+buried-plain collects (Is_got x) = refl
+buried-plain collects (Is_over x) = refl
+buried-plain collects (Is_gone x) = refl
+buried-plain collects (Is_gone_at x) = refl
+buried-plain collects (Is_listed x) = refl
+buried-plain collects (Failed done) = refl
+
+taken-plain : (collects : Bool) (version : Version) (reply : Reply) → is_strange collects (taken version reply) ≡ false
+taken-plain collects version (Is_got (Found bytes at now)) = refl
+taken-plain collects version (Is_got (Absent now)) = refl
+taken-plain collects version (Is_new x) = refl
+taken-plain collects version (Is_over x) = refl
+taken-plain collects version (Is_gone x) = refl
+taken-plain collects version (Is_gone_at x) = refl
+taken-plain collects version (Is_listed x) = refl
+taken-plain collects version (Failed done) = refl
 
 -- absence that is told as that of a ref isn't strange
-no_ref-plain : (w : Refusal) → is_strange w ≡ false → is_strange (no_ref w) ≡ false
-no_ref-plain (R.Missing key) e = refl
-no_ref-plain w e = e
+no_ref-plain : (collects : Bool) (w : Refusal) → is_strange collects w ≡ false → is_strange collects (no_ref w) ≡ false
+no_ref-plain collects (R.Missing key) e = refl
+no_ref-plain collects w e = e
 
 module _ (client : Client) (ids : AnyIds) where
   -- ---- the journal
-  abbrev Tidy : List Event → Type 0
-  Tidy h = Each IsAny [] h
+  abbrev Kept : List Event → Type 0
+  Kept h = IsKept client h
 
-  tidy-others : (journal more : List Event) → Each (OfOthers client ids) journal more → Tidy journal → Tidy (journal ++ more)
-  tidy-others journal more others t = Each-append IsAny [] journal more t (Each-weaker (OfOthers client ids) IsAny (λ h event o. any-of (λ id. ¬ Draws client id) h event o.tidy) journal more others)
+  kept-along : (journal more : List Event) → Each (OfOthers client ids) journal more → Kept journal → Kept (journal ++ more)
+  kept-along journal more others k = kept-others client ids journal more others k
 
-  tidy-own : (journal : List Event) (event : Event) → OfOwn ids journal event → Tidy journal → Tidy (journal ++ event ∷ [])
-  tidy-own journal event own t = Each-append IsAny [] journal (event ∷ []) t (Each-one IsAny journal event own.tidy)
+  kept-own : (journal : List Event) (event : Event) → OfOwn client ids journal event → Kept journal → Kept (journal ++ event ∷ [])
+  kept-own journal event own k = kept-next client journal event own.tidy own.after k
 
-  tidy-got : (journal : List Event) (event : Event) (key : Key) → OfOwn ids journal event → event.op ≡ Get key → Tidy journal → Tidy (journal ++ event ∷ [])
-  tidy-got journal event key own is t = tidy-own journal event own t
+  kept-got : (journal : List Event) (event : Event) (key : Key) → OfOwn client ids journal event → event.op ≡ Get key → Kept journal → Kept (journal ++ event ∷ [])
+  kept-got journal event key own is k = kept-own journal event own k
 
-  tidy-next : (journal more : List Event) (event : Event) → Each (OfOthers client ids) journal more → OfOwn ids (journal ++ more) event → Tidy journal → Tidy ((journal ++ more) ++ event ∷ [])
-  tidy-next journal more event others own t = tidy-own (journal ++ more) event own (tidy-others journal more others t)
+  kept-behind : (journal more : List Event) (event : Event) → Each (OfOthers client ids) journal more → OfOwn client ids (journal ++ more) event → Kept journal → Kept ((journal ++ more) ++ event ∷ [])
+  kept-behind journal more event others own k = kept-own (journal ++ more) event own (kept-along journal more others k)
 
   -- ---- operations
   -- the journal is known still, or the call was refused as it may be
   abbrev Knows : {A : Type 0} → Result A Refusal → List Event → Type 0
-  Knows (Ok a) h = Each IsAny [] h
-  Knows (Err w) h = is_strange w ≡ false
+  Knows (Ok a) h = IsKept client h
+  Knows (Err w) h = is_strange client.collects w ≡ false
 
-  knows-of : {A : Type 0} (r : Result A Refusal) (h : List Event) → strange_answer r ≡ false → Tidy h → Knows r h
+  knows-of : {A : Type 0} (r : Result A Refusal) (h : List Event) → strange_by client.collects r ≡ false → Kept h → Knows r h
   knows-of (Ok a) h p t = t
   knows-of (Err w) h p t = p
 
   -- an operation of which no reply tells anything strange
-  told-meets : {A : Type 0} (op : Op) (told : Reply → Result A Refusal) → ((reply : Reply) → strange_answer (told reply) ≡ false) → (journal : List Event) → Tidy journal → Meets Knows (beside client ids) (Ask op (λ reply. Done (told reply))) journal
+  told-meets : {A : Type 0} (op : Op) (told : Reply → Result A Refusal) → ((reply : Reply) → strange_by client.collects (told reply) ≡ false) → (journal : List Event) → Kept journal → Meets Knows (beside client ids) (Ask op (λ reply. Done (told reply))) journal
   told-meets op told plain journal t =
       ask-meets Knows (beside client ids) op (λ reply. Done (told reply)) journal (λ more event others own is.
-      done-meets Knows (beside client ids) (told event.reply) ((journal ++ more) ++ event ∷ []) (knows-of (told event.reply) ((journal ++ more) ++ event ∷ []) (plain event.reply) (tidy-next journal more event others own t)))
+      done-meets Knows (beside client ids) (told event.reply) ((journal ++ more) ++ event ∷ []) (knows-of (told event.reply) ((journal ++ more) ++ event ∷ []) (plain event.reply) (kept-behind journal more event others own t)))
 
   -- the snapshot that a ref is to name
-  target-meets : (id : Id12) (journal : List Event) → Tidy journal → Meets Knows (beside client ids) (target_program id) journal
+  target-meets : (id : Id12) (journal : List Event) → Kept journal → Meets Knows (beside client ids) (target_program id) journal
   target-meets id journal t =
       ask-meets Knows (beside client ids) (Get (Snapshot id)) (λ reply. Done (target_told id reply)) journal (λ more event others own is.
-      let mid = tidy-others journal more others t in
+      let mid = kept-along journal more others t in
       got-meets Knows (beside client ids) (λ reply. Done (target_told id reply)) (journal ++ more) event own.tidy.good ((journal ++ more) ++ event ∷ []) (Snapshot id) is
-      (λ s at. let can = stands-readable id (journal ++ more) s mid at in
+      (λ s at. let can = stands-readable id (journal ++ more) s mid.tidy at in
       subst (λ (r : Result SnapshotFile Bad). Meets Knows (beside client ids) (Done (but_refused no_snapshot (at_key (Snapshot id) r))) ((journal ++ more) ++ event ∷ [])) (sym (was-read (read_snapshot id s.bytes) can.0 can.1))
-      (done-meets Knows (beside client ids) (Ok can.0) ((journal ++ more) ++ event ∷ []) (tidy-own (journal ++ more) event own mid)))
+      (done-meets Knows (beside client ids) (Ok can.0) ((journal ++ more) ++ event ∷ []) (kept-own (journal ++ more) event own mid)))
       (λ gone. done-meets Knows (beside client ids) (Err R.NoSnapshot) ((journal ++ more) ++ event ∷ []) refl)
       (λ done. done-meets Knows (beside client ids) (Err R.StoreFault) ((journal ++ more) ++ event ∷ []) refl))
 
   -- ---- names
   abbrev Named_well : At → Result Named Refusal → List Event → Type 0
-  Named_well = Resolves client ids Tidy tidy-others tidy-got (λ h k. k)
+  Named_well = Resolves client ids Kept kept-along kept-got (λ h k. k.tidy)
 
-  naming : (at : At) (journal : List Event) → Tidy journal → Meets (Named_well at) (beside client ids) (resolve_at_program at) journal
-  naming at journal t = resolve-meets client ids Tidy tidy-others tidy-got (λ h k. k) at journal t
+  naming : (at : At) (journal : List Event) → Kept journal → Meets (Named_well at) (beside client ids) (resolve_at_program at) journal
+  naming at journal t = resolve-meets client ids Kept kept-along kept-got (λ h k. k.tidy) at journal t
 
   abbrev Read_well : List ℕ → Result Resolved Refusal → List Event → Type 0
-  Read_well = Reads client ids Tidy tidy-others tidy-got (λ h k. k)
+  Read_well = Reads client ids Kept kept-along kept-got (λ h k. k.tidy)
 
-  reading : (name : List ℕ) (journal : List Event) → Tidy journal → Meets (Read_well name) (beside client ids) (resolve_program name) journal
-  reading name journal t = branch-read client ids Tidy tidy-others tidy-got (λ h k. k) name journal t
+  reading : (name : List ℕ) (journal : List Event) → Kept journal → Meets (Read_well name) (beside client ids) (resolve_program name) journal
+  reading name journal t = branch-read client ids Kept kept-along kept-got (λ h k. k.tidy) name journal t
 
   -- ---- branches
-  create-meets : (name : List ℕ) (id : Id12) (journal : List Event) → Tidy journal → Meets Knows (beside client ids) (create_program name id) journal
+  create-meets : (name : List ℕ) (id : Id12) (journal : List Event) → Kept journal → Meets Knows (beside client ids) (create_program name id) journal
   create-meets name id journal t =
       then-meets Knows Knows (beside client ids) (target_program id) (λ target. put_branch name id) journal (target-meets id journal t)
-      (λ target h k. told-meets (PutNew (Branch name) (ref_bytes id) why.Create) created created-plain h k) (λ w h p. p)
+      (λ target h k. told-meets (PutNew (Branch name) (ref_bytes id) why.Create) created (created-plain client.collects) h k) (λ w h p. p)
 
-  new-meets : (name : List ℕ) (at : At) (journal : List Event) → Tidy journal → Meets Knows (beside client ids) (branch_new_program name at) journal
+  new-meets : (name : List ℕ) (at : At) (journal : List Event) → Kept journal → Meets Knows (beside client ids) (branch_new_program name at) journal
   new-meets name at journal t =
       then-meets (Named_well at) Knows (beside client ids) (resolve_at_program at) (λ named. create_program name named.id) journal (naming at journal t)
       (λ named h q. create-meets name named.id h q.0) (λ w h p. p)
 
-  move-meets : (name : List ℕ) (id : Id12) (version : Version) (journal : List Event) → Tidy journal → Meets Knows (beside client ids) (move_program name id version) journal
+  move-meets : (name : List ℕ) (id : Id12) (version : Version) (journal : List Event) → Kept journal → Meets Knows (beside client ids) (move_program name id version) journal
   move-meets name id version journal t =
       then-meets Knows Knows (beside client ids) (target_program id) (λ target. put_over name id version) journal (target-meets id journal t)
-      (λ target h k. told-meets (PutOver (Branch name) (ref_bytes id) version why.Reset) moved moved-plain h k) (λ w h p. p)
+      (λ target h k. told-meets (PutOver (Branch name) (ref_bytes id) version why.Reset) moved (moved-plain client.collects) h k) (λ w h p. p)
 
-  set-meets : (name : List ℕ) (id : Id12) (journal : List Event) → Tidy journal → Meets Knows (beside client ids) (reset_program name id) journal
+  set-meets : (name : List ℕ) (id : Id12) (journal : List Event) → Kept journal → Meets Knows (beside client ids) (reset_program name id) journal
   set-meets name id journal t =
       then-meets (Read_well name) Knows (beside client ids) (resolve_program name) (λ read. move_program name id read.version) journal (reading name journal t)
       (λ read h q. move-meets name id read.version h q.0) (λ w h p. p)
 
-  reset-meets : (name : List ℕ) (at : At) (journal : List Event) → Tidy journal → Meets Knows (beside client ids) (branch_reset_program name at) journal
+  reset-meets : (name : List ℕ) (at : At) (journal : List Event) → Kept journal → Meets Knows (beside client ids) (branch_reset_program name at) journal
   reset-meets name at journal t =
       then-meets (Named_well at) Knows (beside client ids) (resolve_at_program at) (λ named. reset_program name named.id) journal (naming at journal t)
       (λ named h q. set-meets name named.id h q.0) (λ w h p. p)
 
-  drop-meets : (name : List ℕ) (journal : List Event) → Tidy journal → Meets Knows (beside client ids) (branch_drop_program name) journal
+  drop-meets : (name : List ℕ) (journal : List Event) → Kept journal → Meets Knows (beside client ids) (branch_drop_program name) journal
   drop-meets name journal t =
       then-meets (Read_well name) Knows (beside client ids) (resolve_program name) _ journal (reading name journal t)
       (λ read h q. by_name read h q.0 (same_name name main_name)) (λ w h p. p)
     where
-      by_name : (read : Resolved) (h : List Event) → Tidy h → (main : Bool) → Meets Knows (beside client ids) (cond main (Done (Err R.MainKept)) (removal name read.version)) h
+      by_name : (read : Resolved) (h : List Event) → Kept h → (main : Bool) → Meets Knows (beside client ids) (cond main (Done (Err R.MainKept)) (removal name read.version)) h
       by_name read h k true = done-meets Knows (beside client ids) (Err R.MainKept) h refl
-      by_name read h k false = told-meets (RemoveAt (Branch name) read.version why.Drop) dropped dropped-plain h k
+      by_name read h k false = told-meets (RemoveAt (Branch name) read.version why.Drop) dropped (dropped-plain client.collects) h k
 
   -- ---- tags
-  after-meets : (name : List ℕ) (reply : Reply) (journal : List Event) → Tidy journal → Meets Knows (beside client ids) (after_tag name reply) journal
+  after-meets : (name : List ℕ) (reply : Reply) (journal : List Event) → Kept journal → Meets Knows (beside client ids) (after_tag name reply) journal
   after-meets name (Is_new (New_done version now)) journal t = done-meets Knows (beside client ids) (Ok tt) journal t
-  after-meets name (Is_new (Present version now)) journal t = told-meets (Get (TagGone name)) (λ reply. Err (taken version reply)) (taken-plain version) journal t
+  after-meets name (Is_new (Present version now)) journal t = told-meets (Get (TagGone name)) (λ reply. Err (taken version reply)) (taken-plain client.collects version) journal t
   after-meets name (Is_got x) journal t = done-meets Knows (beside client ids) (Err R.StoreFault) journal refl
   after-meets name (Is_over x) journal t = done-meets Knows (beside client ids) (Err R.StoreFault) journal refl
   after-meets name (Is_gone x) journal t = done-meets Knows (beside client ids) (Err R.StoreFault) journal refl
@@ -219,25 +223,25 @@ module _ (client : Client) (ids : AnyIds) where
   after-meets name (Is_listed x) journal t = done-meets Knows (beside client ids) (Err R.StoreFault) journal refl
   after-meets name (Failed done) journal t = done-meets Knows (beside client ids) (Err R.StoreFault) journal refl
 
-  put-tag-meets : (name : List ℕ) (id : Id12) (journal : List Event) → Tidy journal → Meets Knows (beside client ids) (put_tag name id) journal
+  put-tag-meets : (name : List ℕ) (id : Id12) (journal : List Event) → Kept journal → Meets Knows (beside client ids) (put_tag name id) journal
   put-tag-meets name id journal t =
       ask-meets Knows (beside client ids) (PutNew (Tag name) (ref_bytes id) why.Tag) (after_tag name) journal (λ more event others own is.
-      after-meets name event.reply ((journal ++ more) ++ event ∷ []) (tidy-next journal more event others own t))
+      after-meets name event.reply ((journal ++ more) ++ event ∷ []) (kept-behind journal more event others own t))
 
-  tag-target-meets : (name : List ℕ) (id : Id12) (journal : List Event) → Tidy journal → Meets Knows (beside client ids) (tag_target_program name id) journal
+  tag-target-meets : (name : List ℕ) (id : Id12) (journal : List Event) → Kept journal → Meets Knows (beside client ids) (tag_target_program name id) journal
   tag-target-meets name id journal t =
       then-meets Knows Knows (beside client ids) (target_program id) (λ target. put_tag name id) journal (target-meets id journal t)
       (λ target h k. put-tag-meets name id h k) (λ w h p. p)
 
-  tag-meets : (name : List ℕ) (at : At) (journal : List Event) → Tidy journal → Meets Knows (beside client ids) (tag_new_program name at) journal
+  tag-meets : (name : List ℕ) (at : At) (journal : List Event) → Kept journal → Meets Knows (beside client ids) (tag_new_program name at) journal
   tag-meets name at journal t =
       then-meets (Named_well at) Knows (beside client ids) (resolve_at_program at) (λ named. tag_target_program name named.id) journal (naming at journal t)
       (λ named h q. tag-target-meets name named.id h q.0) (λ w h p. p)
 
-  untag-meets : (name : List ℕ) (journal : List Event) → Tidy journal → Meets Knows (beside client ids) (tag_drop_program name) journal
+  untag-meets : (name : List ℕ) (journal : List Event) → Kept journal → Meets Knows (beside client ids) (tag_drop_program name) journal
   untag-meets name journal t =
-      then-meets (Tags client ids Tidy tidy-others tidy-got (λ h k. k)) Knows (beside client ids) (tag_program name) (λ tagged. put_tombstone name) journal (tag-read client ids Tidy tidy-others tidy-got (λ h k. k) name journal t)
-      (λ tagged h q. told-meets (PutNew (TagGone name) [] why.Drop) buried buried-plain h q.0) (λ w h p. p)
+      then-meets (Tags client ids Kept kept-along kept-got (λ h k. k.tidy)) Knows (beside client ids) (tag_program name) (λ tagged. put_tombstone name) journal (tag-read client ids Kept kept-along kept-got (λ h k. k.tidy) name journal t)
+      (λ tagged h q. told-meets (PutNew (TagGone name) [] why.Drop) buried (buried-plain client.collects) h q.0) (λ w h p. p)
 
   -- ---- logs
   -- what follows a snapshot
@@ -251,57 +255,57 @@ module _ (client : Client) (ids : AnyIds) where
   rest left seen r = on_answer (λ (f : SnapshotFile). behind left seen f f.parent) r
 
   abbrev WalksOn : ℕ → Type 0
-  WalksOn left = (seen : List SnapshotFile) (id : Id12) (journal : List Event) → Tidy journal → WasPut journal (Snapshot id) → Meets Knows (beside client ids) (walk left seen id) journal
+  WalksOn left = (seen : List SnapshotFile) (id : Id12) (journal : List Event) → Kept journal → WasPut journal (Snapshot id) → Meets Knows (beside client ids) (walk left seen id) journal
 
-  parent-meets : (left : ℕ) (seen : List SnapshotFile) (f : SnapshotFile) (journal : List Event) → Tidy journal → ((parent : Id12) → f.parent ≡ Some parent → WasPut journal (Snapshot parent)) → WalksOn left → (o : Option Id12) → f.parent ≡ o → Meets Knows (beside client ids) (behind left seen f o) journal
+  parent-meets : (left : ℕ) (seen : List SnapshotFile) (f : SnapshotFile) (journal : List Event) → Kept journal → ((parent : Id12) → f.parent ≡ Some parent → WasPut journal (Snapshot parent)) → WalksOn left → (o : Option Id12) → f.parent ≡ o → Meets Knows (beside client ids) (behind left seen f o) journal
   parent-meets left seen f journal t put go None e = done-meets Knows (beside client ids) (Ok (seen ++ f ∷ [])) journal t
   parent-meets left seen f journal t put go (Some parent) e = go (seen ++ f ∷ []) parent journal t (put parent e)
 
   -- what follows a snapshot that stands
-  read-meets : (left : ℕ) (seen : List SnapshotFile) (id : Id12) (journal : List Event) (event : Event) (s : Stored) → Tidy journal → OfOwn ids journal event → found journal (Snapshot id) ≡ Some s → WalksOn left → (f : SnapshotFile) → snapshot_by id s.bytes ≡ Some f
+  read-meets : (left : ℕ) (seen : List SnapshotFile) (id : Id12) (journal : List Event) (event : Event) (s : Stored) → Kept journal → OfOwn client ids journal event → found journal (Snapshot id) ≡ Some s → WalksOn left → (f : SnapshotFile) → snapshot_by id s.bytes ≡ Some f
       → Meets Knows (beside client ids) (rest left seen (at_key (Snapshot id) (read_snapshot id s.bytes))) (journal ++ event ∷ [])
   read-meets left seen id journal event s t own at go f read =
-      let after : Tidy (journal ++ event ∷ []) = tidy-own journal event own t in
-      let made : snap_made journal id ≡ Some f = ap (snap_in id) (stands-first (Snapshot id) tt journal s t at) ∙ read in
+      let after : Kept (journal ++ event ∷ []) = kept-own journal event own t in
+      let made : snap_made journal id ≡ Some f = ap (snap_in id) (stands-first (Snapshot id) tt journal s t.tidy t.so_far.once at) ∙ read in
       let made_after : snap_made (journal ++ event ∷ []) id ≡ Some f = snap_made-append journal (event ∷ []) id f made in
       subst (λ (r : Result SnapshotFile Bad). Meets Knows (beside client ids) (rest left seen (at_key (Snapshot id) r)) (journal ++ event ∷ [])) (sym (was-read (read_snapshot id s.bytes) f read))
-      (parent-meets left seen f (journal ++ event ∷ []) after (λ parent e. subst (ParentPut (journal ++ event ∷ [])) made_after ((all-named (journal ++ event ∷ []) after).parents id) parent e) go f.parent refl)
+      (parent-meets left seen f (journal ++ event ∷ []) after (λ parent e. subst (ParentPut (journal ++ event ∷ [])) made_after ((all-named (journal ++ event ∷ []) after.tidy).parents id) parent e) go f.parent refl)
 
   walk-meets : (left : ℕ) → WalksOn left
   unfolding walk
   walk-meets zero seen id journal t put = done-meets Knows (beside client ids) (Err R.TooDeep) journal refl
   walk-meets (suc left) seen id journal t put =
       ask-meets Knows (beside client ids) (Get (Snapshot id)) (λ reply. rest left seen (snapshot_told id reply)) journal (λ more event others own is.
-      let mid = tidy-others journal more others t in
+      let mid = kept-along journal more others t in
       got-meets Knows (beside client ids) (λ reply. rest left seen (snapshot_told id reply)) (journal ++ more) event own.tidy.good ((journal ++ more) ++ event ∷ []) (Snapshot id) is
-      (λ s at. let can = stands-readable id (journal ++ more) s mid at in read-meets left seen id (journal ++ more) event s mid own at (walk-meets left) can.0 can.1)
-      (λ gone. absurd (put-stands (Snapshot id) tt (journal ++ more) mid (WasPut-append journal more (Snapshot id) put) gone))
+      (λ s at. let can = stands-readable id (journal ++ more) s mid.tidy at in read-meets left seen id (journal ++ more) event s mid own at (walk-meets left) can.0 can.1)
+      (λ gone. done-meets Knows (beside client ids) (Err (R.Missing (Snapshot id))) ((journal ++ more) ++ event ∷ []) (missing-plain client.collects (Snapshot id) (λ none. put-stands (Snapshot id) tt (journal ++ more) (mid.so_far.stand none) (WasPut-append journal more (Snapshot id) put) gone)))
       (λ done. done-meets Knows (beside client ids) (Err R.StoreFault) ((journal ++ more) ++ event ∷ []) refl))
 
   -- where absence is told as that of a ref
   now-meets : {A : Type 0} (p : Program A) (journal : List Event) → Meets Knows (beside client ids) p journal → Meets Knows (beside client ids) (refused_now no_ref p) journal
   unfolding Meets
   now-meets (Done (Ok x)) journal m = m
-  now-meets (Done (Err w)) journal m = no_ref-plain w m
+  now-meets (Done (Err w)) journal m = no_ref-plain client.collects w m
   now-meets (Ask op next) journal m = m
 
-  first-meets : (left : ℕ) (id : Id12) (journal : List Event) → Tidy journal → Meets Knows (beside client ids) (refused_first no_ref (walk left [] id)) journal
+  first-meets : (left : ℕ) (id : Id12) (journal : List Event) → Kept journal → Meets Knows (beside client ids) (refused_first no_ref (walk left [] id)) journal
   unfolding walk
   first-meets zero id journal t = done-meets Knows (beside client ids) (Err R.TooDeep) journal refl
   first-meets (suc left) id journal t =
       ask-meets Knows (beside client ids) (Get (Snapshot id)) (λ reply. refused_now no_ref (rest left [] (snapshot_told id reply))) journal (λ more event others own is.
-      let mid = tidy-others journal more others t in
+      let mid = kept-along journal more others t in
       got-meets Knows (beside client ids) (λ reply. refused_now no_ref (rest left [] (snapshot_told id reply))) (journal ++ more) event own.tidy.good ((journal ++ more) ++ event ∷ []) (Snapshot id) is
-      (λ s at. let can = stands-readable id (journal ++ more) s mid at in now-meets _ ((journal ++ more) ++ event ∷ []) (read-meets left [] id (journal ++ more) event s mid own at (walk-meets left) can.0 can.1))
+      (λ s at. let can = stands-readable id (journal ++ more) s mid.tidy at in now-meets _ ((journal ++ more) ++ event ∷ []) (read-meets left [] id (journal ++ more) event s mid own at (walk-meets left) can.0 can.1))
       (λ gone. done-meets Knows (beside client ids) (Err R.NoRef) ((journal ++ more) ++ event ∷ []) refl)
       (λ done. done-meets Knows (beside client ids) (Err R.StoreFault) ((journal ++ more) ++ event ∷ []) refl))
 
-  chain-meets : (at : At) (named : Named) (journal : List Event) → Tidy journal → Names at named journal → Meets Knows (beside client ids) (chain_at at named.id) journal
+  chain-meets : (at : At) (named : Named) (journal : List Event) → Kept journal → Names at named journal → Meets Knows (beside client ids) (chain_at at named.id) journal
   chain-meets (At.Branch name) named journal t n = walk-meets most_snapshots [] named.id journal t (n.put tt)
   chain-meets (At.Tag name) named journal t n = walk-meets most_snapshots [] named.id journal t (n.put tt)
   chain-meets (At.Snapshot own) named journal t n = first-meets most_snapshots named.id journal t
 
-  log-meets : (at : At) (journal : List Event) → Tidy journal → Meets Knows (beside client ids) (log_program at) journal
+  log-meets : (at : At) (journal : List Event) → Kept journal → Meets Knows (beside client ids) (log_program at) journal
   log-meets at journal t =
       then-meets (Named_well at) Knows (beside client ids) (resolve_at_program at) _ journal (naming at journal t)
       (λ named h q.
@@ -311,7 +315,7 @@ module _ (client : Client) (ids : AnyIds) where
 
   -- ---- lines
   abbrev Ends : Outcome → Type 0
-  Ends o = strange_end o.end ≡ false
+  Ends o = strange_end client.collects o.end ≡ false
 
   abbrev Follows : (Result (List Shown) Refusal → Play Outcome) → Type 0
   Follows next = (r : Result (List Shown) Refusal) (h : List Event) → Knows r h → PlayMeets Ends (beside client ids) (next r) h
@@ -324,7 +328,7 @@ module _ (client : Client) (ids : AnyIds) where
   follows-logged line next go (Ok lines) h k = go (logged line (Ok lines)) h k
   follows-logged line next go (Err w) h k = go (Err w) h k
 
-  ref-meets : (line : ℕ) (c : RefCall) (next : Result (List Shown) Refusal → Play Outcome) (journal : List Event) → Tidy journal → Follows next → PlayMeets Ends (beside client ids) (ref_play line c next) journal
+  ref-meets : (line : ℕ) (c : RefCall) (next : Result (List Shown) Refusal → Play Outcome) (journal : List Event) → Kept journal → Follows next → PlayMeets Ends (beside client ids) (ref_play line c next) journal
   ref-meets line (ref.Branch name at) next journal t go =
       call-meets Ends (beside client ids) Knows (branch_new_program name at) (λ answer. next (unseen answer)) journal (new-meets name at journal t) (follows-unseen next go) (λ h. go (Err R.NoMemory) h refl)
   ref-meets line (ref.Reset name at) next journal t go =
@@ -338,24 +342,24 @@ module _ (client : Client) (ids : AnyIds) where
   ref-meets line (ref.Log at) next journal t go =
       call-meets Ends (beside client ids) Knows (log_program at) (λ answer. next (logged line answer)) journal (log-meets at journal t) (follows-logged line next go) (λ h. go (Err R.NoMemory) h refl)
 
-  refused-meets : (line : ℕ) (shown : List Shown) (w : Refusal) (journal : List Event) → is_strange w ≡ false → PlayMeets Ends (beside client ids) (refused line shown w) journal
+  refused-meets : (line : ℕ) (shown : List Shown) (w : Refusal) (journal : List Event) → is_strange client.collects w ≡ false → PlayMeets Ends (beside client ids) (refused line shown w) journal
   refused-meets line shown w journal p = ended-meets Ends (beside client ids) (record { shown = shown; end = E.Refused line w }) journal p
 
   abbrev GoesOn : Rest → Type 0
-  GoesOn next = (shown : List Shown) (h : List Event) → Tidy h → PlayMeets Ends (beside client ids) (next shown) h
+  GoesOn next = (shown : List Shown) (h : List Event) → Kept h → PlayMeets Ends (beside client ids) (next shown) h
 
   after-line : (line : ℕ) (shown : List Shown) (next : Rest) → GoesOn next → Follows (after_ref line shown next)
   after-line line shown next go (Ok more) h k = go (shown ++ more) h k
   after-line line shown next go (Err w) h p = refused-meets line shown w h p
 
-  line-meets : (line : ℕ) (made : Call) (shown : List Shown) (next : Rest) (journal : List Event) → Tidy journal → GoesOn next → PlayMeets Ends (beside client ids) (play_ref_line line made shown next) journal
+  line-meets : (line : ℕ) (made : Call) (shown : List Shown) (next : Rest) (journal : List Event) → Kept journal → GoesOn next → PlayMeets Ends (beside client ids) (play_ref_line line made shown next) journal
   line-meets line (calls.Ref c) shown next journal t go = ref-meets line c (after_ref line shown next) journal t (after-line line shown next go)
   line-meets line (calls.Edit edit) shown next journal t go = go shown journal t
   line-meets line (calls.Read look) shown next journal t go = go shown journal t
   line-meets line (calls.Commit message) shown next journal t go = go shown journal t
 
   -- a task on refs ends by no strange refusal
-  pub calls-meet : (lines : List Line) (shown : List Shown) (journal : List Event) → Tidy journal → PlayMeets (λ o. strange_end o.end ≡ false) (beside client ids) (refs_play lines shown) journal
+  pub calls-meet : (lines : List Line) (shown : List Shown) (journal : List Event) → Kept journal → PlayMeets (λ o. strange_end client.collects o.end ≡ false) (beside client ids) (refs_play lines shown) journal
   unfolding refs_play
   calls-meet [] shown journal t = ended-meets Ends (beside client ids) (record { shown = shown; end = E.Done }) journal refl
   calls-meet (l ∷ ls) shown journal t =

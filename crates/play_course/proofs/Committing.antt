@@ -1,5 +1,5 @@
 -- What a commit answers in a run over an empty store.
-use Rattle.std.proofs.Common.{◌≡◌, ◌≢◌, ℕ, Bool, true, false, cond, List, [], ◌∷◌, ◌++◌, length, refl, sym, ◌∙◌, ap, subst}
+use Rattle.std.proofs.Common.{◌≡◌, ◌≢◌, ℕ, Bool, true, false, cond, List, [], ◌∷◌, ◌++◌, length, refl, sym, ap, subst}
 use Rattle.std.specs.Prelude.{Option, Some, None, Result, Ok, Err, nat_lt}
 use Rattle.ice_ids.specs.declared.Id12.{Id12}
 use Rattle.ice_ids.specs.declared.drawing.AnyIds.{AnyIds}
@@ -21,7 +21,7 @@ use Rattle.snapshot_file.specs.Layout.{snapshot_bytes}
 use Rattle.txn_file.specs.Layout.{log_file}
 use Rattle.ref_file.specs.Refs.{ref_bytes}
 use Rattle.repo_objects.specs.declared.bad.Bad.{Bad}
-use Rattle.repo_objects.specs.Readings.{manifest_by, read_manifest}
+use Rattle.repo_objects.specs.Readings.{read_manifest}
 use Rattle.changed_snapshot.specs.Rows.{own_manifests}
 use Rattle.object_store.specs.declared.keys.Key.TheVariants.{Snapshot, Manifest, Txn, Branch}
 use Rattle.object_store.specs.declared.keys.Why.TheVariants.{Set, Commit as For_commit}
@@ -32,7 +32,7 @@ use Rattle.object_store.specs.declared.events.Reply.TheVariants.{Got as Is_got, 
 use Rattle.object_store.specs.declared.events.Event.{Event}
 use Rattle.store_api.specs.declared.machines.Refusal.{Refusal}
 use Rattle.store_api.specs.declared.machines.Refusal.TheVariants as R
-use Rattle.object_store.specs.Machine.{Stored, found, version_at, is_on}
+use Rattle.object_store.specs.Machine.{found, version_at, is_on}
 use Rattle.store_api.specs.Journal.{Each, IsGood}
 use Rattle.store_api.specs.Program.{Done, Ask}
 use Rattle.store_api.specs.Running.{on_answer}
@@ -49,16 +49,13 @@ use Rattle.run_histories.proofs.Drawing.{drawn12-of, object-draws}
 use Rattle.play_course.specs.Refusing.{is_strange}
 use Rattle.play_course.proofs.Tidy.{Client, Draws, AreIts, IsTidy, spared-snapshot, free-others, free-apart}
 use Rattle.play_course.proofs.Meeting.{was-read, Meets, done-meets, ask-meets, then-meets, got-meets, put-meets}
-use Rattle.play_course.proofs.Knowing.{OfOthers, OfOwn, Before, beside, before-others, before-got, before-under, before-put, before-over, spent-differs, drawn-now, good-others}
+use Rattle.play_course.proofs.Knowing.{OfOthers, OfOwn, Before, beside, before-others, before-got, before-under, before-put, before-over, spent-differs, drawn-now, good-others, missing-plain}
 use Rattle.play_course.proofs.Holding.{MayCommit, AreOfBase, own-of-base, manifest-stands}
-
-some-same : {A : Type 0} (a b : A) → Some a ≡ Some b → a ≡ b
-some-same a b e = cc
 
 module _ (client : Client) (ids : AnyIds) (s : SessionState) where
   -- what is held while objects are written: nothing stands under what is still to be drawn, and the base is known
   pub record Writes (next : AnyIds) (journal : List Event) : Type 0 where
-    pub before : Before next journal
+    pub before : Before client next journal
     pub known : AreIts client next
     pub opened : IsOpened s journal
 
@@ -69,7 +66,7 @@ module _ (client : Client) (ids : AnyIds) (s : SessionState) where
     opened = IsOpened-append s journal more (good-others client ids journal more others) k.opened;
   }
 
-  opened-own : (journal : List Event) (event : Event) → OfOwn ids journal event → IsOpened s journal → IsOpened s (journal ++ event ∷ [])
+  opened-own : (journal : List Event) (event : Event) → OfOwn client ids journal event → IsOpened s journal → IsOpened s (journal ++ event ∷ [])
   opened-own journal event own o = IsOpened-append s journal (event ∷ []) (Each-one IsGood journal event own.tidy.good) o
 
   drawn-known : (next : AnyIds) → AreIts client next → AreIts client (after12 next)
@@ -77,11 +74,11 @@ module _ (client : Client) (ids : AnyIds) (s : SessionState) where
 
   abbrev WritesWell : Result Written Refusal → List Event → Type 0
   WritesWell (Ok w) h = Writes w.ids h
-  WritesWell (Err why) h = is_strange why ≡ false
+  WritesWell (Err why) h = is_strange client.collects why ≡ false
 
   abbrev GotWell : Written → Result (List Listed) Refusal → List Event → Type 0
   GotWell w (Ok old) h = Writes w.ids h
-  GotWell w (Err why) h = is_strange why ≡ false
+  GotWell w (Err why) h = is_strange client.collects why ≡ false
 
   -- ---- old manifests
   old-meets : (w : Written) (ms : List ManifestRef) → AreOfBase s.rows ms → (seen : List Listed) (journal : List Event) → Writes w.ids journal → Meets (GotWell w) (beside client ids) (old_program ms seen) journal
@@ -91,14 +88,13 @@ module _ (client : Client) (ids : AnyIds) (s : SessionState) where
       ask-meets (GotWell w) (beside client ids) (Get (Manifest m.id)) (λ reply. on_answer (λ file. old_program ms (seen ++ (m.extents, file) ∷ [])) (manifest_told m.id reply)) journal (λ more event others own is.
       let mid = writes-others w.ids journal more others k in
       let after : Writes w.ids ((journal ++ more) ++ event ∷ []) = record { before = before-got client ids w.ids k.known (journal ++ more) event (Manifest m.id) own is mid.before; known = k.known; opened = opened-own (journal ++ more) event own mid.opened } in
-      let stands = manifest-stands s (journal ++ more) mid.before.tidy mid.before.so_far mid.opened m of_base.0 in
+      let stands = manifest-stands client.collects s (journal ++ more) mid.before.so_far mid.opened m of_base.0 in
       got-meets (GotWell w) (beside client ids) (λ reply. on_answer (λ file. old_program ms (seen ++ (m.extents, file) ∷ [])) (manifest_told m.id reply)) (journal ++ more) event own.tidy.good ((journal ++ more) ++ event ∷ []) (Manifest m.id) is
       (λ st e.
-      let same : st ≡ stands.stored = some-same st stands.stored (sym e ∙ stands.found_is) in
-      let read : read_manifest m.id st.bytes ≡ Ok stands.file = was-read (read_manifest m.id st.bytes) stands.file (subst (λ (x : Stored). manifest_by m.id x.bytes ≡ Some stands.file) (sym same) stands.read) in
+      let read : read_manifest m.id st.bytes ≡ Ok stands.file = was-read (read_manifest m.id st.bytes) stands.file (stands.read st e) in
       subst (λ (r : Result ManifestFile Bad). Meets (GotWell w) (beside client ids) (on_answer (λ file. old_program ms (seen ++ (m.extents, file) ∷ [])) (at_key (Manifest m.id) r)) ((journal ++ more) ++ event ∷ [])) (sym read)
       (old-meets w ms of_base.1 (seen ++ (m.extents, stands.file) ∷ []) ((journal ++ more) ++ event ∷ []) after))
-      (λ gone. let no = sym stands.found_is ∙ gone in absurd cc)
+      (λ gone. done-meets (GotWell w) (beside client ids) (Err (R.Missing (Manifest m.id))) ((journal ++ more) ++ event ∷ []) (missing-plain client.collects (Manifest m.id) (λ none. stands.there none gone)))
       (λ done. done-meets (GotWell w) (beside client ids) (Err R.StoreFault) ((journal ++ more) ++ event ∷ []) refl))
 
   -- ---- a new manifest
@@ -142,7 +138,7 @@ module _ (client : Client) (ids : AnyIds) (s : SessionState) where
   abbrev pub CommitsWell : Result Tried Refusal → List Event → Type 0
   CommitsWell (Ok (Was_done made)) h = Unit {0}
   CommitsWell (Ok (Lost old found next)) h = MayCommit client (record s { ids = next }) h
-  CommitsWell (Err why) h = is_strange why ≡ false
+  CommitsWell (Err why) h = is_strange client.collects why ≡ false
 
   -- the session that draws other ids
   left-opened : (next : AnyIds) (journal : List Event) → IsOpened s journal → IsOpened (record s { ids = next }) journal
@@ -163,7 +159,7 @@ module _ (client : Client) (ids : AnyIds) (s : SessionState) where
   over-meets id next journal k = ask-meets CommitsWell (beside client ids) (PutOver (Branch (branch_of s)) (ref_bytes id) (version_at (version_of s)) For_commit) (after_branch s id next) journal (λ more event others own is.
       let mid = writes-others next journal more others k in
       branch-meets id next event.reply ((journal ++ more) ++ event ∷ []) (record {
-        before = before-over ids next (journal ++ more) event (branch_of s) (ref_bytes id) (version_at (version_of s)) For_commit own is mid.before;
+        before = before-over client ids next (journal ++ more) event (branch_of s) (ref_bytes id) (version_at (version_of s)) For_commit own is mid.before;
         known = k.known;
         opened = opened-own (journal ++ more) event own mid.opened;
       }))
@@ -182,7 +178,7 @@ module _ (client : Client) (ids : AnyIds) (s : SessionState) where
       let mid = writes-others next journal more others k in
       put-meets CommitsWell (beside client ids) (after_snapshot s id next) (journal ++ more) event own.tidy.good ((journal ++ more) ++ event ∷ []) (Snapshot id) file Set is (snapshot-free id d journal more others free)
       (λ told. over-meets id next ((journal ++ more) ++ event ∷ []) (record {
-        before = before-under ids next (journal ++ more) event (Snapshot id) file Set id own is refl differs mid.before;
+        before = before-under client ids next (journal ++ more) event (Snapshot id) file Set id own is refl differs mid.before;
         known = k.known;
         opened = opened-own (journal ++ more) event own mid.opened;
       }))

@@ -83,33 +83,33 @@ module _ (who : Id12 → Type 0) where
 
 -- ---- the closing reading
 -- a branch, a tag or a tombstone
-abbrev IsNamed : Key → Type 0
+abbrev pub IsNamed : Key → Type 0
 IsNamed (Branch name) = Unit {0}
 IsNamed (Tag name) = Unit {0}
 IsNamed (TagGone name) = Unit {0}
 IsNamed _ = ⊥
 
 -- a branch or a tag
-abbrev IsRef : Key → Type 0
+abbrev pub IsRef : Key → Type 0
 IsRef (Branch name) = Unit {0}
 IsRef (Tag name) = Unit {0}
 IsRef _ = ⊥
 
-abbrev AllNamedKeys : List Entry → Type 0
+abbrev pub AllNamedKeys : List Entry → Type 0
 AllNamedKeys [] = Unit {0}
 AllNamedKeys (e ∷ es) = IsNamed e.key × AllNamedKeys es
 
-abbrev AllRefs : List Key → Type 0
+abbrev pub AllRefs : List Key → Type 0
 AllRefs [] = Unit {0}
 AllRefs (k ∷ ks) = IsRef k × AllRefs ks
 
 -- the part of refs
-abbrev IsRefs : Part → Type 0
+abbrev pub IsRefs : Part → Type 0
 IsRefs Branches = Unit {0}
 IsRefs Tags = Unit {0}
 IsRefs _ = ⊥
 
-named-in : (part : Part) (key : Key) → IsRefs part → part_of key ≡ part → IsNamed key
+pub named-in : (part : Part) (key : Key) → IsRefs part → part_of key ≡ part → IsNamed key
 named-in part (Branch name) r e = tt
 named-in part (Tag name) r e = tt
 named-in part (TagGone name) r e = tt
@@ -119,7 +119,7 @@ named-in part (Manifest id) r e = subst IsRefs (sym e) r
 named-in part (Txn id) r e = subst IsRefs (sym e) r
 named-in part (Chunk id) r e = subst IsRefs (sym e) r
 
-all-entries : (entries : List Entry) → ((k : ℕ) (e : Entry) → slice_get entries k ≡ Some e → IsNamed e.key) → AllNamedKeys entries
+pub all-entries : (entries : List Entry) → ((k : ℕ) (e : Entry) → slice_get entries k ≡ Some e → IsNamed e.key) → AllNamedKeys entries
 all-entries [] f = tt
 all-entries (e ∷ es) f = (f zero e refl, all-entries es (λ k x at. f (suc k) x at))
 
@@ -137,9 +137,20 @@ live-one (Manifest id) behind keys n all = absurd n
 live-one (Txn id) behind keys n all = absurd n
 live-one (Chunk id) behind keys n all = absurd n
 
-live-refs : (entries : List Entry) → AllNamedKeys entries → AllRefs (live entries)
+pub live-refs : (entries : List Entry) → AllNamedKeys entries → AllRefs (live entries)
 live-refs [] a = tt
 live-refs (e ∷ es) a = live-one e.key es (live es) a.0 (live-refs es a.1)
+
+-- what stands at a ref names a snapshot that was put
+pub named-at : (key : Key) (journal : List Event) (s : Stored) → IsRef key → Each IsAny [] journal → found journal key ≡ Some s → NamesPut journal s.bytes
+named-at (Branch name) journal s r tidy e = (all-named journal tidy).branches name s e
+named-at (Tag name) journal s r tidy e = (all-named journal tidy).tags name s e
+named-at (TagGone name) journal s r tidy e = absurd r
+named-at (Lease id) journal s r tidy e = absurd r
+named-at (Snapshot id) journal s r tidy e = absurd r
+named-at (Manifest id) journal s r tidy e = absurd r
+named-at (Txn id) journal s r tidy e = absurd r
+named-at (Chunk id) journal s r tidy e = absurd r
 
 module _ (who : Id12 → Type 0) where
   tidy-next : (journal more : List Event) (event : Event) → Each IsAny [] journal → Each (IsTidy who) journal more → IsAny (journal ++ more) event → Each IsAny [] ((journal ++ more) ++ event ∷ [])
@@ -148,7 +159,7 @@ module _ (who : Id12 → Type 0) where
   -- a listing answers branches or tags
   Lists : Result (List Entry) Refusal → List Event → Type 0
   Lists (Ok entries) h = Each IsAny [] h × AllNamedKeys entries
-  Lists (Err why) h = is_strange why ≡ false
+  Lists (Err why) h = is_strange false why ≡ false
 
   list-meets : (part : Part) (journal : List Event) → IsRefs part → Each IsAny [] journal → Meets Lists (drawing who) (list_part part) journal
   unfolding Lists
@@ -162,17 +173,7 @@ module _ (who : Id12 → Type 0) where
   -- a ref that stands is a reference
   Reads : {A : Type 0} → Result A Refusal → List Event → Type 0
   Reads (Ok a) h = Each IsAny [] h
-  Reads (Err why) h = is_strange why ≡ false
-
-  named-at : (key : Key) (journal : List Event) (s : Stored) → IsRef key → Each IsAny [] journal → found journal key ≡ Some s → NamesPut journal s.bytes
-  named-at (Branch name) journal s r tidy e = (all-named journal tidy).branches name s e
-  named-at (Tag name) journal s r tidy e = (all-named journal tidy).tags name s e
-  named-at (TagGone name) journal s r tidy e = absurd r
-  named-at (Lease id) journal s r tidy e = absurd r
-  named-at (Snapshot id) journal s r tidy e = absurd r
-  named-at (Manifest id) journal s r tidy e = absurd r
-  named-at (Txn id) journal s r tidy e = absurd r
-  named-at (Chunk id) journal s r tidy e = absurd r
+  Reads (Err why) h = is_strange false why ≡ false
 
   ref-meets : (key : Key) (journal : List Event) → IsRef key → Each IsAny [] journal → Meets Reads (drawing who) (read_ref key) journal
   unfolding Reads

@@ -56,11 +56,11 @@ use Rattle.play_course.proofs.Tasks.{IsPlain, EndsFine, refused_as, put-plain, e
 -- ---- lines that are refused without an operation
 silent-plain : (r : Result SessionState Refusal) → IsPlain r → IsPlain (silent r)
 silent-plain (Ok s) p why e = cc
-silent-plain (Err own) p why e = let same : own ≡ why = cc in subst (λ (w : Refusal). is_strange w ≡ false) same (p own refl)
+silent-plain (Err own) p why e = let same : own ≡ why = cc in subst (λ (w : Refusal). is_strange false w ≡ false) same (p own refl)
 
 still-plain : (s : SessionState) (r : Result (List Shown) Refusal) → IsPlain r → IsPlain (still s r)
 still-plain s (Ok shown) p why e = cc
-still-plain s (Err own) p why e = let same : own ≡ why = cc in subst (λ (w : Refusal). is_strange w ≡ false) same (p own refl)
+still-plain s (Err own) p why e = let same : own ≡ why = cc in subst (λ (w : Refusal). is_strange false w ≡ false) same (p own refl)
 
 -- no refusal of the line is strange
 abbrev DeedIsPlain : Deed → Type 0
@@ -126,8 +126,8 @@ NeverHides ids task client start journal =
 same-why : (end : End) (line other : ℕ) (why own : Refusal) → end ≡ E.Refused line why → end ≡ E.Refused other own → own ≡ why
 same-why end line other why own e f = let both = sym e ∙ f in cc
 
-not-strange : (why : Refusal) → SaysHidden why → is_strange why ≡ false → ⊥
-not-strange why h p = let both = sym (ap is_strange h.is) ∙ p in absurd cc
+not-strange : (why : Refusal) → SaysHidden why → is_strange false why ≡ false → ⊥
+not-strange why h p = let both = sym (ap (is_strange false) h.is) ∙ p in absurd cc
 
 -- no ref is a log
 log-no-ref : (at : At) (id : Id12) → Txn id ≡ named.key_of at → ⊥
@@ -146,7 +146,7 @@ module _ (ids : AnyIds) (task : Task) (client : ℕ) (start journal : List Event
   not-refused (Goes r) s why h p t = not-strange why h (p why t.0)
   not-refused (Sets path index bytes) s why h p t =
       let f = (subst (λ (w : Refusal). SetTells client s path index bytes start (Err w) journal) h.is t).0 in
-      let both = ap is_strange f.2 ∙ edit-plain f.0 in
+      let both = ap (is_strange false) f.2 ∙ edit-plain f.0 in
       absurd cc
   not-refused (Reads path index show) s why h p t = (subst (λ (w : Refusal). GetTells client s path index start (Err w) journal) h.is t).0.unfit
   not-refused (Commits message) s why h p t = absurd t
@@ -211,11 +211,13 @@ module _ (ids : AnyIds) (task : Task) (client : ℕ) (start journal : List Event
         ]
 
   -- so no refusal of it is strange
-  pub told-plain : (outcome : Outcome) → WasNotOpened ids access task client start outcome journal ⊎ WasOpened ids access task client start outcome journal → EndsFine outcome.end → strange_end outcome.end ≡ false
-  told-plain outcome t fine = by_end outcome.end refl fine
+  pub told-plain : (collects : Bool) (outcome : Outcome) → WasNotOpened ids access task client start outcome journal ⊎ WasOpened ids access task client start outcome journal → EndsFine collects outcome.end → strange_end collects outcome.end ≡ false
+  told-plain collects outcome t fine = by_end outcome.end refl fine
     where
-      by_end : (end : End) → outcome.end ≡ end → EndsFine end → strange_end end ≡ false
+      by_end : (end : End) → outcome.end ≡ end → EndsFine collects end → strange_end collects end ≡ false
       by_end (E.Committed id) e f = refl
+      by_end (E.Collected removed) e f = refl
       by_end E.Done e f = refl
+      by_end (E.Stopped line why removed) e plain = plain
       by_end (E.Refused line why) e (inl plain) = plain
       by_end (E.Refused line why) e (inr h) = absurd (never-told outcome line why e h t)

@@ -1,5 +1,5 @@
--- What a client knows of its session in a run over an empty store: all that it reads is there.
-use Rattle.std.proofs.Common.{◌≡◌, ℕ, Bool, true, false, cond, List, [], ◌∷◌, ◌++◌, length, refl, sym, ◌∙◌, ap, subst, eq-eqb}
+-- What a client knows of its session in a run over an empty store: all that it reads was put, and stands where no task collects.
+use Rattle.std.proofs.Common.{◌≡◌, ◌≢◌, ℕ, Bool, true, false, cond, List, [], ◌∷◌, ◌++◌, length, refl, sym, ◌∙◌, ap, subst, eq-eqb}
 use Rattle.std.specs.Prelude.{Option, Some, None, IsSome, option_map, option_and_then}
 use Rattle.std.specs.List.{Contains}
 use Rattle.ice_ids.specs.declared.Id8.{Id8}
@@ -34,36 +34,35 @@ use Rattle.commit_path.specs.Opened.{IsOpened}
 use Rattle.commit_path.proofs.Knowing.{IsOpened-append}
 use Rattle.commit_path.proofs.Readable.{some_of, own-chunk}
 use Rattle.commit_path.proofs.Having.{here, there}
-use Rattle.run_histories.proofs.Along.{IsObject}
+use Rattle.collecting.specs.Walks.{IsObject}
 use Rattle.run_histories.proofs.Sources.{node-spends}
 use Rattle.run_histories.proofs.Drawing.{are-among}
 use Rattle.run_histories.proofs.Edits.{OwnAreNew, IsKept, GoesOn}
 use Rattle.run_histories.proofs.Sized.{normal-in, sized-keeps}
 use Rattle.chunk_calls.proofs.Seen.{IsThere}
-use Rattle.play_course.proofs.Tidy.{Client, AreIts, IsAny, put-stands}
+use Rattle.play_course.proofs.Tidy.{Client, AreIts, put-stands}
 use Rattle.play_course.proofs.Knowing.{IsSoFar, OfOthers, OfOwn, Before, before-others, before-got, good-others}
 
 some-same : {A : Type 0} (a b : A) → Some a ≡ Some b → a ≡ b
 some-same a b e = cc
 
--- ---- what was put last stands
-pub record StandsWith (journal : List Event) (key : Key) (bytes : List ℕ) : Type 0 where
-  pub stored : Stored
-  pub found_is : found journal key ≡ Some stored
-  pub bytes_are : stored.bytes ≡ bytes
+-- ---- what was put last
+-- it stands, where no task collects; and where something stands at the key, it is this
+pub record StandsAs (collects : Bool) (journal : List Event) (key : Key) (bytes : List ℕ) : Type 0 where
+  pub there : collects ≡ false → found journal key ≢ None
+  pub bytes_are : (s : Stored) → found journal key ≡ Some s → s.bytes ≡ bytes
 
-pub last-stands : (journal : List Event) (key : Key) (bytes : List ℕ) → IsObject key → Each IsAny [] journal → last_put journal key ≡ Some bytes → StandsWith journal key bytes
-last-stands journal key bytes object tidy last = by_found (found journal key) refl
-  where
-    by_found : (o : Option Stored) → found journal key ≡ o → StandsWith journal key bytes
-    by_found None e = absurd (put-stands key object journal tidy ((sound journal key).begun bytes last) e)
-    by_found (Some s) e = record { stored = s; found_is = e; bytes_are = some-same s.bytes bytes (sym ((sound journal key).last s e) ∙ last) }
+pub last-stands : (collects : Bool) (journal : List Event) (key : Key) (bytes : List ℕ) → IsObject key → IsSoFar collects journal → last_put journal key ≡ Some bytes → StandsAs collects journal key bytes
+last-stands collects journal key bytes object so_far last = record {
+  there = λ none. put-stands key object journal (so_far.stand none) ((sound journal key).begun bytes last);
+  bytes_are = λ s e. some-same s.bytes bytes (sym ((sound journal key).last s e) ∙ last);
+}
 
 -- ---- a session
 -- The client draws by its own source, and nothing stands under what it may draw; the changes are those of lines of its task, whose node ids
 -- are new to the base; and what the session knows of its base holds.
 pub record Held (client : Client) (ids : AnyIds) (s : SessionState) (journal : List Event) : Type 0 where
-  pub before : Before s.ids journal
+  pub before : Before client s.ids journal
   pub known : AreIts client s.ids
   pub goes : GoesOn ids s
   pub own : OwnAreNew ids s
@@ -72,7 +71,7 @@ pub record Held (client : Client) (ids : AnyIds) (s : SessionState) (journal : L
 -- What is enough for a commit or a rebase: the client draws by its own source, nothing stands under what it may draw, and what the session knows of
 -- its base holds.
 pub record MayCommit (client : Client) (s : SessionState) (journal : List Event) : Type 0 where
-  pub before : Before s.ids journal
+  pub before : Before client s.ids journal
   pub known : AreIts client s.ids
   pub opened : IsOpened s journal
 
@@ -87,7 +86,7 @@ module _ (client : Client) (ids : AnyIds) (s : SessionState) where
     opened = IsOpened-append s journal more (good-others client ids journal more others) m.opened;
   }
 
-  pub may-got : (journal : List Event) (event : Event) (key : Key) → OfOwn ids journal event → event.op ≡ Get key → MayCommit client s journal → MayCommit client s (journal ++ event ∷ [])
+  pub may-got : (journal : List Event) (event : Event) (key : Key) → OfOwn client ids journal event → event.op ≡ Get key → MayCommit client s journal → MayCommit client s (journal ++ event ∷ [])
   may-got journal event key own is m = record {
     before = before-got client ids s.ids m.known journal event key own is m.before;
     known = m.known;
@@ -95,8 +94,8 @@ module _ (client : Client) (ids : AnyIds) (s : SessionState) where
   }
 
 -- all that the base names is readable, and its tree is well formed
-pub base-of : (s : SessionState) (journal : List Event) → IsSoFar journal → IsOpened s journal → HasTree (puts_of journal) s.rows
-base-of s journal so_far o =
+pub base-of : (collects : Bool) (s : SessionState) (journal : List Event) → IsSoFar collects journal → IsOpened s journal → HasTree (puts_of journal) s.rows
+base-of collects s journal so_far o =
     let t = so_far.trees s.base o.put in
     subst (HasTree (puts_of journal)) (some-same t.rows s.rows (sym t.is ∙ o.rows so_far.once)) t.has
 
@@ -112,7 +111,7 @@ module _ (client : Client) (ids : AnyIds) (s : SessionState) where
 
   module _ (journal : List Event) (h : Held client ids s journal) where
     pub base-has : HasTree (puts_of journal) s.rows
-    base-has = base-of s journal h.before.so_far h.opened
+    base-has = base-of client.collects s journal h.before.so_far h.opened
 
     pub has-chunks : HasChunks (puts_of journal) s.held.chunks
     has-chunks = h.opened.chunks h.before.so_far.once
@@ -156,24 +155,27 @@ own-of-base rows path node = by_row (row_at rows path) refl
       | false ↦ tt
     ]
 
--- it stands, and reads as this
-pub record ManifestStands (journal : List Event) (id : Id12) : Type 0 where
+-- it was put, and reads as this where it stands; and it does where no task collects
+pub record ManifestStands (collects : Bool) (journal : List Event) (id : Id12) : Type 0 where
   pub file : ManifestFile
   pub put : manifest_put (puts_of journal) id ≡ Some file
-  pub stored : Stored
-  pub found_is : found journal (Manifest id) ≡ Some stored
-  pub read : manifest_by id stored.bytes ≡ Some file
+  pub there : collects ≡ false → found journal (Manifest id) ≢ None
+  pub read : (s : Stored) → found journal (Manifest id) ≡ Some s → manifest_by id s.bytes ≡ Some file
 
 and-then : {A B : Type 0} (f : A → Option B) (o : Option A) (b : B) → option_and_then f o ≡ Some b → (a : A) × (o ≡ Some a) × (f a ≡ Some b)
 and-then f None b e = absurd cc
 and-then f (Some a) b e = (a, refl, e)
 
-pub manifest-stands : (s : SessionState) (journal : List Event) → Each IsAny [] journal → IsSoFar journal → IsOpened s journal → (m : ManifestRef) → IsOfBase s.rows m → ManifestStands journal m.id
-manifest-stands s journal tidy so_far opened m o =
-    let file = some_of (manifest_put (puts_of journal) m.id) ((base-of s journal so_far opened).readable.manifests o.path o.row m o.there o.named) in
-    let bytes = and-then (manifest_by m.id) (last_put journal (Manifest m.id)) file.0 file.1 in
-    let stands = last-stands journal (Manifest m.id) bytes.0 tt tidy bytes.1 in
-    record { file = file.0; put = file.1; stored = stands.stored; found_is = stands.found_is; read = ap (manifest_by m.id) stands.bytes_are ∙ bytes.2 }
+pub put-reads : (collects : Bool) (journal : List Event) (id : Id12) (file : ManifestFile) → IsSoFar collects journal → manifest_put (puts_of journal) id ≡ Some file → ManifestStands collects journal id
+put-reads collects journal id file so_far put =
+    let bytes = and-then (manifest_by id) (last_put journal (Manifest id)) file put in
+    let stands = last-stands collects journal (Manifest id) bytes.0 tt so_far bytes.1 in
+    record { file = file; put = put; there = stands.there; read = λ s e. ap (manifest_by id) (stands.bytes_are s e) ∙ bytes.2 }
+
+pub manifest-stands : (collects : Bool) (s : SessionState) (journal : List Event) → IsSoFar collects journal → IsOpened s journal → (m : ManifestRef) → IsOfBase s.rows m → ManifestStands collects journal m.id
+manifest-stands collects s journal so_far opened m o =
+    let file = some_of (manifest_put (puts_of journal) m.id) ((base-of collects s journal so_far opened).readable.manifests o.path o.row m o.there o.named) in
+    put-reads collects journal m.id file.0 so_far file.1
 
 module _ (client : Client) (ids : AnyIds) (s : SessionState) (journal : List Event) (h : Held client ids s journal) where
   -- ---- a chunk

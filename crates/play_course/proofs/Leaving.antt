@@ -1,5 +1,5 @@
 -- The histories of a course.
-use Rattle.std.proofs.Common.{◌≡◌, ℕ, inl, inr, List, [], refl, sym, ◌∙◌, ap, subst, append-nil}
+use Rattle.std.proofs.Common.{◌≡◌, ◌⊎◌, ℕ, inl, inr, List, [], refl, sym, ◌∙◌, ap, subst, append-nil}
 use Rattle.std.specs.Prelude.{◌↔◌, Option, Some, None, Result, Ok, Err, IsTrue, IfOk, IfErr, All}
 use Rattle.std.specs.declared.alloc.AllocError.{AllocError}
 use Rattle.ice_ids.specs.declared.Id12.{Id12}
@@ -9,7 +9,7 @@ use Rattle.object_store.specs.declared.events.Event.{Event}
 use Rattle.object_store.specs.declared.keys.Key.TheVariants.{Branch, Tag, TagGone}
 use Rattle.store_api.specs.declared.machines.Refusal.{Refusal}
 use Rattle.object_store.specs.Machine.{Stored, found}
-use Rattle.store_api.specs.Journal.{IsGood, tree_of}
+use Rattle.store_api.specs.Journal.{Each, IsGood, tree_of}
 use Rattle.store_api.specs.Callers.{Caller, View, HasAll, as_client}
 use Rattle.store_api.specs.Program.{Done, Path}
 use Rattle.object_store.proofs.Journals.{Each-none}
@@ -20,7 +20,7 @@ use Rattle.histories.specs.Tags.{TagState, Absent, Stands, Gone, made_as}
 use Rattle.histories.specs.TagCalls.{tag_of, IsBuriedAs, StandsByState}
 use Rattle.histories.specs.Files.{Files}
 use Rattle.histories.specs.Formats.{files_by, applied}
-use Rattle.store_api.specs.Running.{Program, Runs}
+use Rattle.store_api.specs.Running.{Program, IsCutOff, Runs}
 use Rattle.repository.specs.Beginning.{begin_program}
 use Rattle.repository.specs.Refs.{refs_program}
 use Rattle.repository.specs.Closing.{HasLine, tag_line, NamesAt, TellsRefs, RefsLaw}
@@ -30,19 +30,28 @@ use Rattle.play_outcome.specs.declared.outcome.Outcome.{Outcome}
 use Rattle.play_outcome.specs.declared.outcome.RefLine.{RefLine}
 use Rattle.play_tasks.specs.Tasks.{IsOfClient}
 use Rattle.run_histories.specs.Sources.{IsNewRun}
-use Rattle.run_histories.specs.Runs.{RanAlone, PlayedAlone, IsSound, IsRun}
+use Rattle.run_histories.specs.Runs.{RanAlone, PlayedAlone, IsBy, IsSound, IsRun}
 use Rattle.run_histories.specs.Told.{HasHistories, RunLaw}
 use Rattle.play_course.specs.declared.course.Played.{Played}
 use Rattle.play_course.specs.Course.{Course, OnlyBegan, Plays}
 use Rattle.play_course.specs.Leaving.{TagEndsAt, TellsEnds, LeavesBranches}
-use Rattle.play_course.proofs.Playing.{at-once, tells-on}
+use Rattle.play_course.proofs.Playing.{at-once, own-zero, tells-on}
 
 -- ---- the parts of a run
+-- what is left of a program that came to its end, or to where memory ran out
+left-of : {A : Type 0} (p : Program A) (own : List Event) (result : Result A Refusal) → Path p own (Done result) ⊎ IsCutOff p own result → (q : Program A) × Path p own q
+left-of p own result (inl path) = (Done result, path)
+left-of p own result (inr cut) = (cut.left, cut.path)
+
 pub ran-alone : {A : Type 0} (p : Program A) (result : Result A Refusal) (old new : View) → IsTrue old.caller.tells → HasAll old.caller → Runs old new p result → RanAlone p old.seen new.seen
-ran-alone p result old new told all r = elim r.ends [
-  | inl path ↦ record { own = r.own; is = (r.alone told all).is; good = (r.alone told all).good; left = Done result; path = path }
-  | inr cut ↦ record { own = r.own; is = (r.alone told all).is; good = (r.alone told all).good; left = cut.left; path = cut.path }
-]
+ran-alone p result old new told all r =
+    let left = left-of p r.own result r.ends in
+    record { own = r.own; is = (r.alone told all).is; good = (r.alone told all).good; left = left.0; path = left.1 }
+
+-- where client 0 ran it, the events are its
+ran-zero : {A : Type 0} (p : Program A) (result : Result A Refusal) (old new : View) (told : IsTrue old.caller.tells) (all : HasAll (as_client 0 old).caller) (r : Runs (as_client 0 old) new p result) → Each (IsBy 0) old.seen (ran-alone p result (as_client 0 old) new told all r).own
+unfolding ran-alone
+ran-zero p result old new told all r = own-zero old new p result r told
 
 plays-alone : (draw : Draw) (script : Script) (old new : View) (opening : Result (Unit {0}) Refusal) (outcomes : List Outcome) → IsTrue old.caller.tells → Plays draw script old new opening outcomes → PlayedAlone draw script.tasks old.seen new.seen
 plays-alone draw script old new (Ok done) outcomes t p = let r = at-once script.turns draw script.tasks old.caller.tells outcomes old.seen new.seen p.ran in record { own = r.own; is = r.is t; owed = r.careful t }
@@ -141,6 +150,7 @@ course-run draw script old new opening outcomes refs wells c t =
       opening = ran-alone begin_program opening (as_client 0 old) c.begun t all c.begins;
       playing = plays-alone draw script c.begun c.played opening outcomes begun_tells c.plays;
       closing = ran-alone refs_program refs (as_client 0 c.played) new played_tells last_all c.reads;
+      reader = ran-zero refs_program refs c.played new played_tells last_all c.reads;
     }
 
 -- its tasks began behind the opening
@@ -182,6 +192,7 @@ began-kept run draw script old new wells b t before sound new_run =
       opening = ran-alone begin_program b.opening (as_client 0 old) new t all b.begins;
       playing = record { own = []; is = sym (append-nil new.seen); owed = Each-none (IsOfClient draw script.tasks new.seen) new.seen };
       closing = record { own = []; is = sym (append-nil new.seen); good = Each-none IsGood new.seen; left = refs_program; path = Path-none refs_program };
+      reader = Each-none (IsBy 0) new.seen;
     })
 
 pub unplayed-kept : RunLaw → (draw : Draw) (script : Script) (old new : View) (result : Result Played AllocError) → IsWell script → IfErr result (λ error. OnlyBegan old new) → IsTrue old.caller.tells → (before : ℕ → Changes) → IsSound old.seen before → IsNewRun draw script.tasks old.seen

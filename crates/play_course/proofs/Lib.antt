@@ -13,5 +13,7 @@ mod Opening
 mod Calling
 mod Tasks
 mod Edges
+mod Marking
+mod Collecting
 mod Hiding
 mod Whole

@@ -1,6 +1,6 @@
 -- What the resolution of a name answers in a run over an empty store: what a ref names was put.
-use Rattle.std.proofs.Common.{◌≡◌, ℕ, Bool, true, false, cond, List, [], ◌∷◌, ◌++◌, refl, sym, subst}
-use Rattle.std.specs.Prelude.{Some, None, Result, Ok, Err}
+use Rattle.std.proofs.Common.{◌≡◌, ℕ, Bool, true, false, List, [], ◌∷◌, ◌++◌, refl, sym, subst}
+use Rattle.std.specs.Prelude.{Some, Result, Ok, Err}
 use Rattle.ice_ids.specs.declared.Id12.{Id12}
 use Rattle.ice_ids.specs.declared.drawing.AnyIds.{AnyIds}
 use Rattle.repo_objects.specs.declared.bad.Bad.{Bad}
@@ -51,14 +51,14 @@ branch-tip name read journal n false = n
 abbrev pub ByOthers : Client → AnyIds → (List Event → Type 0) → Type 0
 ByOthers client ids K = (journal more : List Event) → Each (OfOthers client ids) journal more → K journal → K (journal ++ more)
 
-abbrev pub ByGets : AnyIds → (List Event → Type 0) → Type 0
-ByGets ids K = (journal : List Event) (event : Event) (key : Key) → OfOwn ids journal event → event.op ≡ Get key → K journal → K (journal ++ event ∷ [])
+abbrev pub ByGets : Client → AnyIds → (List Event → Type 0) → Type 0
+ByGets client ids K = (journal : List Event) (event : Event) (key : Key) → OfOwn client ids journal event → event.op ≡ Get key → K journal → K (journal ++ event ∷ [])
 
-module _ (client : Client) (ids : AnyIds) (K : List Event → Type 0) (k_others : ByOthers client ids K) (k_got : ByGets ids K) (k_tidy : (journal : List Event) → K journal → Each IsAny [] journal) where
+module _ (client : Client) (ids : AnyIds) (K : List Event → Type 0) (k_others : ByOthers client ids K) (k_got : ByGets client ids K) (k_tidy : (journal : List Event) → K journal → Each IsAny [] journal) where
   -- ---- a branch
   abbrev pub Reads : List ℕ → Result Resolved Refusal → List Event → Type 0
   Reads name (Ok read) h = K h × BranchNamed h name read.version.0 read.id × WasPut h (Snapshot read.id)
-  Reads name (Err why) h = is_strange why ≡ false
+  Reads name (Err why) h = is_strange client.collects why ≡ false
 
   pub branch-read : (name : List ℕ) (journal : List Event) → K journal → Meets (Reads name) (beside client ids) (resolve_program name) journal
   branch-read name journal k =
@@ -79,7 +79,7 @@ module _ (client : Client) (ids : AnyIds) (K : List Event → Type 0) (k_others 
   -- ---- a tag
   abbrev pub Tags : Result Id12 Refusal → List Event → Type 0
   Tags (Ok id) h = K h × WasPut h (Snapshot id)
-  Tags (Err why) h = is_strange why ≡ false
+  Tags (Err why) h = is_strange client.collects why ≡ false
 
   pub tag-read : (name : List ℕ) (journal : List Event) → K journal → Meets Tags (beside client ids) (tag_program name) journal
   tag-read name journal k =
@@ -105,7 +105,7 @@ module _ (client : Client) (ids : AnyIds) (K : List Event → Type 0) (k_others 
   -- ---- a branch, a tag or an id
   abbrev pub Resolves : At → Result Named Refusal → List Event → Type 0
   Resolves at (Ok named) h = K h × Names at named h
-  Resolves at (Err why) h = is_strange why ≡ false
+  Resolves at (Err why) h = is_strange client.collects why ≡ false
 
   abbrev by_branch : Resolved → Named
   by_branch read = record { id = read.id; version = Some read.version }

@@ -36,7 +36,7 @@ use Rattle.run_histories.proofs.Editing.{begun-goes}
 use Rattle.play_course.specs.Refusing.{is_strange}
 use Rattle.play_course.proofs.Tidy.{Client, AreIts, stands-readable, put-stands}
 use Rattle.play_course.proofs.Meeting.{was-read, Meets, done-meets, ask-meets, then-meets, got-meets}
-use Rattle.play_course.proofs.Knowing.{OfOthers, OfOwn, Before, beside, before-others, before-got, nodes-others}
+use Rattle.play_course.proofs.Knowing.{OfOthers, OfOwn, Before, beside, before-others, before-got, nodes-others, missing-plain}
 use Rattle.play_course.proofs.Holding.{Held}
 use Rattle.play_course.proofs.Naming.{Names, names-more, Resolves, resolve-meets}
 
@@ -52,16 +52,21 @@ base-failed (At.Branch name) id done = refl
 base-failed (At.Tag name) id done = refl
 base-failed (At.Snapshot own) id done = refl
 
--- one that its own id names may be absent; one that a ref names isn't
-base-absent : (at : At) (id : Id12) (now : ℕ) → (IsByRef at → ⊥) → base_told at id (Is_got (Absent now)) ≡ Err R.NoRef
-base-absent (At.Branch name) id now none = absurd (none tt)
-base-absent (At.Tag name) id now none = absurd (none tt)
-base-absent (At.Snapshot own) id now none = refl
+-- One that its own id names may be absent, which is told as a ref that isn't there; one that a ref names is missing, where a task collects.
+record TellsAbsent (collects : Bool) (at : At) (id : Id12) (now : ℕ) : Type 0 where
+  why : Refusal
+  told : base_told at id (Is_got (Absent now)) ≡ Err why
+  plain : is_strange collects why ≡ false
+
+base-absent : (collects : Bool) (at : At) (id : Id12) (now : ℕ) → (collects ≡ false → IsByRef at → ⊥) → TellsAbsent collects at id now
+base-absent collects (At.Branch name) id now never = record { why = R.Missing (Snapshot id); told = refl; plain = missing-plain collects (Snapshot id) (λ none. never none tt) }
+base-absent collects (At.Tag name) id now never = record { why = R.Missing (Snapshot id); told = refl; plain = missing-plain collects (Snapshot id) (λ none. never none tt) }
+base-absent collects (At.Snapshot own) id now never = record { why = R.NoRef; told = refl; plain = refl }
 
 module _ (client : Client) (ids : AnyIds) where
   -- the journal is known, and no node has an id that the client may draw
   pub record Begins (journal : List Event) : Type 0 where
-    pub before : Before ids journal
+    pub before : Before client ids journal
     pub nodes : NodesAreNew ids journal
 
   module _ (known : AreIts client ids) (a : Asked) (a_ids : a.ids ≡ ids) where
@@ -71,16 +76,16 @@ module _ (client : Client) (ids : AnyIds) where
     gets-no-snapshot : (key : Key) → ¬ PutsSnapshot (Get key)
     gets-no-snapshot key p = p
 
-    begins-got : (journal : List Event) (event : Event) (key : Key) → OfOwn ids journal event → event.op ≡ Get key → Begins journal → Begins (journal ++ event ∷ [])
+    begins-got : (journal : List Event) (event : Event) (key : Key) → OfOwn client ids journal event → event.op ≡ Get key → Begins journal → Begins (journal ++ event ∷ [])
     begins-got journal event key own is b = record { before = before-got client ids ids known journal event key own is b.before; nodes = own.nodes (λ p. gets-no-snapshot key (subst PutsSnapshot is p)) b.nodes }
 
     -- ---- the session
     abbrev pub Opens : Result SessionState Refusal → List Event → Type 0
     Opens (Ok s) h = Held client ids s h
-    Opens (Err why) h = is_strange why ≡ false
+    Opens (Err why) h = is_strange client.collects why ≡ false
 
     -- the session that begins at this snapshot, got in this journal
-    begun-held : (named : Named) (journal : List Event) (event : Event) (st : Stored) (snap : SnapshotFile) → IsTip journal named.id (tip_in (origin_for a named)) → Begins journal → OfOwn ids journal event → event.op ≡ Get (Snapshot named.id) → found journal (Snapshot named.id) ≡ Some st → snapshot_by named.id st.bytes ≡ Some snap
+    begun-held : (named : Named) (journal : List Event) (event : Event) (st : Stored) (snap : SnapshotFile) → IsTip journal named.id (tip_in (origin_for a named)) → Begins journal → OfOwn client ids journal event → event.op ≡ Get (Snapshot named.id) → found journal (Snapshot named.id) ≡ Some st → snapshot_by named.id st.bytes ≡ Some snap
         → Held client ids (begun a named snap) (journal ++ event ∷ [])
     begun-held named journal event st snap tip b own is at read =
         let s : SessionState = begun a named snap in
@@ -90,7 +95,7 @@ module _ (client : Client) (ids : AnyIds) where
         let last : last_put journal (Snapshot named.id) ≡ Some st.bytes = slot.last st at in
         let rows : rows_of journal named.id ≡ Some snap.nodes = ap (λ (o : Option (List ℕ)). option_map (λ (x : SnapshotFile). x.nodes) (snap_in named.id o)) last ∙ ap (option_map (λ (x : SnapshotFile). x.nodes)) read in
         record {
-          before = subst (λ (x : AnyIds). Before x (journal ++ event ∷ [])) (sym a_ids) (begins-got journal event (Snapshot named.id) own is b).before;
+          before = subst (λ (x : AnyIds). Before client x (journal ++ event ∷ [])) (sym a_ids) (begins-got journal event (Snapshot named.id) own is b).before;
           known = subst (AreIts client) (sym a_ids) known;
           goes = begun-goes ids s a_ids refl;
           own = λ p m f. b.nodes named.id (tree_under (puts_of journal) snap.nodes) p m (tree-by_rows journal named.id snap.nodes rows) f;
@@ -117,8 +122,9 @@ module _ (client : Client) (ids : AnyIds) where
         subst (λ (r : Result SnapshotFile Refusal). Meets Opens (beside client ids) (after_base named r) ((journal ++ more) ++ event ∷ [])) (sym (base-found a.at named.id s.bytes (version_at s.version) event.time can.0 (was-read (read_snapshot named.id s.bytes) can.0 can.1)))
         (done-meets Opens (beside client ids) (Ok (begun a named can.0)) ((journal ++ more) ++ event ∷ []) (begun-held named (journal ++ more) event s can.0 (there.tip a.writes) mid own is at can.1)))
         (λ gone.
-        subst (λ (r : Result SnapshotFile Refusal). Meets Opens (beside client ids) (after_base named r) ((journal ++ more) ++ event ∷ [])) (sym (base-absent a.at named.id event.time (λ by. put-stands (Snapshot named.id) tt (journal ++ more) mid.before.tidy (there.put by) gone)))
-        (done-meets Opens (beside client ids) (Err R.NoRef) ((journal ++ more) ++ event ∷ []) refl))
+        let absent = base-absent client.collects a.at named.id event.time (λ none by. put-stands (Snapshot named.id) tt (journal ++ more) (mid.before.so_far.stand none) (there.put by) gone) in
+        subst (λ (r : Result SnapshotFile Refusal). Meets Opens (beside client ids) (after_base named r) ((journal ++ more) ++ event ∷ [])) (sym absent.told)
+        (done-meets Opens (beside client ids) (Err absent.why) ((journal ++ more) ++ event ∷ []) absent.plain))
         (λ done.
         subst (λ (r : Result SnapshotFile Refusal). Meets Opens (beside client ids) (after_base named r) ((journal ++ more) ++ event ∷ [])) (sym (base-failed a.at named.id done))
         (done-meets Opens (beside client ids) (Err R.StoreFault) ((journal ++ more) ++ event ∷ []) refl)))

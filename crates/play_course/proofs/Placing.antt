@@ -33,7 +33,7 @@ use Rattle.run_histories.proofs.Drawing.{set-draws}
 use Rattle.play_course.specs.Refusing.{is_strange}
 use Rattle.play_course.proofs.Tidy.{Client}
 use Rattle.play_course.proofs.Meeting.{Meets, done-meets, ask-meets, put-meets}
-use Rattle.play_course.proofs.Knowing.{Before, beside, before-put, drawn-now}
+use Rattle.play_course.proofs.Knowing.{Before, beside, before-put, drawn-now, plain-beside}
 use Rattle.play_course.proofs.Holding.{Held, held-others}
 use Rattle.play_course.proofs.Reading.{edit-plain}
 
@@ -59,10 +59,10 @@ module _ (client : Client) (ids : AnyIds) (s : SessionState) (path index bytes :
   -- a session is held, or the set is refused as it may be
   abbrev pub SetWell : Result SessionState Refusal → List Event → Type 0
   SetWell (Ok t) h = Held client ids t h
-  SetWell (Err why) h = is_strange why ≡ false
+  SetWell (Err why) h = is_strange client.collects why ≡ false
 
   -- what is held behind a set that the tree allows
-  held-set : (t : SessionState) (journal : List Event) (a : SetsChunk s t) (h : Held client ids s journal) (new : List Event) → Before t.ids new → IsOpened t new → Held client ids t new
+  held-set : (t : SessionState) (journal : List Event) (a : SetsChunk s t) (h : Held client ids s journal) (new : List Event) → Before client t.ids new → IsOpened t new → Held client ids t new
   held-set t journal a h new before opened =
       let edits : Edits s t = inr (inr (inr (inl a))) in
       record {
@@ -108,7 +108,7 @@ module _ (client : Client) (ids : AnyIds) (s : SessionState) (path index bytes :
   set-meets journal h =
       set-cases s path index bytes (λ (p : Program SessionState). Meets SetWell (beside client ids) p journal)
       (λ w. done-meets SetWell (beside client ids) (Err R.ReadOnly) journal refl)
-      (λ fault f. done-meets SetWell (beside client ids) (Err (refusal_of_edit fault)) journal (edit-plain fault))
+      (λ fault f. done-meets SetWell (beside client ids) (Err (refusal_of_edit fault)) journal (plain-beside client.collects (refusal_of_edit fault) (edit-plain fault)))
       (λ w f l. short-meets journal h f)
       (λ spent. done-meets SetWell (beside client ids) (Err R.IdsSpent) journal refl)
       (λ id out. out-meets id out journal h)

@@ -79,14 +79,16 @@ zero-other tells place journal event good is =
     not_next : (k : ℕ) → 0 ≢ k + 1
     not_next k e = omega (arith, e)
 
+-- the events of a machine that client 0 ran alone are its
+pub own-zero : (played new : View) {A : Type 0} (p : Program A) (result : Result A Refusal) (r : Runs (as_client 0 played) new p result) → IsTrue played.caller.tells → Each (λ h e. e.client ≡ 0) played.seen r.own
+own-zero played new p result r told = let grows = r.grows told in subst (λ (xs : List Event). Each (λ h e. e.client ≡ 0) played.seen xs) grows.owned (own-client 0 played.seen grows.more)
+
 -- a machine that client 0 ran alone leaves what the outcomes tell
 pub told-on : OutcomeLaw → (draw : Draw) (tasks : List Task) (outcomes : List Outcome) (start : List Event) (played new : View) {A : Type 0} (p : Program A) (result : Result A Refusal) → Runs (as_client 0 played) new p result → HasAll played.caller → IsTrue played.caller.tells
     → AllTold draw tasks outcomes start played.seen → AllTold draw tasks outcomes start new.seen
 told-on law draw tasks outcomes start played new p result r all told before place task outcome at_task at =
     let adds = r.alone told (record { low = all.low; end = all.end }) in
-    let grows = r.grows told in
-    let mine = subst (λ (xs : List Event). Each (λ h e. e.client ≡ 0) played.seen xs) grows.owned (own-client 0 played.seen grows.more) in
-    let others : Each (IsOther (only true (place + 1))) played.seen r.own = Each-both IsGood (λ h e. e.client ≡ 0) (IsOther (only true (place + 1))) (zero-other true place) played.seen r.own adds.good mine in
+    let others : Each (IsOther (only true (place + 1))) played.seen r.own = Each-both IsGood (λ h e. e.client ≡ 0) (IsOther (only true (place + 1))) (zero-other true place) played.seen r.own adds.good (own-zero played new p result r told) in
     subst (λ (h : List Event). TellsAt draw place task start outcome h) (sym adds.is) (law (only true (place + 1)) (ids_at draw place) task outcome start played.seen r.own others (before place task outcome at_task at))
 
 -- ---- the course

@@ -19,7 +19,7 @@ use Rattle.manifest_index.specs.Merging.{ids_within}
 use Rattle.snapshot_file.specs.declared.nodes.ManifestRef.{ManifestRef}
 use Rattle.repo_objects.specs.declared.bad.Bad.{Bad}
 use Rattle.repo_objects.specs.declared.bad.Bad.TheVariants.{Chunk as BadChunk}
-use Rattle.repo_objects.specs.Readings.{manifest_by, read_manifest, read_inline, read_chunk}
+use Rattle.repo_objects.specs.Readings.{read_manifest, read_inline, read_chunk}
 use Rattle.repo_objects.specs.Trees.{Puts, Extends, part_of, bytes_at, manifest_put, or_empty, listed}
 use Rattle.changed_snapshot.specs.Rows.{own_manifests}
 use Rattle.object_store.specs.declared.keys.Key.{Key}
@@ -28,7 +28,7 @@ use Rattle.object_store.specs.declared.events.Op.TheVariants.{Get}
 use Rattle.object_store.specs.declared.events.Event.{Event}
 use Rattle.store_api.specs.declared.machines.Refusal.{Refusal}
 use Rattle.store_api.specs.declared.machines.Refusal.TheVariants as R
-use Rattle.object_store.specs.Machine.{Stored, last_put}
+use Rattle.object_store.specs.Machine.{last_put}
 use Rattle.store_api.specs.Journal.{Each, IsGood, puts_of}
 use Rattle.store_api.specs.Program.{Done}
 use Rattle.store_api.specs.Running.{Program, on_answer}
@@ -46,13 +46,13 @@ use Rattle.chunk_calls.proofs.Seen.{IsThere, there, by-entry, by-base}
 use Rattle.play_course.specs.Refusing.{is_strange}
 use Rattle.play_course.proofs.Tidy.{Client}
 use Rattle.play_course.proofs.Meeting.{was-read, Meets, done-meets, ask-meets, got-meets}
-use Rattle.play_course.proofs.Knowing.{OfOthers, OfOwn, beside, before-got, good-others}
+use Rattle.play_course.proofs.Knowing.{OfOthers, OfOwn, beside, before-got, good-others, missing-plain, plain-beside}
 use Rattle.play_course.proofs.Holding.{last-stands, Held, held-others, has-chunks, keeps-frozen, IsOfBase, AreOfBase, own-of-base, manifest-stands, is-whole, base-place}
 
 some-same : {A : Type 0} (a b : A) → Some a ≡ Some b → a ≡ b
 some-same a b e = cc
 
-pub edit-plain : (fault : EditFault) → is_strange (refusal_of_edit fault) ≡ false
+pub edit-plain : (fault : EditFault) → is_strange false (refusal_of_edit fault) ≡ false
 edit-plain F.NodeExists = refl
 edit-plain F.NoParent = refl
 edit-plain F.Full = refl
@@ -92,9 +92,9 @@ module _ (client : Client) (ids : AnyIds) (s : SessionState) where
   -- the session is as it was, or the read is refused as it may be
   abbrev pub ReadWell : Result Value Refusal → List Event → Type 0
   ReadWell (Ok value) h = Held client ids s h
-  ReadWell (Err why) h = is_strange why ≡ false
+  ReadWell (Err why) h = is_strange client.collects why ≡ false
 
-  pub held-got : (journal : List Event) (event : Event) (key : Key) → OfOwn ids journal event → event.op ≡ Get key → Held client ids s journal → Held client ids s (journal ++ event ∷ [])
+  pub held-got : (journal : List Event) (event : Event) (key : Key) → OfOwn client ids journal event → event.op ≡ Get key → Held client ids s journal → Held client ids s (journal ++ event ∷ [])
   held-got journal event key own is h = record {
     before = before-got client ids s.ids h.known journal event key own is h.before;
     known = h.known;
@@ -106,7 +106,7 @@ module _ (client : Client) (ids : AnyIds) (s : SessionState) where
   pub grown : (journal more : List Event) → Each (OfOthers client ids) journal more → Held client ids s journal → Extends (puts_of journal) (puts_of (journal ++ more))
   grown journal more others h = puts-kept journal more (good-others client ids journal more others) (held-others client ids s journal more others h).before.so_far.once
 
-  grown-got : (journal : List Event) (event : Event) → OfOwn ids journal event → Extends (puts_of journal) (puts_of (journal ++ event ∷ []))
+  grown-got : (journal : List Event) (event : Event) → OfOwn client ids journal event → Extends (puts_of journal) (puts_of (journal ++ event ∷ []))
   grown-got journal event own = puts-kept journal (event ∷ []) (Each-one IsGood journal event own.tidy.good) own.after.once
 
   -- ---- an object
@@ -125,14 +125,13 @@ module _ (client : Client) (ids : AnyIds) (s : SessionState) where
       let after = held-got (journal ++ more) event (Chunk id) own is mid in
       let b = has (journal ++ more) mid (grown journal more others h) in
       let object = and-then (part_of offset size) (last_put (journal ++ more) (Chunk id)) b.0 b.1 in
-      let stands = last-stands (journal ++ more) (Chunk id) object.0 tt mid.before.tidy object.1 in
+      let stands = last-stands client.collects (journal ++ more) (Chunk id) object.0 tt mid.before.so_far object.1 in
       got-meets ReadWell (beside client ids) (λ reply. on_answer (λ bytes. Done (Ok (Is_held bytes))) (object_told want id offset size reply)) (journal ++ more) event own.tidy.good ((journal ++ more) ++ event ∷ []) (Chunk id) is
       (λ st e.
-      let same : st.bytes ≡ object.0 = ap (λ (x : Stored). x.bytes) (some-same st stands.stored (sym e ∙ stands.found_is)) ∙ stands.bytes_are in
-      let read : read_chunk want offset size st.bytes ≡ Ok b.0 = chunk-read want offset size st.bytes b.0 (ap (part_of offset size) same ∙ object.2) b.2 in
+      let read : read_chunk want offset size st.bytes ≡ Ok b.0 = chunk-read want offset size st.bytes b.0 (ap (part_of offset size) (stands.bytes_are st e) ∙ object.2) b.2 in
       subst (λ (r : Result (List ℕ) Bad). Meets ReadWell (beside client ids) (on_answer (λ bytes. Done (Ok (Is_held bytes))) (at_key (Chunk id) r)) ((journal ++ more) ++ event ∷ [])) (sym read)
       (done-meets ReadWell (beside client ids) (Ok (Is_held b.0)) ((journal ++ more) ++ event ∷ []) after))
-      (λ gone. let no = sym stands.found_is ∙ gone in absurd cc)
+      (λ gone. done-meets ReadWell (beside client ids) (Err (R.Missing (Chunk id))) ((journal ++ more) ++ event ∷ []) (missing-plain client.collects (Chunk id) (λ none. stands.there none gone)))
       (λ done. done-meets ReadWell (beside client ids) (Err R.StoreFault) ((journal ++ more) ++ event ∷ []) refl))
 
   module _ (path index : List ℕ) (at : ChunkAt) (t : IsThere s path index at) where
@@ -181,17 +180,16 @@ module _ (client : Client) (ids : AnyIds) (s : SessionState) where
           ask-meets ReadWell (beside client ids) (Get (Manifest m.id)) (λ reply. on_answer (λ file. read_entry at.bytes m.id (rest ms) (entry_of at.node index file)) (manifest_told m.id reply)) journal (λ more event others own is.
           let mid = held-others client ids s journal more others h in
           let after = held-got (journal ++ more) event (Manifest m.id) own is mid in
-          let stands = manifest-stands s (journal ++ more) mid.before.tidy mid.before.so_far mid.opened m of_base in
+          let stands = manifest-stands client.collects s (journal ++ more) mid.before.so_far mid.opened m of_base in
           got-meets ReadWell (beside client ids) (λ reply. on_answer (λ file. read_entry at.bytes m.id (rest ms) (entry_of at.node index file)) (manifest_told m.id reply)) (journal ++ more) event own.tidy.good ((journal ++ more) ++ event ∷ []) (Manifest m.id) is
           (λ st e.
-          let same : st ≡ stands.stored = some-same st stands.stored (sym e ∙ stands.found_is) in
-          let read : read_manifest m.id st.bytes ≡ Ok stands.file = was-read (read_manifest m.id st.bytes) stands.file (subst (λ (x : Stored). manifest_by m.id x.bytes ≡ Some stands.file) (sym same) stands.read) in
+          let read : read_manifest m.id st.bytes ≡ Ok stands.file = was-read (read_manifest m.id st.bytes) stands.file (stands.read st e) in
           subst (λ (r : Result ManifestFile Bad). Meets ReadWell (beside client ids) (on_answer (λ file. read_entry at.bytes m.id (rest ms) (entry_of at.node index file)) (at_key (Manifest m.id) r)) ((journal ++ more) ++ event ∷ [])) (sym read)
           (entry-meets m.id ms go (entry_of at.node index stands.file) ((journal ++ more) ++ event ∷ []) after (λ puts x.
           let later = extends-more (puts_of (journal ++ more)) (puts_of ((journal ++ more) ++ event ∷ [])) puts (grown-got (journal ++ more) event own) x in
           left puts (extends-more (puts_of journal) (puts_of (journal ++ more)) puts (grown journal more others h) later)
           ∙ ap (λ (o : Option ManifestFile). option_or (entry_of at.node index (or_empty m.id o)) (look_up at.node index (listed puts ms))) (later.manifests m.id stands.file stands.put))))
-          (λ gone. let no = sym stands.found_is ∙ gone in absurd cc)
+          (λ gone. done-meets ReadWell (beside client ids) (Err (R.Missing (Manifest m.id))) ((journal ++ more) ++ event ∷ []) (missing-plain client.collects (Manifest m.id) (λ none. stands.there none gone)))
           (λ done. done-meets ReadWell (beside client ids) (Err R.StoreFault) ((journal ++ more) ++ event ∷ []) refl))
 
       listed-meets : (ms : List ManifestRef) → AreOfBase s.rows ms → Continues ms
@@ -217,7 +215,7 @@ module _ (client : Client) (ids : AnyIds) (s : SessionState) where
     at-meets None e journal h = listed-meets e all (own-of-base s.rows path at.node) journal h (λ puts x. refl)
 
   found-meets : (path index : List ℕ) (r : Result ChunkAt EditFault) → chunk_found (nodes_seen s) path index ≡ r → (journal : List Event) → Held client ids s journal → Meets ReadWell (beside client ids) (read_found s path index r) journal
-  found-meets path index (Err fault) e journal h = done-meets ReadWell (beside client ids) (Err (refusal_of_edit fault)) journal (edit-plain fault)
+  found-meets path index (Err fault) e journal h = done-meets ReadWell (beside client ids) (Err (refusal_of_edit fault)) journal (plain-beside client.collects (refusal_of_edit fault) (edit-plain fault))
   found-meets path index (Ok at) e journal h = at-meets path index at (there s path index at e) (entry_in s.held.chunks at.node index) refl journal h
 
   -- a read is never refused so

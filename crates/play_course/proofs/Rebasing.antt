@@ -1,5 +1,5 @@
 -- What a rebase answers in a run over an empty store.
-use Rattle.std.proofs.Common.{◌≡◌, ℕ, zero, suc, ◌+◌, ◌⊎◌, inl, inr, Bool, true, false, cond, not, List, [], ◌∷◌, ◌++◌, length, refl, sym, ◌∙◌, ap, subst}
+use Rattle.std.proofs.Common.{◌≡◌, ◌≢◌, ℕ, zero, suc, ◌+◌, ◌⊎◌, inl, inr, Bool, true, false, cond, not, List, [], ◌∷◌, ◌++◌, length, refl, sym, ◌∙◌, ap, subst}
 use Rattle.std.specs.Prelude.{Option, Some, None, option_map, option_and_then, nat_lt, Result, Ok, Err}
 use Rattle.std.specs.FinMap.{FinMap, len}
 use Rattle.ice_ids.specs.declared.Id8.{Id8}
@@ -30,7 +30,7 @@ use Rattle.store_api.specs.declared.machines.Refusal.{Refusal}
 use Rattle.zarr_tree.specs.declared.edit.EditFault.TheVariants as E
 use Rattle.store_api.specs.declared.machines.Refusal.TheVariants as R
 use Rattle.object_store.specs.Machine.{Stored, found, first_put, version_at}
-use Rattle.store_api.specs.Journal.{Each, IsGood, WasPut, ParentPut, lists_of, snap_in, snap_made}
+use Rattle.store_api.specs.Journal.{Each, IsGood, IsOnce, WasPut, ParentPut, lists_of, snap_in, snap_made}
 use Rattle.store_api.specs.Program.{Done, Ask}
 use Rattle.store_api.specs.Running.{Program, ◌>>=◌, on_answer}
 use Rattle.object_store.proofs.Journals.{Each-one}
@@ -48,11 +48,11 @@ use Rattle.rebase.specs.Along.{Link, left_at, solved_at, first_hidden}
 use Rattle.rebase.specs.Rebasing.{Commits, head_of, walk_down, if_solved, solve_link, solve_program, on_head, over_commits, after_ref, rebase_program}
 use Rattle.rebase.proofs.Walking.{IsHead, IsHead-append, got-head}
 use Rattle.rebase.proofs.Moving.{IsLess, HasNamed, HasNamed-append, same-opened, moved-opened}
-use Rattle.run_histories.specs.Runs.{AllCaused, IsChildOf, HasCause}
+use Rattle.run_histories.specs.Runs.{IsChildOf, HasCause}
 use Rattle.play_course.specs.Refusing.{is_strange}
 use Rattle.play_course.proofs.Tidy.{Client, IsAny, stands-readable, stands-first, put-stands, all-named}
 use Rattle.play_course.proofs.Meeting.{was-read, Meets, done-meets, ask-meets, then-meets, got-meets}
-use Rattle.play_course.proofs.Knowing.{OfOwn, beside, good-others}
+use Rattle.play_course.proofs.Knowing.{IsSoFar, OfOwn, beside, good-others, missing-plain}
 use Rattle.play_course.proofs.Holding.{MayCommit, may-others, may-got}
 
 some-same : {A : Type 0} (a b : A) → Some a ≡ Some b → a ≡ b
@@ -66,8 +66,8 @@ pub record SaysHidden (why : Refusal) : Type 0 where
   pub is : why ≡ R.BadFile (Txn at) (Unlisted node)
 
 -- no other strange one
-abbrev pub IsFine : Refusal → Type 0
-IsFine why = (is_strange why ≡ false) ⊎ SaysHidden why
+abbrev pub IsFine : (collects : Bool) → Refusal → Type 0
+IsFine collects why = (is_strange collects why ≡ false) ⊎ SaysHidden why
 
 -- ---- commits
 -- the snapshot named a parent when it was first put
@@ -85,12 +85,11 @@ parents-more journal more (f ∷ fs) all =
     let p = all.0 in
     (record { parent = p.parent; child = record { snap = p.child.snap; made = snap_made-append journal more f.id p.child.snap p.child.made; parent = p.child.parent } }, parents-more journal more fs all.1)
 
--- its log stands, and reads as this
-record LogStands (journal : List Event) (id : Id12) : Type 0 where
+-- its log was put, and reads as this where it stands; and it does where no task collects
+record LogStands (collects : Bool) (journal : List Event) (id : Id12) : Type 0 where
   log : TxnFile
-  stored : Stored
-  found_is : found journal (Txn id) ≡ Some stored
-  read : log_by id stored.bytes ≡ Some log
+  there : collects ≡ false → found journal (Txn id) ≢ None
+  read : (s : Stored) → found journal (Txn id) ≡ Some s → log_by id s.bytes ≡ Some log
 
 -- bytes that read as a log with these lists
 record WasLog (id : Id12) (put : Option (List ℕ)) : Type 0 where
@@ -107,20 +106,20 @@ was-log id (Some bytes) lists e = by_log (log_by id bytes) refl e
     by_log None f g = absurd cc
     by_log (Some log) f g = record { bytes = bytes; put_is = refl; log = log; read = f }
 
-log-stands : (journal : List Event) (f : SnapshotFile) → Each IsAny [] journal → AllCaused journal → HasParent journal f → LogStands journal f.id
-log-stands journal f tidy causes p = by_found (found journal (Txn f.id)) refl
+log-stands : (collects : Bool) (journal : List Event) (f : SnapshotFile) → Each IsAny [] journal → IsSoFar collects journal → HasParent journal f → LogStands collects journal f.id
+log-stands collects journal f tidy so_far p = record {
+  log = was.log;
+  there = λ none. put-stands (Txn f.id) tt journal (so_far.stand none) (was.bytes, was.put_is);
+  read = λ s e.
+      let same : was.bytes ≡ s.bytes = some-same was.bytes s.bytes (sym was.put_is ∙ stands-first (Txn f.id) tt journal s tidy so_far.once e) in
+      ap (log_by f.id) (sym same) ∙ was.read;
+}
   where
     cause : HasCause journal p.parent f.id
-    cause = causes p.parent f.id p.child
+    cause = so_far.causes p.parent f.id p.child
 
     was : WasLog f.id (first_put journal (Txn f.id))
     was = was-log f.id (first_put journal (Txn f.id)) cause.lists cause.logged
-
-    by_found : (o : Option Stored) → found journal (Txn f.id) ≡ o → LogStands journal f.id
-    by_found None e = absurd (put-stands (Txn f.id) tt journal tidy (was.bytes, was.put_is) e)
-    by_found (Some s) e =
-        let same : was.bytes ≡ s.bytes = some-same was.bytes s.bytes (sym was.put_is ∙ stands-first (Txn f.id) tt journal s tidy e) in
-        record { log = was.log; stored = s; found_is = e; read = ap (log_by f.id) (sym same) ∙ was.read }
 
 -- ---- the walk
 -- the branch's snapshot is the next one, or the last of those above
@@ -147,7 +146,7 @@ abbrev Nodes : Type 0
 Nodes = FinMap path_cmp Node
 
 module _ (client : Client) (ids : AnyIds) (law : SnapshotLaw) (policy : Policy) (s : SessionState) where
-  own-good : (journal : List Event) (event : Event) → OfOwn ids journal event → Each IsGood journal (event ∷ [])
+  own-good : (journal : List Event) (event : Event) → OfOwn client ids journal event → Each IsGood journal (event ∷ [])
   own-good journal event own = Each-one IsGood journal event own.tidy.good
 
   module _ (named : Resolved) where
@@ -185,7 +184,7 @@ module _ (client : Client) (ids : AnyIds) (law : SnapshotLaw) (policy : Policy) 
 
     abbrev WalksWell : Result Commits Refusal → List Event → Type 0
     WalksWell (Ok c) h = Chain c h
-    WalksWell (Err why) h = is_strange why ≡ false
+    WalksWell (Err why) h = is_strange client.collects why ≡ false
 
     -- a snapshot that was read
     record WasRead (next : Id12) (f : SnapshotFile) (journal : List Event) : Type 0 where
@@ -193,14 +192,14 @@ module _ (client : Client) (ids : AnyIds) (law : SnapshotLaw) (policy : Policy) 
       own : f.id ≡ next
       made : snap_made journal next ≡ Some f
 
-    read-here : (next : Id12) (st : Stored) (f : SnapshotFile) (journal : List Event) → Each IsAny [] journal → found journal (Snapshot next) ≡ Some st → snapshot_by next st.bytes ≡ Some f → WasRead next f journal
-    read-here next st f journal tidy at read =
+    read-here : (next : Id12) (st : Stored) (f : SnapshotFile) (journal : List Event) → Each IsAny [] journal → IsOnce journal → found journal (Snapshot next) ≡ Some st → snapshot_by next st.bytes ≡ Some f → WasRead next f journal
+    read-here next st f journal tidy once at read =
         let at_key = sound journal (Snapshot next) in
         let had : Had journal (Snapshot next) st.bytes st.version = record { stood = found-stood journal (Snapshot next) st at; put = at_key.first st at; last = at_key.last st at } in
         record {
           head = got-head law next st.bytes st.version f journal had (was-read (read_snapshot next st.bytes) f read);
           own = law.own next st.bytes f read;
-          made = ap (snap_in next) (stands-first (Snapshot next) tt journal st tidy at) ∙ read;
+          made = ap (snap_in next) (stands-first (Snapshot next) tt journal st tidy once at) ∙ read;
         }
 
     read-more : (next : Id12) (f : SnapshotFile) (journal more : List Event) → Each IsGood journal more → WasRead next f journal → WasRead next f (journal ++ more)
@@ -235,17 +234,17 @@ module _ (client : Client) (ids : AnyIds) (law : SnapshotLaw) (policy : Policy) 
         got-meets WalksWell (beside client ids) (λ reply. rest (snapshot_told next reply)) (journal ++ more) event own.tidy.good ((journal ++ more) ++ event ∷ []) (Snapshot next) is
         (λ st at.
         let can = stands-readable next (journal ++ more) st mid.may.before.tidy at in
-        let read = read-more next can.0 (journal ++ more) (event ∷ []) (own-good (journal ++ more) event own) (read-here next st can.0 (journal ++ more) mid.may.before.tidy at can.1) in
+        let read = read-more next can.0 (journal ++ more) (event ∷ []) (own-good (journal ++ more) event own) (read-here next st can.0 (journal ++ more) mid.may.before.tidy mid.may.before.so_far.once at can.1) in
         subst (λ (r : Result SnapshotFile Bad). Meets WalksWell (beside client ids) (rest (at_key (Snapshot next) r)) ((journal ++ more) ++ event ∷ [])) (sym (was-read (read_snapshot next st.bytes) can.0 can.1))
         (parent-meets left above next can.0 ((journal ++ more) ++ event ∷ []) after read (walk-meets left (can.0 ∷ above)) can.0.parent refl))
-        (λ gone. absurd (put-stands (Snapshot next) tt (journal ++ more) mid.may.before.tidy mid.put gone))
+        (λ gone. done-meets WalksWell (beside client ids) (Err (R.Missing (Snapshot next))) ((journal ++ more) ++ event ∷ []) (missing-plain client.collects (Snapshot next) (λ none. put-stands (Snapshot next) tt (journal ++ more) (mid.may.before.so_far.stand none) mid.put gone)))
         (λ done. done-meets WalksWell (beside client ids) (Err R.StoreFault) ((journal ++ more) ++ event ∷ []) refl))
 
     -- ---- the logs
     -- what is held still is what was held, but for entries that were given up
     abbrev SolvesWell : Commits → Result (Held Place) Refusal → List Event → Type 0
     SolvesWell c (Ok left) h = Chain c h × IsLess s.held left
-    SolvesWell c (Err why) h = IsFine why
+    SolvesWell c (Err why) h = IsFine client.collects why
 
     less-solved : (held : Held Place) (before : Nodes) (l : Link) → IsLess s.held held → IsLess s.held (solved_at policy held before l)
     less-solved held before l less = record {
@@ -271,23 +270,22 @@ module _ (client : Client) (ids : AnyIds) (law : SnapshotLaw) (policy : Policy) 
         let mid = chain-more c journal more (good-others client ids journal more others) may k in
         let there = parents-more journal more (f ∷ fs) all in
         let after = chain-more c (journal ++ more) (event ∷ []) (own-good (journal ++ more) event own) (may-got client ids s (journal ++ more) event (Txn f.id) own is may) mid in
-        let stands = log-stands (journal ++ more) f may.before.tidy may.before.so_far.causes there.0 in
+        let stands = log-stands client.collects (journal ++ more) f may.before.tidy may.before.so_far there.0 in
         let l : Link = record { file = f; lists = stands.log.lists } in
         got-meets (SolvesWell c) (beside client ids) (λ reply. rest (log_told f.id reply)) (journal ++ more) event own.tidy.good ((journal ++ more) ++ event ∷ []) (Txn f.id) is
         (λ st at.
-        let same : st ≡ stands.stored = some-same st stands.stored (sym at ∙ stands.found_is) in
-        let read : read_log f.id st.bytes ≡ Ok stands.log = was-read (read_log f.id st.bytes) stands.log (subst (λ (x : Stored). log_by f.id x.bytes ≡ Some stands.log) (sym same) stands.read) in
+        let read : read_log f.id st.bytes ≡ Ok stands.log = was-read (read_log f.id st.bytes) stands.log (stands.read st at) in
         subst (λ (r : Result TxnFile Bad). Meets (SolvesWell c) (beside client ids) (rest (at_key (Txn f.id) r)) ((journal ++ more) ++ event ∷ [])) (sym read)
         (if-meets c f.id (left_at policy held before l) (first_hidden (nodes_in f.nodes) held.metas) (next (solved_at policy held before l)) ((journal ++ more) ++ event ∷ [])
         (solve-meets c fs (solved_at policy held before l) (nodes_in f.nodes) ((journal ++ more) ++ event ∷ []) after (parents-more (journal ++ more) (event ∷ []) fs there.1) (less-solved held before l less))))
-        (λ gone. let no = sym stands.found_is ∙ gone in absurd cc)
+        (λ gone. done-meets (SolvesWell c) (beside client ids) (Err (R.Missing (Txn f.id))) ((journal ++ more) ++ event ∷ []) (inl (missing-plain client.collects (Txn f.id) (λ none. stands.there none gone))))
         (λ done. done-meets (SolvesWell c) (beside client ids) (Err R.StoreFault) ((journal ++ more) ++ event ∷ []) (inl refl)))
 
   -- ---- the rebase
   abbrev pub RebasesWell : Result Rebased Refusal → List Event → Type 0
   RebasesWell (Ok (Moved t count)) h = MayCommit client t h
   RebasesWell (Ok (UpToDate t)) h = MayCommit client t h
-  RebasesWell (Err why) h = IsFine why
+  RebasesWell (Err why) h = IsFine client.collects why
 
   head-meets : (named : Resolved) (count : ℕ) (c : Commits) (held : Held Place) (h : List Event) → Chain named c h → IsLess s.held held → Meets RebasesWell (beside client ids) (on_head s named count (head_of c.oldest c.later) held) h
   head-meets named count c held h k less = by_test (nat_lt most_nodes (len (nodes_over held (nodes_in (head_of c.oldest c.later).nodes))))

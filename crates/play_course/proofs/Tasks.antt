@@ -66,7 +66,7 @@ use Rattle.run_histories.proofs.Editing.{Leads, call-leads}
 use Rattle.play_course.specs.Refusing.{is_strange}
 use Rattle.play_course.proofs.Tidy.{Client, AreIts}
 use Rattle.play_course.proofs.Meeting.{PlayMeets, ended-meets, or-meets, call-meets}
-use Rattle.play_course.proofs.Knowing.{Before, beside, before-later}
+use Rattle.play_course.proofs.Knowing.{Before, beside, before-later, plain-beside}
 use Rattle.play_course.proofs.Holding.{Held, MayCommit, held-may}
 use Rattle.play_course.proofs.Reading.{edit-plain, ReadWell, get-meets}
 use Rattle.play_course.proofs.Opening.{Opens, open-meets}
@@ -77,10 +77,10 @@ use Rattle.play_course.proofs.Rebasing.{IsFine, RebasesWell, rebase-meets}
 -- ---- the calls of sessions that need no operation
 -- no refusal of this result is strange
 abbrev pub IsPlain : {A : Type 0} → Result A Refusal → Type 0
-IsPlain {A} r = (why : Refusal) → ◌≡◌ {A = Result A Refusal} r (Err why) → is_strange why ≡ false
+IsPlain {A} r = (why : Refusal) → ◌≡◌ {A = Result A Refusal} r (Err why) → is_strange false why ≡ false
 
-pub refused_as : {A : Type 0} (why given : Refusal) → is_strange given ≡ false → ◌≡◌ {A = Result A Refusal} (Err given) (Err why) → is_strange why ≡ false
-refused_as why given plain e = let same : given ≡ why = cc in subst (λ (w : Refusal). is_strange w ≡ false) same plain
+pub refused_as : {A : Type 0} (why given : Refusal) → is_strange false given ≡ false → ◌≡◌ {A = Result A Refusal} (Err given) (Err why) → is_strange false why ≡ false
+refused_as why given plain e = let same : given ≡ why = cc in subst (λ (w : Refusal). is_strange false w ≡ false) same plain
 
 drawn-plain : (s : SessionState) (path text : List ℕ) (o : Option Id8) → IsPlain (drawn_node s path text o)
 drawn-plain s path text None why e = refused_as why R.IdsSpent refl e
@@ -100,7 +100,7 @@ writes-plain false r p why e = refused_as why R.ReadOnly refl e
 
 without-id : (r : Result (Id8 × SessionState) Refusal) → IsPlain r → IsPlain (session_of r)
 without-id (Ok new) p why e = cc
-without-id (Err own) p why e = let same : own ≡ why = cc in subst (λ (w : Refusal). is_strange w ≡ false) same (p own refl)
+without-id (Err own) p why e = let same : own ≡ why = cc in subst (λ (w : Refusal). is_strange false w ≡ false) same (p own refl)
 
 added-plain : (fault : Result View MetaFault → Option MetaFault) (s : SessionState) (path text : List ℕ) → IsPlain (session_of (added fault s path text))
 unfolding added
@@ -161,7 +161,7 @@ there-plain (Some a) b why e = cc
 
 nodes-plain : (line : ℕ) (r : Result (List Listing) Refusal) → IsPlain r → IsPlain (nodes_shown line r)
 nodes-plain line (Ok nodes) p why e = cc
-nodes-plain line (Err own) p why e = let same : own ≡ why = cc in subst (λ (w : Refusal). is_strange w ≡ false) same (p own refl)
+nodes-plain line (Err own) p why e = let same : own ≡ why = cc in subst (λ (w : Refusal). is_strange false w ≡ false) same (p own refl)
 
 meta-plain : (line : ℕ) (o : Option (List ℕ)) → IsPlain (meta_shown line (ok_or o (R.Edit Fault.NoNode)))
 meta-plain line (Some text) why e = cc
@@ -211,10 +211,12 @@ edited-known (KeySet key bytes) s t journal e o = same-known s t journal e o
 edited-known (KeyErase key) s t journal e o = key-known key s t journal e o
 
 -- a task ends by no strange refusal but one that says that a log hides a node
-abbrev pub EndsFine : End → Type 0
-EndsFine (E.Committed id) = Unit {0}
-EndsFine E.Done = Unit {0}
-EndsFine (E.Refused line why) = IsFine why
+abbrev pub EndsFine : (collects : Bool) → End → Type 0
+EndsFine collects (E.Committed id) = Unit {0}
+EndsFine collects (E.Collected removed) = Unit {0}
+EndsFine collects E.Done = Unit {0}
+EndsFine collects (E.Refused line why) = IsFine collects why
+EndsFine collects (E.Stopped line why removed) = is_strange collects why ≡ false
 
 module _ (client : Client) (ids : AnyIds) where
   abbrev Knows : SessionState → List Event → Type 0
@@ -223,7 +225,7 @@ module _ (client : Client) (ids : AnyIds) where
   held-led : (s t : SessionState) (journal : List Event) → (t ≡ s) ⊎ Edits s t → AreIts client t.ids → IsOpened t journal → Held client ids s journal → Held client ids t journal
   held-led s t journal (inl same) known opened h = subst (λ (x : SessionState). Held client ids x journal) (sym same) h
   held-led s t journal (inr edits) known opened h = record {
-    before = before-later s.ids t.ids journal (edit-later s t edits) h.before;
+    before = before-later client s.ids t.ids journal (edit-later s t edits) h.before;
     known = known;
     goes = edit-goes ids s t edits h.goes;
     own = own-stay ids t s (sym (edit-base s t edits)) h.own;
@@ -232,23 +234,27 @@ module _ (client : Client) (ids : AnyIds) where
 
   -- ---- the lines of a task
   abbrev Ends : Outcome → Type 0
-  Ends o = EndsFine o.end
+  Ends o = EndsFine client.collects o.end
 
   -- what follows a line, on a session of which this is known
   abbrev GoesOn : Rest → Type 0
   GoesOn rest = (s : SessionState) (shown : List Shown) (journal : List Event) → Held client ids s journal → PlayMeets Ends (beside client ids) (rest s shown) journal
 
-  refused-fine : (line : ℕ) (shown : List Shown) (why : Refusal) (journal : List Event) → IsFine why → PlayMeets Ends (beside client ids) (refused line shown why) journal
+  refused-fine : (line : ℕ) (shown : List Shown) (why : Refusal) (journal : List Event) → IsFine client.collects why → PlayMeets Ends (beside client ids) (refused line shown why) journal
   refused-fine line shown why journal p = ended-meets Ends (beside client ids) (record { shown = shown; end = E.Refused line why }) journal p
 
-  refused-meets : (line : ℕ) (shown : List Shown) (why : Refusal) (journal : List Event) → is_strange why ≡ false → PlayMeets Ends (beside client ids) (refused line shown why) journal
+  refused-meets : (line : ℕ) (shown : List Shown) (why : Refusal) (journal : List Event) → is_strange client.collects why ≡ false → PlayMeets Ends (beside client ids) (refused line shown why) journal
   refused-meets line shown why journal p = refused-fine line shown why journal (inl p)
+
+  -- a refusal that needs no operation
+  refused-plain : (line : ℕ) (shown : List Shown) (why : Refusal) (journal : List Event) → is_strange false why ≡ false → PlayMeets Ends (beside client ids) (refused line shown why) journal
+  refused-plain line shown why journal p = refused-meets line shown why journal (plain-beside client.collects why p)
 
   edit-meets : (line : ℕ) (shown : List Shown) (edit : EditCall) (s : SessionState) (rest : Rest) (journal : List Event) → Held client ids s journal → GoesOn rest → Leads (Goes (silent (edited edit s))) s → (r : Result SessionState Refusal) → edited edit s ≡ r
       → PlayMeets Ends (beside client ids) (after_line line shown (silent r) rest) journal
   edit-meets line shown edit s rest journal h go leads (Ok t) e =
       go t (shown ++ []) journal (held-led s t journal (leads [] t (ap (λ (x : Result SessionState Refusal). silent x) e)) (edited-draws client.draw client.number edit s t h.known e) (edited-known edit s t journal e h.opened) h)
-  edit-meets line shown edit s rest journal h go leads (Err why) e = refused-meets line shown why journal (edited-plain edit s why e)
+  edit-meets line shown edit s rest journal h go leads (Err why) e = refused-plain line shown why journal (edited-plain edit s why e)
 
   -- a key's metadata is put
   put-draws : (o : Option Node) (s t : SessionState) (path text : List ℕ) → AreIts client s.ids → put_over o s path text ≡ Ok t → AreIts client t.ids
@@ -259,11 +265,11 @@ module _ (client : Client) (ids : AnyIds) where
       → PlayMeets Ends (beside client ids) (after_line line shown (silent r) rest) journal
   put-meets line shown o path text s rest journal h go leads (Ok t) e =
       go t (shown ++ []) journal (held-led s t journal (leads [] t (ap (λ (x : Result SessionState Refusal). silent x) e)) (put-draws o s t path text h.known e) (put-known o s t path text journal e h.opened) h)
-  put-meets line shown o path text s rest journal h go leads (Err why) e = refused-meets line shown why journal (put-plain o s path text why e)
+  put-meets line shown o path text s rest journal h go leads (Err why) e = refused-plain line shown why journal (put-plain o s path text why e)
 
   look-meets : (line : ℕ) (shown : List Shown) (s : SessionState) (rest : Rest) (journal : List Event) → Held client ids s journal → GoesOn rest → (r : Result (List Shown) Refusal) → IsPlain r → PlayMeets Ends (beside client ids) (after_line line shown (still s r) rest) journal
   look-meets line shown s rest journal h go (Ok more) p = go s _ journal h
-  look-meets line shown s rest journal h go (Err why) p = refused-meets line shown why journal (p why refl)
+  look-meets line shown s rest journal h go (Err why) p = refused-plain line shown why journal (p why refl)
 
   set-goes : (line : ℕ) (shown : List Shown) (s : SessionState) (path index bytes : List ℕ) (rest : Rest) → GoesOn rest → (r : Result SessionState Refusal) (journal : List Event) → SetWell client ids s path index bytes r journal → PlayMeets Ends (beside client ids) (after_line line shown (silent r) rest) journal
   set-goes line shown s path index bytes rest go (Ok t) journal h = go t (shown ++ []) journal h
@@ -365,7 +371,7 @@ module _ (client : Client) (ids : AnyIds) where
   opened-meets law access line body well known (Err why) journal p = refused-meets line [] why journal p
 
   -- a session of this client is refused as it may be, or by a log that hides a node
-  pub session-meets : (law : SnapshotLaw) (access : Access) (line : ℕ) (body : List Line) → All IsWellLine body → (journal : List Event) → AreIts client ids → Before ids journal → NodesAreNew ids journal → PlayMeets (λ o. EndsFine o.end) (beside client ids) (session_play ids access line body) journal
+  pub session-meets : (law : SnapshotLaw) (access : Access) (line : ℕ) (body : List Line) → All IsWellLine body → (journal : List Event) → AreIts client ids → Before client ids journal → NodesAreNew ids journal → PlayMeets (λ o. EndsFine client.collects o.end) (beside client ids) (session_play ids access line body) journal
   session-meets law access line body well journal known before nodes =
       call-meets Ends (beside client ids) (Opens client ids known (asked_by access ids) (access-ids access ids)) (open_program (asked_by access ids)) (after_open access line body) journal
       (open-meets client ids known (asked_by access ids) (access-ids access ids) journal (record { before = before; nodes = nodes }))

@@ -1,6 +1,6 @@
 -- What stands in the journal of a run over an empty store.
-use Rattle.std.proofs.Common.{◌≡◌, ◌≢◌, ℕ, ◌⊎◌, inl, inr, true, false, List, [], ◌∷◌, ◌++◌, length, refl, sym, ◌∙◌, ap, subst, append_assoc, append-nil}
-use Rattle.std.specs.Prelude.{◌≤◌, Option, Some, None}
+use Rattle.std.proofs.Common.{◌≡◌, ◌≢◌, ℕ, ◌⊎◌, inl, inr, Bool, true, false, List, [], ◌∷◌, ◌++◌, length, refl, sym, ◌∙◌, ap, subst, append_assoc, append-nil}
+use Rattle.std.specs.Prelude.{◌≤◌, Option, Some, None, bytes_eq}
 use Rattle.std.specs.Option.{option_or}
 use Rattle.ice_ids.specs.declared.Id12.{Id12}
 use Rattle.ice_ids.specs.declared.drawing.AnyIds.{AnyIds}
@@ -8,6 +8,7 @@ use Rattle.ice_ids.specs.declared.drawing.Draw.{Draw}
 use Rattle.ice_ids.specs.Drawing.{DrawsOnce}
 use Rattle.ice_ids.specs.Text.{initial_id}
 use Rattle.snapshot_file.specs.declared.snapshot.SnapshotFile.{SnapshotFile}
+use Rattle.repo_objects.specs.Laws.{initial_bytes}
 use Rattle.repo_objects.specs.Readings.{snapshot_by}
 use Rattle.object_store.specs.declared.keys.Key.{Key}
 use Rattle.object_store.specs.declared.keys.Key.TheVariants.{Snapshot, Manifest, Txn, Chunk, Branch, Tag, TagGone, Lease}
@@ -15,12 +16,12 @@ use Rattle.object_store.specs.declared.events.Op.{Op}
 use Rattle.object_store.specs.declared.events.Op.TheVariants.{Get, PutNew, PutOver, Remove, RemoveAt, List as ListPart}
 use Rattle.object_store.specs.declared.events.Event.{Event}
 use Rattle.object_store.specs.Machine.{Stored, Slot, slot_of, found, first_put, leaves, put_at, is_on}
-use Rattle.store_api.specs.Journal.{Each, IsGood, IsUnused, WasPut}
+use Rattle.store_api.specs.Journal.{Each, IsFirst, IsFirstOp, IsGood, IsOnce, IsUnused, PutsFirst, PutsSnap, WasPut}
 use Rattle.store_api.specs.Laws.{AllNamed}
-use Rattle.object_store.proofs.Journals.{Each-append, Each-weaker}
+use Rattle.object_store.proofs.Journals.{Each-append, Each-both, Each-weaker}
 use Rattle.store_api.proofs.Naming.{names-law}
-use Rattle.object_store.proofs.Slots.{effect-cases, free-cases, old-cases, slot-append_one, slot-none, same_key-true}
-use Rattle.run_histories.proofs.Along.{IsObject, Removes, no-object, unused-one}
+use Rattle.object_store.proofs.Slots.{bytes-same, effect-cases, free-cases, id-true, old-cases, slot-append_one, slot-none, same_key-true}
+use Rattle.collecting.specs.Walks.{IsObject}
 use Rattle.run_histories.proofs.Drawing.{IsDrawnBy, AreOf, drawn-not_initial}
 use Rattle.run_histories.proofs.Programs.{IsBranch}
 
@@ -51,13 +52,13 @@ PutsOver (Tag name) = Unit {0}
 PutsOver (TagGone name) = Unit {0}
 PutsOver (Lease id) = ⊥
 
--- ... and nothing is removed but branches
+-- ... and nothing is removed at a version but branches; keys are removed by collections
 abbrev pub Puts : (Id12 → Type 0) → Op → Type 0
 Puts who (Get key) = Unit {0}
 Puts who (ListPart part) = Unit {0}
 Puts who (PutNew key bytes why) = PutsNew who bytes key
 Puts who (PutOver key bytes old why) = PutsOver key
-Puts who (Remove key why) = ⊥
+Puts who (Remove key why) = Unit {0}
 Puts who (RemoveAt key old why) = IsBranch key
 
 -- an event of a client that draws these ids
@@ -80,7 +81,7 @@ puts-weaker who more f (Get key) p = tt
 puts-weaker who more f (ListPart part) p = tt
 puts-weaker who more f (PutNew key bytes why) p = new-weaker who more f bytes key p
 puts-weaker who more f (PutOver key bytes old why) p = p
-puts-weaker who more f (Remove key why) p = absurd p
+puts-weaker who more f (Remove key why) p = p
 puts-weaker who more f (RemoveAt key old why) p = p
 
 -- anybody's event
@@ -88,8 +89,9 @@ abbrev pub IsAny : List Event → Event → Type 0
 IsAny = IsTidy (λ id. Unit {0})
 
 -- ---- clients
--- a client of a run in which no id is drawn twice
+-- a client of a run in which no id is drawn twice, and in which tasks collect or not
 pub record Client : Type 0 where
+  pub collects : Bool
   pub draw : Draw
   pub most : ℕ
   pub once : DrawsOnce draw most
@@ -136,7 +138,7 @@ leaves-read who id n time (PutNew key bytes why) slot p on r =
     let at : PutsNew who bytes (Snapshot id) = subst (λ (k : Key). PutsNew who bytes k) (same_key-true key (Snapshot id) on) p in
     free-cases (ReadSlot id) slot.stands (put_at n time bytes slot) slot r (λ free. stands-read id n time bytes slot at.0)
 leaves-read who id n time (PutOver key bytes old why) slot p on r = absurd (subst PutsOver (same_key-true key (Snapshot id) on) p)
-leaves-read who id n time (Remove key why) slot p on r = absurd p
+leaves-read who id n time (Remove key why) slot p on r = λ s e. absurd cc
 leaves-read who id n time (RemoveAt key old why) slot p on r = absurd (subst IsBranch (same_key-true key (Snapshot id) on) p)
 
 abbrev AllRead : Id12 → List Event → Type 0
@@ -154,22 +156,18 @@ read-none id = subst (ReadSlot id) (sym (slot-none (Snapshot id))) (λ s e. absu
 pub stands-readable : (id : Id12) (journal : List Event) (s : Stored) → Each IsAny [] journal → found journal (Snapshot id) ≡ Some s → CanRead id s.bytes
 stands-readable id journal s tidy e = along IsAny (AllRead id) (read-one id) [] journal tidy (read-none id) s e
 
--- ---- what was put stands
-puts-keep : (who : Id12 → Type 0) (op : Op) → Puts who op → ¬ Removes op
-puts-keep who (Get key) p r = r
-puts-keep who (ListPart part) p r = r
-puts-keep who (PutNew key bytes why) p r = r
-puts-keep who (PutOver key bytes old why) p r = r
-puts-keep who (Remove key why) p r = p
-puts-keep who (RemoveAt key old why) p r = no-object key p r
+-- ---- what was put stands, where nothing is removed
+-- no object is a branch, or put over
+no-object : (key : Key) → IsObject key → ¬ IsBranch key
+no-object (Snapshot id) o b = b
+no-object (Manifest id) o b = b
+no-object (Txn id) o b = b
+no-object (Chunk id) o b = b
+no-object (Branch name) o b = o
+no-object (Tag name) o b = o
+no-object (TagGone name) o b = o
+no-object (Lease id) o b = o
 
-unused-none : (key : Key) → IsUnused [] key
-unused-none key e = ap (λ (s : Slot). s.first) (slot-none key)
-
-all-unused : (key : Key) → IsObject key → (journal : List Event) → Each IsAny [] journal → IsUnused journal key
-all-unused key object journal tidy = along IsAny (λ h. IsUnused h key) (λ h event t u. unused-one h event key object (puts-keep (λ i. Unit {0}) event.op t.puts) u) [] journal tidy (unused-none key)
-
--- no object is put over
 over-no-object : (key : Key) → IsObject key → ¬ PutsOver key
 over-no-object (Snapshot id) o p = p
 over-no-object (Manifest id) o p = p
@@ -180,40 +178,121 @@ over-no-object (Tag name) o p = o
 over-no-object (TagGone name) o p = o
 over-no-object (Lease id) o p = p
 
--- what stands was put first, where it isn't put over
-abbrev IsFirstPut : Slot → Type 0
-IsFirstPut slot = (s : Stored) → slot.stands ≡ Some s → slot.first ≡ Some s.bytes
+-- no key is removed but a branch
+abbrev pub Keeps : Op → Type 0
+Keeps (Get key) = Unit {0}
+Keeps (ListPart part) = Unit {0}
+Keeps (PutNew key bytes why) = Unit {0}
+Keeps (PutOver key bytes old why) = Unit {0}
+Keeps (Remove key why) = ⊥
+Keeps (RemoveAt key old why) = IsBranch key
 
-put-first : (n time : ℕ) (bytes : List ℕ) (slot : Slot) → slot.first ≡ None → IsFirstPut (put_at n time bytes slot)
-put-first n time bytes slot none s e = let same : bytes ≡ s.bytes = cc in ap (λ (o : Option (List ℕ)). option_or o (Some bytes)) none ∙ ap (λ (b : List ℕ). Some b) same
+abbrev Unused : Slot → Type 0
+Unused slot = slot.stands ≡ None → slot.first ≡ None
 
-leaves-first : (key : Key) → IsObject key → (n time : ℕ) (op : Op) (slot : Slot) → (slot.stands ≡ None → slot.first ≡ None) → Puts (λ i. Unit {0}) op → is_on key op ≡ true → IsFirstPut slot → IsFirstPut (leaves n time op slot)
-leaves-first key object n time (Get k) slot unused p on f = f
-leaves-first key object n time (ListPart part) slot unused p on f = f
-leaves-first key object n time (PutNew k bytes why) slot unused p on f = free-cases IsFirstPut slot.stands (put_at n time bytes slot) slot f (λ free. put-first n time bytes slot (unused free))
-leaves-first key object n time (PutOver k bytes old why) slot unused p on f = absurd (over-no-object key object (subst PutsOver (same_key-true k key on) p))
-leaves-first key object n time (Remove k why) slot unused p on f = absurd p
-leaves-first key object n time (RemoveAt k old why) slot unused p on f = absurd (no-object key (subst IsBranch (same_key-true k key on) p) object)
+leaves-unused : (key : Key) → IsObject key → (n time : ℕ) (op : Op) (slot : Slot) → Keeps op → is_on key op ≡ true → Unused slot → Unused (leaves n time op slot)
+leaves-unused key object n time (Get k) slot keeps on u = u
+leaves-unused key object n time (ListPart part) slot keeps on u = u
+leaves-unused key object n time (PutNew k bytes why) slot keeps on u = free-cases Unused slot.stands (put_at n time bytes slot) slot u (λ free none. absurd cc)
+leaves-unused key object n time (PutOver k bytes old why) slot keeps on u = old-cases Unused old.0 slot.stands (put_at n time bytes slot) slot u (λ s e v none. absurd cc)
+leaves-unused key object n time (Remove k why) slot keeps on u = absurd keeps
+leaves-unused key object n time (RemoveAt k old why) slot keeps on u = absurd (no-object key object (subst IsBranch (same_key-true k key on) keeps))
 
-record WasPutFirst (key : Key) (journal : List Event) : Type 0 where
-  unused : IsUnused journal key
-  first : IsFirstPut (slot_of journal key)
+-- what was put of objects stands
+abbrev pub AllStand : List Event → Type 0
+AllStand journal = (key : Key) → IsObject key → IsUnused journal key
 
-first-one : (key : Key) → IsObject key → (journal : List Event) (event : Event) → IsAny journal event → WasPutFirst key journal → WasPutFirst key (journal ++ event ∷ [])
-first-one key object journal event t w = record {
-  unused = unused-one journal event key object (puts-keep (λ i. Unit {0}) event.op t.puts) w.unused;
-  first = subst IsFirstPut (sym (slot-append_one journal event key))
-      (effect-cases IsFirstPut key (length journal) (slot_of journal key) event w.first (λ on done. leaves-first key object (length journal) event.time event.op (slot_of journal key) w.unused t.puts on w.first));
+pub stand-none : AllStand []
+stand-none key object none = ap (λ (s : Slot). s.first) (slot-none key)
+
+pub stand-one : (journal : List Event) (event : Event) → Keeps event.op → AllStand journal → AllStand (journal ++ event ∷ [])
+stand-one journal event keeps all key object =
+    subst Unused (sym (slot-append_one journal event key))
+    (effect-cases Unused key (length journal) (slot_of journal key) event (all key object) (λ on done. leaves-unused key object (length journal) event.time event.op (slot_of journal key) keeps on (all key object)))
+
+pub put-stands : (key : Key) → IsObject key → (journal : List Event) → AllStand journal → WasPut journal key → found journal key ≢ None
+put-stands key object journal all put none = let first : first_put journal key ≡ None = all key object none in let was = put.1 in absurd cc
+
+-- ---- what stands was put first, where nothing is put again
+-- what stands is what was put first, and the initial snapshot was first put with its own bytes
+record IsFirstPut (key : Key) (slot : Slot) : Type 0 where
+  stood : (s : Stored) → slot.stands ≡ Some s → slot.first ≡ Some s.bytes
+  initial : key ≡ Snapshot initial_id → (b : List ℕ) → slot.first ≡ Some b → b ≡ initial_bytes
+
+-- these bytes are the first ones
+record AreFirst (key : Key) (bytes : List ℕ) (slot : Slot) : Type 0 where
+  first : option_or slot.first (Some bytes) ≡ Some bytes
+  initial : key ≡ Snapshot initial_id → bytes ≡ initial_bytes
+
+put-first : (key : Key) (n time : ℕ) (bytes : List ℕ) (slot : Slot) → AreFirst key bytes slot → IsFirstPut key (put_at n time bytes slot)
+put-first key n time bytes slot a = record {
+  stood = λ s e. let same : bytes ≡ s.bytes = cc in a.first ∙ ap (λ (b : List ℕ). Some b) same;
+  initial = λ is b e. let same : bytes ≡ b = some-same bytes b (sym a.first ∙ e) in sym same ∙ a.initial is;
 }
+  where
+    some-same : (x y : List ℕ) → Some x ≡ Some y → x ≡ y
+    some-same x y e = cc
 
-first-none : (key : Key) → WasPutFirst key []
-first-none key = record { unused = unused-none key; first = subst IsFirstPut (sym (slot-none key)) (λ s e. absurd cc) }
+none-before : (o : Option (List ℕ)) (bytes : List ℕ) → o ≡ None → option_or o (Some bytes) ≡ Some bytes
+none-before o bytes none = ap (λ (x : Option (List ℕ)). option_or x (Some bytes)) none
 
-pub stands-first : (key : Key) → IsObject key → (journal : List Event) (s : Stored) → Each IsAny [] journal → found journal key ≡ Some s → first_put journal key ≡ Some s.bytes
-stands-first key object journal s tidy e = (along IsAny (WasPutFirst key) (first-one key object) [] journal tidy (first-none key)).first s e
+-- a snapshot
+snapshot-first : (id : Id12) (journal : List Event) (bytes : List ℕ) → PutsSnap journal id bytes → found journal (Snapshot id) ≡ None → IsFirstPut (Snapshot id) (slot_of journal (Snapshot id)) → AreFirst (Snapshot id) bytes (slot_of journal (Snapshot id))
+snapshot-first id journal bytes p free f = by_id (bytes_eq id.0 initial_id.0) refl
+  where
+    id-same : Snapshot id ≡ Snapshot initial_id → id ≡ initial_id
+    id-same e = cc
 
-pub put-stands : (key : Key) → IsObject key → (journal : List Event) → Each IsAny [] journal → WasPut journal key → found journal key ≢ None
-put-stands key object journal tidy put none = let first : first_put journal key ≡ None = all-unused key object journal tidy none in let was = put.1 in absurd cc
+    again : bytes ≡ initial_bytes → id ≡ initial_id → (o : Option (List ℕ)) → first_put journal (Snapshot id) ≡ o → option_or o (Some bytes) ≡ Some bytes
+    again own is None e = refl
+    again own is (Some b) e = ap (λ (x : List ℕ). Some x) (f.initial (ap (λ (i : Id12). Snapshot i) is) b e ∙ sym own)
+
+    by_id : (b : Bool) → bytes_eq id.0 initial_id.0 ≡ b → AreFirst (Snapshot id) bytes (slot_of journal (Snapshot id))
+    by_id true e =
+        let is : id ≡ initial_id = id-true id initial_id e in
+        record { first = again (p.initial is) is (first_put journal (Snapshot id)) refl; initial = λ same. p.initial is }
+    by_id false e =
+        let other : id ≢ initial_id = λ s. let y : bytes_eq id.0 initial_id.0 ≡ true = subst (λ (i : Id12). bytes_eq id.0 i.0 ≡ true) s (bytes-same id.0) in absurd cc in
+        record { first = none-before (first_put journal (Snapshot id)) bytes (p.other other free); initial = λ same. absurd (other (id-same same)) }
+
+object-first : (key : Key) → IsObject key → (journal : List Event) (bytes : List ℕ) → PutsFirst journal bytes key → found journal key ≡ None → IsFirstPut key (slot_of journal key) → AreFirst key bytes (slot_of journal key)
+object-first (Snapshot id) object journal bytes p free f = snapshot-first id journal bytes p free f
+object-first (Manifest id) object journal bytes p free f = record { first = none-before (first_put journal (Manifest id)) bytes (p.0 free); initial = λ same. absurd cc }
+object-first (Txn id) object journal bytes p free f = record { first = none-before (first_put journal (Txn id)) bytes (p free); initial = λ same. absurd cc }
+object-first (Chunk id) object journal bytes p free f = record { first = none-before (first_put journal (Chunk id)) bytes (p free); initial = λ same. absurd cc }
+object-first (Branch name) object journal bytes p free f = absurd object
+object-first (Tag name) object journal bytes p free f = absurd object
+object-first (TagGone name) object journal bytes p free f = absurd object
+object-first (Lease id) object journal bytes p free f = absurd object
+
+-- an event of which both are known
+record IsNext (journal : List Event) (event : Event) : Type 0 where
+  puts : Puts (λ i. Unit {0}) event.op
+  first : IsFirst journal event
+
+module _ (key : Key) (object : IsObject key) where
+  leaves-first : (journal : List Event) (time : ℕ) (op : Op) → Puts (λ i. Unit {0}) op → IsFirstOp journal op → is_on key op ≡ true → IsFirstPut key (slot_of journal key) → IsFirstPut key (leaves (length journal) time op (slot_of journal key))
+  leaves-first journal time (Get k) p f on w = w
+  leaves-first journal time (ListPart part) p f on w = w
+  leaves-first journal time (PutNew k bytes why) p f on w =
+      free-cases (IsFirstPut key) (found journal key) (put_at (length journal) time bytes (slot_of journal key)) (slot_of journal key) w
+      (λ free. put-first key (length journal) time bytes (slot_of journal key) (object-first key object journal bytes (subst (λ (x : Key). PutsFirst journal bytes x) (same_key-true k key on) f) free w))
+  leaves-first journal time (PutOver k bytes old why) p f on w = absurd (over-no-object key object (subst PutsOver (same_key-true k key on) p))
+  leaves-first journal time (Remove k why) p f on w = record { stood = λ s e. absurd cc; initial = w.initial }
+  leaves-first journal time (RemoveAt k old why) p f on w = absurd (no-object key object (subst IsBranch (same_key-true k key on) p))
+
+  first-one : (journal : List Event) (event : Event) → IsNext journal event → IsFirstPut key (slot_of journal key) → IsFirstPut key (slot_of (journal ++ event ∷ []) key)
+  first-one journal event n w =
+      subst (IsFirstPut key) (sym (slot-append_one journal event key))
+      (effect-cases (IsFirstPut key) key (length journal) (slot_of journal key) event w (λ on done. leaves-first journal event.time event.op n.puts (n.first done) on w))
+
+  first-none : IsFirstPut key (slot_of [] key)
+  first-none = subst (IsFirstPut key) (sym (slot-none key)) (record { stood = λ s e. absurd cc; initial = λ is b e. absurd cc })
+
+  pub stands-first : (journal : List Event) (s : Stored) → Each IsAny [] journal → IsOnce journal → found journal key ≡ Some s → first_put journal key ≡ Some s.bytes
+  stands-first journal s tidy once e =
+      let each : Each IsNext [] journal = Each-both IsAny IsFirst IsNext (λ h event t f. record { puts = t.puts; first = f }) [] journal tidy once in
+      (along IsNext (λ h. IsFirstPut key (slot_of h key)) first-one [] journal each first-none).stood s e
 
 -- a branch that stands names a snapshot that was put, and so does a tag
 pub all-named : (journal : List Event) → Each IsAny [] journal → AllNamed journal
@@ -245,7 +324,7 @@ leaves-free who key n time (Get k) slot spared p on f = f
 leaves-free who key n time (ListPart part) slot spared p on f = f
 leaves-free who key n time (PutNew k bytes why) slot spared p on f = absurd (spared.new bytes (subst (λ (x : Key). PutsNew who bytes x) (same_key-true k key on) p))
 leaves-free who key n time (PutOver k bytes old why) slot spared p on f = absurd (spared.over (subst PutsOver (same_key-true k key on) p))
-leaves-free who key n time (Remove k why) slot spared p on f = absurd p
+leaves-free who key n time (Remove k why) slot spared p on f = refl
 leaves-free who key n time (RemoveAt k old why) slot spared p on f = old-cases Free old.0 slot.stands (record slot { stands = None }) slot f (λ s e v. refl)
 
 free-one : (who : Id12 → Type 0) (key : Key) → IsSpared who key → (journal : List Event) (event : Event) → IsTidy who journal event → found journal key ≡ None → found (journal ++ event ∷ []) key ≡ None

@@ -4,6 +4,7 @@ ghost use Rattle.std.specs.Prelude.{◌≡◌, ℕ, true, [], length, IfOk, IfEr
 ghost use Rattle.ice_ids.specs.Drawing.{DrawsOnce};
 ghost use Rattle.zarr_tree.specs.Changes.{Changes};
 ghost use Rattle.store_api.specs.Journal.{IsGoodJournal};
+ghost use Rattle.play_script.specs.Collections.{has_collection};
 ghost use Rattle.play_script.specs.Well.{IsWell};
 ghost use Rattle.run_histories.specs.Runs.{IsSound};
 ghost use Rattle.run_histories.specs.Sources.{IsNewRun};
@@ -96,8 +97,8 @@ pub fn play<R: Threads + Wait + Sync, S: Base + Send, G: Gate + Sync>(
     // are kept, and the refs that were read are their ends.
     ensures leaves { IsTrue (S.view store).caller.tells → (before : ℕ → Changes) → IsSound (S.view store).seen before → IsNewRun draw script.now.tasks (S.view store).seen → IfOk result.1 (λ played. LeavesBranches draw script.now.tasks before (S.view store).seen (S.view result.0).seen played.refs) }
     // Over one on which nothing was done before, where the clients draw no id twice, as it always is by counting, no drawn id is
-    // taken, no object is missing, and every file can be read.
-    ensures regular { IsTrue (S.view store).caller.tells → (S.view store).seen ≡ [] → DrawsOnce draw (length script.now.tasks) → IfOk result.1 (λ played. NothingStrange played.opening played.outcomes.items played.refs) }
+    // taken, and every file can be read; and where no task collects, no object is missing.
+    ensures regular { IsTrue (S.view store).caller.tells → (S.view store).seen ≡ [] → DrawsOnce draw (length script.now.tasks) → IfOk result.1 (λ played. NothingStrange (has_collection script.now.tasks) played.opening played.outcomes.items played.refs) }
 {
     initial_law();
     snapshot_law();

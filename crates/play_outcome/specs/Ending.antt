@@ -3,27 +3,33 @@ use Rattle.std.specs.Prelude.{Bool, false, List, [], ◌∷◌}
 use Rattle.store_api.specs.declared.machines.Refusal.{Refusal}
 use Rattle.store_api.specs.Program.{is_no_memory, is_fault}
 use Rattle.play_outcome.specs.declared.outcome.End.{End}
-use Rattle.play_outcome.specs.declared.outcome.End.TheVariants.{Committed, Done, Refused}
+use Rattle.play_outcome.specs.declared.outcome.End.TheVariants.{Committed, Collected, Done, Refused, Stopped}
 use Rattle.play_outcome.specs.declared.outcome.Outcome.{Outcome}
 
 -- the refusal that ended it, if one did
 abbrev pub end_why : End → List Refusal
 end_why (Committed id) = []
+end_why (Collected removed) = []
 end_why Done = []
 end_why (Refused line why) = why ∷ []
+end_why (Stopped line why removed) = why ∷ []
 
 abbrev pub why_ended : Outcome → List Refusal
 why_ended outcome = end_why outcome.end
 
 abbrev pub end_starved : End → Bool
 end_starved (Committed id) = false
+end_starved (Collected removed) = false
 end_starved Done = false
 end_starved (Refused line why) = is_no_memory why
+end_starved (Stopped line why removed) = is_no_memory why
 
 abbrev pub end_failed : End → Bool
 end_failed (Committed id) = false
+end_failed (Collected removed) = false
 end_failed Done = false
 end_failed (Refused line why) = is_fault why
+end_failed (Stopped line why removed) = is_fault why
 
 abbrev pub is_starved : Outcome → Bool
 is_starved outcome = end_starved outcome.end

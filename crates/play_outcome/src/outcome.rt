@@ -1,5 +1,6 @@
 //! Outcomes of tasks.
 
+use cleanup_reports::Removed;
 use ice_base::{Bytes, RefName, Text};
 use ice_ids::Id12;
 use ice_items::Items;
@@ -52,10 +53,21 @@ pub type Shows = Items<Shown>;
 pub enum End {
     /// Its commit made this snapshot.
     Committed(Id12),
+    /// It collected, and was told that it removed so many objects.
+    Collected(Removed),
     /// It reached its end without a commit.
     Done,
     /// It was refused at this line of the script.
-    Refused { line: u32, why: Refusal },
+    Refused {
+        line: u32,
+        why: Refusal,
+    },
+    /// Its collection was refused at this line of the script, and until then it was told that it removed so many objects.
+    Stopped {
+        line: u32,
+        why: Refusal,
+        removed: Removed,
+    },
 }
 
 /// What a task showed, and how it ended.

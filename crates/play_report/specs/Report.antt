@@ -1,13 +1,14 @@
 -- The report of a run (own): lines of words.
-use Rattle.std.specs.Prelude.{ℕ, ◌/◌, ◌%◌, ◌==◌, nat_lt, List, [], ◌∷◌, ◌++◌, map, Bool, ◌||◌, if◌then◌else◌, Option, Some, None, Result, Ok, Err, codes, decimal}
+use Rattle.std.specs.Prelude.{ℕ, ◌/◌, ◌%◌, ◌==◌, nat_lt, List, [], ◌∷◌, ◌++◌, map, Bool, ◌&&◌, ◌||◌, if◌then◌else◌, Option, Some, None, Result, Ok, Err, codes, decimal}
 use Rattle.std.specs.List.{flat_map}
 use Rattle.std.specs.Char.{digit_char}
 use Rattle.ice_ids.specs.Text.{id12_text}
+use Rattle.cleanup_reports.specs.declared.Removed.{Removed}
 use Rattle.store_api.specs.declared.machines.Refusal.{Refusal}
 use Rattle.play_outcome.specs.declared.outcome.Shown.{Shown}
 use Rattle.play_outcome.specs.declared.outcome.Shown.TheVariants.{Node, Meta, Chunk, Fill, Key, Log}
 use Rattle.play_outcome.specs.declared.outcome.End.{End}
-use Rattle.play_outcome.specs.declared.outcome.End.TheVariants.{Committed, Done, Refused}
+use Rattle.play_outcome.specs.declared.outcome.End.TheVariants.{Committed, Collected, Done, Refused, Stopped}
 use Rattle.play_outcome.specs.declared.outcome.Outcome.{Outcome}
 use Rattle.play_outcome.specs.declared.outcome.RefLine.{RefLine}
 use Rattle.play_report.specs.Words.{◌space◌}
@@ -54,15 +55,32 @@ shown_text (Log line snapshot flushed_at message) =
 abbrev pub shown_line : List ℕ → Shown → List ℕ
 shown_line name shown = line_of name (shown_text shown)
 
+-- how many snapshots, logs, manifests and objects with chunks a collection removed
+abbrev pub removed_text : Removed → List ℕ
+removed_text r = codes "collected" space decimal r.snapshots space decimal r.logs space decimal r.manifests space decimal r.chunks
+
+abbrev pub is_nothing : Removed → Bool
+is_nothing r = (r.snapshots == 0) && (r.logs == 0) && (r.manifests == 0) && (r.chunks == 0)
+
+-- a collection that was refused tells first what it removed, if anything
+abbrev pub removed_lines : List ℕ → End → List ℕ
+removed_lines name (Stopped line why removed) = if is_nothing removed then [] else line_of name (removed_text removed)
+removed_lines name (Committed id) = []
+removed_lines name (Collected removed) = []
+removed_lines name Done = []
+removed_lines name (Refused line why) = []
+
 -- how a task ended, behind its name
 abbrev pub end_text : End → List ℕ
 end_text (Committed id) = codes "committed" space id12_text id
+end_text (Collected removed) = removed_text removed
 end_text Done = codes "done"
 end_text (Refused line why) = codes "refused" space decimal line space refusal_text why
+end_text (Stopped line why removed) = codes "refused" space decimal line space refusal_text why
 
 -- what a task showed in order, and then how it ended
 abbrev pub outcome_text : List ℕ → Outcome → List ℕ
-outcome_text name outcome = flat_map (shown_line name) outcome.shown ++ line_of name (end_text outcome.end)
+outcome_text name outcome = flat_map (shown_line name) outcome.shown ++ (removed_lines name outcome.end ++ line_of name (end_text outcome.end))
 
 -- each task in order, under its name; what one list has beyond the other is left out
 abbrev pub tasks_text : List (List ℕ) → List Outcome → List ℕ

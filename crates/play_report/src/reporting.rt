@@ -3,12 +3,13 @@
 
 ghost use Rattle.std.specs.Prelude.{◌≡◌, IfOk, OnOk, length, map, vec_capacity};
 ghost use Rattle.std.specs.List.{flat_map};
-ghost use Rattle.play_report.specs.Report.{ref_kind, line_of, end_text, shown_line, outcome_text, tasks_text, opening_text, ref_line, refs_text, refused_line, played_text, report_of};
+ghost use Rattle.play_report.specs.Report.{ref_kind, line_of, is_nothing, removed_text, removed_lines, end_text, shown_line, outcome_text, tasks_text, opening_text, ref_line, refs_text, refused_line, played_text, report_of};
 ghost use Rattle.play_report.specs.inside.Drafts.{added};
 
 use crate::drafts::Draft;
 use crate::refusals::add_refusal;
-use crate::texts::{add_end, add_ref, add_shown};
+use crate::texts::{add_end, add_ref, add_removed, add_shown};
+use cleanup_reports::Removed;
 use play_outcome::{End, Outcome, RefLine, RefLines, Shown};
 use std::alloc::{AllocError, Global};
 use store_api::Refusal;
@@ -39,6 +40,35 @@ fn add_all_shown(out: &mut Draft, name: &[u8], all: &[Shown]) -> Result<(), Allo
     Ok(())
 }
 
+fn is_nothing(removed: Removed) -> bool
+    ensures { result ≡ is_nothing removed }
+{
+    removed.snapshots == 0 && removed.logs == 0 && removed.manifests == 0 && removed.chunks == 0
+}
+
+/// What a collection removed, as a line.
+fn add_removed_line(out: &mut Draft, name: &[u8], removed: Removed) -> Result<(), AllocError>
+    ensures { OnOk result (out.new ≡ added out.old (line_of name.now (removed_text removed))) }
+{
+    out.add(name)?;
+    out.add(b" ")?;
+    add_removed(out, removed)?;
+    out.add(b"\n")
+}
+
+/// What a collection removed that was refused, as a line, if it removed anything.
+fn add_removed_lines(out: &mut Draft, name: &[u8], end: &End) -> Result<(), AllocError>
+    ensures { OnOk result (out.new ≡ added out.old (removed_lines name.now end.now)) }
+{
+    let End::Stopped { removed, .. } = end else {
+        return Ok(());
+    };
+    if is_nothing(*removed) {
+        return Ok(());
+    }
+    add_removed_line(out, name, *removed)
+}
+
 /// How a task ended, as a line.
 fn add_end_line(out: &mut Draft, name: &[u8], end: &End) -> Result<(), AllocError>
     ensures { OnOk result (out.new ≡ added out.old (line_of name.now (end_text end.now))) }
@@ -49,11 +79,12 @@ fn add_end_line(out: &mut Draft, name: &[u8], end: &End) -> Result<(), AllocErro
     out.add(b"\n")
 }
 
-/// What the task of this name showed, line by line, and how it ended.
+/// What the task of this name showed, line by line, what it removed where it was refused, and how it ended.
 fn add_outcome(out: &mut Draft, name: &[u8], outcome: &Outcome) -> Result<(), AllocError>
     ensures { OnOk result (out.new ≡ added out.old (outcome_text name.now outcome.now)) }
 {
     add_all_shown(out, name, outcome.shown.as_slice())?;
+    add_removed_lines(out, name, &outcome.end)?;
     add_end_line(out, name, &outcome.end)
 }
 

@@ -5,14 +5,17 @@ ghost use Rattle.std.specs.Prelude.{◌≡◌, ◌<◌, ◌++◌, OnOk, codes, d
 ghost use Rattle.play_report.specs.Words.{◌space◌};
 ghost use Rattle.std.specs.Char.{digit_char};
 ghost use Rattle.std.specs.List.{flat_map};
-ghost use Rattle.play_report.specs.Report.{node_kind, printed, byte_text, bytes_text, value_text, shown_text, end_text, ref_text};
+ghost use Rattle.play_report.specs.Report.{node_kind, printed, byte_text, bytes_text, value_text, shown_text, removed_text, end_text, ref_text};
+ghost use Rattle.play_report.specs.Refusals.{refusal_text};
 ghost use Rattle.play_report.specs.inside.Drafts.{added};
 
 use crate::drafts::Draft;
 use crate::refusals::{add_refusal, add_told};
+use cleanup_reports::Removed;
 use ice_base::Bytes;
 use play_outcome::{End, RefLine, Shown};
 use std::alloc::AllocError;
+use store_api::Refusal;
 
 fn node_kind(array: bool) -> &'static str
     ensures { result.now ≡ node_kind array }
@@ -127,17 +130,38 @@ pub fn add_shown(out: &mut Draft, shown: &Shown) -> Result<(), AllocError>
     }
 }
 
+/// How many snapshots, logs, manifests and objects with chunks a collection removed.
+pub fn add_removed(out: &mut Draft, removed: Removed) -> Result<(), AllocError>
+    ensures { OnOk result (out.new ≡ added out.old (removed_text removed)) }
+{
+    let Removed {
+        snapshots,
+        logs,
+        manifests,
+        chunks,
+    } = removed;
+    write!(out, "collected {snapshots} {logs} {manifests} {chunks}")
+}
+
+/// The line that was refused, and why.
+fn add_refused_at(out: &mut Draft, line: u32, why: &Refusal) -> Result<(), AllocError>
+    ensures { OnOk result (out.new ≡ added out.old (codes "refused" space decimal line space refusal_text why.now)) }
+{
+    write!(out, "refused {line} ")?;
+    add_refusal(out, why)
+}
+
 /// How a task ended.
 pub fn add_end(out: &mut Draft, end: &End) -> Result<(), AllocError>
     ensures { OnOk result (out.new ≡ added out.old (end_text end.now)) }
 {
     match end {
         End::Committed(id) => write!(out, "committed {id}"),
+        End::Collected(removed) => add_removed(out, *removed),
         End::Done => out.add(b"done"),
-        End::Refused { line, why } => {
-            write!(out, "refused {line} ")?;
-            add_refusal(out, why)
-        }
+        End::Refused { line, why } | End::Stopped { line, why, .. } => add_refused_at(
+            out, *line, why,
+        ),
     }
 }
 

@@ -25,7 +25,7 @@ no_minus (b ∷ bs) none = by_first (b == 45) refl
         absurd (none bs (ap (λ (x : ℕ). x ∷ bs) is))
     by_first false e = rw e refl
 
-numeral : (ds : List ℕ) → is_digits ds ≡ true → IsNumeral 10 ds
+pub numeral : (ds : List ℕ) → is_digits ds ≡ true → IsNumeral 10 ds
 numeral ds d =
     let parts = and_parts (not (length ds == 0)) (list_all is_ascii_digit ds) d in
     let some : 0 < length ds = grind (arith, nat_tests) in

@@ -80,7 +80,7 @@ ref_name_ok w name h =
     let t = tested_ok (is_none (name_fault w)) w name _ h in
     subst IsRefName t.1 (no_fault (name_fault w) t.0)
 
-number_ok : (least most : ℕ) (w : Text) (n : ℕ) → number_of least most w ≡ Ok n → (least ≤ n) × (n ≤ most)
+pub number_ok : (least most : ℕ) (w : Text) (n : ℕ) → number_of least most w ≡ Ok n → (least ≤ n) × (n ≤ most)
 unfolding number_of
 number_ok least most w n h =
     let t = tested_ok (is_number least most w) (digits_value 10 w) n _ h in

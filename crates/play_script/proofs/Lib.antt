@@ -1,5 +1,6 @@
 pub mod Digits
 pub mod Fills
+pub mod Cutoffs
 pub mod PlainText
 pub mod LastTask
 pub mod Earliest
@@ -8,6 +9,7 @@ pub mod Cuts
 pub mod Utf8
 pub mod NextLine
 pub mod Inversions
+pub mod WellCutoffs
 pub mod HexTexts
 pub mod ArrayUtf8
 pub mod WellLines

@@ -22,7 +22,7 @@ use Rattle.play_script.specs.declared.scripts.Class.TheVariants as c
 use Rattle.play_script.specs.declared.forms.Form.{Form}
 use Rattle.play_script.specs.Words.{Text, next, one, two, three, five}
 use Rattle.play_script.specs.Parts.{◌&◌, made}
-use Rattle.play_script.specs.Values.{◌reads◌, path_of, text_of, ref_name_of, id_of, tries_in, policy_in, numbers_of, fill_of, index_of, bytes_of, byte_of}
+use Rattle.play_script.specs.Values.{◌reads◌, path_of, text_of, ref_name_of, id_of, tries_in, policy_in, numbers_of, fill_of, index_of, bytes_of, byte_of, cutoff_of}
 use Rattle.play_script.specs.Arrays.{array_line_text}
 
 -- the words that a form takes, and what it makes of them
@@ -165,11 +165,15 @@ abbrev pub refs_of : Option Text → Result Head ScriptKind
 refs_of None = Ok head.Refs
 refs_of (Some rest) = Err k.Word
 
--- a head by its word; `collect` and `expire` aren't built, whatever stands behind them
+-- `collect CUTOFF`
+abbrev pub collect_of : Option Text → Result Head ScriptKind
+collect_of rest = made head.Collect (taken (one rest) cutoff_of)
+
+-- a head by its word; `expire` isn't built, whatever stands behind it
 unfoldable pub head_of : Text → Option Text → Result Head ScriptKind
 head_of word rest =
     if word reads codes "write" then made head.Session (write_of rest) else
     (if word reads codes "read" then made head.Session (made access.Read (lone_at rest)) else
     (if word reads codes "refs" then refs_of rest else
-    (if word reads codes "collect" then Err k.Unbuilt else
+    (if word reads codes "collect" then collect_of rest else
     (if word reads codes "expire" then Err k.Unbuilt else Err k.Word))))

@@ -7,4 +7,5 @@ pub mod Forms
 pub mod Places
 pub mod Reading
 pub mod Well
+pub mod Collections
 pub mod SoFar

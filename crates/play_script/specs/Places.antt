@@ -50,6 +50,7 @@ abbrev pub head_takes : Head → Class → Bool
 head_takes (head.Session opened) class = access_takes opened class
 head_takes head.Refs c.Ref = true
 head_takes head.Refs _ = false
+head_takes (head.Collect cutoff) class = false
 
 abbrev pub is_commit_call : Call → Bool
 is_commit_call (call.Edit change) = false

@@ -1,5 +1,6 @@
 -- Own: what a word stands for, or the kind of its fault.
-use Rattle.std.specs.Prelude.{ℕ, ◌+◌, ◌-◌, ◌*◌, ◌^◌, ◌==◌, ℤ, pos, negsuc, int_le, List, [], ◌∷◌, if◌then◌else◌, Option, Some, None, Result, Ok, Err, Bool, true, false, not, ◌&&◌, ◌||◌, nat_le, length, drop, bytes_eq, codes}
+use Rattle.std.specs.Prelude.{ℕ, ◌+◌, ◌-◌, ◌*◌, ◌/◌, ◌^◌, ◌==◌, ℤ, pos, negsuc, int_le, List, [], ◌∷◌, if◌then◌else◌, Option, Some, None, Result, Ok, Err, Bool, true, false, not, ◌&&◌, ◌||◌, nat_le, length, drop, slice_index, bytes_eq, codes}
+use Rattle.jiff.specs.Words.{parse_timestamp, Error}
 use Rattle.std.specs.List.{list_all}
 use Rattle.std.specs.Char.{is_ascii_digit, is_ascii_lowercase}
 use Rattle.std.specs.Str.Parse.{digits_value, starts_with_minus, signed_digits_value}
@@ -109,6 +110,20 @@ fill_of w = if is_digits (magnitude w) && is_signed (signed_digits_value 10 w) t
 unfoldable pub count_of : Option Text → Result ℕ ScriptKind
 count_of None = Ok 1
 count_of (Some w) = number_of 1 9999 w
+
+-- the microseconds since 1970, rounded down, of an instant that isn't before that
+abbrev pub micros_of : Result ℤ Error → Result ℕ ScriptKind
+micros_of (Ok (pos nanos)) = Ok (nanos / 1000)
+micros_of (Ok (negsuc nanos)) = Err k.Number
+micros_of (Err fault) = Err k.Number
+
+-- a number of 64 bits in 1 to 20 digits
+abbrev pub micros_number_of : Text → Result ℕ ScriptKind
+micros_number_of w = if nat_le (length w) 20 then number_of 0 (2 ^ 64 - 1) w else Err k.Number
+
+-- a cutoff: microseconds since 1970, or `@` (64) and an instant, as jiff reads it
+unfoldable pub cutoff_of : Text → Result ℕ ScriptKind
+cutoff_of w = if slice_index w 0 == 64 then micros_of (parse_timestamp (drop 1 w)) else micros_number_of w
 
 -- how often a commit may be carried over those of others: one digit
 unfoldable pub tries_in : Text → Result ℕ ScriptKind

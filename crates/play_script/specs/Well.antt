@@ -1,5 +1,5 @@
 -- Own: what holds of every script that was read.
-use Rattle.std.specs.Prelude.{◌≡◌, ◌≢◌, ℕ, ◌+◌, ◌<◌, ◌≤◌, List, [], ◌∷◌, length, map, IfSome, IsTrue, All, AllPairs}
+use Rattle.std.specs.Prelude.{◌≡◌, ◌≢◌, ℕ, ◌+◌, ◌^◌, ◌<◌, ◌≤◌, List, [], ◌∷◌, length, map, IfSome, IsTrue, All, AllPairs}
 use Rattle.ice_base.specs.Names.{IsRefName}
 use Rattle.ice_base.specs.Lists.{IsBytes}
 use Rattle.std.specs.Str.{is_utf8}
@@ -99,11 +99,13 @@ IsWellAccess (access.Read at) = IsWellAt at
 abbrev pub IsWellHead : Head → Type 0
 IsWellHead (head.Session opened) = IsWellAccess opened
 IsWellHead head.Refs = Unit {0}
+IsWellHead (head.Collect cutoff) = cutoff < 2 ^ 64
 
 -- a task of refs has a line
 abbrev pub HasItsLine : Head → List Line → Type 0
 HasItsLine (head.Session opened) body = Unit {0}
 HasItsLine head.Refs body = body ≢ []
+HasItsLine (head.Collect cutoff) body = Unit {0}
 
 -- the lines are of classes that the head takes
 abbrev pub AreTaken : Head → List Line → Type 0

@@ -24,6 +24,7 @@ fn head_takes(head: &Head, class: Class) -> bool
     match head {
         Head::Session(access) => access_takes(access, class),
         Head::Refs => class == Class::Ref,
+        Head::Collect { .. } => false,
     }
 }
 

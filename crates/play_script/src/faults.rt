@@ -15,7 +15,7 @@ pub enum ScriptKind {
     Long,
     /// The line isn't UTF-8.
     Text,
-    /// It begins a collection or an expiry, which aren't built so far.
+    /// It begins an expiry, which isn't built so far.
     Unbuilt,
     /// A word of it is unknown where it stands, it has too few or too many words, or an empty one.
     Word,
@@ -27,7 +27,7 @@ pub enum ScriptKind {
     Name,
     /// The path of a node is refused.
     Path,
-    /// A digit, a list of numbers, a fill value or a count is refused.
+    /// A digit, a list of numbers, a fill value, a count or a cutoff is refused.
     Number,
     /// Its bytes aren't pairs of lower-case digits of base 16.
     Hex,

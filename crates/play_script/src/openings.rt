@@ -2,13 +2,13 @@
 
 ghost use Rattle.std.specs.Prelude.{◌≡◌, IfOk};
 ghost use Rattle.play_script.specs.Words.{seen};
-ghost use Rattle.play_script.specs.Forms.{write_of, refs_of, head_of};
+ghost use Rattle.play_script.specs.Forms.{write_of, refs_of, collect_of, head_of};
 
 use crate::faults::{ScriptKind, both};
 use crate::refs::lone_at;
 use crate::scripts::{Access, Head};
-use crate::values::{policy_in, ref_name_in, tries_in};
-use crate::words::three;
+use crate::values::{cutoff_in, policy_in, ref_name_in, tries_in};
+use crate::words::{one, three};
 use std::alloc::{AllocError, Global};
 
 /// A session that writes.
@@ -42,6 +42,16 @@ fn refs(rest: Option<&str>) -> Result<Head, ScriptKind>
     }
 }
 
+/// A task that collects, behind whose word its cutoff stands.
+fn collect(rest: Option<&str>) -> Result<Head, ScriptKind>
+    ensures { result ≡ collect_of (seen rest.entry) }
+{
+    match one(rest) {
+        Some(word) => cutoff_in(word).map(|cutoff| Head::Collect { cutoff }),
+        None => Err(ScriptKind::Word),
+    }
+}
+
 /// A head by its word.
 #[tactic(auto, unfolding(crate::specs::Forms::head_of))]
 pub fn head_in(
@@ -55,7 +65,8 @@ pub fn head_in(
         "write" => write(alloc, rest)?.map(Head::Session),
         "read" => lone_at(alloc, rest)?.map(|at| Head::Session(Access::Read { at })),
         "refs" => refs(rest),
-        "collect" | "expire" => Err(ScriptKind::Unbuilt),
+        "collect" => collect(rest),
+        "expire" => Err(ScriptKind::Unbuilt),
         _ => Err(ScriptKind::Word),
     })
 }

@@ -216,6 +216,11 @@ pub enum Head {
     Session(Access),
     /// The task calls on refs, and opens no session.
     Refs,
+    /// The task collects: it removes what no ref reaches and is older than the cutoff.
+    Collect {
+        /// The cutoff, in microseconds since 1970.
+        cutoff: u64,
+    },
 }
 
 /// What one client does.

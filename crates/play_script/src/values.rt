@@ -3,7 +3,7 @@
 ghost use Rattle.std.specs.Prelude.{◌≡◌, ◌<◌, IfOk, Ok};
 ghost use Rattle.std.specs.List.{list_all};
 ghost use Rattle.std.specs.Char.{is_ascii_digit};
-ghost use Rattle.play_script.specs.Values.{is_digits, number_of, wide_of, numbers_of, index_part_of, index_of, hex_digit_of, byte_of, pairs, bytes_of, magnitude, fill_of, is_task_name, is_task_byte, task_name_of, path_of, text_of, ref_name_of, id_of, tries_in, pick_in, drops_in, policy_in, count_of};
+ghost use Rattle.play_script.specs.Values.{is_digits, number_of, wide_of, numbers_of, index_part_of, index_of, hex_digit_of, byte_of, pairs, bytes_of, magnitude, fill_of, is_task_name, is_task_byte, task_name_of, path_of, text_of, ref_name_of, id_of, tries_in, pick_in, drops_in, policy_in, count_of, cutoff_of};
 ghost use Rattle.play_script.specs.Words.{parts, seen};
 ghost use Rattle.play_script.specs.Parts.{each};
 ghost use Rattle.play_script.specs.SoFar.{parts_seen};
@@ -13,6 +13,7 @@ use crate::words::cut;
 use conflicts::{Pick, Policy};
 use ice_base::{Bytes, NameFault, RefName, Text};
 use ice_ids::Id12;
+use moments::cutoff_read;
 use std::alloc::{AllocError, Global};
 use std::marker::Model;
 use zarr_path::{Index, Path, PathFault};
@@ -314,6 +315,17 @@ pub fn count_in(text: Option<&str>) -> Result<u32, ScriptKind>
     match text {
         None => Ok(1),
         Some(word) => number_in(word, 1, 9999),
+    }
+}
+
+/// The cutoff that a word stands for, in microseconds since 1970.
+#[tactic(auto, using(crate::proofs::Cutoffs::read_cutoff))]
+pub fn cutoff_in(word: &str) -> Result<u64, ScriptKind>
+    ensures { result ≡ cutoff_of word.now }
+{
+    match cutoff_read(word) {
+        Ok(cutoff) => Ok(cutoff),
+        Err(_) => Err(ScriptKind::Number),
     }
 }
 

@@ -1,5 +1,5 @@
 -- What a client minds at each of its operations, and what that carries to the end of its play.
-use Rattle.std.proofs.Common.{List, ◌++◌, ℕ, refl}
+use Rattle.std.proofs.Common.{List, ◌++◌, ℕ}
 use Rattle.ice_ids.specs.declared.Id12.{Id12}
 use Rattle.ice_ids.specs.declared.drawing.AnyIds.{AnyIds}
 use Rattle.object_store.specs.declared.keys.Key.{Key}
@@ -12,7 +12,6 @@ use Rattle.store_api.specs.Journal.{Each, IsGood}
 use Rattle.store_api.specs.Callers.{Caller}
 use Rattle.store_api.specs.Program.{Prog, Done, Ask as Ask_next, Keeps, Leads}
 use Rattle.store_api.specs.Plays.{Play, Ended, Ask, Or, PlayKeeps, PlayLeads, Stays}
-use Rattle.store_api.proofs.Programs.{Leads-weaker}
 use Rattle.session.specs.Sessions.{SessionState}
 use Rattle.commit_path.specs.Owed.{Sessions, OwesOver, OwesSnap, OwesNew, OwesPutOver, Owes, IsCareful}
 use Rattle.commit_path.specs.Own.{OwesOwn}

@@ -16,9 +16,10 @@ use Rattle.rebase.proofs.Kept.{rebase-kept}
 use Rattle.store_api.proofs.Happening.{ChangedNothing-others}
 use Rattle.chunk_calls.specs.Laws.{TellsLaw}
 use Rattle.play_refs.specs.Laws.{RefsOutcomeLaw}
+use Rattle.play_collect.specs.Laws.{CollectOutcomeLaw}
 use Rattle.play_script.specs.declared.scripts.Access.{Access}
 use Rattle.play_script.specs.declared.scripts.Head.{Head}
-use Rattle.play_script.specs.declared.scripts.Head.TheVariants.{Session, Refs}
+use Rattle.play_script.specs.declared.scripts.Head.TheVariants.{Session, Refs, Collect}
 use Rattle.play_script.specs.declared.scripts.Line.{Line}
 use Rattle.play_script.specs.declared.scripts.Task.{Task}
 use Rattle.play_outcome.specs.declared.outcome.End.{End}
@@ -37,6 +38,7 @@ pub record Lasting : Type 0 where
   pub answers : AnswersLaw
   pub chunks : TellsLaw
   pub refs : RefsOutcomeLaw
+  pub collect : CollectOutcomeLaw
 
 module _ (L : Lasting) (by : Caller) (start journal more : List Event) (others : Each (IsOther by) journal more) where
   refuses-others : (d : Deed) (s : SessionState) (why : Refusal) → Refuses by.number d s start why journal → Refuses by.number d s start why (journal ++ more)
@@ -102,6 +104,7 @@ module _ (L : Lasting) (by : Caller) (start journal more : List Event) (others :
   headed-others : (head : Head) (ids : AnyIds) (task : Task) (outcome : Outcome) → TellsBy head ids task by.number start outcome journal → TellsBy head ids task by.number start outcome (journal ++ more)
   headed-others (Session access) ids task outcome t = session-others ids access task outcome t
   headed-others Refs ids task outcome t = L.refs by task.body outcome start journal more others t
+  headed-others (Collect cutoff) ids task outcome t = L.collect by task.line cutoff outcome start journal more others t
 
   pub TellsOutcome-others : (ids : AnyIds) (task : Task) (outcome : Outcome) → TellsOutcome ids task by.number start outcome journal → TellsOutcome ids task by.number start outcome (journal ++ more)
   TellsOutcome-others ids task outcome t = headed-others task.head ids task outcome t

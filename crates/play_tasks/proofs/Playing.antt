@@ -45,7 +45,7 @@ use Rattle.play_script.specs.declared.scripts.ReadCall.TheVariants as read
 use Rattle.play_script.specs.declared.scripts.Access.{Access}
 use Rattle.play_script.specs.declared.scripts.Access.TheVariants as access
 use Rattle.play_script.specs.declared.scripts.Head.{Head}
-use Rattle.play_script.specs.declared.scripts.Head.TheVariants.{Session, Refs}
+use Rattle.play_script.specs.declared.scripts.Head.TheVariants.{Session, Refs, Collect}
 use Rattle.play_script.specs.declared.scripts.Line.{Line}
 use Rattle.play_script.specs.declared.scripts.Task.{Task}
 use Rattle.play_script.specs.Well.{IsWellEdit, IsWellCall, IsWellLine, IsWellTask}
@@ -58,6 +58,8 @@ use Rattle.play_tasks.specs.Playing.{tries_of, policy_of, commit_play, play_deed
 use Rattle.play_tasks.specs.Solving.{DidPlay, PlaysAll, WasCarried, IsOfTask}
 use Rattle.play_refs.specs.Playing.{refs_play}
 use Rattle.play_refs.specs.Telling.{OwesRefs}
+use Rattle.chunk_gc.specs.Exact.{IsOwed}
+use Rattle.play_collect.specs.Playing.{collect_task}
 use Rattle.play_tasks.specs.Bases.{ComesOpen, OpensOrHasBase}
 use Rattle.play_tasks.proofs.Basing.{session-opens}
 use Rattle.play_tasks.specs.Owing.{OwesBy, OwesOwnBy, IsDue, ComesBefore, BeforeChange}
@@ -373,6 +375,11 @@ module _ (L : Laws) (by : Caller) (ids : AnyIds) (task : Task) (start : List Eve
       let told = L.refs by task.body start in
       let pays = PlayKeeps-weaker (λ h client op. IsPolite h op × OwesRefs op) (Pays Refs) (λ h client op x. (x.0, (x.1, (tt, tt)))) by (refs_play task.body []) start told.0 in
       (pays, all-before (Pays Refs) by (refs_play task.body []) start pays, told.1)
+  by_head (Collect cutoff) is =
+      let told = L.collect by task.line cutoff start in
+      let p = collect_task task.line cutoff in
+      let pays = PlayKeeps-own (λ h client op. IsPolite h op × IsOwed cutoff start h client op) (Pays (Collect cutoff)) by (λ h op x. (x.0, (x.1, (tt, tt)))) p start told.0 in
+      (pays, all-before (Pays (Collect cutoff)) by p start pays, told.1)
 
   pub task-well : PlayKeeps (IsDue ids task by.number start) by (task_play ids task) start × PlayKeeps (λ journal client op. BeforeChange task client start journal op) by (task_play ids task) start
       × PlayLeads (TellsOutcome ids task by.number start) by (task_play ids task) start

@@ -1,5 +1,5 @@
 -- What the outcome of a task says of the journal, in words that name no machine and no program. (Own.)
-use Rattle.std.specs.Prelude.{◌≡◌, ◌⊎◌, ℕ, ◌<◌, ◌≤◌, List, [], ◌∷◌, ◌++◌, Option, Ok, Err}
+use Rattle.std.specs.Prelude.{◌≡◌, ◌⊎◌, ℕ, ◌<◌, ◌≤◌, List, [], ◌∷◌, ◌++◌, Option, Err}
 use Rattle.ice_ids.specs.declared.drawing.AnyIds.{AnyIds}
 use Rattle.object_store.specs.declared.events.Event.{Event}
 use Rattle.store_api.specs.declared.machines.Refusal.{Refusal}
@@ -13,7 +13,6 @@ use Rattle.commit_path.specs.Opened.{IsOpened, WasBegun, RefusalTells}
 use Rattle.commit_path.specs.Single.{HasPutNone, HasPutAlike}
 use Rattle.play_script.specs.declared.scripts.Line.{Line}
 use Rattle.play_script.specs.declared.scripts.Task.{Task}
-use Rattle.play_outcome.specs.declared.outcome.Shown.{Shown}
 use Rattle.play_outcome.specs.declared.outcome.End.{End}
 use Rattle.play_outcome.specs.declared.outcome.End.TheVariants.{Committed, Done, Refused}
 use Rattle.play_outcome.specs.declared.outcome.Outcome.{Outcome}
@@ -22,7 +21,8 @@ use Rattle.play_tasks.specs.Lines.{Deed, Goes, Sets, Reads, Commits, deed}
 use Rattle.rebase.specs.Telling.{RebaseTells}
 use Rattle.play_script.specs.declared.scripts.Access.{Access}
 use Rattle.play_script.specs.declared.scripts.Head.{Head}
-use Rattle.play_script.specs.declared.scripts.Head.TheVariants.{Session, Refs}
+use Rattle.play_script.specs.declared.scripts.Head.TheVariants.{Session, Refs, Collect}
+use Rattle.play_collect.specs.Telling.{CollectedTells}
 use Rattle.play_refs.specs.Telling.{RefsTells}
 use Rattle.play_tasks.specs.Playing.{asked_by, tries_of, policy_of}
 use Rattle.play_tasks.specs.Solving.{PlaysAll, WasLost, WasCarried}
@@ -124,6 +124,7 @@ pub record WasOpened (ids : AnyIds) (access : Access) (task : Task) (client : �
 abbrev pub TellsBy : Head → AnyIds → Task → ℕ → List Event → Outcome → List Event → Type 0
 TellsBy (Session access) ids task client start outcome journal = WasNotOpened ids access task client start outcome journal ⊎ WasOpened ids access task client start outcome journal
 TellsBy Refs ids task client start outcome journal = RefsTells task.body client start outcome journal
+TellsBy (Collect cutoff) ids task client start outcome journal = CollectedTells task.line cutoff client start outcome journal
 
 -- What the outcome of a task, whose session draws these ids if it opens one, says of the journal, where the task began at
 -- `start` and its client made no other events from there on.

@@ -3,6 +3,7 @@
 use crate::session_worker::SessionWorker;
 use crate::working::SessionTask;
 use ice_ids::AnyIds;
+use play_collect::CollectWorker;
 use play_outcome::Outcome;
 use play_refs::RefsWorker;
 use play_script::{Head, Task};
@@ -14,9 +15,10 @@ use store_api::Store;
 enum Player<'a> {
     Session(SessionWorker<'a>),
     Refs(RefsWorker<'a>),
+    Collect(CollectWorker),
 }
 
-/// One task: it opens a session, plays the task's lines on it, and commits, or it calls on refs. Each step makes one
+/// One task: it opens a session, plays the task's lines on it, and commits, or it calls on refs, or collects. Each step makes one
 /// operation of the store, and the local work that follows from its answer.
 pub struct Worker<'a> {
     player: Player<'a>,
@@ -57,6 +59,9 @@ impl<'a> Worker<'a> {
             Head::Refs => Ok(Worker {
                 player: Player::Refs(RefsWorker::new(alloc, body)),
             }),
+            Head::Collect { cutoff } => Ok(Worker {
+                player: Player::Collect(CollectWorker::new(alloc, task.line, *cutoff)),
+            }),
         }
     }
 
@@ -68,6 +73,7 @@ impl<'a> Worker<'a> {
         match &self.player {
             Player::Session(worker) => worker.has_ended(),
             Player::Refs(worker) => worker.has_ended(),
+            Player::Collect(worker) => worker.has_ended(),
         }
     }
 
@@ -80,6 +86,7 @@ impl<'a> Worker<'a> {
         match player {
             Player::Session(worker) => worker.into_outcome(),
             Player::Refs(worker) => worker.into_outcome(),
+            Player::Collect(worker) => worker.into_outcome(),
         }
     }
 
@@ -93,6 +100,7 @@ impl<'a> Worker<'a> {
         match &mut self.player {
             Player::Session(worker) => worker.step(store),
             Player::Refs(worker) => worker.step(store),
+            Player::Collect(worker) => worker.step(store),
         }
     }
 }

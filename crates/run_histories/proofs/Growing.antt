@@ -43,13 +43,13 @@ use Rattle.play_script.specs.declared.scripts.Task.{Task}
 use Rattle.play_tasks.specs.Solving.{IsOfTask}
 use Rattle.play_tasks.specs.Tasks.{ids_at}
 use Rattle.run_histories.specs.Runs.{AllCaused, AllTrees, HasCause, HasWellFormedTree, IsChildOf}
-use Rattle.run_histories.specs.Sources.{IsNewSource, IsOfAnother, NodesAreNew}
-use Rattle.run_histories.proofs.Along.{AllObjectsAreNew, Fits, IsOfOpener, client-fits, among-at, objects-one, plain-fits, well-at}
+use Rattle.run_histories.specs.Sources.{IsOfAnother, NodesAreNew}
+use Rattle.run_histories.proofs.Along.{Fits, IsOfOpener, StaysOnce, among-at, client-fits, plain-fits, well-at}
 use Rattle.run_histories.proofs.Ancestors.{Continues, Inherits, ancestor-on, causes-on, free-on, new-node, node-back, node-has, node-on, one-parent, tree-kept}
 use Rattle.run_histories.proofs.Drawing.{ids_at-of}
 use Rattle.run_histories.proofs.Grounds.{Grounds, IsCarried}
 use Rattle.run_histories.proofs.Origins.{continues}
-use Rattle.run_histories.proofs.Programs.{IsPlain, IsPlainOrCut, PutsOverSnapshot}
+use Rattle.run_histories.proofs.Programs.{IsCleanup, IsPlain, IsPlainOrCleanup}
 use Rattle.run_histories.proofs.Putting.{PutsFresh, grown as puts-grow, fresh-parent, nodes-one, put-now, rows-kept, trees-one}
 use Rattle.run_histories.proofs.Sized.{changes_sized, normal-in}
 use Rattle.run_histories.proofs.Sources.{node-apart}
@@ -72,15 +72,15 @@ nothing-well puts = record {
   chunks = λ p i b h. absurd cc;
 }
 
-plain-initial : (op : Op) (id : Id12) (bytes : List ℕ) (why : Why) → IsPlainOrCut op → op ≡ PutNew (Snapshot id) bytes why → (id ≡ initial_id) × (bytes ≡ initial_bytes)
+plain-initial : (op : Op) (id : Id12) (bytes : List ℕ) (why : Why) → IsPlainOrCleanup op → op ≡ PutNew (Snapshot id) bytes why → (id ≡ initial_id) × (bytes ≡ initial_bytes)
 plain-initial op id bytes why (inl p) e = subst IsPlain e p
-plain-initial op id bytes why (inr c) e = absurd (subst PutsOverSnapshot e c)
+plain-initial op id bytes why (inr c) e = absurd (subst IsCleanup e c)
 
 -- the tree of bytes that were put last
 abbrev tree-of_bytes : (journal : List Event) (id : Id12) (last : Option (List ℕ)) → Option Tree
 tree-of_bytes journal id last = option_map (λ (s : SnapshotFile). tree_under (puts_of journal) s.nodes) (snap_in id last)
 
-module _ (initial : InitialLaw) (journal : List Event) (event : Event) (plain : IsPlainOrCut event.op) (id : Id12) (n : PutsFresh journal event (Snapshot id)) where
+module _ (initial : InitialLaw) (journal : List Event) (event : Event) (plain : IsPlainOrCleanup event.op) (id : Id12) (n : PutsFresh journal event (Snapshot id)) where
   initial-read : snapshot_by id n.bytes ≡ Some initial_snapshot
   initial-read =
       let e = plain-initial event.op id n.bytes n.why plain n.op_is in
@@ -112,15 +112,14 @@ module _ (initial : InitialLaw) (journal : List Event) (event : Event) (plain : 
 
 -- ---- a run
 module _ (draw : Draw) (tasks : List Task) (draws : DrawsOnce draw (length tasks)) (wells : All IsWellTask tasks) (initial : InitialLaw) (old : List Event) where
-  -- What holds of the journal: it is good and puts nothing again, what its clients' sources may put is new, and each snapshot
-  -- has a well-formed tree, and comes from its parent.
+  -- What holds of the journal: it is good and puts nothing again, each snapshot has a well-formed tree, and comes from its parent; and no tree has a
+  -- node that another source may draw, where none had before.
   pub record Holds (journal : List Event) : Type 0 where
     pub good : IsGoodJournal journal
     pub once : IsOnce journal
-    pub objects : AllObjectsAreNew draw tasks journal
     pub trees : AllTrees journal
     pub causes : AllCaused journal
-    pub others : (ids : AnyIds) → IsOfAnother draw tasks ids → IsNewSource ids old → IsNewSource ids journal
+    pub nodes : (ids : AnyIds) → IsOfAnother draw tasks ids → NodesAreNew ids old → NodesAreNew ids journal
 
   abbrev pub AllNodesAreNew : List Event → Type 0
   AllNodesAreNew journal = (place : ℕ) → place < length tasks → NodesAreNew (ids_at draw place) journal
@@ -128,7 +127,7 @@ module _ (draw : Draw) (tasks : List Task) (draws : DrawsOnce draw (length tasks
   -- ---- one more event
   module _ (start journal : List Event) (event : Event) (fits : Fits draw tasks start journal event) (h : Holds journal) where
     first : IsFirst journal event
-    first = fits.first h.objects h.once
+    first = fits.first h.once
 
     goes-on : Continues journal (event ∷ [])
     goes-on = continues journal event h.good h.once fits.good first
@@ -151,22 +150,16 @@ module _ (draw : Draw) (tasks : List Task) (draws : DrawsOnce draw (length tasks
     still tree cause inherits = record {
       good = Each-append IsGood [] journal (event ∷ []) h.good (Each-one IsGood journal event fits.good);
       once = Each-append IsFirst [] journal (event ∷ []) h.once (Each-one IsFirst journal event first);
-      objects = λ place within. objects-one (ids_at draw place) journal event fits.keeps (h.objects place within);
       trees = trees-one journal event h.once fits.good first tree h.trees;
       causes = causes-on journal (event ∷ []) goes-on initial (λ base id never child. elim (put-now journal event (Snapshot id) (snap_made-put (journal ++ event ∷ []) id child.snap child.made)) [
         | inl before ↦ absurd (never before)
         | inr now ↦ cause base id now child
       ]) h.causes;
-      others = λ ids another new.
-          let before = h.others ids another new in
-          record {
-            objects = objects-one ids journal event fits.keeps before.objects;
-            nodes = nodes-stay ids (inherits ids another) before.nodes;
-          };
+      nodes = λ ids another new. nodes-stay ids (inherits ids another) (h.nodes ids another new);
     }
 
-  -- ---- of the opening, of the closing reading, or of a task on refs; or a cut
-  module _ (journal : List Event) (event : Event) (good : IsGood journal event) (plain : IsPlainOrCut event.op) (h : Holds journal) where
+  -- ---- of the opening, of the closing reading, of a task on refs, or of a collection; or a cut
+  module _ (journal : List Event) (event : Event) (good : IsGood journal event) (plain : IsPlainOrCleanup event.op) (h : Holds journal) where
     pub plain-holds : Holds (journal ++ event ∷ [])
     plain-holds = still old journal event (plain-fits draw tasks old journal event good plain) h
         (λ id n. initial-has initial journal event plain id n)
@@ -180,9 +173,9 @@ module _ (draw : Draw) (tasks : List Task) (draws : DrawsOnce draw (length tasks
     plain-nodes place new = nodes-stay old journal event (plain-fits draw tasks old journal event good plain) h (ids_at draw place) (plain-inherits (ids_at draw place)) new
 
   -- ---- of a task that opens a session
-  module _ (start journal : List Event) (event : Event) (c : IsOfOpener draw tasks start journal event) (h : Holds journal) (g : Grounds (ids_at draw c.place) (c.place + 1) start journal) where
+  module _ (start journal : List Event) (event : Event) (c : IsOfOpener draw tasks start journal event) (stays : StaysOnce journal event) (h : Holds journal) (g : Grounds (ids_at draw c.place) (c.place + 1) start journal) where
     abbrev fits : Fits draw tasks start journal event
-    fits = client-fits draw tasks draws wells start journal event c
+    fits = client-fits draw tasks start journal event c stays
 
     abbrev ids : AnyIds
     ids = ids_at draw c.place
@@ -194,7 +187,7 @@ module _ (draw : Draw) (tasks : List Task) (draws : DrawsOnce draw (length tasks
     after = journal ++ event ∷ []
 
     here : IsFirst journal event
-    here = fits.first h.objects h.once
+    here = fits.first h.once
 
     on : Continues journal (event ∷ [])
     on = continues journal event h.good h.once fits.good here

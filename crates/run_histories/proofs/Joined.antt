@@ -1,9 +1,8 @@
 -- The law of runs.
-use Rattle.std.proofs.Common.{◌≡◌, ℕ, ◌+◌, List, [], ◌++◌, length, ◌<◌, refl, sym, ◌∙◌, ap, subst, append_assoc, arith}
-use Rattle.std.specs.Prelude.{Some, slice_get}
+use Rattle.std.proofs.Common.{◌≡◌, ℕ, ◌+◌, false, List, [], ◌++◌, length, ◌<◌, refl, sym, ◌∙◌, ap, subst, arith}
 use Rattle.ice_ids.specs.declared.drawing.AnyIds.{AnyIds}
 use Rattle.ice_ids.specs.declared.drawing.Draw.{Draw}
-use Rattle.ice_ids.specs.Drawing.{DrawsOnce, IsAmong}
+use Rattle.ice_ids.specs.Drawing.{IsAmong}
 use Rattle.ice_ids.specs.Text.{initial_id}
 use Rattle.ice_ids.proofs.Drawn.{count-once}
 use Rattle.zarr_tree.specs.Changes.{Changes, none}
@@ -22,6 +21,7 @@ use Rattle.histories.proofs.Choosing.{chosen}
 use Rattle.histories.proofs.Linked.{history-law}
 use Rattle.histories.proofs.TagTrees.{keeps-its-tree}
 use Rattle.histories.proofs.Tagging.{tags-law}
+use Rattle.play_script.specs.Collections.{has_collection}
 use Rattle.play_script.specs.declared.scripts.Head.{Head}
 use Rattle.play_script.specs.declared.scripts.Head.TheVariants.{Session}
 use Rattle.play_script.specs.declared.scripts.Task.{Task}
@@ -32,18 +32,19 @@ use Rattle.play_tasks.specs.Playing.{asked_by}
 use Rattle.play_tasks.specs.Tasks.{ids_at, IsOfClient}
 use Rattle.run_histories.specs.Runs.{AllCaused, AllTrees, IsRun, IsSound, RanAlone}
 use Rattle.run_histories.specs.Sources.{DrawsOthers, IsLeftUnput, IsNewRun, IsNewSource, IsOfAnother, IsUnputRun, ObjectsAreUnput, PutsUnput}
-use Rattle.run_histories.specs.Told.{AllKeepFrozen, AllNormal, BegunLaw, ComesWhereOpen, CommitsSession, HasHistories, IsSolved, NoneHidden, NothingLaw, OthersLaw, RunLaw}
+use Rattle.run_histories.specs.Told.{AllKeepFrozen, AllNormal, BegunLaw, ComesWhereOpen, CommitsSession, HasCollections, HasHistories, IsSolved, NoneHidden, NothingLaw, OthersLaw, RunLaw}
 use Rattle.run_histories.proofs.Along.{CommitsOwn, Fits, goes}
 use Rattle.run_histories.proofs.Beginnings.{began-at-last}
 use Rattle.run_histories.proofs.Drawing.{AreOf, are-among, ids_at-of}
+use Rattle.run_histories.proofs.Firsts.{all, all-is, all-keep, all-of_run, client-task, objects-along, run-collections, unput-run}
 use Rattle.run_histories.proofs.Given.{CommitsNormal, before-given, joined, joined-before, joined-right, solved-enter, solved-given}
 use Rattle.run_histories.proofs.Played.{all-frozen, all-normal, none-hidden}
-use Rattle.run_histories.proofs.Programs.{begin-plain, path-plain}
 use Rattle.run_histories.proofs.Putting.{tree-put}
-use Rattle.run_histories.proofs.Running.{HoldsOf, Known, NodesOf, OfRun, known-is, opening-each, run-begins, run-each, run-holds, run-known}
+use Rattle.run_histories.proofs.Removals.{unput-new}
+use Rattle.run_histories.proofs.Running.{HoldsOf, Known, run-holds, run-known}
 use Rattle.run_histories.proofs.Single.{CommitsFirst, commits-once}
 use Rattle.run_histories.proofs.Sources.{node-apart, object-apart, object-not_initial}
-use Rattle.run_histories.proofs.Unput.{opened-left, others-unput, plain-each, run-left, unput-id}
+use Rattle.run_histories.proofs.Unput.{others-unput, unput-id}
 
 -- What a run leaves that goes on a journal.
 record Leaves (draw : Draw) (tasks : List Task) (old start added : List Event) : Type 0 where
@@ -55,7 +56,9 @@ record Leaves (draw : Draw) (tasks : List Task) (old start added : List Event) :
   normal : Each (CommitsNormal draw tasks start) old added
   trees : AllTrees (old ++ added)
   causes : AllCaused (old ++ added)
-  others : (ids : AnyIds) → IsOfAnother draw tasks ids → IsNewSource ids old → IsNewSource ids (old ++ added)
+  collections : HasCollections tasks old start (old ++ added)
+  others : has_collection tasks ≡ false → (ids : AnyIds) → IsOfAnother draw tasks ids → IsNewSource ids old → IsNewSource ids (old ++ added)
+  others_beside : (ids : AnyIds) → IsOfAnother draw tasks ids → DrawsOthers draw tasks ids → ObjectsAreUnput ids old → IsNewSource ids old → IsNewSource ids (old ++ added)
   unput : IsUnputRun draw tasks old → Each PutsUnput old added × IsLeftUnput draw tasks start (old ++ added)
   unput_others : (ids : AnyIds) → DrawsOthers draw tasks ids → ObjectsAreUnput ids old → ObjectsAreUnput ids (old ++ added)
   frozen : AllKeepFrozen draw tasks old (old ++ added)
@@ -64,11 +67,11 @@ record Leaves (draw : Draw) (tasks : List Task) (old start added : List Event) :
 
 module _ (draw : Draw) (tasks : List Task) where
   -- ---- the law, where the whole journal is what was added to the old one
-  whole-law : (before : ℕ → Changes) (old start added : List Event) → IsSound old before → IsNewRun draw tasks old → Leaves draw tasks old start added → HasHistories draw tasks before old start (old ++ added)
-  whole-law before old start added s new_run l =
+  whole-law : (before : ℕ → Changes) (old start added : List Event) → IsSound old before → Leaves draw tasks old start added → HasHistories draw tasks before old start (old ++ added)
+  whole-law before old start added s l =
       let whole : List Event = old ++ added in
       let Q : List Event → Event → Changes → Type 0 = λ h e c. CommitsSession draw tasks start c h e.client e.op in
-      let g = goes draw tasks start old added s.once (λ place within. (new_run.sources place within).objects) l.fits in
+      let g = goes draw tasks start old added s.once l.fits in
       let good : Each IsGood old added = Each-weaker (Fits draw tasks start) IsGood (λ h e f. f.good) old added l.fits in
       let all : IsGoodJournal whole = Each-append IsGood [] old added s.good good in
       let once : IsOnce whole = Each-append IsFirst [] old added s.once g.first in
@@ -99,7 +102,9 @@ module _ (draw : Draw) (tasks : List Task) where
         normal = l.sessions;
         unhidden = l.unhidden;
         sound = record { good = all; once = once; given = given; trees = l.trees; causes = l.causes };
+        collections = l.collections;
         others = l.others;
+        others_beside = l.others_beside;
         unput = λ u. (l.unput u).0;
         unput_left = λ u. (l.unput u).1;
         unput_others = l.unput_others;
@@ -113,62 +118,54 @@ module _ (draw : Draw) (tasks : List Task) where
 -- where an event of a client comes
 comes-open : (draw : Draw) (tasks : List Task) (start journal : List Event) (event : Event) → IsOfClient draw tasks start journal event → ComesWhereOpen draw tasks start journal event
 comes-open draw tasks start journal event c place task access at head_is client =
-    let places : c.place ≡ place = same-place (c.place) (sym c.client ∙ client) in
-    let tasks_same : c.task ≡ task = some-same c.task (sym c.at ∙ ap (slice_get tasks) places ∙ at) in
-    let head : c.task.head ≡ Session access = ap (λ (t : Task). t.head) tasks_same ∙ head_is in
-    subst (λ (k : ℕ). OpensOrHasBase (k + 1) (asked_by access (ids_at draw k)) start journal event.op) places
+    let same = client-task draw tasks start journal event c place task at client in
+    let head : c.task.head ≡ Session access = ap (λ (t : Task). t.head) same.1 ∙ head_is in
+    subst (λ (k : ℕ). OpensOrHasBase (k + 1) (asked_by access (ids_at draw k)) start journal event.op) same.0
     (subst (λ (h : Head). ComesOpen h (ids_at draw c.place) (c.place + 1) start journal event.op) head c.careful.open_at)
-  where
-    same-place : (k : ℕ) → k + 1 ≡ place + 1 → k ≡ place
-    same-place k e = omega (arith, e)
 
-    some-same : (x : Task) → Some x ≡ Some task → x ≡ task
-    some-same x e = cc
+module _ (initial : InitialLaw) (draw : Draw) (tasks : List Task) (before : ℕ → Changes) (old new : List Event) (s : IsSound old before) (new_run : IsNewRun draw tasks old) (r : IsRun draw tasks old new) where
+  abbrev added : List Event
+  added = all draw tasks old new r
 
--- ---- what was never put
-module _ (initial : InitialLaw) (draw : Draw) (tasks : List Task) (once : DrawsOnce draw (length tasks)) (old new : List Event) (r : IsRun draw tasks old new) where
-  abbrev rest : List Event
-  rest = r.playing.own ++ r.closing.own
+  is : new ≡ old ++ added
+  is = all-is draw tasks old new r
 
-  abbrev OfIt : List Event → Event → Type 0
-  OfIt = OfRun draw tasks once initial old new r
+  abbrev Knows : List Event → Event → Type 0
+  Knows = Known initial draw tasks before old new s new_run r
 
-  all-of-run : Each OfIt old (r.opening.own ++ rest)
-  all-of-run = Each-append OfIt old r.opening.own rest (opening-each draw tasks once initial old new r) (subst (λ (j : List Event). Each OfIt j rest) r.opening.is (run-each draw tasks once initial old new r))
+  known : Each Knows old added
+  known = run-known initial draw tasks before old new s new_run r
 
-  unput-run : IsUnputRun draw tasks old → Each PutsUnput old (r.opening.own ++ rest) × IsLeftUnput draw tasks r.begun (old ++ (r.opening.own ++ rest))
-  unput-run u =
-      let plain = path-plain begin_program old r.opening.own r.opening.left begin-plain r.opening.path in
-      let both = run-left draw tasks once r.well r.begun rest (run-each draw tasks once initial old new r) (opened-left draw tasks once r.well r.begun old r.opening.own plain u r.opening.is) in (
-        Each-append PutsUnput old r.opening.own rest (plain-each draw tasks once r.well r.begun old r.opening.own plain) (subst (λ (j : List Event). Each PutsUnput j rest) r.opening.is both.0),
-        subst (IsLeftUnput draw tasks r.begun) (ap (λ (j : List Event). j ++ rest) r.opening.is ∙ append_assoc old r.opening.own rest) both.1,
-      )
+  last : HoldsOf initial draw tasks before old new s new_run r (old ++ added)
+  last = subst (HoldsOf initial draw tasks before old new s new_run r) is (run-holds initial draw tasks before old new s new_run r)
+
+  others-never : (ids : AnyIds) → DrawsOthers draw tasks ids → ObjectsAreUnput ids old → ObjectsAreUnput ids (old ++ added)
+  others-never ids other u = others-unput draw tasks new_run.once r.well r.begun ids other old added (all-of_run draw tasks old new r) u
+
+  run-leaves : Leaves draw tasks old r.begun added
+  run-leaves = record {
+    began = r.opening;
+    played = r.playing.own;
+    closed = subst (λ (h : List Event). RanAlone refs_program h (old ++ added)) r.playing.is (subst (λ (h : List Event). RanAlone refs_program r.played h) is r.closing);
+    bases = Each-weaker (IsOfClient draw tasks r.begun) (ComesWhereOpen draw tasks r.begun) (λ h e c. comes-open draw tasks r.begun h e c) r.begun r.playing.own r.playing.owed;
+    fits = Each-weaker Knows (Fits draw tasks r.begun) (λ h e k. k.fits) old added known;
+    normal = Each-weaker Knows (CommitsNormal draw tasks r.begun) (λ h e k. k.commits) old added known;
+    trees = last.trees;
+    causes = last.causes;
+    collections = subst (HasCollections tasks old r.begun) is (run-collections draw tasks old new r);
+    others = λ nobody ids another source. record { objects = objects-along ids old added (all-keep draw tasks old new r nobody) source.objects; nodes = last.nodes ids another source.nodes };
+    others_beside = λ ids another other u source. record { objects = λ id may. unput-new (old ++ added) id (others-never ids other u id may); nodes = last.nodes ids another source.nodes };
+    unput = λ u. unput-run draw tasks old new r new_run.once u;
+    unput_others = others-never;
+    frozen = subst (AllKeepFrozen draw tasks old) is (all-frozen initial draw tasks before old new s new_run r);
+    sessions = subst (AllNormal draw tasks old) is (all-normal initial draw tasks before old new s new_run r);
+    unhidden = subst (NoneHidden draw tasks old) is (none-hidden initial draw tasks before old new s new_run r);
+  }
 
 pub run-law : InitialLaw → RunLaw
 run-law initial draw tasks before old new s new_run r =
-    let first = run-begins draw tasks new_run.once initial old new r before s new_run in
-    let nodes : NodesOf draw tasks new_run.once initial old new r old = λ place within. (new_run.sources place within).nodes in
-    let added : List Event = r.opening.own ++ (r.playing.own ++ r.closing.own) in
-    let is : new ≡ old ++ added = known-is draw tasks new_run.once initial old new r in
-    let known : Each (Known draw tasks new_run.once initial old new r) old added = run-known draw tasks new_run.once initial old new r first nodes in
-    let last : HoldsOf draw tasks new_run.once initial old new r (old ++ added) = subst (HoldsOf draw tasks new_run.once initial old new r) is (run-holds draw tasks new_run.once initial old new r first nodes) in
-    subst (λ (h : List Event). HasHistories draw tasks before old r.begun h) (sym is)
-    (whole-law draw tasks before old r.begun added s new_run (record {
-      began = r.opening;
-      played = r.playing.own;
-      closed = subst (λ (h : List Event). RanAlone refs_program h (old ++ added)) r.playing.is (subst (λ (h : List Event). RanAlone refs_program r.played h) is r.closing);
-      bases = Each-weaker (IsOfClient draw tasks r.begun) (ComesWhereOpen draw tasks r.begun) (λ h e c. comes-open draw tasks r.begun h e c) r.begun r.playing.own r.playing.owed;
-      fits = Each-weaker (Known draw tasks new_run.once initial old new r) (Fits draw tasks r.begun) (λ h e k. k.fits) old added known;
-      normal = Each-weaker (Known draw tasks new_run.once initial old new r) (CommitsNormal draw tasks r.begun) (λ h e k. k.commits) old added known;
-      trees = last.trees;
-      causes = last.causes;
-      others = last.others;
-      unput = λ u. unput-run initial draw tasks new_run.once old new r u;
-      unput_others = λ ids other u. others-unput draw tasks new_run.once r.well r.begun ids other old added (all-of-run initial draw tasks new_run.once old new r) u;
-      frozen = subst (AllKeepFrozen draw tasks old) is (all-frozen initial draw tasks before old new s new_run r);
-      sessions = subst (AllNormal draw tasks old) is (all-normal initial draw tasks before old new s new_run r);
-      unhidden = subst (NoneHidden draw tasks old) is (none-hidden initial draw tasks before old new s new_run r);
-    }))
+    subst (λ (h : List Event). HasHistories draw tasks before old r.begun h) (sym (all-is draw tasks old new r))
+    (whole-law draw tasks before old r.begun (all draw tasks old new r) s (run-leaves initial draw tasks before old new s new_run r))
 
 -- ---- an empty store
 nothing-unused : (key : Key) → IsUnused [] key
@@ -200,7 +197,7 @@ nothing-law = (nothing-sound, nothing-new, nothing-unput)
 
 pub begun-law : InitialLaw → BegunLaw
 begun-law initial draw tasks new once r =
-    run-law initial draw tasks (λ n. none) [] new (nothing-sound (λ n. none)) (record { once = once; sources = λ place within. nothing-new (ids_at draw place) }) r
+    run-law initial draw tasks (λ n. none) [] new (nothing-sound (λ n. none)) (record { once = once; sources = λ place within. nothing-new (ids_at draw place); unput = λ collects place within. nothing-unput (ids_at draw place) }) r
 
 -- ---- sources that count for others
 pub others-law : OthersLaw

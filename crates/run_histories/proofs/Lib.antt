@@ -18,12 +18,14 @@ pub mod Linked
 pub mod Moved
 pub mod Walked
 pub mod Single
+pub mod Removals
 pub mod Along
+pub mod Unput
+pub mod Firsts
 pub mod Growing
 pub mod Given
 pub mod Passing
 pub mod Running
-pub mod Unput
 pub mod Beginnings
 pub mod Played
 pub mod Joined

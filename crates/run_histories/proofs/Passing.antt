@@ -13,15 +13,15 @@ use Rattle.object_store.proofs.Journals.{Each-append, Each-back, Each-none, Each
 use Rattle.commit_path.specs.Single.{PutsNone, PutsSnapshot}
 use Rattle.play_script.specs.Well.{IsWellTask}
 use Rattle.play_script.specs.declared.scripts.Task.{Task}
-use Rattle.play_tasks.specs.Tasks.{ids_at, IsOfClient}
+use Rattle.play_tasks.specs.Tasks.{ids_at}
 use Rattle.run_histories.specs.Sources.{NodesAreNew}
-use Rattle.run_histories.proofs.Along.{Fits, IsOfOpener, among-at, by-head, client-fits, plain-fits, plain-no-commit, well-at}
+use Rattle.run_histories.proofs.Along.{ComesOnce, Fits, IsOfRun, StaysOnce, among-at, client-fits, plain-fits, plain-no-commit, well-at}
 use Rattle.run_histories.proofs.Ancestors.{Inherits}
 use Rattle.run_histories.proofs.Given.{CommitsNormal}
 use Rattle.run_histories.proofs.Grounds.{Grounds}
 use Rattle.run_histories.proofs.Growing.{AllNodesAreNew, Holds, client-comes, client-holds, nodes-stay, plain-holds, plain-inherits, plain-nodes}
 use Rattle.run_histories.proofs.Origins.{AllCome, come-one, come-start}
-use Rattle.run_histories.proofs.Programs.{IsPlain, IsPlainOrCut}
+use Rattle.run_histories.proofs.Programs.{IsPlain, IsPlainOrCleanup}
 use Rattle.run_histories.proofs.Putting.{PutsFresh}
 use Rattle.run_histories.proofs.Sized.{normal-in}
 use Rattle.run_histories.proofs.Sources.{node-spends}
@@ -36,17 +36,6 @@ module _ (draw : Draw) (tasks : List Task) (draws : DrawsOnce draw (length tasks
 
   -- ---- the tasks began at the start
   module _ (start : List Event) where
-    -- an event of a task that opens a session, or one of the opening, of a task on refs, or of the closing reading; or a cut of a snapshot's parent
-    abbrev pub IsOfRun : List Event → Event → Type 0
-    IsOfRun journal event = IsOfOpener draw tasks start journal event ⊎ (IsGood journal event × IsPlainOrCut event.op)
-
-    -- an event of a client is one
-    pub client-of_run : (journal : List Event) (event : Event) → IsOfClient draw tasks start journal event → IsOfRun journal event
-    client-of_run journal event c = elim (by-head draw tasks start journal event c) [
-      | inl o ↦ inl o
-      | inr p ↦ inr (p.0, inl p.1)
-    ]
-
     -- What is known of an event: what holds before it and behind it; and a snapshot that it puts is of its own client, or inherits.
     pub record IsKnown (journal : List Event) (event : Event) : Type 0 where
       pub holds : Hold journal
@@ -86,7 +75,7 @@ module _ (draw : Draw) (tasks : List Task) (draws : DrawsOnce draw (length tasks
       come-along from done (x ∷ xs) known come =
           let k : IsKnown (from ++ done) x = known.0 in
           let join : (from ++ done) ++ x ∷ [] ≡ from ++ (done ++ x ∷ []) = append_assoc from done (x ∷ []) in
-          let one = come-one (from ++ done) x k.holds.good k.holds.once k.fits.good (k.fits.first k.holds.objects k.holds.once) (ids_at draw place) (place + 1) from done refl (k.comes place within) come in
+          let one = come-one (from ++ done) x k.holds.good k.holds.once k.fits.good (k.fits.first k.holds.once) (ids_at draw place) (place + 1) from done refl (k.comes place within) come in
           subst (λ (d : List Event). AllCome (ids_at draw place) (place + 1) from (from ++ d)) (append_assoc done (x ∷ []) xs)
           (come-along from (done ++ x ∷ []) xs (subst (λ (j : List Event). Each IsKnown j xs) join known.1) (subst (AllCome (ids_at draw place) (place + 1) from) join one))
 
@@ -109,7 +98,7 @@ module _ (draw : Draw) (tasks : List Task) (draws : DrawsOnce draw (length tasks
       }
 
     -- ---- plain events
-    plain-one : (journal : List Event) (event : Event) → IsGood journal event → IsPlainOrCut event.op → Hold journal → IsKnown journal event
+    plain-one : (journal : List Event) (event : Event) → IsGood journal event → IsPlainOrCleanup event.op → Hold journal → IsKnown journal event
     plain-one journal event good plain h = record {
       holds = h;
       fits = plain-fits draw tasks start journal event good plain;
@@ -147,29 +136,29 @@ module _ (draw : Draw) (tasks : List Task) (draws : DrawsOnce draw (length tasks
           let k = task-carried_on initial (ids_at draw s.place) s.task (s.place + 1) start here (grounds-at s.place within) (well-at draw tasks wells s.place s.task s.at) s.session id s.of_task in
           normal-in (puts_of here) s.session s.made.chunks k.normal
 
-      known-one : (event : Event) → IsOfRun here event → IsKnown here event
-      known-one event (inl c) =
+      known-one : (event : Event) → IsOfRun draw tasks start here event → StaysOnce here event → IsKnown here event
+      known-one event (inl c) stays =
           let g = grounds-at c.place (slice_get_within tasks c.place c.task c.at) in
           record {
             holds = h;
-            fits = client-fits draw tasks draws wells start here event c;
-            after = client-holds draw tasks draws wells initial old start here event c h g;
-            comes = client-comes draw tasks draws wells initial old start here event c h g;
+            fits = client-fits draw tasks start here event c stays;
+            after = client-holds draw tasks draws wells initial old start here event c stays h g;
+            comes = client-comes draw tasks draws wells initial old start here event c stays h g;
             commits = commit-normal event;
           }
-      known-one event (inr p) = plain-one here event p.0 p.1 h
+      known-one event (inr p) stays = plain-one here event p.0 p.1 h
 
-    run-known : AllNew start → (since events : List Event) → Each IsKnown start since → Each IsOfRun (start ++ since) events → Hold (start ++ since) → Each IsKnown (start ++ since) events
+    run-known : AllNew start → (since events : List Event) → Each IsKnown start since → Each (ComesOnce draw tasks start) (start ++ since) events → Hold (start ++ since) → Each IsKnown (start ++ since) events
     unfolding Each
     run-known new since [] known each h = tt
     run-known new since (x ∷ xs) known each h =
-        let one : IsKnown (start ++ since) x = known-one new since known h x each.0 in
+        let one : IsKnown (start ++ since) x = known-one new since known h x each.0.0 each.0.1 in
         let join : (start ++ since) ++ x ∷ [] ≡ start ++ (since ++ x ∷ []) = append_assoc start since (x ∷ []) in
-        let rest = run-known new (since ++ x ∷ []) xs (Each-append IsKnown start since (x ∷ []) known (Each-one IsKnown (start ++ since) x one)) (subst (λ (j : List Event). Each IsOfRun j xs) join each.1) (subst Hold join one.after) in
+        let rest = run-known new (since ++ x ∷ []) xs (Each-append IsKnown start since (x ∷ []) known (Each-one IsKnown (start ++ since) x one)) (subst (λ (j : List Event). Each (ComesOnce draw tasks start) j xs) join each.1) (subst Hold join one.after) in
         (one, subst (λ (j : List Event). Each IsKnown j xs) (sym join) rest)
 
-    pub run-knows : (events : List Event) → Each IsOfRun start events → Hold start → AllNew start → Each IsKnown start events
+    pub run-knows : (events : List Event) → Each (ComesOnce draw tasks start) start events → Hold start → AllNew start → Each IsKnown start events
     run-knows events each h new =
         let nil : start ≡ start ++ [] = sym (append-nil start) in
         subst (λ (j : List Event). Each IsKnown j events) (sym nil)
-        (run-known new [] events (Each-none IsKnown start) (subst (λ (j : List Event). Each IsOfRun j events) nil each) (subst Hold nil h))
+        (run-known new [] events (Each-none IsKnown start) (subst (λ (j : List Event). Each (ComesOnce draw tasks start) j events) nil each) (subst Hold nil h))

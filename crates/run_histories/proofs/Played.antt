@@ -2,7 +2,6 @@
 use Rattle.std.proofs.Common.{◌≡◌, ℕ, ◌+◌, ◌<◌, List, [], ◌∷◌, ◌++◌, length, sym, ◌∙◌, ap, subst, append_assoc, append-nil}
 use Rattle.std.specs.Prelude.{All, Some, slice_get}
 use Rattle.std.proofs.lemmas.List.{append_cancel_left}
-use Rattle.std.proofs.lemmas.List.Elements.{All-cons, All-head, All-nil, All-tail}
 use Rattle.std.proofs.lemmas.Option.{slice_get_within}
 use Rattle.ice_ids.specs.declared.drawing.AnyIds.{AnyIds}
 use Rattle.ice_ids.specs.declared.drawing.Draw.{Draw}
@@ -25,24 +24,19 @@ use Rattle.run_histories.proofs.Along.{well-at}
 use Rattle.run_histories.proofs.Began.{lines-carried, lost-carried}
 use Rattle.run_histories.proofs.Carrying.{IsFront, alike-back, lost-same, opened-goes}
 use Rattle.run_histories.proofs.Editing.{all-front, lines-went}
+use Rattle.run_histories.proofs.Firsts.{all, all-is}
 use Rattle.run_histories.proofs.Grounds.{Grounds, IsCarried}
 use Rattle.run_histories.proofs.Passing.{grounds}
-use Rattle.run_histories.proofs.Running.{HoldsOf, Known, NodesOf, known-is, opening-nodes, run-begins, run-holds, run-known}
+use Rattle.run_histories.proofs.Running.{HoldsOf, Known, opening-nodes, run-holds, run-known}
 use Rattle.run_histories.proofs.Sized.{normal-in, sized-keeps}
 use Rattle.run_histories.proofs.Walked.{carried, rebase-honest}
 
 module _ (initial : InitialLaw) (draw : Draw) (tasks : List Task) (before : ℕ → Changes) (old new : List Event) (sound_old : IsSound old before) (new_run : IsNewRun draw tasks old) (r : IsRun draw tasks old new) where
   abbrev Hold : List Event → Type 0
-  Hold = HoldsOf draw tasks new_run.once initial old new r
-
-  at_first : Hold old
-  at_first = run-begins draw tasks new_run.once initial old new r before sound_old new_run
-
-  nodes_first : NodesOf draw tasks new_run.once initial old new r old
-  nodes_first place within = (new_run.sources place within).nodes
+  Hold = HoldsOf initial draw tasks before old new sound_old new_run r
 
   at_last : Hold new
-  at_last = run-holds draw tasks new_run.once initial old new r at_first nodes_first
+  at_last = run-holds initial draw tasks before old new sound_old new_run r
 
   module _ (start : List Event) (opening : RanAlone begin_program old start) (place : ℕ) (task : Task) (t : SessionState) (at : slice_get tasks place ≡ Some task) (w : WasPlayed (ids_at draw place) task (place + 1) start t new) where
     abbrev ids : AnyIds
@@ -53,7 +47,7 @@ module _ (initial : InitialLaw) (draw : Draw) (tasks : List Task) (before : ℕ 
     since = w.begun.got.own.since ++ w.begun.got.own.event ∷ w.begun.got.own.after
 
     abbrev Here : List Event → Event → Type 0
-    Here = Known draw tasks new_run.once initial old new r
+    Here = Known initial draw tasks before old new sound_old new_run r
 
     goes-on : new ≡ start ++ since
     goes-on =
@@ -62,10 +56,9 @@ module _ (initial : InitialLaw) (draw : Draw) (tasks : List Task) (before : ℕ 
 
     known-since : Each Here start since
     known-since =
-        let all = r.opening.own ++ (r.playing.own ++ r.closing.own) in
-        let whole : old ++ all ≡ old ++ (opening.own ++ since) =
-        sym (known-is draw tasks new_run.once initial old new r) ∙ goes-on ∙ ap (λ (j : List Event). j ++ since) opening.is ∙ append_assoc old opening.own since in
-        let each = subst (Each Here old) (append_cancel_left old all (opening.own ++ since) whole) (run-known draw tasks new_run.once initial old new r at_first nodes_first) in
+        let come = all draw tasks old new r in
+        let whole : old ++ come ≡ old ++ (opening.own ++ since) = sym (all-is draw tasks old new r) ∙ goes-on ∙ ap (λ (j : List Event). j ++ since) opening.is ∙ append_assoc old opening.own since in
+        let each = subst (Each Here old) (append_cancel_left old come (opening.own ++ since) whole) (run-known initial draw tasks before old new sound_old new_run r) in
         subst (λ (j : List Event). Each Here j since) (sym opening.is) (Each-back Here old opening.own since each).1
 
     -- its client had put no snapshot when it began
@@ -73,7 +66,7 @@ module _ (initial : InitialLaw) (draw : Draw) (tasks : List Task) (before : ℕ 
     grounds-new =
         let within : place < length tasks = slice_get_within tasks place task at in
         subst (Grounds ids (place + 1) start) (sym goes-on)
-        (grounds draw tasks new_run.once r.well initial old r.begun place within start since known-since (subst Hold goes-on at_last) (opening-nodes draw tasks new_run.once initial old new r start opening at_first nodes_first place within))
+        (grounds draw tasks new_run.once r.well initial old r.begun place within start since known-since (subst Hold goes-on at_last) (opening-nodes initial draw tasks before old new sound_old new_run r start opening place within))
 
     played-carried : IsCarried ids new t
     played-carried =

@@ -9,7 +9,7 @@ use Rattle.object_store.specs.declared.keys.Why.TheVariants.{Reset}
 use Rattle.object_store.specs.declared.keys.Part.{Part}
 use Rattle.object_store.specs.declared.keys.Part.TheVariants.{Branches, Tags}
 use Rattle.object_store.specs.declared.events.Op.{Op}
-use Rattle.object_store.specs.declared.events.Op.TheVariants.{Get, PutNew, PutOver, RemoveAt, List as ListPart}
+use Rattle.object_store.specs.declared.events.Op.TheVariants.{Get, PutNew, PutOver, Remove, RemoveAt, List as ListPart}
 use Rattle.object_store.specs.declared.events.Got.TheVariants.{Found, Absent}
 use Rattle.object_store.specs.declared.events.Entry.{Entry}
 use Rattle.object_store.specs.declared.events.Reply.{Reply}
@@ -45,13 +45,14 @@ IsPlain (PutOver key bytes old why) = IsBranch key × (why ≡ Reset)
 IsPlain (RemoveAt key old why) = IsBranch key
 IsPlain _ = ⊥
 
--- It puts a snapshot over: that is a cut of its parent, where it is polite.
-abbrev pub PutsOverSnapshot : Op → Type 0
-PutsOverSnapshot (PutOver key bytes old why) = IsOfSnapshot key
-PutsOverSnapshot _ = ⊥
+-- What cleans up: it puts a snapshot over, which is a cut of its parent, where it is polite; or it removes a key, as a collection does.
+abbrev pub IsCleanup : Op → Type 0
+IsCleanup (PutOver key bytes old why) = IsOfSnapshot key
+IsCleanup (Remove key why) = Unit {0}
+IsCleanup _ = ⊥
 
-abbrev pub IsPlainOrCut : Op → Type 0
-IsPlainOrCut op = IsPlain op ⊎ PutsOverSnapshot op
+abbrev pub IsPlainOrCleanup : Op → Type 0
+IsPlainOrCleanup op = IsPlain op ⊎ IsCleanup op
 
 -- ---- all operations that a program may come to
 unfoldable pub AllPlain : {A : Type 0} → Prog A → Type 0

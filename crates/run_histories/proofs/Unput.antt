@@ -16,7 +16,7 @@ use Rattle.object_store.specs.declared.events.Op.TheVariants.{PutNew}
 use Rattle.object_store.specs.declared.events.Event.{Event}
 use Rattle.object_store.specs.Machine.{first_put}
 use Rattle.object_store.proofs.Journals.{Each-at, Each-back}
-use Rattle.store_api.specs.Journal.{Each, IsGood, WasPut}
+use Rattle.store_api.specs.Journal.{Each, WasPut}
 use Rattle.session.specs.Sources.{MayDrawObject}
 use Rattle.commit_path.specs.Own.{DrawsOnceOf, HasNotPut, OwesOwn, PutsElsewhere, id_of}
 use Rattle.commit_path.specs.Owed.{Owes}
@@ -25,10 +25,10 @@ use Rattle.play_script.specs.declared.scripts.Task.{Task}
 use Rattle.play_tasks.specs.Solving.{IsOfTask}
 use Rattle.play_tasks.specs.Tasks.{ids_at}
 use Rattle.run_histories.specs.Sources.{DrawsOthers, IsLeftUnput, IsUnputId, IsUnputRun, ObjectsAreUnput, PutsUnput}
-use Rattle.run_histories.proofs.Along.{IsOfOpener, among-at, well-at}
+use Rattle.run_histories.proofs.Along.{IsOfOpener, IsOfRun, among-at, well-at}
 use Rattle.run_histories.proofs.Carrying.{task-object}
 use Rattle.run_histories.proofs.Drawing.{ids_at-of}
-use Rattle.run_histories.proofs.Programs.{IsPlain, IsPlainOrCut}
+use Rattle.run_histories.proofs.Programs.{IsPlain, IsPlainOrCleanup}
 use Rattle.run_histories.proofs.Putting.{PutsFresh, put-now}
 use Rattle.run_histories.proofs.Sources.{among-later, object-apart, object-not_initial}
 
@@ -66,8 +66,8 @@ not-put-before key client start since event n =
     (record { more = since; is = refl; each = (Each-back (PutsElsewhere key client) start since (event ∷ []) each).0 }, Each-at (PutsElsewhere key client) start since event [] each)
 
 -- an object that a plain operation puts is the initial snapshot
-plain-initial : (op : Op) → IsPlainOrCut op → (key : Key) (bytes : List ℕ) (why : Why) (id : Id12) → op ≡ PutNew key bytes why → id_of key ≡ Some id → id ≡ initial_id
-plain-initial op p key bytes why id e is = by_either (subst IsPlainOrCut e p)
+plain-initial : (op : Op) → IsPlainOrCleanup op → (key : Key) (bytes : List ℕ) (why : Why) (id : Id12) → op ≡ PutNew key bytes why → id_of key ≡ Some id → id ≡ initial_id
+plain-initial op p key bytes why id e is = by_either (subst IsPlainOrCleanup e p)
   where
     by_plain : (k : Key) → id_of k ≡ Some id → IsPlain (PutNew k bytes why) → id ≡ initial_id
     by_plain (Snapshot own) f q = let same : id ≡ own = cc in same ∙ q.0
@@ -79,13 +79,13 @@ plain-initial op p key bytes why id e is = by_either (subst IsPlainOrCut e p)
     by_plain (Tag name) f q = absurd (cc)
     by_plain (TagGone name) f q = absurd (cc)
 
-    by_either : IsPlainOrCut (PutNew key bytes why) → id ≡ initial_id
+    by_either : IsPlainOrCleanup (PutNew key bytes why) → id ≡ initial_id
     by_either (inl q) = by_plain key is q
     by_either (inr q) = absurd q
 
 module _ (draw : Draw) (tasks : List Task) (draws : DrawsOnce draw (length tasks)) (wells : All IsWellTask tasks) (start : List Event) where
   abbrev OfRun : List Event → Event → Type 0
-  OfRun journal event = IsOfOpener draw tasks start journal event ⊎ (IsGood journal event × IsPlainOrCut event.op)
+  OfRun = IsOfRun draw tasks start
 
   -- the client of a place draws no object id twice
   draws-once : (place : ℕ) → place < length tasks → DrawsOnceOf (ids_at draw place)

@@ -105,8 +105,12 @@ pub record PlayedAlone (draw : Draw) (tasks : List Task) (old new : List Event) 
   pub is : new ≡ old ++ own
   pub owed : Each (IsOfClient draw tasks old) old own
 
+-- the event is of this client
+abbrev pub IsBy : ℕ → List Event → Event → Type 0
+IsBy client journal event = event.client ≡ client
+
 -- From old to new a repository was begun, where there was none, then the tasks of a script were played, and then the refs
--- were read; nobody else acted.
+-- were read, by client 0; nobody else acted.
 pub record IsRun (draw : Draw) (tasks : List Task) (old new : List Event) : Type 0 where
   pub well : All IsWellTask tasks
   pub begun : List Event
@@ -114,3 +118,4 @@ pub record IsRun (draw : Draw) (tasks : List Task) (old new : List Event) : Type
   pub opening : RanAlone begin_program old begun
   pub playing : PlayedAlone draw tasks begun played
   pub closing : RanAlone refs_program played new
+  pub reader : Each (IsBy 0) played closing.own

@@ -1,5 +1,5 @@
 -- Sources of ids whose draws are new to a journal (own).
-use Rattle.std.specs.Prelude.{◌≡◌, ◌≢◌, ℕ, ◌+◌, ◌<◌, List, length, None, Some}
+use Rattle.std.specs.Prelude.{◌≡◌, ◌≢◌, ℕ, ◌+◌, ◌<◌, List, length, None, Some, IsTrue}
 use Rattle.ice_ids.specs.declared.Id8.{Id8}
 use Rattle.ice_ids.specs.declared.Id12.{Id12}
 use Rattle.ice_ids.specs.declared.drawing.AnyIds.{AnyIds}
@@ -17,6 +17,7 @@ use Rattle.object_store.specs.Machine.{first_put}
 use Rattle.store_api.specs.Journal.{IsUnused, tree_of}
 use Rattle.session.specs.Sources.{MayDrawObject, MayDrawNode}
 use Rattle.commit_path.specs.Own.{HasNotPut, id_of}
+use Rattle.play_script.specs.Collections.{has_collection}
 use Rattle.play_script.specs.declared.scripts.Task.{Task}
 use Rattle.play_tasks.specs.Tasks.{ids_at}
 
@@ -66,10 +67,12 @@ abbrev pub IsLeftUnput : Draw → List Task → (start journal : List Event) →
 IsLeftUnput draw tasks start journal = (place : ℕ) → place < length tasks → (id : Id12) → MayDrawObject (ids_at draw place) id → (key : Key) → id_of key ≡ Some id → HasNotPut key (place + 1) start journal → first_put journal key ≡ None
 
 -- ---- runs and other sources
--- the clients of a run draw no id twice, and their sources are new to the journal that the run goes on
+-- The clients of a run draw no id twice, and their sources are new to the journal that the run goes on; where a task of it collects, so that what was
+-- put need not stand, nothing was ever put under what they may draw.
 pub record IsNewRun (draw : Draw) (tasks : List Task) (journal : List Event) : Type 0 where
   pub once : DrawsOnce draw (length tasks)
   pub sources : (place : ℕ) → place < length tasks → IsNewSource (ids_at draw place) journal
+  pub unput : IsTrue (has_collection tasks) → IsUnputRun draw tasks journal
 
 -- a source that draws no node id which one of a run's may draw
 abbrev pub IsOfAnother : Draw → List Task → AnyIds → Type 0

@@ -1,5 +1,5 @@
 -- What a run leaves of the branches' histories, in words of its tasks (own).
-use Rattle.std.specs.Prelude.{◌≡◌, ◌≢◌, ℕ, ◌+◌, ◌<◌, ◌≤◌, ◌^◌, Bool, true, List, [], ◌++◌, length, Option, Some, slice_get}
+use Rattle.std.specs.Prelude.{◌≡◌, ◌≢◌, ℕ, ◌+◌, ◌<◌, ◌≤◌, ◌^◌, Bool, true, List, [], ◌++◌, length, Option, Some, slice_get, false}
 use Rattle.ice_ids.specs.declared.Id12.{Id12}
 use Rattle.ice_ids.specs.declared.drawing.AnyIds.{AnyIds}
 use Rattle.ice_ids.specs.declared.drawing.Draw.{Draw}
@@ -38,8 +38,12 @@ use Rattle.commit_path.specs.Single.{HasPutNone, HasPutAlike}
 use Rattle.rebase.specs.Telling.{WasHidden}
 use Rattle.repository.specs.Beginning.{begin_program}
 use Rattle.repository.specs.Refs.{refs_program}
+use Rattle.collecting.specs.Walks.{IsObject}
+use Rattle.collecting.specs.Runs.{OwesCollecting}
+use Rattle.history_laws.specs.Refs.{Removes}
+use Rattle.play_script.specs.Collections.{has_collection}
 use Rattle.play_script.specs.declared.scripts.Access.{Access}
-use Rattle.play_script.specs.declared.scripts.Head.TheVariants.{Session}
+use Rattle.play_script.specs.declared.scripts.Head.TheVariants.{Session, Collect}
 use Rattle.play_script.specs.declared.scripts.Line.{Line}
 use Rattle.play_script.specs.declared.scripts.Task.{Task}
 use Rattle.play_outcome.specs.declared.outcome.Shown.{Shown}
@@ -197,13 +201,45 @@ abbrev pub NoneHidden : Draw → List Task → (old new : List Event) → Type 0
 NoneHidden draw tasks old new = (start since : List Event) (place : ℕ) (task : Task) (lost : SessionState) (key : Key) (bad : Bad) → RanAlone begin_program old start → slice_get tasks place ≡ Some task
     → (l : HasLost (ids_at draw place) task (place + 1) start lost since new) → ¬ WasHidden (place + 1) (policy_of l.was_played.access) lost key bad since new
 
+-- ---- collections
+-- Each event of the client of a task that collects is one that its collection may make, by what the client's own events told it since the tasks began.
+abbrev pub AllCollect : List Task → (start more : List Event) → Type 0
+AllCollect tasks start more = (place : ℕ) (task : Task) (cutoff : ℕ) → slice_get tasks place ≡ Some task → task.head ≡ Collect cutoff → Each (OwesCollecting cutoff (place + 1) start) start more
+
+-- the event is of the client of a task that collects
+pub record IsOfCollection (tasks : List Task) (event : Event) : Type 0 where
+  pub place : ℕ
+  pub task : Task
+  pub cutoff : ℕ
+  pub at : slice_get tasks place ≡ Some task
+  pub head_is : task.head ≡ Collect cutoff
+  pub client_is : event.client ≡ place + 1
+
+-- the event removes no object
+abbrev pub KeepsObjects : List Event → Event → Type 0
+KeepsObjects before event = (key : Key) → IsObject key → Removes before event key → ⊥
+
+-- where it removes one, it is of such a client
+abbrev pub RemovesCollecting : List Task → List Event → Event → Type 0
+RemovesCollecting tasks before event = (key : Key) → IsObject key → Removes before event key → IsOfCollection tasks event
+
+-- The opening removes no object; from the tasks' start on collections alone do, and they do nothing but what collections may.
+pub record HasCollections (tasks : List Task) (old start new : List Event) : Type 0 where
+  pub opening : List Event
+  pub start_is : start ≡ old ++ opening
+  pub keeps : Each KeepsObjects old opening
+  pub more : List Event
+  pub is : new ≡ start ++ more
+  pub collecting : AllCollect tasks start more
+  pub removing : Each (RemovesCollecting tasks) start more
+
 -- ---- a run
 -- After a run, whose tasks began at `start`: the changes for each position are those before it, and for each commit that it added those of a session
 -- of its client's task; each commit that took effect follows on the entry before it, and no client has two; from the tasks' start on these events were
 -- played, each where its client's session is open, and then the refs were read; each session that was opened began
 -- at the last entry of its branch, or at its tag as that stood, or at the snapshot of its id, and keeps through its lines what stays of its nodes'
--- metadata, and its changes are normal; and no log hides a node from one that is rebased. With these changes the journal is sound, and what another source may draw
--- is new to it where it was before, so that another run may go on; if nothing was ever put under the ids that the clients may draw, each object is put
+-- metadata, and its changes are normal; and no log hides a node from one that is rebased; collections alone remove objects. With these changes the journal is sound, and what another source may draw
+-- is new to it where it was before, so that another run may go on (beside a collection, where nothing was ever put under it); if nothing was ever put under the ids that the clients may draw, each object is put
 -- under one under which nothing ever was, and so it stays of what they and others may draw; the histories run over its calls, and so do the states of the tags; the
 -- branches stand as their histories say, and the tags as their states do; and a tag that was there before is as it was, or was dropped. Trees are by
 -- what was put in the whole journal.
@@ -224,7 +260,9 @@ pub record HasHistories (draw : Draw) (tasks : List Task) (before : ℕ → Chan
   pub normal : AllNormal draw tasks old new
   pub unhidden : NoneHidden draw tasks old new
   pub sound : IsSound new changes
-  pub others : (ids : AnyIds) → IsOfAnother draw tasks ids → IsNewSource ids old → IsNewSource ids new
+  pub collections : HasCollections tasks old start new
+  pub others : has_collection tasks ≡ false → (ids : AnyIds) → IsOfAnother draw tasks ids → IsNewSource ids old → IsNewSource ids new
+  pub others_beside : (ids : AnyIds) → IsOfAnother draw tasks ids → DrawsOthers draw tasks ids → ObjectsAreUnput ids old → IsNewSource ids old → IsNewSource ids new
   pub unput : IsUnputRun draw tasks old → Each PutsUnput old added
   pub unput_left : IsUnputRun draw tasks old → IsLeftUnput draw tasks start new
   pub unput_others : (ids : AnyIds) → DrawsOthers draw tasks ids → ObjectsAreUnput ids old → ObjectsAreUnput ids new

@@ -1,13 +1,13 @@
 -- The lines of a task's body that were played, in words of trees.
-use Rattle.std.proofs.Common.{◌≡◌, ℕ, ◌+◌, List, [], ◌∷◌, ◌++◌, refl, sym, ◌∙◌, ap, subst, append_assoc}
+use Rattle.std.proofs.Common.{◌≡◌, ℕ, ◌+◌, List, [], ◌∷◌, ◌++◌, sym, ◌∙◌, ap, subst, append_assoc}
 use Rattle.std.specs.Prelude.{Some, slice_get}
 use Rattle.ice_ids.specs.declared.drawing.Draw.{Draw}
-use Rattle.zarr_tree.specs.Trees.{Tree, IsWellFormed}
+use Rattle.zarr_tree.specs.Trees.{IsWellFormed}
 use Rattle.zarr_tree.specs.Changes.{Changes, IsNormal}
 use Rattle.snapshot_file.specs.declared.nodes.NodeRow.{NodeRow}
 use Rattle.repo_objects.specs.Trees.{Puts, tree_under}
 use Rattle.object_store.specs.declared.events.Event.{Event}
-use Rattle.store_api.specs.Journal.{puts_of, tree_of, rows_of}
+use Rattle.store_api.specs.Journal.{puts_of, tree_of}
 use Rattle.session.specs.Sessions.{SessionState, base_tree, changes_in, overlay}
 use Rattle.commit_path.specs.Opened.{IsOpened, WasBegun}
 use Rattle.commit_path.proofs.Knowing.{tree-by_rows}

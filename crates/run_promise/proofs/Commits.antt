@@ -1,5 +1,5 @@
 -- The commits of a run, and what its tasks showed, in words of trees.
-use Rattle.std.proofs.Common.{◌≡◌, inl, inr, ℕ, ◌+◌, List, [], ◌∷◌, ◌++◌, length, refl, sym, ◌∙◌, ap, subst, append_assoc}
+use Rattle.std.proofs.Common.{◌≡◌, inr, ℕ, ◌+◌, List, [], ◌∷◌, ◌++◌, refl, sym, ◌∙◌, ap, subst, append_assoc}
 use Rattle.std.proofs.lemmas.List.{append_cancel_left}
 use Rattle.std.specs.Prelude.{Option, Some, None, slice_get}
 use Rattle.ice_ids.specs.declared.Id12.{Id12}
@@ -9,7 +9,7 @@ use Rattle.zarr_path.specs.declared.keys.ZarrKey.{ZarrKey}
 use Rattle.zarr_path.specs.declared.keys.ZarrKey.TheVariants as K
 use Rattle.zarr_path.specs.Keys.{key_of}
 use Rattle.zarr_tree.specs.Trees.{Tree, IsWellFormed}
-use Rattle.zarr_tree.specs.Changes.{Changes, none, apply}
+use Rattle.zarr_tree.specs.Changes.{Changes, apply}
 use Rattle.zarr_tree.specs.Held.{Held, changes_of}
 use Rattle.zarr_tree.proofs.Normal.{none-law}
 use Rattle.zarr_changes.specs.Edits.{nothing}
@@ -21,7 +21,7 @@ use Rattle.repo_objects.specs.Trees.{Puts, bytes_at, tree_under}
 use Rattle.object_store.specs.declared.events.Event.{Event}
 use Rattle.object_store.specs.Machine.{version_at}
 use Rattle.object_store.proofs.Journals.{Each-at, Each-back}
-use Rattle.store_api.specs.Journal.{Each, IsGood, IsOnce, puts_of, tree_of}
+use Rattle.store_api.specs.Journal.{Each, IsGood, puts_of, tree_of}
 use Rattle.repo_read.specs.declared.resolving.At.{At}
 use Rattle.session.specs.Sessions.{SessionState, base_tree, changes_in, overlay}
 use Rattle.commit_path.specs.Opened.{IsOpened, WasBegun}
@@ -51,7 +51,6 @@ use Rattle.play_tasks.proofs.Early.{WasBegun-more}
 use Rattle.play_tasks.proofs.Going.{PlaysAll-append, plays-none}
 use Rattle.run_histories.specs.Told as told
 use Rattle.run_histories.specs.Told.{HasHistories, CommitsEnter}
-use Rattle.run_histories.proofs.Carrying.{IsFront}
 use Rattle.run_histories.proofs.Sized.{changes-stay}
 use Rattle.run_promise.specs.Lines.{Plays}
 use Rattle.run_promise.specs.Ways.{Carried}

@@ -1,7 +1,7 @@
 -- How tasks end, in words of the commits that took effect.
-use Rattle.std.proofs.Common.{◌≡◌, ◌⊎◌, inl, inr, ℕ, ◌<◌, Bool, true, false, cond, List, [], ◌∷◌, ◌++◌, length, refl, sym, ◌∙◌, ap, subst, append_assoc, arith, eqb, eq-eqb, Result, Ok, Err}
+use Rattle.std.proofs.Common.{◌≡◌, inl, inr, ℕ, ◌<◌, Bool, true, false, cond, List, [], ◌∷◌, ◌++◌, length, refl, sym, ◌∙◌, ap, subst, append_assoc, arith, eqb, eq-eqb, Err}
 use Rattle.std.proofs.lemmas.List.{append_cancel_left}
-use Rattle.std.specs.Prelude.{Option, Some, None}
+use Rattle.std.specs.Prelude.{Option, Some}
 use Rattle.ice_ids.specs.declared.Id12.{Id12}
 use Rattle.object_store.specs.declared.keys.Key.{Key}
 use Rattle.object_store.specs.declared.keys.Key.TheVariants.{Branch}
@@ -28,7 +28,7 @@ use Rattle.chunk_calls.specs.Told.{SetTells, GetTells}
 use Rattle.play_script.specs.declared.scripts.Access.{Access}
 use Rattle.play_script.specs.declared.scripts.Line.{Line}
 use Rattle.play_outcome.specs.declared.outcome.End.{End}
-use Rattle.play_outcome.specs.declared.outcome.End.TheVariants.{Committed, Done, Refused}
+use Rattle.play_outcome.specs.declared.outcome.End.TheVariants.{Refused}
 use Rattle.play_tasks.specs.Lines.{Deed, Goes, Sets, Reads, Commits, deed}
 use Rattle.play_tasks.specs.Telling as told
 use Rattle.run_promise.specs.Promise.{TakesEffect, HasCommitted, HasNotCommitted, EndsRight}

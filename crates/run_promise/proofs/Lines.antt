@@ -1,11 +1,11 @@
 -- What a line of a script does to a session, in words of trees.
-use Rattle.std.proofs.Common.{◌≡◌, ◌⊎◌, ◌≤◌, inl, inr, ℕ, Bool, true, false, cond, not, List, [], ◌∷◌, ◌++◌, length, replicate, refl, sym, ◌∙◌, ap, subst, Result, Ok, Err}
+use Rattle.std.proofs.Common.{◌≡◌, ◌⊎◌, ◌≤◌, inl, inr, ℕ, Bool, true, false, cond, List, [], ◌∷◌, length, refl, sym, ◌∙◌, ap, subst, Result, Ok, Err}
 use Rattle.std.specs.Prelude.{Option, Some, None, is_some, map, filter, option_map, ok_or}
-use Rattle.std.specs.FinMap.{FinMap, get, insert, entries}
+use Rattle.std.specs.FinMap.{get, entries}
 use Rattle.ice_ids.specs.declared.Id8.{Id8}
 use Rattle.ice_ids.specs.declared.Id12.{Id12}
 use Rattle.ice_ids.specs.declared.drawing.AnyIds.{AnyIds}
-use Rattle.zarr_path.specs.Paths.{path_cmp, same_path, is_path, is_beneath}
+use Rattle.zarr_path.specs.Paths.{same_path, is_beneath}
 use Rattle.zarr_path.specs.declared.keys.ZarrKey.{ZarrKey}
 use Rattle.zarr_path.specs.declared.keys.ZarrKey.TheVariants as K
 use Rattle.zarr_path.specs.Keys.{key_of}
@@ -15,7 +15,7 @@ use Rattle.zarr_meta.specs.declared.views.View.{View}
 use Rattle.zarr_meta.specs.Plain.{group_text}
 use Rattle.zarr_tree.specs.declared.edit.EditFault.{EditFault}
 use Rattle.zarr_tree.specs.declared.edit.EditFault.TheVariants as Fault
-use Rattle.zarr_tree.specs.Nodes.{Node, is_array}
+use Rattle.zarr_tree.specs.Nodes.{Node}
 use Rattle.zarr_tree.specs.Trees.{Tree, node_at, IsWellFormed}
 use Rattle.zarr_tree.specs.Edits.{Edit, Add, SetMeta, Drop, Set, Unset, change, refusal, unless}
 use Rattle.zarr_tree.specs.Changes.{Changes, apply, extended, IsNormal, IsFresh, CanExtend, result_map}
@@ -35,10 +35,9 @@ use Rattle.object_store.specs.declared.events.Event.{Event}
 use Rattle.store_api.specs.declared.machines.Refusal.{Refusal}
 use Rattle.store_api.specs.declared.machines.Refusal.TheVariants as Refused
 use Rattle.store_api.specs.Journal.{WasPut, IsGoodJournal, IsOnce, puts_of}
-use Rattle.session.specs.declared.session.Listing.{Listing}
 use Rattle.session.specs.declared.chunks.Value.{Value}
 use Rattle.session.specs.declared.chunks.Value.TheVariants.{Held, Fill}
-use Rattle.session.specs.Sessions.{SessionState, base_nodes, nodes_seen, base_tree, changes_in, overlay}
+use Rattle.session.specs.Sessions.{SessionState, nodes_seen, base_tree, changes_in, overlay}
 use Rattle.session.specs.Editing.{group_fault, array_fault, node_fault, added, group_added, array_added, node_added, meta_set, node_dropped, with_node, listing, listed, beneath, text_at, if_there}
 use Rattle.session.specs.Editing as session
 use Rattle.session.specs.Chunks.{most_inline, with_chunk, without_chunk, after_draw, chunk_unset}

@@ -10,7 +10,6 @@ use Rattle.object_store.specs.declared.events.New.TheVariants.{Done as New_done}
 use Rattle.object_store.specs.declared.events.Version.{Version}
 use Rattle.object_store.specs.declared.events.Op.{Op}
 use Rattle.object_store.specs.declared.events.Op.TheVariants.{PutNew}
-use Rattle.object_store.specs.declared.events.Reply.{Reply}
 use Rattle.object_store.specs.declared.events.Reply.TheVariants.{New as Is_new}
 use Rattle.object_store.specs.declared.events.Event.{Event}
 use Rattle.object_store.specs.Machine.{Stored, found, last_put, new_of, was_done, UnlessFailed, IsHonest}

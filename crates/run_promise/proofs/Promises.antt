@@ -1,6 +1,6 @@
 -- A run keeps what is promised.
-use Rattle.std.proofs.Common.{◌≡◌, inl, inr, ℕ, ◌+◌, List, refl, sym, subst}
-use Rattle.std.specs.Prelude.{Option, Some, All, Result, Ok, IsTrue, slice_get}
+use Rattle.std.proofs.Common.{◌≡◌, inl, inr, ℕ, ◌+◌, List, subst}
+use Rattle.std.specs.Prelude.{Option, Some, Result, Ok, slice_get}
 use Rattle.ice_ids.specs.declared.drawing.Draw.{Draw}
 use Rattle.zarr_tree.specs.Changes.{Changes}
 use Rattle.manifest_file.specs.declared.manifest.Place.{Place}
@@ -8,27 +8,22 @@ use Rattle.repo_objects.specs.Laws.{InitialLaw}
 use Rattle.histories.specs.Formats.{files_by}
 use Rattle.object_store.specs.declared.events.Event.{Event}
 use Rattle.store_api.specs.declared.machines.Refusal.{Refusal}
-use Rattle.store_api.specs.Callers.{View}
 use Rattle.store_api.specs.Journal.{tree_of}
 use Rattle.rebase.specs.AlongLaws.{MeansLaw}
 use Rattle.play_script.specs.declared.scripts.Access.{Access}
 use Rattle.play_script.specs.declared.scripts.Head.{Head}
 use Rattle.play_script.specs.declared.scripts.Head.TheVariants.{Session}
-use Rattle.play_script.specs.declared.scripts.Script.{Script}
 use Rattle.play_script.specs.declared.scripts.Task.{Task}
-use Rattle.play_script.specs.Well.{IsWellTask}
 use Rattle.play_outcome.specs.declared.outcome.Outcome.{Outcome}
 use Rattle.play_outcome.specs.declared.outcome.RefLine.{RefLine}
 use Rattle.play_tasks.specs.Playing.{asked_by}
 use Rattle.play_tasks.specs.Tasks.{ids_at, TellsAt}
-use Rattle.play_tasks.specs.Telling.{WasNotOpened, WasOpened, TellsBy}
-use Rattle.run_histories.specs.Runs.{IsSound}
-use Rattle.run_histories.specs.Sources.{IsNewRun}
+use Rattle.play_tasks.specs.Telling.{TellsBy}
 use Rattle.run_histories.specs.Told.{HasHistories, RunLaw}
 use Rattle.repository.specs.Closing.{RefsLaw}
-use Rattle.play_course.specs.Course.{Course}
 use Rattle.play_course.specs.Leaving.{TellsEnds}
 use Rattle.play_course.proofs.Leaving.{course-run, course-begun, course-told}
+use Rattle.run_collections.specs.Laws.{NeededLaw}
 use Rattle.run_promise.specs.Promise.{ShowsRight, EndsRight, Keeps}
 use Rattle.run_promise.specs.Law.{PromiseLaw}
 use Rattle.run_promise.proofs.Commits.{committed, showed}
@@ -66,8 +61,12 @@ module _ (initial : InitialLaw) (means : (bytes_at : Place → Option (List ℕ)
     told = ends_told;
   }
 
-pub promise-law : InitialLaw → ((bytes_at : Place → Option (List ℕ)) → MeansLaw bytes_at) → RunLaw → RefsLaw → PromiseLaw
-promise-law initial means run closing draw script before old new opening outcomes refs wells c tells sound new_run =
+pub promise-law : InitialLaw → ((bytes_at : Place → Option (List ℕ)) → MeansLaw bytes_at) → RunLaw → NeededLaw → RefsLaw → PromiseLaw
+promise-law initial means run needed closing draw script before old new opening outcomes refs wells c tells sound new_run =
     let h = subst (λ (start : List Event). HasHistories draw script.tasks before old.seen start new.seen) (course-begun draw script old new opening outcomes refs wells c tells)
     (run draw script.tasks before old.seen new.seen sound new_run (course-run draw script old new opening outcomes refs wells c tells)) in
-    record { histories = h; keeps = keeps initial means draw script.tasks before old.seen c.begun.seen new.seen h outcomes refs (c.told tells) (course-told closing draw script old new opening outcomes refs c tells h.changes h.stand h.tags_stand) }
+    record {
+      histories = h;
+      needed = needed draw script.tasks before outcomes old.seen c.begun.seen new.seen h (c.told tells);
+      keeps = keeps initial means draw script.tasks before old.seen c.begun.seen new.seen h outcomes refs (c.told tells) (course-told closing draw script old new opening outcomes refs c tells h.changes h.stand h.tags_stand);
+    }

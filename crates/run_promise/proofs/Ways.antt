@@ -1,6 +1,6 @@
 -- Sessions that are carried over the commits of others, in words of trees.
 use Rattle.std.proofs.Common.{◌≡◌, inl, inr, ℕ, zero, suc, List, [], ◌∷◌, ◌++◌, map, refl, sym, ◌∙◌, ap, subst}
-use Rattle.std.specs.Prelude.{All, Option, Some, None, option_map}
+use Rattle.std.specs.Prelude.{All, Option, Some, None}
 use Rattle.std.proofs.lemmas.List.Elements.{All-head, All-tail}
 use Rattle.std.specs.FinMap.{get}
 use Rattle.ice_ids.specs.Text.{initial_id}
@@ -10,7 +10,7 @@ use Rattle.zarr_tree.specs.Nodes.{Node}
 use Rattle.zarr_tree.specs.Trees.{Tree, node_at}
 use Rattle.zarr_tree.specs.Changes.{Changes, apply}
 use Rattle.zarr_tree.specs.Touched.{Touches}
-use Rattle.zarr_tree.specs.Held.{Held, changes_of}
+use Rattle.zarr_tree.specs.Held.{changes_of}
 use Rattle.zarr_tree.proofs.Maps.{get-made}
 use Rattle.manifest_file.specs.declared.manifest.Place.{Place}
 use Rattle.snapshot_file.specs.declared.snapshot.SnapshotFile.{SnapshotFile}
@@ -23,9 +23,9 @@ use Rattle.object_store.specs.declared.keys.Key.TheVariants.{Snapshot, Txn}
 use Rattle.store_api.specs.Journal.{WasPut, puts_of, tree_of, rows_of}
 use Rattle.store_api.specs.Telling.{WasGot, WasReadAs}
 use Rattle.store_api.proofs.Happening.{WasGot-append}
-use Rattle.session.specs.Sessions.{SessionState, base_nodes, base_tree, changes_in}
+use Rattle.session.specs.Sessions.{SessionState, base_tree, changes_in}
 use Rattle.commit_path.proofs.Knowing.{tree-by_rows}
-use Rattle.rebase.specs.Along.{Link, Solves, along}
+use Rattle.rebase.specs.Along.{Link}
 use Rattle.rebase.specs.AlongLaws.{MeansLaw, PassesAll}
 use Rattle.rebase.specs.Telling.{HasMoved, LogWasReadAs, Rises, WasWalked}
 use Rattle.rebase.proofs.AsPut.{WasMade, log-logged, snapshot-made}

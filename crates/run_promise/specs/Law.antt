@@ -1,5 +1,5 @@
 -- The law that a run keeps what is promised.
-use Rattle.std.specs.Prelude.{◌≡◌, ℕ, List, Result, Ok, IsTrue, All}
+use Rattle.std.specs.Prelude.{ℕ, List, Result, IsTrue, All}
 use Rattle.ice_ids.specs.declared.drawing.Draw.{Draw}
 use Rattle.zarr_tree.specs.Changes.{Changes}
 use Rattle.histories.specs.Formats.{files_by}
@@ -14,11 +14,13 @@ use Rattle.run_histories.specs.Runs.{IsSound}
 use Rattle.run_histories.specs.Sources.{IsNewRun}
 use Rattle.run_histories.specs.Told.{HasHistories}
 use Rattle.play_course.specs.Course.{Course}
+use Rattle.run_collections.specs.Keeping.{KeepsNeeded}
 use Rattle.run_promise.specs.Promise.{Keeps}
 
--- the histories of a run, and what is promised of it by them
+-- the histories of a run, and what is promised of it by them; and its collections keep what is needed
 pub record KeepsPromise (draw : Draw) (script : Script) (before : ℕ → Changes) (old : View) (outcomes : List Outcome) (refs : Result (List RefLine) Refusal) (begun new : View) : Type 0 where
   pub histories : HasHistories draw script.tasks before old.seen begun.seen new.seen
+  pub needed : KeepsNeeded draw script.tasks outcomes old.seen begun.seen new.seen
   pub keeps : Keeps (files_by (tree_of new.seen)) script.tasks outcomes refs histories.changes old.seen begun.seen new.seen
 
 -- Where a script was played over a store that tells its journal, and that was sound and the clients' ids were new to it, what is promised is kept.

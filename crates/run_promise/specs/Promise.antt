@@ -1,11 +1,10 @@
 -- What is promised of a run: of the lists of its branches, of each commit, of each read, and of how each task ended. In words of trees, and of the
 -- events on branches; how files are read is a parameter. (Icechunk's manual, "Sessions", "Conflict resolution"; own.)
-use Rattle.std.specs.Prelude.{◌≡◌, ◌⊎◌, ℕ, ◌+◌, ◌≤◌, false, true, List, [], ◌∷◌, ◌++◌, length, Option, Some, Result, Ok, slice_get}
+use Rattle.std.specs.Prelude.{◌≡◌, ◌⊎◌, ℕ, ◌+◌, false, true, List, [], ◌∷◌, ◌++◌, length, Some, Result, Ok, slice_get}
 use Rattle.ice_ids.specs.declared.Id12.{Id12}
 use Rattle.zarr_tree.specs.Trees.{Tree}
 use Rattle.zarr_tree.specs.Changes.{Changes, apply}
-use Rattle.conflicts.specs.declared.solving.Policy.{Policy}
-use Rattle.object_store.specs.declared.keys.Key.TheVariants.{Branch, Tag, TagGone}
+use Rattle.object_store.specs.declared.keys.Key.TheVariants.{Branch, TagGone}
 use Rattle.object_store.specs.declared.keys.Why.TheVariants.{Commit}
 use Rattle.object_store.specs.declared.events.Op.TheVariants.{Get, PutOver}
 use Rattle.object_store.specs.declared.events.Event.{Event}
@@ -28,7 +27,7 @@ use Rattle.play_script.specs.declared.scripts.Line.{Line}
 use Rattle.play_script.specs.declared.scripts.Task.{Task}
 use Rattle.play_outcome.specs.declared.outcome.Shown.{Shown}
 use Rattle.play_outcome.specs.declared.outcome.End.{End}
-use Rattle.play_outcome.specs.declared.outcome.End.TheVariants.{Committed, Done, Refused}
+use Rattle.play_outcome.specs.declared.outcome.End.TheVariants.{Committed, Collected, Done, Refused, Stopped}
 use Rattle.play_outcome.specs.declared.outcome.Outcome.{Outcome}
 use Rattle.play_outcome.specs.declared.outcome.RefLine.{RefLine}
 use Rattle.play_tasks.specs.Playing.{policy_of}
@@ -150,11 +149,14 @@ pub record HasCommitted (files : Files) (client : ℕ) (id : Id12) (start journa
 abbrev pub HasNotCommitted : Files → ℕ → (start journal : List Event) → Type 0
 HasNotCommitted files client start journal = (id : Id12) → ¬ HasCommitted files client id start journal
 
--- A task that tells a commit made it; one that tells none made none, unless it tells a fault of the store, which leaves that open.
+-- A task that tells a commit made it; one that tells none made none, unless it tells a fault of the store, which leaves that open;
+-- and none tells a collection.
 abbrev pub EndsRight : Files → ℕ → End → (start journal : List Event) → Type 0
 EndsRight files client (Committed id) start journal = HasCommitted files client id start journal
+EndsRight files client (Collected removed) start journal = ⊥
 EndsRight files client Done start journal = HasNotCommitted files client start journal
 EndsRight files client (Refused line why) start journal = is_fault why ≡ false → HasNotCommitted files client start journal
+EndsRight files client (Stopped line why removed) start journal = ⊥
 
 -- ---- the promise
 -- Of a run over a journal that was old, whose tasks began at start and ended with these outcomes, nobody else acting; `changes` are those of the commit

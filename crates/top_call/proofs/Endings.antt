@@ -10,12 +10,13 @@ use Rattle.top_call.specs.declared.statuses.Causes.{Causes}
 use Rattle.top_call.specs.declared.statuses.Status.{Status}
 use Rattle.top_call.specs.declared.statuses.Status.TheVariants as S
 use Rattle.top_call.specs.Statuses.{status_of}
-use Rattle.top_call.specs.Telling.{WasPlayed, WasUntold, causes, refusals}
+use Rattle.top_call.specs.Telling.{causes, refusals}
 use Rattle.top_call.proofs.Tellings.{store-rose, sink-rose}
 use Rattle.command_words.specs.declared.reading.Command.{Command}
 use Rattle.command_words.specs.declared.reading.Command.TheVariants as C
 use Rattle.command_words.specs.Help.{help_of, version_line}
-use Rattle.top_call.specs.Run.{HasScript, HasNone, PlayEnds, SayEnds, Ends}
+use Rattle.top_call.specs.Run.{HasScript, HasNone, SayEnds}
+use Rattle.top_call.specs.inside.Playing.{WasUntold, WasPlayed, PlayEnds, Ends}
 
 -- a run has one of five statuses
 IsLast : Status → Type 0

@@ -4,3 +4,4 @@ pub mod Tellings
 pub mod Readings
 pub mod Commands
 mod Promises
+pub mod Apart

@@ -1,10 +1,10 @@
 -- What is promised of a script that was played.
-use Rattle.std.proofs.Common.{◌≡◌, ℕ, ◌+◌, ◌<◌, ◌^◌, Bool, true, false, cond, List, [], length, take, refl, sym, ◌∙◌, ap, subst, arith, leb-true, Result, Ok, Err}
+use Rattle.std.proofs.Common.{◌≡◌, ◌⊎◌, ℕ, ◌+◌, ◌<◌, ◌^◌, Bool, true, false, cond, List, [], length, take, refl, sym, subst, arith, leb-true, Ok, Err, inl, inr}
 use Rattle.std.specs.Prelude.{IsTrue, nat_le}
 use Rattle.ice_ids.specs.declared.drawing.Draw.{Draw}
 use Rattle.ice_ids.specs.Drawing.{DrawsOnce}
 use Rattle.ice_ids.proofs.Drawn.{count-once}
-use Rattle.zarr_tree.specs.Changes.{Changes, none}
+use Rattle.zarr_tree.specs.Changes.{none}
 use Rattle.object_store.specs.declared.events.Event.{Event}
 use Rattle.play_script.specs.declared.faults.ScriptKind.TheVariants.{Long}
 use Rattle.play_script.specs.declared.scripts.Script.{Script}
@@ -20,9 +20,9 @@ use Rattle.command_words.specs.declared.reading.Command.{Command}
 use Rattle.command_words.specs.declared.reading.Command.TheVariants as C
 use Rattle.top_call.specs.declared.statuses.Status.{Status}
 use Rattle.top_call.specs.declared.statuses.Status.TheVariants as S
-use Rattle.top_call.specs.Telling.{WasPlayed}
-use Rattle.top_call.specs.Run.{HasScript, WasRun, Ends}
-use Rattle.top_call.specs.Promise.{World, Promise, HasPlayed, Played, Promised, OverSound, KeepsSound, KeepsOwn}
+use Rattle.top_call.specs.Run.{HasScript}
+use Rattle.top_call.specs.Promise.{World, Spares, WherePlayed, Played, Promised, OverSound, KeepsSound, KeepsOwn, SparesOver, SparesSound, SparesOwn}
+use Rattle.top_call.specs.inside.Playing.{WasPlayed, WasRun, IsShort, PlayEnds, Ends}
 
 -- a script that was read is well
 well-script : (text : List ℕ) (script : Script) → script_of text ≡ Ok script → IsWell script
@@ -34,50 +34,93 @@ well-script text script e = by_length (nat_le (length text) most_bytes) refl e
     by_length false l h = absurd cc
 
 module _ (draw : Draw) (a b : World) where
-  -- a script was read and played
-  run-of : (command : Command) (status : Status) → HasPlayed command status → Ends command draw a.input b.input a.store b.store a.out b.out status → WasRun command draw a.input b.input a.store b.store a.out b.out status
-  run-of C.Play S.Ok p e = e
-  run-of C.Play S.Refused p e = e
-  run-of C.Play S.StoreFault p e = e
-  run-of C.Play S.WriteFault p e = e
-  run-of (C.Grow tasks) S.Ok p e = e.1
-  run-of (C.Grow tasks) S.Refused p e = e.1
-  run-of (C.Grow tasks) S.StoreFault p e = e.1
-  run-of (C.Grow tasks) S.WriteFault p e = e.1
-  run-of _ _ p e = absurd p
+  -- ---- a script was read and played, and so this holds
+  module _ (P : Status → Type 0) (command : Command) (of_played : (status : Status) (script : Script) → HasScript command a.input b.input script → WasPlayed command draw script a.store b.store a.out b.out status → P status) where
+    of_run : (status : Status) → WasRun command draw a.input b.input a.store b.store a.out b.out status → P status
+    of_run status r = of_played status r.script r.reads r.played
 
+    -- where memory ran out, or nothing was written
+    of_short : IsShort command draw a.input b.input a.store b.store a.out b.out → (b.out ≡ a.out) ⊎ P S.NoMemory
+    of_short i = elim i.went [ inl p ↦ inr (of_played S.NoMemory i.script i.reads p) | inr u ↦ inl u.out ]
+
+    of_starved : PlayEnds command draw a.input b.input a.store b.store a.out b.out S.NoMemory → (b.out ≡ a.out) ⊎ P S.NoMemory
+    of_starved e = elim e [ inl same ↦ inl same.out | inr short ↦ of_short short ]
+
+  pub where-played : (P : Status → Type 0) (command : Command) (status : Status) → ((status : Status) (script : Script) → HasScript command a.input b.input script → WasPlayed command draw script a.store b.store a.out b.out status → P status)
+      → Ends command draw a.input b.input a.store b.store a.out b.out status → WherePlayed command a b status (P status)
+  where-played P C.Play S.Ok of e = λ played. of_run P C.Play of S.Ok e
+  where-played P C.Play S.Refused of e = λ played. of_run P C.Play of S.Refused e
+  where-played P C.Play S.StoreFault of e = λ played. of_run P C.Play of S.StoreFault e
+  where-played P C.Play S.WriteFault of e = λ played. of_run P C.Play of S.WriteFault e
+  where-played P C.Play S.NoMemory of e = of_starved P C.Play of e
+  where-played P C.Play S.ReadFault of e = λ played. absurd played
+  where-played P C.Play (S.Script line kind) of e = λ played. absurd played
+  where-played P C.Play (S.Usage fault) of e = λ played. absurd played
+  where-played P (C.Grow tasks) S.Ok of e = λ played. of_run P (C.Grow tasks) of S.Ok e.1
+  where-played P (C.Grow tasks) S.Refused of e = λ played. of_run P (C.Grow tasks) of S.Refused e.1
+  where-played P (C.Grow tasks) S.StoreFault of e = λ played. of_run P (C.Grow tasks) of S.StoreFault e.1
+  where-played P (C.Grow tasks) S.WriteFault of e = λ played. of_run P (C.Grow tasks) of S.WriteFault e.1
+  where-played P (C.Grow tasks) S.NoMemory of e = of_starved P (C.Grow tasks) of e.1
+  where-played P (C.Grow tasks) S.ReadFault of e = λ played. absurd played
+  where-played P (C.Grow tasks) (S.Script line kind) of e = λ played. absurd played
+  where-played P (C.Grow tasks) (S.Usage fault) of e = λ played. absurd played
+  where-played P (C.Help topic) S.NoMemory of e = inl e.2
+  where-played P (C.Help topic) S.Ok of e = λ played. absurd played
+  where-played P (C.Help topic) S.Refused of e = λ played. absurd played
+  where-played P (C.Help topic) S.StoreFault of e = λ played. absurd played
+  where-played P (C.Help topic) S.WriteFault of e = λ played. absurd played
+  where-played P (C.Help topic) S.ReadFault of e = λ played. absurd played
+  where-played P (C.Help topic) (S.Script line kind) of e = λ played. absurd played
+  where-played P (C.Help topic) (S.Usage fault) of e = λ played. absurd played
+  where-played P C.Version S.NoMemory of e = inl e.2
+  where-played P C.Version S.Ok of e = λ played. absurd played
+  where-played P C.Version S.Refused of e = λ played. absurd played
+  where-played P C.Version S.StoreFault of e = λ played. absurd played
+  where-played P C.Version S.WriteFault of e = λ played. absurd played
+  where-played P C.Version S.ReadFault of e = λ played. absurd played
+  where-played P C.Version (S.Script line kind) of e = λ played. absurd played
+  where-played P C.Version (S.Usage fault) of e = λ played. absurd played
+
+  -- ---- what is promised of it
   promised : (command : Command) (status : Status) (script : Script) → WasPlayed command draw script a.store b.store a.out b.out status → IsTrue a.store.caller.tells → OverSound draw command a b status script
   promised command status script p tells before sound new =
       let k = p.promise tells before sound new in
       record { opening = p.opening; outcomes = p.outcomes; refs = p.refs; changes = k.histories.changes; start = p.course.begun.seen; keeps = k.keeps; told = p.told }
 
+  spared : (command : Command) (status : Status) (script : Script) → WasPlayed command draw script a.store b.store a.out b.out status → IsTrue a.store.caller.tells → SparesOver draw command a b status script
+  spared command status script p tells before sound new =
+      let k = p.promise tells before sound new in
+      record { opening = p.opening; outcomes = p.outcomes; refs = p.refs; start = p.course.begun.seen; needed = k.needed; told = p.told }
+
   pub keeps-sound : (command : Command) (status : Status) → Ends command draw a.input b.input a.store b.store a.out b.out status → KeepsSound draw command a b status
-  keeps-sound command status e played tells =
-      let r = run-of command status played e in
-      record { script = r.script; reads = r.reads; promise = promised command status r.script r.played tells }
+  keeps-sound command status e =
+      where-played (λ at. IsTrue a.store.caller.tells → Played (OverSound draw command a b at) command a b) command status (λ at script reads p tells. record { script = script; reads = reads; promise = promised command at script p tells }) e
+
+  pub spares-sound : (command : Command) (status : Status) → Ends command draw a.input b.input a.store b.store a.out b.out status → SparesSound draw command a b status
+  spares-sound command status e =
+      where-played (λ at. IsTrue a.store.caller.tells → Played (SparesOver draw command a b at) command a b) command status (λ at script reads p tells. record { script = script; reads = reads; promise = spared command at script p tells }) e
 
   -- the journal of an empty store is sound, and by counting the clients' ids are new to it
   begun-new : NothingLaw → (script : Script) → IsWell script → draw ≡ Draw.Count → (journal : List Event) → journal ≡ [] → IsSound journal (λ n. none) × IsNewRun draw script.tasks journal
   begun-new law script well counts journal is =
       let few : length script.tasks < 2 ^ 32 = omega (arith, well.few) in
-      subst (λ (j : List Event). IsSound j (λ n. none) × IsNewRun draw script.tasks j) (sym is)
-      (law.0 (λ n. none), record { once = subst (λ (d : Draw). DrawsOnce d (length script.tasks)) (sym counts) (count-once (length script.tasks) few); sources = λ place within. law.1 (ids_at draw place) })
+      subst (λ (j : List Event). IsSound j (λ n. none) × IsNewRun draw script.tasks j) (sym is) (
+        law.0 (λ n. none),
+        record {
+          once = subst (λ (d : Draw). DrawsOnce d (length script.tasks)) (sym counts) (count-once (length script.tasks) few);
+          sources = λ place within. law.1 (ids_at draw place);
+          unput = λ collects place within. law.2 (ids_at draw place);
+        },
+      )
 
   pub keeps-own : NothingLaw → (command : Command) (status : Status) → Ends command draw a.input b.input a.store b.store a.out b.out status → KeepsOwn draw command a b status
-  keeps-own law command status e played counts tells is =
-      let r = run-of command status played e in
-      let n = begun-new law r.script (well-script r.reads.text r.script r.reads.reads) counts a.store.seen is in
-      record { script = r.script; reads = r.reads; promise = promised command status r.script r.played tells (λ i. none) n.0 n.1 }
+  keeps-own law command status e =
+      where-played (λ at. draw ≡ Draw.Count → IsTrue a.store.caller.tells → a.store.seen ≡ [] → Played (Promised command a b at) command a b) command status
+      (λ at script reads p counts tells is. let n = begun-new law script (well-script reads.text script reads.reads) counts a.store.seen is in record { script = script; reads = reads; promise = promised command at script p tells (λ i. none) n.0 n.1 })
+      e
 
--- where memory was wanting, nothing is promised
-unplayed : (command : Command) → ¬ HasPlayed command S.NoMemory
-unplayed C.Play p = p
-unplayed (C.Grow tasks) p = p
-unplayed (C.Help topic) p = p
-unplayed C.Version p = p
-
-pub unplayed-sound : (draw : Draw) (command : Command) (a b : World) → KeepsSound draw command a b S.NoMemory
-unplayed-sound draw command a b played = absurd (unplayed command played)
-
-pub unplayed-own : (draw : Draw) (command : Command) (a b : World) → KeepsOwn draw command a b S.NoMemory
-unplayed-own draw command a b played = absurd (unplayed command played)
+  pub spares-own : NothingLaw → (command : Command) (status : Status) → Ends command draw a.input b.input a.store b.store a.out b.out status → SparesOwn draw command a b status
+  spares-own law command status e =
+      where-played (λ at. draw ≡ Draw.Count → IsTrue a.store.caller.tells → a.store.seen ≡ [] → Played (λ (script : Script). Spares draw command script a b at) command a b) command status
+      (λ at script reads p counts tells is. let n = begun-new law script (well-script reads.text script reads.reads) counts a.store.seen is in record { script = script; reads = reads; promise = spared command at script p tells (λ i. none) n.0 n.1 })
+      e

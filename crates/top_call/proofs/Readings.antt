@@ -15,8 +15,9 @@ use Rattle.top_call.specs.declared.statuses.Status.TheVariants as S
 use Rattle.command_words.specs.declared.reading.Command.{Command}
 use Rattle.command_words.specs.declared.reading.Command.TheVariants as C
 use Rattle.command_words.specs.Help.{help_of, version_line}
-use Rattle.top_call.specs.Run.{most_input, IsSource, HasFailed, HasScript, HasFault, PlayEnds, SayEnds, Ends, TellsRefused, IsCalm, IsFaultless}
+use Rattle.top_call.specs.Run.{most_input, IsSource, HasFailed, HasScript, HasFault, SayEnds, TellsRefused, IsCalm, IsFaultless}
 use Rattle.top_call.proofs.Endings.{store_played, sink_played}
+use Rattle.top_call.specs.inside.Playing.{PlayEnds, Ends}
 
 -- a text that is too long is refused by its first bytes alone
 too_long : (text : List ℕ) → most_bytes < length text → script_of text ≡ Err (feeds (take most_bytes text) + 1, Long)

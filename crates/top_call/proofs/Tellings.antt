@@ -9,7 +9,6 @@ use Rattle.ice_base.specs.Ends.{OutputAt, Rose}
 use Rattle.ice_ids.specs.declared.drawing.Draw.{Draw}
 use Rattle.object_store.specs.declared.events.Event.{Event}
 use Rattle.store_api.specs.declared.machines.Refusal.{Refusal}
-use Rattle.store_api.specs.declared.machines.Refusal.TheVariants as R
 use Rattle.store_api.specs.Callers.{Caller, View, HasAll, as_client}
 use Rattle.store_api.specs.Running.{Program, Runs}
 use Rattle.command_words.specs.declared.reading.Command.{Command}
@@ -31,9 +30,10 @@ use Rattle.top_call.specs.declared.statuses.Status.{Status}
 use Rattle.top_call.specs.declared.statuses.Status.TheVariants as S
 use Rattle.top_call.specs.Statuses.{status_of}
 use Rattle.play_outcome.specs.Ending.{end_why, why_ended}
-use Rattle.top_call.specs.Telling.{why_of, refusals, is_other, causes, line_text, IsText, Wrote, Told, KeepsHistories, KeepsBranches, KeepsAll, IsRegular, WasPlayed, WasUntold}
+use Rattle.top_call.specs.Telling.{why_of, refusals, is_other, causes, line_text, IsText, Wrote, Told, KeepsAll, IsRegular}
 use Rattle.top_call.specs.inside.Adding.{added, all_added}
 use Rattle.top_call.proofs.Rows.{rows-all}
+use Rattle.top_call.specs.inside.Playing.{KeepsHistories, KeepsBranches, WasUntold, WasPlayed}
 
 -- ---- causes
 pub all_added-append : (xs ys : List Refusal) (c : Causes) → all_added c (xs ++ ys) ≡ all_added (all_added c xs) ys
@@ -94,8 +94,10 @@ record HasFailed (outcomes : List Outcome) : Type 0 where
 
 end-failed : (end : End) → list_any is_fault (end_why end) ≡ end_failed end
 end-failed (E.Committed id) = refl
+end-failed (E.Collected removed) = refl
 end-failed E.Done = refl
 end-failed (E.Refused line why) = or-false (is_fault why)
+end-failed (E.Stopped line why removed) = or-false (is_fault why)
 
 or-cases : (a b : Bool) → (a || b) ≡ true → (a ≡ true) ⊎ (b ≡ true)
 or-cases true b e = inl refl

@@ -3,3 +3,5 @@ pub mod Telling
 pub mod Run
 pub mod inside
 pub mod Promise
+pub mod Exact
+pub mod GoesOn

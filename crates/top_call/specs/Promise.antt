@@ -1,5 +1,5 @@
 -- What the top call promises of a script that it played.
-use Rattle.std.specs.Prelude.{◌≡◌, ℕ, List, [], Result, IsTrue}
+use Rattle.std.specs.Prelude.{◌≡◌, ◌⊎◌, ℕ, List, [], Result, IsTrue}
 use Rattle.ice_base.specs.Ends.{InputAt, OutputAt}
 use Rattle.ice_ids.specs.declared.drawing.Draw.{Draw}
 use Rattle.zarr_tree.specs.Changes.{Changes}
@@ -14,6 +14,7 @@ use Rattle.play_outcome.specs.declared.outcome.Outcome.{Outcome}
 use Rattle.play_outcome.specs.declared.outcome.RefLine.{RefLine}
 use Rattle.run_histories.specs.Sources.{IsNewRun}
 use Rattle.run_histories.specs.Runs.{IsSound}
+use Rattle.run_collections.specs.Keeping.{KeepsNeeded}
 use Rattle.run_promise.specs.Promise.{Keeps}
 use Rattle.command_words.specs.declared.reading.Command.{Command}
 use Rattle.command_words.specs.declared.reading.Command.TheVariants as C
@@ -40,8 +41,18 @@ pub record Promise (files : Files) (command : Command) (script : Script) (a b : 
   pub keeps : Keeps files script.tasks outcomes refs changes a.store.seen start b.store.seen
   pub told : Told (IsText command script a.store b.store opening outcomes refs) (refusals opening outcomes refs) a.out b.out status
 
+-- The tasks began at some moment, and ended with these outcomes; what their collections doom and remove, no ref and no anchored session reaches, as long as
+-- each cutoff precedes the sessions that commit beside it, and it is quiet. This was told, as in the promise.
+pub record Spares (draw : Draw) (command : Command) (script : Script) (a b : World) (status : Status) : Type 0 where
+  pub opening : Result (Unit {0}) Refusal
+  pub outcomes : List Outcome
+  pub refs : Result (List RefLine) Refusal
+  pub start : List Event
+  pub needed : KeepsNeeded draw script.tasks outcomes a.store.seen start b.store.seen
+  pub told : Told (IsText command script a.store b.store opening outcomes refs) (refusals opening outcomes refs) a.out b.out status
+
 -- ---- when it is promised
--- a script was played, and what came of it was told; of want of memory it is open how far the run came
+-- a script was played, and what came of it was told
 abbrev pub HasPlayed : Command → Status → Type 0
 HasPlayed C.Play S.Ok = Unit {0}
 HasPlayed C.Play S.Refused = Unit {0}
@@ -52,6 +63,11 @@ HasPlayed (C.Grow tasks) S.Refused = Unit {0}
 HasPlayed (C.Grow tasks) S.StoreFault = Unit {0}
 HasPlayed (C.Grow tasks) S.WriteFault = Unit {0}
 HasPlayed command status = ⊥
+
+-- Where it was, this is promised; and so it is where memory was wanting, unless nothing was written.
+abbrev pub WherePlayed : Command → World → World → Status → Type 0 → Type 0
+WherePlayed command a b S.NoMemory P = (b.out ≡ a.out) ⊎ P
+WherePlayed command a b status P = HasPlayed command status → P
 
 -- a script that was read, and what is promised of it
 pub record Played (P : Script → Type 0) (command : Command) (a b : World) : Type 0 where
@@ -68,8 +84,20 @@ abbrev pub OverSound : Draw → Command → World → World → Status → Scrip
 OverSound draw command a b status script = (before : ℕ → Changes) → IsSound a.store.seen before → IsNewRun draw script.tasks a.store.seen → Promised command a b status script
 
 abbrev pub KeepsSound : Draw → Command → World → World → Status → Type 0
-KeepsSound draw command a b status = HasPlayed command status → IsTrue a.store.caller.tells → Played (OverSound draw command a b status) command a b
+KeepsSound draw command a b status = WherePlayed command a b status (IsTrue a.store.caller.tells → Played (OverSound draw command a b status) command a b)
 
 -- over an empty store, where ids are drawn by counting: with no premise
 abbrev pub KeepsOwn : Draw → Command → World → World → Status → Type 0
-KeepsOwn draw command a b status = HasPlayed command status → draw ≡ Draw.Count → IsTrue a.store.caller.tells → a.store.seen ≡ [] → Played (Promised command a b status) command a b
+KeepsOwn draw command a b status = WherePlayed command a b status (draw ≡ Draw.Count → IsTrue a.store.caller.tells → a.store.seen ≡ [] → Played (Promised command a b status) command a b)
+
+-- ---- when collections spare what is needed
+-- over a store that tells its journal, where that is sound and the clients' ids are new to it
+abbrev pub SparesOver : Draw → Command → World → World → Status → Script → Type 0
+SparesOver draw command a b status script = (before : ℕ → Changes) → IsSound a.store.seen before → IsNewRun draw script.tasks a.store.seen → Spares draw command script a b status
+
+abbrev pub SparesSound : Draw → Command → World → World → Status → Type 0
+SparesSound draw command a b status = WherePlayed command a b status (IsTrue a.store.caller.tells → Played (SparesOver draw command a b status) command a b)
+
+-- over an empty store, where ids are drawn by counting: with no premise
+abbrev pub SparesOwn : Draw → Command → World → World → Status → Type 0
+SparesOwn draw command a b status = WherePlayed command a b status (draw ≡ Draw.Count → IsTrue a.store.caller.tells → a.store.seen ≡ [] → Played (λ (script : Script). Spares draw command script a b status) command a b)

@@ -1,7 +1,6 @@
 -- What the top call reads, does and writes (own).
 use Rattle.std.specs.Prelude.{◌≡◌, ◌⊎◌, ℕ, List, Some, Ok, Err}
 use Rattle.ice_base.specs.Ends.{InputAt, OutputAt, IsInput, Rose, WroteWhole, WroteLess}
-use Rattle.ice_ids.specs.declared.drawing.Draw.{Draw}
 use Rattle.play_script.specs.declared.faults.ScriptKind.{ScriptKind}
 use Rattle.play_script.specs.declared.scripts.Script.{Script}
 use Rattle.play_script.specs.Reading.{script_of}
@@ -9,10 +8,8 @@ use Rattle.store_api.specs.Callers.{View}
 use Rattle.grow_script.specs.Script.{script_text}
 use Rattle.command_words.specs.declared.reading.Command.{Command}
 use Rattle.command_words.specs.declared.reading.Command.TheVariants as C
-use Rattle.command_words.specs.Help.{help_of, version_line}
 use Rattle.top_call.specs.declared.statuses.Status.{Status}
 use Rattle.top_call.specs.declared.statuses.Status.TheVariants as S
-use Rattle.top_call.specs.Telling.{WasPlayed, WasUntold}
 
 -- the longest input that is read: one byte more than a script may have
 abbrev pub most_input : ℕ
@@ -48,31 +45,10 @@ HasNone command old new (S.Script line kind) = HasFault command old new line kin
 HasNone command old new S.NoMemory = Unit {0}
 HasNone command old new _ = ⊥
 
--- ---- what each status says of a command that plays
--- the text is that of a script, which was played, and what is written and the status tell of it
-pub record WasRun (command : Command) (draw : Draw) (in_old in_new : InputAt) (s t : View) (out_old out_new : OutputAt) (status : Status) : Type 0 where
-  pub script : Script
-  pub reads : HasScript command in_old in_new script
-  pub played : WasPlayed command draw script s t out_old out_new status
-
 -- nothing was done, and nothing written
 pub record IsUntouched (store_old store_new : View) (out_old out_new : OutputAt) : Type 0 where
   pub store : store_new ≡ store_old
   pub out : out_new ≡ out_old
-
--- A script was read when memory ran out. It was played and told (so that the status is that of a task that found no memory),
--- or nothing was written.
-pub record IsShort (command : Command) (draw : Draw) (in_old in_new : InputAt) (s t : View) (out_old out_new : OutputAt) : Type 0 where
-  pub script : Script
-  pub reads : HasScript command in_old in_new script
-  pub went : WasPlayed command draw script s t out_old out_new S.NoMemory ⊎ WasUntold draw script s t out_old out_new
-
-abbrev pub PlayEnds : Command → Draw → InputAt → InputAt → View → View → OutputAt → OutputAt → Status → Type 0
-PlayEnds command draw in_old in_new s t out_old out_new S.ReadFault = HasFailed command in_old in_new × IsUntouched s t out_old out_new
-PlayEnds command draw in_old in_new s t out_old out_new (S.Script line kind) = HasFault command in_old in_new line kind × IsUntouched s t out_old out_new
-PlayEnds command draw in_old in_new s t out_old out_new (S.Usage fault) = ⊥
-PlayEnds command draw in_old in_new s t out_old out_new S.NoMemory = IsUntouched s t out_old out_new ⊎ IsShort command draw in_old in_new s t out_old out_new
-PlayEnds command draw in_old in_new s t out_old out_new status = WasRun command draw in_old in_new s t out_old out_new status
 
 -- ---- what each status says of a command that prints a text
 -- all of the text was written, or not all of it and the sink failed; without memory nothing was written
@@ -85,13 +61,6 @@ SayEnds text old new _ = ⊥
 -- and nothing was read or done
 abbrev pub Says : List ℕ → InputAt → InputAt → View → View → OutputAt → OutputAt → Status → Type 0
 Says text in_old in_new s t out_old out_new status = (in_new ≡ in_old) × (t ≡ s) × SayEnds text out_old out_new status
-
--- ---- what each status says where the words are a command
-abbrev pub Ends : Command → Draw → InputAt → InputAt → View → View → OutputAt → OutputAt → Status → Type 0
-Ends C.Play draw in_old in_new s t out_old out_new status = PlayEnds C.Play draw in_old in_new s t out_old out_new status
-Ends (C.Grow tasks) draw in_old in_new s t out_old out_new status = (in_new ≡ in_old) × PlayEnds (C.Grow tasks) draw in_old in_new s t out_old out_new status
-Ends (C.Help topic) draw in_old in_new s t out_old out_new status = Says (help_of topic) in_old in_new s t out_old out_new status
-Ends C.Version draw in_old in_new s t out_old out_new status = Says version_line in_old in_new s t out_old out_new status
 
 -- ---- which statuses there can be
 -- where the source tells its bytes and a line of them is refused, the status is that line, unless the source failed or memory

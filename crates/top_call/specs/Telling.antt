@@ -1,14 +1,14 @@
 -- What is told of a run: the report, or the line of a grown script, and the status (own).
-use Rattle.std.specs.Prelude.{◌≡◌, ◌⊎◌, ℕ, Bool, true, false, not, ◌&&◌, List, [], ◌∷◌, ◌++◌, ◌+◌, length, map, codes, Result, Ok, Err, IsTrue}
+use Rattle.std.specs.Prelude.{◌≡◌, ℕ, Bool, true, false, not, ◌&&◌, List, [], ◌∷◌, ◌++◌, ◌+◌, length, map, codes, Result, Ok, Err, IsTrue}
 use Rattle.std.specs.List.{list_any, flat_map, count_by}
 use Rattle.ice_base.specs.Ends.{OutputAt, WroteWhole, WroteLess}
 use Rattle.ice_ids.specs.declared.drawing.Draw.{Draw}
 use Rattle.ice_ids.specs.Drawing.{DrawsOnce}
-use Rattle.object_store.specs.declared.events.Event.{Event}
 use Rattle.store_api.specs.declared.machines.Refusal.{Refusal}
 use Rattle.store_api.specs.Callers.{View}
 use Rattle.store_api.specs.Program.{is_no_memory, is_fault}
 use Rattle.play_script.specs.declared.scripts.Script.{Script}
+use Rattle.play_script.specs.Collections.{has_collection}
 use Rattle.play_outcome.specs.declared.outcome.End.{End}
 use Rattle.play_outcome.specs.declared.outcome.End.TheVariants as E
 use Rattle.play_outcome.specs.declared.outcome.Outcome.{Outcome}
@@ -21,9 +21,7 @@ use Rattle.grow_script.specs.Summary.{summary_text}
 use Rattle.zarr_tree.specs.Changes.{Changes}
 use Rattle.run_histories.specs.Sources.{IsNewRun}
 use Rattle.run_histories.specs.Runs.{IsSound}
-use Rattle.run_histories.specs.Told.{HasHistories}
-use Rattle.play_course.specs.Course.{Course, OnlyBegan}
-use Rattle.play_course.specs.Leaving.{LeavesBranches}
+use Rattle.play_course.specs.Course.{Course}
 use Rattle.play_course.specs.Refusing.{NothingStrange}
 use Rattle.run_promise.specs.Law.{KeepsPromise}
 use Rattle.top_call.specs.declared.statuses.Causes.{Causes}
@@ -55,12 +53,16 @@ Wrote old new text true = WroteLess old new text
 
 abbrev pub end_committed : End → Bool
 end_committed (E.Committed id) = true
+end_committed (E.Collected removed) = false
 end_committed E.Done = false
 end_committed (E.Refused line why) = false
+end_committed (E.Stopped line why removed) = false
 
 abbrev pub end_refused : End → Bool
 end_refused (E.Refused line why) = true
+end_refused (E.Stopped line why removed) = true
 end_refused (E.Committed id) = false
+end_refused (E.Collected removed) = false
 end_refused E.Done = false
 
 abbrev pub is_committed : Outcome → Bool
@@ -93,24 +95,15 @@ pub record Told (Is : List ℕ → Type 0) (whys : List Refusal) (old new : Outp
   pub wrote : Wrote old new text unwritten
   pub status_is : status ≡ status_of (causes unwritten whys)
 
--- where the store tells its journal, and that is sound and the clients' ids are new to it, a run keeps the histories, and the
--- refs that it tells are their ends
-abbrev pub KeepsHistories : Draw → Script → View → View → Result (List RefLine) Refusal → Type 0
-KeepsHistories draw script old new refs = IsTrue old.caller.tells → (before : ℕ → Changes) → IsSound old.seen before → IsNewRun draw script.tasks old.seen → LeavesBranches draw script.tasks before old.seen new.seen refs
-
--- the same of the histories alone, where no refs are told
-abbrev pub KeepsBranches : Draw → Script → View → View → Type 0
-KeepsBranches draw script old new = IsTrue old.caller.tells → (before : ℕ → Changes) → IsSound old.seen before → IsNewRun draw script.tasks old.seen → (start : List Event) × HasHistories draw script.tasks before old.seen start new.seen
-
 -- and what is promised of the tasks is kept: each branch's updates form one list, each commit that took effect is its session's solved changes on the
 -- entry before it, each read sees its session's base under the session's own changes, and each task ends as it tells
 abbrev pub KeepsAll : Draw → Script → (old begun new : View) → List Outcome → Result (List RefLine) Refusal → Type 0
 KeepsAll draw script old begun new outcomes refs = IsTrue old.caller.tells → (before : ℕ → Changes) → IsSound old.seen before → IsNewRun draw script.tasks old.seen → KeepsPromise draw script before old outcomes refs begun new
 
 -- over a store that tells its journal and on which nothing was done before, where the clients draw no id twice, nothing is
--- refused because an id was taken, an object is missing or a file can't be read
+-- refused because an id was taken or a file can't be read, nor, where no task collects, because an object is missing
 abbrev pub IsRegular : Draw → Script → View → Result (Unit {0}) Refusal → List Outcome → Result (List RefLine) Refusal → Type 0
-IsRegular draw script old opening outcomes refs = IsTrue old.caller.tells → old.seen ≡ [] → DrawsOnce draw (length script.tasks) → NothingStrange opening outcomes refs
+IsRegular draw script old opening outcomes refs = IsTrue old.caller.tells → old.seen ≡ [] → DrawsOnce draw (length script.tasks) → NothingStrange (has_collection script.tasks) opening outcomes refs
 
 -- all was played, whatever it came to
 pub record HasCourse (draw : Draw) (script : Script) (old new : View) : Type 0 where
@@ -119,20 +112,3 @@ pub record HasCourse (draw : Draw) (script : Script) (old new : View) : Type 0 w
   pub refs : Result (List RefLine) Refusal
   pub course : Course draw script old new opening outcomes refs
   pub promise : KeepsAll draw script old course.begun new outcomes refs
-
--- Memory ran out before anything was written: behind all that was to be played, or before the first task.
-pub record WasUntold (draw : Draw) (script : Script) (store_old store_new : View) (out_old out_new : OutputAt) : Type 0 where
-  pub out : out_new ≡ out_old
-  pub came : HasCourse draw script store_old store_new ⊎ OnlyBegan store_old store_new
-  pub histories : KeepsBranches draw script store_old store_new
-
--- What was played by a command, and what was told of it: all tasks have ended, with these outcomes.
-pub record WasPlayed (command : Command) (draw : Draw) (script : Script) (store_old store_new : View) (out_old out_new : OutputAt) (status : Status) : Type 0 where
-  pub opening : Result (Unit {0}) Refusal
-  pub outcomes : List Outcome
-  pub refs : Result (List RefLine) Refusal
-  pub course : Course draw script store_old store_new opening outcomes refs
-  pub promise : KeepsAll draw script store_old course.begun store_new outcomes refs
-  pub histories : KeepsHistories draw script store_old store_new refs
-  pub regular : IsRegular draw script store_old opening outcomes refs
-  pub told : Told (IsText command script store_old store_new opening outcomes refs) (refusals opening outcomes refs) out_old out_new status

@@ -4,10 +4,13 @@ ghost use Rattle.std.specs.Prelude.{◌≡◌, ◌≤◌, ◌⊎◌, true, Ok, E
 ghost use Rattle.ice_base.specs.Ends.{InputAt, Rose, TakesAtMost};
 ghost use Rattle.store_api.specs.Journal.{IsGoodJournal};
 ghost use Rattle.play_script.specs.Well.{IsWell};
-ghost use Rattle.top_call.specs.Promise.{KeepsOwn, KeepsSound};
-ghost use Rattle.top_call.specs.Run.{most_input, HasScript, HasNone, PlayEnds, Ends, TellsRefused, IsCalm, IsFaultless};
+ghost use Rattle.top_call.specs.Promise.{KeepsOwn, KeepsSound, SparesOwn, SparesSound};
+ghost use Rattle.top_call.specs.Exact.{Exact};
+ghost use Rattle.top_call.specs.GoesOn.{GoesOn};
+ghost use Rattle.top_call.specs.Run.{most_input, HasScript, HasNone, TellsRefused, IsCalm, IsFaultless};
 ghost use Rattle.command_words.specs.Words.{command_of, IsInRange};
 ghost use Rattle.command_words.specs.declared.reading.UsageFault.{UsageFault};
+ghost use Rattle.top_call.specs.inside.Playing.{PlayEnds, Ends};
 
 use crate::ending::Ended;
 use crate::saying::{say, say_help};
@@ -208,19 +211,29 @@ pub fn run<R: Threads + Wait + Sync, I: Source, S: Counting + Send, K: Sink, G: 
     // Over an empty store that tells its journal, where ids are drawn by counting, each script that was played keeps what is
     // promised, with no premise: each branch's updates form one list, each commit is its session's solved changes on the entry
     // before it, each read sees its session's base under its own changes, each task ends as it tells, the refs that are told are
-    // those that stand, and the status is that of the first cause that holds.
+    // those that stand, and the status is that of the first cause that holds. Where memory was wanting, this is so, or nothing was
+    // written.
     ensures ours { (command : Command) → command_of words.now ≡ Ok command → KeepsOwn draw command (record { input = I.at input.old; store = S.view store; out = K.at out.old }) (record { input = I.at input.new; store = S.view result.store; out = K.at out.new }) result.status }
 
     // The same over each store that tells a sound journal, to which the clients' ids are new.
     ensures promise { (command : Command) → command_of words.now ≡ Ok command → KeepsSound draw command (record { input = I.at input.old; store = S.view store; out = K.at out.old }) (record { input = I.at input.new; store = S.view result.store; out = K.at out.new }) result.status }
 
-    // Else the status tells of the input: a fault of the source only where it rose; the first line that is refused, exactly; and
+    // What the collections of the script removed, no ref and no anchored session reached: of a run of the first kind, and of
+    // one of the second.
+    ensures spares_ours { (command : Command) → command_of words.now ≡ Ok command → SparesOwn draw command (record { input = I.at input.old; store = S.view store; out = K.at out.old }) (record { input = I.at input.new; store = S.view result.store; out = K.at out.new }) result.status }
+    ensures spares { (command : Command) → command_of words.now ≡ Ok command → SparesSound draw command (record { input = I.at input.old; store = S.view store; out = K.at out.old }) (record { input = I.at input.new; store = S.view result.store; out = K.at out.new }) result.status }
+
+    // Exactly what was done. The status tells of the input: a fault of the source only where it rose; the first line that is refused, exactly; and
     // then nothing has been done or written. Every other status but want of memory has read a script, played it over the
     // store, and written its report, whole, or less where the sink failed. Of want of memory it tells how far all this came.
     // `grow` reads no input, and plays the text that is made from its number in its place; of that it writes one line, whose
     // number of operations is that of the events by which the store's journal grew, where that is told. Help and the version
     // are written, whole, or less where the sink failed, and nothing else is read or done.
-    ensures ends { (command : Command) → command_of words.now ≡ Ok command → Ends command draw (I.at input.old) (I.at input.new) (S.view store) (S.view result.store) (K.at out.old) (K.at out.new) result.status }
+    ensures exact { (command : Command) → command_of words.now ≡ Ok command → Exact draw command (record { input = I.at input.old; store = S.view store; out = K.at out.old }) (record { input = I.at input.new; store = S.view result.store; out = K.at out.new }) result.status }
+
+    // And what the next run may take for granted: over a store that tells a sound journal, to which the clients' ids were new, the
+    // journal is sound again, whatever the status.
+    ensures goes_on { (command : Command) → command_of words.now ≡ Ok command → GoesOn draw command (record { input = I.at input.old; store = S.view store; out = K.at out.old }) (record { input = I.at input.new; store = S.view result.store; out = K.at out.new }) }
 
     // At most 1,048,577 bytes of the input are read, whatever the status.
     ensures bound { TakesAtMost most_input (I.at input.old) (I.at input.new) }

@@ -3,7 +3,7 @@
 ghost use Rattle.std.specs.Prelude.{◌≡◌, map, IfOk, IfErr, string_bytes};
 ghost use Rattle.std.specs.List.{count_by, flat_map};
 ghost use Rattle.play_report.specs.Report.{report_of};
-ghost use Rattle.play_outcome.specs.Ending.{why_ended};
+ghost use Rattle.play_outcome.specs.Ending.{end_why, why_ended};
 ghost use Rattle.top_call.specs.Telling.{why_of, refusals, causes, is_committed, is_refused, line_text, Wrote, Told};
 ghost use Rattle.top_call.specs.inside.Adding.{added, all_added};
 
@@ -40,14 +40,22 @@ fn add(causes: &mut Causes, why: &Refusal)
     }
 }
 
+/// Adds what a task causes that ended so.
+fn add_end(causes: &mut Causes, end: &End)
+    ensures { causes.new ≡ all_added causes.old (end_why end.now) }
+{
+    match end {
+        End::Refused { why, .. } | End::Stopped { why, .. } => add(causes, why),
+        End::Committed(_) | End::Collected(_) | End::Done => {}
+    }
+}
+
 /// Adds what the refused tasks cause.
 fn add_outcomes(causes: &mut Causes, outcomes: &[Outcome])
     ensures { causes.new ≡ all_added causes.old (flat_map why_ended outcomes.now) }
 {
     for outcome in outcomes {
-        if let End::Refused { line: _, why } = &outcome.end {
-            add(causes, why);
-        }
+        add_end(causes, &outcome.end);
     }
 }
 
@@ -124,8 +132,8 @@ fn numbers(outcomes: &[Outcome]) -> (u64, u64)
     for outcome in outcomes {
         match outcome.end {
             End::Committed(_) => committed += 1,
-            End::Refused { .. } => refused += 1,
-            _ => {}
+            End::Refused { .. } | End::Stopped { .. } => refused += 1,
+            End::Collected(_) | End::Done => {}
         }
     }
     (committed, refused)

@@ -1,6 +1,6 @@
 //! Files that are made, replaced and removed.
 
-ghost use Rattle.std.specs.Prelude.{◌≡◌, None, IfOk, OnOk, IsTrue};
+ghost use Rattle.std.specs.Prelude.{◌≡◌, None, Some, IfOk, IfSome, OnOk, IsTrue};
 ghost use Rattle.folder.specs.Files.{SameBut, SameButTwo, PlacesOver, Removes, IsIn, NoLooser, LooserAt, HasBytes, Leaves, IsChanged, IsPlaced};
 ghost use Rattle.whole_files.specs.Places.{asides_of};
 ghost use Rattle.whole_files.specs.Whole.{SameFiles, OnlyAt, IsOutside, LooserAside, IsLeft, version_at};
@@ -30,6 +30,17 @@ fn version_in<F: Folder>(tree: &F, putting: Putting, path: &str) -> Result<Optio
         None => Ok(None),
         Some(seen) if seen.kind != Kind::File => Err(failed(Call::Look, Cause::NotFile)),
         Some(seen) => Ok(Some(version_seen(tree, putting, path, &seen)?)),
+    }
+}
+
+/// The version of the file at a path whose folders are there, if one is there, before another one is made. What is put once has a
+/// path of its own, so nothing is asked then: where a file is there, the move finds it.
+fn version_before<F: Folder>(tree: &F, putting: Putting, path: &str) -> Result<Option<u64>, Trouble>
+    ensures { IsTrue F.tells → IfOk result (λ found. IfSome found (λ version. version_at putting (F.files tree.now path.now) ≡ Some version)) }
+{
+    match putting {
+        Putting::Once => Ok(None),
+        Putting::Over => version_in(tree, putting, path),
     }
 }
 
@@ -77,7 +88,7 @@ pub fn make_file<F: Folder>(
 {
     let above = reached(Call::Link, path)?;
     let folder = make_folders(tree, places.root(), path)?;
-    if let Some(version) = version_in(tree, putting, path)? {
+    if let Some(version) = version_before(tree, putting, path)? {
         return Ok(Some(version));
     }
     let draft = write_aside(tree, places, alloc, bytes)?;

@@ -1,6 +1,6 @@
 //! Files that are read whole.
 
-ghost use Rattle.std.specs.Prelude.{◌≡◌, ◌≤◌, ◌<◌, Ok, Some, IfOk, IsTrue, MatchResult};
+ghost use Rattle.std.specs.Prelude.{◌≡◌, ◌≤◌, ◌<◌, Ok, Some, IfOk, IsTrue, MatchResult, length};
 ghost use Rattle.folder.specs.declared.faults.FileFault.TheVariants as FileFault;
 ghost use Rattle.folder.specs.Files.{HasBytes, IsMeasured};
 ghost use Rattle.whole_files.specs.Versions.{version_of};
@@ -15,19 +15,22 @@ use std::alloc::{AllocError, Global};
 /// The most bytes that a file may have.
 pub const MOST: u64 = 268_435_456;
 
-/// How many bytes are read at once.
+/// How many bytes are read at once where they are hashed.
 const PIECE: usize = 4096;
+
+/// The most bytes that are read at once where they are kept.
+const LONGEST: usize = 65_536;
 
 /// More times than a file of the greatest length is read: each time but the last gives a byte.
 const TURNS: u64 = MOST + 2;
 
-/// How many bytes are still read behind so many: one more than a file may have, at most.
-fn room_behind(taken: u64) -> usize
-    ensures most { result ≤ 4096 }
-    ensures some { taken ≤ 268435456 → 0 < result }
+/// How many bytes are still read behind so many, where there is room for these: one more than a file may have, at most.
+fn room_behind(taken: u64, room: usize) -> usize
+    ensures most { result ≤ room }
+    ensures some { taken ≤ 268435456 → 0 < room → 0 < result }
 {
     let left = (MOST + 1).saturating_sub(taken);
-    usize::try_from(left).unwrap_or(PIECE).min(PIECE)
+    usize::try_from(left).unwrap_or(room).min(room)
 }
 
 /// The next bytes of a file behind so many; none at its end.
@@ -35,15 +38,17 @@ fn next_piece<F: Folder>(
     tree: &F,
     file: &mut F::Reading,
     taken: u64,
-    piece: &mut [u8; PIECE],
+    piece: &mut [u8],
 ) -> Result<usize, Trouble>
-    ensures within { IfOk result (λ count. count ≤ 4096) }
+    requires { 0 < length piece.old }
+    ensures within { IfOk result (λ count. count ≤ length piece.old) }
     ensures read { IsTrue F.tells → IfOk result (λ count. Takes count piece.new (F.rest file.old) (F.rest file.new)) }
 {
     if taken > MOST {
         return Err(failed(Call::Read, Cause::TooLong));
     }
-    tree.read(file, &mut piece[..room_behind(taken)])
+    let room = room_behind(taken, piece.len());
+    tree.read(file, &mut piece[..room])
 }
 
 /// Want of memory.
@@ -56,6 +61,13 @@ pub(crate) fn in_memory<T>(made: Result<T, AllocError>) -> Result<T, FileFault>
     }
 }
 
+/// Room for the pieces in which a file is read that was seen to have so many bytes.
+fn room_for(alloc: Global, size: usize) -> Result<Vec<u8>, AllocError>
+    ensures { IfOk result (λ room. 0 < length room.items) }
+{
+    vec![in alloc; 0; size.clamp(1, LONGEST)]
+}
+
 /// The bytes of an open file, which was seen to have so many.
 fn bytes_of<F: Folder>(
     tree: &F,
@@ -65,10 +77,11 @@ fn bytes_of<F: Folder>(
 ) -> Result<Bytes, FileFault>
     ensures { IsTrue F.tells → IfOk result (λ bytes. bytes ≡ F.rest file.old) }
 {
-    let mut piece = [0u8; PIECE];
+    let mut room = room_for(alloc, size)?;
+    let piece = room.as_mut_slice();
     let mut bytes = Bytes::from_vec(Vec::with_capacity(alloc, size)?);
     for _ in 0..TURNS {
-        let count = next_piece(tree, file, bytes.len() as u64, &mut piece)?;
+        let count = next_piece(tree, file, bytes.len() as u64, piece)?;
         if count == 0 {
             return Ok(bytes);
         }

@@ -1,6 +1,8 @@
 use Rattle.std.proofs.Common.{◌∙◌, ap, sym, subst}
 use Rattle.store_api.specs.Plays.{Comes}
 use Rattle.play_script.specs.declared.scripts.Head.{Head}
+use Rattle.play_collect.specs.Workers.{collecting_rest}
+use Rattle.play_collect.proofs.Stepping.{task-begun}
 use Rattle.play_tasks.specs.Playing.{session_play, headed_play}
 use Rattle.play_tasks.specs.inside.Sessions.{session_rest}
 use Rattle.play_tasks.proofs.Begun.{session-begun}
@@ -14,3 +16,8 @@ returns-in_ok-worker-in-Session c =
     let worker = c.in_ok-worker-in-Session.worker in
     let is = c.in_ok-worker-in-Session.ensures ∙ ap (session_play ids access task.line) c.as_slice-body.ensures in
     subst (λ (head : Head). Comes (headed_play head ids task) (session_rest worker)) (sym c.in-Session.is) (session-begun ids access task.line task.body (session_rest worker) is)
+
+pub returns-in-Collect : goal.returns-in-Collect
+returns-in-Collect c =
+    let task = c.args.task.now in
+    subst (λ (head : Head). Comes (headed_play head c.args.ids task) (collecting_rest c.new-in-Collect.result)) (sym c.in-Collect.is) (task-begun task.line c.in-Collect.cutoff (collecting_rest c.new-in-Collect.result) c.new-in-Collect.ensures)

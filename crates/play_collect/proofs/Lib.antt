@@ -1,0 +1,4 @@
+pub mod Ended
+pub mod Stepping
+pub mod Lasting
+pub mod Telling

@@ -1,0 +1,10 @@
+use Rattle.chunk_gc.specs.Resting.{collect_rest}
+use Rattle.play_collect.specs.Playing.{outcome_of}
+use Rattle.play_collect.proofs.Ended.{live-as, ended-so}
+use Rattle.play_collect.proofs.worker.CollectWorker.has_ended.Goals as goal
+
+pub returns-clause-ended : goal.returns-clause-ended
+returns-clause-ended c = λ e. ended-so (outcome_of c.args.self.now.line) (collect_rest c.args.self.now.collect) (c.has_ended.ensures.ended e)
+
+pub returns-clause-live : goal.returns-clause-live
+returns-clause-live c = λ e. live-as (outcome_of c.args.self.now.line) (collect_rest c.args.self.now.collect) (c.has_ended.ensures.live e)

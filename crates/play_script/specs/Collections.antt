@@ -1,0 +1,15 @@
+-- Which tasks collect.
+use Rattle.std.specs.Prelude.{Bool, true, false, List}
+use Rattle.std.specs.List.{list_any}
+use Rattle.play_script.specs.declared.scripts.Head.{Head}
+use Rattle.play_script.specs.declared.scripts.Head.TheVariants.{Session, Refs, Collect}
+use Rattle.play_script.specs.declared.scripts.Task.{Task}
+
+abbrev pub is_collection : Head → Bool
+is_collection (Session access) = false
+is_collection Refs = false
+is_collection (Collect cutoff) = true
+
+-- whether one of them does
+abbrev pub has_collection : List Task → Bool
+has_collection tasks = list_any (λ t. is_collection t.head) tasks

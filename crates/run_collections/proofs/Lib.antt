@@ -1,0 +1,6 @@
+mod Moments
+mod Taking
+mod Commits
+mod One
+mod Several
+mod Needed
