@@ -18,7 +18,7 @@ use Rattle.store_api.specs.Callers.{View, Called, Waits}
 use Rattle.store_api.specs.Program.{Prog, Done, Ask as Ask_next, is_ask, moves_branch, is_no_memory, Lands, IsSure, Steps, Blames}
 use Rattle.store_api.specs.Plays.{Play, Ended, Ask, Or, call, behind, Comes, Acts, Starved, BlamesEnd}
 use Rattle.store_api.proofs.Programs.{made-done}
-use Rattle.cleanup_reports.specs.declared.Removed.{Removed}
+use Rattle.cleanup_reports.specs.declared.removed.Removed.{Removed}
 use Rattle.chunk_gc.specs.declared.standing.Collected.{Collected}
 use Rattle.chunk_gc.specs.Plays.{tells_failure, sweep, ends_with, after_removal}
 use Rattle.chunk_gc.specs.inside.Collecting.{settled, faults, Blamed, removing_rest, removal_rest}

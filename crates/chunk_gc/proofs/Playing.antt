@@ -16,7 +16,7 @@ use Rattle.store_api.specs.declared.machines.Refusal.TheVariants.{NoMemory}
 use Rattle.store_api.specs.Callers.{Fits, has_failed}
 use Rattle.store_api.specs.Program.{Done, Ask as Ask_next, moves_branch}
 use Rattle.store_api.specs.Plays.{Play, Ended, Ask, Or, call, behind}
-use Rattle.cleanup_reports.specs.declared.Removed.{Removed}
+use Rattle.cleanup_reports.specs.declared.removed.Removed.{Removed}
 use Rattle.collecting.specs.Walks.{Walk, fresh, IsObject, Marked, Doomed, RefsRead, May, ended}
 use Rattle.chunk_gc.specs.Programs.{Answer, mark_program}
 use Rattle.chunk_gc.specs.declared.standing.Collected.{Collected}

@@ -13,7 +13,7 @@ use Rattle.store_api.specs.declared.machines.Refusal.TheVariants.{NoMemory, Stor
 use Rattle.store_api.specs.Program.{is_fault}
 use Rattle.store_api.specs.Plays.{Play, Ended, Ask, call}
 use Rattle.repo_read.specs.Chains.{most_snapshots}
-use Rattle.cleanup_reports.specs.declared.Removed.{Removed}
+use Rattle.cleanup_reports.specs.declared.removed.Removed.{Removed}
 use Rattle.chunk_gc.specs.declared.standing.Collected.{Collected}
 use Rattle.chunk_gc.specs.Programs.{mark_program}
 

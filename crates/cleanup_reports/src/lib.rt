@@ -1,15 +1,8 @@
-//! What a collection reports.
+//! What collections and expiries report.
 #![tactic(auto)]
 
-/// How many objects a collection was told as removed.
-#[derive(Clone, Copy, Debug, PartialEq, Eq)]
-pub struct Removed {
-    /// Snapshots.
-    pub snapshots: u64,
-    /// Transaction logs.
-    pub logs: u64,
-    /// Manifests.
-    pub manifests: u64,
-    /// Objects with chunks.
-    pub chunks: u64,
-}
+mod cases;
+mod removed;
+
+pub use cases::{RefCase, RefCases, What};
+pub use removed::Removed;

@@ -7,6 +7,7 @@ mod changing;
 mod conflicting;
 mod counted;
 mod ends;
+mod expiries;
 mod files;
 mod grids;
 mod kept;

@@ -243,6 +243,14 @@ pub fn refusal_of(alloc: Global, text: &str) -> Result<Refusal, NoAnswer> {
     }
 }
 
+/// What came of something: `-`, or a refusal.
+pub fn result_of(alloc: Global, words: &str) -> Result<Result<(), Refusal>, NoAnswer> {
+    if words == "-" {
+        return Ok(Ok(()));
+    }
+    refusal_of(alloc, words).map(Err)
+}
+
 /// What a report calls a refusal; it is let go.
 fn refusal_told(alloc: Global, why: Refusal) -> Result<String, NoAnswer> {
     let text = play_report::refusal_text(alloc, &why);

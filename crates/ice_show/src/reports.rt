@@ -1,10 +1,11 @@
 //! Reports of runs. ` | ` stands between the opening, the tasks and the refs. A task is a name, what it showed and how it ended:
 //! `c - refused 10 NoNode`; `a 2=/,13:array=/a/b done` showed a group and an array in the lines 2 and 13; `d - collected 3 2 1 40`
-//! collected, and `e - stopped 7 3 2 1 40 StoreFault` was refused in the line 7 behind so many removals. `; ` stands between tasks,
-//! and `, ` between refs like `tag v 1=1CECHNKREP0F1RSTCMT0`. In the place of an opening that went well stands `-`, and a refusal
-//! may stand in that of the refs, behind `!`.
+//! collected, and `e - stopped 7 3 2 1 40 StoreFault` was refused in the line 7 behind so many removals; of `f - expired`
+//! the rest is in `expiries`. `; ` stands between tasks, and `, ` between refs like `tag v 1=1CECHNKREP0F1RSTCMT0`. In the place of an
+//! opening that went well stands `-`, and a refusal may stand in that of the refs, behind `!`.
 
-use crate::refusals::refusal_of;
+use crate::expiries::expired_of;
+use crate::refusals::{refusal_of, result_of};
 use crate::store_keys::id_of;
 use crate::texts::{name_of, path_of};
 use crate::words::{NoAnswer, first_word, number_of, parted, small_number_of, text_of};
@@ -79,6 +80,7 @@ fn end_of(alloc: Global, words: &str) -> Result<End, NoAnswer> {
         "committed" => Ok(End::Committed(id_of(rest)?)),
         "collected" => collected_of(rest),
         "done" => Ok(End::Done),
+        "expired" => expired_of(alloc, rest),
         "refused" => refused_of(alloc, rest),
         "stopped" => stopped_of(alloc, rest),
         _ => Err(NoAnswer::Words),
@@ -133,14 +135,6 @@ fn lines_of(alloc: Global, words: &str) -> Result<RefLines, NoAnswer> {
     Ok(lines)
 }
 
-/// What came of the opening.
-fn opening_of(alloc: Global, words: &str) -> Result<Result<(), Refusal>, NoAnswer> {
-    if words == "-" {
-        return Ok(Ok(()));
-    }
-    refusal_of(alloc, words).map(Err)
-}
-
 /// What came of the closing reading.
 fn refs_of(alloc: Global, words: &str) -> Result<Result<RefLines, Refusal>, NoAnswer> {
     match words.strip_prefix('!') {
@@ -171,7 +165,7 @@ fn text_of_ends(
     opening: &str,
     refs: &str,
 ) -> Result<Vec<u8>, NoAnswer> {
-    let opening = opening_of(alloc, opening)?;
+    let opening = result_of(alloc, opening)?;
     let text = text_of_refs(alloc, names, &opening, outcomes, refs);
     drop(opening);
     text

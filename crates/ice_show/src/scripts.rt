@@ -200,12 +200,34 @@ fn push_access(told: &mut String, access: &Access) -> Result<(), AllocError> {
     }
 }
 
+/// Appends before when a task expires, and which refs it drops.
+fn push_expires(
+    told: &mut String,
+    cutoff: u64,
+    drop_branches: bool,
+    drop_tags: bool,
+) -> Result<(), AllocError> {
+    write!(told, "expires before {cutoff}")?;
+    if drop_branches {
+        told.push_str(" branches")?;
+    }
+    if drop_tags {
+        told.push_str(" tags")?;
+    }
+    Ok(())
+}
+
 /// Appends what a task does.
 fn push_head(told: &mut String, head: &Head) -> Result<(), AllocError> {
     match head {
         Head::Session(access) => push_access(told, access),
         Head::Refs => told.push_str("refs"),
         Head::Collect { cutoff } => write!(told, "collects before {cutoff}"),
+        Head::Expire {
+            cutoff,
+            drop_branches,
+            drop_tags,
+        } => push_expires(told, *cutoff, *drop_branches, *drop_tags),
     }
 }
 

@@ -1,4 +1,3 @@
-pub mod Ended
 pub mod Stepping
 pub mod Lasting
 pub mod Telling

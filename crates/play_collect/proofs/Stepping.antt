@@ -2,14 +2,14 @@
 use Rattle.std.proofs.Common.{◌≡◌, refl, ℕ, Result, Ok, Err}
 use Rattle.store_api.specs.declared.machines.Refusal.{Refusal}
 use Rattle.store_api.specs.Callers.{View}
-use Rattle.store_api.specs.Plays.{Play, Comes, Acts}
-use Rattle.cleanup_reports.specs.declared.Removed.{Removed}
+use Rattle.store_api.specs.Plays.{Play, Comes, Acts, ended_as}
+use Rattle.cleanup_reports.specs.declared.removed.Removed.{Removed}
 use Rattle.chunk_gc.specs.declared.standing.Collected.{Collected}
 use Rattle.chunk_gc.specs.Plays.{refused_by_fault, tells_failure}
 use Rattle.play_outcome.specs.declared.outcome.Outcome.{Outcome}
 use Rattle.play_outcome.specs.Ending.{end_failed, is_failed}
-use Rattle.play_collect.specs.Playing.{end_by, outcome_of, ended_as, collect_task}
-use Rattle.play_collect.proofs.Ended.{acts-as}
+use Rattle.play_collect.specs.Playing.{end_by, outcome_of, collect_task}
+use Rattle.store_api.proofs.Ended.{acts-as}
 
 -- the task's outcome tells a fault of the store where the collection's does
 same-fault : (line : ℕ) (removed : Removed) (result : Result (Unit {0}) Refusal) → end_failed (end_by line removed result) ≡ refused_by_fault result

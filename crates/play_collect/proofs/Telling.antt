@@ -9,7 +9,7 @@ use Rattle.chunk_gc.specs.Laws.{CollectLaw}
 use Rattle.play_collect.specs.Playing.{outcome_of}
 use Rattle.play_collect.specs.Telling.{CollectedTells}
 use Rattle.play_collect.specs.Laws.{CollectTaskLaw}
-use Rattle.play_collect.proofs.Ended.{keeps-both, leads-as}
+use Rattle.store_api.proofs.Ended.{keeps-both, leads-as}
 
 task-tells : (line cutoff client : ℕ) (start : List Event) (c : Collected) (journal : List Event) → CollectTells cutoff client start c journal → CollectedTells line cutoff client start (outcome_of line c) journal
 task-tells line cutoff client start c journal t = record { collected = c; is = refl; tells = t }

@@ -1,8 +1,8 @@
 -- The play of a task that collects: one call of a collection, and how the task ends by it. (Own.)
 use Rattle.std.specs.Prelude.{ℕ, [], Result, Ok, Err}
 use Rattle.store_api.specs.declared.machines.Refusal.{Refusal}
-use Rattle.store_api.specs.Plays.{Play, Ended, Ask, Or}
-use Rattle.cleanup_reports.specs.declared.Removed.{Removed}
+use Rattle.store_api.specs.Plays.{Play, ended_as}
+use Rattle.cleanup_reports.specs.declared.removed.Removed.{Removed}
 use Rattle.chunk_gc.specs.declared.standing.Collected.{Collected}
 use Rattle.chunk_gc.specs.Plays.{collect_play}
 use Rattle.play_outcome.specs.declared.outcome.End.{End}
@@ -16,12 +16,6 @@ end_by line removed (Err why) = end.Stopped line why removed
 
 abbrev pub outcome_of : (line : ℕ) → Collected → Outcome
 outcome_of line c = record { shown = []; end = end_by line c.removed c.result }
-
--- a play, with its outcome told as another one
-abbrev pub ended_as : {A B : Type 0} → (A → B) → Play A → Play B
-ended_as f (Ended a) = Ended (f a)
-ended_as f (Ask op starved next) = Ask op (ended_as f starved) (λ reply. ended_as f (next reply))
-ended_as f (Or p q) = Or (ended_as f p) (ended_as f q)
 
 abbrev pub collect_task : (line cutoff : ℕ) → Play Outcome
 collect_task line cutoff = ended_as (outcome_of line) (collect_play cutoff)

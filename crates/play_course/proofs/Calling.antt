@@ -1,5 +1,5 @@
 -- What calls on refs answer in a run over an empty store.
-use Rattle.std.proofs.Common.{◌≡◌, ℕ, zero, suc, Bool, true, false, cond, List, [], ◌∷◌, ◌++◌, map, refl, sym, ◌∙◌, ap, subst}
+use Rattle.std.proofs.Common.{◌≡◌, ℕ, zero, suc, Bool, true, false, cond, List, [], ◌∷◌, ◌++◌, map, refl, sym, subst}
 use Rattle.std.specs.Prelude.{Option, Some, None, Result, Ok, Err}
 use Rattle.ice_base.specs.Names.{main_name, same_name}
 use Rattle.ice_ids.specs.declared.Id12.{Id12}
@@ -24,12 +24,11 @@ use Rattle.object_store.specs.declared.events.Event.{Event}
 use Rattle.store_api.specs.declared.machines.Refusal.{Refusal}
 use Rattle.store_api.specs.declared.machines.Refusal.TheVariants as R
 use Rattle.object_store.specs.Machine.{Stored, found}
-use Rattle.store_api.specs.Journal.{Each, WasPut, ParentPut, snap_in, snap_made}
+use Rattle.store_api.specs.Journal.{Each, WasPut}
 use Rattle.store_api.specs.Program.{Done, Ask}
 use Rattle.store_api.specs.Plays.{Play}
 use Rattle.store_api.specs.Running.{Program, on_answer}
 use Rattle.object_store.proofs.Slots.{WasPut-append}
-use Rattle.store_api.proofs.Standing.{snap_made-append}
 use Rattle.repo_read.specs.declared.answers.Resolved.{Resolved}
 use Rattle.repo_read.specs.declared.resolving.At.{At}
 use Rattle.repo_read.specs.declared.resolving.Named.{Named}
@@ -53,7 +52,8 @@ use Rattle.play_outcome.specs.declared.outcome.Outcome.{Outcome}
 use Rattle.play_outcome.specs.Playing.{refused}
 use Rattle.play_refs.specs.Playing.{Rest, logged, unseen, ref_play, after_ref, play_ref_line, refs_play}
 use Rattle.play_course.specs.Refusing.{is_strange, strange_end}
-use Rattle.play_course.proofs.Tidy.{Client, stands-readable, stands-first, put-stands, all-named}
+use Rattle.play_course.proofs.Tidy.{Client, stands-readable, put-stands}
+use Rattle.play_course.proofs.Parents.{comes-from}
 use Rattle.play_course.proofs.Meeting.{was-read, Meets, PlayMeets, done-meets, ask-meets, then-meets, got-meets, ended-meets, or-meets, call-meets}
 use Rattle.play_course.proofs.Knowing.{IsKept, OfOthers, OfOwn, beside, kept-next, kept-others, missing-plain}
 use Rattle.play_course.proofs.Naming.{Names, Reads, Resolves, branch-read, tag-read, Tags, resolve-meets}
@@ -266,10 +266,9 @@ module _ (client : Client) (ids : AnyIds) where
       → Meets Knows (beside client ids) (rest left seen (at_key (Snapshot id) (read_snapshot id s.bytes))) (journal ++ event ∷ [])
   read-meets left seen id journal event s t own at go f read =
       let after : Kept (journal ++ event ∷ []) = kept-own journal event own t in
-      let made : snap_made journal id ≡ Some f = ap (snap_in id) (stands-first (Snapshot id) tt journal s t.tidy t.so_far.once at) ∙ read in
-      let made_after : snap_made (journal ++ event ∷ []) id ≡ Some f = snap_made-append journal (event ∷ []) id f made in
+      let from = comes-from journal t.tidy t.so_far.once id s f at read in
       subst (λ (r : Result SnapshotFile Bad). Meets Knows (beside client ids) (rest left seen (at_key (Snapshot id) r)) (journal ++ event ∷ [])) (sym (was-read (read_snapshot id s.bytes) f read))
-      (parent-meets left seen f (journal ++ event ∷ []) after (λ parent e. subst (ParentPut (journal ++ event ∷ [])) made_after ((all-named (journal ++ event ∷ []) after.tidy).parents id) parent e) go f.parent refl)
+      (parent-meets left seen f (journal ++ event ∷ []) after (λ parent e. WasPut-append journal (event ∷ []) (Snapshot parent) (from parent e).0) go f.parent refl)
 
   walk-meets : (left : ℕ) → WalksOn left
   unfolding walk

@@ -10,29 +10,19 @@ use Rattle.object_store.specs.declared.events.Reply.TheVariants.{Got as Is_got, 
 use Rattle.object_store.specs.declared.events.Event.{Event}
 use Rattle.store_api.specs.declared.machines.Refusal.{Refusal}
 use Rattle.store_api.specs.declared.machines.Refusal.TheVariants as R
-use Rattle.store_api.specs.Plays.{Play, Ended, Ask, Or}
+use Rattle.store_api.specs.Plays.{Play}
 use Rattle.repo_read.specs.Chains.{most_snapshots}
-use Rattle.cleanup_reports.specs.declared.Removed.{Removed}
+use Rattle.cleanup_reports.specs.declared.removed.Removed.{Removed}
 use Rattle.chunk_gc.specs.declared.standing.Collected.{Collected}
 use Rattle.chunk_gc.specs.Programs.{mark_program}
 use Rattle.chunk_gc.specs.Plays.{nothing, counted, ends_with, after_removal, sweep, after_marking, collect_play}
 use Rattle.play_outcome.specs.declared.outcome.Outcome.{Outcome}
-use Rattle.play_collect.specs.Playing.{end_by, outcome_of, ended_as, collect_task}
+use Rattle.play_collect.specs.Playing.{end_by, outcome_of, collect_task}
 use Rattle.play_course.specs.Refusing.{is_strange, strange_end}
 use Rattle.play_course.proofs.Tidy.{Client}
-use Rattle.play_course.proofs.Meeting.{Watch, PlayMeets, ended-meets, call-meets}
+use Rattle.play_course.proofs.Meeting.{PlayMeets, ended-as_meets, ended-meets, call-meets}
 use Rattle.play_course.proofs.Knowing.{IsKept, beside}
 use Rattle.play_course.proofs.Marking.{MarksWell, marks-meet}
-
--- a play whose end is told as another one
-ended-as : {A B : Type 0} (f : A → B) (Q : B → Type 0) (watch : Watch) (p : Play A) (journal : List Event) → PlayMeets (λ a. Q (f a)) watch p journal → PlayMeets Q watch (ended_as f p) journal
-unfolding PlayMeets
-ended-as f Q watch (Ended a) journal m = m
-ended-as f Q watch (Ask op starved next) journal m = (
-  ended-as f Q watch starved journal m.0,
-  λ more event others own is. ended-as f Q watch (next event.reply) ((journal ++ more) ++ event ∷ []) (m.1 more event others own is),
-)
-ended-as f Q watch (Or p q) journal m = (ended-as f Q watch p journal m.0, ended-as f Q watch q journal m.1)
 
 module _ (client : Client) (ids : AnyIds) (law : SnapshotLaw) (collects : client.collects ≡ true) (line : ℕ) where
   -- it ends by no strange refusal
@@ -71,6 +61,6 @@ module _ (client : Client) (ids : AnyIds) (law : SnapshotLaw) (collects : client
   -- a collection of this client is refused as it may be
   pub collection-meets : (cutoff : ℕ) (journal : List Event) → IsKept client journal → PlayMeets (λ o. strange_end client.collects o.end ≡ false) (beside client ids) (collect_task line cutoff) journal
   collection-meets cutoff journal k =
-      ended-as (outcome_of line) (λ (o : Outcome). strange_end client.collects o.end ≡ false) (beside client ids) (collect_play cutoff) journal
+      ended-as_meets (outcome_of line) (λ (o : Outcome). strange_end client.collects o.end ≡ false) (beside client ids) (collect_play cutoff) journal
       (call-meets Ends (beside client ids) (MarksWell client ids law collects) (mark_program most_snapshots cutoff) (after_marking nothing) journal (marks-meet client ids law collects most_snapshots cutoff journal k)
       marked-meets (λ h. ends nothing R.NoMemory h refl))

@@ -43,14 +43,7 @@ plain-puts initial (PutNew (Chunk id) bytes why) p = absurd p
 plain-puts initial (PutNew (Tag name) bytes why) p = tt
 plain-puts initial (PutNew (TagGone name) bytes why) p = tt
 plain-puts initial (PutNew (Lease id) bytes why) p = absurd p
-plain-puts initial (PutOver (Branch name) bytes old why) p = tt
-plain-puts initial (PutOver (Snapshot id) bytes old why) p = absurd p.0
-plain-puts initial (PutOver (Manifest id) bytes old why) p = absurd p.0
-plain-puts initial (PutOver (Txn id) bytes old why) p = absurd p.0
-plain-puts initial (PutOver (Chunk id) bytes old why) p = absurd p.0
-plain-puts initial (PutOver (Tag name) bytes old why) p = absurd p.0
-plain-puts initial (PutOver (TagGone name) bytes old why) p = absurd p.0
-plain-puts initial (PutOver (Lease id) bytes old why) p = absurd p.0
+plain-puts initial (PutOver key bytes old why) p = tt
 plain-puts initial (Remove key why) p = absurd p
 plain-puts initial (RemoveAt key old why) p = p
 

@@ -219,5 +219,6 @@ module _ (ids : AnyIds) (task : Task) (client : ℕ) (start journal : List Event
       by_end (E.Collected removed) e f = refl
       by_end E.Done e f = refl
       by_end (E.Stopped line why removed) e plain = plain
+      by_end (E.Expired line cases result) e plain = plain
       by_end (E.Refused line why) e (inl plain) = plain
       by_end (E.Refused line why) e (inr h) = absurd (never-told outcome line why e h t)

@@ -1,6 +1,7 @@
 pub mod Leaving
 mod Playing
 mod Tidy
+mod Parents
 mod Meeting
 mod Knowing
 mod Holding
@@ -15,5 +16,7 @@ mod Tasks
 mod Edges
 mod Marking
 mod Collecting
+mod Looking
+mod Expiring
 mod Hiding
 mod Whole

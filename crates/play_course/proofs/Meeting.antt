@@ -18,7 +18,7 @@ use Rattle.store_api.specs.declared.machines.Refusal.TheVariants.{NoMemory}
 use Rattle.object_store.specs.Machine.{Stored, found, version_at, got_of, new_of, IsHonest, UnlessFailed}
 use Rattle.store_api.specs.Journal.{Each, IsGood}
 use Rattle.store_api.specs.Program.{Prog, Done, Ask, bind, Path, moves_branch, events_of}
-use Rattle.store_api.specs.Plays.{Play, Ended, Ask as Ask_play, Or, call, behind, Comes}
+use Rattle.store_api.specs.Plays.{Play, Ended, Ask as Ask_play, Or, call, behind, Comes, ended_as}
 use Rattle.object_store.proofs.Journals.{Each-append, Each-none}
 use Rattle.store_api.specs.Running.{Program, ◌>>=◌, on_answer}
 use Rattle.play_tasks.specs.Played.{StartsWith, PlaysTo}
@@ -100,10 +100,25 @@ play-weaker Q R f watch (Ended a) journal m = f a m
 play-weaker Q R f watch (Ask_play op starved next) journal m = (play-weaker Q R f watch starved journal m.0, λ more event others own is. play-weaker Q R f watch (next event.reply) ((journal ++ more) ++ event ∷ []) (m.1 more event others own is))
 play-weaker Q R f watch (Or p q) journal m = (play-weaker Q R f watch p journal m.0, play-weaker Q R f watch q journal m.1)
 
+-- a play whose end is told as another one
+pub ended-as_meets : {A B : Type 0} (f : A → B) (Q : B → Type 0) (watch : Watch) (p : Play A) (journal : List Event) → PlayMeets (λ a. Q (f a)) watch p journal → PlayMeets Q watch (ended_as f p) journal
+unfolding PlayMeets
+ended-as_meets f Q watch (Ended a) journal m = m
+ended-as_meets f Q watch (Ask_play op starved next) journal m = (
+  ended-as_meets f Q watch starved journal m.0,
+  λ more event others own is. ended-as_meets f Q watch (next event.reply) ((journal ++ more) ++ event ∷ []) (m.1 more event others own is),
+)
+ended-as_meets f Q watch (Or p q) journal m = (ended-as_meets f Q watch p journal m.0, ended-as_meets f Q watch q journal m.1)
+
 module _ {A : Type 0} (Q : A → Type 0) (watch : Watch) where
   pub ended-meets : (a : A) (journal : List Event) → Q a → PlayMeets Q watch (Ended a) journal
   unfolding PlayMeets
   ended-meets a journal q = q
+
+  pub play-asks : (op : Op) (starved : Play A) (next : Reply → Play A) (journal : List Event) → PlayMeets Q watch starved journal
+      → ((more : List Event) (event : Event) → Each watch.others journal more → watch.own (journal ++ more) event → event.op ≡ op → PlayMeets Q watch (next event.reply) ((journal ++ more) ++ event ∷ [])) → PlayMeets Q watch (Ask_play op starved next) journal
+  unfolding PlayMeets
+  play-asks op starved next journal m f = (m, f)
 
   pub meets-ended : (a : A) (journal : List Event) → PlayMeets Q watch (Ended a) journal → Q a
   unfolding PlayMeets

@@ -30,12 +30,11 @@ use Rattle.store_api.specs.declared.machines.Refusal.{Refusal}
 use Rattle.zarr_tree.specs.declared.edit.EditFault.TheVariants as E
 use Rattle.store_api.specs.declared.machines.Refusal.TheVariants as R
 use Rattle.object_store.specs.Machine.{Stored, found, first_put, version_at}
-use Rattle.store_api.specs.Journal.{Each, IsGood, IsOnce, WasPut, ParentPut, lists_of, snap_in, snap_made}
+use Rattle.store_api.specs.Journal.{Each, IsGood, IsOnce, WasPut, lists_of}
 use Rattle.store_api.specs.Program.{Done, Ask}
 use Rattle.store_api.specs.Running.{Program, ◌>>=◌, on_answer}
 use Rattle.object_store.proofs.Journals.{Each-one}
 use Rattle.object_store.proofs.Slots.{WasPut-append, found-stood, sound}
-use Rattle.store_api.proofs.Standing.{snap_made-append}
 use Rattle.store_api.proofs.Telling.{Had}
 use Rattle.repo_read.specs.declared.answers.Resolved.{Resolved}
 use Rattle.repo_read.specs.Answers.{at_key, resolved_at, ref_told, snapshot_told, log_told}
@@ -48,9 +47,10 @@ use Rattle.rebase.specs.Along.{Link, left_at, solved_at, first_hidden}
 use Rattle.rebase.specs.Rebasing.{Commits, head_of, walk_down, if_solved, solve_link, solve_program, on_head, over_commits, after_ref, rebase_program}
 use Rattle.rebase.proofs.Walking.{IsHead, IsHead-append, got-head}
 use Rattle.rebase.proofs.Moving.{IsLess, HasNamed, HasNamed-append, same-opened, moved-opened}
-use Rattle.run_histories.specs.Runs.{IsChildOf, HasCause}
+use Rattle.run_histories.specs.Runs.{HasCause}
 use Rattle.play_course.specs.Refusing.{is_strange}
-use Rattle.play_course.proofs.Tidy.{Client, IsAny, stands-readable, stands-first, put-stands, all-named}
+use Rattle.play_course.proofs.Tidy.{Client, IsAny, stands-readable, put-stands, all-named}
+use Rattle.play_course.proofs.Parents.{ComesFrom, HasParent, comes-from, comes-more, log-stands_first, parent-more}
 use Rattle.play_course.proofs.Meeting.{was-read, Meets, done-meets, ask-meets, then-meets, got-meets}
 use Rattle.play_course.proofs.Knowing.{IsSoFar, OfOwn, beside, good-others, missing-plain}
 use Rattle.play_course.proofs.Holding.{MayCommit, may-others, may-got}
@@ -70,20 +70,13 @@ abbrev pub IsFine : (collects : Bool) → Refusal → Type 0
 IsFine collects why = (is_strange collects why ≡ false) ⊎ SaysHidden why
 
 -- ---- commits
--- the snapshot named a parent when it was first put
-pub record HasParent (journal : List Event) (f : SnapshotFile) : Type 0 where
-  pub parent : Id12
-  pub child : IsChildOf journal parent f.id
-
 abbrev AllParents : List Event → List SnapshotFile → Type 0
 AllParents journal [] = Unit {0}
-AllParents journal (f ∷ fs) = HasParent journal f × AllParents journal fs
+AllParents journal (f ∷ fs) = HasParent journal f.id × AllParents journal fs
 
 parents-more : (journal more : List Event) (fs : List SnapshotFile) → AllParents journal fs → AllParents (journal ++ more) fs
 parents-more journal more [] all = tt
-parents-more journal more (f ∷ fs) all =
-    let p = all.0 in
-    (record { parent = p.parent; child = record { snap = p.child.snap; made = snap_made-append journal more f.id p.child.snap p.child.made; parent = p.child.parent } }, parents-more journal more fs all.1)
+parents-more journal more (f ∷ fs) all = (parent-more journal more f.id all.0, parents-more journal more fs all.1)
 
 -- its log was put, and reads as this where it stands; and it does where no task collects
 record LogStands (collects : Bool) (journal : List Event) (id : Id12) : Type 0 where
@@ -106,12 +99,12 @@ was-log id (Some bytes) lists e = by_log (log_by id bytes) refl e
     by_log None f g = absurd cc
     by_log (Some log) f g = record { bytes = bytes; put_is = refl; log = log; read = f }
 
-log-stands : (collects : Bool) (journal : List Event) (f : SnapshotFile) → Each IsAny [] journal → IsSoFar collects journal → HasParent journal f → LogStands collects journal f.id
+log-stands : (collects : Bool) (journal : List Event) (f : SnapshotFile) → Each IsAny [] journal → IsSoFar collects journal → HasParent journal f.id → LogStands collects journal f.id
 log-stands collects journal f tidy so_far p = record {
   log = was.log;
   there = λ none. put-stands (Txn f.id) tt journal (so_far.stand none) (was.bytes, was.put_is);
   read = λ s e.
-      let same : was.bytes ≡ s.bytes = some-same was.bytes s.bytes (sym was.put_is ∙ stands-first (Txn f.id) tt journal s tidy so_far.once e) in
+      let same : was.bytes ≡ s.bytes = some-same was.bytes s.bytes (sym was.put_is ∙ log-stands_first f.id journal s tidy so_far.once e) in
       ap (log_by f.id) (sym same) ∙ was.read;
 }
   where
@@ -190,7 +183,7 @@ module _ (client : Client) (ids : AnyIds) (law : SnapshotLaw) (policy : Policy) 
     record WasRead (next : Id12) (f : SnapshotFile) (journal : List Event) : Type 0 where
       head : IsHead next f journal
       own : f.id ≡ next
-      made : snap_made journal next ≡ Some f
+      from : ComesFrom journal next f
 
     read-here : (next : Id12) (st : Stored) (f : SnapshotFile) (journal : List Event) → Each IsAny [] journal → IsOnce journal → found journal (Snapshot next) ≡ Some st → snapshot_by next st.bytes ≡ Some f → WasRead next f journal
     read-here next st f journal tidy once at read =
@@ -199,25 +192,25 @@ module _ (client : Client) (ids : AnyIds) (law : SnapshotLaw) (policy : Policy) 
         record {
           head = got-head law next st.bytes st.version f journal had (was-read (read_snapshot next st.bytes) f read);
           own = law.own next st.bytes f read;
-          made = ap (snap_in next) (stands-first (Snapshot next) tt journal st tidy once at) ∙ read;
+          from = comes-from journal tidy once next st f at read;
         }
 
     read-more : (next : Id12) (f : SnapshotFile) (journal more : List Event) → Each IsGood journal more → WasRead next f journal → WasRead next f (journal ++ more)
-    read-more next f journal more good r = record { head = IsHead-append next f journal more good r.head; own = r.own; made = snap_made-append journal more next f r.made }
+    read-more next f journal more good r = record { head = IsHead-append next f journal more good r.head; own = r.own; from = comes-more journal more next f r.from }
 
     abbrev GoesDown : ℕ → List SnapshotFile → Type 0
     GoesDown left above = (next : Id12) (journal : List Event) → Walks above next journal → Meets WalksWell (beside client ids) (walk_down s.base named.id left above next) journal
 
     -- the snapshot with a parent
     with-parent : (above : List SnapshotFile) (next parent : Id12) (f : SnapshotFile) (h : List Event) → Walks above next h → WasRead next f h → f.parent ≡ Some parent → AllParents h (f ∷ above)
-    with-parent above next parent f h w r e = (record { parent = parent; child = record { snap = f; made = subst (λ (id : Id12). snap_made h id ≡ Some f) (sym r.own) r.made; parent = e } }, w.parents)
+    with-parent above next parent f h w r e = (subst (HasParent h) (sym r.own) (r.from parent e).1, w.parents)
 
     parent-meets : (left : ℕ) (above : List SnapshotFile) (next : Id12) (f : SnapshotFile) (h : List Event) → Walks above next h → WasRead next f h → GoesDown left (f ∷ above) → (o : Option Id12) → f.parent ≡ o → Meets WalksWell (beside client ids) (behind s.base named.id left above f o) h
     parent-meets left above next f h w r go None e = done-meets WalksWell (beside client ids) (Err (R.NotAncestor named.id)) h refl
     parent-meets left above next f h w r go (Some parent) e = by_base (same_id12 parent s.base)
       where
         put : WasPut h (Snapshot parent)
-        put = subst (ParentPut h) r.made ((all-named h w.may.before.tidy).parents next) parent e
+        put = (r.from parent e).0
 
         by_base : (b : Bool) → Meets WalksWell (beside client ids) (cond b (Done (Ok (record { oldest = f; later = above }))) (walk_down s.base named.id left (f ∷ above) parent)) h
         by_base true = done-meets WalksWell (beside client ids) (Ok (record { oldest = f; later = above })) h (record { may = w.may; branch = w.branch; parents = with-parent above next parent f h w r e; top = top-read named.id above next f h w.top r.head })

@@ -63,7 +63,7 @@ use Rattle.run_histories.specs.Sources.{NodesAreNew}
 use Rattle.run_histories.proofs.Drawing.{edited-draws, text-draws, taken-draws, access-ids}
 use Rattle.run_histories.proofs.Edits.{Edits, edit-later, edit-goes, edit-base, own-stay}
 use Rattle.run_histories.proofs.Editing.{Leads, call-leads}
-use Rattle.play_course.specs.Refusing.{is_strange}
+use Rattle.play_course.specs.Refusing.{is_strange, strange_end}
 use Rattle.play_course.proofs.Tidy.{Client, AreIts}
 use Rattle.play_course.proofs.Meeting.{PlayMeets, ended-meets, or-meets, call-meets}
 use Rattle.play_course.proofs.Knowing.{Before, beside, before-later, plain-beside}
@@ -217,6 +217,7 @@ EndsFine collects (E.Collected removed) = Unit {0}
 EndsFine collects E.Done = Unit {0}
 EndsFine collects (E.Refused line why) = IsFine collects why
 EndsFine collects (E.Stopped line why removed) = is_strange collects why ≡ false
+EndsFine collects (E.Expired line cases result) = strange_end collects (E.Expired line cases result) ≡ false
 
 module _ (client : Client) (ids : AnyIds) where
   abbrev Knows : SessionState → List Event → Type 0

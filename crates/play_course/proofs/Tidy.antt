@@ -1,14 +1,12 @@
 -- What stands in the journal of a run over an empty store.
-use Rattle.std.proofs.Common.{◌≡◌, ◌≢◌, ℕ, ◌⊎◌, inl, inr, Bool, true, false, List, [], ◌∷◌, ◌++◌, length, refl, sym, ◌∙◌, ap, subst, append_assoc, append-nil}
-use Rattle.std.specs.Prelude.{◌≤◌, Option, Some, None, bytes_eq}
-use Rattle.std.specs.Option.{option_or}
+use Rattle.std.proofs.Common.{◌≡◌, ◌≢◌, ℕ, ◌⊎◌, inl, inr, Bool, true, false, List, [], ◌∷◌, ◌++◌, length, refl, sym, ap, subst, append_assoc, append-nil}
+use Rattle.std.specs.Prelude.{◌≤◌, Some, None}
 use Rattle.ice_ids.specs.declared.Id12.{Id12}
 use Rattle.ice_ids.specs.declared.drawing.AnyIds.{AnyIds}
 use Rattle.ice_ids.specs.declared.drawing.Draw.{Draw}
 use Rattle.ice_ids.specs.Drawing.{DrawsOnce}
 use Rattle.ice_ids.specs.Text.{initial_id}
 use Rattle.snapshot_file.specs.declared.snapshot.SnapshotFile.{SnapshotFile}
-use Rattle.repo_objects.specs.Laws.{initial_bytes}
 use Rattle.repo_objects.specs.Readings.{snapshot_by}
 use Rattle.object_store.specs.declared.keys.Key.{Key}
 use Rattle.object_store.specs.declared.keys.Key.TheVariants.{Snapshot, Manifest, Txn, Chunk, Branch, Tag, TagGone, Lease}
@@ -16,11 +14,11 @@ use Rattle.object_store.specs.declared.events.Op.{Op}
 use Rattle.object_store.specs.declared.events.Op.TheVariants.{Get, PutNew, PutOver, Remove, RemoveAt, List as ListPart}
 use Rattle.object_store.specs.declared.events.Event.{Event}
 use Rattle.object_store.specs.Machine.{Stored, Slot, slot_of, found, first_put, leaves, put_at, is_on}
-use Rattle.store_api.specs.Journal.{Each, IsFirst, IsFirstOp, IsGood, IsOnce, IsUnused, PutsFirst, PutsSnap, WasPut}
+use Rattle.store_api.specs.Journal.{Each, IsCut, IsGood, IsGoodJournal, IsPolite, IsUnused, MayPutOver, WasPut}
 use Rattle.store_api.specs.Laws.{AllNamed}
-use Rattle.object_store.proofs.Journals.{Each-append, Each-both, Each-weaker}
+use Rattle.object_store.proofs.Journals.{Each-append, Each-weaker}
 use Rattle.store_api.proofs.Naming.{names-law}
-use Rattle.object_store.proofs.Slots.{bytes-same, effect-cases, free-cases, id-true, old-cases, slot-append_one, slot-none, same_key-true}
+use Rattle.object_store.proofs.Slots.{effect-cases, free-cases, old-cases, slot-append_one, slot-none, same_key-true}
 use Rattle.collecting.specs.Walks.{IsObject}
 use Rattle.run_histories.proofs.Drawing.{IsDrawnBy, AreOf, drawn-not_initial}
 use Rattle.run_histories.proofs.Programs.{IsBranch}
@@ -30,9 +28,16 @@ use Rattle.run_histories.proofs.Programs.{IsBranch}
 abbrev pub CanRead : Id12 → List ℕ → Type 0
 CanRead id bytes = (s : SnapshotFile) × (snapshot_by id bytes ≡ Some s)
 
--- a new snapshot can be read, and it is the initial one or under one of these ids; so is a log, a manifest, and an object with a chunk
+-- ... that has a parent
+pub record NamesParent (id : Id12) (bytes : List ℕ) : Type 0 where
+  pub snap : SnapshotFile
+  pub read : snapshot_by id bytes ≡ Some snap
+  pub parent : Id12
+  pub parent_is : snap.parent ≡ Some parent
+
+-- a new snapshot can be read, and it is the initial one, or has a parent and is under one of these ids; so is a log, a manifest, and an object with a chunk
 abbrev pub PutsNew : (Id12 → Type 0) → List ℕ → Key → Type 0
-PutsNew who bytes (Snapshot id) = CanRead id bytes × ((id ≡ initial_id) ⊎ who id)
+PutsNew who bytes (Snapshot id) = CanRead id bytes × ((id ≡ initial_id) ⊎ (who id × NamesParent id bytes))
 PutsNew who bytes (Txn id) = who id
 PutsNew who bytes (Manifest id) = who id
 PutsNew who bytes (Chunk id) = who id
@@ -41,23 +46,12 @@ PutsNew who bytes (Tag name) = Unit {0}
 PutsNew who bytes (TagGone name) = Unit {0}
 PutsNew who bytes (Lease id) = who id
 
--- what stands under an id isn't put over
-abbrev pub PutsOver : Key → Type 0
-PutsOver (Snapshot id) = ⊥
-PutsOver (Txn id) = ⊥
-PutsOver (Manifest id) = ⊥
-PutsOver (Chunk id) = ⊥
-PutsOver (Branch name) = Unit {0}
-PutsOver (Tag name) = Unit {0}
-PutsOver (TagGone name) = Unit {0}
-PutsOver (Lease id) = ⊥
-
--- ... and nothing is removed at a version but branches; keys are removed by collections
+-- nothing is removed at a version but branches; keys are removed by collections, and politeness says what is put over
 abbrev pub Puts : (Id12 → Type 0) → Op → Type 0
 Puts who (Get key) = Unit {0}
 Puts who (ListPart part) = Unit {0}
 Puts who (PutNew key bytes why) = PutsNew who bytes key
-Puts who (PutOver key bytes old why) = PutsOver key
+Puts who (PutOver key bytes old why) = Unit {0}
 Puts who (Remove key why) = Unit {0}
 Puts who (RemoveAt key old why) = IsBranch key
 
@@ -67,7 +61,7 @@ pub record IsTidy (who : Id12 → Type 0) (journal : List Event) (event : Event)
   pub puts : Puts who event.op
 
 new-weaker : (who more : Id12 → Type 0) → ((id : Id12) → who id → more id) → (bytes : List ℕ) (key : Key) → PutsNew who bytes key → PutsNew more bytes key
-new-weaker who more f bytes (Snapshot id) p = (p.0, elim p.1 [ inl i ↦ inl i | inr w ↦ inr (f id w) ])
+new-weaker who more f bytes (Snapshot id) p = (p.0, elim p.1 [ inl i ↦ inl i | inr w ↦ inr (f id w.0, w.1) ])
 new-weaker who more f bytes (Txn id) p = f id p
 new-weaker who more f bytes (Manifest id) p = f id p
 new-weaker who more f bytes (Chunk id) p = f id p
@@ -131,15 +125,17 @@ ReadSlot id slot = (s : Stored) → slot.stands ≡ Some s → CanRead id s.byte
 stands-read : (id : Id12) (n time : ℕ) (bytes : List ℕ) (slot : Slot) → CanRead id bytes → ReadSlot id (put_at n time bytes slot)
 stands-read id n time bytes slot can s e = let same : bytes ≡ s.bytes = cc in subst (CanRead id) same can
 
-leaves-read : (who : Id12 → Type 0) (id : Id12) (n time : ℕ) (op : Op) (slot : Slot) → Puts who op → is_on (Snapshot id) op ≡ true → ReadSlot id slot → ReadSlot id (leaves n time op slot)
-leaves-read who id n time (Get key) slot p on r = r
-leaves-read who id n time (ListPart part) slot p on r = r
-leaves-read who id n time (PutNew key bytes why) slot p on r =
-    let at : PutsNew who bytes (Snapshot id) = subst (λ (k : Key). PutsNew who bytes k) (same_key-true key (Snapshot id) on) p in
+leaves-read : (id : Id12) (journal : List Event) (n time : ℕ) (op : Op) (slot : Slot) → IsPolite journal op → Puts (λ i. Unit {0}) op → is_on (Snapshot id) op ≡ true → ReadSlot id slot → ReadSlot id (leaves n time op slot)
+leaves-read id journal n time (Get key) slot g p on r = r
+leaves-read id journal n time (ListPart part) slot g p on r = r
+leaves-read id journal n time (PutNew key bytes why) slot g p on r =
+    let at : PutsNew (λ i. Unit {0}) bytes (Snapshot id) = subst (λ (k : Key). PutsNew (λ i. Unit {0}) bytes k) (same_key-true key (Snapshot id) on) p in
     free-cases (ReadSlot id) slot.stands (put_at n time bytes slot) slot r (λ free. stands-read id n time bytes slot at.0)
-leaves-read who id n time (PutOver key bytes old why) slot p on r = absurd (subst PutsOver (same_key-true key (Snapshot id) on) p)
-leaves-read who id n time (Remove key why) slot p on r = λ s e. absurd cc
-leaves-read who id n time (RemoveAt key old why) slot p on r = absurd (subst IsBranch (same_key-true key (Snapshot id) on) p)
+leaves-read id journal n time (PutOver key bytes old why) slot g p on r =
+    let cut : IsCut journal id old.0 bytes = subst (λ (k : Key). MayPutOver journal bytes old.0 why k) (same_key-true key (Snapshot id) on) g in
+    old-cases (ReadSlot id) old.0 slot.stands (put_at n time bytes slot) slot r (λ s e v. stands-read id n time bytes slot (record cut.snap { parent = Some initial_id }, cut.is))
+leaves-read id journal n time (Remove key why) slot g p on r = λ s e. absurd cc
+leaves-read id journal n time (RemoveAt key old why) slot g p on r = absurd (subst IsBranch (same_key-true key (Snapshot id) on) p)
 
 abbrev AllRead : Id12 → List Event → Type 0
 AllRead id journal = ReadSlot id (slot_of journal (Snapshot id))
@@ -147,7 +143,7 @@ AllRead id journal = ReadSlot id (slot_of journal (Snapshot id))
 read-one : (id : Id12) (journal : List Event) (event : Event) → IsAny journal event → AllRead id journal → AllRead id (journal ++ event ∷ [])
 read-one id journal event t r =
     subst (ReadSlot id) (sym (slot-append_one journal event (Snapshot id)))
-    (effect-cases (ReadSlot id) (Snapshot id) (length journal) (slot_of journal (Snapshot id)) event r (λ on done. leaves-read (λ i. Unit {0}) id (length journal) event.time event.op (slot_of journal (Snapshot id)) t.puts on r))
+    (effect-cases (ReadSlot id) (Snapshot id) (length journal) (slot_of journal (Snapshot id)) event r (λ on done. leaves-read id journal (length journal) event.time event.op (slot_of journal (Snapshot id)) t.good.polite t.puts on r))
 
 read-none : (id : Id12) → AllRead id []
 read-none id = subst (ReadSlot id) (sym (slot-none (Snapshot id))) (λ s e. absurd cc)
@@ -157,7 +153,7 @@ pub stands-readable : (id : Id12) (journal : List Event) (s : Stored) → Each I
 stands-readable id journal s tidy e = along IsAny (AllRead id) (read-one id) [] journal tidy (read-none id) s e
 
 -- ---- what was put stands, where nothing is removed
--- no object is a branch, or put over
+-- no object is a branch
 no-object : (key : Key) → IsObject key → ¬ IsBranch key
 no-object (Snapshot id) o b = b
 no-object (Manifest id) o b = b
@@ -167,16 +163,6 @@ no-object (Branch name) o b = o
 no-object (Tag name) o b = o
 no-object (TagGone name) o b = o
 no-object (Lease id) o b = o
-
-over-no-object : (key : Key) → IsObject key → ¬ PutsOver key
-over-no-object (Snapshot id) o p = p
-over-no-object (Manifest id) o p = p
-over-no-object (Txn id) o p = p
-over-no-object (Chunk id) o p = p
-over-no-object (Branch name) o p = o
-over-no-object (Tag name) o p = o
-over-no-object (TagGone name) o p = o
-over-no-object (Lease id) o p = p
 
 -- no key is removed but a branch
 abbrev pub Keeps : Op → Type 0
@@ -213,108 +199,31 @@ stand-one journal event keeps all key object =
 pub put-stands : (key : Key) → IsObject key → (journal : List Event) → AllStand journal → WasPut journal key → found journal key ≢ None
 put-stands key object journal all put none = let first : first_put journal key ≡ None = all key object none in let was = put.1 in absurd cc
 
--- ---- what stands was put first, where nothing is put again
--- what stands is what was put first, and the initial snapshot was first put with its own bytes
-record IsFirstPut (key : Key) (slot : Slot) : Type 0 where
-  stood : (s : Stored) → slot.stands ≡ Some s → slot.first ≡ Some s.bytes
-  initial : key ≡ Snapshot initial_id → (b : List ℕ) → slot.first ≡ Some b → b ≡ initial_bytes
-
--- these bytes are the first ones
-record AreFirst (key : Key) (bytes : List ℕ) (slot : Slot) : Type 0 where
-  first : option_or slot.first (Some bytes) ≡ Some bytes
-  initial : key ≡ Snapshot initial_id → bytes ≡ initial_bytes
-
-put-first : (key : Key) (n time : ℕ) (bytes : List ℕ) (slot : Slot) → AreFirst key bytes slot → IsFirstPut key (put_at n time bytes slot)
-put-first key n time bytes slot a = record {
-  stood = λ s e. let same : bytes ≡ s.bytes = cc in a.first ∙ ap (λ (b : List ℕ). Some b) same;
-  initial = λ is b e. let same : bytes ≡ b = some-same bytes b (sym a.first ∙ e) in sym same ∙ a.initial is;
-}
-  where
-    some-same : (x y : List ℕ) → Some x ≡ Some y → x ≡ y
-    some-same x y e = cc
-
-none-before : (o : Option (List ℕ)) (bytes : List ℕ) → o ≡ None → option_or o (Some bytes) ≡ Some bytes
-none-before o bytes none = ap (λ (x : Option (List ℕ)). option_or x (Some bytes)) none
-
--- a snapshot
-snapshot-first : (id : Id12) (journal : List Event) (bytes : List ℕ) → PutsSnap journal id bytes → found journal (Snapshot id) ≡ None → IsFirstPut (Snapshot id) (slot_of journal (Snapshot id)) → AreFirst (Snapshot id) bytes (slot_of journal (Snapshot id))
-snapshot-first id journal bytes p free f = by_id (bytes_eq id.0 initial_id.0) refl
-  where
-    id-same : Snapshot id ≡ Snapshot initial_id → id ≡ initial_id
-    id-same e = cc
-
-    again : bytes ≡ initial_bytes → id ≡ initial_id → (o : Option (List ℕ)) → first_put journal (Snapshot id) ≡ o → option_or o (Some bytes) ≡ Some bytes
-    again own is None e = refl
-    again own is (Some b) e = ap (λ (x : List ℕ). Some x) (f.initial (ap (λ (i : Id12). Snapshot i) is) b e ∙ sym own)
-
-    by_id : (b : Bool) → bytes_eq id.0 initial_id.0 ≡ b → AreFirst (Snapshot id) bytes (slot_of journal (Snapshot id))
-    by_id true e =
-        let is : id ≡ initial_id = id-true id initial_id e in
-        record { first = again (p.initial is) is (first_put journal (Snapshot id)) refl; initial = λ same. p.initial is }
-    by_id false e =
-        let other : id ≢ initial_id = λ s. let y : bytes_eq id.0 initial_id.0 ≡ true = subst (λ (i : Id12). bytes_eq id.0 i.0 ≡ true) s (bytes-same id.0) in absurd cc in
-        record { first = none-before (first_put journal (Snapshot id)) bytes (p.other other free); initial = λ same. absurd (other (id-same same)) }
-
-object-first : (key : Key) → IsObject key → (journal : List Event) (bytes : List ℕ) → PutsFirst journal bytes key → found journal key ≡ None → IsFirstPut key (slot_of journal key) → AreFirst key bytes (slot_of journal key)
-object-first (Snapshot id) object journal bytes p free f = snapshot-first id journal bytes p free f
-object-first (Manifest id) object journal bytes p free f = record { first = none-before (first_put journal (Manifest id)) bytes (p.0 free); initial = λ same. absurd cc }
-object-first (Txn id) object journal bytes p free f = record { first = none-before (first_put journal (Txn id)) bytes (p free); initial = λ same. absurd cc }
-object-first (Chunk id) object journal bytes p free f = record { first = none-before (first_put journal (Chunk id)) bytes (p free); initial = λ same. absurd cc }
-object-first (Branch name) object journal bytes p free f = absurd object
-object-first (Tag name) object journal bytes p free f = absurd object
-object-first (TagGone name) object journal bytes p free f = absurd object
-object-first (Lease id) object journal bytes p free f = absurd object
-
--- an event of which both are known
-record IsNext (journal : List Event) (event : Event) : Type 0 where
-  puts : Puts (λ i. Unit {0}) event.op
-  first : IsFirst journal event
-
-module _ (key : Key) (object : IsObject key) where
-  leaves-first : (journal : List Event) (time : ℕ) (op : Op) → Puts (λ i. Unit {0}) op → IsFirstOp journal op → is_on key op ≡ true → IsFirstPut key (slot_of journal key) → IsFirstPut key (leaves (length journal) time op (slot_of journal key))
-  leaves-first journal time (Get k) p f on w = w
-  leaves-first journal time (ListPart part) p f on w = w
-  leaves-first journal time (PutNew k bytes why) p f on w =
-      free-cases (IsFirstPut key) (found journal key) (put_at (length journal) time bytes (slot_of journal key)) (slot_of journal key) w
-      (λ free. put-first key (length journal) time bytes (slot_of journal key) (object-first key object journal bytes (subst (λ (x : Key). PutsFirst journal bytes x) (same_key-true k key on) f) free w))
-  leaves-first journal time (PutOver k bytes old why) p f on w = absurd (over-no-object key object (subst PutsOver (same_key-true k key on) p))
-  leaves-first journal time (Remove k why) p f on w = record { stood = λ s e. absurd cc; initial = w.initial }
-  leaves-first journal time (RemoveAt k old why) p f on w = absurd (no-object key object (subst IsBranch (same_key-true k key on) p))
-
-  first-one : (journal : List Event) (event : Event) → IsNext journal event → IsFirstPut key (slot_of journal key) → IsFirstPut key (slot_of (journal ++ event ∷ []) key)
-  first-one journal event n w =
-      subst (IsFirstPut key) (sym (slot-append_one journal event key))
-      (effect-cases (IsFirstPut key) key (length journal) (slot_of journal key) event w (λ on done. leaves-first journal event.time event.op n.puts (n.first done) on w))
-
-  first-none : IsFirstPut key (slot_of [] key)
-  first-none = subst (IsFirstPut key) (sym (slot-none key)) (record { stood = λ s e. absurd cc; initial = λ is b e. absurd cc })
-
-  pub stands-first : (journal : List Event) (s : Stored) → Each IsAny [] journal → IsOnce journal → found journal key ≡ Some s → first_put journal key ≡ Some s.bytes
-  stands-first journal s tidy once e =
-      let each : Each IsNext [] journal = Each-both IsAny IsFirst IsNext (λ h event t f. record { puts = t.puts; first = f }) [] journal tidy once in
-      (along IsNext (λ h. IsFirstPut key (slot_of h key)) first-one [] journal each first-none).stood s e
+-- ---- what is named was put
+-- each event is good
+pub good-of : (journal : List Event) → Each IsAny [] journal → IsGoodJournal journal
+good-of journal tidy = Each-weaker IsAny IsGood (λ h event t. t.good) [] journal tidy
 
 -- a branch that stands names a snapshot that was put, and so does a tag
 pub all-named : (journal : List Event) → Each IsAny [] journal → AllNamed journal
-all-named journal tidy = names-law journal (Each-weaker IsAny IsGood (λ h event t. t.good) [] journal tidy)
+all-named journal tidy = names-law journal (good-of journal tidy)
 
 -- ---- keys at which nothing stands
--- others put nothing under the ids of this client
-pub record IsSpared (who : Id12 → Type 0) (key : Key) : Type 0 where
-  pub new : (bytes : List ℕ) → ¬ PutsNew who bytes key
-  pub over : ¬ PutsOver key
+-- others put nothing new under the ids of this client
+abbrev pub IsSpared : (Id12 → Type 0) → Key → Type 0
+IsSpared who key = (bytes : List ℕ) → ¬ PutsNew who bytes key
 
 pub spared-snapshot : (client : Client) (id : Id12) → Draws client id → (who : Id12 → Type 0) → ¬ who id → IsSpared who (Snapshot id)
-spared-snapshot client id d who other = record { new = λ bytes p. elim p.1 [ inl i ↦ absurd (drawn-not_initial client.draw client.most client.once client.number id client.small d i) | inr w ↦ other w ]; over = λ p. p }
+spared-snapshot client id d who other bytes p = elim p.1 [ inl i ↦ absurd (drawn-not_initial client.draw client.most client.once client.number id client.small d i) | inr w ↦ other w.0 ]
 
 pub spared-log : (id : Id12) (who : Id12 → Type 0) → ¬ who id → IsSpared who (Txn id)
-spared-log id who other = record { new = λ bytes p. other p; over = λ p. p }
+spared-log id who other bytes p = other p
 
 pub spared-manifest : (id : Id12) (who : Id12 → Type 0) → ¬ who id → IsSpared who (Manifest id)
-spared-manifest id who other = record { new = λ bytes p. other p; over = λ p. p }
+spared-manifest id who other bytes p = other p
 
 pub spared-chunk : (id : Id12) (who : Id12 → Type 0) → ¬ who id → IsSpared who (Chunk id)
-spared-chunk id who other = record { new = λ bytes p. other p; over = λ p. p }
+spared-chunk id who other bytes p = other p
 
 abbrev Free : Slot → Type 0
 Free slot = slot.stands ≡ None
@@ -322,8 +231,8 @@ Free slot = slot.stands ≡ None
 leaves-free : (who : Id12 → Type 0) (key : Key) (n time : ℕ) (op : Op) (slot : Slot) → IsSpared who key → Puts who op → is_on key op ≡ true → Free slot → Free (leaves n time op slot)
 leaves-free who key n time (Get k) slot spared p on f = f
 leaves-free who key n time (ListPart part) slot spared p on f = f
-leaves-free who key n time (PutNew k bytes why) slot spared p on f = absurd (spared.new bytes (subst (λ (x : Key). PutsNew who bytes x) (same_key-true k key on) p))
-leaves-free who key n time (PutOver k bytes old why) slot spared p on f = absurd (spared.over (subst PutsOver (same_key-true k key on) p))
+leaves-free who key n time (PutNew k bytes why) slot spared p on f = absurd (spared bytes (subst (λ (x : Key). PutsNew who bytes x) (same_key-true k key on) p))
+leaves-free who key n time (PutOver k bytes old why) slot spared p on f = old-cases Free old.0 slot.stands (put_at n time bytes slot) slot f (λ s e v. absurd cc)
 leaves-free who key n time (Remove k why) slot spared p on f = refl
 leaves-free who key n time (RemoveAt k old why) slot spared p on f = old-cases Free old.0 slot.stands (record slot { stands = None }) slot f (λ s e v. refl)
 

@@ -27,19 +27,21 @@ use Rattle.commit_path.specs.Owed.{Sessions, OwesNew, Owes}
 use Rattle.commit_path.specs.Single.{PutsNone}
 use Rattle.collecting.specs.Runs.{walk_of}
 use Rattle.collecting.specs.Walks.{MayDo, Walk}
+use Rattle.expiry.specs.declared.terms.Terms.{Terms}
 use Rattle.store_api.specs.Running.{Program, Runs}
 use Rattle.repo_objects.specs.Laws.{InitialLaw, SnapshotLaw}
 use Rattle.repository.specs.Beginning.{begin_program}
 use Rattle.repository.specs.Refs.{refs_program}
 use Rattle.play_script.specs.Collections.{has_collection, is_collection}
 use Rattle.play_script.specs.declared.scripts.Head.{Head}
-use Rattle.play_script.specs.declared.scripts.Head.TheVariants.{Session, Refs, Collect}
+use Rattle.play_script.specs.declared.scripts.Head.TheVariants.{Session, Refs, Collect, Expire}
 use Rattle.play_script.specs.declared.scripts.Script.{Script}
 use Rattle.play_script.specs.declared.scripts.Task.{Task}
 use Rattle.play_script.specs.Well.{IsWell, IsWellTask}
 use Rattle.play_outcome.specs.declared.outcome.End.{End}
 use Rattle.play_outcome.specs.declared.outcome.Outcome.{Outcome}
 use Rattle.play_outcome.specs.declared.outcome.RefLine.{RefLine}
+use Rattle.play_expire.specs.Playing.{terms_of}
 use Rattle.play_tasks.specs.Owing.{OwesBy}
 use Rattle.play_tasks.specs.Playing.{headed_play, task_play}
 use Rattle.play_tasks.specs.Telling.{TellsBy}
@@ -49,7 +51,9 @@ use Rattle.play_tasks.specs.Played.{PlaysTo}
 use Rattle.run_histories.specs.Sources.{NodesAreNew, IsNewRun}
 use Rattle.run_histories.specs.Runs.{IsBy, IsRun, IsSound, RanAlone}
 use Rattle.run_histories.specs.Told.{NoneHidden, RunLaw}
-use Rattle.run_histories.proofs.Programs.{IsPlain, AllPlain, path-plain, begin-plain, refs-plain}
+use Rattle.run_histories.proofs.Expiring.{expiry-keeps, expiry-plain}
+use Rattle.run_histories.proofs.Removals.{IsRemoval}
+use Rattle.run_histories.proofs.Programs.{IsCleanup, IsPlain, IsPlainOrCleanup, AllPlain, path-plain, begin-plain, refs-plain}
 use Rattle.run_histories.proofs.Drawing.{IsDrawnBy, object-draws, drawn-apart, ids_at-of}
 use Rattle.run_histories.proofs.Carrying.{task-draws}
 use Rattle.run_histories.proofs.Along.{owes-plain, well-at}
@@ -63,6 +67,7 @@ use Rattle.play_course.proofs.Tidy.{Client, Draws, IsTidy, IsAny, IsOthers, AllS
 use Rattle.play_course.proofs.Meeting.{Watch, drawing, Meets, PlayMeets, IsWatched, plays-meets, meets-path}
 use Rattle.play_course.proofs.Calling.{calls-meet}
 use Rattle.play_course.proofs.Collecting.{collection-meets}
+use Rattle.play_course.proofs.Expiring.{expiry-meets}
 use Rattle.play_course.proofs.Tasks.{EndsFine, session-meets}
 use Rattle.play_course.proofs.Hiding.{NeverHides, told-plain}
 use Rattle.play_course.proofs.Knowing.{IsSoFar, IsFreeId, OfOthers, OfOwn, Before, beside}
@@ -71,17 +76,19 @@ use Rattle.play_course.proofs.Leaving.{ran-alone, course-run}
 use Rattle.play_course.proofs.Edges.{plain-puts, plain-tidy, begin-meets, refs-meets}
 
 -- ---- the ends of tasks
--- a task on refs ends by no strange refusal, nor does one that collects; one that opens a session by none but one that says that a log hides a node
+-- a task on refs ends by no strange refusal, nor does one that collects or expires; one that opens a session by none but one that says that a log hides a node
 abbrev EndsBy : (collects : Bool) → Head → End → Type 0
 EndsBy collects (Session access) end = EndsFine collects end
 EndsBy collects Refs end = strange_end collects end ≡ false
 EndsBy collects (Collect cutoff) end = strange_end collects end ≡ false
+EndsBy collects (Expire cutoff drop_branches drop_tags) end = strange_end collects end ≡ false
 
 -- what is told of a task says that it isn't by that either
 told-by_head : (collects : Bool) (ids : AnyIds) (task : Task) (client : ℕ) (start journal : List Event) → NeverHides ids task client start journal → (outcome : Outcome) → (head : Head) → task.head ≡ head → TellsBy head ids task client start outcome journal → EndsBy collects head outcome.end → strange_end collects outcome.end ≡ false
 told-by_head collects ids task client start journal never outcome (Session access) is told ends = told-plain ids task client start journal never access is collects outcome told ends
 told-by_head collects ids task client start journal never outcome Refs is told ends = ends
 told-by_head collects ids task client start journal never outcome (Collect cutoff) is told ends = ends
+told-by_head collects ids task client start journal never outcome (Expire cutoff drop_branches drop_tags) is told ends = ends
 
 -- where a task collects, some one does
 collects-at : (tasks : List Task) (place : ℕ) (task : Task) (cutoff : ℕ) → slice_get tasks place ≡ Some task → task.head ≡ Collect cutoff → has_collection tasks ≡ true
@@ -92,7 +99,7 @@ collects-at tasks place task cutoff at head_is =
 -- ---- the events of tasks
 -- an id of a client's is one that it drew
 new-puts : (ids : AnyIds) (mine : Sessions) (who : Id12 → Type 0) → ((h : List Event) (s : SessionState) (id : Id12) → mine h s id → who id) → ((id : Id12) → MayDrawObject ids id → who id) → (journal : List Event) (bytes : List ℕ) (key : Key) → OwesNew ids mine journal bytes key → PutsNew who bytes key
-new-puts ids mine who f g journal bytes (Snapshot id) o = ((o.snap, o.read), inr (f journal o.session id o.is_mine))
+new-puts ids mine who f g journal bytes (Snapshot id) o = ((o.snap, o.read), inr (f journal o.session id o.is_mine, record { snap = o.snap; read = o.read; parent = o.session.base; parent_is = o.parent }))
 new-puts ids mine who f g journal bytes (Txn id) o = g id o
 new-puts ids mine who f g journal bytes (Manifest id) o = g id o
 new-puts ids mine who f g journal bytes (Chunk id) o = g id o
@@ -105,14 +112,7 @@ owes-puts : (ids : AnyIds) (mine : Sessions) (who : Id12 → Type 0) → ((h : L
 owes-puts ids mine who f g journal (Get key) o = tt
 owes-puts ids mine who f g journal (ListPart part) o = tt
 owes-puts ids mine who f g journal (PutNew key bytes why) o = new-puts ids mine who f g journal bytes key o
-owes-puts ids mine who f g journal (PutOver (Branch name) bytes old why) o = tt
-owes-puts ids mine who f g journal (PutOver (Snapshot id) bytes old why) o = absurd o
-owes-puts ids mine who f g journal (PutOver (Txn id) bytes old why) o = absurd o
-owes-puts ids mine who f g journal (PutOver (Manifest id) bytes old why) o = absurd o
-owes-puts ids mine who f g journal (PutOver (Chunk id) bytes old why) o = absurd o
-owes-puts ids mine who f g journal (PutOver (Tag name) bytes old why) o = absurd o
-owes-puts ids mine who f g journal (PutOver (TagGone name) bytes old why) o = absurd o
-owes-puts ids mine who f g journal (PutOver (Lease id) bytes old why) o = absurd o
+owes-puts ids mine who f g journal (PutOver key bytes old why) o = tt
 owes-puts ids mine who f g journal (Remove key why) o = absurd o
 owes-puts ids mine who f g journal (RemoveAt key old why) o = absurd o
 
@@ -125,7 +125,20 @@ may-puts cutoff w who (PutNew key bytes why) m = absurd m
 may-puts cutoff w who (PutOver key bytes old why) m = absurd m
 may-puts cutoff w who (RemoveAt key old why) m = absurd m
 
--- a task that opens a session removes nothing, nor does the opening, the closing reading, or a task on refs
+-- what an expiry owes is plain or cleans up, and what cleans up puts nothing new
+cleanup-puts : (who : Id12 → Type 0) (op : Op) → IsCleanup op → Puts who op
+cleanup-puts who (Get key) c = absurd c
+cleanup-puts who (ListPart part) c = absurd c
+cleanup-puts who (PutNew key bytes why) c = absurd c
+cleanup-puts who (PutOver key bytes old why) c = tt
+cleanup-puts who (Remove key why) c = tt
+cleanup-puts who (RemoveAt key old why) c = absurd c
+
+either-puts : InitialLaw → (who : Id12 → Type 0) (op : Op) → IsPlainOrCleanup op → Puts who op
+either-puts initial who op (inl p) = puts-weaker (λ id. ⊥) who (λ id d. absurd d) op (plain-puts initial op p)
+either-puts initial who op (inr c) = cleanup-puts who op c
+
+-- a task that opens a session removes nothing, nor does the opening, the closing reading, or a task on refs; and an expiry removes no object
 owes-keeps : (ids : AnyIds) (mine : Sessions) (journal : List Event) (op : Op) → Owes ids mine journal op → Keeps op
 owes-keeps ids mine journal (Get key) o = tt
 owes-keeps ids mine journal (ListPart part) o = tt
@@ -142,6 +155,18 @@ plain-keeps (PutOver key bytes old why) p = tt
 plain-keeps (Remove key why) p = absurd p
 plain-keeps (RemoveAt key old why) p = p
 
+cleanup-keeps : (op : Op) → IsCleanup op → ¬ IsRemoval op → Keeps op
+cleanup-keeps (Get key) c stays = tt
+cleanup-keeps (ListPart part) c stays = tt
+cleanup-keeps (PutNew key bytes why) c stays = tt
+cleanup-keeps (PutOver key bytes old why) c stays = tt
+cleanup-keeps (Remove key why) c stays = stays tt
+cleanup-keeps (RemoveAt key old why) c stays = absurd c
+
+either-keeps : (op : Op) → IsPlainOrCleanup op → ¬ IsRemoval op → Keeps op
+either-keeps op (inl p) stays = plain-keeps op p
+either-keeps op (inr c) stays = cleanup-keeps op c stays
+
 module _ (initial : InitialLaw) (draw : Draw) (tasks : List Task) (once : DrawsOnce draw (length tasks)) (wells : All IsWellTask tasks) where
   -- the client of a task
   abbrev client_at : (place : ℕ) → place < length tasks → Client
@@ -156,8 +181,9 @@ module _ (initial : InitialLaw) (draw : Draw) (tasks : List Task) (once : DrawsO
           owes-puts (ids_at draw c.place) (IsOfTask (ids_at draw c.place) c.task (c.place + 1) start) (IsDrawnBy draw (c.place + 1))
           (λ h s id m. task-draws (ids_at draw c.place) c.task (c.place + 1) start h s id (well-at draw tasks wells c.place c.task c.at) m draw (c.place + 1) (ids_at-of draw c.place))
           (λ id m. object-draws draw (c.place + 1) (ids_at draw c.place) id (ids_at-of draw c.place) m) journal event.op o
-      by_head Refs o = puts-weaker (λ id. ⊥) (IsDrawnBy draw (c.place + 1)) (λ id d. absurd d) event.op (plain-puts initial event.op (owes-plain event.op o))
+      by_head Refs o = either-puts initial (IsDrawnBy draw (c.place + 1)) event.op (inl (owes-plain event.op o))
       by_head (Collect cutoff) o = may-puts cutoff (walk_of cutoff (c.place + 1) start journal) (IsDrawnBy draw (c.place + 1)) event.op o.may.1
+      by_head (Expire cutoff drop_branches drop_tags) o = either-puts initial (IsDrawnBy draw (c.place + 1)) event.op (expiry-plain (terms_of cutoff drop_branches drop_tags) (c.place + 1) start journal event.op o)
 
   anybody : (start journal : List Event) (event : Event) → IsOfClient draw tasks start journal event → IsAny journal event
   anybody start journal event c = any-of (IsDrawnBy draw (c.place + 1)) journal event (client-tidy start journal event c)
@@ -170,6 +196,9 @@ module _ (initial : InitialLaw) (draw : Draw) (tasks : List Task) (once : DrawsO
       by_head (Session access) is o = owes-keeps (ids_at draw c.place) (IsOfTask (ids_at draw c.place) c.task (c.place + 1) start) journal event.op o
       by_head Refs is o = plain-keeps event.op (owes-plain event.op o)
       by_head (Collect cutoff) is o = let both = sym (collects-at tasks c.place c.task cutoff c.at is) ∙ nobody in absurd cc
+      by_head (Expire cutoff drop_branches drop_tags) is o =
+          let t : Terms = terms_of cutoff drop_branches drop_tags in
+          either-keeps event.op (expiry-plain t (c.place + 1) start journal event.op o) (expiry-keeps t (c.place + 1) start journal event.op o)
 
   -- two clients of tasks draw no id both
   apart : (a b : ℕ) (id : Id12) → a < length tasks → b < length tasks → IsDrawnBy draw (a + 1) id → IsDrawnBy draw (b + 1) id → a + 1 ≡ b + 1
@@ -304,11 +333,12 @@ module _ (initial : InitialLaw) (run : RunLaw) (draw : Draw) (tasks : List Task)
         nodes = λ none new. nodes-stay journal event c.1 (λ e p. none p) new;
       }
 
-      -- of a task that opens a session, calls on refs, or collects
+      -- of a task that opens a session, calls on refs, collects, or expires
       headed-well : SnapshotLaw → (task : Task) → slice_get tasks k ≡ Some task → Before client ids begun → NodesAreNew ids begun → (head : Head) → task.head ≡ head → PlayMeets (λ o. EndsBy (has_collection tasks) head o.end) watch (headed_play head ids task) begun
       headed-well law task at before nodes (Session access) is = session-meets client ids law access task.line task.body (well-at draw tasks wells k task at).body begun (ids_at-of draw k) before nodes
       headed-well law task at before nodes Refs is = calls-meet client ids task.body [] begun (record { tidy = before.tidy; so_far = before.so_far })
       headed-well law task at before nodes (Collect cutoff) is = collection-meets client ids law (collects-at tasks k task cutoff at is) task.line cutoff begun (record { tidy = before.tidy; so_far = before.so_far })
+      headed-well law task at before nodes (Expire cutoff drop_branches drop_tags) is = expiry-meets client ids task.line (terms_of cutoff drop_branches drop_tags) begun (record { tidy = before.tidy; so_far = before.so_far })
 
       -- it ends so, whatever the order in which the tasks' clients act
       ends-well : SnapshotLaw → (task : Task) → slice_get tasks k ≡ Some task → (outcome : Outcome) → PlaysTo (task_play ids task) (events_of (k + 1) own) outcome → EndsBy (has_collection tasks) task.head outcome.end

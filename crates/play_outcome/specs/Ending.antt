@@ -1,9 +1,9 @@
 -- What ended a task: a refusal, and whether it tells a want of memory or a fault of the store.
-use Rattle.std.specs.Prelude.{Bool, false, List, [], ◌∷◌}
+use Rattle.std.specs.Prelude.{Bool, false, List, [], ◌∷◌, Ok, Err}
 use Rattle.store_api.specs.declared.machines.Refusal.{Refusal}
 use Rattle.store_api.specs.Program.{is_no_memory, is_fault}
 use Rattle.play_outcome.specs.declared.outcome.End.{End}
-use Rattle.play_outcome.specs.declared.outcome.End.TheVariants.{Committed, Collected, Done, Refused, Stopped}
+use Rattle.play_outcome.specs.declared.outcome.End.TheVariants.{Committed, Collected, Done, Refused, Stopped, Expired}
 use Rattle.play_outcome.specs.declared.outcome.Outcome.{Outcome}
 
 -- the refusal that ended it, if one did
@@ -13,6 +13,8 @@ end_why (Collected removed) = []
 end_why Done = []
 end_why (Refused line why) = why ∷ []
 end_why (Stopped line why removed) = why ∷ []
+end_why (Expired line cases (Ok done)) = []
+end_why (Expired line cases (Err why)) = why ∷ []
 
 abbrev pub why_ended : Outcome → List Refusal
 why_ended outcome = end_why outcome.end
@@ -23,6 +25,8 @@ end_starved (Collected removed) = false
 end_starved Done = false
 end_starved (Refused line why) = is_no_memory why
 end_starved (Stopped line why removed) = is_no_memory why
+end_starved (Expired line cases (Ok done)) = false
+end_starved (Expired line cases (Err why)) = is_no_memory why
 
 abbrev pub end_failed : End → Bool
 end_failed (Committed id) = false
@@ -30,6 +34,8 @@ end_failed (Collected removed) = false
 end_failed Done = false
 end_failed (Refused line why) = is_fault why
 end_failed (Stopped line why removed) = is_fault why
+end_failed (Expired line cases (Ok done)) = false
+end_failed (Expired line cases (Err why)) = is_fault why
 
 abbrev pub is_starved : Outcome → Bool
 is_starved outcome = end_starved outcome.end

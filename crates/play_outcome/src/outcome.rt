@@ -1,6 +1,6 @@
 //! Outcomes of tasks.
 
-use cleanup_reports::Removed;
+use cleanup_reports::{RefCases, Removed};
 use ice_base::{Bytes, RefName, Text};
 use ice_ids::Id12;
 use ice_items::Items;
@@ -67,6 +67,12 @@ pub enum End {
         line: u32,
         why: Refusal,
         removed: Removed,
+    },
+    /// It expired refs on this line of the script: what became of each that it came to, and where it was refused, why.
+    Expired {
+        line: u32,
+        cases: RefCases,
+        result: Result<(), Refusal>,
     },
 }
 

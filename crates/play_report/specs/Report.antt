@@ -1,14 +1,19 @@
 -- The report of a run (own): lines of words.
-use Rattle.std.specs.Prelude.{ℕ, ◌/◌, ◌%◌, ◌==◌, nat_lt, List, [], ◌∷◌, ◌++◌, map, Bool, ◌&&◌, ◌||◌, if◌then◌else◌, Option, Some, None, Result, Ok, Err, codes, decimal}
+use Rattle.std.specs.Prelude.{ℕ, ◌/◌, ◌%◌, ◌==◌, nat_lt, List, [], ◌∷◌, ◌++◌, map, Bool, true, false, ◌&&◌, ◌||◌, if◌then◌else◌, Option, Some, None, Result, Ok, Err, codes, decimal}
 use Rattle.std.specs.List.{flat_map}
 use Rattle.std.specs.Char.{digit_char}
 use Rattle.ice_ids.specs.Text.{id12_text}
-use Rattle.cleanup_reports.specs.declared.Removed.{Removed}
+use Rattle.object_store.specs.declared.keys.Key.{Key as ObjectKey}
+use Rattle.object_store.specs.declared.keys.Key.TheVariants as key
+use Rattle.cleanup_reports.specs.declared.removed.Removed.{Removed}
+use Rattle.cleanup_reports.specs.declared.cases.What.{What}
+use Rattle.cleanup_reports.specs.declared.cases.What.TheVariants.{Kept, Cut, Dropped, Moved, Absent}
+use Rattle.cleanup_reports.specs.declared.cases.RefCase.{RefCase}
 use Rattle.store_api.specs.declared.machines.Refusal.{Refusal}
 use Rattle.play_outcome.specs.declared.outcome.Shown.{Shown}
 use Rattle.play_outcome.specs.declared.outcome.Shown.TheVariants.{Node, Meta, Chunk, Fill, Key, Log}
 use Rattle.play_outcome.specs.declared.outcome.End.{End}
-use Rattle.play_outcome.specs.declared.outcome.End.TheVariants.{Committed, Collected, Done, Refused, Stopped}
+use Rattle.play_outcome.specs.declared.outcome.End.TheVariants.{Committed, Collected, Done, Refused, Stopped, Expired}
 use Rattle.play_outcome.specs.declared.outcome.Outcome.{Outcome}
 use Rattle.play_outcome.specs.declared.outcome.RefLine.{RefLine}
 use Rattle.play_report.specs.Words.{◌space◌}
@@ -62,25 +67,66 @@ removed_text r = codes "collected" space decimal r.snapshots space decimal r.log
 abbrev pub is_nothing : Removed → Bool
 is_nothing r = (r.snapshots == 0) && (r.logs == 0) && (r.manifests == 0) && (r.chunks == 0)
 
--- a collection that was refused tells first what it removed, if anything
-abbrev pub removed_lines : List ℕ → End → List ℕ
-removed_lines name (Stopped line why removed) = if is_nothing removed then [] else line_of name (removed_text removed)
-removed_lines name (Committed id) = []
-removed_lines name (Collected removed) = []
-removed_lines name Done = []
-removed_lines name (Refused line why) = []
+-- that as a line, if it removed anything
+abbrev pub removed_lines : List ℕ → Removed → List ℕ
+removed_lines name removed = if is_nothing removed then [] else line_of name (removed_text removed)
+
+-- what an expiry made of a ref
+abbrev pub what_text : What → List ℕ
+what_text Kept = codes "kept"
+what_text (Cut id) = codes "cut" space id12_text id
+what_text Dropped = codes "dropped"
+what_text Moved = codes "moved"
+what_text Absent = codes "absent"
+
+-- the script's line, the ref, and what became of it
+abbrev pub case_text : ℕ → Bool → List ℕ → What → List ℕ
+case_text line tag ref what = decimal line space ref_kind tag space ref space what_text what
+
+-- a line for a branch and for a tag; other objects are no refs
+abbrev pub key_lines : List ℕ → ℕ → ObjectKey → What → List ℕ
+key_lines name line (key.Branch ref) what = line_of name (case_text line false ref what)
+key_lines name line (key.Tag ref) what = line_of name (case_text line true ref what)
+key_lines name line (key.Snapshot id) what = []
+key_lines name line (key.Manifest id) what = []
+key_lines name line (key.Txn id) what = []
+key_lines name line (key.Chunk id) what = []
+key_lines name line (key.TagGone ref) what = []
+key_lines name line (key.Lease id) what = []
+
+abbrev pub case_lines : List ℕ → ℕ → RefCase → List ℕ
+case_lines name line c = key_lines name line c.key c.what
+
+-- what was done, before the ending tells whether it is all: what a collection removed that was refused, and what an expiry made of each ref
+abbrev pub done_lines : List ℕ → End → List ℕ
+done_lines name (Committed id) = []
+done_lines name (Collected removed) = []
+done_lines name Done = []
+done_lines name (Refused line why) = []
+done_lines name (Stopped line why removed) = removed_lines name removed
+done_lines name (Expired line cases result) = flat_map (case_lines name line) cases
+
+-- the line that was refused, and why
+abbrev pub refused_text : ℕ → Refusal → List ℕ
+refused_text line why = codes "refused" space decimal line space refusal_text why
+
+-- how what began on this line ended
+abbrev pub result_text : ℕ → Result (Unit {0}) Refusal → List ℕ
+result_text line (Ok done) = codes "done"
+result_text line (Err why) = refused_text line why
 
 -- how a task ended, behind its name
 abbrev pub end_text : End → List ℕ
 end_text (Committed id) = codes "committed" space id12_text id
 end_text (Collected removed) = removed_text removed
 end_text Done = codes "done"
-end_text (Refused line why) = codes "refused" space decimal line space refusal_text why
-end_text (Stopped line why removed) = codes "refused" space decimal line space refusal_text why
+end_text (Refused line why) = refused_text line why
+end_text (Stopped line why removed) = refused_text line why
+end_text (Expired line cases result) = result_text line result
 
--- what a task showed in order, and then how it ended
+-- what a task showed in order, what it had done, and then how it ended
 abbrev pub outcome_text : List ℕ → Outcome → List ℕ
-outcome_text name outcome = flat_map (shown_line name) outcome.shown ++ (removed_lines name outcome.end ++ line_of name (end_text outcome.end))
+outcome_text name outcome = flat_map (shown_line name) outcome.shown ++ (done_lines name outcome.end ++ line_of name (end_text outcome.end))
 
 -- each task in order, under its name; what one list has beyond the other is left out
 abbrev pub tasks_text : List (List ℕ) → List Outcome → List ℕ

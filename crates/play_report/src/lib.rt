@@ -1,6 +1,7 @@
 //! The report of a run: how outcomes of tasks, and refs, are printed.
 #![tactic(auto)]
 
+mod cases;
 mod drafts;
 mod refusals;
 mod reporting;

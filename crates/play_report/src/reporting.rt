@@ -3,22 +3,17 @@
 
 ghost use Rattle.std.specs.Prelude.{◌≡◌, IfOk, OnOk, length, map, vec_capacity};
 ghost use Rattle.std.specs.List.{flat_map};
-ghost use Rattle.play_report.specs.Report.{ref_kind, line_of, is_nothing, removed_text, removed_lines, end_text, shown_line, outcome_text, tasks_text, opening_text, ref_line, refs_text, refused_line, played_text, report_of};
+ghost use Rattle.play_report.specs.Report.{line_of, is_nothing, removed_text, removed_lines, done_lines, end_text, shown_line, outcome_text, tasks_text, opening_text, ref_line, refs_text, refused_line, played_text, report_of};
 ghost use Rattle.play_report.specs.inside.Drafts.{added};
 
+use crate::cases::add_cases;
 use crate::drafts::Draft;
 use crate::refusals::add_refusal;
-use crate::texts::{add_end, add_ref, add_removed, add_shown};
+use crate::texts::{add_end, add_ref, add_removed, add_shown, ref_kind};
 use cleanup_reports::Removed;
 use play_outcome::{End, Outcome, RefLine, RefLines, Shown};
 use std::alloc::{AllocError, Global};
 use store_api::Refusal;
-
-fn ref_kind(tag: bool) -> &'static [u8]
-    ensures { result.now ≡ ref_kind tag }
-{
-    if tag { b"tag" } else { b"branch" }
-}
 
 /// A line that a task showed.
 fn add_shown_line(out: &mut Draft, name: &[u8], shown: &Shown) -> Result<(), AllocError>
@@ -56,17 +51,26 @@ fn add_removed_line(out: &mut Draft, name: &[u8], removed: Removed) -> Result<()
     out.add(b"\n")
 }
 
-/// What a collection removed that was refused, as a line, if it removed anything.
-fn add_removed_lines(out: &mut Draft, name: &[u8], end: &End) -> Result<(), AllocError>
-    ensures { OnOk result (out.new ≡ added out.old (removed_lines name.now end.now)) }
+/// What a collection removed, as a line, if it removed anything.
+fn add_removed_lines(out: &mut Draft, name: &[u8], removed: Removed) -> Result<(), AllocError>
+    ensures { OnOk result (out.new ≡ added out.old (removed_lines name.now removed)) }
 {
-    let End::Stopped { removed, .. } = end else {
-        return Ok(());
-    };
-    if is_nothing(*removed) {
-        return Ok(());
+    if is_nothing(removed) {
+        Ok(())
+    } else {
+        add_removed_line(out, name, removed)
     }
-    add_removed_line(out, name, *removed)
+}
+
+/// What was done, as lines: what a collection removed that was refused, and what an expiry made of each ref.
+fn add_done_lines(out: &mut Draft, name: &[u8], end: &End) -> Result<(), AllocError>
+    ensures { OnOk result (out.new ≡ added out.old (done_lines name.now end.now)) }
+{
+    match end {
+        End::Committed(_) | End::Collected(_) | End::Done | End::Refused { .. } => Ok(()),
+        End::Stopped { removed, .. } => add_removed_lines(out, name, *removed),
+        End::Expired { line, cases, .. } => add_cases(out, name, *line, cases.as_slice()),
+    }
 }
 
 /// How a task ended, as a line.
@@ -79,12 +83,12 @@ fn add_end_line(out: &mut Draft, name: &[u8], end: &End) -> Result<(), AllocErro
     out.add(b"\n")
 }
 
-/// What the task of this name showed, line by line, what it removed where it was refused, and how it ended.
+/// What the task of this name showed, line by line, what it had done, and how it ended.
 fn add_outcome(out: &mut Draft, name: &[u8], outcome: &Outcome) -> Result<(), AllocError>
     ensures { OnOk result (out.new ≡ added out.old (outcome_text name.now outcome.now)) }
 {
     add_all_shown(out, name, outcome.shown.as_slice())?;
-    add_removed_lines(out, name, &outcome.end)?;
+    add_done_lines(out, name, &outcome.end)?;
     add_end_line(out, name, &outcome.end)
 }
 
@@ -102,7 +106,7 @@ fn add_refused(out: &mut Draft, what: &[u8], why: &Refusal) -> Result<(), AllocE
 fn add_ref_line(out: &mut Draft, line: &RefLine) -> Result<(), AllocError>
     ensures { OnOk result (out.new ≡ added out.old (ref_line line.now)) }
 {
-    out.add(ref_kind(line.tag))?;
+    out.add(ref_kind(line.tag).as_bytes())?;
     out.add(b" ")?;
     add_ref(out, line)?;
     out.add(b"\n")

@@ -5,8 +5,7 @@ ghost use Rattle.std.specs.Prelude.{◌≡◌, ◌<◌, ◌++◌, OnOk, codes, d
 ghost use Rattle.play_report.specs.Words.{◌space◌};
 ghost use Rattle.std.specs.Char.{digit_char};
 ghost use Rattle.std.specs.List.{flat_map};
-ghost use Rattle.play_report.specs.Report.{node_kind, printed, byte_text, bytes_text, value_text, shown_text, removed_text, end_text, ref_text};
-ghost use Rattle.play_report.specs.Refusals.{refusal_text};
+ghost use Rattle.play_report.specs.Report.{node_kind, ref_kind, printed, byte_text, bytes_text, value_text, shown_text, removed_text, refused_text, result_text, end_text, ref_text};
 ghost use Rattle.play_report.specs.inside.Drafts.{added};
 
 use crate::drafts::Draft;
@@ -21,6 +20,12 @@ fn node_kind(array: bool) -> &'static str
     ensures { result.now ≡ node_kind array }
 {
     if array { "array" } else { "group" }
+}
+
+pub fn ref_kind(tag: bool) -> &'static str
+    ensures { result.now ≡ ref_kind tag }
+{
+    if tag { "tag" } else { "branch" }
 }
 
 fn printed(byte: u8) -> u8
@@ -145,10 +150,20 @@ pub fn add_removed(out: &mut Draft, removed: Removed) -> Result<(), AllocError>
 
 /// The line that was refused, and why.
 fn add_refused_at(out: &mut Draft, line: u32, why: &Refusal) -> Result<(), AllocError>
-    ensures { OnOk result (out.new ≡ added out.old (codes "refused" space decimal line space refusal_text why.now)) }
+    ensures { OnOk result (out.new ≡ added out.old (refused_text line why.now)) }
 {
     write!(out, "refused {line} ")?;
     add_refusal(out, why)
+}
+
+/// How what began on this line ended.
+fn add_result(out: &mut Draft, line: u32, outcome: &Result<(), Refusal>) -> Result<(), AllocError>
+    ensures { OnOk result (out.new ≡ added out.old (result_text line outcome.now)) }
+{
+    match outcome {
+        Ok(()) => out.add(b"done"),
+        Err(why) => add_refused_at(out, line, why),
+    }
 }
 
 /// How a task ended.
@@ -162,6 +177,7 @@ pub fn add_end(out: &mut Draft, end: &End) -> Result<(), AllocError>
         End::Refused { line, why } | End::Stopped { line, why, .. } => add_refused_at(
             out, *line, why,
         ),
+        End::Expired { line, result, .. } => add_result(out, *line, result),
     }
 }
 

@@ -27,9 +27,9 @@ use Rattle.play_script.specs.declared.scripts.Class.TheVariants as c
 use Rattle.play_script.specs.declared.forms.Form.{Form}
 use Rattle.play_script.specs.Words.{Text, cut_of, next, one, two, three, five}
 use Rattle.play_script.specs.Parts.{◌&◌, made}
-use Rattle.play_script.specs.Values.{◌reads◌, path_of, text_of, ref_name_of, id_of, tries_in, policy_in, numbers_of, fill_of, count_of, index_of, bytes_of, byte_of, cutoff_of}
+use Rattle.play_script.specs.Values.{◌reads◌, path_of, text_of, ref_name_of, id_of, tries_in, policy_in, numbers_of, fill_of, count_of, index_of, bytes_of, byte_of, cutoff_of, flags_of}
 use Rattle.play_script.specs.Arrays.{array_line_text}
-use Rattle.play_script.specs.Forms.{taken, lone_path, path_and_text, array_of, path_and_array, path_and_index, chunk_and_bytes, chunk_and_byte, lone_key, key_and_bytes, node_edit_of, chunk_edit_of, key_edit_of, edit_of, read_of, commit_of, at_of, lone_at, lone_name, name_and_at, ref_of, form, no_form, form_of, write_of, refs_of, collect_of, head_of}
+use Rattle.play_script.specs.Forms.{taken, lone_path, path_and_text, array_of, path_and_array, path_and_index, chunk_and_bytes, chunk_and_byte, lone_key, key_and_bytes, node_edit_of, chunk_edit_of, key_edit_of, edit_of, read_of, commit_of, at_of, lone_at, lone_name, name_and_at, ref_of, form, no_form, form_of, write_of, refs_of, collect_of, expire_of, head_of}
 use Rattle.play_script.specs.Places.{class_of, client_from, turn, turn_of}
 use Rattle.play_script.specs.Well.{IsWellPath, IsWellText, IsWellIndex, IsWellEdit, IsWellRead, IsWellAt, IsWellRef, IsWellCall, IsWellAccess, IsWellHead, IsWellTurn}
 use Rattle.play_script.proofs.Inversions.{made_ok, both_ok, taken_ok, path_ok, text_ok, ref_name_ok, numbers_ok, fill_ok, count_ok, index_ok, byte_ok, bytes_ok, tries_ok}
@@ -260,6 +260,18 @@ collect_ok rest =
     made_right IsCutoff IsWellHead head.Collect (taken (one rest) cutoff_of) (λ x w. w)
     (λ cutoff h. let t = taken_ok (one rest) cutoff_of cutoff h in cutoff_ok t.0 cutoff t.2)
 
+-- a cutoff, and which refs are dropped
+abbrev AreTerms : ℕ × (Bool × Bool) → Type 0
+AreTerms v = IsCutoff v.0
+
+expire_ok : (rest : Option Text) → AreWellHeads (expire_of rest)
+unfolding expire_of
+expire_ok rest =
+    made_right AreTerms IsWellHead (λ v. head.Expire v.0 v.1.0 v.1.1) (taken (two rest) (λ w. cutoff_of w.0 & flags_of w.1)) (λ x w. w)
+    (λ v h. let t = taken_ok (two rest) (λ w. cutoff_of w.0 & flags_of w.1) v h in
+    let b = both_ok (cutoff_of t.0.0) (flags_of t.0.1) v t.2 in
+    cutoff_ok t.0.0 v.0 b.0)
+
 pub head_ok : (word : Text) (rest : Option Text) → AreWellHeads (head_of word rest)
 unfolding head_of
 head_ok word rest =
@@ -267,7 +279,7 @@ head_ok word rest =
     cond_both (word reads codes "read") _ _ AreWellHeads (λ _. made_right IsWellAccess IsWellHead head.Session (made access.Read (lone_at rest)) (λ x w. w) (made_right IsWellAt IsWellAccess access.Read (lone_at rest) (λ x w. w) (lone_at_ok rest))) (λ _.
     cond_both (word reads codes "refs") _ _ AreWellHeads (λ _. refs_ok rest) (λ _.
     cond_both (word reads codes "collect") _ _ AreWellHeads (λ _. collect_ok rest) (λ _.
-    cond_both (word reads codes "expire") _ _ AreWellHeads (λ _ v h. absurd (cc)) (λ _ v h. absurd (cc))))))
+    cond_both (word reads codes "expire") _ _ AreWellHeads (λ _. expire_ok rest) (λ _ v h. absurd (cc))))))
 
 -- a task of refs has the word `refs`
 abbrev IsNoRefs : Result Head ScriptKind → Type 0
@@ -279,6 +291,13 @@ opens r h = let m = made_ok head.Session r head.Refs h in let e : head.Session m
 collects : (r : Result ℕ ScriptKind) → IsNoRefs (made head.Collect r)
 collects r h = let m = made_ok head.Collect r head.Refs h in let e : head.Collect m.0 ≡ head.Refs = m.2 in absurd (cc)
 
+expires : (rest : Option Text) → IsNoRefs (expire_of rest)
+unfolding expire_of
+expires rest h =
+    let m = made_ok (λ (v : ℕ × (Bool × Bool)). head.Expire v.0 v.1.0 v.1.1) (taken (two rest) (λ w. cutoff_of w.0 & flags_of w.1)) head.Refs h in
+    let e : head.Expire m.0.0 m.0.1.0 m.0.1.1 ≡ head.Refs = m.2 in
+    absurd (cc)
+
 abbrev ReadsRefs : Text → Result Head ScriptKind → Type 0
 ReadsRefs word r = r ≡ Ok head.Refs → (word reads codes "refs") ≡ true
 
@@ -289,7 +308,7 @@ refs_word word rest =
     cond_both (word reads codes "read") _ _ (ReadsRefs word) (λ _ h. absurd (opens _ h)) (λ _.
     cond_both (word reads codes "refs") _ _ (ReadsRefs word) (λ e _. e) (λ _.
     cond_both (word reads codes "collect") _ _ (ReadsRefs word) (λ _ h. absurd (collects (taken (one rest) cutoff_of) h)) (λ _.
-    cond_both (word reads codes "expire") _ _ (ReadsRefs word) (λ _ h. absurd (cc)) (λ _ h. absurd (cc))))))
+    cond_both (word reads codes "expire") _ _ (ReadsRefs word) (λ _ h. absurd (expires rest h)) (λ _ h. absurd (cc))))))
 
 -- a client is the number of a task
 abbrev IsFrom : ℕ → ℕ → Result ℕ ScriptKind → Type 0

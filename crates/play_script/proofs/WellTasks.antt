@@ -91,6 +91,7 @@ lines_behind comes (u ∷ v ∷ ts) t h begun = (All-head HasLine u (v ∷ ts) h
 some_line : (opened : Head) (body : List Line) (l : Line) → HasItsLine opened (body ++ l ∷ [])
 some_line (head.Session access) body l = tt
 some_line (head.Collect cutoff) body l = tt
+some_line (head.Expire cutoff drop_branches drop_tags) body l = tt
 some_line head.Refs [] l = λ e. cc
 some_line head.Refs (b ∷ body) l = λ e. cc
 

@@ -22,7 +22,7 @@ use Rattle.play_script.specs.declared.scripts.Class.TheVariants as c
 use Rattle.play_script.specs.declared.forms.Form.{Form}
 use Rattle.play_script.specs.Words.{Text, next, one, two, three, five}
 use Rattle.play_script.specs.Parts.{◌&◌, made}
-use Rattle.play_script.specs.Values.{◌reads◌, path_of, text_of, ref_name_of, id_of, tries_in, policy_in, numbers_of, fill_of, index_of, bytes_of, byte_of, cutoff_of}
+use Rattle.play_script.specs.Values.{◌reads◌, path_of, text_of, ref_name_of, id_of, tries_in, policy_in, numbers_of, fill_of, index_of, bytes_of, byte_of, cutoff_of, flags_of}
 use Rattle.play_script.specs.Arrays.{array_line_text}
 
 -- the words that a form takes, and what it makes of them
@@ -169,11 +169,15 @@ refs_of (Some rest) = Err k.Word
 abbrev pub collect_of : Option Text → Result Head ScriptKind
 collect_of rest = made head.Collect (taken (one rest) cutoff_of)
 
--- a head by its word; `expire` isn't built, whatever stands behind it
+-- `expire CUTOFF FLAGS`
+unfoldable pub expire_of : Option Text → Result Head ScriptKind
+expire_of rest = made (λ v. head.Expire v.0 v.1.0 v.1.1) (taken (two rest) (λ w. cutoff_of w.0 & flags_of w.1))
+
+-- a head by its word
 unfoldable pub head_of : Text → Option Text → Result Head ScriptKind
 head_of word rest =
     if word reads codes "write" then made head.Session (write_of rest) else
     (if word reads codes "read" then made head.Session (made access.Read (lone_at rest)) else
     (if word reads codes "refs" then refs_of rest else
     (if word reads codes "collect" then collect_of rest else
-    (if word reads codes "expire" then Err k.Unbuilt else Err k.Word))))
+    (if word reads codes "expire" then expire_of rest else Err k.Word))))

@@ -3,20 +3,19 @@ use Rattle.std.specs.Prelude.{ℕ, Bool, true, false, Result, Ok, Err, List, [],
 use Rattle.play_script.specs.declared.faults.ScriptKind.{ScriptKind}
 use Rattle.play_script.specs.declared.faults.ScriptKind.TheVariants as k
 
--- the order in which kinds are told; a line of text that asks for what isn't built is told as that, whatever else is wrong with it
+-- the order in which kinds are told
 abbrev pub rank : ScriptKind → ℕ
 rank k.Long = 0
 rank k.Text = 1
-rank k.Unbuilt = 2
-rank k.Word = 3
-rank k.Place = 4
-rank k.Many = 5
-rank k.Name = 6
-rank k.Path = 7
-rank k.Number = 8
-rank k.Hex = 9
-rank k.Id = 10
-rank k.Turn = 11
+rank k.Word = 2
+rank k.Place = 3
+rank k.Many = 4
+rank k.Name = 5
+rank k.Path = 6
+rank k.Number = 7
+rank k.Hex = 8
+rank k.Id = 9
+rank k.Turn = 10
 
 abbrev pub earlier : ScriptKind → ScriptKind → ScriptKind
 earlier kind other = if nat_le (rank kind) (rank other) then kind else other
@@ -25,7 +24,6 @@ earlier kind other = if nat_le (rank kind) (rank other) then kind else other
 abbrev pub kind_text : ScriptKind → List ℕ
 kind_text k.Long = codes "long"
 kind_text k.Text = codes "text"
-kind_text k.Unbuilt = codes "unbuilt"
 kind_text k.Word = codes "word"
 kind_text k.Place = codes "place"
 kind_text k.Many = codes "many"

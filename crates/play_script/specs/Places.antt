@@ -51,6 +51,7 @@ head_takes (head.Session opened) class = access_takes opened class
 head_takes head.Refs c.Ref = true
 head_takes head.Refs _ = false
 head_takes (head.Collect cutoff) class = false
+head_takes (head.Expire cutoff drop_branches drop_tags) class = false
 
 abbrev pub is_commit_call : Call → Bool
 is_commit_call (call.Edit change) = false

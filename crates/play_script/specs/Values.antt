@@ -125,6 +125,14 @@ micros_number_of w = if nat_le (length w) 20 then number_of 0 (2 ^ 64 - 1) w els
 unfoldable pub cutoff_of : Text → Result ℕ ScriptKind
 cutoff_of w = if slice_index w 0 == 64 then micros_of (parse_timestamp (drop 1 w)) else micros_number_of w
 
+-- which refs an expiry may drop: whether branches, and whether tags
+unfoldable pub flags_of : Text → Result (Bool × Bool) ScriptKind
+flags_of w =
+    if w reads codes "keep" then Ok (false, false) else
+    (if w reads codes "branches" then Ok (true, false) else
+    (if w reads codes "tags" then Ok (false, true) else
+    (if w reads codes "both" then Ok (true, true) else Err k.Word)))
+
 -- how often a commit may be carried over those of others: one digit
 unfoldable pub tries_in : Text → Result ℕ ScriptKind
 tries_in [] = Err k.Number

@@ -100,12 +100,14 @@ abbrev pub IsWellHead : Head → Type 0
 IsWellHead (head.Session opened) = IsWellAccess opened
 IsWellHead head.Refs = Unit {0}
 IsWellHead (head.Collect cutoff) = cutoff < 2 ^ 64
+IsWellHead (head.Expire cutoff drop_branches drop_tags) = cutoff < 2 ^ 64
 
 -- a task of refs has a line
 abbrev pub HasItsLine : Head → List Line → Type 0
 HasItsLine (head.Session opened) body = Unit {0}
 HasItsLine head.Refs body = body ≢ []
 HasItsLine (head.Collect cutoff) body = Unit {0}
+HasItsLine (head.Expire cutoff drop_branches drop_tags) body = Unit {0}
 
 -- the lines are of classes that the head takes
 abbrev pub AreTaken : Head → List Line → Type 0

@@ -25,6 +25,7 @@ fn head_takes(head: &Head, class: Class) -> bool
         Head::Session(access) => access_takes(access, class),
         Head::Refs => class == Class::Ref,
         Head::Collect { .. } => false,
+        Head::Expire { .. } => false,
     }
 }
 

@@ -15,8 +15,6 @@ pub enum ScriptKind {
     Long,
     /// The line isn't UTF-8.
     Text,
-    /// It begins an expiry, which isn't built so far.
-    Unbuilt,
     /// A word of it is unknown where it stands, it has too few or too many words, or an empty one.
     Word,
     /// It doesn't stand at its place.
@@ -47,7 +45,6 @@ impl fmt::Display for ScriptKind {
         match *self {
             ScriptKind::Long => f.write_str("long"),
             ScriptKind::Text => f.write_str("text"),
-            ScriptKind::Unbuilt => f.write_str("unbuilt"),
             ScriptKind::Word => f.write_str("word"),
             ScriptKind::Place => f.write_str("place"),
             ScriptKind::Many => f.write_str("many"),

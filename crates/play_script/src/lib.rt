@@ -12,14 +12,15 @@
 //! - `task NAME refs`, a task about refs: lines `branch REF AT`, `reset REF AT`, `unbranch REF`, `tag REF AT`, `untag REF` and
 //!   `log AT`, one at least;
 //! - `task NAME collect CUTOFF`, a task that collects, with no line of its own;
-//! - the head `task NAME expire CUTOFF FLAGS`, which isn't built;
+//! - `task NAME expire CUTOFF FLAGS`, a task that expires, with no line of its own;
 //! - `turns WORDS`, each word a task's `NAME`, or `NAME*COUNT` with a count of 1 to 9,999; perhaps no word.
 //!
 //! Names are 1 to 16 bytes of `a` to `z`, `0` to `9` and `_`, and distinct. TRIES is one digit.
 //! POLICY is `fail`, `ours` or `theirs`, alone or followed by `+a`, `+g` or `+ag`. AT is `branch REF`, `tag REF` or `id ID`.
 //! SHAPE and CHUNKS are numbers of up to 128 bits, and INDEX of up to 32 bits, joined by commas, or `-` for none; FILL is a
 //! number of 128 bits with a sign. HEX is pairs of lower-case digits of base 16, or `-` for no bytes; BYTE is one such pair.
-//! A KEY is any word. A CUTOFF is microseconds since 1970 in up to 20 digits, or `@` and an instant.
+//! A KEY is any word. A CUTOFF is microseconds since 1970 in up to 20 digits, or `@` and an instant; FLAGS is `keep`, `branches`,
+//! `tags` or `both`.
 #![tactic(auto)]
 
 mod arrays;

@@ -2,13 +2,13 @@
 
 ghost use Rattle.std.specs.Prelude.{◌≡◌, IfOk};
 ghost use Rattle.play_script.specs.Words.{seen};
-ghost use Rattle.play_script.specs.Forms.{write_of, refs_of, collect_of, head_of};
+ghost use Rattle.play_script.specs.Forms.{write_of, refs_of, collect_of, expire_of, head_of};
 
 use crate::faults::{ScriptKind, both};
 use crate::refs::lone_at;
 use crate::scripts::{Access, Head};
-use crate::values::{cutoff_in, policy_in, ref_name_in, tries_in};
-use crate::words::{one, three};
+use crate::values::{cutoff_in, flags_in, policy_in, ref_name_in, tries_in};
+use crate::words::{one, three, two};
 use std::alloc::{AllocError, Global};
 
 /// A session that writes.
@@ -52,6 +52,24 @@ fn collect(rest: Option<&str>) -> Result<Head, ScriptKind>
     }
 }
 
+/// A task that expires, behind whose word its cutoff stands, and which refs it drops.
+#[tactic(auto, unfolding(crate::specs::Forms::expire_of))]
+fn expire(rest: Option<&str>) -> Result<Head, ScriptKind>
+    ensures { result ≡ expire_of (seen rest.entry) }
+{
+    let Some((cutoff, flags)) = two(rest) else {
+        return Err(ScriptKind::Word);
+    };
+    match both(cutoff_in(cutoff), flags_in(flags)) {
+        Ok((cutoff, (drop_branches, drop_tags))) => Ok(Head::Expire {
+            cutoff,
+            drop_branches,
+            drop_tags,
+        }),
+        Err(kind) => Err(kind),
+    }
+}
+
 /// A head by its word.
 #[tactic(auto, unfolding(crate::specs::Forms::head_of))]
 pub fn head_in(
@@ -66,7 +84,7 @@ pub fn head_in(
         "read" => lone_at(alloc, rest)?.map(|at| Head::Session(Access::Read { at })),
         "refs" => refs(rest),
         "collect" => collect(rest),
-        "expire" => Err(ScriptKind::Unbuilt),
+        "expire" => expire(rest),
         _ => Err(ScriptKind::Word),
     })
 }

@@ -221,6 +221,15 @@ pub enum Head {
         /// The cutoff, in microseconds since 1970.
         cutoff: u64,
     },
+    /// The task expires: it takes snapshots older than the cutoff out of the histories of refs, and drops refs that name one.
+    Expire {
+        /// The cutoff, in microseconds since 1970.
+        cutoff: u64,
+        /// Whether branches are dropped, but `main`.
+        drop_branches: bool,
+        /// Whether tags are dropped.
+        drop_tags: bool,
+    },
 }
 
 /// What one client does.

@@ -3,7 +3,7 @@
 ghost use Rattle.std.specs.Prelude.{◌≡◌, ◌<◌, IfOk, Ok};
 ghost use Rattle.std.specs.List.{list_all};
 ghost use Rattle.std.specs.Char.{is_ascii_digit};
-ghost use Rattle.play_script.specs.Values.{is_digits, number_of, wide_of, numbers_of, index_part_of, index_of, hex_digit_of, byte_of, pairs, bytes_of, magnitude, fill_of, is_task_name, is_task_byte, task_name_of, path_of, text_of, ref_name_of, id_of, tries_in, pick_in, drops_in, policy_in, count_of, cutoff_of};
+ghost use Rattle.play_script.specs.Values.{is_digits, number_of, wide_of, numbers_of, index_part_of, index_of, hex_digit_of, byte_of, pairs, bytes_of, magnitude, fill_of, is_task_name, is_task_byte, task_name_of, path_of, text_of, ref_name_of, id_of, tries_in, pick_in, drops_in, policy_in, count_of, cutoff_of, flags_of};
 ghost use Rattle.play_script.specs.Words.{parts, seen};
 ghost use Rattle.play_script.specs.Parts.{each};
 ghost use Rattle.play_script.specs.SoFar.{parts_seen};
@@ -326,6 +326,20 @@ pub fn cutoff_in(word: &str) -> Result<u64, ScriptKind>
     match cutoff_read(word) {
         Ok(cutoff) => Ok(cutoff),
         Err(_) => Err(ScriptKind::Number),
+    }
+}
+
+/// Whether an expiry drops branches, and whether it drops tags.
+#[tactic(auto, unfolding(crate::specs::Values::flags_of))]
+pub fn flags_in(word: &str) -> Result<(bool, bool), ScriptKind>
+    ensures { result ≡ flags_of word.now }
+{
+    match word {
+        "keep" => Ok((false, false)),
+        "branches" => Ok((true, false)),
+        "tags" => Ok((false, true)),
+        "both" => Ok((true, true)),
+        _ => Err(ScriptKind::Word),
     }
 }
 

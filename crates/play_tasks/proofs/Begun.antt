@@ -16,7 +16,7 @@ use Rattle.play_script.specs.declared.scripts.Call.TheVariants as calls_of
 use Rattle.play_script.specs.declared.scripts.RefCall.{RefCall}
 use Rattle.play_script.specs.declared.scripts.RefCall.TheVariants as ref
 use Rattle.play_script.specs.declared.scripts.Head.{Head}
-use Rattle.play_script.specs.declared.scripts.Head.TheVariants.{Session, Refs, Collect}
+use Rattle.play_script.specs.declared.scripts.Head.TheVariants.{Session, Refs, Collect, Expire}
 use Rattle.play_script.specs.declared.scripts.Line.{Line}
 use Rattle.play_script.specs.declared.scripts.Task.{Task}
 use Rattle.play_outcome.specs.declared.outcome.Shown.{Shown}
@@ -24,6 +24,8 @@ use Rattle.play_outcome.specs.declared.outcome.Outcome.{Outcome}
 use Rattle.play_outcome.specs.Ending.{is_failed}
 use Rattle.play_refs.specs.Playing.{Rest, logged, ref_play, after_ref, play_ref_line, refs_play}
 use Rattle.play_collect.specs.Playing.{collect_task}
+use Rattle.expiry.specs.declared.terms.Terms.{Terms}
+use Rattle.play_expire.specs.Playing.{terms_of, expire_task}
 use Rattle.play_tasks.specs.Playing.{asked_by, session_play, headed_play, task_play}
 
 -- a session isn't opened without an operation
@@ -74,6 +76,10 @@ lines-calm (l ∷ ls) shown outcome (inr c) = cc
 collects : (line cutoff : ℕ) (outcome : Outcome) → Comes (collect_task line cutoff) (Ended outcome) → ⊥
 collects line cutoff outcome c = cc
 
+-- nor does anything expire
+expires : (line : ℕ) (terms : Terms) (outcome : Outcome) → Comes (expire_task line terms) (Ended outcome) → ⊥
+expires line terms outcome c = cc
+
 pub begun-calm : (ids : AnyIds) (task : Task) (outcome : Outcome) → Comes (task_play ids task) (Ended outcome) → is_failed outcome ≡ false
 begun-calm ids task outcome c = by_head task.head c
   where
@@ -81,6 +87,7 @@ begun-calm ids task outcome c = by_head task.head c
     by_head (Session access) d = absurd (opens ids access task.line task.body outcome d)
     by_head Refs d = lines-calm task.body [] outcome d
     by_head (Collect cutoff) d = absurd (collects task.line cutoff outcome d)
+    by_head (Expire cutoff drop_branches drop_tags) d = absurd (expires task.line (terms_of cutoff drop_branches drop_tags) outcome d)
 
 -- a session's play has come to itself
 pub session-begun : (ids : AnyIds) (a : Access) (line : ℕ) (body : List Line) (q : Play Outcome) → q ≡ session_play ids a line body → Comes (session_play ids a line body) q

@@ -22,6 +22,7 @@ use Rattle.chunk_calls.proofs.Lasting.{WasSet-append, IsChunk-append}
 use Rattle.rebase.specs.Laws.{RebaseLaw}
 use Rattle.play_refs.specs.Laws.{RefsTaskLaw}
 use Rattle.play_collect.specs.Laws.{CollectTaskLaw}
+use Rattle.play_expire.specs.Laws.{ExpireTaskLaw}
 use Rattle.play_script.specs.declared.scripts.Access.{Access}
 use Rattle.play_script.specs.declared.scripts.Line.{Line}
 use Rattle.play_outcome.specs.declared.outcome.Shown.{Shown}
@@ -47,6 +48,7 @@ pub record Laws : Type 0 where
   pub calls : OwningCallsLaw
   pub refs : RefsTaskLaw
   pub collect : CollectTaskLaw
+  pub expire : ExpireTaskLaw
 
 -- ---- what was told of a line stays so, whatever good events come
 pub DidPlay-append : (client : ℕ) (d : Deed) (s : SessionState) (start : List Event) (shown : List Shown) (t : SessionState) (journal more : List Event) → Each IsGood journal more → DidPlay client d s start shown t journal → DidPlay client d s start shown t (journal ++ more)

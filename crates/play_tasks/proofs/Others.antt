@@ -17,9 +17,11 @@ use Rattle.store_api.proofs.Happening.{ChangedNothing-others}
 use Rattle.chunk_calls.specs.Laws.{TellsLaw}
 use Rattle.play_refs.specs.Laws.{RefsOutcomeLaw}
 use Rattle.play_collect.specs.Laws.{CollectOutcomeLaw}
+use Rattle.play_expire.specs.Playing.{terms_of}
+use Rattle.play_expire.specs.Laws.{ExpireOutcomeLaw}
 use Rattle.play_script.specs.declared.scripts.Access.{Access}
 use Rattle.play_script.specs.declared.scripts.Head.{Head}
-use Rattle.play_script.specs.declared.scripts.Head.TheVariants.{Session, Refs, Collect}
+use Rattle.play_script.specs.declared.scripts.Head.TheVariants.{Session, Refs, Collect, Expire}
 use Rattle.play_script.specs.declared.scripts.Line.{Line}
 use Rattle.play_script.specs.declared.scripts.Task.{Task}
 use Rattle.play_outcome.specs.declared.outcome.End.{End}
@@ -39,6 +41,7 @@ pub record Lasting : Type 0 where
   pub chunks : TellsLaw
   pub refs : RefsOutcomeLaw
   pub collect : CollectOutcomeLaw
+  pub expire : ExpireOutcomeLaw
 
 module _ (L : Lasting) (by : Caller) (start journal more : List Event) (others : Each (IsOther by) journal more) where
   refuses-others : (d : Deed) (s : SessionState) (why : Refusal) → Refuses by.number d s start why journal → Refuses by.number d s start why (journal ++ more)
@@ -105,6 +108,7 @@ module _ (L : Lasting) (by : Caller) (start journal more : List Event) (others :
   headed-others (Session access) ids task outcome t = session-others ids access task outcome t
   headed-others Refs ids task outcome t = L.refs by task.body outcome start journal more others t
   headed-others (Collect cutoff) ids task outcome t = L.collect by task.line cutoff outcome start journal more others t
+  headed-others (Expire cutoff drop_branches drop_tags) ids task outcome t = L.expire by task.line (terms_of cutoff drop_branches drop_tags) outcome start journal more others t
 
   pub TellsOutcome-others : (ids : AnyIds) (task : Task) (outcome : Outcome) → TellsOutcome ids task by.number start outcome journal → TellsOutcome ids task by.number start outcome (journal ++ more)
   TellsOutcome-others ids task outcome t = headed-others task.head ids task outcome t

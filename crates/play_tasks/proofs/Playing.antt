@@ -45,7 +45,7 @@ use Rattle.play_script.specs.declared.scripts.ReadCall.TheVariants as read
 use Rattle.play_script.specs.declared.scripts.Access.{Access}
 use Rattle.play_script.specs.declared.scripts.Access.TheVariants as access
 use Rattle.play_script.specs.declared.scripts.Head.{Head}
-use Rattle.play_script.specs.declared.scripts.Head.TheVariants.{Session, Refs, Collect}
+use Rattle.play_script.specs.declared.scripts.Head.TheVariants.{Session, Refs, Collect, Expire}
 use Rattle.play_script.specs.declared.scripts.Line.{Line}
 use Rattle.play_script.specs.declared.scripts.Task.{Task}
 use Rattle.play_script.specs.Well.{IsWellEdit, IsWellCall, IsWellLine, IsWellTask}
@@ -59,7 +59,9 @@ use Rattle.play_tasks.specs.Solving.{DidPlay, PlaysAll, WasCarried, IsOfTask}
 use Rattle.play_refs.specs.Playing.{refs_play}
 use Rattle.play_refs.specs.Telling.{OwesRefs}
 use Rattle.chunk_gc.specs.Exact.{IsOwed}
+use Rattle.expiry.specs.Owing.{IsOwed as OwesExpiry}
 use Rattle.play_collect.specs.Playing.{collect_task}
+use Rattle.play_expire.specs.Playing.{terms_of, expire_task}
 use Rattle.play_tasks.specs.Bases.{ComesOpen, OpensOrHasBase}
 use Rattle.play_tasks.proofs.Basing.{session-opens}
 use Rattle.play_tasks.specs.Owing.{OwesBy, OwesOwnBy, IsDue, ComesBefore, BeforeChange}
@@ -380,6 +382,13 @@ module _ (L : Laws) (by : Caller) (ids : AnyIds) (task : Task) (start : List Eve
       let p = collect_task task.line cutoff in
       let pays = PlayKeeps-own (λ h client op. IsPolite h op × IsOwed cutoff start h client op) (Pays (Collect cutoff)) by (λ h op x. (x.0, (x.1, (tt, tt)))) p start told.0 in
       (pays, all-before (Pays (Collect cutoff)) by p start pays, told.1)
+  by_head (Expire cutoff drop_branches drop_tags) is =
+      let terms = terms_of cutoff drop_branches drop_tags in
+      let head = Expire cutoff drop_branches drop_tags in
+      let told = L.expire by task.line terms start in
+      let p = expire_task task.line terms in
+      let pays = PlayKeeps-own (λ h client op. IsPolite h op × OwesExpiry terms start h client op) (Pays head) by (λ h op x. (x.0, (x.1, (tt, tt)))) p start told.0 in
+      (pays, all-before (Pays head) by p start pays, told.1)
 
   pub task-well : PlayKeeps (IsDue ids task by.number start) by (task_play ids task) start × PlayKeeps (λ journal client op. BeforeChange task client start journal op) by (task_play ids task) start
       × PlayLeads (TellsOutcome ids task by.number start) by (task_play ids task) start

@@ -1,5 +1,5 @@
--- The play of a task: it opens a session, plays the body's lines on it, and commits, or it calls on refs, or collects. Where memory is wanting, it ends there, and
--- still shows what its lines showed before. (Own.)
+-- The play of a task: it opens a session, plays the body's lines on it, and commits, or it calls on refs, or collects, or expires. Where memory is wanting, it ends
+-- there, and still shows what its lines showed before. (Own.)
 use Rattle.std.specs.Prelude.{ℕ, zero, suc, List, [], ◌∷◌, ◌++◌, true, false, Option, Result, Ok, Err}
 use Rattle.ice_ids.specs.declared.drawing.AnyIds.{AnyIds}
 use Rattle.store_api.specs.declared.machines.Refusal.{Refusal}
@@ -22,11 +22,12 @@ use Rattle.repo_read.specs.declared.resolving.At.{At}
 use Rattle.play_script.specs.declared.scripts.Access.{Access}
 use Rattle.play_script.specs.declared.scripts.Access.TheVariants.{Write, Read}
 use Rattle.play_script.specs.declared.scripts.Head.{Head}
-use Rattle.play_script.specs.declared.scripts.Head.TheVariants.{Session, Refs, Collect}
+use Rattle.play_script.specs.declared.scripts.Head.TheVariants.{Session, Refs, Collect, Expire}
 use Rattle.play_script.specs.declared.scripts.Line.{Line}
 use Rattle.play_script.specs.declared.scripts.Task.{Task}
 use Rattle.play_refs.specs.Playing.{refs_play}
 use Rattle.play_collect.specs.Playing.{collect_task}
+use Rattle.play_expire.specs.Playing.{terms_of, expire_task}
 use Rattle.play_outcome.specs.declared.outcome.Shown.{Shown}
 use Rattle.play_outcome.specs.declared.outcome.End.TheVariants.{Committed, Done}
 use Rattle.play_outcome.specs.declared.outcome.Outcome.{Outcome}
@@ -107,6 +108,7 @@ abbrev pub headed_play : Head → AnyIds → Task → Play Outcome
 headed_play (Session access) ids t = session_play ids access t.line t.body
 headed_play Refs ids t = refs_play t.body []
 headed_play (Collect cutoff) ids t = collect_task t.line cutoff
+headed_play (Expire cutoff drop_branches drop_tags) ids t = expire_task t.line (terms_of cutoff drop_branches drop_tags)
 
 -- the play of a task; if it opens a session, that draws these ids
 abbrev pub task_play : AnyIds → Task → Play Outcome

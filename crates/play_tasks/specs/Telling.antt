@@ -21,8 +21,10 @@ use Rattle.play_tasks.specs.Lines.{Deed, Goes, Sets, Reads, Commits, deed}
 use Rattle.rebase.specs.Telling.{RebaseTells}
 use Rattle.play_script.specs.declared.scripts.Access.{Access}
 use Rattle.play_script.specs.declared.scripts.Head.{Head}
-use Rattle.play_script.specs.declared.scripts.Head.TheVariants.{Session, Refs, Collect}
+use Rattle.play_script.specs.declared.scripts.Head.TheVariants.{Session, Refs, Collect, Expire}
 use Rattle.play_collect.specs.Telling.{CollectedTells}
+use Rattle.play_expire.specs.Playing.{terms_of}
+use Rattle.play_expire.specs.Telling.{ExpiredTells}
 use Rattle.play_refs.specs.Telling.{RefsTells}
 use Rattle.play_tasks.specs.Playing.{asked_by, tries_of, policy_of}
 use Rattle.play_tasks.specs.Solving.{PlaysAll, WasLost, WasCarried}
@@ -125,6 +127,7 @@ abbrev pub TellsBy : Head → AnyIds → Task → ℕ → List Event → Outcome
 TellsBy (Session access) ids task client start outcome journal = WasNotOpened ids access task client start outcome journal ⊎ WasOpened ids access task client start outcome journal
 TellsBy Refs ids task client start outcome journal = RefsTells task.body client start outcome journal
 TellsBy (Collect cutoff) ids task client start outcome journal = CollectedTells task.line cutoff client start outcome journal
+TellsBy (Expire cutoff drop_branches drop_tags) ids task client start outcome journal = ExpiredTells task.line (terms_of cutoff drop_branches drop_tags) client start outcome journal
 
 -- What the outcome of a task, whose session draws these ids if it opens one, says of the journal, where the task began at
 -- `start` and its client made no other events from there on.

@@ -5,6 +5,7 @@ ghost use Rattle.play_tasks.specs.Laws.{OutcomeLaw, TaskLaw};
 use chunk_calls::{get_law, owning_calls_law, set_law, tells_law};
 use commit_path::{answers_law, commit_law, opening_law, owning_law, session_law, single_law};
 use play_collect::{collect_outcome_law, collect_task_law};
+use play_expire::{expire_outcome_law, expire_task_law};
 use play_refs::{refs_outcome_law, refs_task_law};
 use rebase::rebase_law;
 
@@ -26,6 +27,7 @@ pub fn task_law()
     owning_calls_law();
     refs_task_law();
     collect_task_law();
+    expire_task_law();
 }
 
 /// What the outcome of a task tells stays so, whatever good events others make.
@@ -37,4 +39,5 @@ pub fn outcome_law()
     tells_law();
     refs_outcome_law();
     collect_outcome_law();
+    expire_outcome_law();
 }

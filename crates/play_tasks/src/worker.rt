@@ -2,8 +2,10 @@
 
 use crate::session_worker::SessionWorker;
 use crate::working::SessionTask;
+use expiry::Terms;
 use ice_ids::AnyIds;
 use play_collect::CollectWorker;
+use play_expire::ExpireWorker;
 use play_outcome::Outcome;
 use play_refs::RefsWorker;
 use play_script::{Head, Task};
@@ -16,10 +18,11 @@ enum Player<'a> {
     Session(SessionWorker<'a>),
     Refs(RefsWorker<'a>),
     Collect(CollectWorker),
+    Expire(ExpireWorker),
 }
 
-/// One task: it opens a session, plays the task's lines on it, and commits, or it calls on refs, or collects. Each step makes one
-/// operation of the store, and the local work that follows from its answer.
+/// One task: it opens a session, plays the task's lines on it, and commits, or it calls on refs, or collects, or expires. Each step
+/// makes one operation of the store, and the local work that follows from its answer.
 pub struct Worker<'a> {
     player: Player<'a>,
 }
@@ -62,6 +65,20 @@ impl<'a> Worker<'a> {
             Head::Collect { cutoff } => Ok(Worker {
                 player: Player::Collect(CollectWorker::new(alloc, task.line, *cutoff)),
             }),
+            Head::Expire {
+                cutoff,
+                drop_branches,
+                drop_tags,
+            } => {
+                let terms = Terms {
+                    cutoff: *cutoff,
+                    drop_branches: *drop_branches,
+                    drop_tags: *drop_tags,
+                };
+                Ok(Worker {
+                    player: Player::Expire(ExpireWorker::new(alloc, task.line, terms)),
+                })
+            }
         }
     }
 
@@ -74,6 +91,7 @@ impl<'a> Worker<'a> {
             Player::Session(worker) => worker.has_ended(),
             Player::Refs(worker) => worker.has_ended(),
             Player::Collect(worker) => worker.has_ended(),
+            Player::Expire(worker) => worker.has_ended(),
         }
     }
 
@@ -87,6 +105,7 @@ impl<'a> Worker<'a> {
             Player::Session(worker) => worker.into_outcome(),
             Player::Refs(worker) => worker.into_outcome(),
             Player::Collect(worker) => worker.into_outcome(),
+            Player::Expire(worker) => worker.into_outcome(),
         }
     }
 
@@ -101,6 +120,7 @@ impl<'a> Worker<'a> {
             Player::Session(worker) => worker.step(store),
             Player::Refs(worker) => worker.step(store),
             Player::Collect(worker) => worker.step(store),
+            Player::Expire(worker) => worker.step(store),
         }
     }
 }

@@ -34,7 +34,7 @@ use Rattle.repo_read.proofs.Own.{MadeGets-append, MadeOne-append, others-get}
 use Rattle.repo_read.proofs.NamingTold.{WasPresent-append, TargetWasAbsent-append, TargetWasBad-append, WasNothing-append, WasFailure-append}
 use Rattle.repo_read.proofs.Namings.{WasRef-append, WasResolved-append}
 use Rattle.refs_admin.proofs.Targets.{WasSnapshot-append}
-use Rattle.refs_admin.proofs.Lines.{leading-append}
+use Rattle.repo_read.proofs.Leading.{leading-append}
 
 module _ (by : Caller) (start journal more : List Event) (others : Each (IsOther by) journal more) where
   gets : MadeGets by.number start journal → MadeGets by.number start (journal ++ more)

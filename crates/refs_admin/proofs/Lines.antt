@@ -23,7 +23,7 @@ use Rattle.store_api.specs.Running.{Program, on_answer, StaysPolite, ◌>>=◌}
 use Rattle.store_api.proofs.Programs.{Leads-bind}
 use Rattle.repo_read.specs.declared.answers.Resolved.{Resolved}
 use Rattle.repo_read.specs.Answers.{at_key, ref_told, snapshot_told}
-use Rattle.repo_read.specs.Chains.{walk, chain_program, most_snapshots}
+use Rattle.repo_read.specs.Chains.{walk, chain_program, most_snapshots, Leading}
 use Rattle.store_api.specs.Telling.{GetsOf, MadeGets, WasGot, WasReadAs}
 use Rattle.repo_read.specs.declared.resolving.At.{At}
 use Rattle.repo_read.specs.declared.resolving.Named.{Named}
@@ -32,28 +32,12 @@ use Rattle.repo_read.specs.Resolving.{alone, tag_told, tombstone_told, tombstone
 use Rattle.repo_read.specs.Resolving.{no_ref}
 use Rattle.refs_admin.specs.Logs.{line_of, told_lines, refused_now, refused_first, chain_at, log_program}
 use Rattle.repo_read.specs.Naming.{WasResolved, NamingTells, IsNaming}
-use Rattle.refs_admin.specs.LogTelling.{Leading, WasWalked, IsOfLog, LogSays, LogTells}
+use Rattle.refs_admin.specs.LogTelling.{WasWalked, IsOfLog, LogSays, LogTells}
 use Rattle.repo_read.proofs.Own.{MadeGets-none, MadeGets-get, made-more}
 use Rattle.repo_read.proofs.Replies.{got-cases}
+use Rattle.repo_read.proofs.Leading.{leading-append, leading-makes, leading-next}
 use Rattle.repo_read.proofs.Namings.{got-made, absent-made, failed-made, WasResolved-makes, naming-leads}
-use Rattle.refs_admin.proofs.Targets.{read-append}
 use Rattle.refs_admin.proofs.NewBranch.{failure-as}
-
--- ---- what was read stays so
-pub leading-append : (client : ℕ) (from : Option Id12) (seen : List SnapshotFile) (to : Option Id12) (start journal more : List Event) → Leading client from seen to start journal → Leading client from seen to start (journal ++ more)
-leading-append client from [] to start journal more l = l
-leading-append client None (s ∷ ss) to start journal more l = absurd l
-leading-append client (Some id) (s ∷ ss) to start journal more l = (read-append client id s start journal more l.0, leading-append client s.parent ss to start journal more l.1)
-
-leading-makes : (by : Caller) (op : Op) (reply : Reply) (from : Option Id12) (seen : List SnapshotFile) (to : Option Id12) (start old new : List Event) → Makes by op reply old new → Leading by.number from seen to start old → Leading by.number from seen to start new
-leading-makes by op reply from seen to start old new m l =
-    subst (λ (h : List Event). Leading by.number from seen to start h) (sym (made-more by op reply old new m)) (leading-append by.number from seen to start old (m.waits.between ++ own_event by op reply m.time ∷ []) l)
-
--- one more
-leading-next : (client : ℕ) (from : Option Id12) (seen : List SnapshotFile) (id : Id12) (s : SnapshotFile) (start journal : List Event) → Leading client from seen (Some id) start journal → WasReadAs client id s start journal → Leading client from (seen ++ s ∷ []) s.parent start journal
-leading-next client from [] id s start journal l r = subst (λ (o : Option Id12). Leading client o (s ∷ []) s.parent start journal) (sym l) (r, refl)
-leading-next client None (x ∷ xs) id s start journal l r = absurd l
-leading-next client (Some i) (x ∷ xs) id s start journal l r = (l.0, leading-next client x.parent xs id s start journal l.1 r)
 
 -- ---- gets alone
 abbrev IsRead : Op → Type 0

@@ -23,8 +23,7 @@ use Rattle.store_api.specs.Callers.{Caller, Makes, own_event}
 use Rattle.store_api.specs.Program.{Leads, Keeps}
 use Rattle.store_api.specs.Running.{Program, on_answer, StaysPolite, ◌>>=◌}
 use Rattle.repo_read.specs.Answers.{at_key}
-use Rattle.store_api.specs.Telling.{MadeGets, WasFailure, WasGot, WasReadAs, WasSnapshot}
-use Rattle.store_api.proofs.Happening.{WasGot-append}
+use Rattle.store_api.specs.Telling.{MadeGets, WasFailure, WasGot, WasSnapshot}
 use Rattle.store_api.proofs.Telling.{get-had}
 use Rattle.repo_read.specs.declared.resolving.At.{At}
 use Rattle.repo_read.specs.declared.resolving.Named.{Named}
@@ -33,6 +32,7 @@ use Rattle.refs_admin.specs.Targets.{no_snapshot, target_told, target_program}
 use Rattle.repo_read.specs.Naming.{WasResolved, TargetWasAbsent, TargetWasBad}
 use Rattle.repo_read.proofs.Own.{MadeGets-get, made-more}
 use Rattle.repo_read.proofs.Replies.{got-cases}
+use Rattle.repo_read.proofs.Leading.{read-append}
 use Rattle.repo_read.proofs.Namings.{got-made, absent-made, failed-made, WasResolved-makes}
 
 -- the laws of what is read and written
@@ -76,9 +76,6 @@ module _ (laws : Spelled) (by : Caller) {B : Type 0} (id : Id12) (p : Program B)
   target-polite journal = (tt, λ reply new m. told-polite reply journal new m)
 
 -- ---- what is told
-pub read-append : (client : ℕ) (id : Id12) (s : SnapshotFile) (start journal more : List Event) → WasReadAs client id s start journal → WasReadAs client id s start (journal ++ more)
-read-append client id s start journal more r = record { bytes = r.bytes; version = r.version; got = WasGot-append client (Snapshot id) r.bytes r.version start journal more r.got; read = r.read }
-
 pub WasSnapshot-append : (client : ℕ) (id : Id12) (start journal more : List Event) → WasSnapshot client id start journal → WasSnapshot client id start (journal ++ more)
 WasSnapshot-append client id start journal more w = record { snap = w.snap; read = read-append client id w.snap start journal more w.read }
 

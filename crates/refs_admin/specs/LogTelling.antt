@@ -1,5 +1,5 @@
 -- What the answer to a log says of the journal. (Icechunk specification version 1, "Snapshots": each names its parent.)
-use Rattle.std.specs.Prelude.{◌≡◌, ◌⊎◌, ℕ, ◌<◌, List, [], ◌∷◌, length, map, Option, Some, None, Result, Ok, Err}
+use Rattle.std.specs.Prelude.{◌≡◌, ◌⊎◌, ℕ, ◌<◌, List, length, map, Option, Some, None, Result, Ok, Err}
 use Rattle.ice_ids.specs.declared.Id12.{Id12}
 use Rattle.snapshot_file.specs.declared.snapshot.SnapshotFile.{SnapshotFile}
 use Rattle.repo_objects.specs.declared.bad.Bad.{Bad}
@@ -10,8 +10,8 @@ use Rattle.object_store.specs.declared.events.Op.TheVariants.{Get}
 use Rattle.object_store.specs.declared.events.Event.{Event}
 use Rattle.store_api.specs.declared.machines.Refusal.{Refusal}
 use Rattle.store_api.specs.declared.machines.Refusal.TheVariants as R
-use Rattle.repo_read.specs.Chains.{most_snapshots}
-use Rattle.store_api.specs.Telling.{GetsOf, MadeGets, SnapshotWasBad, WasAbsent, WasFailure, WasReadAs}
+use Rattle.repo_read.specs.Chains.{most_snapshots, Leading}
+use Rattle.store_api.specs.Telling.{GetsOf, MadeGets, SnapshotWasBad, WasAbsent, WasFailure}
 use Rattle.repo_read.specs.declared.resolving.At.{At}
 use Rattle.repo_read.specs.declared.resolving.Named.{Named}
 use Rattle.refs_admin.specs.declared.log.LogLine.{LogLine}
@@ -19,12 +19,6 @@ use Rattle.refs_admin.specs.Logs.{line_of}
 use Rattle.repo_read.specs.Naming.{WasResolved, WasNothing, WasUnnamed, IsNaming}
 
 -- ---- a log
--- These snapshots were read, each the parent of the one before; it began with this one, and leads to the parent of the last one.
-abbrev pub Leading : ℕ → (from : Option Id12) → List SnapshotFile → (to : Option Id12) → List Event → List Event → Type 0
-Leading client from [] to start journal = from ≡ to
-Leading client None (s ∷ ss) to start journal = ⊥
-Leading client (Some id) (s ∷ ss) to start journal = WasReadAs client id s start journal × Leading client s.parent ss to start journal
-
 -- what was named, and the snapshots from there along the parents that were read, down to where they lead
 pub record WasWalked (client : ℕ) (at : At) (to : Option Id12) (start journal : List Event) : Type 0 where
   pub named : Named

@@ -5,3 +5,4 @@ pub mod Replies
 pub mod Stays
 pub mod Namings
 pub mod NamingTold
+pub mod Leading

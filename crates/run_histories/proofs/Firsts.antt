@@ -14,10 +14,11 @@ use Rattle.repository.specs.Beginning.{begin_program}
 use Rattle.repository.specs.Refs.{refs_program}
 use Rattle.collecting.specs.Runs.{OwesCollecting, walk_of}
 use Rattle.collecting.specs.Walks.{May}
+use Rattle.play_expire.specs.Playing.{terms_of}
 use Rattle.play_script.specs.Collections.{has_collection, is_collection}
 use Rattle.play_script.specs.Well.{IsWellTask}
 use Rattle.play_script.specs.declared.scripts.Head.{Head}
-use Rattle.play_script.specs.declared.scripts.Head.TheVariants.{Session, Refs, Collect}
+use Rattle.play_script.specs.declared.scripts.Head.TheVariants.{Session, Refs, Collect, Expire}
 use Rattle.play_script.specs.declared.scripts.Task.{Task}
 use Rattle.play_tasks.specs.Owing.{OwesBy}
 use Rattle.play_tasks.specs.Solving.{IsOfTask}
@@ -26,6 +27,7 @@ use Rattle.run_histories.specs.Runs.{IsBy, IsRun}
 use Rattle.run_histories.specs.Sources.{IsLeftUnput, IsNewRun, IsUnputRun, ObjectsAreNew, PutsUnput}
 use Rattle.run_histories.specs.Told.{HasCollections, IsOfCollection, KeepsObjects, RemovesCollecting}
 use Rattle.run_histories.proofs.Along.{ComesOnce, IsOfOpener, IsOfRun, PutsUnused, StaysOnce, among-at, by-head, opener-stays, owes-plain, plain-stays}
+use Rattle.run_histories.proofs.Expiring.{expiry-keeps}
 use Rattle.run_histories.proofs.Programs.{IsPlain, begin-plain, path-plain, refs-plain}
 use Rattle.run_histories.proofs.Removals.{AllObjectsAreNew, IsRemoval, objects-one, owes-keeps, plain-keeps, removes-op, unused-key}
 use Rattle.run_histories.proofs.Sources.{object-not_initial}
@@ -97,6 +99,7 @@ module _ (draw : Draw) (tasks : List Task) (start journal : List Event) (event :
       by_head (Session access) e o = absurd (owes-keeps (ids_at draw c.place) (IsOfTask (ids_at draw c.place) c.task (c.place + 1) start) journal event.op o removal)
       by_head Refs e o = absurd (plain-keeps event.op (owes-plain event.op o) removal)
       by_head (Collect cutoff) e o = record { place = c.place; task = c.task; cutoff = cutoff; at = c.at; head_is = e; client_is = c.client }
+      by_head (Expire cutoff drop_branches drop_tags) e o = absurd (expiry-keeps (terms_of cutoff drop_branches drop_tags) (c.place + 1) start journal event.op o removal)
 
   -- so where no task collects, it removes none
   client-keeps : has_collection tasks ≡ false → Keeps journal event
@@ -129,19 +132,19 @@ module _ (draw : Draw) (tasks : List Task) (old new : List Event) (r : IsRun dra
   all-is = rest-is ∙ ap (λ (j : List Event). j ++ rest) r.opening.is ∙ append_assoc old r.opening.own rest
 
   -- what is so of each part is so of all
-  rest-each : (P : List Event → Event → Type 0) → Each P r.begun r.playing.own → Each P r.played r.closing.own → Each P r.begun rest
+  pub rest-each : (P : List Event → Event → Type 0) → Each P r.begun r.playing.own → Each P r.played r.closing.own → Each P r.begun rest
   rest-each P playing closing = Each-append P r.begun r.playing.own r.closing.own playing (subst (λ (j : List Event). Each P j r.closing.own) r.playing.is closing)
 
   all-each : (P : List Event → Event → Type 0) → Each P old r.opening.own → Each P r.begun rest → Each P old all
   all-each P opening behind = Each-append P old r.opening.own rest opening (subst (λ (j : List Event). Each P j rest) r.opening.is behind)
 
-  abbrev Plain : List Event → Event → Type 0
+  abbrev pub Plain : List Event → Event → Type 0
   Plain journal event = IsPlain event.op
 
-  opening-plain : Each Plain old r.opening.own
+  pub opening-plain : Each Plain old r.opening.own
   opening-plain = path-plain begin_program old r.opening.own r.opening.left begin-plain r.opening.path
 
-  closing-plain : Each Plain r.played r.closing.own
+  pub closing-plain : Each Plain r.played r.closing.own
   closing-plain = path-plain refs_program r.played r.closing.own r.closing.left refs-plain r.closing.path
 
   -- ---- each event is of the run
@@ -170,7 +173,7 @@ module _ (draw : Draw) (tasks : List Task) (old new : List Event) (r : IsRun dra
   plain-kept_objects : (journal : List Event) (event : Event) → Plain journal event → KeepsObjects journal event
   plain-kept_objects journal event p key object removes = plain-keeps event.op p (removes-op journal event key object removes)
 
-  reads-alone : (client : ℕ) → client ≡ 0 → (place : ℕ) → ¬ (client ≡ place + 1)
+  pub reads-alone : (client : ℕ) → client ≡ 0 → (place : ℕ) → ¬ (client ≡ place + 1)
   reads-alone client none place some = omega (arith, none, some)
 
   pub run-collections : HasCollections tasks old r.begun new

@@ -32,9 +32,10 @@ use Rattle.play_tasks.specs.Playing.{asked_by}
 use Rattle.play_tasks.specs.Tasks.{ids_at, IsOfClient}
 use Rattle.run_histories.specs.Runs.{AllCaused, AllTrees, IsRun, IsSound, RanAlone}
 use Rattle.run_histories.specs.Sources.{DrawsOthers, IsLeftUnput, IsNewRun, IsNewSource, IsOfAnother, IsUnputRun, ObjectsAreUnput, PutsUnput}
-use Rattle.run_histories.specs.Told.{AllKeepFrozen, AllNormal, BegunLaw, ComesWhereOpen, CommitsSession, HasCollections, HasHistories, IsSolved, NoneHidden, NothingLaw, OthersLaw, RunLaw}
+use Rattle.run_histories.specs.Told.{AllKeepFrozen, AllNormal, BegunLaw, ComesWhereOpen, CommitsSession, HasCollections, HasExpiries, HasHistories, IsSolved, NoneHidden, NothingLaw, OthersLaw, RunLaw}
 use Rattle.run_histories.proofs.Along.{CommitsOwn, Fits, goes}
 use Rattle.run_histories.proofs.Beginnings.{began-at-last}
+use Rattle.run_histories.proofs.Cutting.{run-expiries}
 use Rattle.run_histories.proofs.Drawing.{AreOf, are-among, ids_at-of}
 use Rattle.run_histories.proofs.Firsts.{all, all-is, all-keep, all-of_run, client-task, objects-along, run-collections, unput-run}
 use Rattle.run_histories.proofs.Given.{CommitsNormal, before-given, joined, joined-before, joined-right, solved-enter, solved-given}
@@ -57,6 +58,7 @@ record Leaves (draw : Draw) (tasks : List Task) (old start added : List Event) :
   trees : AllTrees (old ++ added)
   causes : AllCaused (old ++ added)
   collections : HasCollections tasks old start (old ++ added)
+  expiries : HasExpiries tasks old start (old ++ added)
   others : has_collection tasks ≡ false → (ids : AnyIds) → IsOfAnother draw tasks ids → IsNewSource ids old → IsNewSource ids (old ++ added)
   others_beside : (ids : AnyIds) → IsOfAnother draw tasks ids → DrawsOthers draw tasks ids → ObjectsAreUnput ids old → IsNewSource ids old → IsNewSource ids (old ++ added)
   unput : IsUnputRun draw tasks old → Each PutsUnput old added × IsLeftUnput draw tasks start (old ++ added)
@@ -103,6 +105,7 @@ module _ (draw : Draw) (tasks : List Task) where
         unhidden = l.unhidden;
         sound = record { good = all; once = once; given = given; trees = l.trees; causes = l.causes };
         collections = l.collections;
+        expiries = l.expiries;
         others = l.others;
         others_beside = l.others_beside;
         unput = λ u. (l.unput u).0;
@@ -153,6 +156,7 @@ module _ (initial : InitialLaw) (draw : Draw) (tasks : List Task) (before : ℕ 
     trees = last.trees;
     causes = last.causes;
     collections = subst (HasCollections tasks old r.begun) is (run-collections draw tasks old new r);
+    expiries = subst (HasExpiries tasks old r.begun) is (run-expiries draw tasks old new r);
     others = λ nobody ids another source. record { objects = objects-along ids old added (all-keep draw tasks old new r nobody) source.objects; nodes = last.nodes ids another source.nodes };
     others_beside = λ ids another other u source. record { objects = λ id may. unput-new (old ++ added) id (others-never ids other u id may); nodes = last.nodes ids another source.nodes };
     unput = λ u. unput-run draw tasks old new r new_run.once u;

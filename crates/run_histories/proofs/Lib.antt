@@ -19,9 +19,11 @@ pub mod Moved
 pub mod Walked
 pub mod Single
 pub mod Removals
+pub mod Expiring
 pub mod Along
 pub mod Unput
 pub mod Firsts
+pub mod Cutting
 pub mod Growing
 pub mod Given
 pub mod Passing

@@ -29,7 +29,7 @@ IsBranch (Branch name) = Unit {0}
 IsBranch _ = ⊥
 
 -- a new key: the initial snapshot, or a ref
-abbrev IsPlainNew : List ℕ → Key → Type 0
+abbrev pub IsPlainNew : List ℕ → Key → Type 0
 IsPlainNew bytes (Snapshot id) = (id ≡ initial_id) × (bytes ≡ initial_bytes)
 IsPlainNew bytes (Branch name) = Unit {0}
 IsPlainNew bytes (Tag name) = Unit {0}
@@ -45,7 +45,7 @@ IsPlain (PutOver key bytes old why) = IsBranch key × (why ≡ Reset)
 IsPlain (RemoveAt key old why) = IsBranch key
 IsPlain _ = ⊥
 
--- What cleans up: it puts a snapshot over, which is a cut of its parent, where it is polite; or it removes a key, as a collection does.
+-- What cleans up: it puts a snapshot over, as an expiry does, which is a cut of its parent, where it is polite; or it removes a key, as a collection does.
 abbrev pub IsCleanup : Op → Type 0
 IsCleanup (PutOver key bytes old why) = IsOfSnapshot key
 IsCleanup (Remove key why) = Unit {0}

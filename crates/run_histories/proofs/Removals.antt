@@ -28,7 +28,7 @@ IsRemoval (RemoveAt key old why) = IsObject key
 IsRemoval _ = ⊥
 
 -- ---- which operations remove none
-no-object : (key : Key) → IsBranch key → ¬ IsObject key
+pub no-object : (key : Key) → IsBranch key → ¬ IsObject key
 no-object (Branch name) b o = o
 no-object (Snapshot id) b o = b
 no-object (Manifest id) b o = b

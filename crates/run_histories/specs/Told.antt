@@ -9,7 +9,8 @@ use Rattle.zarr_tree.specs.Changes.{Changes, none, IsNormal}
 use Rattle.repo_objects.specs.declared.bad.Bad.{Bad}
 use Rattle.repo_objects.specs.Readings.{ref_of}
 use Rattle.object_store.specs.declared.keys.Key.{Key}
-use Rattle.object_store.specs.declared.keys.Key.TheVariants.{Branch}
+use Rattle.object_store.specs.declared.keys.Key.TheVariants.{Branch, Snapshot}
+use Rattle.object_store.specs.declared.keys.Why.{Why}
 use Rattle.object_store.specs.declared.keys.Why.TheVariants.{Commit}
 use Rattle.object_store.specs.declared.events.Version.{Version}
 use Rattle.object_store.specs.declared.events.Op.{Op}
@@ -41,9 +42,12 @@ use Rattle.repository.specs.Refs.{refs_program}
 use Rattle.collecting.specs.Walks.{IsObject}
 use Rattle.collecting.specs.Runs.{OwesCollecting}
 use Rattle.history_laws.specs.Refs.{Removes}
+use Rattle.expiry.specs.declared.terms.Terms.{Terms}
+use Rattle.expiry.specs.Owing.{IsOwed}
+use Rattle.play_expire.specs.Playing.{terms_of}
 use Rattle.play_script.specs.Collections.{has_collection}
 use Rattle.play_script.specs.declared.scripts.Access.{Access}
-use Rattle.play_script.specs.declared.scripts.Head.TheVariants.{Session, Collect}
+use Rattle.play_script.specs.declared.scripts.Head.TheVariants.{Session, Collect, Expire}
 use Rattle.play_script.specs.declared.scripts.Line.{Line}
 use Rattle.play_script.specs.declared.scripts.Task.{Task}
 use Rattle.play_outcome.specs.declared.outcome.Shown.{Shown}
@@ -233,16 +237,64 @@ pub record HasCollections (tasks : List Task) (old start new : List Event) : Typ
   pub collecting : AllCollect tasks start more
   pub removing : Each (RemovesCollecting tasks) start more
 
+-- ---- expiries
+-- where the event is of this client, it is one that its expiry owes, by what the client's own gets read behind `start`
+abbrev pub OwesExpiring : Terms → (client : ℕ) → (start before : List Event) → Event → Type 0
+OwesExpiring terms client start before event = event.client ≡ client → IsOwed terms start before client event.op
+
+-- Each event of the client of a task that expires is one that its expiry owes: a get, a listing, or one that changes what is to be changed, by what the
+-- client's own gets read since the tasks began.
+abbrev pub AllExpire : List Task → (start more : List Event) → Type 0
+AllExpire tasks start more = (place : ℕ) (task : Task) (cutoff : ℕ) (drop_branches drop_tags : Bool) → slice_get tasks place ≡ Some task → task.head ≡ Expire cutoff drop_branches drop_tags
+    → Each (OwesExpiring (terms_of cutoff drop_branches drop_tags) (place + 1) start) start more
+
+-- the event is of the client of a task that expires
+pub record IsOfExpiry (tasks : List Task) (event : Event) : Type 0 where
+  pub place : ℕ
+  pub task : Task
+  pub cutoff : ℕ
+  pub drop_branches : Bool
+  pub drop_tags : Bool
+  pub at : slice_get tasks place ≡ Some task
+  pub head_is : task.head ≡ Expire cutoff drop_branches drop_tags
+  pub client_is : event.client ≡ place + 1
+
+-- the operation puts this snapshot over, done or not
+pub record IsPutOver (id : Id12) (op : Op) : Type 0 where
+  pub bytes : List ℕ
+  pub old : Version
+  pub why : Why
+  pub is : op ≡ PutOver (Snapshot id) bytes old why
+
+-- the event puts no snapshot over
+abbrev pub KeepsSnapshots : List Event → Event → Type 0
+KeepsSnapshots before event = (id : Id12) → IsPutOver id event.op → ⊥
+
+-- where it puts one over, it is of such a client
+abbrev pub CutsExpiring : List Task → List Event → Event → Type 0
+CutsExpiring tasks before event = (id : Id12) → IsPutOver id event.op → IsOfExpiry tasks event
+
+-- The opening puts no snapshot over; from the tasks' start on expiries alone do, so they alone cut histories, and they do nothing but what expiries owe.
+pub record HasExpiries (tasks : List Task) (old start new : List Event) : Type 0 where
+  pub opening : List Event
+  pub start_is : start ≡ old ++ opening
+  pub keeps : Each KeepsSnapshots old opening
+  pub more : List Event
+  pub is : new ≡ start ++ more
+  pub expiring : AllExpire tasks start more
+  pub cutting : Each (CutsExpiring tasks) start more
+
 -- ---- a run
 -- After a run, whose tasks began at `start`: the changes for each position are those before it, and for each commit that it added those of a session
 -- of its client's task; each commit that took effect follows on the entry before it, and no client has two; from the tasks' start on these events were
 -- played, each where its client's session is open, and then the refs were read; each session that was opened began
 -- at the last entry of its branch, or at its tag as that stood, or at the snapshot of its id, and keeps through its lines what stays of its nodes'
--- metadata, and its changes are normal; and no log hides a node from one that is rebased; collections alone remove objects. With these changes the journal is sound, and what another source may draw
--- is new to it where it was before, so that another run may go on (beside a collection, where nothing was ever put under it); if nothing was ever put under the ids that the clients may draw, each object is put
--- under one under which nothing ever was, and so it stays of what they and others may draw; the histories run over its calls, and so do the states of the tags; the
--- branches stand as their histories say, and the tags as their states do; and a tag that was there before is as it was, or was dropped. Trees are by
--- what was put in the whole journal.
+-- metadata, and its changes are normal; and no log hides a node from one that is rebased; collections alone remove objects, and expiries alone put
+-- snapshots over. With these changes the journal is sound, and what another source may draw is new to it where it was before, so that another run may
+-- go on (beside a collection, where nothing was ever put under it); if nothing was ever put under the ids that the clients may draw, each object is put
+-- under one under which nothing ever was, and so it stays of what they and others may draw; the histories run over its calls, and so do the states of
+-- the tags; the branches stand as their histories say, and the tags as their states do; and a tag that was there before is as it was, or was dropped.
+-- Trees are by what was put in the whole journal.
 pub record HasHistories (draw : Draw) (tasks : List Task) (before : ℕ → Changes) (old start new : List Event) : Type 0 where
   pub added : List Event
   pub is : new ≡ old ++ added
@@ -261,6 +313,7 @@ pub record HasHistories (draw : Draw) (tasks : List Task) (before : ℕ → Chan
   pub unhidden : NoneHidden draw tasks old new
   pub sound : IsSound new changes
   pub collections : HasCollections tasks old start new
+  pub expiries : HasExpiries tasks old start new
   pub others : has_collection tasks ≡ false → (ids : AnyIds) → IsOfAnother draw tasks ids → IsNewSource ids old → IsNewSource ids new
   pub others_beside : (ids : AnyIds) → IsOfAnother draw tasks ids → DrawsOthers draw tasks ids → ObjectsAreUnput ids old → IsNewSource ids old → IsNewSource ids new
   pub unput : IsUnputRun draw tasks old → Each PutsUnput old added

@@ -8,8 +8,8 @@ use repo_objects::initial_law;
 /// Where a run of tasks goes on a sound journal, to which its clients' ids are new, and nobody else acts,
 /// nothing is put again, each call on a branch got the answer of the branch's history, each snapshot has a
 /// well-formed tree, and each commit that took effect has the tree of the entry before it under exactly
-/// the changes of a session of its client's task. Tasks that collect alone remove objects, and nothing else of this hangs
-/// on it.
+/// the changes of a session of its client's task. Tasks that collect alone remove objects, and tasks that expire alone cut
+/// histories; nothing else of this hangs on either.
 pub fn run_law()
     ensures { RunLaw }
 {

@@ -27,7 +27,7 @@ use Rattle.play_script.specs.declared.scripts.Line.{Line}
 use Rattle.play_script.specs.declared.scripts.Task.{Task}
 use Rattle.play_outcome.specs.declared.outcome.Shown.{Shown}
 use Rattle.play_outcome.specs.declared.outcome.End.{End}
-use Rattle.play_outcome.specs.declared.outcome.End.TheVariants.{Committed, Collected, Done, Refused, Stopped}
+use Rattle.play_outcome.specs.declared.outcome.End.TheVariants.{Committed, Collected, Done, Refused, Stopped, Expired}
 use Rattle.play_outcome.specs.declared.outcome.Outcome.{Outcome}
 use Rattle.play_outcome.specs.declared.outcome.RefLine.{RefLine}
 use Rattle.play_tasks.specs.Playing.{policy_of}
@@ -150,13 +150,14 @@ abbrev pub HasNotCommitted : Files → ℕ → (start journal : List Event) → 
 HasNotCommitted files client start journal = (id : Id12) → ¬ HasCommitted files client id start journal
 
 -- A task that tells a commit made it; one that tells none made none, unless it tells a fault of the store, which leaves that open;
--- and none tells a collection.
+-- and none tells a collection or an expiry.
 abbrev pub EndsRight : Files → ℕ → End → (start journal : List Event) → Type 0
 EndsRight files client (Committed id) start journal = HasCommitted files client id start journal
 EndsRight files client (Collected removed) start journal = ⊥
 EndsRight files client Done start journal = HasNotCommitted files client start journal
 EndsRight files client (Refused line why) start journal = is_fault why ≡ false → HasNotCommitted files client start journal
 EndsRight files client (Stopped line why removed) start journal = ⊥
+EndsRight files client (Expired line cases result) start journal = ⊥
 
 -- ---- the promise
 -- Of a run over a journal that was old, whose tasks began at start and ended with these outcomes, nobody else acting; `changes` are those of the commit

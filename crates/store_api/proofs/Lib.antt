@@ -9,3 +9,4 @@ pub mod RunLaws
 pub mod Telling
 pub mod Happening
 pub mod Puts
+pub mod Ended

@@ -27,6 +27,12 @@ abbrev pub call : {A B : Type 0} → Prog (Result A Refusal) → (Result A Refus
 call (Done answer) f = f answer
 call (Ask_next op k) f = Ask op (f (Err NoMemory)) (λ reply. behind op (call (k reply) f) (f (Err NoMemory)))
 
+-- a play, with its outcome told as another one
+abbrev pub ended_as : {A B : Type 0} → (A → B) → Play A → Play B
+ended_as f (Ended a) = Ended (f a)
+ended_as f (Ask op starved next) = Ask op (ended_as f starved) (λ reply. ended_as f (next reply))
+ended_as f (Or p q) = Or (ended_as f p) (ended_as f q)
+
 abbrev pub IsLive : {A : Type 0} → Play A → Type 0
 IsLive (Ended a) = ⊥
 IsLive (Ask op starved next) = Unit {0}

@@ -98,6 +98,8 @@ end-failed (E.Collected removed) = refl
 end-failed E.Done = refl
 end-failed (E.Refused line why) = or-false (is_fault why)
 end-failed (E.Stopped line why removed) = or-false (is_fault why)
+end-failed (E.Expired line cases (Ok done)) = refl
+end-failed (E.Expired line cases (Err why)) = or-false (is_fault why)
 
 or-cases : (a b : Bool) → (a || b) ≡ true → (a ≡ true) ⊎ (b ≡ true)
 or-cases true b e = inl refl

@@ -57,10 +57,13 @@ end_committed (E.Collected removed) = false
 end_committed E.Done = false
 end_committed (E.Refused line why) = false
 end_committed (E.Stopped line why removed) = false
+end_committed (E.Expired line cases result) = false
 
 abbrev pub end_refused : End → Bool
 end_refused (E.Refused line why) = true
 end_refused (E.Stopped line why removed) = true
+end_refused (E.Expired line cases (Err why)) = true
+end_refused (E.Expired line cases (Ok done)) = false
 end_refused (E.Committed id) = false
 end_refused (E.Collected removed) = false
 end_refused E.Done = false

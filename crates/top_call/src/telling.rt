@@ -40,12 +40,22 @@ fn add(causes: &mut Causes, why: &Refusal)
     }
 }
 
+/// Adds what an end by a refusal causes.
+fn add_result(causes: &mut Causes, ended: &Result<(), Refusal>)
+    ensures { causes.new ≡ all_added causes.old (why_of ended.now) }
+{
+    if let Err(why) = ended {
+        add(causes, why);
+    }
+}
+
 /// Adds what a task causes that ended so.
 fn add_end(causes: &mut Causes, end: &End)
     ensures { causes.new ≡ all_added causes.old (end_why end.now) }
 {
     match end {
         End::Refused { why, .. } | End::Stopped { why, .. } => add(causes, why),
+        End::Expired { result, .. } => add_result(causes, result),
         End::Committed(_) | End::Collected(_) | End::Done => {}
     }
 }
@@ -56,15 +66,6 @@ fn add_outcomes(causes: &mut Causes, outcomes: &[Outcome])
 {
     for outcome in outcomes {
         add_end(causes, &outcome.end);
-    }
-}
-
-/// Adds what an opening that was refused causes.
-fn add_opening(causes: &mut Causes, opening: &Result<(), Refusal>)
-    ensures { causes.new ≡ all_added causes.old (why_of opening.now) }
-{
-    if let Err(why) = opening {
-        add(causes, why);
     }
 }
 
@@ -87,7 +88,7 @@ fn causes_of(played: &Played, unwritten: bool) -> Causes
         unwritten,
         refused: false,
     };
-    add_opening(&mut causes, &played.opening);
+    add_result(&mut causes, &played.opening);
     add_outcomes(&mut causes, &played.outcomes);
     add_refs(&mut causes, &played.refs);
     causes
@@ -133,7 +134,8 @@ fn numbers(outcomes: &[Outcome]) -> (u64, u64)
         match outcome.end {
             End::Committed(_) => committed += 1,
             End::Refused { .. } | End::Stopped { .. } => refused += 1,
-            End::Collected(_) | End::Done => {}
+            End::Expired { result: Err(_), .. } => refused += 1,
+            End::Expired { result: Ok(()), .. } | End::Collected(_) | End::Done => {}
         }
     }
     (committed, refused)

@@ -10,16 +10,13 @@ use Rattle.zarr_meta.specs.declared.views.NodeType.TheVariants.{Group, Array}
 use Rattle.serde_json.specs.Data.{Data, Members, no_members, member}
 use Rattle.serde_json.specs.Find.{get, as_bool, as_null}
 
-abbrev pub is_among : List (List ℕ) → List ℕ → Bool
-is_among names name = list_any (bytes_eq name) names
-
 -- Zarr v3 core specification, "Group metadata": the members of a group
 abbrev pub is_group_member : List ℕ → Bool
-is_group_member = is_among (codes "zarr_format" ∷ codes "node_type" ∷ codes "attributes" ∷ [])
+is_group_member name = list_any (bytes_eq name) (codes "zarr_format" ∷ codes "node_type" ∷ codes "attributes" ∷ [])
 
 -- "Array metadata": those of an array
 abbrev pub is_array_member : List ℕ → Bool
-is_array_member = is_among
+is_array_member name = list_any (bytes_eq name)
     (codes "zarr_format" ∷ codes "node_type" ∷ codes "shape" ∷ codes "data_type" ∷ codes "chunk_grid" ∷ codes "chunk_key_encoding"
     ∷ codes "fill_value" ∷ codes "codecs" ∷ codes "storage_transformers" ∷ codes "attributes" ∷ codes "dimension_names" ∷ [])
 

@@ -57,9 +57,10 @@ group_of value = do
   _ ← known_members node_type.Group value
   Ok view.Group
 
-abbrev pub node_of : NodeType → Data → Result View MetaFault
-node_of node_type.Group value = group_of value
-node_of node_type.Array value = array_of value >>= λ array. Ok (view.Array array)
+-- what a node of this type is
+abbrev pub of_type : NodeType → (group array : Result View MetaFault) → Result View MetaFault
+of_type node_type.Group group array = group
+of_type node_type.Array group array = array
 
 -- the view of a value
 unfoldable pub view_of : Data → Result View MetaFault
@@ -67,7 +68,7 @@ view_of value = do
   _ ← ok_or (as_object value) f.Json
   _ ← passes (has_format value) f.Format
   kind ← ok_or (node_type_of value) f.NodeType
-  node_of kind value
+  of_type kind (group_of value) (array_of value >>= λ array. Ok (view.Array array))
 
 -- the value that serde_json reads in bytes, which are UTF-8
 unfoldable pub json_of : List ℕ → Option Data

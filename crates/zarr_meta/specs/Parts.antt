@@ -100,21 +100,21 @@ only_item (item codec (item next items)) = None
 abbrev pub endian_unsaid : IntKind → Option Bool
 endian_unsaid kind = if size_of kind == 1 then Some false else None
 
-abbrev pub endian_of : IntKind → Option Data → Option Bool
-endian_of kind None = endian_unsaid kind
-endian_of kind (Some endian) =
+abbrev pub endian_of : (unsaid : Option Bool) → Option Data → Option Bool
+endian_of unsaid None = unsaid
+endian_of unsaid (Some endian) =
     if is_text (codes "little") (Some endian) then Some false
     else if is_text (codes "big") (Some endian) then Some true else None
 
-abbrev pub configured_endian : IntKind → Option Data → Option Bool
-configured_endian kind None = endian_unsaid kind
-configured_endian kind (Some configuration) =
-    if is_object configuration then endian_of kind (get (codes "endian") configuration) else None
+abbrev pub configured_endian : (unsaid : Option Bool) → Option Data → Option Bool
+configured_endian unsaid None = unsaid
+configured_endian unsaid (Some configuration) =
+    if is_object configuration then endian_of unsaid (get (codes "endian") configuration) else None
 
 unfoldable pub codec_of : IntKind → Data → Option Bool
 codec_of kind codec =
     if is_text (codes "bytes") (Some codec) then endian_unsaid kind
-    else if is_text (codes "bytes") (get (codes "name") codec) then configured_endian kind (get (codes "configuration") codec) else None
+    else if is_text (codes "bytes") (get (codes "name") codec) then configured_endian (endian_unsaid kind) (get (codes "configuration") codec) else None
 
 unfoldable pub big_of : IntKind → Data → Option Bool
 big_of kind value = list_member (codes "codecs") value >>= only_item >>= codec_of kind

@@ -17,7 +17,7 @@ use Rattle.zarr_meta.specs.declared.views.View.{View}
 use Rattle.zarr_meta.specs.declared.views.View.TheVariants as view
 use Rattle.zarr_meta.specs.Grids.{grid_of, are_each_below, are_lengths, has_few_chunks, has_small_chunks, has_grid, most_chunks}
 use Rattle.zarr_meta.specs.Kinds.{size_of}
-use Rattle.zarr_meta.specs.Meta.{◌>>=◌, passes, known_members, array_of, group_of, node_of, view_of, json_of, meta_of, view_in}
+use Rattle.zarr_meta.specs.Meta.{◌>>=◌, passes, known_members, array_of, group_of, of_type, view_of, json_of, meta_of, view_in}
 use Rattle.zarr_meta.specs.Parts.{has_format, node_type_of, shape_of, kind_of, chunk_items, chunks_of, has_encoding, fill_of, big_of, has_no_transformers, has_attributes, names_of}
 use Rattle.zarr_grid.proofs.GridEnds.{length-grid_of}
 use Rattle.zarr_tree.specs.Nodes.{array_of_view, array_in, in_grid, are_low}
@@ -81,7 +81,7 @@ group_never value a h =
     let is : view.Group ≡ view.Array a = ap (given_of (view.Array a)) members.2 in
     cc
 
-node_grid : (kind : NodeType) (value : Data) (a : ArrayView) → node_of kind value ≡ Ok (view.Array a) → has_grid (size_of a.kind) a.shape a.chunks ≡ true
+node_grid : (kind : NodeType) (value : Data) (a : ArrayView) → of_type kind (group_of value) (array_of value >>= λ array. Ok (view.Array array)) ≡ Ok (view.Array a) → has_grid (size_of a.kind) a.shape a.chunks ≡ true
 node_grid node_type.Group value a h = absurd (group_never value a h)
 node_grid node_type.Array value a h =
     let array = step (array_of value) _ (view.Array a) h in

@@ -2,6 +2,7 @@
 use Rattle.std.specs.Prelude.{◌≡◌, ℕ, ◌==◌, not, ◌||◌, nat_lt, if◌then◌else◌, Bool, true, false, List, length, Option, Some, None, is_some, IsTrue}
 use Rattle.std.specs.List.{list_all}
 use Rattle.std.specs.Ordering.{eq_by_cmp}
+use Rattle.std.specs.Result.{result_ok}
 use Rattle.std.specs.Str.{bytes_eq}
 use Rattle.ice_ids.specs.declared.Id8.{Id8}
 use Rattle.zarr_path.specs.Indices.{index_cmp}
@@ -10,7 +11,7 @@ use Rattle.zarr_meta.specs.declared.views.View.{View}
 use Rattle.zarr_meta.specs.declared.views.View.TheVariants as view
 use Rattle.zarr_meta.specs.Grids.{is_in_grid, chunk_bytes, most_chunks}
 use Rattle.zarr_meta.specs.Kinds.{name_of, size_of}
-use Rattle.zarr_meta.specs.Meta.{view_in}
+use Rattle.zarr_meta.specs.Meta.{meta_of, view_in}
 use Rattle.zarr_tree.specs.declared.edit.Frozen.{Frozen}
 use Rattle.zarr_tree.specs.declared.edit.Frozen.TheVariants as frozen
 
@@ -30,7 +31,7 @@ is_group_view (Some (view.Array array)) = false
 is_group_view None = false
 
 abbrev pub is_group : List ℕ → Bool
-is_group text = is_group_view (view_in text)
+is_group text = is_group_view (result_ok (meta_of text))
 
 -- "Array metadata": what it says of an array, if it is an array's
 abbrev pub array_of_view : Option View → Option ArrayView
@@ -39,10 +40,10 @@ array_of_view (Some view.Group) = None
 array_of_view None = None
 
 abbrev pub array_in : List ℕ → Option ArrayView
-array_in text = array_of_view (view_in text)
+array_in text = array_of_view (result_ok (meta_of text))
 
 abbrev pub is_array : List ℕ → Bool
-is_array text = is_some (array_in text)
+is_array text = is_some (array_of_view (result_ok (meta_of text)))
 
 -- whether two lists of numbers, one for each dimension, are the same
 abbrev pub same_numbers : List ℕ → List ℕ → Bool

@@ -12,7 +12,7 @@ use Rattle.store_api.specs.declared.machines.Refusal.{Refusal}
 use Rattle.store_api.specs.declared.machines.Refusal.TheVariants.{NoMemory, StoreFault as Refused_fault}
 use Rattle.store_api.specs.Program.{Prog, is_ask, is_fault}
 use Rattle.store_api.specs.Plays.{Play, Ended, Ask, Or, call}
-use Rattle.cleanup_reports.specs.declared.Removed.{Removed}
+use Rattle.cleanup_reports.specs.declared.removed.Removed.{Removed}
 use Rattle.chunk_gc.specs.declared.standing.Collected.{Collected}
 use Rattle.chunk_gc.specs.declared.standing.Collecting.{Collecting}
 use Rattle.chunk_gc.specs.declared.standing.Collecting.TheVariants as state

@@ -16,5 +16,6 @@ returns c =
       calls = c.owning_calls_law.ensures;
       refs = c.refs_task_law.ensures;
       collect = c.collect_task_law.ensures;
+      expire = c.expire_task_law.ensures;
     } in
     λ by ids task start well. task-well L by ids task start well

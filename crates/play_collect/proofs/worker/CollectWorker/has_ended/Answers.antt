@@ -1,6 +1,6 @@
 use Rattle.chunk_gc.specs.Resting.{collect_rest}
 use Rattle.play_collect.specs.Playing.{outcome_of}
-use Rattle.play_collect.proofs.Ended.{live-as, ended-so}
+use Rattle.store_api.proofs.Ended.{live-as, ended-so}
 use Rattle.play_collect.proofs.worker.CollectWorker.has_ended.Goals as goal
 
 pub returns-clause-ended : goal.returns-clause-ended

@@ -1,6 +1,6 @@
 use Rattle.chunk_gc.specs.Resting.{collect_rest}
 use Rattle.play_collect.specs.Playing.{outcome_of}
-use Rattle.play_collect.proofs.Ended.{has-ended}
+use Rattle.store_api.proofs.Ended.{has-ended}
 use Rattle.play_collect.proofs.worker.CollectWorker.into_outcome.Goals as goal
 
 pub into_outcome-requires : goal.into_outcome-requires

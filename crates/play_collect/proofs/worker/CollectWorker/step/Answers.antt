@@ -1,6 +1,6 @@
 use Rattle.chunk_gc.specs.Resting.{collect_rest}
 use Rattle.play_collect.specs.Playing.{outcome_of}
-use Rattle.play_collect.proofs.Ended.{is-live, is-polite}
+use Rattle.store_api.proofs.Ended.{is-live, is-polite}
 use Rattle.play_collect.proofs.Stepping.{task-acts}
 use Rattle.play_collect.proofs.worker.CollectWorker.step.Goals as goal
 

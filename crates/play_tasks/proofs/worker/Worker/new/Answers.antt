@@ -3,6 +3,9 @@ use Rattle.store_api.specs.Plays.{Comes}
 use Rattle.play_script.specs.declared.scripts.Head.{Head}
 use Rattle.play_collect.specs.Workers.{collecting_rest}
 use Rattle.play_collect.proofs.Stepping.{task-begun}
+use Rattle.play_expire.specs.Playing.{terms_of}
+use Rattle.play_expire.specs.Workers.{expiring_rest}
+use Rattle.play_expire.proofs.Stepping.{expiry-begun}
 use Rattle.play_tasks.specs.Playing.{session_play, headed_play}
 use Rattle.play_tasks.specs.inside.Sessions.{session_rest}
 use Rattle.play_tasks.proofs.Begun.{session-begun}
@@ -21,3 +24,9 @@ pub returns-in-Collect : goal.returns-in-Collect
 returns-in-Collect c =
     let task = c.args.task.now in
     subst (λ (head : Head). Comes (headed_play head c.args.ids task) (collecting_rest c.new-in-Collect.result)) (sym c.in-Collect.is) (task-begun task.line c.in-Collect.cutoff (collecting_rest c.new-in-Collect.result) c.new-in-Collect.ensures)
+
+pub returns-in-Expire : goal.returns-in-Expire
+returns-in-Expire c =
+    let task = c.args.task.now in
+    let terms = terms_of c.in-Expire.cutoff c.in-Expire.drop_branches c.in-Expire.drop_tags in
+    subst (λ (head : Head). Comes (headed_play head c.args.ids task) (expiring_rest c.new-in-Expire.result)) (sym c.in-Expire.is) (expiry-begun task.line terms (expiring_rest c.new-in-Expire.result) c.new-in-Expire.ensures)

@@ -3,8 +3,7 @@ use Rattle.std.proofs.Common.{Bool, ◌≡◌, inl, inr, sym, ap, ◌∙◌, ℕ
 use Rattle.object_store.specs.declared.events.Op.{Op}
 use Rattle.object_store.specs.declared.events.Event.{Event}
 use Rattle.store_api.specs.Callers.{Caller, View}
-use Rattle.store_api.specs.Plays.{Play, Ended, Ask, Or, IsLive, HasEnded, Comes, PlayKeeps, PlayLeads, PlayIsPolite, BlamesEnd, Acts}
-use Rattle.play_collect.specs.Playing.{ended_as}
+use Rattle.store_api.specs.Plays.{Play, Ended, Ask, Or, IsLive, HasEnded, Comes, PlayKeeps, PlayLeads, PlayIsPolite, BlamesEnd, Acts, ended_as}
 
 module _ {A B : Type 0} (f : A → B) where
   -- ---- where it stands

@@ -1,0 +1,10 @@
+pub mod StepsHeard
+pub mod StepsLook
+pub mod StepsPlay
+pub mod Lasting
+pub mod Playing
+pub mod Judging
+pub mod Reading
+pub mod Deciding
+pub mod Listing
+pub mod Lawful

@@ -1,0 +1,4 @@
+pub mod Looking
+pub mod Registers
+pub mod Taking
+pub mod Expiring

@@ -1,0 +1,12 @@
+pub mod Bytes
+pub mod Cutting
+pub mod Numbers
+pub mod Lines
+pub mod Naming
+pub mod Fills
+pub mod Heads
+pub mod Turns
+pub mod Base
+pub mod Tasks
+pub mod Sizes
+pub mod Whole
