@@ -1,5 +1,6 @@
 -- A step of a collection.
-use Rattle.std.proofs.Common.{Bool, true, false, ◌≡◌, ◌⊎◌, inl, inr, refl, sym, ap, subst, ℕ, ◌≤◌, List, [], ◌∷◌, Result, Ok, Err}
+use Rattle.std.proofs.Common.{Bool, true, false, ◌≡◌, ◌⊎◌, inl, inr, refl, sym, ap, ◌∙◌, subst, ℕ, ◌≤◌, List, [], ◌∷◌, Result, Ok, Err}
+use Rattle.std.proofs.lemmas.Bool.{false≢true}
 use Rattle.std.specs.Prelude.{IsTrue}
 use Rattle.ice_base.specs.Ends.{Rose}
 use Rattle.object_store.specs.declared.keys.Key.{Key}
@@ -16,7 +17,7 @@ use Rattle.store_api.specs.declared.machines.Refusal.{Refusal}
 use Rattle.store_api.specs.declared.machines.Refusal.TheVariants.{NoMemory}
 use Rattle.store_api.specs.Callers.{View, Called, Waits}
 use Rattle.store_api.specs.Program.{Prog, Done, Ask as Ask_next, is_ask, moves_branch, is_no_memory, Lands, IsSure, Steps, Blames}
-use Rattle.store_api.specs.Plays.{Play, Ended, Ask, Or, call, behind, Comes, Acts, Starved, BlamesEnd}
+use Rattle.store_api.specs.Plays.{Play, call, behind, Comes, Acts, Starved, dooms, BlamesEnd}
 use Rattle.store_api.proofs.Programs.{made-done}
 use Rattle.cleanup_reports.specs.declared.removed.Removed.{Removed}
 use Rattle.chunk_gc.specs.declared.standing.Collected.{Collected}
@@ -28,13 +29,9 @@ is-memory : (why : Refusal) → is_no_memory why ≡ true → why ≡ NoMemory
 is-memory NoMemory e = refl
 is-memory _ e = absurd cc
 
-blames-end : (result : Result (Next (List Key)) Refusal) (r : Play Collected) (m n : ℕ) → Blames result m n → Blamed (faults result) r → BlamesEnd tells_failure r m n
-blames-end (Ok t) (Ended outcome) m n b g = (b, λ failed. let x = g failed in absurd cc)
-blames-end (Ok t) (Ask op s next) m n b g = b
-blames-end (Ok t) (Or p q) m n b g = b
-blames-end (Err why) (Ended outcome) m n b g = (b.0, λ failed. b.1 (g failed))
-blames-end (Err why) (Ask op s next) m n b g = b.0
-blames-end (Err why) (Or p q) m n b g = b.0
+blames-end : (result : Result (Next (List Key)) Refusal) (p r : Play Collected) (m n : ℕ) → Blames result m n → Blamed (faults result) r → BlamesEnd tells_failure p r m n
+blames-end (Ok t) p r m n b g = (b, λ doomed. absurd (false≢true (g doomed)))
+blames-end (Err why) p r m n b g = (b.0, λ doomed. inr (b.1 (g doomed)))
 
 module _ (f : Result (List Key) Refusal → Play Collected) (r : Play Collected) where
   goes : (x y : Prog (Result (List Key) Refusal)) → x ≡ y → Comes (call y f) r → Comes (call x f) r
@@ -67,7 +64,7 @@ module _ (f : Result (List Key) Refusal → Play Collected) (r : Play Collected)
   pub acts : (old new : View) (p q : Prog (Result (List Key) Refusal)) (result : Result (Next (List Key)) Refusal) → is_ask p ≡ true → Steps old new p q result → Comes (settled f q result) r → Blamed (faults result) r → Acts tells_failure old new (call p f) r
   acts old new p q result live s c b = record {
     same = s.same;
-    blames = blames-end result r old.faults new.faults s.blames b;
+    blames = blames-end result (call p f) r old.faults new.faults s.blames b;
     went = elim s.went [
       | inl m ↦ inl (record {
         op = m.op;
@@ -92,20 +89,18 @@ pub sweep-more : (keys behind : List Key) (key : Key) (removed : Removed) (q : P
 unfolding sweep
 sweep-more keys behind key removed q e s = rw e s
 
--- an end that tells no fault, or a removal
-calm-end : (q : Play Collected) (m n : ℕ) → m ≤ n → Blamed false q → BlamesEnd tells_failure q m n
-calm-end (Ended outcome) m n l b = (l, λ failed. let x = b failed in absurd cc)
-calm-end (Ask op s next) m n l b = l
-calm-end (Or p q) m n l b = l
+-- what is bound to tell no fault
+calm-end : (p q : Play Collected) (m n : ℕ) → m ≤ n → Blamed false q → BlamesEnd tells_failure p q m n
+calm-end p q m n l b = (l, λ doomed. absurd (false≢true (b doomed)))
 
-failed-end : (q : Play Collected) (outcome : Collected) (m n : ℕ) → Rose m n → q ≡ Ended outcome → BlamesEnd tells_failure q m n
-failed-end q outcome m n r e = subst (λ (x : Play Collected). BlamesEnd tells_failure x m n) (sym e) (r.0, λ failed. r)
+failed-end : (p q : Play Collected) (m n : ℕ) → Rose m n → BlamesEnd tells_failure p q m n
+failed-end p q m n r = (r.0, λ doomed. inr r)
 
 pub removed-acts : (key : Key) (keys : List Key) (removed : Removed) (answer : Result Gone StoreFault) (old new : View) (q : Play Collected) → Called (λ gone. Is_gone gone) (Remove key For_collect) answer old new
     → Comes (removal_rest key keys removed answer) q → ((gone : Gone) → answer ≡ Ok gone → Blamed false q) → Acts tells_failure old new (removing_rest key keys removed) q
 removed-acts key keys removed (Ok gone) old new q c comes b = record {
   same = c.same;
-  blames = calm-end q old.faults new.faults c.counted (b gone refl);
+  blames = calm-end (removing_rest key keys removed) q old.faults new.faults c.counted (b gone refl);
   went = inl (record {
     op = Remove key For_collect;
     starved = ends_with removed (Err NoMemory);
@@ -121,7 +116,7 @@ removed-acts key keys removed (Err Failed) old new q c comes b =
     let made = made-done (λ (gone : Gone). Is_gone gone) old.caller (Remove key For_collect) old.seen new.seen old.caller.tells c.did in
     record {
       same = c.same;
-      blames = failed-end q _ old.faults new.faults c.counted comes;
+      blames = failed-end (removing_rest key keys removed) q old.faults new.faults c.counted;
       went = inl (record {
         op = Remove key For_collect;
         starved = ends_with removed (Err NoMemory);
@@ -135,7 +130,7 @@ removed-acts key keys removed (Err Failed) old new q c comes b =
     }
 removed-acts key keys removed (Err No_room) old new q c comes b = record {
   same = c.same;
-  blames = starved-end q old.faults new.faults c.counted comes;
+  blames = calm-end (removing_rest key keys removed) q old.faults new.faults c.counted (starved-end q comes);
   went = inr (record {
     op = Remove key For_collect;
     starved = ends_with removed (Err NoMemory);
@@ -146,5 +141,5 @@ removed-acts key keys removed (Err No_room) old new q c comes b = record {
   });
 }
   where
-    starved-end : (q : Play Collected) (m n : ℕ) → m ≤ n → q ≡ ends_with removed (Err NoMemory) → BlamesEnd tells_failure q m n
-    starved-end q m n l e = subst (λ (x : Play Collected). BlamesEnd tells_failure x m n) (sym e) (l, λ failed. absurd cc)
+    starved-end : (q : Play Collected) → q ≡ ends_with removed (Err NoMemory) → Blamed false q
+    starved-end q e doomed = sym (ap (dooms tells_failure) e) ∙ doomed

@@ -38,7 +38,7 @@ use Rattle.commit_path.specs.declared.commit.Tried.{Tried}
 use Rattle.commit_path.specs.declared.commit.Tried.TheVariants.{Done as Was_done, Lost}
 use Rattle.commit_path.specs.Committing.{Written, commit_program, arrays_program, unwritten, after_arrays, write_all, put_log, after_log, after_snapshot, put_branch, after_branch, log_for, snap_for, is_long}
 use Rattle.commit_path.specs.Owed.{Sessions, IsMade, IsCareful}
-use Rattle.commit_path.specs.Answered.{commits_over, WasLogged, WasSnapped, WereWritten, TookEffect, WasMoved, WasTaken, IsOfCommit, CommitTells}
+use Rattle.commit_path.specs.Answered.{commits_over, WasLogged, WasSnapped, WereWritten, WasWritten, TookEffect, WasMoved, WasDoubted, WasTaken, IsOfCommit, CommitTells}
 use Rattle.store_api.specs.Telling.{ChangedNothing}
 use Rattle.commit_path.specs.Opened.{IsOpened}
 use Rattle.commit_path.specs.Spelled.{IsSpelled}
@@ -124,9 +124,24 @@ module _ (L : Spellings) (by : Caller) (ids : AnyIds) (mine : Sessions) (s : Ses
       pub is : snapshot.snap ≡ snap_for s message x.news id time
 
     -- ---- the branch
+    -- whatever the put over was answered, the manifests, the log and the snapshot were put, and the snapshot is the session's
+    written-told : (flushed : ℕ) (reply : Reply) (old new : List Event) → AfterSnapshot flushed old → Makes by over_put reply old new → WasWritten by.number s id message start new
+    written-told flushed reply old new a n = record {
+      news = x.news;
+      manifests = more-makes (WereWritten by.number s x.news id start) (WereWritten-append by.number s x.news id start) by over_put reply old new n (written-by old a.ready);
+      time = flushed;
+      log = WasLogged-makes by start id flushed over_put reply old new n a.log;
+      snapshot = WasSnapped-makes by start id message flushed over_put reply old new n a.snapshot;
+      is = a.is;
+    }
+
+    made-told : (flushed : ℕ) (reply : Reply) (old new : List Event) → AfterSnapshot flushed old → Makes by over_put reply old new → IsOnce new → IsMade s id new
+    made-told flushed reply old new a n =
+        let polite = (over-careful L by ids mine s message start x id own is_id may w m logs may_write flushed old a.ready a.logged a.snapped).polite in
+        makes-keeps (λ h. IsOnce h → IsMade s id h) (made-stable s id) by over_put reply old new polite n (made-now L s by.number start x message flushed id old a.ready a.logged a.snapped)
+
     done-told : (flushed : ℕ) (version : Version) (now : ℕ) (old new : List Event) → AfterSnapshot flushed old → Makes by over_put (Is_over (Over_done version now)) old new → TookEffect by.number s message (record { id = id; version = version }) start new
     done-told flushed version now old new a n =
-        let polite = (over-careful L by ids mine s message start x id own is_id may w m logs may_write flushed old a.ready a.logged a.snapped).polite in
         let did = over-done (length n.middle) n.time (version_of s) (found n.middle (Branch (branch_of s))) version now (over-same _ _ n.answered.answered) in
         record {
           bytes = ref_bytes id;
@@ -137,16 +152,21 @@ module _ (L : Spellings) (by : Caller) (ids : AnyIds) (mine : Sessions) (s : Ses
           read = stands-as n.middle (Branch (branch_of s)) did.stored (version_of s) did.stands did.old_is;
           once = changed-once by start over_put (Is_over (Over_done version now)) old new n a.ready.nothing;
           drawn = drawn;
-          written = record {
-            news = x.news;
-            manifests = more-makes (WereWritten by.number s x.news id start) (WereWritten-append by.number s x.news id start) by over_put (Is_over (Over_done version now)) old new n (written-by old a.ready);
-            time = flushed;
-            log = WasLogged-makes by start id flushed over_put (Is_over (Over_done version now)) old new n a.log;
-            snapshot = WasSnapped-makes by start id message flushed over_put (Is_over (Over_done version now)) old new n a.snapshot;
-            is = a.is;
-          };
-          is_made = makes-keeps (λ h. IsOnce h → IsMade s id h) (made-stable s id) by over_put (Is_over (Over_done version now)) old new polite n (made-now L s by.number start x message flushed id old a.ready a.logged a.snapped);
+          written = written-told flushed (Is_over (Over_done version now)) old new a n;
+          is_made = made-told flushed (Is_over (Over_done version now)) old new a n;
         }
+
+    doubt-told : (flushed : ℕ) (done : Bool) (old new : List Event) → AfterSnapshot flushed old → Makes by over_put (Failed done) old new → WasDoubted by.number s message id start new
+    doubt-told flushed done old new a n = record {
+      bytes = ref_bytes id;
+      names = L.reference.written id is_id;
+      done = done;
+      own = own-made by start over_put (Failed done) old new n a.ready.nothing;
+      once = changed-once by start over_put (Failed done) old new n a.ready.nothing;
+      drawn = drawn;
+      written = written-told flushed (Failed done) old new a n;
+      is_made = made-told flushed (Failed done) old new a n;
+    }
 
     moved-told : (there : Option Version) (now : ℕ) (old new : List Event) → Ready x old → Makes by over_put (Is_over (Moved there now)) old new → WasMoved by.number s (version_at (version_of s)) there next start new
     moved-told there now old new k n =
@@ -172,7 +192,7 @@ module _ (L : Spellings) (by : Caller) (ids : AnyIds) (mine : Sessions) (s : Ses
     branch-told : (flushed : ℕ) (reply : Reply) (old new : List Event) → AfterSnapshot flushed old → Makes by over_put reply old new → Walks Careful Nothing Told by (after_branch s id next reply) new
     branch-told flushed (Is_over (Over_done v now)) old new a n = walks-done Careful Nothing Told by (Ok (Was_done (record { id = id; version = v }))) new (done-told flushed v now old new a n)
     branch-told flushed (Is_over (Moved there now)) old new a n = walks-done Careful Nothing Told by (Ok (Lost (version_at (version_of s)) there next)) new (moved-told there now old new a.ready n)
-    branch-told flushed (Failed d) old new a n = walks-done Careful Nothing Told by (Err R.StoreFault) new (failed-made by (IsOfCommit s) start over_put d old new (inr (id, ref_bytes id, drawn, inr (inr (inr (refl, L.reference.written id is_id))))) n a.ready.nothing)
+    branch-told flushed (Failed d) old new a n = walks-done Careful Nothing Told by (Err (R.InDoubt id)) new (doubt-told flushed d old new a n)
     branch-told flushed _ old new a n = let e = n.answered.answered in absurd (cc)
 
     branch-walks : (flushed : ℕ) (journal : List Event) → AfterSnapshot flushed journal → Walks Careful Nothing Told by (put_branch s id next) journal
@@ -226,7 +246,9 @@ module _ (L : Spellings) (by : Caller) (ids : AnyIds) (mine : Sessions) (s : Ses
           })
       snapshot-told (Is_new (Present v now)) old new a n =
           walks-done Careful Nothing Told by (Err (R.IdTaken (Snapshot id))) new (snapshot-taken flushed v now old new a.ready.nothing n, snap-nothing flushed (Is_new (Present v now)) old new a.ready.nothing n)
-      snapshot-told (Failed d) old new a n = walks-done Careful Nothing Told by (Err R.StoreFault) new (failed-made by (IsOfCommit s) start (snap_put flushed) d old new (inr (id, snap_bytes flushed, drawn, inr (inr (inl refl)))) n a.ready.nothing)
+      snapshot-told (Failed d) old new a n =
+          walks-done Careful Nothing Told by (Err R.StoreFault) new
+          (failed-made by (IsOfCommit s) start (snap_put flushed) d old new (inr (id, snap_bytes flushed, drawn, inr (inr refl))) n a.ready.nothing, snap-nothing flushed (Failed d) old new a.ready.nothing n)
       snapshot-told _ old new a n = let e = n.answered.answered in absurd (cc)
 
     -- a snapshot that is too long isn't put
@@ -265,7 +287,8 @@ module _ (L : Spellings) (by : Caller) (ids : AnyIds) (mine : Sessions) (s : Ses
           log = record { bytes = log_bytes; version = v; own = own-made by start log_put (Is_new (New_done v now)) old new n k.nothing };
         }) (is_long (snap_bytes now)) refl
     log-told (Is_new (Present v now)) old new k n = walks-done Careful Nothing Told by (Err (R.IdTaken (Txn id))) new (log-taken v now old new k.nothing n, log-nothing (Is_new (Present v now)) old new k.nothing n)
-    log-told (Failed d) old new k n = walks-done Careful Nothing Told by (Err R.StoreFault) new (failed-made by (IsOfCommit s) start log_put d old new (inr (id, log_bytes, drawn, inr (inl refl))) n k.nothing)
+    log-told (Failed d) old new k n =
+        walks-done Careful Nothing Told by (Err R.StoreFault) new (failed-made by (IsOfCommit s) start log_put d old new (inr (id, log_bytes, drawn, inr (inl refl))) n k.nothing, log-nothing (Failed d) old new k.nothing n)
     log-told _ old new k n = let e = n.answered.answered in absurd (cc)
 
     log-walks : (journal : List Event) → Ready x journal → Walks Careful Nothing Told by (Ask (PutNew (Txn id) (log_file (log_for s id)) Set) (after_log s message x.news id (after12 x.ids))) journal

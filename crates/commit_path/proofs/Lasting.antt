@@ -27,7 +27,7 @@ use Rattle.ice_ids.specs.declared.drawing.AnyIds.{AnyIds}
 use Rattle.commit_path.specs.declared.commit.Committed.{Committed}
 use Rattle.commit_path.specs.declared.commit.Tried.{Tried}
 use Rattle.commit_path.specs.declared.commit.Tried.TheVariants.{Done as Was_done, Lost}
-use Rattle.commit_path.specs.Answered.{commits_over, WasLogged, WasSnapped, WereWritten, TookEffect, WasMoved, WasTaken, IsOfCommit, IsLong, NeedsId, HasNoId, CommitRefused, CommitTells}
+use Rattle.commit_path.specs.Answered.{commits_over, WasLogged, WasSnapped, WereWritten, WasWritten, TookEffect, WasMoved, WasDoubted, WasTaken, IsOfCommit, IsLong, NeedsId, HasNoId, CommitRefused, CommitTells}
 use Rattle.store_api.specs.Telling.{ChangedOnce, WasFailed}
 use Rattle.store_api.proofs.Happening.{ChangedNothing-others, HasOwn-append, WasGot-append, WasAbsent-append}
 use Rattle.commit_path.proofs.Listing.{WereRead-append, WereListed-append, WereWritten-append}
@@ -58,6 +58,16 @@ module _ (by : Caller) (start journal more : List Event) (others : Each (IsOther
   written-others : (s : SessionState) (news : List NewList) (id : Id12) → WereWritten by.number s news id start journal → WereWritten by.number s news id start (journal ++ more)
   written-others s news id w = WereWritten-append by.number s news id start journal more w
 
+  put-others : (s : SessionState) (message : List ℕ) (id : Id12) → WasWritten by.number s id message start journal → WasWritten by.number s id message start (journal ++ more)
+  put-others s message id p = record {
+    news = p.news;
+    manifests = written-others s p.news id p.manifests;
+    time = p.time;
+    log = logged-others id p.time p.log;
+    snapshot = snapped-others id message p.time p.snapshot;
+    is = p.is;
+  }
+
   effect-others : (s : SessionState) (message : List ℕ) (made : Committed) → TookEffect by.number s message made start journal → TookEffect by.number s message made start (journal ++ more)
   effect-others s message made t = record {
     bytes = t.bytes;
@@ -68,15 +78,20 @@ module _ (by : Caller) (start journal more : List Event) (others : Each (IsOther
     read = t.read;
     once = once-others t.own.before t.own.event t.once;
     drawn = t.drawn;
-    written = record {
-      news = t.written.news;
-      manifests = written-others s t.written.news made.id t.written.manifests;
-      time = t.written.time;
-      log = logged-others made.id t.written.time t.written.log;
-      snapshot = snapped-others made.id message t.written.time t.written.snapshot;
-      is = t.written.is;
-    };
+    written = put-others s message made.id t.written;
     is_made = made-stable s made.id journal more (good-waits by journal more others) t.is_made;
+  }
+
+  doubt-others : (s : SessionState) (message : List ℕ) (id : Id12) → WasDoubted by.number s message id start journal → WasDoubted by.number s message id start (journal ++ more)
+  doubt-others s message id t = record {
+    bytes = t.bytes;
+    names = t.names;
+    done = t.done;
+    own = HasOwn-append by.number (commits_over s t.bytes) (Failed t.done) start journal more t.own;
+    once = once-others t.own.before t.own.event t.once;
+    drawn = t.drawn;
+    written = put-others s message id t.written;
+    is_made = made-stable s id journal more (good-waits by journal more others) t.is_made;
   }
 
   moved-others : (s : SessionState) (old : Version) (there : Option Version) (next : AnyIds) → WasMoved by.number s old there next start journal → WasMoved by.number s old there next start (journal ++ more)
@@ -134,5 +149,6 @@ module _ (by : Caller) (start journal more : List Event) (others : Each (IsOther
   pub CommitTells-others : (s : SessionState) (message : List ℕ) (result : Result Tried Refusal) → CommitTells by.number s message start result journal → CommitTells by.number s message start result (journal ++ more)
   CommitTells-others s message (Ok (Was_done made)) t = effect-others s message made t
   CommitTells-others s message (Ok (Lost old there next)) t = moved-others s old there next t
-  CommitTells-others s message (Err R.StoreFault) t = failed-others (IsOfCommit s) t
+  CommitTells-others s message (Err R.StoreFault) t = (failed-others (IsOfCommit s) t.0, ChangedNothing-others by start journal more others t.1)
+  CommitTells-others s message (Err (R.InDoubt id)) t = doubt-others s message id t
   CommitTells-others s message (Err why) t = (refused-others s message why t.0, ChangedNothing-others by start journal more others t.1)

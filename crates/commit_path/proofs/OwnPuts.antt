@@ -44,12 +44,12 @@ use Rattle.object_store.specs.declared.events.Op.TheVariants.{Get, PutNew, PutOv
 use Rattle.object_store.specs.declared.events.New.TheVariants.{Done as New_done, Present}
 use Rattle.object_store.specs.declared.events.Over.TheVariants.{Done as Over_done, Moved}
 use Rattle.object_store.specs.declared.events.Reply.{Reply}
-use Rattle.object_store.specs.declared.events.Reply.TheVariants.{New as Is_new, Over as Is_over}
+use Rattle.object_store.specs.declared.events.Reply.TheVariants.{New as Is_new, Over as Is_over, Failed}
 use Rattle.object_store.specs.declared.events.Event.{Event}
 use Rattle.object_store.specs.Machine.{version_at}
 use Rattle.object_store.proofs.Journals.{Each-append, Each-weaker, Each-one, Each-none}
 use Rattle.store_api.specs.declared.machines.Refusal.{Refusal}
-use Rattle.store_api.specs.declared.machines.Refusal.TheVariants.{ReadOnly, NothingToCommit, IdsSpent, IdTaken, TooLarge, StoreFault}
+use Rattle.store_api.specs.declared.machines.Refusal.TheVariants.{ReadOnly, NothingToCommit, IdsSpent, IdTaken, TooLarge, StoreFault, InDoubt}
 use Rattle.store_api.specs.Journal.{Each}
 use Rattle.store_api.specs.Callers.{Caller, IsOther, Makes, own_event}
 use Rattle.store_api.specs.Program.{Prog, Done, Ask, Keeps, Leads}
@@ -393,6 +393,7 @@ module _ (by : Caller) (ids : AnyIds) (start : List Event) where
     over-new : (id : Id12) (next : AnyIds) (reply : Reply) (journal : List Event) → HasPutDrawn ids next by.number start journal → Walks New Anywhere LeftNext by (after_branch s id next reply) journal
     over-new id next (Is_over (Over_done version now)) journal c = walks-done New Anywhere LeftNext by (Ok (Was_done (record { id = id; version = version }))) journal tt
     over-new id next (Is_over (Moved there now)) journal c = walks-done New Anywhere LeftNext by (Ok (Lost (version_at (version_of s)) there next)) journal c
+    over-new id next (Failed done) journal c = walks-done New Anywhere LeftNext by (Err (InDoubt id)) journal tt
     over-new id next _ journal c = walks-done New Anywhere LeftNext by (Err StoreFault) journal tt
 
     snapshot-new : (id : Id12) (next : AnyIds) (reply : Reply) (journal : List Event) → HasPutDrawn ids next by.number start journal → Walks New Anywhere LeftNext by (after_snapshot s id next reply) journal

@@ -35,10 +35,10 @@ use Rattle.object_store.specs.declared.events.Op.TheVariants.{Get, PutNew, PutOv
 use Rattle.object_store.specs.declared.events.New.TheVariants.{Done as New_done, Present}
 use Rattle.object_store.specs.declared.events.Over.TheVariants.{Done as Over_done, Moved}
 use Rattle.object_store.specs.declared.events.Reply.{Reply}
-use Rattle.object_store.specs.declared.events.Reply.TheVariants.{New as Is_new, Over as Is_over}
+use Rattle.object_store.specs.declared.events.Reply.TheVariants.{New as Is_new, Over as Is_over, Failed}
 use Rattle.object_store.specs.declared.events.Event.{Event}
 use Rattle.store_api.specs.declared.machines.Refusal.{Refusal}
-use Rattle.store_api.specs.declared.machines.Refusal.TheVariants.{ReadOnly, NothingToCommit, IdsSpent, IdTaken, TooLarge, StoreFault}
+use Rattle.store_api.specs.declared.machines.Refusal.TheVariants.{ReadOnly, NothingToCommit, IdsSpent, IdTaken, TooLarge, StoreFault, InDoubt}
 use Rattle.object_store.specs.Machine.{version_at}
 use Rattle.store_api.specs.Journal.{Each}
 use Rattle.store_api.specs.Telling.{GetsAlone, IsGet, MadeGets}
@@ -244,6 +244,7 @@ module _ (by : Caller) (s : SessionState) (start : List Event) where
     over-still : (id : Id12) (next : AnyIds) (reply : Reply) (journal : List Event) → PutAlike journal → Walks Alike Anywhere Still by (after_branch s id next reply) journal
     over-still id next (Is_over (Over_done version now)) journal c = still-done (Ok (Was_done (record { id = id; version = version }))) journal c
     over-still id next (Is_over (Moved there now)) journal c = still-done (Ok (Lost (version_at (version_of s)) there next)) journal c
+    over-still id next (Failed done) journal c = still-done (Err (InDoubt id)) journal c
     over-still id next _ journal c = still-done (Err StoreFault) journal c
 
     snapshot-still : (id : Id12) (next : AnyIds) (reply : Reply) (journal : List Event) → PutAlike journal → Walks Alike Anywhere Still by (after_snapshot s id next reply) journal

@@ -118,7 +118,7 @@ module _ (L : Spellings) (by : Caller) (ids : AnyIds) (mine : Sessions) (s : Ses
         )
     file-told refs seen m (Failed d) old new named k n =
         walks-done Careful Nothing (Ends (SeenMore refs seen m) Refused) by (Err R.StoreFault) new
-        (failed-made by (IsOfCommit s) start (Get (Manifest m.id)) d old new (inl (m.id, named, refl)) n k.1.nothing)
+        (failed-made by (IsOfCommit s) start (Get (Manifest m.id)) d old new (inl (m.id, named, refl)) n k.1.nothing, got-nothing by start (Manifest m.id) (Failed d) old new n k.1.nothing)
     file-told refs seen m _ old new named k n = let e = n.answered.answered in absurd (cc)
 
     manifest-walks : (refs : List ManifestRef) (seen : List Listed) (m : ManifestRef) (journal : List Event) → NamesManifest s.rows m.id → Seen refs seen journal → Walks Careful Nothing (Ends (SeenMore refs seen m) Refused) by (manifest_program m.id) journal
@@ -303,7 +303,8 @@ module _ (L : Spellings) (by : Caller) (ids : AnyIds) (mine : Sessions) (s : Ses
             },
             put-nothing (Is_new (Present version now)) before new n k.nothing,
           )
-      put-told (Failed d) before new z k n = walks-done Careful Nothing Ended by (Err R.StoreFault) new (failed-made by (IsOfCommit s) start put d before new (inr (id, bytes, may-draw k.ids, inl refl)) n k.nothing)
+      put-told (Failed d) before new z k n =
+          walks-done Careful Nothing Ended by (Err R.StoreFault) new (failed-made by (IsOfCommit s) start put d before new (inr (id, bytes, may-draw k.ids, inl refl)) n k.nothing, put-nothing (Failed d) before new n k.nothing)
       put-told _ before new z k n = let e = n.answered.answered in absurd (cc)
 
       put-walks : (journal : List Event) → WereGot by.number start Own old journal → Knows arrays x journal → Walks Careful Nothing Ended by (Ask (PutNew (Manifest id) (file_bytes (manifest_for id array)) Set) (after_manifest (with_manifest x a array id) id)) journal

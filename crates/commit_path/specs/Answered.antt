@@ -7,7 +7,7 @@ use Rattle.changed_snapshot.specs.declared.written.NewManifest.{NewManifest}
 use Rattle.changed_snapshot.specs.declared.written.NewList.{NewList}
 use Rattle.changed_snapshot.specs.Rows.{own_manifests}
 use Rattle.session.specs.Sources.{IsLater, MayDrawObject}
-use Rattle.std.specs.Prelude.{◌≡◌, ◌⊎◌, ℕ, ◌<◌, true, false, List, [], ◌∷◌, ◌++◌, length, Option, Some, None, Result, Ok, Err}
+use Rattle.std.specs.Prelude.{◌≡◌, ◌⊎◌, ℕ, ◌<◌, Bool, true, false, List, [], ◌∷◌, ◌++◌, length, Option, Some, None, Result, Ok, Err}
 use Rattle.std.specs.List.{AllZip, Contains}
 use Rattle.ice_ids.specs.declared.Id12.{Id12}
 use Rattle.ice_ids.specs.declared.drawing.AnyIds.{AnyIds}
@@ -35,10 +35,10 @@ use Rattle.object_store.specs.declared.events.Op.{Op}
 use Rattle.object_store.specs.declared.events.Op.TheVariants.{Get, PutNew, PutOver}
 use Rattle.object_store.specs.declared.events.New.TheVariants.{Done as New_done, Present}
 use Rattle.object_store.specs.declared.events.Over.TheVariants.{Done as Over_done, Moved}
-use Rattle.object_store.specs.declared.events.Reply.TheVariants.{New as Is_new, Over as Is_over}
+use Rattle.object_store.specs.declared.events.Reply.TheVariants.{New as Is_new, Over as Is_over, Failed}
 use Rattle.object_store.specs.declared.events.Event.{Event}
 use Rattle.store_api.specs.declared.machines.Refusal.{Refusal}
-use Rattle.store_api.specs.declared.machines.Refusal.TheVariants.{ReadOnly, NothingToCommit, IdsSpent, Missing, BadFile, IdTaken, TooLarge, StoreFault, NoMemory}
+use Rattle.store_api.specs.declared.machines.Refusal.TheVariants.{ReadOnly, NothingToCommit, IdsSpent, Missing, BadFile, IdTaken, TooLarge, StoreFault, InDoubt, NoMemory}
 use Rattle.object_store.specs.Machine.{version_at}
 use Rattle.store_api.specs.Journal.{IsOnce}
 use Rattle.store_api.specs.Telling.{HasOwn, StandsAt, WasGot, WasAbsent, HasMovedOn, ChangedNothing, ChangedOnce, WasFailed}
@@ -176,6 +176,20 @@ pub record WasMoved (client : ℕ) (s : SessionState) (old : Version) (there : O
   pub later : HasMovedOn own.before (branch_of s) (version_of s) there
   pub nothing : ChangedNothing client start journal
 
+-- The commit is in doubt. The client's own put over of the session's branch, with a reference to this snapshot, failed, and may have been
+-- done: it took effect where it was done, and the branch stood then at the version that the session had read. No other event of the client
+-- changed a branch. The client itself had put the snapshot, with the message, its log and its new manifests; the snapshot is the session's,
+-- under an id that it drew.
+pub record WasDoubted (client : ℕ) (s : SessionState) (message : List ℕ) (id : Id12) (start journal : List Event) : Type 0 where
+  pub bytes : List ℕ
+  pub names : ref_of bytes ≡ Some id
+  pub done : Bool
+  pub own : HasOwn client (commits_over s bytes) (Failed done) start journal
+  pub once : ChangedOnce client start own.before own.event journal
+  pub drawn : MayDrawObject s.ids id
+  pub written : WasWritten client s id message start journal
+  pub is_made : IsOnce journal → IsMade s id journal
+
 -- The key of a manifest, of the log or of the snapshot was taken, under an id that was drawn: the client's own put found an object there.
 pub record WasTaken (client : ℕ) (s : SessionState) (key : Key) (start journal : List Event) : Type 0 where
   pub id : Id12
@@ -187,12 +201,12 @@ pub record WasTaken (client : ℕ) (s : SessionState) (key : Key) (start journal
   pub own : HasOwn client (PutNew key bytes Set) (Is_new (Present version now)) start journal
   pub there : StandsAt own.before key version.0
 
--- an operation of a commit of this session: the get of a manifest that its base names; or under an id that it drew, the put of a
--- manifest, of its log or of its snapshot, or the put over of the session's branch with a reference to it
+-- an operation of a commit of this session before the put over of its branch: the get of a manifest that its base names; or under an id
+-- that it drew, the put of a manifest, of its log or of its snapshot
 abbrev pub IsOfCommit : SessionState → Op → Type 0
 IsOfCommit s op = ((manifest : Id12) × NamesManifest s.rows manifest × (op ≡ Get (Manifest manifest)))
     ⊎ ((id : Id12) × (bytes : List ℕ) × MayDrawObject s.ids id
-    × ((op ≡ PutNew (Manifest id) bytes Set) ⊎ ((op ≡ PutNew (Txn id) bytes Set) ⊎ ((op ≡ PutNew (Snapshot id) bytes Set) ⊎ ((op ≡ commits_over s bytes) × (ref_of bytes ≡ Some id))))))
+    × ((op ≡ PutNew (Manifest id) bytes Set) ⊎ ((op ≡ PutNew (Txn id) bytes Set) ⊎ (op ≡ PutNew (Snapshot id) bytes Set))))
 
 -- a manifest that the base names isn't there, or isn't readable, for this cause
 pub record WasNoManifest (client : ℕ) (s : SessionState) (key : Key) (start journal : List Event) : Type 0 where
@@ -280,5 +294,6 @@ CommitRefused client s message start _ journal = ⊥
 abbrev pub CommitTells : ℕ → SessionState → List ℕ → List Event → Result Tried Refusal → List Event → Type 0
 CommitTells client s message start (Ok (Was_done made)) journal = TookEffect client s message made start journal
 CommitTells client s message start (Ok (Lost old there next)) journal = WasMoved client s old there next start journal
-CommitTells client s message start (Err StoreFault) journal = WasFailed client (IsOfCommit s) start journal
+CommitTells client s message start (Err StoreFault) journal = WasFailed client (IsOfCommit s) start journal × ChangedNothing client start journal
+CommitTells client s message start (Err (InDoubt id)) journal = WasDoubted client s message id start journal
 CommitTells client s message start (Err why) journal = CommitRefused client s message start why journal × ChangedNothing client start journal

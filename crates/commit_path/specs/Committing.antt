@@ -35,11 +35,11 @@ use Rattle.object_store.specs.declared.events.Op.TheVariants.{PutNew, PutOver}
 use Rattle.object_store.specs.declared.events.New.TheVariants.{Done as New_done, Present}
 use Rattle.object_store.specs.declared.events.Over.TheVariants.{Done as Over_done, Moved}
 use Rattle.object_store.specs.declared.events.Reply.{Reply}
-use Rattle.object_store.specs.declared.events.Reply.TheVariants.{New as Is_new, Over as Is_over}
+use Rattle.object_store.specs.declared.events.Reply.TheVariants.{New as Is_new, Over as Is_over, Failed}
 use Rattle.store_api.specs.declared.machines.Next.{Next}
 use Rattle.store_api.specs.declared.machines.Next.TheVariants.{Again, Ready}
 use Rattle.store_api.specs.declared.machines.Refusal.{Refusal}
-use Rattle.store_api.specs.declared.machines.Refusal.TheVariants.{ReadOnly, NothingToCommit, IdsSpent, TooLarge, Missing, BadFile, IdTaken, StoreFault, NoMemory}
+use Rattle.store_api.specs.declared.machines.Refusal.TheVariants.{ReadOnly, NothingToCommit, IdsSpent, TooLarge, Missing, BadFile, IdTaken, StoreFault, InDoubt, NoMemory}
 use Rattle.object_store.specs.Machine.{version_at}
 use Rattle.store_api.specs.Program.{Done, Ask, IsAsk, is_no_memory}
 use Rattle.store_api.specs.Running.{Program, ◌>>=◌}
@@ -126,6 +126,7 @@ snap_for s message news id flushed = snapshot_over s.held news s.rows s.files (r
 abbrev pub after_branch : SessionState → Id12 → (next : AnyIds) → Reply → Answer
 after_branch s id next (Is_over (Over_done version now)) = Done (Ok (Was_done (record { id = id; version = version })))
 after_branch s id next (Is_over (Moved found now)) = Done (Ok (Lost (version_at (version_of s)) found next))
+after_branch s id next (Failed done) = Done (Err (InDoubt id))
 after_branch s id next _ = Done (Err StoreFault)
 
 -- the put over of the branch at the version that was read
@@ -289,5 +290,6 @@ MayRefuseCommit (BadFile key bad) = Unit {0}
 MayRefuseCommit (IdTaken key) = Unit {0}
 MayRefuseCommit (TooLarge kind) = Unit {0}
 MayRefuseCommit StoreFault = Unit {0}
+MayRefuseCommit (InDoubt snapshot) = Unit {0}
 MayRefuseCommit NoMemory = Unit {0}
 MayRefuseCommit _ = ⊥

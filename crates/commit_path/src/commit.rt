@@ -11,6 +11,7 @@ ghost use Rattle.snapshot_file.specs.Layout.{snapshot_bytes};
 ghost use Rattle.txn_file.specs.Layout.{log_file};
 ghost use Rattle.changed_snapshot.specs.declared.written.NewList.{NewList as TheList};
 ghost use Rattle.commit_path.specs.Committing.{log_for, snap_for, old_rest, new_behind, arrays_behind, written_in, after_arrays, after_log, after_snapshot, after_branch, commit_rest, commit_left, manifests_left, session_in, message_in, IsDrawn, DrewOwn, DrewFor, IsLeft, CommitStarts, MayRefuseStart, MayRefuseCommit};
+ghost use Rattle.session.specs.Sessions.{branch_of};
 ghost use Rattle.commit_path.specs.inside.Lists.{IsRank};
 ghost use Rattle.commit_path.specs.inside.Working.{IsUnwritten, WritesFile, PassesUnless, got_behind, merged_behind, MayRefuseOwn, LandsCalmly, LandsSurely, Reaches, Turns};
 
@@ -20,7 +21,7 @@ use crate::manifests::{made, merged};
 use crate::writer::Writer;
 use changed_snapshot::{NewList, NewManifest};
 use flat_tables::{Kind, WriteFault};
-use ice_base::{Bytes, Text};
+use ice_base::{Bytes, RefName, Text};
 use ice_ids::{AnyIds, Id12};
 use manifest_file::{ArrayRefs, REFS_LIMIT};
 use ref_file::ref_write;
@@ -181,6 +182,9 @@ impl Machine for Commit {
             (Committing::Log { id, file: _ }, Reply::New(new)) => self.on_log(id, new),
             (Committing::Snapshot { id, file: _ }, Reply::New(new)) => self.on_snapshot(id, new),
             (Committing::Branch { id, file: _ }, Reply::Over(over)) => self.on_branch(id, over),
+            (Committing::Branch { id, file: _ }, Reply::Failed { done: _ }) => Err(
+                Refusal::InDoubt { snapshot: id },
+            ),
             (state, reply) => {
                 drop(state);
                 drop(reply);
@@ -523,7 +527,31 @@ impl Commit {
         (session.into_session(), message)
     }
 
-    /// One operation of the store.
+    /// The branch, after the commit was tried, where nothing else of it is needed.
+    pub fn into_branch(self) -> RefName
+        ensures { result ≡ branch_of (session_in self) }
+    {
+        let Commit {
+            session,
+            message,
+            arrays,
+            state,
+            ..
+        } = self;
+        drop(message);
+        drop(arrays);
+        drop(state);
+        session.into_branch()
+    }
+
+    /// The id of the session's base.
+    pub fn base(&self) -> Id12
+        ensures { result ≡ (session_in self.now).base }
+    {
+        self.session.as_session().base()
+    }
+
+    /// One operation of the store. Where the put over of the branch fails, the commit is in doubt: it may have been done.
     pub fn step<S: Store>(&mut self, store: &mut S) -> Result<Next<Tried>, Refusal>
         requires live { IsAsk (commit_rest self.old) }
         requires polite { IsTrue (S.view store.old).caller.tells → NextIsPolite (commit_rest self.old) (S.view store.old).seen }

@@ -68,6 +68,13 @@ impl Writer {
         self.session.draw()
     }
 
+    /// Gives its branch back.
+    pub fn into_branch(self) -> RefName
+        ensures { result ≡ branch_of self }
+    {
+        self.session.into_branch()
+    }
+
     /// Gives the session back.
     pub fn into_session(self) -> Session
         ensures { result ≡ self }

@@ -1,5 +1,6 @@
 -- Steps of an expiry.
 use Rattle.std.proofs.Common.{Bool, true, false, ◌≡◌, ◌⊎◌, inl, inr, refl, sym, ap, ◌∙◌, subst, ℕ, ◌≤◌, List, [], ◌∷◌, Result, Ok, Err, IfOk, arith}
+use Rattle.std.proofs.lemmas.Bool.{false≢true}
 use Rattle.std.specs.Prelude.{IsTrue}
 use Rattle.ice_base.specs.Ends.{Rose}
 use Rattle.object_store.specs.declared.keys.Key.{Key}
@@ -16,7 +17,7 @@ use Rattle.store_api.specs.declared.machines.Refusal.TheVariants.{NoMemory}
 use Rattle.store_api.specs.Callers.{View, Called, Waits, Fits}
 use Rattle.store_api.specs.Driving.{has_failed}
 use Rattle.store_api.specs.Program.{Prog, Done, Ask as Ask_next, is_ask, moves_branch, is_no_memory, Lands, IsSure, Steps, Blames}
-use Rattle.store_api.specs.Plays.{Play, Ended, Ask, Or, call, behind, Comes, Acts, Starved, BlamesEnd}
+use Rattle.store_api.specs.Plays.{Play, Ask, call, behind, Comes, Acts, Starved, BlamesEnd}
 use Rattle.store_api.proofs.Programs.{made-done, Waits-none}
 use Rattle.expiry.specs.declared.look.Decision.{Decision}
 use Rattle.expiry.specs.declared.standing.Expired.{Expired}
@@ -30,21 +31,15 @@ use Rattle.expiry.specs.inside.Expiring.{settled, faults, Blamed, heard, listed_
 use Rattle.expiry.proofs.StepsHeard.{IsTelling}
 
 -- ---- ends and their blame
-calm-end : (q : Play Expired) (m n : ℕ) → m ≤ n → Blamed false q → BlamesEnd tells_failure q m n
-calm-end (Ended outcome) m n l b = (l, λ failed. let x = b failed in absurd cc)
-calm-end (Ask op s next) m n l b = l
-calm-end (Or p q) m n l b = l
+calm-end : (p q : Play Expired) (m n : ℕ) → m ≤ n → Blamed false q → BlamesEnd tells_failure p q m n
+calm-end p q m n l b = (l, λ doomed. absurd (false≢true (b doomed)))
 
-rose-end : (q : Play Expired) (m n : ℕ) → Rose m n → BlamesEnd tells_failure q m n
-rose-end (Ended outcome) m n r = (r.0, λ failed. r)
-rose-end (Ask op s next) m n r = r.0
-rose-end (Or p q) m n r = r.0
+rose-end : (p q : Play Expired) (m n : ℕ) → Rose m n → BlamesEnd tells_failure p q m n
+rose-end p q m n r = (r.0, λ doomed. inr r)
 
-blames-end : (result : Result (Next Decision) Refusal) (r : Play Expired) (m n : ℕ) → Blames result m n → Blamed (faults result) r → BlamesEnd tells_failure r m n
-blames-end (Ok t) r m n b g = calm-end r m n b g
-blames-end (Err why) (Ended outcome) m n b g = (b.0, λ failed. b.1 (g failed))
-blames-end (Err why) (Ask op s next) m n b g = b.0
-blames-end (Err why) (Or p q) m n b g = b.0
+blames-end : (result : Result (Next Decision) Refusal) (p r : Play Expired) (m n : ℕ) → Blames result m n → Blamed (faults result) r → BlamesEnd tells_failure p r m n
+blames-end (Ok t) p r m n b g = calm-end p r m n b g
+blames-end (Err why) p r m n b g = (b.0, λ doomed. inr (b.1 (g doomed)))
 
 -- ---- a step of a look
 is-memory : (why : Refusal) → is_no_memory why ≡ true → why ≡ NoMemory
@@ -82,7 +77,7 @@ module _ (f : Result Decision Refusal → Play Expired) (r : Play Expired) where
   pub look-acts : (old new : View) (p q : Prog (Result Decision Refusal)) (result : Result (Next Decision) Refusal) → is_ask p ≡ true → Steps old new p q result → Comes (settled f q result) r → Blamed (faults result) r → Acts tells_failure old new (call p f) r
   look-acts old new p q result live s c b = record {
     same = s.same;
-    blames = blames-end result r old.faults new.faults s.blames b;
+    blames = blames-end result (call p f) r old.faults new.faults s.blames b;
     went = elim s.went [
       | inl m ↦ inl (record {
         op = m.op;
@@ -123,7 +118,7 @@ module _ {A : Type 0} (op : Op) (told : Reply → Result A Refusal) (f : Result 
       → Acts tells_failure old new (Ask op (f (Err NoMemory)) next) q
   asked-acts (Ok reply) c w n comes b = record {
     same = c.same;
-    blames = calm-end q old.faults new.faults c.counted (subst (λ (x : Bool). Blamed x q) (calm reply (told reply) refl w n) b);
+    blames = calm-end (Ask op (f (Err NoMemory)) next) q old.faults new.faults c.counted (subst (λ (x : Bool). Blamed x q) (calm reply (told reply) refl w n) b);
     went = inl (record {
       op = op;
       starved = f (Err NoMemory);
@@ -139,7 +134,7 @@ module _ {A : Type 0} (op : Op) (told : Reply → Result A Refusal) (f : Result 
       let made = made-done (λ (reply : Reply). reply) old.caller op old.seen new.seen old.caller.tells c.did in
       record {
         same = c.same;
-        blames = rose-end q old.faults new.faults c.counted;
+        blames = rose-end (Ask op (f (Err NoMemory)) next) q old.faults new.faults c.counted;
         went = inl (record {
           op = op;
           starved = f (Err NoMemory);
@@ -153,7 +148,7 @@ module _ {A : Type 0} (op : Op) (told : Reply → Result A Refusal) (f : Result 
       }
   asked-acts (Err No_room) c w n comes b = record {
     same = c.same;
-    blames = calm-end q old.faults new.faults c.counted b;
+    blames = calm-end (Ask op (f (Err NoMemory)) next) q old.faults new.faults c.counted b;
     went = inr (record {
       op = op;
       starved = f (Err NoMemory);

@@ -1,7 +1,7 @@
 //! Reports of runs. ` | ` stands between the opening, the tasks and the refs. A task is a name, what it showed and how it ended:
 //! `c - refused 10 NoNode`; `a 2=/,13:array=/a/b done` showed a group and an array in the lines 2 and 13; `d - collected 3 2 1 40`
 //! collected, and `e - stopped 7 3 2 1 40 StoreFault` was refused in the line 7 behind so many removals; of `f - expired`
-//! the rest is in `expiries`. `; ` stands between tasks, and `, ` between refs like `tag v 1=1CECHNKREP0F1RSTCMT0`. In the place of an
+//! the rest is in `expiries`; `g - indoubt 1CECHNKREP0F1RSTCMT0 unsettled Missing ..` was left in doubt. `; ` stands between tasks, and `, ` between refs like `tag v 1=1CECHNKREP0F1RSTCMT0`. In the place of an
 //! opening that went well stands `-`, and a refusal may stand in that of the refs, behind `!`.
 
 use crate::expiries::expired_of;
@@ -10,7 +10,7 @@ use crate::store_keys::id_of;
 use crate::texts::{name_of, path_of};
 use crate::words::{NoAnswer, first_word, number_of, parted, small_number_of, text_of};
 use cleanup_reports::Removed;
-use play_outcome::{End, Outcome, RefLine, RefLines, Shown, Shows};
+use play_outcome::{End, How, Outcome, RefLine, RefLines, Shown, Shows};
 use play_report::report;
 use std::alloc::{AllocError, Global};
 use store_api::Refusal;
@@ -73,6 +73,26 @@ fn stopped_of(alloc: Global, words: &str) -> Result<End, NoAnswer> {
     refusal_of(alloc, rest).map(|why| End::Stopped { line, why, removed })
 }
 
+/// What its branch told of a commit in doubt; a refusal stands behind `unsettled`.
+fn how_of(alloc: Global, words: &str) -> Result<How, NoAnswer> {
+    let (how, rest) = first_word(words);
+    match how {
+        "committed" => Ok(How::Committed),
+        "notcommitted" => Ok(How::NotCommitted),
+        "notancestor" => Ok(How::NotAncestor),
+        "noref" => Ok(How::NoRef),
+        "unsettled" => refusal_of(alloc, rest).map(|why| How::Unsettled(why)),
+        _ => Err(NoAnswer::Words),
+    }
+}
+
+/// A commit in doubt: its snapshot, and what its branch told of it.
+fn doubt_of(alloc: Global, words: &str) -> Result<End, NoAnswer> {
+    let (id, how) = first_word(words);
+    let id = id_of(id)?;
+    how_of(alloc, how).map(|how| End::InDoubt { id, how })
+}
+
 /// How a task ended.
 fn end_of(alloc: Global, words: &str) -> Result<End, NoAnswer> {
     let (kind, rest) = first_word(words);
@@ -81,6 +101,7 @@ fn end_of(alloc: Global, words: &str) -> Result<End, NoAnswer> {
         "collected" => collected_of(rest),
         "done" => Ok(End::Done),
         "expired" => expired_of(alloc, rest),
+        "indoubt" => doubt_of(alloc, rest),
         "refused" => refused_of(alloc, rest),
         "stopped" => stopped_of(alloc, rest),
         _ => Err(NoAnswer::Words),

@@ -20,6 +20,8 @@ mod cuts;
 #[cfg(test)]
 mod directories;
 #[cfg(test)]
+mod doubts;
+#[cfg(test)]
 mod ends;
 #[cfg(test)]
 mod gates;

@@ -57,7 +57,7 @@ module _ {T : Type 0} (tells : Bool) (place : ℕ) (before : Token T Event) wher
       idle = idle;
       counted = w.counted;
     };
-    blames = λ m below all failed. w.blames m below all outcome refl failed;
+    blames = λ m below all failed. w.blames m below all failed;
     events = w.events;
     mine = w.mine;
     plays = subst (λ (xs : List Event). PlaysTo p xs outcome) (append-nil w.events) (w.plays [] outcome (PlaysTo-ended outcome));

@@ -2,7 +2,6 @@
 use Rattle.std.proofs.Common.{◌≡◌, inl, inr, ℕ, ◌+◌, ◌≤◌, Bool, true, false, List, [], ◌∷◌, ◌++◌, refl, sym, ◌∙◌, ap, subst, append-nil, append_assoc, arith}
 use Rattle.std.specs.Prelude.{IsTrue, ◌==◌}
 use Rattle.std.proofs.lemmas.List.Elements.{All-nil, All-cons, All-append, filter-append}
-use Rattle.ice_base.proofs.Counts.{Rose-before}
 use Rattle.ice_ids.specs.declared.drawing.Draw.{Draw}
 use Rattle.object_store.specs.declared.events.Op.{Op}
 use Rattle.object_store.specs.declared.events.Reply.{Reply}
@@ -24,7 +23,7 @@ use Rattle.play_tasks.specs.Played.{PlaysTo}
 use Rattle.play_tasks.specs.Laws.{OutcomeLaw}
 use Rattle.play_tasks.proofs.Paths.{PlaysTo-comes, PlaysTo-asked, PlaysTo-starved}
 use Rattle.play_tasks.proofs.Others.{TellsOutcome-waits}
-use Rattle.play_run.proofs.Turning.{time_of, seen_by, Acts-fewer, only-other, PlayKeeps-now, Keeps-polite, careful-waits, careful-acts, Before, stable-before, counted_by, blamed_by}
+use Rattle.play_run.proofs.Turning.{time_of, seen_by, Acts-fewer, only-other, PlayKeeps-now, Keeps-polite, careful-waits, careful-acts, Before, stable-before, doomed_by}
 use Rattle.play_at_once.specs.inside.Stepping.{IsClientAt, CanStep, Blames, IsKnown, IsAt, Tells, Went}
 
 -- ---- a client with one number among those that its caller owns
@@ -150,14 +149,14 @@ Went-trans place a b c p mid q v w = record {
 -- ---- one step
 module _ (law : OutcomeLaw) (place : ℕ) (old new : View) (p q : Play Outcome) (c : IsClientAt place old.caller) (acts : Acts is_failed old new p q) where
   blame : (m : ℕ) → m ≤ old.faults → Blames p m old.faults → Blames q m new.faults
-  blame m below all outcome e failed = Rose-before m old.faults new.faults below (blamed_by q outcome old.faults new.faults e acts.blames failed)
+  blame m below all = doomed_by p q m old.faults new.faults below acts.blames all
 
   acted : Acted old new p q → Went place old new p q
   acted a =
       let event : Event = own_event old.caller a.op a.reply (time_of old.caller.tells old.caller a.op a.reply old.seen new.seen a.made) in
       record {
         same = acts.same;
-        counted = counted_by q old.faults new.faults acts.blames;
+        counted = acts.blames.0;
         blames = blame;
         events = event ∷ [];
         mine = All-cons (IsAt place) event [] c.number (All-nil (IsAt place));
@@ -171,7 +170,7 @@ module _ (law : OutcomeLaw) (place : ℕ) (old new : View) (p q : Play Outcome) 
   starves : Starved old new p q → Went place old new p q
   starves n = record {
     same = acts.same;
-    counted = counted_by q old.faults new.faults acts.blames;
+    counted = acts.blames.0;
     blames = blame;
     events = [];
     mine = All-nil (IsAt place);

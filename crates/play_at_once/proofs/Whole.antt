@@ -18,6 +18,7 @@ use Rattle.play_script.specs.Well.{IsWellTask}
 use Rattle.play_outcome.specs.declared.outcome.Outcome.{Outcome}
 use Rattle.play_tasks.specs.Playing.{task_play}
 use Rattle.play_tasks.specs.Tasks.{ids_at, AllBlame, AllTold, IsOfClient}
+use Rattle.play_tasks.proofs.Once.{task-once}
 use Rattle.play_tasks.specs.Played.{PlaysTo, IsByTask, AllPlayed}
 use Rattle.play_tasks.specs.Laws.{TaskLaw}
 use Rattle.play_tasks.proofs.Paths.{PlaysTo-comes}
@@ -42,11 +43,15 @@ module _ (draw : Draw) (tasks : List Task) (ps : List (Play Outcome)) (begins : 
       → AllPlayed draw tasks outcomes events
   played-by outcomes events owned plays = record {
     owned = owned;
-    plays = λ place task outcome at_task at.
-        let r = begun_at draw 0 tasks ps place task begins at_task in
-        let comes = subst (λ (n : ℕ). Comes (task_play (ids_at draw n) task) r.q) (zero-add place) r.comes in
-        PlaysTo-comes (task_play (ids_at draw place) task) r.q (events_of (place + 1) events) outcome comes (plays place r.q outcome r.at at);
+    plays = whole;
+    once = λ place task outcome at_task at. task-once (ids_at draw place) task (events_of (place + 1) events) outcome (whole place task outcome at_task at);
   }
+    where
+      whole : (place : ℕ) (task : Task) (outcome : Outcome) → slice_get tasks place ≡ Some task → slice_get outcomes place ≡ Some outcome → PlaysTo (task_play (ids_at draw place) task) (events_of (place + 1) events) outcome
+      whole place task outcome at_task at =
+          let r = begun_at draw 0 tasks ps place task begins at_task in
+          let comes = subst (λ (n : ℕ). Comes (task_play (ids_at draw n) task) r.q) (zero-add place) r.comes in
+          PlaysTo-comes (task_play (ids_at draw place) task) r.q (events_of (place + 1) events) outcome comes (plays place r.q outcome r.at at)
 
   module _ (law : TaskLaw) (wells : All IsWellTask tasks) (faults : ℕ) (outcomes : List Outcome) (end : Known Event) (old new : List Event) where
     -- the store tells the journal, which is then the log of the cell
@@ -99,7 +104,7 @@ module _ (draw : Draw) (tasks : List Task) (ps : List (Play Outcome)) (begins : 
 
       pub blamed-whole : (count : ℕ) → end.count ≤ count → AllBlame outcomes faults count
       blamed-whole count up place outcome at failed =
-          Rose-after faults end.count count (run'.blames faults (omega arith) (λ k p at_p o e f. none_blamed draw tasks ps faults faults begins k o (at_p ∙ ap (λ (x : Play Outcome). Some x) e) f) place outcome at failed) up
+          Rose-after faults end.count count (run'.blames faults (omega arith) (none_blamed draw tasks ps faults faults begins) place outcome at failed) up
 
   pub CanGo-begin : TaskLaw → All IsWellTask tasks → (tells : Bool) (journal : List Event) → CanGo tells ps journal
   CanGo-begin law wells tells journal is_told = record { draw = draw; tasks = tasks; start = journal; stand = AllStand-begin law draw tasks tells journal ps wells begins }

@@ -1,8 +1,8 @@
 -- A step of a collection is a step of its task.
-use Rattle.std.proofs.Common.{◌≡◌, refl, ℕ, Result, Ok, Err}
+use Rattle.std.proofs.Common.{◌≡◌, refl, ap, false, ℕ, Result, Ok, Err}
 use Rattle.store_api.specs.declared.machines.Refusal.{Refusal}
 use Rattle.store_api.specs.Callers.{View}
-use Rattle.store_api.specs.Plays.{Play, Comes, Acts, ended_as}
+use Rattle.store_api.specs.Plays.{Play, Comes, Acts, dooms, ended_as}
 use Rattle.cleanup_reports.specs.declared.removed.Removed.{Removed}
 use Rattle.chunk_gc.specs.declared.standing.Collected.{Collected}
 use Rattle.chunk_gc.specs.Plays.{refused_by_fault, tells_failure}
@@ -22,3 +22,7 @@ task-acts line old new p q acts = acts-as (outcome_of line) tells_failure is_fai
 -- a task's play begins with an operation, and has come to itself
 pub task-begun : (line cutoff : ℕ) (q : Play Outcome) → q ≡ collect_task line cutoff → Comes (collect_task line cutoff) q
 task-begun line cutoff q e = e
+
+-- where memory is wanting before it has begun, it tells that, and no fault of the store
+pub task-calm : (line cutoff : ℕ) (q : Play Outcome) → Comes (collect_task line cutoff) q → dooms is_failed q ≡ false
+task-calm line cutoff q c = ap (dooms is_failed) c

@@ -153,7 +153,7 @@ module _ (client : Client) (ids : AnyIds) (s : SessionState) where
   branch-meets id next (Is_gone x) journal k = done-meets CommitsWell (beside client ids) (Err R.StoreFault) journal refl
   branch-meets id next (Is_gone_at x) journal k = done-meets CommitsWell (beside client ids) (Err R.StoreFault) journal refl
   branch-meets id next (Is_listed x) journal k = done-meets CommitsWell (beside client ids) (Err R.StoreFault) journal refl
-  branch-meets id next (Failed done) journal k = done-meets CommitsWell (beside client ids) (Err R.StoreFault) journal refl
+  branch-meets id next (Failed done) journal k = done-meets CommitsWell (beside client ids) (Err (R.InDoubt id)) journal refl
 
   over-meets : (id : Id12) (next : AnyIds) (journal : List Event) → Writes next journal → Meets CommitsWell (beside client ids) (put_branch s id next) journal
   over-meets id next journal k = ask-meets CommitsWell (beside client ids) (PutOver (Branch (branch_of s)) (ref_bytes id) (version_at (version_of s)) For_commit) (after_branch s id next) journal (λ more event others own is.

@@ -179,7 +179,8 @@ module _ (ids : AnyIds) (task : Task) (client : ℕ) (start journal : List Event
         tried : (l : Line) (s : SessionState) → PlaysAll client t.played t.opened start outcome.shown s journal → WasTriedAt client access l s start outcome.end journal → ⊥
         tried l s plays w = elim w.ends [
           | inl c ↦ let both = sym end ∙ c.end_is in absurd cc
-          | inr a ↦ elim a [
+          | inr (inl c) ↦ let both = sym end ∙ c.end_is in absurd cc
+          | inr (inr a) ↦ elim a [
             | inl c ↦ not-committed w.at_last w.message c.why (says l.number c.why c.end_is) c.tells
             | inr b ↦ elim b [
               | inl c ↦ not-strange (R.Conflict c.old c.found) (says l.number (R.Conflict c.old c.found) c.end_is) refl
@@ -219,6 +220,7 @@ module _ (ids : AnyIds) (task : Task) (client : ℕ) (start journal : List Event
       by_end (E.Collected removed) e f = refl
       by_end E.Done e f = refl
       by_end (E.Stopped line why removed) e plain = plain
+      by_end (E.InDoubt id how) e plain = plain
       by_end (E.Expired line cases result) e plain = plain
       by_end (E.Refused line why) e (inl plain) = plain
       by_end (E.Refused line why) e (inr h) = absurd (never-told outcome line why e h t)

@@ -11,6 +11,7 @@ mod Committing
 mod Rebasing
 mod Naming
 mod Opening
+mod Settling
 mod Calling
 mod Tasks
 mod Edges

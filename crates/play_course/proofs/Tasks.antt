@@ -3,6 +3,7 @@ use Rattle.std.proofs.Common.{◌≡◌, ◌⊎◌, inl, inr, ℕ, zero, suc, Bo
 use Rattle.std.specs.Prelude.{Option, Some, None, option_map, ok_or, Result, Ok, Err}
 use Rattle.std.specs.FinMap.{get}
 use Rattle.ice_ids.specs.declared.Id8.{Id8}
+use Rattle.ice_ids.specs.declared.Id12.{Id12}
 use Rattle.ice_ids.specs.declared.drawing.AnyIds.{AnyIds}
 use Rattle.ice_ids.specs.Drawing.{drawn8}
 use Rattle.zarr_path.specs.declared.keys.ZarrKey.{ZarrKey}
@@ -22,7 +23,7 @@ use Rattle.zarr_tree.specs.declared.edit.EditFault.TheVariants as Fault
 use Rattle.store_api.specs.declared.machines.Refusal.TheVariants as R
 use Rattle.store_api.specs.Plays.{Play, call}
 use Rattle.session.specs.declared.session.Listing.{Listing}
-use Rattle.session.specs.Sessions.{SessionState, nodes_seen, writes}
+use Rattle.session.specs.Sessions.{SessionState, branch_of, nodes_seen, writes}
 use Rattle.session.specs.Opening.{open_program}
 use Rattle.session.specs.Editing as session
 use Rattle.play_script.specs.declared.scripts.Call.{Call}
@@ -58,7 +59,7 @@ use Rattle.play_script.specs.declared.scripts.ReadCall.TheVariants.{List as List
 use Rattle.play_script.specs.Well.{IsWellLine}
 use Rattle.zarr_keys.specs.Keys.{session_of, meta_value, put_over, erased_at, key_erased}
 use Rattle.play_tasks.specs.Lines.{deed, edit_deed, read_deed, edited, read_by, silent, still, nodes_shown, meta_shown, value_shown, key_shown, chunk_key_shown, key_set_deed, key_get_deed, filled, Goes}
-use Rattle.play_tasks.specs.Playing.{Rest, after_line, after_commit, after_rebase, after_open, shown_by, commit_play, tries_of, policy_of, play_deed, play_lines, asked_by, session_play}
+use Rattle.play_tasks.specs.Playing.{Rest, after_line, how_of, after_settling, doubt_of, doubt_play, after_commit, after_rebase, after_open, shown_by, commit_play, tries_of, policy_of, play_deed, play_lines, asked_by, session_play}
 use Rattle.run_histories.specs.Sources.{NodesAreNew}
 use Rattle.run_histories.proofs.Drawing.{edited-draws, text-draws, taken-draws, access-ids}
 use Rattle.run_histories.proofs.Edits.{Edits, edit-later, edit-goes, edit-base, own-stay}
@@ -66,7 +67,9 @@ use Rattle.run_histories.proofs.Editing.{Leads, call-leads}
 use Rattle.play_course.specs.Refusing.{is_strange, strange_end}
 use Rattle.play_course.proofs.Tidy.{Client, AreIts}
 use Rattle.play_course.proofs.Meeting.{PlayMeets, ended-meets, or-meets, call-meets}
-use Rattle.play_course.proofs.Knowing.{Before, beside, before-later, plain-beside}
+use Rattle.settle.specs.Settling.{settle_program}
+use Rattle.play_course.proofs.Settling.{SettlesWell, kept-meets, settle-meets, how-plain}
+use Rattle.play_course.proofs.Knowing.{IsKept, Before, beside, before-later, plain-beside}
 use Rattle.play_course.proofs.Holding.{Held, MayCommit, held-may}
 use Rattle.play_course.proofs.Reading.{edit-plain, ReadWell, get-meets}
 use Rattle.play_course.proofs.Opening.{Opens, open-meets}
@@ -217,6 +220,7 @@ EndsFine collects (E.Collected removed) = Unit {0}
 EndsFine collects E.Done = Unit {0}
 EndsFine collects (E.Refused line why) = IsFine collects why
 EndsFine collects (E.Stopped line why removed) = is_strange collects why ≡ false
+EndsFine collects (E.InDoubt id how) = strange_end collects (E.InDoubt id how) ≡ false
 EndsFine collects (E.Expired line cases result) = strange_end collects (E.Expired line cases result) ≡ false
 
 module _ (client : Client) (ids : AnyIds) where
@@ -281,12 +285,23 @@ module _ (client : Client) (ids : AnyIds) where
   get-goes line shown s show rest go (Err why) journal p = refused-meets line shown why journal p
 
   -- ---- commits
+  -- a commit in doubt
+  doubt-meets : (shown : List Shown) (s : SessionState) (id : Id12) (h : List Event) → IsKept client h → PlayMeets Ends (beside client ids) (doubt_play shown s id) h
+  doubt-meets shown s id h k =
+      call-meets Ends (beside client ids) (SettlesWell client ids) (settle_program (branch_of s) (doubt_of s id)) (after_settling shown id) h (settle-meets client ids (branch_of s) (doubt_of s id) h k)
+      (λ answer j q. ended-meets Ends (beside client ids) (record { shown = shown; end = E.InDoubt id (how_of answer) }) j (how-plain client ids answer j q))
+      (λ j. ended-meets Ends (beside client ids) (record { shown = shown; end = E.InDoubt id (how_of (Err R.NoMemory)) }) j refl)
+
   -- what follows the answer of a commit
+  abbrev Tries : SessionState → Result Tried Refusal → List Event → Type 0
+  Tries s r h = CommitsWell client ids s r h × IsKept client h
+
   committed-meets : (line : ℕ) (shown : List Shown) (s : SessionState) (lost : Version → Option Version → AnyIds → Play Outcome) → ((old : Version) (there : Option Version) (next : AnyIds) (h : List Event) → MayCommit client (record s { ids = next }) h → PlayMeets Ends (beside client ids) (lost old there next) h)
-      → (r : Result Tried Refusal) (h : List Event) → CommitsWell client ids s r h → PlayMeets Ends (beside client ids) (after_commit line shown lost r) h
+      → (r : Result Tried Refusal) (h : List Event) → Tries s r h → PlayMeets Ends (beside client ids) (after_commit line shown (doubt_play shown s) lost r) h
   committed-meets line shown s lost go (Ok (Was_done made)) h q = ended-meets Ends (beside client ids) (record { shown = shown; end = E.Committed made.id }) h tt
-  committed-meets line shown s lost go (Ok (Lost old there next)) h q = go old there next h q
-  committed-meets line shown s lost go (Err why) h q = refused-meets line shown why h q
+  committed-meets line shown s lost go (Ok (Lost old there next)) h q = go old there next h q.0
+  committed-meets line shown s lost go (Err (R.InDoubt id)) h q = doubt-meets shown s id h q.1
+  committed-meets line shown s lost go (Err why) h q = refused-meets line shown why h q.0
 
   module _ (law : SnapshotLaw) where
     -- and what follows that of a rebase
@@ -298,9 +313,10 @@ module _ (client : Client) (ids : AnyIds) where
 
     -- a commit, and what follows where it was lost
     lost-meets : (line : ℕ) (shown : List Shown) (message : List ℕ) (s : SessionState) (journal : List Event) → MayCommit client s journal → (lost : Version → Option Version → AnyIds → Play Outcome)
-        → ((old : Version) (there : Option Version) (next : AnyIds) (h : List Event) → MayCommit client (record s { ids = next }) h → PlayMeets Ends (beside client ids) (lost old there next) h) → PlayMeets Ends (beside client ids) (call (commit_program s message) (after_commit line shown lost)) journal
+        → ((old : Version) (there : Option Version) (next : AnyIds) (h : List Event) → MayCommit client (record s { ids = next }) h → PlayMeets Ends (beside client ids) (lost old there next) h) → PlayMeets Ends (beside client ids) (call (commit_program s message) (after_commit line shown (doubt_play shown s) lost)) journal
     lost-meets line shown message s journal k lost go =
-        call-meets Ends (beside client ids) (CommitsWell client ids s) (commit_program s message) (after_commit line shown lost) journal (commit-meets client ids s message journal k)
+        call-meets Ends (beside client ids) (Tries s) (commit_program s message) (after_commit line shown (doubt_play shown s) lost) journal
+        (kept-meets client ids (CommitsWell client ids s) (commit_program s message) journal (record { tidy = k.before.tidy; so_far = k.before.so_far }) (commit-meets client ids s message journal k))
         (λ r h q. committed-meets line shown s lost go r h q) (λ h. refused-meets line shown R.NoMemory h refl)
 
     -- as often as it may be tried

@@ -1,11 +1,13 @@
 -- Refusals that no run over an empty store gives, beside collections or without (own).
 use Rattle.std.specs.Prelude.{◌≡◌, ℕ, Bool, true, false, List, Some, Result, Ok, Err, slice_get, not}
+use Rattle.std.specs.List.{list_any}
 use Rattle.store_api.specs.declared.machines.Refusal.{Refusal}
 use Rattle.store_api.specs.declared.machines.Refusal.TheVariants as R
 use Rattle.play_outcome.specs.declared.outcome.End.{End}
 use Rattle.play_outcome.specs.declared.outcome.End.TheVariants as E
 use Rattle.play_outcome.specs.declared.outcome.Outcome.{Outcome}
 use Rattle.play_outcome.specs.declared.outcome.RefLine.{RefLine}
+use Rattle.play_outcome.specs.Ending.{why_unsettled}
 
 -- a drawn id that was taken, or a file that can't be read; and where nothing collects, an object that is missing
 abbrev pub is_strange : (collects : Bool) → Refusal → Bool
@@ -50,6 +52,7 @@ strange_end collects (E.Collected removed) = false
 strange_end collects E.Done = false
 strange_end collects (E.Refused line why) = is_strange collects why
 strange_end collects (E.Stopped line why removed) = is_strange collects why
+strange_end collects (E.InDoubt id how) = list_any (is_strange collects) (why_unsettled how)
 strange_end collects (E.Expired line cases (Ok done)) = false
 strange_end collects (E.Expired line cases (Err why)) = is_strange collects why
 

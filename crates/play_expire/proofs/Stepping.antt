@@ -1,8 +1,8 @@
 -- A step of an expiry is a step of its task.
-use Rattle.std.proofs.Common.{◌≡◌, refl, ℕ, List, Result, Ok, Err}
+use Rattle.std.proofs.Common.{◌≡◌, refl, ap, false, ℕ, List, Result, Ok, Err}
 use Rattle.store_api.specs.declared.machines.Refusal.{Refusal}
 use Rattle.store_api.specs.Callers.{View}
-use Rattle.store_api.specs.Plays.{Play, Comes, Acts, ended_as}
+use Rattle.store_api.specs.Plays.{Play, Comes, Acts, dooms, ended_as}
 use Rattle.cleanup_reports.specs.declared.cases.RefCase.{RefCase}
 use Rattle.expiry.specs.declared.terms.Terms.{Terms}
 use Rattle.expiry.specs.declared.standing.Expired.{Expired}
@@ -24,3 +24,7 @@ task-acts line old new p q acts = acts-as (outcome_of line) tells_failure is_fai
 -- a task's play begins with an operation, and has come to itself
 pub expiry-begun : (line : ℕ) (terms : Terms) (q : Play Outcome) → q ≡ expire_task line terms → Comes (expire_task line terms) q
 expiry-begun line terms q e = e
+
+-- where memory is wanting before it has begun, it tells that, and no fault of the store
+pub expiry-calm : (line : ℕ) (terms : Terms) (q : Play Outcome) → Comes (expire_task line terms) q → dooms is_failed q ≡ false
+expiry-calm line terms q c = ap (dooms is_failed) c

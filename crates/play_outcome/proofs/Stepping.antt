@@ -1,5 +1,6 @@
 -- A step of a worker's machine is a step of the worker.
-use Rattle.std.proofs.Common.{Bool, true, false, ◌≡◌, ◌⊎◌, inl, inr, refl, sym, ap, subst, ℕ, List, Result, Ok, Err}
+use Rattle.std.proofs.Common.{Bool, true, false, ◌≡◌, ◌⊎◌, inl, inr, refl, sym, ap, subst, ℕ, Result, Ok, Err}
+use Rattle.std.proofs.lemmas.Bool.{false≢true}
 use Rattle.std.specs.Prelude.{IsTrue}
 use Rattle.object_store.specs.declared.events.Op.{Op}
 use Rattle.object_store.specs.declared.events.Reply.{Reply}
@@ -9,7 +10,7 @@ use Rattle.store_api.specs.declared.machines.Refusal.{Refusal}
 use Rattle.store_api.specs.declared.machines.Refusal.TheVariants.{NoMemory}
 use Rattle.store_api.specs.Callers.{View, Waits}
 use Rattle.store_api.specs.Program.{Prog, Done, Ask as Ask_next, is_ask, moves_branch, is_no_memory, Lands, IsSure, Steps, Blames}
-use Rattle.store_api.specs.Plays.{Play, Ended, Ask, Or, call, behind, Comes, Acts, Starved, BlamesEnd}
+use Rattle.store_api.specs.Plays.{Play, call, behind, Comes, Acts, Acted, Starved, dooms, BlamesEnd}
 use Rattle.play_outcome.specs.declared.outcome.Outcome.{Outcome}
 use Rattle.play_outcome.specs.Ending.{is_failed}
 use Rattle.play_outcome.specs.Settling.{settled, ComesOrStarves, Faults}
@@ -18,13 +19,14 @@ pub is_memory : (why : Refusal) → is_no_memory why ≡ true → why ≡ NoMemo
 is_memory NoMemory e = refl
 is_memory _ e = absurd cc
 
-blamed : {T : Type 0} (result : Result (Next T) Refusal) (r : Play Outcome) (m n : ℕ) → Blames result m n → Faults result r → BlamesEnd is_failed r m n
-blamed (Ok t) (Ended outcome) m n b g = (b, λ failed. let x = g failed in cc)
-blamed (Ok t) (Ask op s next) m n b g = b
-blamed (Ok t) (Or p q) m n b g = b
-blamed (Err why) (Ended outcome) m n b g = (b.0, λ failed. b.1 (g failed))
-blamed (Err why) (Ask op s next) m n b g = b.0
-blamed (Err why) (Or p q) m n b g = b.0
+blamed : {T : Type 0} (result : Result (Next T) Refusal) (p r : Play Outcome) (m n : ℕ) → Blames result m n → Faults result r → BlamesEnd is_failed p r m n
+blamed (Ok t) p r m n b g = (b, λ doomed. absurd (false≢true (g doomed)))
+blamed (Err why) p r m n b g = (b.0, λ doomed. inr (b.1 (g doomed)))
+
+-- where it was bound to tell a fault before
+was-doomed : {T : Type 0} (result : Result (Next T) Refusal) (p r : Play Outcome) (m n : ℕ) → Blames result m n → dooms is_failed p ≡ true → BlamesEnd is_failed p r m n
+was-doomed (Ok t) p r m n b before = (b, λ doomed. inl before)
+was-doomed (Err why) p r m n b before = (b.0, λ doomed. inl before)
 
 module _ {T : Type 0} (f : Result T Refusal → Play Outcome) (r : Play Outcome) where
   goes : (x y : Prog (Result T Refusal)) → x ≡ y → Comes (call y f) r → Comes (call x f) r
@@ -54,24 +56,27 @@ module _ {T : Type 0} (f : Result T Refusal → Play Outcome) (r : Play Outcome)
   starves old new (Done a) e w c = absurd cc
   starves old new (Ask_next op k) e w c = record { op = op; starved = f (Err NoMemory); next = λ reply. behind op (call (k reply) f) (f (Err NoMemory)); asks = refl; waits = w; comes = c }
 
+  went : (old new : View) (p q : Prog (Result T Refusal)) (result : Result (Next T) Refusal) → is_ask p ≡ true → Steps old new p q result → Comes (settled f q result) r → Acted old new (call p f) r ⊎ Starved old new (call p f) r
+  went old new p q result live s c = elim s.went [
+    | inl m ↦ inl (record {
+      op = m.op;
+      starved = f (Err NoMemory);
+      next = λ reply. behind m.op (call (m.next reply) f) (f (Err NoMemory));
+      reply = m.reply;
+      asks = ap (λ (x : Prog (Result T Refusal)). call x f) m.asks;
+      fits = m.fits;
+      made = m.made;
+      comes = landed m.op (moves_branch m.op) (m.next m.reply) q result refl m.lands m.sure c;
+    })
+    | inr n ↦ inr (starves old new p live n.waits (subst (λ (x : Result (Next T) Refusal). Comes (settled f q x) r) n.result_is c))
+  ]
+
   pub acts : (old new : View) (p q : Prog (Result T Refusal)) (result : Result (Next T) Refusal) → is_ask p ≡ true → Steps old new p q result → Comes (settled f q result) r → Faults result r → Acts is_failed old new (call p f) r
-  acts old new p q result live s c b = record {
-    same = s.same;
-    blames = blamed result r old.faults new.faults s.blames b;
-    went = elim s.went [
-      | inl m ↦ inl (record {
-        op = m.op;
-        starved = f (Err NoMemory);
-        next = λ reply. behind m.op (call (m.next reply) f) (f (Err NoMemory));
-        reply = m.reply;
-        asks = ap (λ (x : Prog (Result T Refusal)). call x f) m.asks;
-        fits = m.fits;
-        made = m.made;
-        comes = landed m.op (moves_branch m.op) (m.next m.reply) q result refl m.lands m.sure c;
-      })
-      | inr n ↦ inr (starves old new p live n.waits (subst (λ (x : Result (Next T) Refusal). Comes (settled f q x) r) n.result_is c))
-    ];
-  }
+  acts old new p q result live s c b = record { same = s.same; blames = blamed result (call p f) r old.faults new.faults s.blames b; went = went old new p q result live s c }
+
+  -- ... of a play that was bound to tell a fault before, whatever its machine answers
+  pub acts-doomed : (old new : View) (p q : Prog (Result T Refusal)) (result : Result (Next T) Refusal) → is_ask p ≡ true → Steps old new p q result → Comes (settled f q result) r → dooms is_failed (call p f) ≡ true → Acts is_failed old new (call p f) r
+  acts-doomed old new p q result live s c before = record { same = s.same; blames = was-doomed result (call p f) r old.faults new.faults s.blames before; went = went old new p q result live s c }
 
   -- ---- machines that only read, behind whose answers there may be no memory
   landed-read : (op : Op) (next q : Prog (Result T Refusal)) (result : Result (Next T) Refusal) → moves_branch op ≡ false → Lands next q result → ComesOrStarves f q result r → Comes (behind op (call next f) (f (Err NoMemory))) r
@@ -85,7 +90,7 @@ module _ {T : Type 0} (f : Result T Refusal → Play Outcome) (r : Play Outcome)
   pub acts-reads : (old new : View) (p q : Prog (Result T Refusal)) (result : Result (Next T) Refusal) → ((op : Op) (next : Reply → Prog (Result T Refusal)) → p ≡ Ask_next op next → moves_branch op ≡ false) → is_ask p ≡ true → Steps old new p q result → ComesOrStarves f q result r → Faults result r → Acts is_failed old new (call p f) r
   acts-reads old new p q result reads live s c b = record {
     same = s.same;
-    blames = blamed result r old.faults new.faults s.blames b;
+    blames = blamed result (call p f) r old.faults new.faults s.blames b;
     went = elim s.went [
       | inl m ↦ inl (record {
         op = m.op;

@@ -5,7 +5,7 @@ use Rattle.store_api.specs.declared.machines.Next.TheVariants.{Again, Ready}
 use Rattle.store_api.specs.declared.machines.Refusal.{Refusal}
 use Rattle.store_api.specs.declared.machines.Refusal.TheVariants.{NoMemory}
 use Rattle.store_api.specs.Program.{Prog, is_fault}
-use Rattle.store_api.specs.Plays.{Play, Ended, Ask, Or, call, Comes}
+use Rattle.store_api.specs.Plays.{Play, call, Comes, dooms}
 use Rattle.play_outcome.specs.declared.outcome.Outcome.{Outcome}
 use Rattle.play_outcome.specs.Ending.{is_failed}
 
@@ -29,8 +29,6 @@ abbrev pub tells_fault : {T : Type 0} → Result (Next T) Refusal → Bool
 tells_fault (Ok t) = false
 tells_fault (Err why) = is_fault why
 
--- an outcome tells a fault of the store only where the answer told one
+-- a fault of the store is bound to be told only where the answer told one
 abbrev pub Faults : {T : Type 0} → Result (Next T) Refusal → Play Outcome → Type 0
-Faults answer (Ended outcome) = is_failed outcome ≡ true → tells_fault answer ≡ true
-Faults answer (Ask op starved next) = Unit {0}
-Faults answer (Or p q) = Unit {0}
+Faults answer p = dooms is_failed p ≡ true → tells_fault answer ≡ true

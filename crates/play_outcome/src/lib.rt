@@ -3,4 +3,4 @@
 
 mod outcome;
 
-pub use outcome::{End, Outcome, RefLine, RefLines, Shown, Shows};
+pub use outcome::{End, How, Outcome, RefLine, RefLines, Shown, Shows};

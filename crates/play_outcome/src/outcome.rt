@@ -68,12 +68,32 @@ pub enum End {
         why: Refusal,
         removed: Removed,
     },
+    /// Its commit is in doubt: the put of its branch failed, and may have been done. The snapshot that it put, and what the branch told of it then.
+    InDoubt {
+        id: Id12,
+        how: How,
+    },
     /// It expired refs on this line of the script: what became of each that it came to, and where it was refused, why.
     Expired {
         line: u32,
         cases: RefCases,
         result: Result<(), Refusal>,
     },
+}
+
+/// What a branch told of a commit that was in doubt, by the chain of snapshots that it named then.
+#[derive(Debug, Drop)]
+pub enum How {
+    /// The commit's snapshot is on the chain.
+    Committed,
+    /// The base of the commit's session is on it, and the snapshot isn't above that.
+    NotCommitted,
+    /// Neither of the two is on it.
+    NotAncestor,
+    /// The branch is gone.
+    NoRef,
+    /// It couldn't be read, for this reason.
+    Unsettled(Refusal),
 }
 
 /// What a task showed, and how it ended.

@@ -24,22 +24,22 @@ use Rattle.play_refs.specs.Playing.{unseen, logged}
 use Rattle.play_refs.specs.inside.Working.{Begins}
 
 -- ---- each call makes an operation
-new-asks : (name : List ℕ) (at : At) → is_ask (branch_new_program name at) ≡ true
+pub new-asks : (name : List ℕ) (at : At) → is_ask (branch_new_program name at) ≡ true
 new-asks name (At.Branch own) = refl
 new-asks name (At.Tag own) = refl
 new-asks name (At.Snapshot id) = refl
 
-reset-asks : (name : List ℕ) (at : At) → is_ask (branch_reset_program name at) ≡ true
+pub reset-asks : (name : List ℕ) (at : At) → is_ask (branch_reset_program name at) ≡ true
 reset-asks name (At.Branch own) = refl
 reset-asks name (At.Tag own) = refl
 reset-asks name (At.Snapshot id) = refl
 
-tag-asks : (name : List ℕ) (at : At) → is_ask (tag_new_program name at) ≡ true
+pub tag-asks : (name : List ℕ) (at : At) → is_ask (tag_new_program name at) ≡ true
 tag-asks name (At.Branch own) = refl
 tag-asks name (At.Tag own) = refl
 tag-asks name (At.Snapshot id) = refl
 
-log-asks : (at : At) → is_ask (log_program at) ≡ true
+pub log-asks : (at : At) → is_ask (log_program at) ≡ true
 unfolding walk
 log-asks (At.Branch own) = refl
 log-asks (At.Tag own) = refl

@@ -6,3 +6,4 @@ pub mod Playing
 pub mod Beginning
 pub mod Leaving
 pub mod Reading
+pub mod Calm

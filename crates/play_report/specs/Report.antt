@@ -12,8 +12,10 @@ use Rattle.cleanup_reports.specs.declared.cases.RefCase.{RefCase}
 use Rattle.store_api.specs.declared.machines.Refusal.{Refusal}
 use Rattle.play_outcome.specs.declared.outcome.Shown.{Shown}
 use Rattle.play_outcome.specs.declared.outcome.Shown.TheVariants.{Node, Meta, Chunk, Fill, Key, Log}
+use Rattle.play_outcome.specs.declared.outcome.How.{How}
+use Rattle.play_outcome.specs.declared.outcome.How.TheVariants as how
 use Rattle.play_outcome.specs.declared.outcome.End.{End}
-use Rattle.play_outcome.specs.declared.outcome.End.TheVariants.{Committed, Collected, Done, Refused, Stopped, Expired}
+use Rattle.play_outcome.specs.declared.outcome.End.TheVariants.{Committed, Collected, Done, Refused, Stopped, InDoubt, Expired}
 use Rattle.play_outcome.specs.declared.outcome.Outcome.{Outcome}
 use Rattle.play_outcome.specs.declared.outcome.RefLine.{RefLine}
 use Rattle.play_report.specs.Words.{◌space◌}
@@ -104,6 +106,7 @@ done_lines name (Collected removed) = []
 done_lines name Done = []
 done_lines name (Refused line why) = []
 done_lines name (Stopped line why removed) = removed_lines name removed
+done_lines name (InDoubt id how) = []
 done_lines name (Expired line cases result) = flat_map (case_lines name line) cases
 
 -- the line that was refused, and why
@@ -115,6 +118,14 @@ abbrev pub result_text : ℕ → Result (Unit {0}) Refusal → List ℕ
 result_text line (Ok done) = codes "done"
 result_text line (Err why) = refused_text line why
 
+-- what its branch told of a commit in doubt
+abbrev pub how_text : How → List ℕ
+how_text how.Committed = codes "committed"
+how_text how.NotCommitted = codes "notcommitted"
+how_text how.NotAncestor = codes "notancestor"
+how_text how.NoRef = codes "noref"
+how_text (how.Unsettled why) = codes "unsettled" space refusal_text why
+
 -- how a task ended, behind its name
 abbrev pub end_text : End → List ℕ
 end_text (Committed id) = codes "committed" space id12_text id
@@ -122,6 +133,7 @@ end_text (Collected removed) = removed_text removed
 end_text Done = codes "done"
 end_text (Refused line why) = refused_text line why
 end_text (Stopped line why removed) = refused_text line why
+end_text (InDoubt id how) = codes "indoubt" space id12_text id space how_text how
 end_text (Expired line cases result) = result_text line result
 
 -- what a task showed in order, what it had done, and then how it ended

@@ -67,7 +67,11 @@ fn add_done_lines(out: &mut Draft, name: &[u8], end: &End) -> Result<(), AllocEr
     ensures { OnOk result (out.new ≡ added out.old (done_lines name.now end.now)) }
 {
     match end {
-        End::Committed(_) | End::Collected(_) | End::Done | End::Refused { .. } => Ok(()),
+        End::Committed(_)
+        | End::Collected(_)
+        | End::Done
+        | End::Refused { .. }
+        | End::InDoubt { .. } => Ok(()),
         End::Stopped { removed, .. } => add_removed_lines(out, name, *removed),
         End::Expired { line, cases, .. } => add_cases(out, name, *line, cases.as_slice()),
     }

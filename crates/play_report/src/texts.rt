@@ -5,14 +5,14 @@ ghost use Rattle.std.specs.Prelude.{◌≡◌, ◌<◌, ◌++◌, OnOk, codes, d
 ghost use Rattle.play_report.specs.Words.{◌space◌};
 ghost use Rattle.std.specs.Char.{digit_char};
 ghost use Rattle.std.specs.List.{flat_map};
-ghost use Rattle.play_report.specs.Report.{node_kind, ref_kind, printed, byte_text, bytes_text, value_text, shown_text, removed_text, refused_text, result_text, end_text, ref_text};
+ghost use Rattle.play_report.specs.Report.{node_kind, ref_kind, printed, byte_text, bytes_text, value_text, shown_text, removed_text, refused_text, result_text, how_text, end_text, ref_text};
 ghost use Rattle.play_report.specs.inside.Drafts.{added};
 
 use crate::drafts::Draft;
 use crate::refusals::{add_refusal, add_told};
 use cleanup_reports::Removed;
 use ice_base::Bytes;
-use play_outcome::{End, RefLine, Shown};
+use play_outcome::{End, How, RefLine, Shown};
 use std::alloc::AllocError;
 use store_api::Refusal;
 
@@ -166,6 +166,22 @@ fn add_result(out: &mut Draft, line: u32, outcome: &Result<(), Refusal>) -> Resu
     }
 }
 
+/// What its branch told of a commit in doubt.
+fn add_how(out: &mut Draft, how: &How) -> Result<(), AllocError>
+    ensures { OnOk result (out.new ≡ added out.old (how_text how.now)) }
+{
+    match how {
+        How::Committed => out.add(b"committed"),
+        How::NotCommitted => out.add(b"notcommitted"),
+        How::NotAncestor => out.add(b"notancestor"),
+        How::NoRef => out.add(b"noref"),
+        How::Unsettled(why) => {
+            out.add(b"unsettled ")?;
+            add_refusal(out, why)
+        }
+    }
+}
+
 /// How a task ended.
 pub fn add_end(out: &mut Draft, end: &End) -> Result<(), AllocError>
     ensures { OnOk result (out.new ≡ added out.old (end_text end.now)) }
@@ -177,6 +193,10 @@ pub fn add_end(out: &mut Draft, end: &End) -> Result<(), AllocError>
         End::Refused { line, why } | End::Stopped { line, why, .. } => add_refused_at(
             out, *line, why,
         ),
+        End::InDoubt { id, how } => {
+            write!(out, "indoubt {id} ")?;
+            add_how(out, how)
+        }
         End::Expired { line, result, .. } => add_result(out, *line, result),
     }
 }

@@ -13,6 +13,7 @@ use Rattle.play_script.specs.declared.scripts.Task.{Task}
 use Rattle.play_outcome.specs.declared.outcome.Outcome.{Outcome}
 use Rattle.play_tasks.specs.Playing.{task_play}
 use Rattle.play_tasks.specs.Tasks.{ids_at, plays_from}
+use Rattle.play_tasks.proofs.Once.{task-once}
 use Rattle.play_tasks.specs.Played.{PlaysTo, IsByTask, AllPlayed}
 use Rattle.play_tasks.proofs.Paths.{PlaysTo-ended, PlaysTo-comes, PlaysTo-asked, PlaysTo-starved}
 use Rattle.play_run.specs.Order.{Turned, InTurns, Begin}
@@ -134,8 +135,12 @@ pub played_turns : (draw : Draw) (tasks : List Task) (ts : List ℕ) (ps : List 
     → Begin draw tasks ps → InTurns ts ps events qs → AllPlayed draw tasks outcomes events
 played_turns draw tasks ts ps events outcomes qs size ends begins order = record {
   owned = owned_turns tasks ts ps events qs size order;
-  plays = λ place task outcome at_task at.
-      let r = begun_at draw 0 tasks ps place task begins at_task in
-      let comes = subst (λ (n : ℕ). Comes (task_play (ids_at draw n) task) r.q) (zero-add place) r.comes in
-      PlaysTo-comes (task_play (ids_at draw place) task) r.q (events_of (place + 1) events) outcome comes (plays_turns ts place ps events qs r.q outcome order r.at (ends place outcome at));
+  plays = plays;
+  once = λ place task outcome at_task at. task-once (ids_at draw place) task (events_of (place + 1) events) outcome (plays place task outcome at_task at);
 }
+  where
+    plays : (place : ℕ) (task : Task) (outcome : Outcome) → slice_get tasks place ≡ Some task → slice_get outcomes place ≡ Some outcome → PlaysTo (task_play (ids_at draw place) task) (events_of (place + 1) events) outcome
+    plays place task outcome at_task at =
+        let r = begun_at draw 0 tasks ps place task begins at_task in
+        let comes = subst (λ (n : ℕ). Comes (task_play (ids_at draw n) task) r.q) (zero-add place) r.comes in
+        PlaysTo-comes (task_play (ids_at draw place) task) r.q (events_of (place + 1) events) outcome comes (plays_turns ts place ps events qs r.q outcome order r.at (ends place outcome at))

@@ -1,6 +1,6 @@
 -- Rounds of turns.
 use Rattle.std.proofs.Common.{◌≡◌, ℕ, ◌+◌, ◌-◌, ◌<◌, Bool, List, [], ◌∷◌, ◌++◌, refl, sym, ap, subst, ◌∙◌, length, arith, append-nil, append_assoc, add-zero, zero-add, length-append, map, replicate, take, zero, suc}
-use Rattle.std.proofs.Common.{◌≢◌, ◌≤◌, ◌⊎◌, inl, inr, true, false, eq-eqb, eqb-true, get_or, drop, Some, None}
+use Rattle.std.proofs.Common.{◌≢◌, ◌≤◌, ◌⊎◌, inl, inr, true, false, true≢false, eq-eqb, eqb-true, get_or, drop, Some, None}
 use Rattle.std.specs.Prelude.{◌==◌, slice_get, All, IsTrue}
 use Rattle.std.proofs.Math.Seq.{take-length, drop-length}
 use Rattle.std.proofs.lemmas.Option.{slice_get_cases, slice_get_within, get_or_from_slice_get}
@@ -22,7 +22,7 @@ use Rattle.play_tasks.specs.Playing.{task_play}
 use Rattle.play_tasks.specs.Owing.{IsDue, BeforeChange}
 use Rattle.play_tasks.specs.Laws.{TaskLaw}
 use Rattle.play_tasks.specs.Tasks.{ids_at, TellsAt, plays_from, AllStand, HasEndedAt, AllBlame, AllTold}
-use Rattle.play_tasks.proofs.Begun.{begun-calm}
+use Rattle.play_tasks.proofs.Begun.{begun-undoomed}
 use Rattle.play_run.specs.Order.{places_of, turns_of, Begin, RanTasks}
 use Rattle.play_run.specs.inside.Taking.{TookTurn}
 use Rattle.play_run.specs.inside.Going.{CanGo, Blame, Went}
@@ -150,12 +150,11 @@ workers_size draw tasks ws b = sym (size_map ws) ∙ begun_size draw tasks (map 
 pub went_size : (ts : List ℕ) (a b : View) (old new : List Worker) → Went ts a b (map worker_rest old) (map worker_rest new) → length new ≡ length old
 went_size ts a b old new w = sym (size_map new) ∙ w.size ∙ size_map old
 
--- where a play has ended at once, it tells no fault of the store
+-- no play is bound to tell a fault of the store as it begins
 pub none_blamed : (draw : Draw) (tasks : List Task) (ps : List (Play Outcome)) (m n : ℕ) → Begin draw tasks ps → Blame ps m n
-none_blamed draw tasks ps m n b k outcome at failed =
-    let r = play_at draw 0 tasks ps k (Ended outcome) b at in
-    let calm = begun-calm (ids_at draw (0 + k)) r.task outcome r.comes in
-    absurd (cc)
+none_blamed draw tasks ps m n b k p at doomed =
+    let r = play_at draw 0 tasks ps k p b at in
+    absurd (true≢false (sym doomed ∙ begun-undoomed (ids_at draw (0 + k)) r.task p r.comes))
 
 -- ---- workers that have ended
 middle_at : {X : Type 0} (xs ys : List X) (x : X) → slice_get (xs ++ x ∷ ys) (length xs) ≡ Some x
@@ -226,7 +225,7 @@ module _ (law : TaskLaw) (draw : Draw) (tasks : List Task) (turns : List ℕ) (a
 
   pub blamed_all : Whole → AllBlame outcomes a.faults c.faults
   blamed_all w place outcome at failed =
-      w.1.blames a.faults (omega arith) (none_blamed draw tasks ps a.faults a.faults first) place outcome (ends_at outcomes place outcome at) failed
+      w.1.blames a.faults (omega arith) (none_blamed draw tasks ps a.faults a.faults first) place (Ended outcome) (ends_at outcomes place outcome at) failed
 
   pub size_all : Whole → length outcomes ≡ length tasks
   size_all w = sym (ends_size outcomes) ∙ w.1.size ∙ begun_size draw tasks ps first

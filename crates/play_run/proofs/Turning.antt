@@ -1,5 +1,5 @@
 -- One turn of one worker.
-use Rattle.std.proofs.Common.{◌≡◌, ◌≢◌, inl, inr, ℕ, ◌+◌, Bool, true, false, List, [], ◌∷◌, ◌++◌, refl, sym, ◌∙◌, ap, subst, append-nil, append_assoc, set, length, ◌<◌, ◌≤◌, arith, length-set}
+use Rattle.std.proofs.Common.{◌≡◌, ◌≢◌, ◌⊎◌, inl, inr, ℕ, ◌+◌, Bool, true, false, List, [], ◌∷◌, ◌++◌, refl, sym, ◌∙◌, ap, subst, append-nil, append_assoc, set, length, ◌<◌, ◌≤◌, arith, length-set}
 use Rattle.std.proofs.lemmas.Bool.{leb-true, ltb-true}
 use Rattle.std.specs.Prelude.{◌&&◌, nat_le, nat_lt, IsTrue, Some, slice_get}
 use Rattle.ice_base.specs.Ends.{Rose}
@@ -11,7 +11,7 @@ use Rattle.object_store.specs.declared.events.Event.{Event}
 use Rattle.object_store.specs.Machine.{IsAnswered}
 use Rattle.store_api.specs.Journal.{Each, IsGood, IsPolite}
 use Rattle.store_api.specs.Callers.{Caller, View, Waits, Makes, IsOther, HasAll, own_event, owns, only, as_client}
-use Rattle.store_api.specs.Plays.{Play, Ended, Ask, Or, IsLive, HasEnded, PlayKeeps, PlayIsPolite, Acts, Acted, Starved, BlamesEnd}
+use Rattle.store_api.specs.Plays.{Play, Ended, Ask, Or, IsLive, HasEnded, PlayKeeps, PlayIsPolite, Acts, Acted, Starved, dooms, BlamesEnd}
 use Rattle.ice_ids.specs.declared.drawing.AnyIds.{AnyIds}
 use Rattle.object_store.proofs.Journals.{Each-one, Each-none, Each-append}
 use Rattle.store_api.proofs.Programs.{alone, has-all, good-waits, Waits-same, Waits-fewer, Makes-fewer, Fewer}
@@ -19,6 +19,7 @@ use Rattle.store_api.proofs.PlayLaws.{PlayKeeps-waits, PlayKeeps-acts, PlayLeads
 use Rattle.commit_path.proofs.Owing.{KeepsMine, IsCareful-append}
 use Rattle.commit_path.proofs.Knowing.{IsOpened-append}
 use Rattle.commit_path.proofs.Lawful.{session-law, answers-law}
+use Rattle.settle.proofs.Kept.{settle-kept}
 use Rattle.chunk_calls.proofs.Lasting.{tells-law}
 use Rattle.store_api.proofs.Happening.{ChangedNothing-others}
 use Rattle.store_api.proofs.Standing.{IsPolite-append}
@@ -130,7 +131,7 @@ Keeps-polite ids task number start by (Or p r) journal k = tt
 
 -- what an outcome tells lasts
 outcomes : OutcomeLaw
-outcomes by ids task outcome start journal more others = TellsOutcome-others (record { session = session-law; answers = answers-law; chunks = tells-law; refs = λ by body outcome start journal more others. RefsTells-others by journal more others body start outcome; collect = λ by line cutoff outcome start journal more others. CollectedTells-others cutoff by start journal more others line outcome; expire = λ by line terms outcome start journal more others. ExpiredTells-more line terms by.number start journal more outcome }) by start journal more others ids task outcome
+outcomes by ids task outcome start journal more others = TellsOutcome-others (record { session = session-law; answers = answers-law; settle = λ by branch d result start journal more others t. settle-kept by branch d start journal more others result t; chunks = tells-law; refs = λ by body outcome start journal more others. RefsTells-others by journal more others body start outcome; collect = λ by line cutoff outcome start journal more others. CollectedTells-others cutoff by start journal more others line outcome; expire = λ by line terms outcome start journal more others. ExpiredTells-more line terms by.number start journal more outcome }) by start journal more others ids task outcome
 
 next_same : (k t : ℕ) → t + 1 ≡ k + 1 → k ≡ t
 next_same k t e = omega (arith, e)
@@ -355,15 +356,13 @@ not_both (Ended a) l d = l
 not_both (Ask op s f) l d = d
 not_both (Or p q) l d = d
 
-pub counted_by : (q : Play Outcome) (m n : ℕ) → BlamesEnd is_failed q m n → m ≤ n
-counted_by (Ended o) m n b = b.0
-counted_by (Ask op s next) m n b = b
-counted_by (Or p q) m n b = b
-
-pub blamed_by : (q : Play Outcome) (outcome : Outcome) (m n : ℕ) → q ≡ Ended outcome → BlamesEnd is_failed q m n → is_failed outcome ≡ true → Rose m n
-blamed_by (Ended o) outcome m n e b f = let same : o ≡ outcome = cc in b.1 (ap is_failed same ∙ f)
-blamed_by (Ask op s next) outcome m n e b f = absurd (cc)
-blamed_by (Or p q) outcome m n e b f = absurd (cc)
+-- what is bound to tell a fault was so before the step, or the faults rose in it
+pub doomed_by : (p q : Play Outcome) (first old new : ℕ) → first ≤ old → BlamesEnd is_failed p q old new → (dooms is_failed p ≡ true → Rose first old) → dooms is_failed q ≡ true → Rose first new
+doomed_by p q first old new below b before doomed = by_cases (b.1 doomed)
+  where
+    by_cases : (dooms is_failed p ≡ true) ⊎ Rose old new → Rose first new
+    by_cases (inl was) = Rose-after first old new (before was) b.0
+    by_cases (inr rose) = Rose-before first old new below rose
 
 took-rested : (t : ℕ) (old new : View) (ps qs : List (Play Outcome)) → Rested t old new ps qs → Went (t ∷ []) old new ps qs
 took-rested t old new ps qs r = record {
@@ -382,7 +381,7 @@ took-by : (t : ℕ) (old new : View) (ps qs : List (Play Outcome)) → Stepped t
 took-by t old new ps qs s own turned kept = record {
   tells = ap (λ (c : Caller). c.tells) s.acts.same;
   size = ap length s.rest ∙ length-set ps t s.q;
-  counted = counted_by s.q old.faults new.faults s.acts.blames;
+  counted = s.acts.blames.0;
   blames = λ m below all. subst (λ (xs : List (Play Outcome)). Blame xs m new.faults) (sym s.rest) (blame m below all);
   others = λ k done. subst (λ (xs : List (Play Outcome)). HasEndedAt k xs) (sym s.rest) (done_at k done);
   own = own;
@@ -391,10 +390,9 @@ took-by t old new ps qs s own turned kept = record {
 }
   where
     blame : (m : ℕ) → m ≤ old.faults → Blame ps m old.faults → Blame (set ps t s.q) m new.faults
-    blame m below all k outcome e failed = at_set (λ k r. (o : Outcome) → r ≡ Ended o → is_failed o ≡ true → Rose m new.faults) ps t s.p s.q s.at
-        (λ o e' f. Rose-before m old.faults new.faults below (blamed_by s.q o old.faults new.faults e' s.acts.blames f))
-        (λ k r n e' o d f. Rose-after m old.faults new.faults (all k o (e' ∙ ap (λ (x : Play Outcome). Some x) d) f) (counted_by s.q old.faults new.faults s.acts.blames))
-        k (Ended outcome) e outcome refl failed
+    blame m below all = at_set (λ k r. dooms is_failed r ≡ true → Rose m new.faults) ps t s.p s.q s.at
+        (doomed_by s.p s.q m old.faults new.faults below s.acts.blames (all t s.p s.at))
+        (λ k r n e doomed. Rose-after m old.faults new.faults (all k r e doomed) s.acts.blames.0)
 
     done_at : (k : ℕ) → HasEndedAt k ps → HasEndedAt k (set ps t s.q)
     done_at k done r e = at_set (λ j x. j ≡ k → HasEnded x) ps t s.p s.q s.at

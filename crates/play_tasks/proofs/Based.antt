@@ -220,6 +220,12 @@ module _ (by : Caller) (a : Asked) (start : List Event) where
   still-leads Q base origin (Done x) journal w s = (w, s)
   still-leads Q base origin (Ask op next) journal w s = λ reply new m. still-leads Q base origin (next reply) new (w.1 reply) (settled-makes base origin op reply journal new m w.0 s)
 
+  -- ---- programs that get branches, snapshots and logs alone
+  walk-keeps : {A : Type 0} (Q : A → Type 0) (base : Id12) (origin : Origin) (p : Prog A) (journal : List Event) → Within GetsWalked Q p → Rebasing base origin journal → Keeps Opens by p journal
+  unfolding Within Keeps
+  walk-keeps Q base origin (Done x) journal w s = tt
+  walk-keeps Q base origin (Ask op next) journal w s = (inr (rebasing-has base origin journal s), λ reply new m. walk-keeps Q base origin (next reply) new (w.1 reply) (rebasing-makes base origin op reply journal new m w.0 s))
+
   -- ---- the rest of a rebase
   pub climb-keeps : {A : Type 0} (Q : A → Type 0) (base : Id12) (origin : Origin) (p : Prog A) (journal : List Event) → Within Climbs Q p → Rebasing base origin journal → Keeps Opens by p journal
   unfolding Within Keeps
@@ -245,6 +251,11 @@ module _ (by : Caller) (a : Asked) (start : List Event) where
   any-stays (Done x) journal = tt
   any-stays (Ask op next) journal = (tt, λ reply new m. ((λ e. tt), any-stays (next reply) new))
 
+  any-leads : {A : Type 0} (p : Prog A) (journal : List Event) → Leads (λ x h. Unit {0}) by p journal
+  unfolding Leads
+  any-leads (Done x) journal = tt
+  any-leads (Ask op next) journal = λ reply new m. any-leads (next reply) new
+
   answered : {A : Type 0} (f : Result A Refusal → Play Outcome) (Q : A → List Event → Type 0) → ((x : A) (h : List Event) → Q x h → PlayKeeps Opens by (f (Ok x)) h) → ((why : Refusal) (h : List Event) → PlayKeeps Opens by (f (Err why)) h)
       → (r : Result A Refusal) (h : List Event) → IfOk r (λ x. Q x h) → PlayKeeps Opens by (f r) h
   answered f Q go ends (Ok x) h q = go x h q
@@ -261,3 +272,16 @@ module _ (by : Caller) (a : Asked) (start : List Event) where
   still-call p f Q base origin journal w s go ends =
       opens-call p f (λ x h. Q x × Settled base origin h) journal (still-keeps (λ r. IfOk r Q) base origin p journal w s)
       (ok-leads Q (Settled base origin) p journal (still-leads (λ r. IfOk r Q) base origin p journal w s)) (λ x h q. go x h q.0 q.1) ends
+
+  -- ... where what follows a refusal goes on by the base too
+  pub still-goes : {A : Type 0} (p : Program A) (f : Result A Refusal → Play Outcome) (Q : A → Type 0) (base : Id12) (origin : Origin) (journal : List Event) → WithinOk Still Q p → Settled base origin journal
+      → ((r : Result A Refusal) (h : List Event) → Settled base origin h → PlayKeeps Opens by (f r) h) → ((h : List Event) → PlayKeeps Opens by (f (Err NoMemory)) h) → PlayKeeps Opens by (call p f) journal
+  still-goes p f Q base origin journal w s go starved =
+      PlayKeeps-call Opens (λ r h. IfOk r Q × Settled base origin h) (λ h. Unit {0}) by p f journal (still-keeps (λ r. IfOk r Q) base origin p journal w s)
+      (still-leads (λ r. IfOk r Q) base origin p journal w s) (any-stays p journal) (λ r h q. go r h q.1) (λ h n. starved h)
+
+  -- a call of a machine that gets branches, snapshots and logs alone
+  pub walk-call : {A : Type 0} (p : Program A) (f : Result A Refusal → Play Outcome) (Q : A → Type 0) (base : Id12) (origin : Origin) (journal : List Event) → WithinOk GetsWalked Q p → Rebasing base origin journal
+      → ((r : Result A Refusal) (h : List Event) → PlayKeeps Opens by (f r) h) → PlayKeeps Opens by (call p f) journal
+  walk-call p f Q base origin journal w s ends =
+      PlayKeeps-call Opens (λ r h. Unit {0}) (λ h. Unit {0}) by p f journal (walk-keeps (λ r. IfOk r Q) base origin p journal w s) (any-leads p journal) (any-stays p journal) (λ r h q. ends r h) (λ h n. ends (Err NoMemory) h)

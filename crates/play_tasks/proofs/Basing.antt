@@ -29,7 +29,7 @@ use Rattle.object_store.specs.declared.events.Event.{Event}
 use Rattle.object_store.specs.declared.events.Version.{Version}
 use Rattle.object_store.proofs.Journals.{Each-weaker}
 use Rattle.store_api.specs.declared.machines.Refusal.{Refusal}
-use Rattle.store_api.specs.declared.machines.Refusal.TheVariants.{Conflict, ReadOnly}
+use Rattle.store_api.specs.declared.machines.Refusal.TheVariants.{NoMemory, Conflict, ReadOnly}
 use Rattle.store_api.specs.Callers.{Caller, IsOther, Makes}
 use Rattle.store_api.specs.Program.{Done, bind, Keeps, Leads}
 use Rattle.store_api.specs.Running.{Program, ◌>>=◌, on_answer}
@@ -69,11 +69,14 @@ use Rattle.play_outcome.specs.declared.outcome.Outcome.{Outcome}
 use Rattle.play_outcome.specs.declared.outcome.Shown.{Shown}
 use Rattle.play_outcome.specs.Playing.{refused}
 use Rattle.play_tasks.specs.Lines.{Deed, Goes, Sets, Reads, Commits, deed, edit_deed, read_deed, key_set_deed, key_get_deed, read_by, silent, still}
-use Rattle.play_tasks.specs.Playing.{after_commit, after_line, after_open, after_rebase, asked_by, commit_play, play_deed, play_lines, policy_of, session_play, shown_by, tries_of}
+use Rattle.settle.specs.declared.settle.Settled.{Settled as TheSettled}
+use Rattle.settle.specs.Settling.{settle_program}
+use Rattle.play_tasks.specs.Playing.{after_settling, doubt_of, doubt_play, after_commit, after_line, after_open, after_rebase, asked_by, commit_play, play_deed, play_lines, policy_of, session_play, shown_by, tries_of}
 use Rattle.play_tasks.specs.Bases.{HasAsked, IsAskedFor, NamesBase, naming_key}
 use Rattle.play_tasks.proofs.Ready.{by_writes, by_text, by_edit}
-use Rattle.play_tasks.proofs.Within.{Within, WithinOk, Still, IsSame, IsOnHead, set-within, get-within, commit-within, ref-within}
-use Rattle.play_tasks.proofs.Based.{GoesOn, Opens, Settled, Rebasing, alone-none, climb-keeps, climb-leads, opens-call, own-now, rebase-begins, rebasing-makes, settled-has, settled-now, still-call, still-keeps, still-leads}
+use Rattle.play_tasks.proofs.Doubting.{which, no-doubt, settle-within}
+use Rattle.play_tasks.proofs.Within.{Within, WithinOk, Still, IsSame, IsOnHead, still-gets, still-puts, set-within, get-within, commit-within, ref-within}
+use Rattle.play_tasks.proofs.Based.{GoesOn, Opens, Settled, Rebasing, alone-none, climb-keeps, climb-leads, opens-call, own-now, rebase-begins, rebasing-makes, settled-has, settled-now, still-call, still-goes, still-keeps, still-leads, walk-call}
 
 -- ---- lines leave a session's base
 abbrev Leaves : SessionState → Result SessionState Refusal → Type 0
@@ -271,25 +274,46 @@ module _ (by : Caller) (a : Asked) (start : List Event) where
           (let goes = program-goes policy s tip.0 tip.1 h x in
           opens-call by a start (resolve_program tip.0.branch >>= after_ref policy s) (after_rebase line shown again) OnHead h goes.0 goes.1 (λ y j q. rebased-opens line shown again go y j q) (λ why j. refused-opens line shown why j))
 
-  -- ---- a commit
-  tried-opens : (line : ℕ) (shown : List Shown) (lost : Version → Option Version → AnyIds → Play Outcome) (h : List Event) → ((old : Version) (there : Option Version) (next : AnyIds) → OpensAll (lost old there next) h) → (t : Tried) → OpensAll (after_commit line shown lost (Ok t)) h
+  -- ---- a commit in doubt
+  settling-opens : (shown : List Shown) (id : Id12) (answer : Result TheSettled Refusal) (h : List Event) → OpensAll (after_settling shown id answer) h
   unfolding PlayKeeps
-  tried-opens line shown lost h go (Was_done made) = tt
-  tried-opens line shown lost h go (Lost old there next) = go old there next
+  settling-opens shown id answer h = tt
 
-  -- one commit of the session, and what follows where it was lost
-  once-opens : (line : ℕ) (shown : List Shown) (message : List ℕ) (s : SessionState) (lost : Version → Option Version → AnyIds → Play Outcome) (h : List Event) → Base s h
-      → ((old : Version) (there : Option Version) (next : AnyIds) (j : List Event) → Base s j → OpensAll (lost old there next) j) → OpensAll (call (commit_program s message) (after_commit line shown lost)) h
-  once-opens line shown message s lost h x go =
-      still-call by a start (commit_program s message) (after_commit line shown lost) (λ t. Unit {0}) s.base s.origin h (commit-within s message) x
-      (λ t j q y. tried-opens line shown lost j (λ old there next. go old there next j y) t) (λ why j. refused-opens line shown why j)
+  -- it is settled as a session is rebased
+  doubt-opens : (shown : List Shown) (s : SessionState) (id : Id12) (h : List Event) → Base s h → OpensAll (doubt_play shown s id) h
+  doubt-opens shown s id h x =
+      walk-call by a start (settle_program (branch_of s) (doubt_of s id)) (after_settling shown id) (λ told. Unit {0}) s.base s.origin h (settle-within (branch_of s) (doubt_of s id)) (rebase-begins by a start s.base s.origin h x)
+      (λ answer j. settling-opens shown id answer j)
+
+  -- ---- a commit
+  module _ (line : ℕ) (shown : List Shown) (s : SessionState) (lost : Version → Option Version → AnyIds → Play Outcome) where
+    abbrev answered : Result Tried Refusal → Play Outcome
+    answered = after_commit line shown (doubt_play shown s) lost
+
+    refused-commit : (why : Refusal) (h : List Event) → Base s h → OpensAll (answered (Err why)) h
+    refused-commit why h x = elim (which why) [
+      | inl d ↦ subst (λ (w : Refusal). OpensAll (answered (Err w)) h) (sym d.1) (doubt-opens shown s d.0 h x)
+      | inr never ↦ subst (λ (p : Play Outcome). OpensAll p h) (sym (no-doubt line shown (doubt_play shown s) lost why never)) (refused-opens line shown why h)
+    ]
+
+    tried-opens : (h : List Event) → Base s h → ((old : Version) (there : Option Version) (next : AnyIds) → OpensAll (lost old there next) h) → (r : Result Tried Refusal) → OpensAll (answered r) h
+    unfolding PlayKeeps
+    tried-opens h x go (Ok (Was_done made)) = tt
+    tried-opens h x go (Ok (Lost old there next)) = go old there next
+    tried-opens h x go (Err why) = refused-commit why h x
+
+    -- one commit of the session, and what follows where it was lost
+    once-opens : (message : List ℕ) (h : List Event) → Base s h → ((old : Version) (there : Option Version) (next : AnyIds) (j : List Event) → Base s j → OpensAll (lost old there next) j) → OpensAll (call (commit_program s message) answered) h
+    once-opens message h x go =
+        still-goes by a start (commit_program s message) answered (λ t. Unit {0}) s.base s.origin h (commit-within s message) x
+        (λ r j y. tried-opens j y (λ old there next. go old there next j y) r) (λ j. refused-opens line shown NoMemory j)
 
   commit-opens : (tries : ℕ) (policy : Policy) (line : ℕ) (shown : List Shown) (message : List ℕ) (s : SessionState) (h : List Event) → Base s h → OpensAll (commit_play tries policy line shown message s) h
   unfolding commit_play
   commit-opens zero policy line shown message s h x =
-      once-opens line shown message s (λ old there next. refused line shown (Conflict old there)) h x (λ old there next j y. refused-opens line shown (Conflict old there) j)
+      once-opens line shown s (λ old there next. refused line shown (Conflict old there)) message h x (λ old there next j y. refused-opens line shown (Conflict old there) j)
   commit-opens (suc tries) policy line shown message s h x =
-      once-opens line shown message s (λ old there next. call (rebase_program policy (record s { ids = next })) (after_rebase line shown (commit_play tries policy line shown message))) h x
+      once-opens line shown s (λ old there next. call (rebase_program policy (record s { ids = next })) (after_rebase line shown (commit_play tries policy line shown message))) message h x
       (λ old there next j y. rebase-opens policy line shown (commit_play tries policy line shown message) (λ u k z. commit-opens tries policy line shown message u k z) (record s { ids = next }) j (settled-same s (record s { ids = next }) j (record { base = refl; origin = refl }) y))
 
   -- ---- lines
@@ -302,10 +326,10 @@ module _ (by : Caller) (a : Asked) (start : List Event) where
     deed-opens line shown s rest h x go (Goes (Ok went)) leaves = go went.1 (shown ++ went.0) h (settled-same s went.1 h leaves x)
     deed-opens line shown s rest h x go (Goes (Err why)) leaves = refused-opens line shown why h
     deed-opens line shown s rest h x go (Sets path index bytes) leaves =
-        still-call by a start (set_program s path index bytes) (λ answer. after_line line shown (silent answer) rest) (IsSame s) s.base s.origin h (set-within s path index bytes) x
+        still-call by a start (set_program s path index bytes) (λ answer. after_line line shown (silent answer) rest) (IsSame s) s.base s.origin h (set-within Still still-gets still-puts s path index bytes) x
         (λ t j i y. go t (shown ++ []) j (settled-same s t j i y)) (λ why j. refused-opens line shown why j)
     deed-opens line shown s rest h x go (Reads path index show) leaves =
-        still-call by a start (get_program s path index) (λ answer. after_line line shown (shown_by s show answer) rest) (λ v. Unit {0}) s.base s.origin h (get-within s path index) x
+        still-call by a start (get_program s path index) (λ answer. after_line line shown (shown_by s show answer) rest) (λ v. Unit {0}) s.base s.origin h (get-within Still still-gets still-puts s path index) x
         (λ v j q y. go s (shown ++ show v ∷ []) j y) (λ why j. refused-opens line shown why j)
     deed-opens line shown s rest h x go (Commits message) leaves = commit-opens (tries_of access) (policy_of access) line shown message s h x
 

@@ -20,15 +20,16 @@ use Rattle.commit_path.specs.Single.{PutsSnapshot, HasPutNone}
 use Rattle.commit_path.proofs.Singling.{HasPutNone-makes}
 use Rattle.store_api.proofs.Telling.{makes-keeps}
 use Rattle.rebase.proofs.Kept.{stays-makes}
+use Rattle.play_tasks.specs.Owing.{IsPut}
 
--- an operation is polite and owed, comes before its client changed a branch, and is owed of the client's own puts
+-- an operation is polite and owed, comes before its client changed a branch if it puts something, and is owed of the client's own puts
 abbrev pub Minds : AnyIds → Sessions → List Event → List Event → ℕ → Op → Type 0
-Minds ids mine start journal client op = IsCareful ids mine journal client op × (ChangedNothing client start journal × OwesOwn ids client start op journal)
+Minds ids mine start journal client op = IsCareful ids mine journal client op × ((IsPut op → ChangedNothing client start journal) × OwesOwn ids client start op journal)
 
 pub Keeps-minds : {A : Type 0} (ids : AnyIds) (mine : Sessions) (start : List Event) (by : Caller) (p : Prog A) (journal : List Event) → Keeps (IsCareful ids mine) by p journal → Stays (ChangedNothing by.number start) by p journal → Keeps (λ h client op. OwesOwn ids client start op h) by p journal → Keeps (Minds ids mine start) by p journal
 unfolding Keeps Stays
 Keeps-minds ids mine start by (Done a) journal k s o = tt
-Keeps-minds ids mine start by (Ask_next op next) journal k s o = ((k.0, (s.0, o.0)), λ reply new m. Keeps-minds ids mine start by (next reply) new (k.1 reply new m) (s.1 reply new m).1 (o.1 reply new m))
+Keeps-minds ids mine start by (Ask_next op next) journal k s o = ((k.0, (λ puts. s.0, o.0)), λ reply new m. Keeps-minds ids mine start by (next reply) new (k.1 reply new m) (s.1 reply new m).1 (o.1 reply new m))
 
 -- where Q follows from P at the client's own operations
 pub Keeps-own : {A : Type 0} (P Q : List Event → ℕ → Op → Type 0) (by : Caller) → ((journal : List Event) (op : Op) → P journal by.number op → Q journal by.number op) → (p : Prog A) (journal : List Event) → Keeps P by p journal → Keeps Q by p journal

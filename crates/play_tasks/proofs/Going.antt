@@ -20,6 +20,7 @@ use Rattle.commit_path.specs.Single.{HasPutNone, SingleLaw}
 use Rattle.chunk_calls.specs.Laws.{SetLaw, GetLaw, OwningCallsLaw}
 use Rattle.chunk_calls.proofs.Lasting.{WasSet-append, IsChunk-append}
 use Rattle.rebase.specs.Laws.{RebaseLaw}
+use Rattle.settle.specs.Laws.{SettleLaw}
 use Rattle.play_refs.specs.Laws.{RefsTaskLaw}
 use Rattle.play_collect.specs.Laws.{CollectTaskLaw}
 use Rattle.play_expire.specs.Laws.{ExpireTaskLaw}
@@ -43,6 +44,7 @@ pub record Laws : Type 0 where
   pub single : SingleLaw
   pub owning : OwningLaw
   pub rebase : (by : Caller) (policy : Policy) (s : SessionState) → RebaseLaw by policy s
+  pub settle : (by : Caller) → SettleLaw by
   pub set : SetLaw
   pub get : GetLaw
   pub calls : OwningCallsLaw

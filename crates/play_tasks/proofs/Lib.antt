@@ -7,6 +7,7 @@ pub mod Machines
 pub mod Stepping
 pub mod Keys
 pub mod Carrying
+pub mod Doubting
 pub mod Early
 pub mod Ready
 pub mod Tried
@@ -16,3 +17,6 @@ pub mod Playing
 pub mod Others
 pub mod Paths
 pub mod Begun
+pub mod Singly
+pub mod Elsewhere
+pub mod Once

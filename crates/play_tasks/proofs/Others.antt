@@ -1,6 +1,6 @@
 -- What an outcome tells stays so, whatever good events others make.
 use Rattle.std.proofs.Common.{ℕ, inl, inr, sym, subst, List, ◌∷◌, [], ◌++◌}
-use Rattle.std.specs.Prelude.{◌⊎◌, Ok, Err}
+use Rattle.std.specs.Prelude.{◌⊎◌, Result, Ok, Err}
 use Rattle.ice_ids.specs.declared.drawing.AnyIds.{AnyIds}
 use Rattle.object_store.specs.declared.events.Event.{Event}
 use Rattle.store_api.specs.declared.machines.Refusal.{Refusal}
@@ -8,11 +8,14 @@ use Rattle.store_api.specs.Journal.{Each}
 use Rattle.store_api.specs.Callers.{Caller, IsOther}
 use Rattle.store_api.proofs.Programs.{good-waits}
 use Rattle.store_api.proofs.PlayLaws.{IsKeptByOthers}
-use Rattle.session.specs.Sessions.{SessionState}
+use Rattle.session.specs.Sessions.{SessionState, branch_of}
 use Rattle.commit_path.specs.declared.commit.Tried.TheVariants.{Done as Was_done, Lost}
 use Rattle.commit_path.specs.Laws.{SessionLaw, AnswersLaw}
 use Rattle.commit_path.proofs.Singling.{HasPutAlike-others}
 use Rattle.rebase.proofs.Kept.{rebase-kept}
+use Rattle.settle.specs.declared.settle.Settled.{Settled}
+use Rattle.settle.specs.declared.settle.Doubt.{Doubt}
+use Rattle.settle.specs.Telling.{SettleTells}
 use Rattle.store_api.proofs.Happening.{ChangedNothing-others}
 use Rattle.chunk_calls.specs.Laws.{TellsLaw}
 use Rattle.play_refs.specs.Laws.{RefsOutcomeLaw}
@@ -27,8 +30,8 @@ use Rattle.play_script.specs.declared.scripts.Task.{Task}
 use Rattle.play_outcome.specs.declared.outcome.End.{End}
 use Rattle.play_outcome.specs.declared.outcome.Outcome.{Outcome}
 use Rattle.play_tasks.specs.Lines.{Deed, Goes, Sets, Reads, Commits, deed}
-use Rattle.play_tasks.specs.Playing.{asked_by, policy_of}
-use Rattle.play_tasks.specs.Telling.{Refuses, HasCommitted, WasCommitRefused, WasLostAtLast, WasNotRebased, EndsAt, TellsBy, TellsOutcome}
+use Rattle.play_tasks.specs.Playing.{asked_by, policy_of, doubt_of}
+use Rattle.play_tasks.specs.Telling.{Refuses, HasCommitted, WasInDoubt, WasCommitRefused, WasLostAtLast, WasNotRebased, EndsAt, TellsBy, TellsOutcome}
 use Rattle.play_tasks.specs.Laws.{OutcomeLaw}
 use Rattle.play_tasks.proofs.Early.{WasBegun-more}
 use Rattle.play_tasks.proofs.Going.{PlaysAll-append}
@@ -38,6 +41,7 @@ use Rattle.play_tasks.proofs.Tried.{WasCarried-append}
 pub record Lasting : Type 0 where
   pub session : SessionLaw
   pub answers : AnswersLaw
+  pub settle : (by : Caller) (branch : List ℕ) (d : Doubt) (result : Result Settled Refusal) (start journal more : List Event) → Each (IsOther by) journal more → SettleTells by.number branch d start result journal → SettleTells by.number branch d start result (journal ++ more)
   pub chunks : TellsLaw
   pub refs : RefsOutcomeLaw
   pub collect : CollectOutcomeLaw
@@ -54,15 +58,25 @@ module _ (L : Lasting) (by : Caller) (start journal more : List Event) (others :
   module _ (access : Access) (line : ℕ) (message : List ℕ) (count : ℕ) (t : SessionState) (end : End) where
     abbrev Ends : List Event → Type 0
     Ends h =
-        HasCommitted by.number t message start end h ⊎ (WasCommitRefused by.number line t message start end h ⊎ (WasLostAtLast by.number access line count t start end h ⊎ WasNotRebased by.number access line count t start end h))
+        HasCommitted by.number t message start end h
+        ⊎ (WasInDoubt by.number t message start end h ⊎ (WasCommitRefused by.number line t message start end h ⊎ (WasLostAtLast by.number access line count t start end h ⊎ WasNotRebased by.number access line count t start end h)))
 
     last-others : Ends journal → Ends (journal ++ more)
     last-others (inl w) = inl (record { made = w.made; took = L.answers.commit by t message (Ok (Was_done w.made)) start journal more others w.took; end_is = w.end_is })
-    last-others (inr (inl w)) = inr (inl (record { why = w.why; tells = L.answers.commit by t message (Err w.why) start journal more others w.tells; end_is = w.end_is }))
+    last-others (inr (inl w)) = inr (inl (record {
+      id = w.id;
+      since = w.since;
+      doubted = w.doubted;
+      answer = w.answer;
+      settled = L.settle by (branch_of t) (doubt_of t w.id) w.answer (start ++ w.since) journal more others w.settled;
+      end_is = w.end_is;
+    }))
     last-others (inr (inr (inl w))) =
-        inr (inr (inl (record { spent = w.spent; old = w.old; found = w.found; next = w.next; moved = L.answers.commit by t message (Ok (Lost w.old w.found w.next)) start journal more others w.moved; end_is = w.end_is })))
-    last-others (inr (inr (inr w))) =
-        inr (inr (inr (record {
+        inr (inr (inl (record { why = w.why; no_doubt = w.no_doubt; tells = L.answers.commit by t message (Err w.why) start journal more others w.tells; end_is = w.end_is })))
+    last-others (inr (inr (inr (inl w)))) =
+        inr (inr (inr (inl (record { spent = w.spent; old = w.old; found = w.found; next = w.next; moved = L.answers.commit by t message (Ok (Lost w.old w.found w.next)) start journal more others w.moved; end_is = w.end_is }))))
+    last-others (inr (inr (inr (inr w)))) =
+        inr (inr (inr (inr (record {
           left = w.left;
           lost = w.lost;
           since = w.since;
@@ -72,7 +86,7 @@ module _ (L : Lasting) (by : Caller) (start journal more : List Event) (others :
           tells = rebase-kept by (policy_of access) w.lost (start ++ w.since) journal more others (Err w.why) w.tells;
           nothing = ChangedNothing-others by start journal more others w.nothing;
           end_is = w.end_is;
-        })))
+        }))))
 
   ends-others : (access : Access) (ls : List Line) (s : SessionState) (end : End) → EndsAt by.number access ls s start end journal → EndsAt by.number access ls s start end (journal ++ more)
   ends-others access [] s end e = (e.0, ChangedNothing-others by start journal more others e.1)

@@ -331,7 +331,7 @@ module _ (L : Laws) (by : Caller) (ids : AnyIds) (access : Access) (task : Task)
       of-task : (s : SessionState) (h : List Event) (t : SessionState) (id : Id12) → Begun s h → IsTried task.body s by.number access start h t id → Mine h t id
       of-task s h t id b x = record { access = access; head_is = head_is; opened = s; begun = b.begun; early = b.early; read = b.opened; session = x.session; came = x.came; count = x.count; few = x.few; carried = x.carried; alike = x.alike; drawn = x.drawn }
 
-  session-well : IsWellTask task → PlayKeeps (λ h client op. IsCareful ids Mine h client op × OwesOwn ids client start op h) by (session_play ids access task.line task.body) start × PlayKeeps (λ journal client op. ChangedNothing client start journal) by (session_play ids access task.line task.body) start × PlayLeads Outcomes by (session_play ids access task.line task.body) start
+  session-well : IsWellTask task → PlayKeeps (λ h client op. IsCareful ids Mine h client op × OwesOwn ids client start op h) by (session_play ids access task.line task.body) start × PlayKeeps (λ journal client op. ComesBefore (Session access) client start journal op) by (session_play ids access task.line task.body) start × PlayLeads Outcomes by (session_play ids access task.line task.body) start
   session-well well =
       let a = asked_by access ids in
       let p = open_program a in
@@ -343,7 +343,7 @@ module _ (L : Laws) (by : Caller) (ids : AnyIds) (access : Access) (task : Task)
       let keeps = PlayKeeps-call (Minds ids Mine start) Answers (ChangedNothing by.number start) by p (after_open access task.line task.body) start
       (Keeps-minds ids Mine start by p start (none-careful by ids Mine p start law.0) law.1 owning.0) told law.1 (λ r h q. (opened-task well r h q).0) (λ h q. (refused-task NoMemory h q).0) in (
         PlayKeeps-weaker (Minds ids Mine start) (λ h client op. IsCareful ids Mine h client op × OwesOwn ids client start op h) (λ h client op x. (x.0, x.1.1)) by (session_play ids access task.line task.body) start keeps,
-        PlayKeeps-weaker (Minds ids Mine start) (λ h client op. ChangedNothing client start h) (λ h client op x. x.1.0) by (session_play ids access task.line task.body) start keeps,
+        PlayKeeps-weaker (Minds ids Mine start) (λ h client op. ComesBefore (Session access) client start h op) (λ h client op x. x.1.0) by (session_play ids access task.line task.body) start keeps,
         PlayLeads-call Outcomes Answers (ChangedNothing by.number start) by p (after_open access task.line task.body) start told law.1 (λ r h q. (opened-task well r h q).1) (λ h q. (refused-task NoMemory h q).1),
       )
 
@@ -370,7 +370,7 @@ module _ (L : Laws) (by : Caller) (ids : AnyIds) (task : Task) (start : List Eve
       let opens : List Event → ℕ → Op → Type 0 = λ h client op. OpensOrHasBase client (asked_by access ids) start h op in
       let both = PlayKeeps-both minds opens by p start told.0 (session-opens by ids access task.line task.body start) in (
         PlayKeeps-own (λ h client op. minds h client op × opens h client op) (Pays (Session access)) by (λ h op c. (c.0.0.polite, (c.0.0.owes, (c.0.1, c.1)))) p start both,
-        PlayKeeps-weaker (λ h client op. ChangedNothing client start h) (λ h client op. ComesBefore (Session access) client start h op) (λ h client op c puts. c) by (headed_play (Session access) ids task) start told.1,
+        told.1,
         told.2,
       )
   by_head Refs is =

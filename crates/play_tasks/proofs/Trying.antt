@@ -1,6 +1,8 @@
 -- A commit goes well, however often it is lost and tried again.
-use Rattle.std.proofs.Common.{◌≡◌, ◌⊎◌, ◌≤◌, ◌<◌, ◌+◌, inl, inr, ℕ, zero, suc, refl, sym, ap, subst, List, ◌∷◌, ◌++◌, Option, Result, Ok, Err, arith}
+use Rattle.std.proofs.Common.{◌≡◌, ◌≢◌, ◌⊎◌, ◌≤◌, ◌<◌, ◌+◌, inl, inr, ℕ, zero, suc, refl, sym, ap, subst, ◌∙◌, List, ◌∷◌, ◌++◌, append_assoc, Option, Result, Ok, Err, arith}
+use Rattle.std.specs.Prelude.{IfOk}
 use Rattle.std.specs.Str.{IsUtf8}
+use Rattle.ice_ids.specs.declared.Id12.{Id12}
 use Rattle.ice_ids.specs.declared.drawing.AnyIds.{AnyIds}
 use Rattle.conflicts.specs.declared.solving.Policy.{Policy}
 use Rattle.object_store.specs.declared.events.Version.{Version}
@@ -9,17 +11,20 @@ use Rattle.object_store.specs.declared.events.Op.TheVariants.{Get}
 use Rattle.object_store.specs.declared.events.Event.{Event}
 use Rattle.store_api.specs.declared.machines.Refusal.{Refusal}
 use Rattle.store_api.specs.declared.machines.Refusal.TheVariants.{NoMemory, Conflict}
+use Rattle.store_api.specs.declared.machines.Refusal.TheVariants as R
 use Rattle.store_api.specs.Journal.{Each, IsGood, IsPolite}
 use Rattle.store_api.specs.Callers.{Caller}
 use Rattle.store_api.specs.Plays.{Play, call, PlayKeeps, PlayLeads}
 use Rattle.store_api.specs.Telling.{ChangedNothing, IsGet, MadeGets}
-use Rattle.session.specs.Sessions.{SessionState}
+use Rattle.store_api.proofs.PlayLaws.{PlayKeeps-call, PlayLeads-call}
+use Rattle.repo_read.proofs.Own.{MadeGets-none}
+use Rattle.session.specs.Sessions.{SessionState, branch_of}
 use Rattle.session.specs.Sources.{IsLater, MayDrawObject}
 use Rattle.commit_path.specs.declared.commit.Tried.{Tried}
 use Rattle.commit_path.specs.declared.commit.Tried.TheVariants.{Done as Was_done, Lost}
 use Rattle.commit_path.specs.Committing.{commit_program}
 use Rattle.commit_path.specs.Owed.{Sessions, Owes, IsCareful}
-use Rattle.commit_path.specs.Answered.{WasMoved, CommitTells}
+use Rattle.commit_path.specs.Answered.{WasDoubted, WasMoved, CommitTells}
 use Rattle.commit_path.specs.Own.{OwesOwn, Owns, OwnsNext}
 use Rattle.commit_path.specs.Opened.{IsOpened}
 use Rattle.commit_path.specs.Single.{HasPutAlike}
@@ -31,26 +36,38 @@ use Rattle.rebase.specs.declared.machine.Rebased.TheVariants.{Moved, UpToDate}
 use Rattle.rebase.specs.Laws.{RebaseLaw, GoesOn, OwnsOn}
 use Rattle.rebase.specs.Rebasing.{rebase_program}
 use Rattle.rebase.specs.Telling.{HasMoved, WasUpToDate, RebaseTells}
+use Rattle.settle.specs.declared.settle.Doubt.{Doubt}
+use Rattle.settle.specs.declared.settle.Settled.{Settled}
+use Rattle.settle.specs.Laws.{SettleLaw}
+use Rattle.settle.specs.Settling.{settle_program}
+use Rattle.settle.specs.Telling.{SettleTells}
 use Rattle.play_script.specs.declared.scripts.Access.{Access}
 use Rattle.play_script.specs.declared.scripts.Line.{Line}
 use Rattle.play_outcome.specs.declared.outcome.Shown.{Shown}
 use Rattle.play_outcome.specs.declared.outcome.End.{End}
-use Rattle.play_outcome.specs.declared.outcome.End.TheVariants.{Committed, Refused}
+use Rattle.play_outcome.specs.declared.outcome.End.TheVariants.{Committed, Refused, InDoubt}
 use Rattle.play_outcome.specs.declared.outcome.Outcome.{Outcome}
 use Rattle.play_tasks.specs.Lines.{Commits, deed}
 use Rattle.play_outcome.specs.Playing.{ended, refused}
-use Rattle.play_tasks.specs.Playing.{tries_of, policy_of, after_commit, after_rebase, commit_play}
+use Rattle.play_tasks.specs.Owing.{IsPut}
+use Rattle.play_tasks.specs.Playing.{tries_of, policy_of, how_of, after_settling, doubt_of, doubt_play, after_commit, after_rebase, commit_play}
 use Rattle.play_tasks.specs.Solving.{CameToCommit, WasLost, WasCarried}
-use Rattle.play_tasks.specs.Telling.{HasCommitted, WasCommitRefused, WasLostAtLast, WasNotRebased}
+use Rattle.play_tasks.specs.Telling.{HasCommitted, WasInDoubt, WasCommitRefused, WasLostAtLast, WasNotRebased}
 use Rattle.play_outcome.proofs.Plays.{Keeps-both}
-use Rattle.play_tasks.proofs.Carrying.{Keeps-own, Keeps-with, Keeps-good, Leads-with, Leads-good, Leads-both, careful-more}
-use Rattle.play_tasks.proofs.Going.{Laws, CameToCommit-append, GoesWell, ends-well, starved-well, called-well}
+use Rattle.play_tasks.proofs.Doubting.{which, no-doubt, settle-within, walked-gets}
+use Rattle.play_tasks.proofs.Carrying.{Minds, Keeps-own, Keeps-with, Keeps-good, Leads-with, Leads-good, Leads-both, careful-more}
+use Rattle.play_tasks.proofs.Going.{Laws, Ending, CameToCommit-append, GoesWell, ends-well, starved-well, called-well}
 use Rattle.play_tasks.proofs.Ready.{IsReady}
 use Rattle.play_tasks.proofs.Tried.{IsTried, WasCarried-append, other-spelled, other-opened}
 
 get-own : (ids : AnyIds) (client : ℕ) (start journal : List Event) (op : Op) → IsGet op → OwesOwn ids client start op journal
 get-own ids client start journal (Get key) g = tt
 get-own ids client start journal _ g = absurd g
+
+-- ... and puts nothing
+get-no-put : (op : Op) → IsGet op → IsPut op → ⊥
+get-no-put (Get key) g puts = puts
+get-no-put _ g puts = g
 
 -- a get owes nothing
 get-owes : (ids : AnyIds) (mine : Sessions) (journal : List Event) (op : Op) → IsGet op → Owes ids mine journal op
@@ -91,7 +108,8 @@ module _ (L : Laws) (by : Caller) (ids : AnyIds) (access : Access) (body : List 
     abbrev Ends : ℕ → SessionState → End → List Event → Type 0
     Ends count t end journal =
         HasCommitted by.number t message start end journal
-        ⊎ (WasCommitRefused by.number l.number t message start end journal ⊎ (WasLostAtLast by.number access l.number count t start end journal ⊎ WasNotRebased by.number access l.number count t start end journal))
+        ⊎ (WasInDoubt by.number t message start end journal
+        ⊎ (WasCommitRefused by.number l.number t message start end journal ⊎ (WasLostAtLast by.number access l.number count t start end journal ⊎ WasNotRebased by.number access l.number count t start end journal)))
 
     tried : (count : ℕ) (t : SessionState) (end : End) (journal : List Event) → count ≤ tries_of access → WasCarried by.number policy count s t start journal → Ends count t end journal → Well (ended shown end) journal
     tried count t end journal few c e =
@@ -120,16 +138,83 @@ module _ (L : Laws) (by : Caller) (ids : AnyIds) (access : Access) (body : List 
           (λ u id is. subst (λ (x : SessionState). Mine journal x id) (sym is.0) (record { session = s; came = k.1.1.0; count = count; few = few; carried = k.0; alike = k.1.0; drawn = is.1 }))
           by.number op k.1.1.1
 
+      -- ---- it is in doubt
+      module _ (few : count ≤ tries_of access) (id : Id12) (h : List Event) (doubted : WasDoubted by.number t message id start h) (c : Carried h) where
+        abbrev doubt : Doubt
+        doubt = doubt_of t id
+
+        abbrev until : List Event
+        until = doubted.own.since ++ doubted.own.event ∷ doubted.own.after
+
+        until_is : h ≡ start ++ until
+        until_is = doubted.own.is ∙ (ap (λ (x : List Event). x ++ doubted.own.event ∷ doubted.own.after) doubted.own.before_is ∙ append_assoc start doubted.own.since (doubted.own.event ∷ doubted.own.after))
+
+        abbrev Tells : Result Settled Refusal → List Event → Type 0
+        Tells answer journal = SettleTells by.number (branch_of t) doubt h answer journal
+
+        -- what was told of it ends the task
+        told : (answer : Result Settled Refusal) (journal : List Event) → Tells answer journal → Well (after_settling shown id answer) journal
+        told answer journal q =
+            let lasts = subst (λ (x : List Event). WasCarried by.number policy count s t start x) (sym q.1.is) (WasCarried-append by.number policy count s t start h q.1.more c) in
+            tried count t (InDoubt id (how_of answer)) journal few lasts (inr (inl (record {
+              id = id;
+              since = until;
+              doubted = subst (λ (x : List Event). WasDoubted by.number t message id start x) until_is doubted;
+              answer = answer;
+              settled = subst (λ (x : List Event). SettleTells by.number (branch_of t) doubt x answer journal) until_is q;
+              end_is = refl;
+            })))
+
+        -- each operation of the settling is a get
+        minded : (journal : List Event) (op : Op) → IsPolite journal op × IsGet op → Minds ids Mine start journal by.number op
+        minded journal op k = (record { polite = k.0; owes = get-owes ids Mine journal op k.1 }, (λ puts. absurd (get-no-put op k.1 puts), get-own ids by.number start journal op k.1))
+
+        doubt-well : Well (doubt_play shown t id) h
+        doubt-well =
+            let law : SettleLaw by = L.settle by in
+            let p = settle_program (branch_of t) doubt in
+            let f = after_settling shown id in
+            let gets = walked-gets (λ r. IfOk r (λ (x : Settled). Unit {0})) by p h (settle-within (branch_of t) doubt) in
+            let both = Keeps-both (λ j client op. IsPolite j op) (λ j client op. IsGet op) by p h ((law.told (branch_of t) doubt).polite h) gets in
+            let minds = Keeps-own (λ j client op. IsPolite j op × IsGet op) (Minds ids Mine start) by minded p h both in
+            let leads = (law.told (branch_of t) doubt).leads h in
+            let stays = law.gets (branch_of t) doubt h h (MadeGets-none by.number h) in
+            let N = MadeGets by.number h in (
+              PlayKeeps-call (Minds ids Mine start) Tells N by p f h minds leads stays (λ answer journal q. (told answer journal q).0) (λ journal n. (told (Err NoMemory) journal (tt, n)).0),
+              PlayLeads-call (Ending by.number access start (l ∷ ls) s shown) Tells N by p f h leads stays (λ answer journal q. (told answer journal q).1) (λ journal n. (told (Err NoMemory) journal (tt, n)).1),
+            )
+
+      -- ---- it was refused
+      module _ (few : count ≤ tries_of access) (lost : Version → Option Version → AnyIds → Play Outcome) (h : List Event) (c : Carried h) where
+        abbrev behind : Result Tried Refusal → Play Outcome
+        behind = after_commit l.number shown (doubt_play shown t) lost
+
+        refused-so : (why : Refusal) → ((id : Id12) → why ≢ R.InDoubt id) → CommitTells by.number t message start (Err why) h → Well (behind (Err why)) h
+        refused-so why never tells =
+            subst (λ (p : Play Outcome). Well p h) (sym (no-doubt l.number shown (doubt_play shown t) lost why never))
+            (tried count t (Refused l.number why) h few c (inr (inr (inl (record { why = why; no_doubt = never; tells = tells; end_is = refl })))))
+
+        doubted-so : (why : Refusal) (id : Id12) → why ≡ R.InDoubt id → CommitTells by.number t message start (Err why) h → Well (behind (Err why)) h
+        doubted-so why id is tells =
+            let doubted : WasDoubted by.number t message id start h = subst (λ (w : Refusal). CommitTells by.number t message start (Err w) h) is tells in
+            subst (λ (w : Refusal). Well (behind (Err w)) h) (sym is) (doubt-well few id h doubted c)
+
+        not-done : (why : Refusal) → CommitTells by.number t message start (Err why) h → Well (behind (Err why)) h
+        not-done why tells = elim (which why) [
+          | inl d ↦ doubted-so why d.0 d.1 tells
+          | inr never ↦ refused-so why never tells
+        ]
+
       answered : count ≤ tries_of access → (lost : Version → Option Version → AnyIds → Play Outcome)
           → ((old : Version) (found : Option Version) (next : AnyIds) (h : List Event) → WasMoved by.number t old found next start h → Carried h → IsOpened t h → From h → HasPutAlike by.number t start h → Owns ids by.number (record t { ids = next }) start h → Well (lost old found next) h)
-          → (answer : Result Tried Refusal) (h : List Event) → Answers answer h → Well (after_commit l.number shown lost answer) h
+          → (answer : Result Tried Refusal) (h : List Event) → Answers answer h → Well (after_commit l.number shown (doubt_play shown t) lost answer) h
       answered few lost go (Ok (Was_done made)) h q = tried count t (Committed made.id) h few q.0 (inl (record { made = made; took = q.1.0.1; end_is = refl }))
       answered few lost go (Ok (Lost old found next)) h q = go old found next h q.1.0.1 q.0 q.1.0.0.0 q.1.0.0.1 q.1.1.0 q.1.1.1
-      answered few lost go (Err why) h q = tried count t (Refused l.number why) h few q.0 (inr (inl (record { why = why; tells = q.1.0.1; end_is = refl })))
+      answered few lost go (Err why) h q = not-done few lost h q.0 why q.1.0.1
 
       commit-called : (journal : List Event) → Stands count t journal → (lost : Version → Option Version → AnyIds → Play Outcome)
           → ((old : Version) (found : Option Version) (next : AnyIds) (h : List Event) → WasMoved by.number t old found next start h → Carried h → IsOpened t h → From h → HasPutAlike by.number t start h → Owns ids by.number (record t { ids = next }) start h → Well (lost old found next) h)
-          → Well (call (commit_program t message) (after_commit l.number shown lost)) journal
+          → Well (call (commit_program t message) (after_commit l.number shown (doubt_play shown t) lost)) journal
       commit-called journal x lost go =
           let p = commit_program t message in
           let law = L.commit by ids t message start journal x.ready.later utf8 x.ready.spelled x.ready.opened x.nothing in
@@ -142,7 +227,7 @@ module _ (L : Laws) (by : Caller) (ids : AnyIds) (access : Access) (body : List 
           let knows = Leads-good (λ h. IsOpened t h × From h) (λ h more g o. (L.session.kept t h more g o.0, from-append h more g o.1)) ids own by (CommitTells by.number t message start) p journal law.0 (x.ready.opened, x.came) law.2 in
           let tells = Leads-both (λ answer h. (IsOpened t h × From h) × CommitTells by.number t message start answer h) (λ answer h. HasPutAlike by.number t start h × OwnsNext ids by.number t start answer h) by p journal knows
           (Leads-both (λ answer h. HasPutAlike by.number t start h) (OwnsNext ids by.number t start) by p journal single.1 owning.1) in
-          called-well by ids access Mine start (l ∷ ls) s shown p (after_commit l.number shown lost) Answers journal
+          called-well by ids access Mine start (l ∷ ls) s shown p (after_commit l.number shown (doubt_play shown t) lost) Answers journal
           (Keeps-own (λ h client op. Carried h × (put h client op × careful h client op)) (IsCareful ids Mine) by (owed x.few) p journal keeps)
           law.1
           owning.0
@@ -155,7 +240,7 @@ module _ (L : Laws) (by : Caller) (ids : AnyIds) (access : Access) (body : List 
         → Well (refused l.number shown (Conflict old found)) h
     spent-well count t spent old found next h moved c =
         let few : count ≤ tries_of access = omega (arith, spent) in
-        tried count t (Refused l.number (Conflict old found)) h few c (inr (inr (inl (record { spent = spent; old = old; found = found; next = next; moved = moved; end_is = refl }))))
+        tried count t (Refused l.number (Conflict old found)) h few c (inr (inr (inr (inl (record { spent = spent; old = old; found = found; next = next; moved = moved; end_is = refl })))))
 
     -- ---- it was lost, and is tried again
     module _ (count : ℕ) (t : SessionState) (less : count < tries_of access) (old : Version) (found : Option Version) (next : AnyIds) (h : List Event) (moved : WasMoved by.number t old found next start h) (c : WasCarried by.number policy count s t start h)
@@ -223,7 +308,7 @@ module _ (L : Laws) (by : Caller) (ids : AnyIds) (access : Access) (body : List 
           let few : count ≤ tries_of access = omega (arith, less) in
           let c' = subst (λ (x : List Event). WasCarried by.number policy count s t start x) (sym q.1.0.1.is) (WasCarried-append by.number policy count s t start h q.1.0.1.more c) in
           tried count t (Refused l.number why) journal few c'
-          (inr (inr (inr (record { left = less; lost = lost; since = since; was_lost = was_lost; alike = puts journal q.1.0.1; why = why; tells = tells (Err why) journal q.1.0; nothing = nothing journal q.1.0.1; end_is = refl }))))
+          (inr (inr (inr (inr (record { left = less; lost = lost; since = since; was_lost = was_lost; alike = puts journal q.1.0.1; why = why; tells = tells (Err why) journal q.1.0; nothing = nothing journal q.1.0.1; end_is = refl })))))
 
       rebase-called : (again : SessionState → Play Outcome) → ((u : SessionState) (journal : List Event) → Stands (suc count) u journal → Well (again u) journal) → Well (call (rebase_program policy lost) (after_rebase l.number shown again)) h
       rebase-called again go =

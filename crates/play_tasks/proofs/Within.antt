@@ -36,7 +36,9 @@ use Rattle.repo_objects.specs.Trees.{nodes_in}
 use Rattle.changed_snapshot.specs.declared.written.NewList.{NewList}
 use Rattle.changed_snapshot.specs.Rows.{own_manifests}
 use Rattle.conflicts.specs.declared.solving.Policy.{Policy}
+use Rattle.object_store.specs.declared.keys.Key.{Key}
 use Rattle.object_store.specs.declared.keys.Key.TheVariants.{Snapshot, Manifest, Txn, Chunk}
+use Rattle.object_store.specs.declared.keys.Why.{Why}
 use Rattle.object_store.specs.declared.keys.Why.TheVariants.{Set}
 use Rattle.object_store.specs.declared.events.Op.{Op}
 use Rattle.object_store.specs.declared.events.Op.TheVariants.{Get, PutNew}
@@ -46,7 +48,7 @@ use Rattle.object_store.specs.declared.events.Reply.{Reply}
 use Rattle.object_store.specs.declared.events.Reply.TheVariants.{Got as Is_got, New as Is_new, Over as Is_over, Gone as Is_gone, GoneAt as Is_gone_at, Listed as Is_listed, Failed}
 use Rattle.store_api.specs.declared.machines.Refusal.{Refusal}
 use Rattle.store_api.specs.declared.machines.Refusal.TheVariants.{NotAncestor}
-use Rattle.store_api.specs.Program.{Prog, Done, Ask, bind}
+use Rattle.store_api.specs.Program.{Prog, Done, Ask, bind, is_branch}
 use Rattle.store_api.specs.Running.{Program, ◌>>=◌, on_answer}
 use Rattle.repo_read.specs.declared.answers.Resolved.{Resolved}
 use Rattle.repo_read.specs.Answers.{manifest_told, log_told, snapshot_told, object_told}
@@ -95,11 +97,11 @@ module _ (may : Op → Type 0) where
   pub then-within : {A B : Type 0} (Q : A → Type 0) (R : B → Type 0) (p : Program A) (f : A → Program B) → WithinOk may Q p → ((a : A) → Q a → WithinOk may R (f a)) → WithinOk may R (p >>= f)
   then-within Q R p f k g = bind-within (λ r. IfOk r Q) (λ r. IfOk r R) p (on_answer f) k (answer-within Q R f g)
 
-  done-within : {A : Type 0} (Q : A → Type 0) (a : A) → Q a → WithinOk may Q (Done (Ok a))
+  pub done-within : {A : Type 0} (Q : A → Type 0) (a : A) → Q a → WithinOk may Q (Done (Ok a))
   unfolding Within
   done-within Q a q = q
 
-  refused-within : {A : Type 0} (Q : A → Type 0) (why : Refusal) → WithinOk may Q (Done (Err why))
+  pub refused-within : {A : Type 0} (Q : A → Type 0) (why : Refusal) → WithinOk may Q (Done (Err why))
   unfolding Within
   refused-within Q why = tt
 
@@ -108,7 +110,7 @@ module _ (may : Op → Type 0) where
   any-ok (Err why) = tt
 
   -- one operation, whatever it tells
-  asks-within : {A : Type 0} (op : Op) (told : Reply → Result A Refusal) → may op → WithinOk may (λ a. Unit {0}) (Ask op (λ reply. Done (told reply)))
+  pub asks-within : {A : Type 0} (op : Op) (told : Reply → Result A Refusal) → may op → WithinOk may (λ a. Unit {0}) (Ask op (λ reply. Done (told reply)))
   unfolding Within
   asks-within op told m = (m, λ reply. any-ok (told reply))
 
@@ -116,126 +118,135 @@ module _ (may : Op → Type 0) where
   either-within Q true p q f g = f refl
   either-within Q false p q f g = g refl
 
--- ---- a chunk that is set
+-- ---- a chunk
 -- what a line leaves of a session: its base, and what named it
 pub record IsSame (s t : SessionState) : Type 0 where
   pub base : t.base ≡ s.base
   pub origin : t.origin ≡ s.origin
 
-object-within : (s t : SessionState) (id : Id12) → IsSame s t → (reply : Reply) → WithinOk Still (IsSame s) (after_object t id reply)
-unfolding Within
-object-within s t id same (Is_new (New_done version now)) = same
-object-within s t id same (Is_new (Present version now)) = tt
-object-within s t id same (Is_got x) = tt
-object-within s t id same (Is_over x) = tt
-object-within s t id same (Is_gone x) = tt
-object-within s t id same (Is_gone_at x) = tt
-object-within s t id same (Is_listed x) = tt
-object-within s t id same (Failed done) = tt
-
-put-within : (s : SessionState) (path index bytes : List ℕ) (o : Option Id12) → WithinOk Still (IsSame s) (put_object s path index bytes o)
-unfolding Within
-put-within s path index bytes None = tt
-put-within s path index bytes (Some id) = (λ g. g, object-within s (with_chunk (after_draw s) path index (Object id 0 (length bytes))) id (record { base = refl; origin = refl }))
-
-fault-within : (s : SessionState) (o : Option EditFault) (p : Program SessionState) → WithinOk Still (IsSame s) p → WithinOk Still (IsSame s) (unless_fault o p)
-unfolding Within
-fault-within s None p w = w
-fault-within s (Some fault) p w = tt
-
-pub set-within : (s : SessionState) (path index bytes : List ℕ) → WithinOk Still (IsSame s) (set_program s path index bytes)
-unfolding set_program
-set-within s path index bytes =
-    either-within Still (IsSame s) (writes s) _ _
-    (λ e. fault-within s (set_refusal (nodes_seen s) path index (length bytes)) (put_chunk s path index bytes)
-    (either-within Still (IsSame s) (nat_le (length bytes) most_inline) _ _ (λ short. done-within Still (IsSame s) (with_chunk s path index (Inline bytes)) (record { base = refl; origin = refl })) (λ long. put-within s path index bytes (drawn12 s.ids))))
-    (λ e. refused-within Still (IsSame s) _)
-
--- ---- a chunk that is read
-abbrev Any : Value → Type 0
+abbrev pub Any : Value → Type 0
 Any v = Unit {0}
 
-found-within : (r : Result (List ℕ) Refusal) → WithinOk Still Any (found r)
-unfolding Within
-found-within (Ok bytes) = tt
-found-within (Err why) = tt
-
-part-within : (want : ℕ) (id : Id12) (offset size : ℕ) → WithinOk Still Any (read_object want id offset size)
-part-within want id offset size =
-    then-within Still (λ (bytes : List ℕ). Unit {0}) Any (object_program want id offset size) (λ bytes. Done (Ok (Is_held bytes))) (asks-within Still (Get (Chunk id)) (object_told want id offset size) (λ g. cc)) (λ bytes q. done-within Still Any (Is_held bytes) tt)
-
-place-within : (want : ℕ) (manifest : Id12) (place : Place) → WithinOk Still Any (read_place want manifest place)
-place-within want manifest (Inline bytes) = found-within _
-place-within want manifest (Object id offset size) = part-within want id offset size
-
-entry-within : (want : ℕ) (manifest : Id12) (rest : Program Value) → WithinOk Still Any rest → (o : Option Place) → WithinOk Still Any (read_entry want manifest rest o)
-entry-within want manifest rest w None = w
-entry-within want manifest rest w (Some place) = place-within want manifest place
-
-listed-within : (want : ℕ) (node : Id8) (index : List ℕ) (ids : List Id12) → WithinOk Still Any (read_listed want node index ids)
-unfolding read_listed
-listed-within want node index [] = done-within Still Any _ tt
-listed-within want node index (manifest ∷ more) =
-    then-within Still (λ (file : ManifestFile). Unit {0}) Any (manifest_program manifest) (λ file. read_entry want manifest (read_listed want node index more) (entry_of node index file)) (asks-within Still (Get (Manifest manifest)) (manifest_told manifest) (λ g. cc))
-    (λ file q. entry-within want manifest (read_listed want node index more) (listed-within want node index more) (entry_of node index file))
-
-own-within : (want : ℕ) (place : Place) → WithinOk Still Any (read_own want place)
-own-within want (Inline bytes) = done-within Still Any _ tt
-own-within want (Object id offset size) = part-within want id offset size
-
-at-within : (s : SessionState) (path index : List ℕ) (at : ChunkAt) (entry : Option (Option Place)) → WithinOk Still Any (read_at s path index at entry)
-at-within s path index at (Some (Some place)) = own-within at.bytes place
-at-within s path index at (Some None) = done-within Still Any _ tt
-at-within s path index at None = listed-within at.bytes at.node index (ids_within index (own_manifests s.rows path at.node))
-
-place_found-within : (s : SessionState) (path index : List ℕ) (r : Result ChunkAt EditFault) → WithinOk Still Any (read_found s path index r)
-place_found-within s path index (Err fault) = refused-within Still Any _
-place_found-within s path index (Ok at) = at-within s path index at (entry_in s.held.chunks at.node index)
-
-pub get-within : (s : SessionState) (path index : List ℕ) → WithinOk Still Any (get_program s path index)
-unfolding get_program
-get-within s path index = place_found-within s path index (chunk_found (nodes_seen s) path index)
-
--- ---- a commit
-old-within : (manifests : List ManifestRef) (seen : List Listed) → WithinOk Still (λ (x : List Listed). Unit {0}) (old_program manifests seen)
-unfolding old_program
-old-within [] seen = done-within Still (λ (x : List Listed). Unit {0}) seen tt
-old-within (m ∷ more) seen =
-    then-within Still (λ (file : ManifestFile). Unit {0}) (λ (x : List Listed). Unit {0}) (manifest_program m.id) (λ file. old_program more (seen ++ (m.extents, file) ∷ [])) (asks-within Still (Get (Manifest m.id)) (manifest_told m.id) (λ g. cc)) (λ file q. old-within more (seen ++ (m.extents, file) ∷ []))
-
-abbrev Wrote : Written → Type 0
+abbrev pub Wrote : Written → Type 0
 Wrote w = Unit {0}
 
-manifest_told-within : (w : Written) (id : Id12) (reply : Reply) → WithinOk Still Wrote (after_manifest w id reply)
-unfolding Within
-manifest_told-within w id (Is_new (New_done version now)) = tt
-manifest_told-within w id (Is_new (Present version now)) = tt
-manifest_told-within w id (Is_got x) = tt
-manifest_told-within w id (Is_over x) = tt
-manifest_told-within w id (Is_gone x) = tt
-manifest_told-within w id (Is_gone_at x) = tt
-manifest_told-within w id (Is_listed x) = tt
-manifest_told-within w id (Failed done) = tt
+-- any operation that gets what is no branch, or puts something new
+module _ (may : Op → Type 0) (gets : (key : Key) → is_branch key ≡ false → may (Get key)) (puts : (key : Key) (bytes : List ℕ) (why : Why) → may (PutNew key bytes why)) where
+  object-within : (s t : SessionState) (id : Id12) → IsSame s t → (reply : Reply) → WithinOk may (IsSame s) (after_object t id reply)
+  unfolding Within
+  object-within s t id same (Is_new (New_done version now)) = same
+  object-within s t id same (Is_new (Present version now)) = tt
+  object-within s t id same (Is_got x) = tt
+  object-within s t id same (Is_over x) = tt
+  object-within s t id same (Is_gone x) = tt
+  object-within s t id same (Is_gone_at x) = tt
+  object-within s t id same (Is_listed x) = tt
+  object-within s t id same (Failed done) = tt
 
-manifest_put-within : (w : Written) (a : ChangedArray) (array : ArrayRefs) (id : Id12) → WithinOk Still Wrote (Ask (PutNew (Manifest id) (file_bytes (manifest_for id array)) Set) (after_manifest (with_manifest w a array id) id))
-unfolding Within
-manifest_put-within w a array id = (λ g. g, manifest_told-within (with_manifest w a array id) id)
+  put-within : (s : SessionState) (path index bytes : List ℕ) (o : Option Id12) → WithinOk may (IsSame s) (put_object s path index bytes o)
+  unfolding Within
+  put-within s path index bytes None = tt
+  put-within s path index bytes (Some id) = (puts (Chunk id) bytes Set, object-within s (with_chunk (after_draw s) path index (Object id 0 (length bytes))) id (record { base = refl; origin = refl }))
 
-manifest-within : (w : Written) (a : ChangedArray) (array : ArrayRefs) (o : Option Id12) → WithinOk Still Wrote (put_manifest w a array o)
-manifest-within w a array None = refused-within Still Wrote _
-manifest-within w a array (Some id) = either-within Still Wrote (is_long (file_bytes (manifest_for id array))) _ _ (λ long. refused-within Still Wrote _) (λ fits. manifest_put-within w a array id)
+  fault-within : (s : SessionState) (o : Option EditFault) (p : Program SessionState) → WithinOk may (IsSame s) p → WithinOk may (IsSame s) (unless_fault o p)
+  unfolding Within
+  fault-within s None p w = w
+  fault-within s (Some fault) p w = tt
 
-array_write-within : (w : Written) (a : ChangedArray) (refs : Option ArrayRefs) → WithinOk Still Wrote (write_array w a refs)
-array_write-within w a None = done-within Still Wrote _ tt
-array_write-within w a (Some array) = either-within Still Wrote (nat_lt refs_limit (length array.refs)) _ _ (λ many. refused-within Still Wrote _) (λ few. manifest-within w a array (drawn12 w.ids))
+  pub set-within : (s : SessionState) (path index bytes : List ℕ) → WithinOk may (IsSame s) (set_program s path index bytes)
+  unfolding set_program
+  set-within s path index bytes =
+      either-within may (IsSame s) (writes s) _ _
+      (λ e. fault-within s (set_refusal (nodes_seen s) path index (length bytes)) (put_chunk s path index bytes)
+      (either-within may (IsSame s) (nat_le (length bytes) most_inline) _ _ (λ short. done-within may (IsSame s) (with_chunk s path index (Inline bytes)) (record { base = refl; origin = refl })) (λ long. put-within s path index bytes (drawn12 s.ids))))
+      (λ e. refused-within may (IsSame s) _)
 
-arrays-within : (rows : List NodeRow) (entries : List (Entry Place)) (arrays : List ChangedArray) (w : Written) → WithinOk Still Wrote (arrays_program rows entries arrays w)
-unfolding arrays_program
-arrays-within rows entries [] w = done-within Still Wrote w tt
-arrays-within rows entries (a ∷ more) w =
-    then-within Still Wrote Wrote (array_program rows entries w a) (arrays_program rows entries more)
-    (then-within Still (λ (x : List Listed). Unit {0}) Wrote (old_program (own_manifests rows a.path a.node) []) (λ old. write_array w a (merged_array a.rank a.node old (chunks_of entries a.node))) (old-within (own_manifests rows a.path a.node) []) (λ old q. array_write-within w a (merged_array a.rank a.node old (chunks_of entries a.node))))
-    (λ v q. arrays-within rows entries more v)
+  -- ---- a chunk that is read
+  found-within : (r : Result (List ℕ) Refusal) → WithinOk may Any (found r)
+  unfolding Within
+  found-within (Ok bytes) = tt
+  found-within (Err why) = tt
+
+  part-within : (want : ℕ) (id : Id12) (offset size : ℕ) → WithinOk may Any (read_object want id offset size)
+  part-within want id offset size =
+      then-within may (λ (bytes : List ℕ). Unit {0}) Any (object_program want id offset size) (λ bytes. Done (Ok (Is_held bytes))) (asks-within may (Get (Chunk id)) (object_told want id offset size) (gets (Chunk id) refl)) (λ bytes q. done-within may Any (Is_held bytes) tt)
+
+  place-within : (want : ℕ) (manifest : Id12) (place : Place) → WithinOk may Any (read_place want manifest place)
+  place-within want manifest (Inline bytes) = found-within _
+  place-within want manifest (Object id offset size) = part-within want id offset size
+
+  entry-within : (want : ℕ) (manifest : Id12) (rest : Program Value) → WithinOk may Any rest → (o : Option Place) → WithinOk may Any (read_entry want manifest rest o)
+  entry-within want manifest rest w None = w
+  entry-within want manifest rest w (Some place) = place-within want manifest place
+
+  listed-within : (want : ℕ) (node : Id8) (index : List ℕ) (ids : List Id12) → WithinOk may Any (read_listed want node index ids)
+  unfolding read_listed
+  listed-within want node index [] = done-within may Any _ tt
+  listed-within want node index (manifest ∷ more) =
+      then-within may (λ (file : ManifestFile). Unit {0}) Any (manifest_program manifest) (λ file. read_entry want manifest (read_listed want node index more) (entry_of node index file)) (asks-within may (Get (Manifest manifest)) (manifest_told manifest) (gets (Manifest manifest) refl))
+      (λ file q. entry-within want manifest (read_listed want node index more) (listed-within want node index more) (entry_of node index file))
+
+  own-within : (want : ℕ) (place : Place) → WithinOk may Any (read_own want place)
+  own-within want (Inline bytes) = done-within may Any _ tt
+  own-within want (Object id offset size) = part-within want id offset size
+
+  at-within : (s : SessionState) (path index : List ℕ) (at : ChunkAt) (entry : Option (Option Place)) → WithinOk may Any (read_at s path index at entry)
+  at-within s path index at (Some (Some place)) = own-within at.bytes place
+  at-within s path index at (Some None) = done-within may Any _ tt
+  at-within s path index at None = listed-within at.bytes at.node index (ids_within index (own_manifests s.rows path at.node))
+
+  place_found-within : (s : SessionState) (path index : List ℕ) (r : Result ChunkAt EditFault) → WithinOk may Any (read_found s path index r)
+  place_found-within s path index (Err fault) = refused-within may Any _
+  place_found-within s path index (Ok at) = at-within s path index at (entry_in s.held.chunks at.node index)
+
+  pub get-within : (s : SessionState) (path index : List ℕ) → WithinOk may Any (get_program s path index)
+  unfolding get_program
+  get-within s path index = place_found-within s path index (chunk_found (nodes_seen s) path index)
+
+  -- ---- a commit
+  old-within : (manifests : List ManifestRef) (seen : List Listed) → WithinOk may (λ (x : List Listed). Unit {0}) (old_program manifests seen)
+  unfolding old_program
+  old-within [] seen = done-within may (λ (x : List Listed). Unit {0}) seen tt
+  old-within (m ∷ more) seen =
+      then-within may (λ (file : ManifestFile). Unit {0}) (λ (x : List Listed). Unit {0}) (manifest_program m.id) (λ file. old_program more (seen ++ (m.extents, file) ∷ [])) (asks-within may (Get (Manifest m.id)) (manifest_told m.id) (gets (Manifest m.id) refl)) (λ file q. old-within more (seen ++ (m.extents, file) ∷ []))
+
+  manifest_told-within : (w : Written) (id : Id12) (reply : Reply) → WithinOk may Wrote (after_manifest w id reply)
+  unfolding Within
+  manifest_told-within w id (Is_new (New_done version now)) = tt
+  manifest_told-within w id (Is_new (Present version now)) = tt
+  manifest_told-within w id (Is_got x) = tt
+  manifest_told-within w id (Is_over x) = tt
+  manifest_told-within w id (Is_gone x) = tt
+  manifest_told-within w id (Is_gone_at x) = tt
+  manifest_told-within w id (Is_listed x) = tt
+  manifest_told-within w id (Failed done) = tt
+
+  manifest_put-within : (w : Written) (a : ChangedArray) (array : ArrayRefs) (id : Id12) → WithinOk may Wrote (Ask (PutNew (Manifest id) (file_bytes (manifest_for id array)) Set) (after_manifest (with_manifest w a array id) id))
+  unfolding Within
+  manifest_put-within w a array id = (puts (Manifest id) (file_bytes (manifest_for id array)) Set, manifest_told-within (with_manifest w a array id) id)
+
+  manifest-within : (w : Written) (a : ChangedArray) (array : ArrayRefs) (o : Option Id12) → WithinOk may Wrote (put_manifest w a array o)
+  manifest-within w a array None = refused-within may Wrote _
+  manifest-within w a array (Some id) = either-within may Wrote (is_long (file_bytes (manifest_for id array))) _ _ (λ long. refused-within may Wrote _) (λ fits. manifest_put-within w a array id)
+
+  array_write-within : (w : Written) (a : ChangedArray) (refs : Option ArrayRefs) → WithinOk may Wrote (write_array w a refs)
+  array_write-within w a None = done-within may Wrote _ tt
+  array_write-within w a (Some array) = either-within may Wrote (nat_lt refs_limit (length array.refs)) _ _ (λ many. refused-within may Wrote _) (λ few. manifest-within w a array (drawn12 w.ids))
+
+  pub arrays-within : (rows : List NodeRow) (entries : List (Entry Place)) (arrays : List ChangedArray) (w : Written) → WithinOk may Wrote (arrays_program rows entries arrays w)
+  unfolding arrays_program
+  arrays-within rows entries [] w = done-within may Wrote w tt
+  arrays-within rows entries (a ∷ more) w =
+      then-within may Wrote Wrote (array_program rows entries w a) (arrays_program rows entries more)
+      (then-within may (λ (x : List Listed). Unit {0}) Wrote (old_program (own_manifests rows a.path a.node) []) (λ old. write_array w a (merged_array a.rank a.node old (chunks_of entries a.node))) (old-within (own_manifests rows a.path a.node) []) (λ old q. array_write-within w a (merged_array a.rank a.node old (chunks_of entries a.node))))
+      (λ v q. arrays-within rows entries more v)
+
+-- ---- a commit gets no branch
+pub still-gets : (key : Key) → is_branch key ≡ false → Still (Get key)
+still-gets key e g = cc
+
+pub still-puts : (key : Key) (bytes : List ℕ) (why : Why) → Still (PutNew key bytes why)
+still-puts key bytes why g = g
 
 abbrev Tries : Tried → Type 0
 Tries t = Unit {0}
@@ -294,7 +305,7 @@ commit-within s message =
     either-within Still Tries (writes s) _ _
     (λ e. either-within Still Tries (is_untouched (touched s.held (base_nodes s))) _ _ (λ none. refused-within Still Tries _)
     (λ some. then-within Still Wrote Tries (arrays_program s.rows s.held.chunks (changed_arrays s.held (base_nodes s)) (unwritten s)) (after_arrays s message)
-    (arrays-within s.rows s.held.chunks (changed_arrays s.held (base_nodes s)) (unwritten s)) (λ w q. log_put-within s message w.news (drawn12 w.ids) (after12 w.ids))))
+    (arrays-within Still still-gets still-puts s.rows s.held.chunks (changed_arrays s.held (base_nodes s)) (unwritten s)) (λ w q. log_put-within s message w.news (drawn12 w.ids) (after12 w.ids))))
     (λ e. refused-within Still Tries _)
 
 -- ---- a rebase behind its get of the branch

@@ -88,7 +88,8 @@ pub record MadeAlone (may : Op → Type 0) (client : ℕ) (start journal : List 
   pub is : journal ≡ start ++ more
   pub each : Each (λ before event. event.client ≡ client → may event.op) start more
 
--- The session is being rebased: until here the client got no branch since the base was named, and from here on it got a branch, snapshots and logs alone.
+-- The session is being rebased, or its commit is in doubt and is being settled: until here the client got no branch since the base was named, and from
+-- here on it got a branch, snapshots and logs alone.
 pub record IsRebasing (client : ℕ) (since journal : List Event) : Type 0 where
   pub lost : List Event
   pub none : MadeAlone (λ op. ¬ GetsBranch op) client since lost
@@ -102,7 +103,7 @@ pub record HasAsked (client : ℕ) (at : At) (start journal : List Event) : Type
   pub first : MadeAlone (λ op. ⊥) client start own.before
 
 -- The client has a session open, since its first operation, and this is the base: what the client's own last read of the session's branch named; or while
--- a rebase reads the branch anew, and what stands above the base, what the read before that named. Behind the rebase the base is the branch's snapshot.
+-- a rebase or a settling reads the branch anew, and what stands above the base, what the read before that named. Behind the rebase the base is the branch's snapshot.
 pub record HasBase (client : ℕ) (a : Asked) (start journal : List Event) : Type 0 where
   pub asked : HasAsked client a.at start journal
   pub base : Id12

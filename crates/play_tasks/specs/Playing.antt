@@ -1,11 +1,13 @@
 -- The play of a task: it opens a session, plays the body's lines on it, and commits, or it calls on refs, or collects, or expires. Where memory is wanting, it ends
 -- there, and still shows what its lines showed before. (Own.)
 use Rattle.std.specs.Prelude.{ℕ, zero, suc, List, [], ◌∷◌, ◌++◌, true, false, Option, Result, Ok, Err}
+use Rattle.ice_ids.specs.declared.Id12.{Id12}
 use Rattle.ice_ids.specs.declared.drawing.AnyIds.{AnyIds}
 use Rattle.store_api.specs.declared.machines.Refusal.{Refusal}
-use Rattle.store_api.specs.declared.machines.Refusal.TheVariants.{NoMemory, Conflict}
+use Rattle.store_api.specs.declared.machines.Refusal.TheVariants.{NoRef, NoMemory, Conflict}
+use Rattle.store_api.specs.declared.machines.Refusal.TheVariants as R
 use Rattle.store_api.specs.Plays.{Play, Or, call}
-use Rattle.session.specs.Sessions.{SessionState}
+use Rattle.session.specs.Sessions.{SessionState, branch_of}
 use Rattle.session.specs.declared.chunks.Value.{Value}
 use Rattle.session.specs.Opening.{Asked, open_program}
 use Rattle.session.specs.Chunks.{set_program, get_program}
@@ -15,6 +17,10 @@ use Rattle.object_store.specs.declared.events.Version.{Version}
 use Rattle.commit_path.specs.declared.commit.Tried.{Tried}
 use Rattle.commit_path.specs.declared.commit.Tried.TheVariants.{Done as Was_done, Lost}
 use Rattle.commit_path.specs.Committing.{commit_program}
+use Rattle.settle.specs.declared.settle.Settled.{Settled}
+use Rattle.settle.specs.declared.settle.Settled.TheVariants as settled
+use Rattle.settle.specs.declared.settle.Doubt.{Doubt}
+use Rattle.settle.specs.Settling.{settle_program}
 use Rattle.rebase.specs.declared.machine.Rebased.{Rebased}
 use Rattle.rebase.specs.declared.machine.Rebased.TheVariants.{Moved, UpToDate}
 use Rattle.rebase.specs.Rebasing.{rebase_program}
@@ -29,7 +35,9 @@ use Rattle.play_refs.specs.Playing.{refs_play}
 use Rattle.play_collect.specs.Playing.{collect_task}
 use Rattle.play_expire.specs.Playing.{terms_of, expire_task}
 use Rattle.play_outcome.specs.declared.outcome.Shown.{Shown}
-use Rattle.play_outcome.specs.declared.outcome.End.TheVariants.{Committed, Done}
+use Rattle.play_outcome.specs.declared.outcome.How.{How}
+use Rattle.play_outcome.specs.declared.outcome.How.TheVariants as how
+use Rattle.play_outcome.specs.declared.outcome.End.TheVariants.{Committed, Done, InDoubt}
 use Rattle.play_outcome.specs.declared.outcome.Outcome.{Outcome}
 use Rattle.play_outcome.specs.Playing.{ended, refused}
 use Rattle.play_tasks.specs.Lines.{Deed, Goes, Sets, Reads, Commits, silent, deed}
@@ -43,12 +51,33 @@ abbrev pub after_line : ℕ → List Shown → Result (List Shown × SessionStat
 after_line line shown (Ok went) rest = rest went.1 (shown ++ went.0)
 after_line line shown (Err why) rest = refused line shown why
 
+-- ---- doubt
+-- what the branch told of a commit in doubt, or why it couldn't be read
+abbrev pub how_of : Result Settled Refusal → How
+how_of (Ok settled.Committed) = how.Committed
+how_of (Ok settled.NotCommitted) = how.NotCommitted
+how_of (Ok (settled.NotAncestor head)) = how.NotAncestor
+how_of (Err NoRef) = how.NoRef
+how_of (Err why) = how.Unsettled why
+
+abbrev pub after_settling : List Shown → Id12 → Result Settled Refusal → Play Outcome
+after_settling shown id answer = ended shown (InDoubt id (how_of answer))
+
+-- the commit of a session that put this snapshot is in doubt
+abbrev pub doubt_of : SessionState → Id12 → Doubt
+doubt_of s id = record { snapshot = id; base = s.base }
+
+-- it is settled once, by reading the session's branch, and that ends the task
+abbrev pub doubt_play : List Shown → SessionState → Id12 → Play Outcome
+doubt_play shown s id = call (settle_program (branch_of s) (doubt_of s id)) (after_settling shown id)
+
 -- ---- commits
--- a commit ends the task, unless it was lost
-abbrev pub after_commit : ℕ → List Shown → (lost : Version → Option Version → AnyIds → Play Outcome) → Result Tried Refusal → Play Outcome
-after_commit line shown lost (Ok (Was_done made)) = ended shown (Committed made.id)
-after_commit line shown lost (Ok (Lost old found next)) = lost old found next
-after_commit line shown lost (Err why) = refused line shown why
+-- a commit ends the task, unless it is in doubt, or was lost
+abbrev pub after_commit : ℕ → List Shown → (doubted : Id12 → Play Outcome) → (lost : Version → Option Version → AnyIds → Play Outcome) → Result Tried Refusal → Play Outcome
+after_commit line shown doubted lost (Ok (Was_done made)) = ended shown (Committed made.id)
+after_commit line shown doubted lost (Ok (Lost old found next)) = lost old found next
+after_commit line shown doubted lost (Err (R.InDoubt id)) = doubted id
+after_commit line shown doubted lost (Err why) = refused line shown why
 
 -- the session that was rebased commits again; where there is no memory to begin that, the task ends here
 abbrev pub after_rebase : ℕ → List Shown → (again : SessionState → Play Outcome) → Result Rebased Refusal → Play Outcome
@@ -56,11 +85,11 @@ after_rebase line shown again (Ok (Moved s count)) = Or (again s) (refused line 
 after_rebase line shown again (Ok (UpToDate s)) = Or (again s) (refused line shown NoMemory)
 after_rebase line shown again (Err why) = refused line shown why
 
--- A commit in this line. Where it was lost, the session is rebased and commits again, as often as it may.
+-- A commit in this line. Where it is in doubt, that is settled; where it was lost, the session is rebased and commits again, as often as it may.
 unfoldable pub commit_play : (tries : ℕ) → Policy → (line : ℕ) → List Shown → (message : List ℕ) → SessionState → Play Outcome
-commit_play zero policy line shown message s = call (commit_program s message) (after_commit line shown (λ old found next. refused line shown (Conflict old found)))
+commit_play zero policy line shown message s = call (commit_program s message) (after_commit line shown (doubt_play shown s) (λ old found next. refused line shown (Conflict old found)))
 commit_play (suc tries) policy line shown message s =
-    call (commit_program s message) (after_commit line shown (λ old found next. call (rebase_program policy (record s { ids = next })) (after_rebase line shown (commit_play tries policy line shown message))))
+    call (commit_program s message) (after_commit line shown (doubt_play shown s) (λ old found next. call (rebase_program policy (record s { ids = next })) (after_rebase line shown (commit_play tries policy line shown message))))
 
 -- how often the commit of a session that was opened so is tried again, and how conflicts are solved then
 abbrev pub tries_of : Access → ℕ

@@ -1,20 +1,24 @@
 -- What the outcome of a task says of the journal, in words that name no machine and no program. (Own.)
-use Rattle.std.specs.Prelude.{◌≡◌, ◌⊎◌, ℕ, ◌<◌, ◌≤◌, List, [], ◌∷◌, ◌++◌, Option, Err}
+use Rattle.std.specs.Prelude.{◌≡◌, ◌≢◌, ◌⊎◌, ℕ, ◌<◌, ◌≤◌, List, [], ◌∷◌, ◌++◌, Option, Result, Err}
+use Rattle.ice_ids.specs.declared.Id12.{Id12}
 use Rattle.ice_ids.specs.declared.drawing.AnyIds.{AnyIds}
 use Rattle.object_store.specs.declared.events.Event.{Event}
 use Rattle.store_api.specs.declared.machines.Refusal.{Refusal}
 use Rattle.store_api.specs.declared.machines.Refusal.TheVariants.{NoMemory, Conflict}
+use Rattle.store_api.specs.declared.machines.Refusal.TheVariants as R
 use Rattle.object_store.specs.declared.events.Version.{Version}
-use Rattle.session.specs.Sessions.{SessionState}
+use Rattle.session.specs.Sessions.{SessionState, branch_of}
+use Rattle.settle.specs.declared.settle.Settled.{Settled}
+use Rattle.settle.specs.Telling.{SettleTells}
 use Rattle.commit_path.specs.declared.commit.Committed.{Committed as Made}
-use Rattle.commit_path.specs.Answered.{TookEffect, WasMoved, CommitTells}
+use Rattle.commit_path.specs.Answered.{TookEffect, WasDoubted, WasMoved, CommitTells}
 use Rattle.store_api.specs.Telling.{ChangedNothing}
 use Rattle.commit_path.specs.Opened.{IsOpened, WasBegun, RefusalTells}
 use Rattle.commit_path.specs.Single.{HasPutNone, HasPutAlike}
 use Rattle.play_script.specs.declared.scripts.Line.{Line}
 use Rattle.play_script.specs.declared.scripts.Task.{Task}
 use Rattle.play_outcome.specs.declared.outcome.End.{End}
-use Rattle.play_outcome.specs.declared.outcome.End.TheVariants.{Committed, Done, Refused}
+use Rattle.play_outcome.specs.declared.outcome.End.TheVariants.{Committed, Done, Refused, InDoubt}
 use Rattle.play_outcome.specs.declared.outcome.Outcome.{Outcome}
 use Rattle.chunk_calls.specs.Told.{SetTells, GetTells}
 use Rattle.play_tasks.specs.Lines.{Deed, Goes, Sets, Reads, Commits, deed}
@@ -26,7 +30,7 @@ use Rattle.play_collect.specs.Telling.{CollectedTells}
 use Rattle.play_expire.specs.Playing.{terms_of}
 use Rattle.play_expire.specs.Telling.{ExpiredTells}
 use Rattle.play_refs.specs.Telling.{RefsTells}
-use Rattle.play_tasks.specs.Playing.{asked_by, tries_of, policy_of}
+use Rattle.play_tasks.specs.Playing.{asked_by, tries_of, policy_of, doubt_of, how_of}
 use Rattle.play_tasks.specs.Solving.{PlaysAll, WasLost, WasCarried}
 
 -- ---- the end
@@ -55,9 +59,19 @@ pub record HasCommitted (client : ℕ) (s : SessionState) (message : List ℕ) (
   pub took : TookEffect client s message made start journal
   pub end_is : end ≡ Committed made.id
 
--- it was refused before its branch was asked for, or the store failed it
+-- The commit is in doubt. Behind the put over of its branch, which failed, that was settled once, by the client's own gets, and this is told.
+pub record WasInDoubt (client : ℕ) (s : SessionState) (message : List ℕ) (start : List Event) (end : End) (journal : List Event) : Type 0 where
+  pub id : Id12
+  pub since : List Event
+  pub doubted : WasDoubted client s message id start (start ++ since)
+  pub answer : Result Settled Refusal
+  pub settled : SettleTells client (branch_of s) (doubt_of s id) (start ++ since) answer journal
+  pub end_is : end ≡ InDoubt id (how_of answer)
+
+-- it was refused before its branch was asked for, or the store failed an operation before that
 pub record WasCommitRefused (client : ℕ) (line : ℕ) (s : SessionState) (message : List ℕ) (start : List Event) (end : End) (journal : List Event) : Type 0 where
   pub why : Refusal
+  pub no_doubt : (id : Id12) → why ≢ R.InDoubt id
   pub tells : CommitTells client s message start (Err why) journal
   pub end_is : end ≡ Refused line why
 
@@ -92,8 +106,9 @@ pub record WasTriedAt (client : ℕ) (access : Access) (l : Line) (s : SessionSt
   pub at_last : SessionState
   pub carried : WasCarried client (policy_of access) count s at_last start journal
   pub ends : HasCommitted client at_last message start end journal
+      ⊎ (WasInDoubt client at_last message start end journal
       ⊎ (WasCommitRefused client l.number at_last message start end journal
-      ⊎ (WasLostAtLast client access l.number count at_last start end journal ⊎ WasNotRebased client access l.number count at_last start end journal))
+      ⊎ (WasLostAtLast client access l.number count at_last start end journal ⊎ WasNotRebased client access l.number count at_last start end journal)))
 
 -- how a task ends, where these lines are left: at their end, or at the first of them
 abbrev pub EndsAt : ℕ → Access → List Line → SessionState → List Event → End → List Event → Type 0

@@ -1,18 +1,19 @@
 //! The commit of a task: it is tried again behind a rebase where it was lost, as often as the task's head says.
 
 ghost use Rattle.std.specs.Prelude.{ℕ, ◌≡◌, ◌<◌, ◌≤◌, ◌+◌, ◌*◌, true, length, IsTrue};
-ghost use Rattle.store_api.specs.Program.{is_ask, NextIsPolite};
-ghost use Rattle.store_api.specs.Plays.{Or, call, Acts, Comes};
+ghost use Rattle.store_api.specs.Program.{is_ask, is_fault, NextIsPolite};
+ghost use Rattle.store_api.specs.Plays.{Or, call, Acts, Comes, dooms};
 ghost use Rattle.store_api.specs.declared.machines.Refusal.TheVariants.{NoMemory};
 ghost use Rattle.commit_path.specs.Committing.{session_in, message_in, commit_rest, commit_left, IsLeft};
 ghost use Rattle.rebase.specs.Rebasing.{rebase_rest, rebase_left};
 ghost use Rattle.play_outcome.specs.Ending.{is_failed};
 ghost use Rattle.play_tasks.specs.declared.working.SessionTask.{SessionTask as TheTask};
 ghost use Rattle.play_outcome.specs.Playing.{refused};
-ghost use Rattle.play_tasks.specs.Playing.{after_commit, after_rebase, commit_play, tries_of, policy_of};
+ghost use Rattle.play_tasks.specs.Playing.{doubt_play, after_commit, after_rebase, commit_play, tries_of, policy_of};
 ghost use Rattle.play_outcome.specs.Settling.{settled, answers_well, Faults};
-ghost use Rattle.play_tasks.specs.inside.Working.{after_lost, rebased_session, is_well, is_working, working_rest, working_left, commit_steps, try_steps};
+ghost use Rattle.play_tasks.specs.inside.Working.{after_lost, rebased_session, RefusedSo, is_well, is_working, working_rest, working_left, settle_steps, commit_steps, try_steps};
 
+use crate::doubts::begin_settling;
 use crate::working::{SessionTask, Tries, Working};
 use commit_path::{Commit, Tried};
 use conflicts::{Pick, Policy};
@@ -123,6 +124,22 @@ fn after_loss(
     }
 }
 
+/// Where a worker stands whose commit was refused, or is in doubt: a doubt is settled.
+fn after_refusal(alloc: Global, line: u32, shown: Shows, commit: Commit, why: Refusal) -> Working
+    ensures goes { (task : TheTask) → RefusedSo line shown (session_in commit) why (working_rest task result) }
+    ensures works { is_working result ≡ true }
+    ensures few { (lines : ℕ) → working_left lines result ≤ settle_steps }
+    ensures blames { (task : TheTask) → dooms is_failed (working_rest task result) ≡ true → is_fault why ≡ true }
+{
+    match why {
+        Refusal::InDoubt { snapshot } => begin_settling(alloc, shown, commit, snapshot),
+        why => {
+            drop(commit);
+            stop(line, shown, why)
+        }
+    }
+}
+
 /// Where a worker stands after a step of the machine that commits its session.
 fn after_committing(
     alloc: Global,
@@ -134,9 +151,9 @@ fn after_committing(
 ) -> Working
     requires live { answers_well (is_ask (commit_rest commit)) answer ≡ true }
     requires left { IsLeft answer (session_in commit) }
-    ensures goes { (task : TheTask) → Comes (settled (after_commit line shown (after_lost tries.left tries.policy line shown (message_in commit) (session_in commit))) (commit_rest commit) answer) (working_rest task result) }
+    ensures goes { (task : TheTask) → Comes (settled (after_commit line shown (doubt_play shown (session_in commit)) (after_lost tries.left tries.policy line shown (message_in commit) (session_in commit))) (commit_rest commit) answer) (working_rest task result) }
     ensures works { is_working result ≡ true }
-    ensures falls { (lines : ℕ) → working_left lines result ≤ tries.left * try_steps + commit_left commit }
+    ensures falls { (lines : ℕ) → working_left lines result ≤ tries.left * try_steps + commit_left commit + settle_steps }
     ensures blames { (task : TheTask) → Faults answer (working_rest task result) }
 {
     match answer {
@@ -158,10 +175,7 @@ fn after_committing(
         Ok(Next::Ready(Tried::Lost { old, found, .. })) => {
             after_loss(alloc, line, tries, shown, commit, old, found)
         }
-        Err(why) => {
-            drop(commit);
-            stop(line, shown, why)
-        }
+        Err(why) => after_refusal(alloc, line, shown, commit, why),
     }
 }
 
@@ -224,9 +238,9 @@ pub(crate) fn step_committing<S: Store>(
 ) -> Working
     requires live { is_ask (commit_rest commit) ≡ true }
     requires polite { IsTrue (S.view store.old).caller.tells → NextIsPolite (commit_rest commit) (S.view store.old).seen }
-    ensures acts { Acts is_failed (S.view store.old) (S.view store.new) (call (commit_rest commit) (after_commit line shown (after_lost tries.left tries.policy line shown (message_in commit) (session_in commit)))) (working_rest task.now result) }
+    ensures acts { Acts is_failed (S.view store.old) (S.view store.new) (call (commit_rest commit) (after_commit line shown (doubt_play shown (session_in commit)) (after_lost tries.left tries.policy line shown (message_in commit) (session_in commit)))) (working_rest task.now result) }
     ensures works { is_working result ≡ true }
-    ensures falls { working_left (length task.now.body.now) result < tries.left * try_steps + commit_left commit }
+    ensures falls { working_left (length task.now.body.now) result < tries.left * try_steps + commit_left commit + settle_steps }
 {
     let answer = commit.step(store);
     after_committing(alloc, line, tries, shown, commit, answer)

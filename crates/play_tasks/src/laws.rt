@@ -8,6 +8,7 @@ use play_collect::{collect_outcome_law, collect_task_law};
 use play_expire::{expire_outcome_law, expire_task_law};
 use play_refs::{refs_outcome_law, refs_task_law};
 use rebase::rebase_law;
+use settle::settle_law;
 
 /// Whatever others do, each operation of a task is polite, and what the task owes; if it opens a session, each that puts
 /// something comes before the task's client changed a branch; and its outcome tells the journal: which session was opened,
@@ -22,6 +23,7 @@ pub fn task_law()
     single_law();
     owning_law();
     rebase_law();
+    settle_law();
     set_law();
     get_law();
     owning_calls_law();
@@ -36,6 +38,7 @@ pub fn outcome_law()
 {
     session_law();
     answers_law();
+    settle_law();
     tells_law();
     refs_outcome_law();
     collect_outcome_law();

@@ -3,6 +3,7 @@
 
 mod chunks;
 mod commits;
+mod doubts;
 mod laws;
 mod lines;
 mod session_worker;

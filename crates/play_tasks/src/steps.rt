@@ -13,6 +13,7 @@ ghost use Rattle.play_tasks.specs.inside.Working.{after_set, shown_for, after_ge
 
 use crate::chunks::show_value;
 use crate::commits::{step_committing, step_rebasing};
+use crate::doubts::step_settling;
 use crate::lines::{play_lines, refuse};
 use crate::working::{AskedFor, SessionTask, Working};
 use play_outcome::Shown;
@@ -214,6 +215,7 @@ pub(crate) fn step_on<S: Store>(
             shown,
             commit,
         } => step_committing(alloc, task, line, tries, shown, commit, store),
+        Working::Settling { shown, id, settle } => step_settling(task, shown, id, settle, store),
         Working::Rebasing {
             line,
             tries,

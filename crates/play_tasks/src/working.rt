@@ -3,10 +3,12 @@
 use commit_path::Commit;
 use conflicts::Policy;
 use ice_base::Text;
+use ice_ids::Id12;
 use play_outcome::{Outcome, Shown, Shows};
 use play_script::{Access, Line};
 use rebase::Rebase;
 use session::{GetChunk, Open, Session, SetChunk};
+use settle::Settle;
 
 /// A task that opens a session.
 #[derive(Drop)]
@@ -65,6 +67,12 @@ pub enum Working {
         tries: Tries,
         shown: Shows,
         commit: Commit,
+    },
+    /// The commit that put this snapshot is in doubt, and is being settled.
+    Settling {
+        shown: Shows,
+        id: Id12,
+        settle: Settle,
     },
     /// The session's commit, by this line of the script, was lost, and the session is being rebased; it commits again behind that,
     /// with this message, and may be rebased as often as `tries` has left.

@@ -1,12 +1,15 @@
 -- A run keeps what is promised.
-use Rattle.std.proofs.Common.{◌≡◌, inl, inr, ℕ, ◌+◌, List, subst}
+use Rattle.std.proofs.Common.{◌≡◌, inl, inr, ℕ, ◌+◌, List, refl, subst}
 use Rattle.std.specs.Prelude.{Option, Some, Result, Ok, slice_get}
+use Rattle.ice_ids.specs.declared.Id12.{Id12}
 use Rattle.ice_ids.specs.declared.drawing.Draw.{Draw}
+use Rattle.zarr_tree.specs.Trees.{Tree}
 use Rattle.zarr_tree.specs.Changes.{Changes}
 use Rattle.manifest_file.specs.declared.manifest.Place.{Place}
 use Rattle.repo_objects.specs.Laws.{InitialLaw}
 use Rattle.histories.specs.Formats.{files_by}
 use Rattle.object_store.specs.declared.events.Event.{Event}
+use Rattle.object_store.specs.Machine.{version_at}
 use Rattle.store_api.specs.declared.machines.Refusal.{Refusal}
 use Rattle.store_api.specs.Journal.{tree_of}
 use Rattle.rebase.specs.AlongLaws.{MeansLaw}
@@ -20,14 +23,29 @@ use Rattle.play_tasks.specs.Playing.{asked_by}
 use Rattle.play_tasks.specs.Tasks.{ids_at, TellsAt}
 use Rattle.play_tasks.specs.Telling.{TellsBy}
 use Rattle.run_histories.specs.Told.{HasHistories, RunLaw}
+use Rattle.run_histories.specs.Told as Histories
 use Rattle.repository.specs.Closing.{RefsLaw}
 use Rattle.play_course.specs.Leaving.{TellsEnds}
 use Rattle.play_course.proofs.Leaving.{course-run, course-begun, course-told}
 use Rattle.run_collections.specs.Laws.{NeededLaw}
-use Rattle.run_promise.specs.Promise.{ShowsRight, EndsRight, Keeps}
+use Rattle.run_promise.specs.Promise.{HasCommitted, ShowsRight, EndsRight, Keeps}
 use Rattle.run_promise.specs.Law.{PromiseLaw}
 use Rattle.run_promise.proofs.Commits.{committed, showed}
 use Rattle.run_promise.proofs.Ends.{lines-end, unopened-end}
+
+-- a commit that took effect, in words of the histories
+abbrev committed-so : (trees : Id12 → Option Tree) (client : ℕ) (id : Id12) (old new : List Event) → HasCommitted (files_by trees) client id old new → Histories.HasCommitted client old new
+committed-so trees client id old new c = record {
+  branch = c.branch;
+  bytes = c.takes_effect.bytes;
+  old = version_at c.old;
+  reply = c.event.reply;
+  own = record { before = c.before; since = c.since; before_is = c.before_is; event = c.event; after = c.after; is = c.is; client_is = c.own; op_is = c.takes_effect.op_is; reply_is = refl };
+  done = c.takes_effect.done;
+  stored = c.takes_effect.stored;
+  stood = c.takes_effect.stands;
+  version_is = c.takes_effect.version;
+}
 
 module _ (initial : InitialLaw) (means : (bytes_at : Place → Option (List ℕ)) → MeansLaw bytes_at) (draw : Draw) (tasks : List Task) (before : ℕ → Changes) (old start new : List Event) (h : HasHistories draw tasks before old start new) where
   -- ---- a task that opens a session
@@ -55,6 +73,7 @@ module _ (initial : InitialLaw) (means : (bytes_at : Place → Option (List ℕ)
     stand = h.stand;
     commits = λ since rest event branch version id is e. committed initial means draw tasks before old start new since rest event h is branch version id e;
     reads = λ place task outcome access at out head_is. shows place task outcome access at head_is (opens place task outcome access at head_is (told place task outcome at out));
+    once = λ client id other a b. h.once client (committed-so (tree_of new) client id old new a) (committed-so (tree_of new) client other old new b);
     ends = λ place task outcome access at out head_is. ends place task outcome access at head_is (opens place task outcome access at head_is (told place task outcome at out));
     tags = h.tags_stand;
     tag_calls = h.tags;

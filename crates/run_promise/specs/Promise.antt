@@ -11,7 +11,6 @@ use Rattle.object_store.specs.declared.events.Event.{Event}
 use Rattle.object_store.specs.Machine.{Stored, found, was_done, version_at}
 use Rattle.store_api.specs.declared.machines.Refusal.{Refusal}
 use Rattle.store_api.specs.Journal.{Each}
-use Rattle.store_api.specs.Program.{is_fault}
 use Rattle.repo_read.specs.declared.resolving.At.{At}
 use Rattle.histories.specs.Repository.{Entry, last}
 use Rattle.histories.specs.Files.{Files}
@@ -27,7 +26,7 @@ use Rattle.play_script.specs.declared.scripts.Line.{Line}
 use Rattle.play_script.specs.declared.scripts.Task.{Task}
 use Rattle.play_outcome.specs.declared.outcome.Shown.{Shown}
 use Rattle.play_outcome.specs.declared.outcome.End.{End}
-use Rattle.play_outcome.specs.declared.outcome.End.TheVariants.{Committed, Collected, Done, Refused, Stopped, Expired}
+use Rattle.play_outcome.specs.declared.outcome.End.TheVariants.{Committed, Collected, Done, Refused, Stopped, InDoubt, Expired}
 use Rattle.play_outcome.specs.declared.outcome.Outcome.{Outcome}
 use Rattle.play_outcome.specs.declared.outcome.RefLine.{RefLine}
 use Rattle.play_tasks.specs.Playing.{policy_of}
@@ -149,14 +148,15 @@ pub record HasCommitted (files : Files) (client : ℕ) (id : Id12) (start journa
 abbrev pub HasNotCommitted : Files → ℕ → (start journal : List Event) → Type 0
 HasNotCommitted files client start journal = (id : Id12) → ¬ HasCommitted files client id start journal
 
--- A task that tells a commit made it; one that tells none made none, unless it tells a fault of the store, which leaves that open;
--- and none tells a collection or an expiry.
+-- A task that tells a commit made it, and one that is in doubt made the commit of that snapshot, or none; any other made none. No task of a session
+-- tells a collection or an expiry.
 abbrev pub EndsRight : Files → ℕ → End → (start journal : List Event) → Type 0
 EndsRight files client (Committed id) start journal = HasCommitted files client id start journal
 EndsRight files client (Collected removed) start journal = ⊥
 EndsRight files client Done start journal = HasNotCommitted files client start journal
-EndsRight files client (Refused line why) start journal = is_fault why ≡ false → HasNotCommitted files client start journal
+EndsRight files client (Refused line why) start journal = HasNotCommitted files client start journal
 EndsRight files client (Stopped line why removed) start journal = ⊥
+EndsRight files client (InDoubt id how) start journal = (other : Id12) → HasCommitted files client other start journal → other ≡ id
 EndsRight files client (Expired line cases result) start journal = ⊥
 
 -- ---- the promise
@@ -176,6 +176,8 @@ pub record Keeps (files : Files) (tasks : List Task) (outcomes : List Outcome) (
   -- each read sees its session's base under its own changes
   pub reads : (place : ℕ) (task : Task) (outcome : Outcome) (access : Access) → slice_get tasks place ≡ Some task → slice_get outcomes place ≡ Some outcome → task.head ≡ Session access
       → ShowsRight files changes task access (place + 1) start journal outcome.shown
+  -- each client commits at most once: two commits of it that took effect are one event
+  pub once : (client : ℕ) (id other : Id12) (a : HasCommitted files client id old journal) (b : HasCommitted files client other old journal) → (a.before ≡ b.before) × (a.event ≡ b.event)
   -- and each task ends as it tells
   pub ends : (place : ℕ) (task : Task) (outcome : Outcome) (access : Access) → slice_get tasks place ≡ Some task → slice_get outcomes place ≡ Some outcome → task.head ≡ Session access → EndsRight files (place + 1) outcome.end start journal
   -- each tag stands as it was made, or was dropped, and each call on it got the answer of its state

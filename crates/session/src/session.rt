@@ -119,6 +119,27 @@ impl Session {
         }
     }
 
+    /// The branch that it writes to, where nothing else of it is needed.
+    pub fn into_branch(self) -> RefName
+        requires { writes self ≡ true }
+        ensures { result ≡ branch_of self }
+    {
+        let Session {
+            origin,
+            loaded,
+            changes,
+            reader,
+            ..
+        } = self;
+        drop(loaded);
+        drop(changes);
+        drop(reader);
+        match origin {
+            Origin::Writes(tip) => tip.branch,
+            Origin::ReadsBranch(_) | Origin::ReadsTag(_) | Origin::ReadsId => unreachable!(),
+        }
+    }
+
     /// What named the base.
     pub fn origin(&self) -> &Origin
         ensures { result.now ≡ self.now.origin }

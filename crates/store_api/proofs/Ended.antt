@@ -1,9 +1,10 @@
 -- A play whose outcome is told as another one makes the same operations.
-use Rattle.std.proofs.Common.{Bool, ◌≡◌, inl, inr, sym, ap, ◌∙◌, ℕ, List}
+use Rattle.std.proofs.Common.{Bool, true, ◌≡◌, ◌⊎◌, inl, inr, sym, ap, ◌∙◌, ℕ, List}
+use Rattle.ice_base.specs.Ends.{Rose}
 use Rattle.object_store.specs.declared.events.Op.{Op}
 use Rattle.object_store.specs.declared.events.Event.{Event}
 use Rattle.store_api.specs.Callers.{Caller, View}
-use Rattle.store_api.specs.Plays.{Play, Ended, Ask, Or, IsLive, HasEnded, Comes, PlayKeeps, PlayLeads, PlayIsPolite, BlamesEnd, Acts, ended_as}
+use Rattle.store_api.specs.Plays.{Play, Ended, Ask, Or, IsLive, HasEnded, Comes, PlayKeeps, PlayLeads, PlayIsPolite, dooms, BlamesEnd, Acts, ended_as}
 
 module _ {A B : Type 0} (f : A → B) where
   -- ---- where it stands
@@ -40,15 +41,22 @@ module _ {A B : Type 0} (f : A → B) where
   comes (Or p r) q (inr c) = inr (comes r q c)
 
   module _ (failed : A → Bool) (told : B → Bool) (same : (a : A) → told (f a) ≡ failed a) where
-    blames : (q : Play A) (m n : ℕ) → BlamesEnd failed q m n → BlamesEnd told (ended_as f q) m n
-    blames (Ended a) m n b = (b.0, λ e. b.1 (sym (same a) ∙ e))
-    blames (Ask op starved next) m n b = b
-    blames (Or p q) m n b = b
+    pub dooms-as : (p : Play A) → dooms told (ended_as f p) ≡ dooms failed p
+    dooms-as (Ended a) = same a
+    dooms-as (Ask op starved next) = dooms-as starved
+    dooms-as (Or p q) = dooms-as q
+
+    blames : (p q : Play A) (m n : ℕ) → BlamesEnd failed p q m n → BlamesEnd told (ended_as f p) (ended_as f q) m n
+    blames p q m n b = (b.0, λ e. rose (b.1 (sym (dooms-as q) ∙ e)))
+      where
+        rose : (dooms failed p ≡ true) ⊎ Rose m n → (dooms told (ended_as f p) ≡ true) ⊎ Rose m n
+        rose (inl d) = inl (dooms-as p ∙ d)
+        rose (inr r) = inr r
 
     pub acts-as : (old new : View) (p q : Play A) → Acts failed old new p q → Acts told old new (ended_as f p) (ended_as f q)
     acts-as old new p q s = record {
       same = s.same;
-      blames = blames q old.faults new.faults s.blames;
+      blames = blames p q old.faults new.faults s.blames;
       went = elim s.went [
         | inl a ↦ inl (record {
           op = a.op;

@@ -1,13 +1,13 @@
 -- Laws of plays.
-use Rattle.std.proofs.Common.{◌≡◌, ℕ, inl, inr, Bool, true, false, List, refl, sym, subst}
+use Rattle.std.proofs.Common.{◌≡◌, ℕ, inl, inr, Bool, true, false, true≢false, List, refl, sym, ap, subst}
 use Rattle.std.specs.Prelude.{IsTrue, Result, Err}
 use Rattle.object_store.specs.declared.events.Op.{Op}
 use Rattle.object_store.specs.declared.events.Event.{Event}
 use Rattle.store_api.specs.declared.machines.Refusal.{Refusal}
 use Rattle.store_api.specs.declared.machines.Refusal.TheVariants.{NoMemory}
 use Rattle.store_api.specs.Callers.{Caller, View, Waits}
-use Rattle.store_api.specs.Program.{Prog, Done, Ask as Ask_next, Keeps, Leads, moves_branch}
-use Rattle.store_api.specs.Plays.{Play, Ended, Ask, Or, call, behind, Comes, HasEnded, PlayKeeps, PlayLeads, Stays, Acts}
+use Rattle.store_api.specs.Program.{Prog, Done, Ask as Ask_next, is_ask, Keeps, Leads, moves_branch}
+use Rattle.store_api.specs.Plays.{Play, Ended, Ask, Or, call, behind, Comes, HasEnded, PlayKeeps, PlayLeads, Stays, dooms, Acts}
 use Rattle.store_api.proofs.Programs.{IsStable, Makes-waits}
 
 -- ---- what holds of each operation to come
@@ -117,3 +117,14 @@ pub HasEnded-comes : {A : Type 0} (p q : Play A) → HasEnded p → Comes p q �
 HasEnded-comes (Ended a) q e c = c
 HasEnded-comes (Ask op s f) q e c = absurd e
 HasEnded-comes (Or p r) q e c = absurd e
+
+-- ---- what it tells where memory is wanting
+-- a call that has an operation to come tells what follows its want of memory
+pub dooms-call : {A B : Type 0} (failed : B → Bool) (p : Prog (Result A Refusal)) (f : Result A Refusal → Play B) → is_ask p ≡ true → dooms failed (call p f) ≡ dooms failed (f (Err NoMemory))
+dooms-call failed (Done a) f live = absurd (true≢false (sym live))
+dooms-call failed (Ask_next op next) f live = refl
+
+-- ... and so does what it has come to
+pub dooms-came : {A B : Type 0} (failed : B → Bool) (p : Prog (Result A Refusal)) (f : Result A Refusal → Play B) (q : Play B) → is_ask p ≡ true → Comes (call p f) q → dooms failed q ≡ dooms failed (f (Err NoMemory))
+dooms-came failed (Done a) f q live c = absurd (true≢false (sym live))
+dooms-came failed (Ask_next op next) f q live c = ap (dooms failed) c

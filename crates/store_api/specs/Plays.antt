@@ -101,14 +101,18 @@ pub record Starved {A : Type 0} (old new : View) (p q : Play A) : Type 0 where
   pub waits : IsTrue old.caller.tells → Waits old.caller old.seen new.seen
   pub comes : Comes starved q
 
--- an outcome that tells a fault of the store comes only where the faults rose
-abbrev pub BlamesEnd : {A : Type 0} → (A → Bool) → Play A → ℕ → ℕ → Type 0
-BlamesEnd failed (Ended a) m n = (m ≤ n) × (failed a ≡ true → Rose m n)
-BlamesEnd failed (Ask op starved next) m n = m ≤ n
-BlamesEnd failed (Or p q) m n = m ≤ n
+-- what it tells where memory is wanting from here on is a fault of the store
+abbrev pub dooms : {A : Type 0} → (A → Bool) → Play A → Bool
+dooms failed (Ended a) = failed a
+dooms failed (Ask op starved next) = dooms failed starved
+dooms failed (Or p q) = dooms failed q
+
+-- from p, what was left before, to q: the faults never fall, and a fault is bound to be told only where it was before, or where they rose
+abbrev pub BlamesEnd : {A : Type 0} → (A → Bool) → (p q : Play A) → ℕ → ℕ → Type 0
+BlamesEnd failed p q m n = (m ≤ n) × (dooms failed q ≡ true → (dooms failed p ≡ true) ⊎ Rose m n)
 
 -- One step of a player that had p to do and has q now. `failed` are the outcomes that tell a fault of the store.
 pub record Acts {A : Type 0} (failed : A → Bool) (old new : View) (p q : Play A) : Type 0 where
   pub same : new.caller ≡ old.caller
-  pub blames : BlamesEnd failed q old.faults new.faults
+  pub blames : BlamesEnd failed p q old.faults new.faults
   pub went : Acted old new p q ⊎ Starved old new p q

@@ -98,6 +98,7 @@ end-failed (E.Collected removed) = refl
 end-failed E.Done = refl
 end-failed (E.Refused line why) = or-false (is_fault why)
 end-failed (E.Stopped line why removed) = or-false (is_fault why)
+end-failed (E.InDoubt id how) = refl
 end-failed (E.Expired line cases (Ok done)) = refl
 end-failed (E.Expired line cases (Err why)) = or-false (is_fault why)
 

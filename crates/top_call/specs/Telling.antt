@@ -57,11 +57,13 @@ end_committed (E.Collected removed) = false
 end_committed E.Done = false
 end_committed (E.Refused line why) = false
 end_committed (E.Stopped line why removed) = false
+end_committed (E.InDoubt id how) = false
 end_committed (E.Expired line cases result) = false
 
 abbrev pub end_refused : End → Bool
 end_refused (E.Refused line why) = true
 end_refused (E.Stopped line why removed) = true
+end_refused (E.InDoubt id how) = false
 end_refused (E.Expired line cases (Err why)) = true
 end_refused (E.Expired line cases (Ok done)) = false
 end_refused (E.Committed id) = false

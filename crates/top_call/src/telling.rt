@@ -1,17 +1,19 @@
 //! What is told of a run: the report, or the line of a grown script, and the status.
 
-ghost use Rattle.std.specs.Prelude.{◌≡◌, map, IfOk, IfErr, string_bytes};
+ghost use Rattle.std.specs.Prelude.{◌≡◌, ◌∷◌, map, IfOk, IfErr, string_bytes};
 ghost use Rattle.std.specs.List.{count_by, flat_map};
 ghost use Rattle.play_report.specs.Report.{report_of};
-ghost use Rattle.play_outcome.specs.Ending.{end_why, why_ended};
+ghost use Rattle.play_outcome.specs.Ending.{end_why, why_ended, why_unsettled};
+ghost use Rattle.store_api.specs.declared.machines.Refusal.TheVariants as Doubts;
 ghost use Rattle.top_call.specs.Telling.{why_of, refusals, causes, is_committed, is_refused, line_text, Wrote, Told};
 ghost use Rattle.top_call.specs.inside.Adding.{added, all_added};
 
 use crate::statuses::{Causes, Status};
 use grow_script::Summary;
 use ice_base::{Sink, write_whole};
+use ice_ids::Id12;
 use play_course::Played;
-use play_outcome::{End, Outcome, RefLines};
+use play_outcome::{End, How, Outcome, RefLines};
 use play_report::report;
 use play_script::{Script, Task};
 use std::alloc::{AllocError, Global};
@@ -49,12 +51,23 @@ fn add_result(causes: &mut Causes, ended: &Result<(), Refusal>)
     }
 }
 
+/// Adds what a doubt causes, and what kept it from being settled.
+fn add_doubt(causes: &mut Causes, id: Id12, how: &How)
+    ensures { causes.new ≡ all_added causes.old (Doubts.InDoubt id ∷ why_unsettled how.now) }
+{
+    add(causes, &Refusal::InDoubt { snapshot: id });
+    if let How::Unsettled(why) = how {
+        add(causes, why);
+    }
+}
+
 /// Adds what a task causes that ended so.
 fn add_end(causes: &mut Causes, end: &End)
     ensures { causes.new ≡ all_added causes.old (end_why end.now) }
 {
     match end {
         End::Refused { why, .. } | End::Stopped { why, .. } => add(causes, why),
+        End::InDoubt { id, how } => add_doubt(causes, *id, how),
         End::Expired { result, .. } => add_result(causes, result),
         End::Committed(_) | End::Collected(_) | End::Done => {}
     }
@@ -135,7 +148,10 @@ fn numbers(outcomes: &[Outcome]) -> (u64, u64)
             End::Committed(_) => committed += 1,
             End::Refused { .. } | End::Stopped { .. } => refused += 1,
             End::Expired { result: Err(_), .. } => refused += 1,
-            End::Expired { result: Ok(()), .. } | End::Collected(_) | End::Done => {}
+            End::Expired { result: Ok(()), .. }
+            | End::Collected(_)
+            | End::Done
+            | End::InDoubt { .. } => {}
         }
     }
     (committed, refused)

@@ -11,7 +11,7 @@ use Rattle.store_api.specs.declared.machines.Next.TheVariants.{Again, Ready}
 use Rattle.store_api.specs.declared.machines.Refusal.{Refusal}
 use Rattle.store_api.specs.declared.machines.Refusal.TheVariants.{NoMemory, StoreFault as Refused_fault}
 use Rattle.store_api.specs.Program.{Prog, is_ask, is_fault}
-use Rattle.store_api.specs.Plays.{Play, Ended, Ask, Or, call}
+use Rattle.store_api.specs.Plays.{Play, Ended, Ask, call, dooms}
 use Rattle.cleanup_reports.specs.declared.removed.Removed.{Removed}
 use Rattle.chunk_gc.specs.declared.standing.Collected.{Collected}
 use Rattle.chunk_gc.specs.declared.standing.Collecting.{Collecting}
@@ -60,11 +60,9 @@ abbrev pub faults : Result (Next (List Key)) Refusal → Bool
 faults (Ok next) = false
 faults (Err why) = is_fault why
 
--- an outcome tells a fault of the store only where one was told
+-- a fault of the store is bound to be told only where one was told
 abbrev pub Blamed : Bool → Play Collected → Type 0
-Blamed told (Ended outcome) = tells_failure outcome ≡ true → told ≡ true
-Blamed told (Ask op starved next) = Unit {0}
-Blamed told (Or p q) = Unit {0}
+Blamed told q = dooms tells_failure q ≡ true → told ≡ true
 
 -- ---- behind the answer to a removal
 abbrev pub removal_rest : Key → List Key → Removed → Result Gone StoreFault → Play Collected

@@ -11,7 +11,7 @@ use Rattle.store_api.specs.declared.machines.Next.TheVariants.{Again, Ready}
 use Rattle.store_api.specs.declared.machines.Refusal.{Refusal}
 use Rattle.store_api.specs.declared.machines.Refusal.TheVariants.{NoMemory, StoreFault as Refused_fault}
 use Rattle.store_api.specs.Program.{Prog, is_ask, is_fault}
-use Rattle.store_api.specs.Plays.{Play, Ended, Ask, Or, call}
+use Rattle.store_api.specs.Plays.{Play, Ended, Or, call, dooms}
 use Rattle.cleanup_reports.specs.declared.cases.What.{What}
 use Rattle.cleanup_reports.specs.declared.cases.RefCase.{RefCase}
 use Rattle.live_refs.specs.Live.{live}
@@ -99,11 +99,9 @@ abbrev pub faults : {A : Type 0} → Result A Refusal → Bool
 faults (Ok a) = false
 faults (Err why) = is_fault why
 
--- an outcome tells a fault of the store only where one was told
+-- a fault of the store is bound to be told only where one was told
 abbrev pub Blamed : Bool → Play Expired → Type 0
-Blamed told (Ended outcome) = tells_failure outcome ≡ true → told ≡ true
-Blamed told (Ask op starved next) = Unit {0}
-Blamed told (Or p q) = Unit {0}
+Blamed told q = dooms tells_failure q ≡ true → told ≡ true
 
 -- ---- behind an operation that is asked outright
 abbrev pub fault_told : StoreFault → Refusal

@@ -6,7 +6,7 @@ use Rattle.object_store.specs.declared.events.Event.{Event}
 use Rattle.store_api.specs.Journal.{Each, IsGood}
 use Rattle.store_api.specs.Callers.{Caller, View, owns}
 use Rattle.store_api.specs.Program.{events_of}
-use Rattle.store_api.specs.Plays.{Play, Ended}
+use Rattle.store_api.specs.Plays.{Play, dooms}
 use Rattle.play_script.specs.declared.scripts.Task.{Task}
 use Rattle.play_outcome.specs.declared.outcome.Outcome.{Outcome}
 use Rattle.play_outcome.specs.Ending.{is_failed}
@@ -28,9 +28,9 @@ pub record IsReadyAt (place : ℕ) (view : View) (p : Play Outcome) : Type 0 whe
 abbrev pub CanStep : ℕ → View → Play Outcome → Type 0
 CanStep place view p = IsTrue view.caller.tells → IsReadyAt place view p
 
--- a play that has ended with a fault of the store is only there where the faults rose
+-- a play that is bound to tell a fault of the store is only there where the faults rose
 abbrev pub Blames : Play Outcome → ℕ → ℕ → Type 0
-Blames p m n = (outcome : Outcome) → p ≡ Ended outcome → is_failed outcome ≡ true → Rose m n
+Blames p m n = dooms is_failed p ≡ true → Rose m n
 
 -- the event is good, and where its client is one of these, that client's task owes it
 pub record IsKnown (draw : Draw) (tasks : List Task) (start : List Event) (clients : ℕ → Type 0) (journal : List Event) (event : Event) : Type 0 where

@@ -5,7 +5,7 @@ use Rattle.ice_ids.specs.declared.drawing.Draw.{Draw}
 use Rattle.object_store.specs.declared.events.Event.{Event}
 use Rattle.store_api.specs.Journal.{Each}
 use Rattle.store_api.specs.Callers.{View}
-use Rattle.store_api.specs.Plays.{Play, Ended}
+use Rattle.store_api.specs.Plays.{Play, dooms}
 use Rattle.play_script.specs.declared.scripts.Task.{Task}
 use Rattle.play_outcome.specs.declared.outcome.Outcome.{Outcome}
 use Rattle.play_outcome.specs.Ending.{is_failed}
@@ -22,9 +22,9 @@ pub record IsReady (view : View) (ps : List (Play Outcome)) : Type 0 where
 abbrev pub CanGo : View → List (Play Outcome) → Type 0
 CanGo view ps = IsTrue view.caller.tells → IsReady view ps
 
--- a play that has ended with a fault of the store is only there where the faults rose
+-- a play that is bound to tell a fault of the store is only there where the faults rose
 abbrev pub Blame : List (Play Outcome) → ℕ → ℕ → Type 0
-Blame ps m n = (place : ℕ) (outcome : Outcome) → slice_get ps place ≡ Some (Ended outcome) → is_failed outcome ≡ true → Rose m n
+Blame ps m n = (place : ℕ) (p : Play Outcome) → slice_get ps place ≡ Some p → dooms is_failed p ≡ true → Rose m n
 
 -- where the plays were tasks' that stood: they stand still, and the journal went on by these operations, good and owed
 pub record Kept (draw : Draw) (tasks : List Task) (start : List Event) (old new : View) (own : List Event) (qs : List (Play Outcome)) : Type 0 where

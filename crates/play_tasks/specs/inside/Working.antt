@@ -15,6 +15,7 @@ use Rattle.session.specs.Opening.{open_rest, open_left}
 use Rattle.session.specs.Setting.{set_rest, set_left}
 use Rattle.session.specs.Getting.{get_rest, get_left, get_session}
 use Rattle.commit_path.specs.Committing.{session_in, message_in, commit_rest, commit_left}
+use Rattle.settle.specs.inside.Working.{settle_rest, settle_left}
 use Rattle.rebase.specs.declared.machine.Rebased.{Rebased}
 use Rattle.rebase.specs.declared.machine.Rebased.TheVariants.{Moved, UpToDate}
 use Rattle.rebase.specs.Rebasing.{rebase_program, rebase_rest, rebase_left}
@@ -31,7 +32,7 @@ use Rattle.play_tasks.specs.declared.working.AskedFor.TheVariants as asked
 use Rattle.play_tasks.specs.declared.working.Step.{Step}
 use Rattle.play_tasks.specs.declared.working.Step.TheVariants as step
 use Rattle.play_tasks.specs.Lines.{Deed, silent, value_shown, chunk_key_shown}
-use Rattle.play_tasks.specs.Playing.{Rest, after_line, shown_by, after_open, after_commit, after_rebase, commit_play, play_deed, play_lines}
+use Rattle.play_tasks.specs.Playing.{Rest, after_line, shown_by, after_open, after_settling, doubt_play, after_commit, after_rebase, commit_play, play_deed, play_lines}
 
 -- ---- where a worker stands
 -- the lines of a task from a number on, from 0
@@ -55,6 +56,10 @@ abbrev pub after_lost : (left : ℕ) → Policy → (line : ℕ) → List Shown 
 after_lost zero policy line shown message s old found next = refused line shown (Conflict old found)
 after_lost (suc left) policy line shown message s old found next = call (rebase_program policy (record s { ids = next })) (after_rebase line shown (commit_play left policy line shown message))
 
+-- Where a worker stands whose commit of this session was refused so: at the settling of a doubt, or at the task's end, whatever follows a loss.
+abbrev pub RefusedSo : (line : ℕ) → List Shown → SessionState → Refusal → Play Outcome → Type 0
+RefusedSo line shown s why p = (lost : Version → Option Version → AnyIds → Play Outcome) → Comes (after_commit line shown (doubt_play shown s) lost (Err why)) p
+
 -- the session that a rebase answered
 abbrev pub rebased_session : Rebased → SessionState
 rebased_session (Moved s count) = s
@@ -64,7 +69,8 @@ abbrev pub working_rest : SessionTask → Working → Play Outcome
 working_rest task (w.Opening opener) = call (open_rest opener) (after_open task.access.now task.line task.body.now)
 working_rest task (w.Setting line at shown set) = call (set_rest set) (after_set line shown.items (lines_from task at))
 working_rest task (w.Getting line at for shown get) = call (get_rest get) (after_get (shown_for for line) line shown.items (get_session get) (lines_from task at))
-working_rest task (w.Committing line tries shown commit) = call (commit_rest commit) (after_commit line shown (after_lost tries.left tries.policy line shown (message_in commit) (session_in commit)))
+working_rest task (w.Committing line tries shown commit) = call (commit_rest commit) (after_commit line shown (doubt_play shown (session_in commit)) (after_lost tries.left tries.policy line shown (message_in commit) (session_in commit)))
+working_rest task (w.Settling shown id settle) = call (settle_rest settle) (after_settling shown id)
 working_rest task (w.Rebasing line tries shown message rebase) = call (rebase_rest rebase) (after_rebase line shown (commit_play tries.left tries.policy line shown message))
 working_rest task (w.Ended outcome) = Ended outcome
 
@@ -74,16 +80,20 @@ is_working (w.Opening opener) = is_ask (open_rest opener)
 is_working (w.Setting line at shown set) = is_ask (set_rest set)
 is_working (w.Getting line at for shown get) = is_ask (get_rest get)
 is_working (w.Committing line tries shown commit) = is_ask (commit_rest commit)
+is_working (w.Settling shown id settle) = is_ask (settle_rest settle)
 is_working (w.Rebasing line tries shown message rebase) = is_ask (rebase_rest rebase)
 is_working (w.Ended outcome) = true
 
 -- ---- how many steps are left
--- no commit takes more steps, and no rebase and the commit behind it
+-- no settling takes more steps, no commit with its settling, and no rebase and the commit behind it
+abbrev pub settle_steps : ℕ
+settle_steps = 2 ^ 17
+
 abbrev pub commit_steps : ℕ
-commit_steps = 2 ^ 200
+commit_steps = 2 ^ 201
 
 abbrev pub try_steps : ℕ
-try_steps = 2 ^ 201
+try_steps = 2 ^ 202
 
 -- nor do the machines of a line
 abbrev pub most_steps : ℕ
@@ -94,7 +104,8 @@ abbrev pub machine_left : Working → ℕ
 machine_left (w.Opening opener) = open_left opener
 machine_left (w.Setting line at shown set) = set_left set
 machine_left (w.Getting line at for shown get) = get_left get
-machine_left (w.Committing line tries shown commit) = tries.left * try_steps + commit_left commit
+machine_left (w.Committing line tries shown commit) = tries.left * try_steps + commit_left commit + settle_steps
+machine_left (w.Settling shown id settle) = settle_left settle
 machine_left (w.Rebasing line tries shown message rebase) = tries.left * try_steps + commit_steps + rebase_left rebase
 machine_left (w.Ended outcome) = 0
 
@@ -104,6 +115,7 @@ lines_left lines (w.Opening opener) = lines
 lines_left lines (w.Setting line at shown set) = lines - at
 lines_left lines (w.Getting line at for shown get) = lines - at
 lines_left lines (w.Committing line tries shown commit) = 0
+lines_left lines (w.Settling shown id settle) = 0
 lines_left lines (w.Rebasing line tries shown message rebase) = 0
 lines_left lines (w.Ended outcome) = 0
 
@@ -159,6 +171,7 @@ is_well (w.Opening opener) = false
 is_well (w.Setting line at shown set) = is_ask (set_rest set)
 is_well (w.Getting line at for shown get) = is_ask (get_rest get)
 is_well (w.Committing line tries shown commit) = is_ask (commit_rest commit)
+is_well (w.Settling shown id settle) = false
 is_well (w.Rebasing line tries shown message rebase) = is_ask (rebase_rest rebase)
 is_well (w.Ended outcome) = not (is_failed outcome)
 

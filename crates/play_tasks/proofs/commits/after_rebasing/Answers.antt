@@ -1,4 +1,4 @@
-use Rattle.std.proofs.Common.{◌∙◌, ap, subst, sym}
+use Rattle.std.proofs.Common.{◌∙◌, ap, refl, subst, sym}
 use Rattle.std.specs.Prelude.{Result, Ok}
 use Rattle.store_api.specs.declared.machines.Next.{Next}
 use Rattle.store_api.specs.declared.machines.Refusal.{Refusal}
@@ -8,8 +8,13 @@ use Rattle.rebase.specs.Rebasing.{rebase_rest}
 use Rattle.play_tasks.specs.Playing.{after_rebase, commit_play}
 use Rattle.play_outcome.specs.Settling.{settled}
 use Rattle.play_tasks.specs.inside.Working.{working_rest}
-use Rattle.play_tasks.proofs.Machines.{rebase-answers, stop-faults, well-faults}
+use Rattle.play_tasks.proofs.Machines.{again-faults, rebase-answers, stop-faults, well-faults}
 use Rattle.play_tasks.proofs.commits.after_rebasing.Goals as goal
+
+pub returns-in-Ok-Again-clause-blames : goal.returns-in-Ok-Again-clause-blames
+returns-in-Ok-Again-clause-blames c = λ task.
+    let again = commit_play c.args.tries.left c.args.tries.policy c.args.line c.args.shown c.args.message in
+    again-faults c.args.answer (rebase_rest c.args.rebase) (after_rebase c.args.line c.args.shown again) c.in-Ok-Again.field-0 refl c.requires c.in-Ok-Again.is c.in-Ok-Again.field-0-is
 
 pub returns-in-Ok-Ready-clause-goes : goal.returns-in-Ok-Ready-clause-goes
 returns-in-Ok-Ready-clause-goes c = λ task.

@@ -12,7 +12,7 @@ returns-in-Ok-clause-comes c = λ task.
     inl (commit-began c.args.tries.left c.args.tries.policy c.args.line c.args.shown c.args.message (message_in commit) c.args.session (session_in commit) (commit_rest commit) starts.0 starts.1 starts.2 c.in-Ok.ensures.message)
 
 pub returns-in-Err-clause-comes : goal.returns-in-Err-clause-comes
-returns-in-Err-clause-comes c = λ task. commit-refused c.args.tries.left c.args.tries.policy c.args.line c.args.shown c.args.message c.args.session c.in-Err.why task c.stop.result c.in-Err.ensures.starts.1 c.stop.ensures
+returns-in-Err-clause-comes c = λ task. commit-refused c.args.tries.left c.args.tries.policy c.args.line c.args.shown c.args.message c.args.session c.in-Err.why task c.stop.result c.in-Err.ensures.listed c.in-Err.ensures.starts.1 c.stop.ensures
 
 pub returns-in-Err-clause-clean : goal.returns-in-Err-clause-clean
 returns-in-Err-clause-clean c =

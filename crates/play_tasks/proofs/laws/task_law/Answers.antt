@@ -11,6 +11,7 @@ returns c =
       single = c.single_law.ensures;
       owning = c.owning_law.ensures;
       rebase = c.rebase_law.ensures;
+      settle = c.settle_law.ensures;
       set = c.set_law.ensures;
       get = c.get_law.ensures;
       calls = c.owning_calls_law.ensures;

@@ -1,5 +1,12 @@
-use Rattle.play_tasks.proofs.Machines.{stop-faults, well-faults, well-works}
+use Rattle.std.proofs.Common.{refl}
+use Rattle.session.specs.Setting.{set_rest}
+use Rattle.play_tasks.specs.inside.Working.{after_set, lines_from}
+use Rattle.play_tasks.proofs.Machines.{again-faults, stop-faults, well-faults, well-works}
 use Rattle.play_tasks.proofs.steps.after_setting.Goals as goal
+
+pub returns-in-Ok-Again-clause-blames : goal.returns-in-Ok-Again-clause-blames
+returns-in-Ok-Again-clause-blames c =
+    again-faults c.args.answer (set_rest c.args.set) (after_set c.args.line c.args.shown.items (lines_from c.args.task.now c.args.at)) c.in-Ok-Again.field-0 refl c.requires c.in-Ok-Again.is c.in-Ok-Again.field-0-is
 
 pub returns-in-Ok-Ready-clause-works : goal.returns-in-Ok-Ready-clause-works
 returns-in-Ok-Ready-clause-works c = well-works c.play_lines.result c.play_lines.ensures.clean

@@ -1,0 +1,4 @@
+pub mod Parts
+pub mod NoMemory
+pub mod Agreeing
+pub mod Listed

@@ -1,0 +1,5 @@
+pub mod Steps
+pub mod Reading
+pub mod Ways
+pub mod Kept
+pub mod Lawful

@@ -1,0 +1,4 @@
+pub mod Settling
+pub mod Telling
+pub mod Laws
+pub mod inside

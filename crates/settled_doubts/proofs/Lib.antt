@@ -1,0 +1,5 @@
+pub mod Puts
+pub mod Kept
+pub mod Branches
+pub mod Ways
+pub mod Doubts
