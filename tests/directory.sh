@@ -57,8 +57,8 @@ mkdir other
 call play --dir other >/dev/null
 same 'another directory has other ids' no "$(grep -qF "$id" printed && echo yes || echo no)"
 
-# What was written is read by later runs: chunks that are objects and chunks in manifests, tags, and the log.
-printf 'task a write main 0 fail\narray /x uint8 1200 600 0\narray /y uint8 4 2 0\nfill /x 1 07\nset /y 0 0102\ncommit chunks\n' >given
+# What was written is read by later runs: chunks that are objects and chunks in manifests, tags, and the log with a property.
+printf 'task a write main 0 fail\narray /x uint8 1200 600 0\narray /y uint8 4 2 0\nfill /x 1 07\nset /y 0 0102\nprop author ann lee\ncommit chunks\n' >given
 printf 'task t refs\ntag v1 branch main\nturns\n' >>given
 call play --dir d >/dev/null
 same 'a second commit' 0 "$(cat said)"
@@ -66,6 +66,7 @@ printf 'task r read tag v1\nlist /\nchunk /y 0\nchunk /x 0\ntask l refs\nlog tag
 call play --dir d >/dev/null
 same 'it is read' 'r 2 list array /x|r 2 list array /y|r 3 chunk 0102|r 4 fill|r done|' "$(sed -n '1,5p' printed | tr '\n' '|')"
 same 'the log has three lines' 'chunks|first|Repository initialized|' "$(sed -n 's/^l 6 log [0-9A-Z]* [0-9]* //p' printed | tr '\n' '|')"
+same 'and a property' 'l 6 prop author ann lee|' "$(sed -n '/ prop /p' printed | tr '\n' '|')"
 
 # What is no directory. Nothing is read of the script then, nor made.
 printf 'no script\n' >given

@@ -14,20 +14,22 @@ runs it is looked at in the events that it prints:
 - a task that tells `committed ID` has such a put, done, with a reference to ID; one that tells anything else but a doubt has none;
 - a task in doubt has one that failed; and where no reset, drop, or cut came between, what it tells is what became of it;
 - each ref that is told stands as the last done operation on its key left it;
-- the status is 6 where a fault is told, and 0 or 1 where no planned call was reached.
+- the status is 6 where a fault is told, and 0 or 1 where no planned call was reached;
+- the journal is legal and polite, and puts nothing again (`journals.py`).
 
 It prints the scripts that went wrong, the time that a case took in the middle and at most, and ends with 1 if any went wrong.
 """
 import os
 import random
-import re
 import subprocess
 import sys
 import time
 
+import journals
+
 TOP = os.path.dirname(os.path.dirname(os.path.realpath(__file__)))
 PROGRAM = os.environ.get("ICE_FAULTS") or os.path.join(TOP, "crates", "ice_faults", "out", "ice_faults")
-EVENT = re.compile(r"event (\d+): client (\d+) (put|get|remove|list) (\S+?)( at version (\d+))?(, bytes (\d+))?(, for (\w+))? => (.*), time (\d+)$")
+ENDS = ("committed", "indoubt", "refused", "done", "collected")
 
 
 def session(draw, name, branch):
@@ -78,6 +80,16 @@ def script(draw):
     return lines + ["turns " + " ".join(words)]
 
 
+def names_of(lines):
+    """The names of the tasks of a script, in their order."""
+    return [line.split()[1] for line in lines if line.startswith("task ")]
+
+
+def status_of(printed):
+    """The status that a run ended with."""
+    return int(printed[-1].split()[2])
+
+
 def cases(heads, scripts):
     """Plays the scripts under these heads; what is printed of each."""
     text = "".join(f"{head}\n" + "".join(line + "\n" for line in lines) for head, lines in zip(heads, scripts))
@@ -92,88 +104,96 @@ def cases(heads, scripts):
     return printed
 
 
-def events_of(lines):
-    """The events that a run printed."""
-    found = []
-    for line in lines:
-        if line.startswith("event "):
-            parts = EVENT.match(line)
-            assert parts, line
-            number, client, kind, key, _, old, _, _, _, why, answer, _ = parts.groups()
-            found.append((int(number), int(client), kind, key, old, why, answer))
-    return found
-
-
-def took_effect(answer):
-    """Whether the answer says that the operation was asked for and may have been done."""
-    return answer.startswith("done") or answer.startswith("failed, but done")
-
-
 def effects(events):
-    """What each done operation on a ref left there: of each position the key, and whether it stands; failed ones are looked through."""
-    stands, left = {}, []
-    for number, client, kind, key, old, why, answer in events:
-        if key.startswith("refs/") and took_effect(answer) and kind in ("put", "remove"):
-            version = stands.get(key)
-            if kind == "put" and old is None and version is None:
-                stands[key] = number
-                left.append(number)
-            elif kind == "put" and old is not None and version == int(old):
-                stands[key] = number
-                left.append(number)
-            elif kind == "remove" and version is not None and (old is None or version == int(old)):
-                del stands[key]
-                left.append(number)
-    return set(left), stands
+    """The numbers of the events that changed where a ref stands, and the refs that stand, each with its version."""
+    stands, left = {}, set()
+    for event in events:
+        if event.key.startswith("refs/") and journals.apply(event, stands):
+            left.add(event.number)
+    return left, {key: version for key, (version, _) in stands.items()}
 
 
-def judge(names, planned, printed):
-    """What is wrong with a run, in words."""
+def ending_of(name, report):
+    """The words of the last line that tells how a task ended, if there is one."""
+    ends = [line.split() for line in report if line.split()[0] == name and line.split()[1] in ENDS]
+    return ends[-1] if ends else None
+
+
+def is_untouched(version, last, tried, events, done):
+    """Whether from the version on that a commit asked for up to the event `last` no other call changed what its doubt rests on."""
+    for event in events:
+        if version < event.number <= last:
+            moved = event.number in done and event.key == tried.key and event.why in ("reset", "drop", "expire", "create")
+            if moved or (event.kind == "put" and event.why == "expire"):
+                return False
+    return True
+
+
+def judge_doubt(name, end, mine, tried, events, done):
+    """What is wrong with a doubt that a task tells."""
+    if not tried or not tried[0].has_failed():
+        return [f"{name} is in doubt without a failed commit"]
+    took = tried[0].number in done
+    clean = is_untouched(tried[0].old, mine[-1].number, tried[0], events, done)
+    if clean and end[3] in ("committed", "notcommitted", "notancestor") and (end[3] == "committed") != took:
+        return [f"{name} tells {' '.join(end)}, and its commit {'took' if took else 'took no'} effect"]
+    return []
+
+
+def judge_task(name, client, report, events, done):
+    """What is wrong with what a task did and tells."""
     wrong = []
-    report = [line for line in printed if not line.startswith(("==", "event "))]
-    events = events_of(printed)
-    status = int(printed[-1].split()[2])
-    done, stands = effects(events)
-    for place, name in enumerate(names):
-        mine = [e for e in events if e[1] == place + 1]
-        tried = [e for e in mine if e[2] == "put" and e[5] == "commit" and not e[6].startswith("found")]
-        if len(tried) > 1:
-            wrong.append(f"{name} commits twice")
-        for e in tried:
-            if any(f[0] > e[0] and f[2] != "get" for f in mine):
-                wrong.append(f"{name} does more than gets behind its commit")
-        ends = [line.split() for line in report if line.split()[0] == name and line.split()[1] in ("committed", "indoubt", "refused", "done", "collected")]
-        if not ends:
-            continue
-        end = ends[-1]
-        took = [e for e in tried if e[0] in done]
-        if (end[1] == "committed") != (bool(took) and not tried[0][6].startswith("failed")):
-            wrong.append(f"{name} ends as {' '.join(end)} with {took}")
-        if end[1] == "indoubt":
-            if not tried or not tried[0][6].startswith("failed"):
-                wrong.append(f"{name} is in doubt without a failed commit")
-                continue
-            key, version = tried[0][3], int(tried[0][4])
-            last = mine[-1][0]
-            clean = not any(version < e[0] <= last and e[0] in done and (e[3] == key and e[5] in ("reset", "drop", "expire", "create")) for e in events)
-            clean = clean and not any(version < e[0] <= last and e[2] == "put" and e[5] == "expire" for e in events)
-            if clean and end[3] in ("committed", "notcommitted", "notancestor") and (end[3] == "committed") != bool(took):
-                wrong.append(f"{name} tells {' '.join(end)}, and its commit {'took' if took else 'took no'} effect")
-        elif tried and tried[0][6].startswith("failed"):
-            wrong.append(f"{name} isn't in doubt: {' '.join(end)}")
-    told = any(" storefault" in line or " indoubt " in line for line in report)
-    if (status == 6) != told:
-        wrong.append(f"status {status} where a fault is {'told' if told else 'not told'}")
-    reached = any(e[6].startswith("failed") for e in events)
-    if not reached and status not in (0, 1):
-        wrong.append(f"status {status} without a failed call")
-    refs_failed = any(line.startswith(("refs refused", "init refused")) for line in report)
-    if not refs_failed:
-        branches = {f"refs/branch.{line.split()[1]}/ref.json" for line in report if line.startswith("branch ")}
-        wanted = {key for key in stands if key.startswith("refs/branch.")}
-        if branches != wanted:
-            wrong.append(f"branches {sorted(branches)} told, {sorted(wanted)} stand")
+    mine = [event for event in events if event.client == client]
+    tried = [event for event in mine if event.kind == "put" and event.why == "commit" and not event.answer.startswith("found")]
+    if len(tried) > 1:
+        wrong.append(f"{name} commits twice")
+    if any(event.number > first.number and event.kind != "get" for first in tried for event in mine):
+        wrong.append(f"{name} does more than gets behind its commit")
+    end = ending_of(name, report)
+    if end is None:
+        return wrong
+    took = [event.number for event in tried if event.number in done]
+    if (end[1] == "committed") != (bool(took) and not tried[0].has_failed()):
+        wrong.append(f"{name} ends as {' '.join(end)} with {took}")
+    if end[1] == "indoubt":
+        wrong += judge_doubt(name, end, mine, tried, events, done)
+    elif tried and tried[0].has_failed():
+        wrong.append(f"{name} isn't in doubt: {' '.join(end)}")
     return wrong
+
+
+def judge_status(status, report, events):
+    """What is wrong with the status: want of memory comes before a fault, and a fault before a refusal."""
+    wrong = []
+    starved = any(" nomemory" in line for line in report)
+    told = any(" storefault" in line or " indoubt " in line for line in report)
+    if (status == 6) != (told and not starved):
+        wrong.append(f"status {status} where a fault is {'told' if told else 'not told'}")
+    if starved and status != 7:
+        wrong.append(f"status {status} where want of memory is told")
+    if not any(event.has_failed() for event in events) and status not in (0, 1, 7):
+        wrong.append(f"status {status} without a failed call")
+    return wrong
+
+
+def judge_refs(report, stands):
+    """What is wrong with the branches that are told."""
+    if not report or any(line.startswith(("refs refused", "init refused")) for line in report):
+        return []
+    branches = {f"refs/branch.{line.split()[1]}/ref.json" for line in report if line.startswith("branch ")}
+    wanted = {key for key in stands if key.startswith("refs/branch.")}
+    return [f"branches {sorted(branches)} told, {sorted(wanted)} stand"] if branches != wanted else []
+
+
+def judge(names, printed):
+    """What is wrong with a run, in words."""
+    report = [line for line in printed if not line.startswith(("==", "event "))]
+    events = journals.events_of(printed)
+    done, stands = effects(events)
+    wrong = journals.faults_of(events)
+    for place, name in enumerate(names):
+        wrong += judge_task(name, place + 1, report, events, done)
+    return wrong + judge_status(status_of(printed), report, events) + judge_refs(report, stands)
 
 
 def main():
@@ -193,10 +213,10 @@ def main():
     spent = time.monotonic() - started
     bad, doubts, failed = 0, 0, 0
     for head, lines, printed in zip(heads, scripts, played):
-        names = [line.split()[1] for line in lines if line.startswith("task ")]
-        wrong = judge(names, head, printed)
+        names = names_of(lines)
+        wrong = judge(names, printed)
         doubts += sum(" indoubt " in line for line in printed)
-        failed += printed[-1].split()[2] == "6"
+        failed += status_of(printed) == 6
         if wrong:
             bad += 1
             if bad <= 5:

@@ -74,6 +74,7 @@ entries-spelled s ids entries w sized = record {
   frozen = w.frozen;
   free = w.free;
   chunks = sized;
+  props = w.props;
   few = w.few;
 }
 

@@ -251,6 +251,7 @@ spelled-by s h ids w f sized few = record {
   frozen = f.frozen;
   free = f.over.free;
   chunks = sized;
+  props = w.props;
   few = few;
 }
 

@@ -17,6 +17,7 @@ use Rattle.commit_path.specs.Opened.{OpeningTells}
 use Rattle.commit_path.specs.Spelled.{IsSpelled}
 use Rattle.commit_path.specs.Laws.{OpeningLaw, SessionLaw, CommitLaw, AnswersLaw}
 use Rattle.commit_path.proofs.Spelling.{Spellings}
+use Rattle.commit_path.proofs.Adding.{prop-added, prop-spelled, prop-opened}
 use Rattle.commit_path.proofs.Editing.{node-added, added-spelled, added-opened, text-set, set-spelled, set-opened, node-dropped, dropped-spelled, dropped-opened}
 use Rattle.commit_path.proofs.Setting.{chunk-set, chunk-spelled, chunk-opened, chunk-unset, without-spelled, without-opened}
 use Rattle.session.specs.Sources.{MayDrawObject}
@@ -58,6 +59,9 @@ session-law = record {
   unsets = λ s t path index journal e w o.
       let a = chunk-unset s t path index e in
       (without-spelled s t path index a w, without-opened s t path index journal a o);
+  props = λ s t name value journal n v e w o.
+      let a = prop-added s t name value e in
+      (prop-spelled s t name value a n v w, prop-opened s t name value journal a o);
   kept = IsOpened-append;
 }
 

@@ -26,6 +26,7 @@ pub mod Staying
 pub mod Singling
 pub mod Entries
 pub mod Editing
+pub mod Adding
 pub mod Setting
 pub mod OwnPuts
 pub mod OwnKept

@@ -21,6 +21,7 @@ use Rattle.manifest_file.specs.declared.manifest.Place.{Place}
 use Rattle.snapshot_file.specs.declared.nodes.NodeRow.{NodeRow}
 use Rattle.snapshot_file.specs.declared.snapshot.SnapshotFile.{SnapshotFile}
 use Rattle.snapshot_file.specs.Snapshots.{node_limit}
+use Rattle.snapshot_file.proofs.PropsRead.{none_are}
 use Rattle.repo_objects.specs.declared.bad.Bad.{Bad}
 use Rattle.repo_objects.specs.Readings.{read_snapshot, read_ref, ref_of}
 use Rattle.repo_objects.specs.Trees.{node_of, nodes_in}
@@ -231,6 +232,7 @@ module _ (L : Spellings) (by : Caller) (a : Asked) where
           frozen = λ id text e. cc;
           free = λ p m n f. let none = get-empty {X = Node} path_cmp p in absurd cc;
           chunks = λ node i entry k. cc;
+          props = none_are;
           few = begun-few snap.nodes proper.writable.few;
         };
       }

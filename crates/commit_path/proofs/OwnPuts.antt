@@ -72,6 +72,7 @@ use Rattle.commit_path.specs.Owed.{Sessions}
 use Rattle.reach.specs.Own.{PutsItself, PutItself}
 use Rattle.commit_path.specs.Own.{OwnsChunks, DrawsOnceOf, id_of, WasDrawn, PutsDrawn, HasPutDrawn, PutsElsewhere, HasNotPut, OwesOwn, Owns, OwnsNext, OwningLaw}
 use Rattle.commit_path.proofs.Answering.{commit-walks}
+use Rattle.commit_path.proofs.Adding.{prop-added, prop-owned}
 use Rattle.commit_path.proofs.Editing.{node-is, text-set, node-dropped, text-fewer, drop-fewer}
 use Rattle.commit_path.proofs.Entries.{AreFewer, without-fewer, entered}
 use Rattle.commit_path.proofs.Gets.{gets-keep_each, gets-hold}
@@ -499,6 +500,7 @@ owning-law L = record {
   drops = λ ids client s t path start journal e o. owns-dropped ids client start journal s t path e o;
   sets = λ ids client s t path index bytes start journal e o. owns-inline ids client start journal s t path index bytes e o;
   unsets = λ ids client s t path index start journal e o. owns-without ids client start journal s t path index e o;
+  props = λ ids client s t name value start journal e o. prop-owned ids client s t name value start journal (prop-added s t name value e) o;
   kept = Owns-others;
   commits = λ by ids s message start journal later m w o c owns.
       let mine : Sessions = λ h t id. Unit {0} in

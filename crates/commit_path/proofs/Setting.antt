@@ -46,6 +46,7 @@ entries-spelled s es w sized = record {
   frozen = w.frozen;
   free = w.free;
   chunks = sized;
+  props = w.props;
   few = w.few;
 }
 

@@ -25,7 +25,6 @@ use Rattle.manifest_file.specs.declared.manifest.Place.{Place}
 use Rattle.snapshot_file.specs.declared.nodes.NodeRow.{NodeRow}
 use Rattle.snapshot_file.specs.declared.snapshot.ManifestInfo.{ManifestInfo}
 use Rattle.snapshot_file.specs.Layout.{snapshot_bytes, IsNode}
-use Rattle.snapshot_file.proofs.PropsRead.{none_are}
 use Rattle.txn_file.specs.Layout.{log_file, IsLog, IsArray, IsOrdered}
 use Rattle.txn_file.proofs.Orders.{both_orders}
 use Rattle.repo_objects.specs.Readings.{snapshot_by, log_by}
@@ -196,14 +195,14 @@ module _ (L : Spellings) where
 
   -- ---- the snapshot
   abbrev Over : SessionState → List NewList → List ℕ → Id12 → ℕ → List NodeRow → List ManifestInfo → Type 0
-  Over s news message id flushed rows files = IsProper (snapshot_over s.held news rows files (record { id = id; parent = s.base; flushed_at = flushed }) message [])
+  Over s news message id flushed rows files = IsProper (snapshot_over s.held news rows files (record { id = id; parent = s.base; flushed_at = flushed }) message s.props)
 
   module _ (s : SessionState) (message : List ℕ) (news : List NewList) (id : Id12) (flushed : ℕ) (w : IsSpelled s) (sized : written.AreSized news) (i : IsId12 id) (f : flushed < 2 ^ 64) (m : IsUtf8 message) where
     snap-proper : IsProper (snap_for s message news id flushed)
     snap-proper =
         let o = w.of_snapshot in
         let few : len (nodes_over s.held (nodes_in o.file.nodes)) ≤ most_nodes = subst (λ (rows : List NodeRow). len (nodes_over s.held (nodes_in rows)) ≤ most_nodes) (sym o.rows) w.few in
-        let proper : Over s news message id flushed o.file.nodes o.file.manifest_files = L.proper o.file s.held news (record { id = id; parent = s.base; flushed_at = flushed }) message [] o.proper w.added w.texts sized (record { id = i; parent = w.base; flushed_at = f }) m none_are few in
+        let proper : Over s news message id flushed o.file.nodes o.file.manifest_files = L.proper o.file s.held news (record { id = id; parent = s.base; flushed_at = flushed }) message s.props o.proper w.added w.texts sized (record { id = i; parent = w.base; flushed_at = f }) m w.props few in
         subst (Over s news message id flushed s.rows) o.files (subst (λ (rows : List NodeRow). Over s news message id flushed rows o.file.manifest_files) o.rows proper)
 
     pub snap-read : is_long (snapshot_bytes (snap_for s message news id flushed)) ≡ false → snapshot_by id (snapshot_bytes (snap_for s message news id flushed)) ≡ Some (snap_for s message news id flushed)

@@ -117,10 +117,10 @@ arrays_program rows entries (a ∷ more) w = array_program rows entries w a >>= 
 abbrev pub log_for : SessionState → Id12 → TxnFile
 log_for s id = record { id = id; lists = touched s.held (base_nodes s) }
 
--- the snapshot of a commit: the base is its parent, its rows are the base's under the session's changes and the new lists,
--- and it has no properties
+-- the snapshot of a commit: the base is its parent, its rows are the base's under the session's changes and the new lists, and
+-- it has the session's properties
 abbrev pub snap_for : SessionState → (message : List ℕ) → List NewList → Id12 → (flushed : ℕ) → SnapshotFile
-snap_for s message news id flushed = snapshot_over s.held news s.rows s.files (record { id = id; parent = s.base; flushed_at = flushed }) message []
+snap_for s message news id flushed = snapshot_over s.held news s.rows s.files (record { id = id; parent = s.base; flushed_at = flushed }) message s.props
 
 -- what was put over is the commit; or the branch had moved on, and these ids are the next to draw
 abbrev pub after_branch : SessionState → Id12 → (next : AnyIds) → Reply → Answer

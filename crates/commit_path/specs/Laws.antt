@@ -17,7 +17,7 @@ use Rattle.store_api.specs.Program.{Done, Keeps, Leads}
 use Rattle.store_api.specs.Plays.{Stays}
 use Rattle.session.specs.Sessions.{SessionState}
 use Rattle.session.specs.Opening.{Asked, open_program}
-use Rattle.session.specs.Editing.{added, meta_set, node_dropped}
+use Rattle.session.specs.Editing.{added, meta_set, node_dropped, prop_added}
 use Rattle.commit_path.specs.declared.commit.Tried.{Tried}
 use Rattle.commit_path.specs.Committing.{commit_program}
 use Rattle.commit_path.specs.Owed.{IsCareful}
@@ -38,8 +38,8 @@ abbrev pub TellsFaults : (Result View MetaFault → Option MetaFault) → Type 0
 TellsFaults fault = (bad : MetaFault) → fault (Err bad) ≡ Some bad
 
 -- What a session knows, and that it can be written, stays so when a node is added, whatever its kind, when a node has another
--- text, when nodes are dropped, when a chunk is set that stands in the session, and when one is unset; and what it knows, whatever
--- good events come.
+-- text, when nodes are dropped, when a chunk is set that stands in the session, when one is unset, and when a property is added; and what it
+-- knows, whatever good events come.
 pub record SessionLaw : Type 0 where
   pub adds : (fault : Result View MetaFault → Option MetaFault) (s t : SessionState) (path text : List ℕ) (id : Id8) (journal : List Event) → TellsFaults fault → is_path path ≡ true → is_utf8 path ≡ true → added fault s path text ≡ Ok (id, t)
       → IsSpelled s → IsOpened s journal → IsSpelled t × IsOpened t journal
@@ -47,6 +47,7 @@ pub record SessionLaw : Type 0 where
   pub drops : (s t : SessionState) (path : List ℕ) (journal : List Event) → node_dropped s path ≡ Ok t → IsSpelled s → IsOpened s journal → IsSpelled t × IsOpened t journal
   pub sets : (s t : SessionState) (path index bytes : List ℕ) (journal : List Event) → IsBytes bytes → set_program s path index bytes ≡ Done (Ok t) → IsSpelled s → IsOpened s journal → IsSpelled t × IsOpened t journal
   pub unsets : (s t : SessionState) (path index : List ℕ) (journal : List Event) → chunk_unset s path index ≡ Ok t → IsSpelled s → IsOpened s journal → IsSpelled t × IsOpened t journal
+  pub props : (s t : SessionState) (name value : List ℕ) (journal : List Event) → IsUtf8 name → IsUtf8 value → prop_added s name value ≡ Ok t → IsSpelled s → IsOpened s journal → IsSpelled t × IsOpened t journal
   pub kept : (s : SessionState) (journal more : List Event) → Each IsGood journal more → IsOpened s journal → IsOpened s (journal ++ more)
 
 -- Whatever others do, each operation of a commit of such a session is polite, and owed for this session and ids that it draws alone;

@@ -28,7 +28,7 @@ use Rattle.store_api.specs.Telling.{ChangedNothing}
 use Rattle.session.specs.Sessions.{SessionState}
 use Rattle.session.specs.Sources.{IsLater}
 use Rattle.session.specs.Chunks.{set_program, chunk_unset}
-use Rattle.session.specs.Editing.{added, meta_set, node_dropped}
+use Rattle.session.specs.Editing.{added, meta_set, node_dropped, prop_added}
 use Rattle.session.specs.Opening.{Asked, open_program}
 use Rattle.commit_path.specs.declared.commit.Tried.{Tried}
 use Rattle.commit_path.specs.declared.commit.Tried.TheVariants.{Done as Was_done, Lost}
@@ -124,8 +124,8 @@ OwnsNext ids client s start (Ok (Lost old found next)) journal = Owns ids client
 OwnsNext ids client s start (Ok (Was_done made)) journal = Unit {0}
 OwnsNext ids client s start (Err why) journal = Unit {0}
 
--- Whatever others do, a client that put no object owns what it opens; what it owns it owns when nodes are added, changed or dropped, and when
--- chunks are set in the session or unset; and each operation of a commit is owed so, which leaves what is owned.
+-- Whatever others do, a client that put no object owns what it opens; what it owns it owns when nodes are added, changed or dropped, when
+-- chunks are set in the session or unset, and when properties are added; and each operation of a commit is owed so, which leaves what is owned.
 pub record OwningLaw : Type 0 where
   pub opens : (by : Caller) (ids : AnyIds) (a : Asked) (start journal : List Event) → HasPutDrawn ids a.ids by.number start journal
       → Keeps (λ h client op. OwesOwn ids client start op h) by (open_program a) journal × Leads (λ answer h. IfOk answer (λ s. Owns ids by.number s start h)) by (open_program a) journal
@@ -134,6 +134,7 @@ pub record OwningLaw : Type 0 where
   pub drops : (ids : AnyIds) (client : ℕ) (s t : SessionState) (path : List ℕ) (start journal : List Event) → node_dropped s path ≡ Ok t → Owns ids client s start journal → Owns ids client t start journal
   pub sets : (ids : AnyIds) (client : ℕ) (s t : SessionState) (path index bytes : List ℕ) (start journal : List Event) → set_program s path index bytes ≡ Done (Ok t) → Owns ids client s start journal → Owns ids client t start journal
   pub unsets : (ids : AnyIds) (client : ℕ) (s t : SessionState) (path index : List ℕ) (start journal : List Event) → chunk_unset s path index ≡ Ok t → Owns ids client s start journal → Owns ids client t start journal
+  pub props : (ids : AnyIds) (client : ℕ) (s t : SessionState) (name value : List ℕ) (start journal : List Event) → prop_added s name value ≡ Ok t → Owns ids client s start journal → Owns ids client t start journal
   pub kept : (by : Caller) (ids : AnyIds) (s : SessionState) (start journal more : List Event) → Each (IsOther by) journal more → Owns ids by.number s start journal → Owns ids by.number s start (journal ++ more)
   pub commits : (by : Caller) (ids : AnyIds) (s : SessionState) (message : List ℕ) (start journal : List Event) → IsLater ids s.ids → IsUtf8 message → IsSpelled s → IsOpened s journal → ChangedNothing by.number start journal → Owns ids by.number s start journal
       → Keeps (λ h client op. OwesOwn ids client start op h) by (commit_program s message) journal × Leads (OwnsNext ids by.number s start) by (commit_program s message) journal

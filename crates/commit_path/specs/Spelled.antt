@@ -12,6 +12,7 @@ use Rattle.zarr_tree.specs.Held.{Entry, meta_in, entry_in}
 use Rattle.manifest_file.specs.declared.manifest.Place.{Place}
 use Rattle.manifest_file.specs.Layout.{IsPlace}
 use Rattle.snapshot_file.specs.declared.snapshot.SnapshotFile.{SnapshotFile}
+use Rattle.snapshot_file.specs.Props.{AreProps}
 use Rattle.repo_objects.specs.Laws.{IsProper}
 use Rattle.changed_snapshot.specs.Laws.{AddsFine, SetsFine}
 use Rattle.session.specs.Sessions.{SessionState, base_nodes, nodes_seen}
@@ -35,7 +36,7 @@ pub record IsOtherText (nodes : FinMap path_cmp Node) (id : Id8) (text : List �
 abbrev pub AreSized : List (Entry Place) → Type 0
 AreSized entries = (node : Id8) (i : List ℕ) (entry : Option Place) → entry_in entries node i ≡ Some entry → IsTrue (are_low i) × ((place : Place) → entry ≡ Some place → IsPlace place)
 
--- A session's base can be written, and so can its changes. Their other texts are of the base's nodes; they add at paths where the base has
+-- A session's base can be written, and so can its changes and its properties. Their other texts are of the base's nodes; they add at paths where the base has
 -- no node that isn't gone; and they leave no more nodes than a tree may have.
 pub record IsSpelled (s : SessionState) : Type 0 where
   pub base : IsId12 s.base
@@ -45,4 +46,5 @@ pub record IsSpelled (s : SessionState) : Type 0 where
   pub frozen : (id : Id8) (text : List ℕ) → meta_in s.held.metas id ≡ Some text → IsOtherText (base_nodes s) id text
   pub free : (p : List ℕ) (m n : Node) → get s.held.added p ≡ Some m → get (base_nodes s) p ≡ Some n → is_gone (lists s.held.dropped) (base_nodes s) p ≡ true
   pub chunks : AreSized s.held.chunks
+  pub props : AreProps s.props
   pub few : len (nodes_seen s) ≤ most_nodes

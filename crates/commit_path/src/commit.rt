@@ -27,7 +27,7 @@ use manifest_file::{ArrayRefs, REFS_LIMIT};
 use ref_file::ref_write;
 use repo_read::manifest_told;
 use session::Session;
-use snapshot_file::{ManifestRef, Props};
+use snapshot_file::ManifestRef;
 use std::alloc::{AllocError, Global};
 use std::mem;
 use store_api::{
@@ -100,9 +100,8 @@ fn write_log(alloc: Global, session: &Writer, id: Id12) -> Result<Bytes, Refusal
     }
 }
 
-/// The file of the snapshot, which has no properties.
+/// The file of the snapshot.
 fn write_snapshot(
-    alloc: Global,
     session: &Writer,
     id: Id12,
     flushed_at: u64,
@@ -112,12 +111,7 @@ fn write_snapshot(
     requires { Ascends (λ (l : TheList). l.path) None news.now }
     ensures { WritesFile Kind.Snapshot (snapshot_bytes (snap_for session.now message.now news.now id flushed_at)) result }
 {
-    let props = Props::new(alloc);
-    let written = session
-        .as_session()
-        .write(id, flushed_at, news, message, &props);
-    drop(props);
-    match written {
+    match session.as_session().write(id, flushed_at, news, message) {
         Ok(file) => Ok(file),
         Err(fault) => Err(unwritten(Kind::Snapshot, fault)),
     }
@@ -406,14 +400,7 @@ impl Commit {
                 return Err(Refusal::IdTaken(Key::Txn(id)));
             }
         };
-        match write_snapshot(
-            self.alloc,
-            &self.session,
-            id,
-            now,
-            self.arrays.news(),
-            &self.message,
-        ) {
+        match write_snapshot(&self.session, id, now, self.arrays.news(), &self.message) {
             Ok(file) => {
                 self.state = Committing::Snapshot { id, file };
                 Ok(Next::Again)

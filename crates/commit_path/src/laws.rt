@@ -29,7 +29,7 @@ pub fn opening_law()
 }
 
 /// What an opened session knows of its base, and that it can be written, stays so when nodes are added, changed
-/// or dropped, and when chunks are set in it or unset; and what it knows, whatever good events come.
+/// or dropped, when chunks are set in it or unset, and when properties are added; and what it knows, whatever good events come.
 pub fn session_law()
     ensures { SessionLaw }
 {}

@@ -1,11 +1,11 @@
 -- What is found is exactly what conflicts.
-use Rattle.std.proofs.Common.{◌≡◌, ◌≢◌, ◌∙◌, ℕ, Bool, true, false, cond, not, ◌&&◌, ◌||◌, List, [], ◌∷◌, ◌++◌, map, length, Option, Some, None, is_some, Contains, refl, sym, ap, subst, ◌⊎◌, inl, inr}
+use Rattle.std.proofs.Common.{◌≡◌, ◌∙◌, ℕ, Bool, true, false, cond, not, ◌||◌, List, [], ◌∷◌, length, Option, Some, None, is_some, Contains, refl, sym, ap, subst, ◌⊎◌, inl, inr}
 use Rattle.std.specs.Prelude.{◌↔◌, ◌==◌}
 use Rattle.std.specs.Ordering.{is_lt}
-use Rattle.std.specs.List.{list_any, filter, flat_map}
+use Rattle.std.specs.List.{filter, flat_map}
 use Rattle.std.specs.FinMap.{get, keys, entries}
 use Rattle.zarr_path.specs.Paths.{path_cmp, same_path, root, parent_of}
-use Rattle.zarr_path.proofs.OrderLaws.{same_path-true, same_path-refl, same_path-false}
+use Rattle.zarr_path.proofs.OrderLaws.{same_path-refl, same_path-false}
 use Rattle.manifest_file.specs.declared.manifest.Place.{Place}
 use Rattle.zarr_tree.specs.declared.cases.Case.{Case}
 use Rattle.zarr_tree.specs.declared.cases.Case.TheVariants as case
@@ -13,13 +13,14 @@ use Rattle.zarr_tree.specs.declared.cases.Conflict.{Conflict}
 use Rattle.zarr_tree.specs.declared.lists.Touched.{Touched}
 use Rattle.zarr_tree.specs.Nodes.{Node, is_group, is_array}
 use Rattle.zarr_tree.specs.Trees.{Tree, node_at}
-use Rattle.zarr_tree.specs.Changes.{Changes, is_gone, has_id, apply}
-use Rattle.zarr_tree.specs.Touched.{lists, lists_chunk, lists_updated}
+use Rattle.zarr_tree.specs.Changes.{Changes, has_id}
+use Rattle.zarr_tree.specs.Touched.{lists}
 use Rattle.zarr_tree.specs.Held.{Held, Rows, meta_in, entry_in, nodes_over, changes_of}
-use Rattle.zarr_tree.specs.Conflicts.{IsConflict, AtNode, TakesAway, HasChunkListed, HasNewBeneath, same_node}
+use Rattle.zarr_tree.specs.Conflicts.{IsConflict, AtNode, TakesAway, HasChunkListed, HasNewBeneath}
 use Rattle.zarr_tree.proofs.Apply.{both, first, second}
 use Rattle.zarr_changes.specs.Sets.{has_chunks}
-use Rattle.conflicts.specs.Found.{Sides, is_taken, is_orphan, if_so, of_added, chunks_listed, has_new_beneath, takes_away, holds, twice, of_case, node_cases, of_row, rows_before, rows_from, found_in, found}
+use Rattle.held_log.specs.LookUp.{chunks_listed}
+use Rattle.conflicts.specs.Found.{Sides, is_taken, if_so, of_added, has_new_beneath, takes_away, holds, twice, of_case, node_cases, of_row, rows_before, rows_from, found_in, found}
 use Rattle.conflicts.specs.Laws.{sides, ExactLaw}
 use Rattle.conflicts.proofs.Members.{In, in-contains, contains-in, in-append, in-left, in-right, in-filter, filter-in, in-map, map-in, in-flat, flat-in}
 use Rattle.conflicts.proofs.Facts.{turned, turned-back, either, or-left, or-right, none-of, of-none, row-in, in-row, key-in, in-key, entry-is, entry-has, has-entry, listed-in, in-listed, has-listed, listed-has, has-beneath, beneath-has}

@@ -1,10 +1,10 @@
 -- What the tests of the detector say.
-use Rattle.std.proofs.Common.{◌≡◌, ◌≢◌, ◌∙◌, ℕ, zero, suc, Bool, true, false, cond, not, ◌&&◌, ◌||◌, T, List, [], ◌∷◌, ◌++◌, map, length, Option, Some, None, is_some, option_map, refl, sym, ap, subst, ◌⊎◌, inl, inr, arith}
+use Rattle.std.proofs.Common.{◌≡◌, ◌∙◌, ℕ, Bool, true, false, cond, not, ◌&&◌, ◌||◌, T, List, [], ◌∷◌, map, length, Option, Some, None, is_some, option_map, refl, sym, ap, subst, ◌⊎◌, inl, inr, arith}
 use Rattle.std.specs.Prelude.{find, ◌==◌}
 use Rattle.std.specs.declared.cmp.Ordering.{Ordering}
 use Rattle.std.specs.declared.cmp.Ordering.TheVariants.{Less, Equal, Greater}
 use Rattle.std.specs.Ordering.{is_eq, is_lt}
-use Rattle.std.specs.List.{list_any, list_all, filter, flat_map, AllByRecursion}
+use Rattle.std.specs.List.{list_any, list_all, AllByRecursion}
 use Rattle.std.specs.List.Sorted.{IsStrictlySortedBy}
 use Rattle.std.specs.FinMap as map
 use Rattle.std.specs.FinMap.{FinMap, is_sorted, get, keys, entries, entries_sorted, get-entries, contains_key-keys}
@@ -18,14 +18,15 @@ use Rattle.manifest_file.specs.declared.manifest.Place.{Place}
 use Rattle.zarr_tree.specs.declared.lists.ArrayChunks.{ArrayChunks}
 use Rattle.zarr_tree.specs.declared.lists.Touched.{Touched}
 use Rattle.zarr_tree.specs.Nodes.{Node, same_numbers}
-use Rattle.zarr_tree.specs.Trees.{Tree, node_at}
+use Rattle.zarr_tree.specs.Trees.{Tree}
 use Rattle.zarr_tree.specs.Touched.{lists_index, lists_chunk, lists_new}
 use Rattle.zarr_tree.specs.Held.{Held, Entry, Rows, entry_in, changes_of}
 use Rattle.zarr_tree.specs.Conflicts.{HasEntry, HasChunkListed, HasNewBeneath}
-use Rattle.zarr_tree.proofs.Apply.{both, first, second, id-true, id-refl}
+use Rattle.zarr_tree.proofs.Apply.{both, first, second}
 use Rattle.zarr_changes.specs.Sets.{has_chunks}
-use Rattle.conflicts.specs.Found.{chunks_listed, new_rows}
-use Rattle.conflicts.proofs.Members.{In, InTurn, turn-filter, turn-map, in-append, in-left, in-right, any-in, in-any, in-filter, filter-in, in-map, map-in, in-flat, flat-in}
+use Rattle.held_log.specs.LookUp.{chunks_listed}
+use Rattle.conflicts.specs.Found.{new_rows}
+use Rattle.conflicts.proofs.Members.{In, InTurn, turn-filter, turn-map, any-in, in-any, in-filter, filter-in, in-flat, flat-in}
 
 -- ---- tests
 pub turned : (b : Bool) → not b ≡ true → b ≡ false
@@ -165,7 +166,7 @@ news-sorted s m =
 
 -- ---- entries
 module _ {P : Type 0} where
-  entry-found : (rows : List (Entry P)) (id : Id8) (i : List ℕ) → is_some (entry_in rows id i) ≡ true → has_chunks rows id ≡ true
+  pub entry-found : (rows : List (Entry P)) (id : Id8) (i : List ℕ) → is_some (entry_in rows id i) ≡ true → has_chunks rows id ≡ true
   entry-found [] id i h = cc
   entry-found (r ∷ rs) id i h = by_id (entry-found rs id i) (same_id8 r.0 id) (same_numbers r.1 i) h
     where

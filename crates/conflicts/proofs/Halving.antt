@@ -1,12 +1,12 @@
 -- Searches by halves among keys that rise.
-use Rattle.std.proofs.Common.{◌≡◌, ◌∙◌, ℕ, zero, suc, ◌<◌, ◌≤◌, ◌+◌, Bool, true, false, cond, not, ◌&&◌, ◌||◌, List, [], ◌∷◌, ◌++◌, append-nil, map, length, get_or, Result, Ok, Err, Bor, refl, sym, ap, subst, ◌⊎◌, inl, inr, arith, add-one, Contains, length-append}
+use Rattle.std.proofs.Common.{◌≡◌, ◌∙◌, ℕ, zero, suc, ◌<◌, ◌≤◌, ◌+◌, Bool, true, false, cond, not, ◌&&◌, ◌||◌, List, [], ◌∷◌, ◌++◌, map, length, get_or, Result, Ok, Err, refl, sym, ap, subst, ◌⊎◌, inl, inr, arith, length-append}
 use Rattle.std.specs.Prelude.{is_ok, nat_eq}
 use Rattle.std.specs.declared.cmp.Ordering.{Ordering}
 use Rattle.std.specs.declared.cmp.Ordering.TheVariants.{Less, Equal, Greater}
-use Rattle.std.specs.Ordering.{is_lt, is_eq, ordering_index, ordering_reverse, ordering_then, nat_cmp}
+use Rattle.std.specs.Ordering.{is_lt, ordering_index, ordering_reverse, ordering_then, nat_cmp}
 use Rattle.std.specs.Cmp.{IsTotalOrder, tied_itself, both_ways}
 use Rattle.std.specs.FinMap.{IsAntisymmetric, nat_cmp-IsAntisymmetric}
-use Rattle.std.specs.List.{list_any, flat_map, starts_with}
+use Rattle.std.specs.List.{list_any, starts_with}
 use Rattle.std.specs.List.Sorted.{IsSearchInRange, IsBinarySearchResult, IsNonDecreasingBy, IsStrictlySortedBy}
 use Rattle.std.proofs.lemmas.Bool.{cases_lt}
 use Rattle.std.proofs.lemmas.Cmp.{nat_cmp_total}
@@ -14,17 +14,10 @@ use Rattle.std.proofs.lemmas.List.{length-map}
 use Rattle.std.proofs.lemmas.List.Sorted.{searchable_from_sorted}
 use Rattle.std.proofs.lemmas.Map.Keys.{Less-from_sorted}
 use Rattle.std.proofs.lemmas.Slice.Eq.{starts_is}
-use Rattle.ice_ids.specs.declared.Id8.{Id8}
-use Rattle.ice_ids.specs.Text.{same_id8, id8_cmp}
 use Rattle.zarr_path.specs.Paths.{path_cmp, same_path, root, folder, is_within, is_beneath}
 use Rattle.zarr_path.proofs.OrderLaws.{total, exact, same_path-refl, same_path-true}
 use Rattle.zarr_path.proofs.PathLaws.{by_numbers}
-use Rattle.zarr_tree.specs.declared.lists.ArrayChunks.{ArrayChunks}
-use Rattle.zarr_tree.specs.Touched.{lists, IdsAscend}
-use Rattle.zarr_tree.proofs.Apply.{id-true, id-refl}
-use Rattle.zarr_changes.proofs.IdLaws.{id_total, id_exact}
-use Rattle.conflicts.specs.Found.{chunks_listed}
-use Rattle.conflicts.proofs.Members.{In, contains-in, in-contains, any-in, in-any}
+use Rattle.conflicts.proofs.Members.{In, any-in, in-any}
 
 module _ {A K : Type 0} {R : K → K → Ordering} (o : IsTotalOrder R) (one : IsAntisymmetric R) (key : A → K) where
   get-map : (xs : List A) (i : ℕ) (d : A) → get_or (map key xs) i (key d) ≡ key (get_or xs i d)
@@ -62,25 +55,6 @@ get-in [] k d lt = absurd (omega arith)
 get-in (x ∷ xs) zero d lt = inl refl
 get-in (x ∷ xs) (suc k) d lt = inr (get-in xs k d (omega arith))
 
--- ---- ids
-ids-same : (ids : List Id8) → map (λ (id : Id8). id) ids ≡ ids
-ids-same [] = refl
-ids-same (x ∷ xs) = ap (λ (ys : List Id8). x ∷ ys) (ids-same xs)
-
-pub searched-ids : (ids : List Id8) (id : Id8) (r : Result ℕ ℕ) → IdsAscend ids → IsSearchInRange r (length ids) → IsBinarySearchResult (λ x. id8_cmp x id) ids r → is_ok r ≡ lists ids id
-searched-ids ids id (Ok at) s bound found =
-    let here : get_or ids at id ≡ id = id_exact (get_or ids at id) id (found id) in
-    sym (in-any (λ other. same_id8 other id) ids (get_or ids at id) (get-in ids at id bound) (ap (λ (x : Id8). same_id8 x id) here ∙ id-refl id))
-searched-ids ids id (Err at) s bound found = none (lists ids id) refl
-  where
-    none : (b : Bool) → lists ids id ≡ b → false ≡ b
-    none false e = refl
-    none true e =
-        let m = any-in (λ other. same_id8 other id) ids e in
-        let k = in-get ids m.0 m.1 in
-        let tied : id8_cmp (get_or ids k.0 id) id ≡ Equal = ap (λ (x : Id8). id8_cmp x id) (k.2 id ∙ id-true m.0 id m.2) ∙ tied_itself id_total id in
-        absurd (apart id_total id_exact (λ (x : Id8). x) ids id at (subst IdsAscend (sym (ids-same ids)) s) found k.0 id k.1 tied)
-
 -- ---- paths
 paths-same : (paths : List (List ℕ)) → map (λ (p : List ℕ). p) paths ≡ paths
 paths-same [] = refl
@@ -100,48 +74,6 @@ searched-paths paths p (Err at) s bound found = none (list_any (same_path p) pat
         let k = in-get paths m.0 m.1 in
         let tied : path_cmp (get_or paths k.0 p) p ≡ Equal = ap (λ (x : List ℕ). path_cmp x p) (k.2 p ∙ sym (same_path-true p m.0 m.2)) ∙ tied_itself total p in
         absurd (apart total exact (λ (x : List ℕ). x) paths p at (subst (IsStrictlySortedBy path_cmp) (sym (paths-same paths)) s) found k.0 p k.1 tied)
-
--- ---- chunks of an array
-abbrev node : ArrayChunks → Id8
-node array = array.node
-
-abbrev Ordered : List ArrayChunks → Type 0
-Ordered arrays = IdsAscend (map (λ (array : ArrayChunks). array.node) arrays)
-
-none-listed : (arrays : List ArrayChunks) (id : Id8) → ((k : ℕ) (d : ArrayChunks) → k < length arrays → id8_cmp (get_or arrays k d).node id ≡ Equal → ⊥) → chunks_listed arrays id ≡ []
-none-listed [] id h = refl
-none-listed (a ∷ rest) id h = by_id (none-listed rest id (λ k d lt is. h (suc k) d (omega arith) is)) (same_id8 a.node id) refl
-  where
-    by_id : chunks_listed rest id ≡ [] → (b : Bool) → same_id8 a.node id ≡ b → cond b a.chunks [] ++ chunks_listed rest id ≡ []
-    by_id none false e = none
-    by_id none true e = absurd (h 0 a (omega arith) (ap (λ (x : Id8). id8_cmp x id) (id-true a.node id e) ∙ tied_itself id_total id))
-
-further : (a : ArrayChunks) (rest : List ArrayChunks) → Ordered (a ∷ rest) → Ordered rest
-unfolding IsStrictlySortedBy
-further a rest h = h.1
-
-pub listed-at : (arrays : List ArrayChunks) (id : Id8) (at : ℕ) (d : ArrayChunks) → Ordered arrays → at < length arrays → id8_cmp (get_or arrays at d).node id ≡ Equal → chunks_listed arrays id ≡ (get_or arrays at d).chunks
-listed-at [] id at d s lt is = absurd (omega arith)
-listed-at (a ∷ rest) id zero d s lt is =
-    let same : a.node ≡ id = id_exact a.node id is in
-    ap (λ b. cond b a.chunks [] ++ chunks_listed rest id) (ap (λ (x : Id8). same_id8 x id) same ∙ id-refl id)
-    ∙ ap (λ (xs : List (List ℕ)). a.chunks ++ xs) (none-listed rest id (λ k e within tied.
-    let below : id8_cmp a.node (get_or rest k e).node ≡ Less = lower id_total id_exact node (a ∷ rest) 0 (suc k) e s (omega arith) (omega arith) in
-    let equal : id8_cmp a.node (get_or rest k e).node ≡ Equal = (λ i. id8_cmp (same i) (id_exact (get_or rest k e).node id tied i)) ∙ tied_itself id_total id in
-    cc))
-    ∙ append-nil a.chunks
-listed-at (a ∷ rest) id (suc at) d s lt is =
-    let below : id8_cmp a.node (get_or rest at d).node ≡ Less = lower id_total id_exact node (a ∷ rest) 0 (suc at) d s (omega arith) lt in
-    by_id below (listed-at rest id at d (further a rest s) (omega arith) is) (same_id8 a.node id) refl
-  where
-    by_id : id8_cmp a.node (get_or rest at d).node ≡ Less → chunks_listed rest id ≡ (get_or rest at d).chunks → (b : Bool) → same_id8 a.node id ≡ b → cond b a.chunks [] ++ chunks_listed rest id ≡ (get_or rest at d).chunks
-    by_id below more true e =
-        let equal : id8_cmp a.node (get_or rest at d).node ≡ Equal = (λ i. id8_cmp (id-true a.node id e i) (id_exact (get_or rest at d).node id is i)) ∙ tied_itself id_total id in
-        cc
-    by_id below more false e = more
-
-pub listed-none : (arrays : List ArrayChunks) (id : Id8) (at : ℕ) → Ordered arrays → IsBinarySearchResult (λ (a : ArrayChunks). id8_cmp a.node id) arrays (Err at) → chunks_listed arrays id ≡ []
-listed-none arrays id at s found = none-listed arrays id (apart id_total id_exact node arrays id at s found)
 
 -- ---- texts that begin with another
 abbrev begins : List ℕ → List ℕ → Bool

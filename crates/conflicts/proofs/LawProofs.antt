@@ -1,6 +1,5 @@
 -- The laws of commuting and of solved conflicts.
-use Rattle.std.proofs.Common.{◌≡◌, ◌∙◌, ℕ, Bool, true, false, cond, ◌&&◌, inl, inr, List, [], ◌∷◌, Option, Some, None, Contains, refl, sym, ap, subst}
-use Rattle.std.specs.List.{filter, flat_map}
+use Rattle.std.proofs.Common.{◌≡◌, ◌∙◌, ℕ, true, ◌&&◌, inl, inr, List, [], Option, Some, None, refl, sym, ap, subst}
 use Rattle.std.specs.FinMap.{get}
 use Rattle.ice_ids.specs.declared.Id8.{Id8}
 use Rattle.ice_ids.specs.Text.{same_id8}
@@ -11,21 +10,21 @@ use Rattle.zarr_tree.specs.declared.cases.Case.TheVariants as case
 use Rattle.zarr_tree.specs.declared.cases.Conflict.{Conflict}
 use Rattle.zarr_tree.specs.Nodes.{Node, same_numbers}
 use Rattle.zarr_tree.proofs.Apply.{both, first, second, id-true, id-refl}
-use Rattle.zarr_tree.specs.Trees.{Tree, IsWellFormed}
-use Rattle.zarr_tree.specs.Changes.{Changes, apply, IsNormal}
+use Rattle.zarr_tree.specs.Trees.{Tree}
+use Rattle.zarr_tree.specs.Changes.{apply, IsNormal}
 use Rattle.zarr_tree.specs.declared.lists.Touched.{Touched}
 use Rattle.zarr_tree.specs.Held.{Held, changes_of}
-use Rattle.zarr_tree.specs.Conflicts.{IsConflict, NoConflict, NoHardConflict, is_hard, without}
+use Rattle.zarr_tree.specs.Conflicts.{IsConflict, is_hard}
 use Rattle.zarr_tree.proofs.Commute.{commute-law}
 use Rattle.zarr_tree.proofs.Rebase.{rebase-law}
-use Rattle.zarr_changes.specs.Edits.{without_chunks, lists_key}
+use Rattle.zarr_changes.specs.Edits.{lists_key}
 use Rattle.zarr_changes.proofs.ChunkLaws.{taken-law}
 use Rattle.conflicts.specs.declared.solving.Pick.{Pick}
 use Rattle.conflicts.specs.declared.solving.Pick.TheVariants.{Fail, Ours, Theirs}
 use Rattle.conflicts.specs.declared.solving.Policy.{Policy}
 use Rattle.conflicts.specs.Found.{found}
-use Rattle.conflicts.specs.Laws.{sides, IsBeside, IsGivenUp, GivenLaw, CommutingLaw, SolvedLaw}
-use Rattle.conflicts.specs.Solving.{case_stays, left_of, given_by, given_up, key_at, keys_in}
+use Rattle.conflicts.specs.Laws.{sides, IsGivenUp, GivenLaw, CommutingLaw, SolvedLaw}
+use Rattle.conflicts.specs.Solving.{case_stays, given_by, given_up, key_at, keys_in}
 use Rattle.conflicts.proofs.Members.{In, in-contains, contains-in, any-in, in-any, filter-in, in-flat, flat-in}
 use Rattle.conflicts.proofs.Exactness.{made, exact-law}
 

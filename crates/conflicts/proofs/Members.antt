@@ -1,5 +1,5 @@
 -- Members of lists, and lists each of whose members stands in a relation to all behind it.
-use Rattle.std.proofs.Common.{◌≡◌, ◌∙◌, ℕ, zero, suc, ◌<◌, Bool, true, false, cond, ◌||◌, length, List, [], ◌∷◌, ◌++◌, map, Contains, refl, sym, ap, subst, ◌⊎◌, inl, inr, arith}
+use Rattle.std.proofs.Common.{◌≡◌, ◌∙◌, zero, suc, Bool, true, false, cond, ◌||◌, List, [], ◌∷◌, ◌++◌, map, Contains, refl, sym, ap, subst, ◌⊎◌, inl, inr, arith}
 use Rattle.std.specs.List.{list_any, filter, flat_map}
 
 abbrev pub In : {A : Type 0} → List A → A → Type 0

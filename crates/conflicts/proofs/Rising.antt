@@ -23,7 +23,8 @@ use Rattle.zarr_tree.proofs.Apply.{id-true, first, second}
 use Rattle.zarr_changes.proofs.IdLaws.{id_total}
 use Rattle.zarr_tree.specs.Cases.{number}
 use Rattle.conflicts.specs.Order.{Precedes, Ascend}
-use Rattle.conflicts.specs.Found.{Sides, is_taken, if_so, of_added, chunks_listed, holds, twice, of_case, node_cases, of_row, rows_before, rows_from, found_in, found}
+use Rattle.held_log.specs.LookUp.{chunks_listed}
+use Rattle.conflicts.specs.Found.{Sides, is_taken, if_so, of_added, holds, twice, of_case, node_cases, of_row, rows_before, rows_from, found_in, found}
 use Rattle.conflicts.specs.Laws.{AscendLaw}
 use Rattle.conflicts.proofs.Members.{In, contains-in, InTurn, in-append, in-flat, turn-append, turn-filter, turn-map, turn-flat}
 use Rattle.conflicts.proofs.Facts.{tested, less, Before, Rise, rows-turn, keys-turn}

@@ -1,5 +1,5 @@
 -- Steps of the walks that the code takes.
-use Rattle.std.proofs.Common.{◌≡◌, ◌∙◌, ℕ, zero, suc, ◌+◌, ◌<◌, ◌≤◌, Bool, true, false, cond, ◌||◌, List, [], ◌∷◌, ◌++◌, append_assoc, append-nil, map, drop, length, get_or, Option, Some, None, is_some, option_map, Bor, Result, Ok, Err, refl, sym, ap, add-one, arith}
+use Rattle.std.proofs.Common.{◌≡◌, ◌∙◌, ℕ, zero, suc, ◌+◌, ◌<◌, ◌≤◌, Bool, true, false, cond, ◌||◌, List, [], ◌∷◌, ◌++◌, append_assoc, append-nil, map, drop, length, get_or, Some, is_some, option_map, Bor, Result, Ok, Err, refl, sym, ap, add-one, arith}
 use Rattle.std.specs.Prelude.{find, slice_get, IfOk}
 use Rattle.std.specs.FinMap.{keys, entries}
 use Rattle.std.proofs.lemmas.List.{drop_all}
@@ -11,14 +11,16 @@ use Rattle.ice_ids.specs.Text.{same_id8}
 use Rattle.zarr_path.specs.Paths.{path_cmp}
 use Rattle.zarr_tree.specs.declared.cases.Case.TheVariants as case
 use Rattle.zarr_tree.specs.declared.cases.Conflict.{Conflict}
-use Rattle.zarr_tree.specs.Nodes.{Node}
+use Rattle.zarr_tree.specs.Nodes.{Node, is_array}
 use Rattle.zarr_tree.specs.Touched.{lists}
 use Rattle.zarr_tree.specs.Held.{Entry, Rows, meta_in, entry_in}
 use Rattle.zarr_changes.specs.Edits.{with_id}
 use Rattle.zarr_changes.specs.Sets.{has_chunks}
 use Rattle.zarr_changes.proofs.DropLaws.{lists-with}
-use Rattle.conflicts.specs.Found.{Sides, of_added, of_row, rows_before, rows_from, found_in, found}
+use Rattle.held_log.specs.LookUp.{chunks_listed}
+use Rattle.conflicts.specs.Found.{Sides, twice, of_added, of_row, rows_before, rows_from, found_in, found}
 use Rattle.conflicts.specs.inside.Looking.{twice_at}
+use Rattle.conflicts.proofs.Facts.{entry-found}
 use Rattle.conflicts.proofs.Exactness.{made}
 
 -- ---- sets of ids
@@ -49,12 +51,12 @@ chunk-keys [] id = refl
 chunk-keys (r ∷ rs) id = ap (λ b. same_id8 r.0 id || b) (chunk-keys rs id)
 
 -- ---- rows
-pub next-row : (rows : Rows) (at : ℕ) (row : List ℕ × Node) → slice_get rows at ≡ Some row → drop at rows ≡ row ∷ drop (at + 1) rows
-next-row rows at row e = by_suc rows at e ∙ ap (λ n. row ∷ drop n rows) (sym (add-one at))
+pub next-row : {A : Type 0} (rows : List A) (at : ℕ) (row : A) → slice_get rows at ≡ Some row → drop at rows ≡ row ∷ drop (at + 1) rows
+next-row {A} rows at row e = by_suc rows at e ∙ ap (λ n. row ∷ drop n rows) (sym (add-one at))
   where
-    by_suc : (rows : Rows) (at : ℕ) → slice_get rows at ≡ Some row → drop at rows ≡ row ∷ drop (suc at) rows
+    by_suc : (rows : List A) (at : ℕ) → slice_get rows at ≡ Some row → drop at rows ≡ row ∷ drop (suc at) rows
     by_suc [] at e = cc
-    by_suc (x ∷ xs) zero e = let same : x ≡ row = cc in ap (λ (y : List ℕ × Node). y ∷ xs) same
+    by_suc (x ∷ xs) zero e = let same : x ≡ row = cc in ap (λ (y : A). y ∷ xs) same
     by_suc (x ∷ xs) (suc at) e = by_suc xs at e
 
 pub no-row : (rows : Rows) (at : ℕ) → length rows ≤ at → drop at rows ≡ []
@@ -122,22 +124,39 @@ module _ (rows : Rows) (at : ℕ) (p : List ℕ) where
   from-none n r le past h = no-row rows n past ∙ ap (λ (es : Rows). rows_from p es) (sym (no-row rows at le)) ∙ h
 
 -- ---- chunks of one node
-pub twice-more : (s : Sides) (p : List ℕ) (id : Id8) (indices : List (List ℕ)) (i : ℕ) (d : List ℕ) (old new r : List Conflict) → i < length indices → new ≡ old ++ twice_at s p id (get_or indices i d)
-    → old ++ map (λ i. made case.ChunkDoubleUpdate p (Some i)) (filter (λ i. is_some (entry_in s.held.chunks id i)) (drop i indices)) ≡ r
-    → new ++ map (λ i. made case.ChunkDoubleUpdate p (Some i)) (filter (λ i. is_some (entry_in s.held.chunks id i)) (drop (i + 1) indices)) ≡ r
-twice-more s p id indices i d old new r lt is h =
-    ap (λ (x : List Conflict). x ++ left (i + 1)) is ∙ append_assoc old (twice_at s p id (get_or indices i d)) (left (i + 1))
-    ∙ ap (λ (x : List Conflict). old ++ x) (by_test (is_some (entry_in s.held.chunks id (get_or indices i d))))
-    ∙ ap (λ n. old ++ map (λ i. made case.ChunkDoubleUpdate p (Some i)) (filter (λ i. is_some (entry_in s.held.chunks id i)) (get_or indices i d ∷ drop n indices))) (add-one i)
-    ∙ ap (λ (xs : List (List ℕ)). old ++ map (λ i. made case.ChunkDoubleUpdate p (Some i)) (filter (λ i. is_some (entry_in s.held.chunks id i)) xs)) (sym (drop-cons indices i d lt)) ∙ h
+pub twice-next : (s : Sides) (p : List ℕ) (id : Id8) (indices : List (List ℕ)) (at : ℕ) (i : List ℕ) (old new r : List Conflict) → slice_get indices at ≡ Some i → new ≡ old ++ twice_at s p id i
+    → old ++ map (λ i. made case.ChunkDoubleUpdate p (Some i)) (filter (λ i. is_some (entry_in s.held.chunks id i)) (drop at indices)) ≡ r
+    → new ++ map (λ i. made case.ChunkDoubleUpdate p (Some i)) (filter (λ i. is_some (entry_in s.held.chunks id i)) (drop (at + 1) indices)) ≡ r
+twice-next s p id indices at i old new r e is h =
+    ap (λ (x : List Conflict). x ++ map (λ i. made case.ChunkDoubleUpdate p (Some i)) behind) is ∙ append_assoc old (twice_at s p id i) (map (λ i. made case.ChunkDoubleUpdate p (Some i)) behind)
+    ∙ ap (λ (x : List Conflict). old ++ x) (by_test (is_some (entry_in s.held.chunks id i)))
+    ∙ ap (λ (xs : List (List ℕ)). old ++ map (λ i. made case.ChunkDoubleUpdate p (Some i)) (filter (λ i. is_some (entry_in s.held.chunks id i)) xs)) (sym (next-row indices at i e)) ∙ h
   where
-    left : ℕ → List Conflict
-    left n = map (λ i. made case.ChunkDoubleUpdate p (Some i)) (filter (λ i. is_some (entry_in s.held.chunks id i)) (drop n indices))
+    behind : List (List ℕ)
+    behind = filter (λ i. is_some (entry_in s.held.chunks id i)) (drop (at + 1) indices)
 
-    by_test : (b : Bool) → cond b (made case.ChunkDoubleUpdate p (Some (get_or indices i d)) ∷ []) [] ++ map (λ i. made case.ChunkDoubleUpdate p (Some i)) (filter (λ i. is_some (entry_in s.held.chunks id i)) (drop (i + 1) indices))
-        ≡ map (λ i. made case.ChunkDoubleUpdate p (Some i)) (cond b (get_or indices i d ∷ filter (λ i. is_some (entry_in s.held.chunks id i)) (drop (i + 1) indices)) (filter (λ i. is_some (entry_in s.held.chunks id i)) (drop (i + 1) indices)))
+    by_test : (b : Bool) → cond b (made case.ChunkDoubleUpdate p (Some i) ∷ []) [] ++ map (λ i. made case.ChunkDoubleUpdate p (Some i)) behind ≡ map (λ i. made case.ChunkDoubleUpdate p (Some i)) (cond b (i ∷ behind) behind)
     by_test true = refl
     by_test false = refl
+
+-- where we have no entry of the node, none of its chunks was written by both
+pub none-twice : (s : Sides) (id : Id8) (indices : List (List ℕ)) → has_chunks s.held.chunks id ≡ false → filter (λ i. is_some (entry_in s.held.chunks id i)) indices ≡ []
+none-twice s id [] none = refl
+none-twice s id (i ∷ is) none = by_entry (none-twice s id is none) (is_some (entry_in s.held.chunks id i)) refl
+  where
+    left : List (List ℕ)
+    left = filter (λ i. is_some (entry_in s.held.chunks id i)) is
+
+    by_entry : left ≡ [] → (b : Bool) → is_some (entry_in s.held.chunks id i) ≡ b → cond b (i ∷ left) left ≡ []
+    by_entry rest true e = let has : has_chunks s.held.chunks id ≡ true = entry-found s.held.chunks id i e in absurd cc
+    by_entry rest false e = rest
+
+pub none-both : (s : Sides) (p : List ℕ) (n : Node) (old : List Conflict) → has_chunks s.held.chunks n.id ≡ false → old ≡ old ++ map (λ i. made case.ChunkDoubleUpdate p (Some i)) (twice s n)
+none-both s p n old none = sym (append-nil old) ∙ ap (λ (xs : List (List ℕ)). old ++ map (λ i. made case.ChunkDoubleUpdate p (Some i)) xs) (sym (by_kind (is_array n.text)))
+  where
+    by_kind : (b : Bool) → cond b (filter (λ i. is_some (entry_in s.held.chunks n.id i)) (chunks_listed s.theirs.updated_chunks n.id)) [] ≡ []
+    by_kind true = none-twice s n.id (chunks_listed s.theirs.updated_chunks n.id) none
+    by_kind false = refl
 
 -- ---- all
 -- one added path, and the rows that stand before it

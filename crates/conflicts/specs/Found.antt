@@ -1,17 +1,15 @@
 -- The conflicts of changes with a later commit, one behind another. (What conflicts is said by `zarr_tree`'s `IsConflict`;
 -- here it is put in order, which is own.)
-use Rattle.std.specs.Prelude.{ℕ, Bool, true, false, not, ◌&&◌, ◌||◌, ◌==◌, if◌then◌else◌, List, [], ◌∷◌, ◌++◌, map, length, Option, Some, None, is_some}
+use Rattle.std.specs.Prelude.{ℕ, Bool, false, not, ◌&&◌, ◌||◌, ◌==◌, if◌then◌else◌, List, [], ◌∷◌, ◌++◌, map, length, Some, None, is_some}
 use Rattle.std.specs.Ordering.{is_lt}
 use Rattle.std.specs.List.{list_any, filter, flat_map}
 use Rattle.std.specs.FinMap.{FinMap, get, keys, entries}
 use Rattle.ice_ids.specs.declared.Id8.{Id8}
-use Rattle.ice_ids.specs.Text.{same_id8}
 use Rattle.zarr_path.specs.Paths.{path_cmp, same_path, root, parent_of, is_beneath}
 use Rattle.manifest_file.specs.declared.manifest.Place.{Place}
 use Rattle.zarr_tree.specs.declared.cases.Case.{Case}
 use Rattle.zarr_tree.specs.declared.cases.Case.TheVariants as case
 use Rattle.zarr_tree.specs.declared.cases.Conflict.{Conflict}
-use Rattle.zarr_tree.specs.declared.lists.ArrayChunks.{ArrayChunks}
 use Rattle.zarr_tree.specs.declared.lists.Touched.{Touched}
 use Rattle.zarr_tree.specs.Nodes.{Node, is_group, is_array}
 use Rattle.zarr_tree.specs.Changes.{is_gone, has_id}
@@ -19,6 +17,7 @@ use Rattle.zarr_tree.specs.Touched.{lists, lists_new, lists_updated}
 use Rattle.zarr_tree.specs.Held.{Held, Rows, meta_in, entry_in, nodes_over}
 use Rattle.zarr_tree.specs.Conflicts.{same_node}
 use Rattle.zarr_changes.specs.Sets.{has_chunks}
+use Rattle.held_log.specs.LookUp.{chunks_listed}
 
 -- what is held of our changes, the lists of one later commit, and the nodes before it and after it
 pub record Sides : Type 0 where
@@ -45,10 +44,6 @@ abbrev pub of_added : Sides → (path : List ℕ) → List Conflict
 of_added s p = if_so (is_taken s p) case.NewNodeConflictsWithExistingNode p ++ if_so (is_orphan s p) case.NewNodeInInvalidGroup p
 
 -- ---- nodes of the tree before the commit
-
--- the chunks of an array that are listed
-abbrev pub chunks_listed : List ArrayChunks → Id8 → List (List ℕ)
-chunks_listed arrays id = flat_map (λ array. if same_id8 array.node id then array.chunks else []) arrays
 
 -- the later tree's nodes that are listed as new, and whether there is one beneath a path
 abbrev pub new_rows : Touched → FinMap path_cmp Node → Rows

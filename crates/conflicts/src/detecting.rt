@@ -18,12 +18,13 @@ ghost use Rattle.conflicts.specs.inside.Looking.{twice_at};
 ghost use Rattle.conflicts.specs.Found.{if_so, of_added, of_case, of_row, rows_before, rows_from, found_in, found};
 
 use crate::sides::Sides;
+use held_log::{HeldLists, IndexView};
 use ice_ids::Id8;
 use ice_items::Items;
 use std::alloc::{AllocError, Global};
 use zarr_changes::{ChangeSet, is_array, path_of};
-use zarr_path::{Index, Path};
-use zarr_tree::{Case, Conflict, Found, Touched, TreeLike};
+use zarr_path::Path;
+use zarr_tree::{Case, Conflict, Found, TreeLike};
 
 /// The conflicts that were found so far.
 type Conflicts = Items<Conflict>;
@@ -82,16 +83,17 @@ impl<'a, B: TreeLike, U: TreeLike> Sides<'a, B, U> {
         found: &mut Conflicts,
         path: &str,
         node: Id8,
-        index: &Index,
+        index: &IndexView,
     ) -> Result<(), AllocError>
         requires { IsTrue (is_path path.now) }
         ensures { OnOk result (found.new ≡ found.old ++ twice_at self.now path.now node index.now) }
     {
-        if self.mine.chunk(node, index).is_some() {
+        let index = index.copy(alloc)?;
+        if self.mine.chunk(node, &index).is_some() {
             found.push(Conflict {
                 case: Case::ChunkDoubleUpdate,
                 path: path_of(alloc, path)?,
-                index: Some(index.copy(alloc)?),
+                index: Some(index),
             })?;
         }
         Ok(())
@@ -111,8 +113,12 @@ impl<'a, B: TreeLike, U: TreeLike> Sides<'a, B, U> {
         if !is_array(node.meta) {
             return Ok(());
         }
-        for index in self.chunks_listed(&node.id) {
-            self.push_chunk(alloc, found, path, node.id, index)?;
+        if !self.arrays.contains(&node.id) {
+            return Ok(());
+        }
+        let listed = self.chunks_listed(&node.id);
+        for at in 0..listed.len() {
+            self.push_chunk(alloc, found, path, node.id, &listed.at(at))?;
         }
         Ok(())
     }
@@ -234,7 +240,7 @@ impl<'a, B: TreeLike, U: TreeLike> Sides<'a, B, U> {
 pub fn detect<B: TreeLike, U: TreeLike>(
     alloc: Global,
     mine: &ChangeSet,
-    theirs: &Touched,
+    theirs: &HeldLists,
     before: &B,
     after: &U,
 ) -> Result<Items<Conflict>, AllocError>

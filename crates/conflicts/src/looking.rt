@@ -11,16 +11,18 @@ ghost use Rattle.zarr_tree.specs.Rows.{node_found};
 ghost use Rattle.zarr_tree.specs.Changes.{is_dropped, is_gone, has_id};
 ghost use Rattle.zarr_tree.specs.Touched.{lists};
 ghost use Rattle.zarr_tree.specs.Conflicts.{same_node};
+ghost use Rattle.held_log.specs.LookUp.{chunks_listed};
 ghost use Rattle.conflicts.specs.inside.Looking.{IsPlace};
-ghost use Rattle.conflicts.specs.Found.{is_taken, is_orphan, chunks_listed, has_new_beneath, takes_away, holds};
+ghost use Rattle.conflicts.specs.Found.{is_taken, is_orphan, has_new_beneath, takes_away, holds};
 
-use crate::lists::{chunks_of, has, has_path, is_updated};
+use crate::lists::has_path;
 use crate::sides::Sides;
+use held_log::Indices;
 use ice_ids::Id8;
 use std::alloc::{AllocError, Global};
 use std::cmp::Ordering;
 use zarr_changes::{before_slash, is_array, is_group};
-use zarr_path::{Index, is_within, parent_text};
+use zarr_path::{is_within, parent_text};
 use zarr_tree::{Case, Found, TreeLike};
 
 /// Whether two paths are the same.
@@ -169,10 +171,10 @@ impl<'a, B: TreeLike, U: TreeLike> Sides<'a, B, U> {
     }
 
     /// The chunks that are listed of a node.
-    pub(crate) fn chunks_listed(&self, id: &Id8) -> &[Index]
-        ensures { result.now ≡ chunks_listed self.now.theirs.updated_chunks id.now }
+    pub(crate) fn chunks_listed(&self, id: &Id8) -> Indices<'a>
+        ensures { result ≡ chunks_listed self.now.theirs.updated_chunks id.now }
     {
-        chunks_of(self.theirs.updated_chunks.as_slice(), id)
+        self.theirs.chunks_of(id)
     }
 
     /// Whether we drop an array whose metadata or chunks were changed.
@@ -180,8 +182,8 @@ impl<'a, B: TreeLike, U: TreeLike> Sides<'a, B, U> {
         ensures { result ≡ holds DeleteOfUpdatedArray self.now path.now (node_found node.entry) }
     {
         is_array(node.meta)
-            && (has(self.theirs.updated_arrays.as_slice(), &node.id)
-                || !self.chunks_listed(&node.id).is_empty())
+            && (self.theirs.updated_arrays().has(&node.id)
+                || self.chunks_listed(&node.id).len() != 0)
             && self.takes_away(path, node.id)
     }
 
@@ -197,7 +199,7 @@ impl<'a, B: TreeLike, U: TreeLike> Sides<'a, B, U> {
         if !is_group(node.meta) || !self.takes_away(path, node.id) {
             return Ok(false);
         }
-        if has(self.theirs.updated_groups.as_slice(), &node.id) {
+        if self.theirs.updated_groups().has(&node.id) {
             return Ok(true);
         }
         self.has_new_beneath(alloc, path)
@@ -216,23 +218,23 @@ impl<'a, B: TreeLike, U: TreeLike> Sides<'a, B, U> {
         let id = &node.id;
         match case {
             Case::ZarrMetadataDoubleUpdate => {
-                Ok(self.metas.contains(id) && is_updated(self.theirs, id))
+                Ok(self.metas.contains(id) && self.theirs.is_updated(id))
             }
             Case::ZarrMetadataUpdateOfDeletedArray => {
-                Ok(self.metas.contains(id) && has(self.theirs.deleted_arrays.as_slice(), id))
+                Ok(self.metas.contains(id) && self.theirs.deleted_arrays().has(id))
             }
             Case::ZarrMetadataUpdateOfDeletedGroup => {
-                Ok(self.metas.contains(id) && has(self.theirs.deleted_groups.as_slice(), id))
+                Ok(self.metas.contains(id) && self.theirs.deleted_groups().has(id))
             }
             Case::ChunksUpdatedInDeletedArray => Ok(
                 is_array(node.meta)
                     && self.arrays.contains(id)
-                    && has(self.theirs.deleted_arrays.as_slice(), id),
+                    && self.theirs.deleted_arrays().has(id),
             ),
             Case::ChunksUpdatedInUpdatedArray => Ok(
                 is_array(node.meta)
                     && self.arrays.contains(id)
-                    && has(self.theirs.updated_arrays.as_slice(), id),
+                    && self.theirs.updated_arrays().has(id),
             ),
             Case::DeleteOfUpdatedArray => Ok(self.drops_updated_array(path, node)),
             Case::DeleteOfUpdatedGroup => self.drops_updated_group(alloc, path, node),

@@ -8,21 +8,21 @@ ghost use Rattle.zarr_tree.specs.Touched.{lists, lists_new, IsOrdered};
 ghost use Rattle.conflicts.specs.Found.{new_rows};
 
 use crate::ids::set_of;
-use crate::lists::is_new;
+use held_log::HeldLists;
 use ice_ids::Id8;
 use ice_items::Items;
 use std::alloc::{AllocError, Global};
 use std::marker::Model;
 use zarr_changes::{ChangeKeys, ChangeSet, ChunkKey, IdSet};
 use zarr_path::Path;
-use zarr_tree::{Touched, TreeLike};
+use zarr_tree::TreeLike;
 
 /// Our changes, the lists of a later commit, and the trees before it and after it, with what is looked up in them. Contracts
 /// see what is held, listed and found.
 #[derive(Drop)]
 pub(crate) struct Sides<'a, B: TreeLike, U: TreeLike> {
     pub(crate) mine: &'a ChangeSet,
-    pub(crate) theirs: &'a Touched,
+    pub(crate) theirs: &'a HeldLists<'a>,
     pub(crate) before: &'a B,
     pub(crate) after: &'a U,
     pub(crate) dropped: IdSet,
@@ -84,14 +84,13 @@ fn sets_of(alloc: Global, keys: &ChangeKeys) -> Result<OwnSets, AllocError>
 /// Pushes a node's path, if the node is listed as new.
 fn push_new<'a>(
     news: &mut Vec<&'a str>,
-    theirs: &Touched,
+    theirs: &HeldLists,
     path: &'a str,
     id: &Id8,
 ) -> Result<(), AllocError>
-    requires { IsOrdered theirs.now }
     ensures { OnOk result (map (λ text. text.now) news.new.items ≡ map (λ text. text.now) news.old.items ++ (if lists_new theirs.now id.now then path.entry.now ∷ [] else [])) }
 {
-    if is_new(theirs, id) {
+    if theirs.is_new(id) {
         news.push(path)?;
     }
     Ok(())
@@ -100,10 +99,9 @@ fn push_new<'a>(
 /// The paths of the nodes of a later tree that are listed as new.
 fn new_paths<'a, U: TreeLike>(
     alloc: Global,
-    theirs: &Touched,
+    theirs: &HeldLists,
     after: &'a U,
 ) -> Result<Vec<&'a str>, AllocError>
-    requires { IsOrdered theirs.now }
     ensures { IfOk result (λ news. map (λ text. text.now) news.items ≡ map (λ row. row.0) (new_rows theirs.now (U.nodes after.now))) }
 {
     let mut news = Vec::new(alloc);
@@ -119,7 +117,7 @@ impl<'a, B: TreeLike, U: TreeLike> Sides<'a, B, U> {
     pub(crate) fn new(
         alloc: Global,
         mine: &'a ChangeSet,
-        theirs: &'a Touched,
+        theirs: &'a HeldLists<'a>,
         before: &'a B,
         after: &'a U,
     ) -> Result<Sides<'a, B, U>, AllocError>

@@ -1,10 +1,13 @@
 //! Conflicts of two sides' changes of one tree, and what a policy solves of them. ` | ` stands between our changes and theirs.
 //! The tree has a root, an array `/a`, and a group `/g` with an array `/g/b` and a group `/g/h`.
 
+ghost use Rattle.zarr_tree.specs.Touched.{IsOrdered};
+
 use crate::changing::{changes_of, initial};
 use crate::words::{NoAnswer, first_word};
 use changed_snapshot::{Stamp, write_over};
 use conflicts::{ChunkPlace, Pick, Policy, Solved, detect, keys_at, solve};
+use held_log::{HeldLog, hold};
 use ice_base::{Bytes, Text};
 use ice_ids::Id12;
 use ice_items::Items;
@@ -12,8 +15,10 @@ use manifest_file::Place;
 use repo_objects::Loaded;
 use snapshot_file::Props;
 use std::alloc::{AllocError, Global};
+use txn_file::TxnFile;
+use txn_file::laws::touched_law;
 use zarr_changes::{ChangeSet, ChunkKey};
-use zarr_tree::{Conflict, ordered_law};
+use zarr_tree::{Conflict, Touched, ordered_law};
 
 /// The nodes of the tree, as changes of the initial snapshot.
 const TREE: &str = "/=1 /a=2:line /g=3 /g/b=4:line /g/h=5";
@@ -66,6 +71,26 @@ fn tree(alloc: Global) -> Result<Loaded, NoAnswer> {
     tree
 }
 
+/// The log of a commit that touched these, written, and held to be read in place.
+fn log_of(alloc: Global, lists: Touched) -> Result<HeldLog, NoAnswer>
+    requires { IsOrdered lists }
+{
+    touched_law();
+    let log = TxnFile {
+        id: Id12::INITIAL,
+        lists,
+    };
+    let written = txn_file::write(alloc, &log);
+    drop(log);
+    let Ok(file) = written else {
+        return Err(NoAnswer::NoMemory);
+    };
+    match hold(Bytes::from_vec(file)) {
+        Ok(log) => Ok(log),
+        Err(_) => Err(NoAnswer::Words),
+    }
+}
+
 /// The conflicts of our changes of a tree with theirs.
 fn found(
     alloc: Global,
@@ -74,9 +99,9 @@ fn found(
     theirs: &ChangeSet,
 ) -> Result<Items<Conflict>, NoAnswer> {
     ordered_law::<Place>();
-    let touched = theirs.net(alloc, tree)?;
+    let log = log_of(alloc, theirs.net(alloc, tree)?)?;
     let after = loaded_under(alloc, tree, theirs)?;
-    let found = detect(alloc, ours, &touched, tree, &after);
+    let found = detect(alloc, ours, &log.lists(), tree, &after);
     drop(after);
     Ok(found?)
 }

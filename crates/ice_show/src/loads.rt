@@ -1,11 +1,12 @@
 //! Files that are read under the id of the initial snapshot, as the objects that they stand for.
 
-use crate::files::log_told;
+use crate::files::tell_log;
 use crate::metas::meta_fault_told;
 use crate::props::push_props;
 use crate::words::NoAnswer;
+use ice_base::Bytes;
 use ice_ids::{Id8, Id12};
-use repo_objects::{Bad, Loaded, Unread, log_read, ref_read};
+use repo_objects::{Bad, Loaded, Unread, log_hold, ref_read};
 use std::alloc::{AllocError, Global};
 use zarr_meta::{MetaFault, View};
 use zarr_tree::{Found, TreeLike};
@@ -102,11 +103,11 @@ pub fn tell_loaded(alloc: Global, file: &[u8]) -> Result<String, NoAnswer> {
     }
 }
 
-/// The transaction log for which a file stands.
+/// The transaction log for which a file stands, if it is held; what it says is told by a reading, which copies its lists out.
 pub fn tell_known_log(alloc: Global, file: &[u8]) -> Result<String, NoAnswer> {
-    match log_read(alloc, Id12::INITIAL, file) {
-        Ok(log) => log_told(alloc, log),
-        Err(unread) => unread_told(alloc, unread),
+    match log_hold(Id12::INITIAL, Bytes::of(alloc, file)?) {
+        Ok(_) => tell_log(alloc, file),
+        Err(bad) => Ok(bad_told(alloc, &bad)?),
     }
 }
 

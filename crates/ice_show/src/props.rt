@@ -16,6 +16,27 @@ pub fn push_props(told: &mut String, props: &Props) -> Result<(), AllocError> {
     Ok(())
 }
 
+/// Adds a property like `unit=kelvin`.
+fn add_word(props: &mut Props, word: &str) -> Result<(), NoAnswer> {
+    let (name, value) = parted(word, "=");
+    match props.add(name, value) {
+        Ok(()) => Ok(()),
+        Err(PropFault::NoMemory) => Err(NoAnswer::NoMemory),
+        Err(_) => Err(NoAnswer::Words),
+    }
+}
+
+/// The properties of words like `unit=kelvin+author=ann`; no words are none.
+pub fn props_of(alloc: Global, words: &str) -> Result<Props, NoAnswer> {
+    let mut props = Props::new(alloc);
+    if !words.is_empty() {
+        for word in words.split('+') {
+            add_word(&mut props, word)?;
+        }
+    }
+    Ok(props)
+}
+
 /// Adds the property of line number `at`, and appends why it isn't added.
 fn add_line(
     refused: &mut String,

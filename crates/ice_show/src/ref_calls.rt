@@ -1,5 +1,6 @@
 //! Calls on refs, over a store in memory.
 
+use crate::props::push_props;
 use crate::store_keys::key_of;
 use crate::storing::{Memory, call_told, push_asked, push_line};
 use crate::texts::name_of;
@@ -8,7 +9,8 @@ use ice_base::{RefName, TickClock};
 use mem_store::MemStore;
 use play_outcome::RefLines;
 use refs_admin::{
-    LogLines, drop_branch, drop_tag, make_branch, make_repository, make_tag, read_log, set_branch,
+    LogLine, LogLines, drop_branch, drop_tag, make_branch, make_repository, make_tag, read_log,
+    set_branch,
 };
 use repo_read::At;
 use repository::{begin, read_refs};
@@ -45,12 +47,18 @@ fn done_told(alloc: Global, done: Result<(), Refusal>) -> Result<String, NoAnswe
     }
 }
 
+/// Appends a line of a log.
+fn push_log_line(told: &mut String, line: &LogLine) -> Result<(), AllocError> {
+    let message = line.message.as_str();
+    write!(told, " {} at {} '{message}'", line.id, line.flushed_at)?;
+    push_props(told, &line.props)
+}
+
 /// The lines of a log.
 fn lines_told(alloc: Global, lines: LogLines) -> Result<String, AllocError> {
     let mut told = String::from_str(alloc, "log")?;
     for line in lines.as_slice() {
-        let message = line.message.as_str();
-        write!(told, " {} at {} '{message}'", line.id, line.flushed_at)?;
+        push_log_line(&mut told, line)?;
     }
     Ok(told)
 }

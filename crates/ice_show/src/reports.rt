@@ -1,38 +1,59 @@
 //! Reports of runs. ` | ` stands between the opening, the tasks and the refs. A task is a name, what it showed and how it ended:
-//! `c - refused 10 NoNode`; `a 2=/,13:array=/a/b done` showed a group and an array in the lines 2 and 13; `d - collected 3 2 1 40`
-//! collected, and `e - stopped 7 3 2 1 40 StoreFault` was refused in the line 7 behind so many removals; of `f - expired`
+//! `c - refused 10 NoNode`; `a 2=/,13:array=/a/b done` showed a group and an array in the lines 2 and 13, and
+//! `b 7:log=ID+unit=kelvin done` a snapshot of a log with a property; `d - collected 3 2 1 40` collected, and `e - stopped 7 3 2 1 40 StoreFault` was refused in the line 7 behind so many removals; of `f - expired`
 //! the rest is in `expiries`; `g - indoubt 1CECHNKREP0F1RSTCMT0 unsettled Missing ..` was left in doubt. `; ` stands between tasks, and `, ` between refs like `tag v 1=1CECHNKREP0F1RSTCMT0`. In the place of an
 //! opening that went well stands `-`, and a refusal may stand in that of the refs, behind `!`.
 
 use crate::expiries::expired_of;
+use crate::props::props_of;
 use crate::refusals::{refusal_of, result_of};
 use crate::store_keys::id_of;
 use crate::texts::{name_of, path_of};
 use crate::words::{NoAnswer, first_word, number_of, parted, small_number_of, text_of};
 use cleanup_reports::Removed;
+use ice_base::Text;
 use play_outcome::{End, How, Outcome, RefLine, RefLines, Shown, Shows};
 use play_report::report;
 use std::alloc::{AllocError, Global};
 use store_api::Refusal;
 
-/// The node that a word like `13:array=/a/b` shows.
-fn node_of(alloc: Global, word: &str) -> Result<Shown, NoAnswer> {
-    let (place, path) = parted(word, "=");
+/// The snapshot of a log that is shown by its id and by properties like `+unit=kelvin+author=ann`; it was flushed at 4, and its
+/// message is empty.
+fn logged_of(alloc: Global, line: u32, words: &str) -> Result<Shown, NoAnswer> {
+    let (id, props) = parted(words, "+");
+    let id = id_of(id)?;
+    let message = Text::of(alloc, "")?;
+    let props = props_of(alloc, props)?;
+    Ok(Shown::Log {
+        line,
+        id,
+        flushed_at: 4,
+        message,
+        props,
+    })
+}
+
+/// What a word shows: `13:array=/a/b` a node, `7:log=ID` a snapshot of a log.
+fn shown_of(alloc: Global, word: &str) -> Result<Shown, NoAnswer> {
+    let (place, what) = parted(word, "=");
     let (line, kind) = parted(place, ":");
     let line = small_number_of(line)?;
+    if kind == "log" {
+        return logged_of(alloc, line, what);
+    }
     let array = kind == "array";
-    let path = path_of(alloc, path)?;
+    let path = path_of(alloc, what)?;
     Ok(Shown::Node { line, array, path })
 }
 
-/// The nodes that words with commas between them show; `-` shows none.
+/// What words with commas between them show; `-` shows nothing.
 fn shows_of(alloc: Global, words: &str) -> Result<Shows, NoAnswer> {
     let mut shows = Shows::new(alloc);
     if words == "-" {
         return Ok(shows);
     }
     for word in words.split(',') {
-        shows.push(node_of(alloc, word)?)?;
+        shows.push(shown_of(alloc, word)?)?;
     }
     Ok(shows)
 }

@@ -131,6 +131,11 @@ fn push_commit(told: &mut String, message: &str) -> Result<(), AllocError> {
     write!(told, "commit '{message}'")
 }
 
+/// Appends a property of the commit.
+fn push_prop(told: &mut String, name: &str, value: &str) -> Result<(), AllocError> {
+    write!(told, "prop {name} '{value}'")
+}
+
 /// Appends what a line calls.
 fn push_call(told: &mut String, call: &Call) -> Result<(), AllocError> {
     match call {
@@ -138,6 +143,7 @@ fn push_call(told: &mut String, call: &Call) -> Result<(), AllocError> {
         Call::Read(read) => push_read(told, read),
         Call::Commit { message } => push_commit(told, message.as_str()),
         Call::Ref(call) => push_ref(told, call),
+        Call::Prop { name, value } => push_prop(told, name.as_str(), value.as_str()),
     }
 }
 

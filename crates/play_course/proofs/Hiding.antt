@@ -24,13 +24,14 @@ use Rattle.store_api.specs.declared.machines.Refusal.TheVariants as R
 use Rattle.repo_read.specs.declared.resolving.At.{At}
 use Rattle.repo_read.specs.Naming as named
 use Rattle.session.specs.Sessions.{SessionState, nodes_seen}
+use Rattle.session.specs.Editing.{prop_added}
 use Rattle.commit_path.specs.Answered.{CommitTells}
 use Rattle.commit_path.specs.Opened.{RefusalTells}
 use Rattle.rebase.specs.Telling.{RebaseSays, WasHidden}
 use Rattle.zarr_keys.specs.Keys.{put_over}
 use Rattle.chunk_calls.specs.Told.{SetTells, GetTells}
 use Rattle.play_script.specs.declared.scripts.Call.{Call}
-use Rattle.play_script.specs.declared.scripts.Call.TheVariants.{Edit, Read, Commit, Ref}
+use Rattle.play_script.specs.declared.scripts.Call.TheVariants.{Edit, Read, Commit, Ref, Prop}
 use Rattle.play_script.specs.declared.scripts.EditCall.{EditCall}
 use Rattle.play_script.specs.declared.scripts.EditCall.TheVariants.{Group, Array, Make, Meta, Drop, Set as Set_call, Fill, Unset, KeySet, KeyErase}
 use Rattle.play_script.specs.declared.scripts.ReadCall.{ReadCall}
@@ -51,7 +52,7 @@ use Rattle.run_histories.specs.Told.{HasLost}
 use Rattle.play_course.specs.Refusing.{is_strange, strange_end}
 use Rattle.play_course.proofs.Reading.{edit-plain}
 use Rattle.play_course.proofs.Rebasing.{SaysHidden}
-use Rattle.play_course.proofs.Tasks.{IsPlain, EndsFine, refused_as, put-plain, edited-plain, read-plain}
+use Rattle.play_course.proofs.Tasks.{IsPlain, EndsFine, refused_as, put-plain, edited-plain, read-plain, prop-plain}
 
 -- ---- lines that are refused without an operation
 silent-plain : (r : Result SessionState Refusal) → IsPlain r → IsPlain (silent r)
@@ -102,6 +103,7 @@ deed-plain line (Edit edit) s = edit-deed-plain edit s
 deed-plain line (Read look) s = read-deed-plain line look s
 deed-plain line (Commit message) s = tt
 deed-plain line (Ref call) s = λ why e. cc
+deed-plain line (Prop name value) s = silent-plain (prop_added s name value) (prop-plain s name value)
 
 -- ---- logs
 -- no reading of a log says that it hides a node

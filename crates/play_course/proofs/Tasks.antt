@@ -22,12 +22,14 @@ use Rattle.store_api.specs.declared.machines.Refusal.{Refusal}
 use Rattle.zarr_tree.specs.declared.edit.EditFault.TheVariants as Fault
 use Rattle.store_api.specs.declared.machines.Refusal.TheVariants as R
 use Rattle.store_api.specs.Plays.{Play, call}
+use Rattle.snapshot_file.specs.declared.properties.PropFault.{PropFault}
+use Rattle.snapshot_file.specs.Props.{prop_fault}
 use Rattle.session.specs.declared.session.Listing.{Listing}
 use Rattle.session.specs.Sessions.{SessionState, branch_of, nodes_seen, writes}
 use Rattle.session.specs.Opening.{open_program}
 use Rattle.session.specs.Editing as session
 use Rattle.play_script.specs.declared.scripts.Call.{Call}
-use Rattle.play_script.specs.declared.scripts.Call.TheVariants.{Edit, Read, Commit, Ref}
+use Rattle.play_script.specs.declared.scripts.Call.TheVariants.{Edit, Read, Commit, Ref, Prop}
 use Rattle.play_script.specs.declared.scripts.EditCall.{EditCall}
 use Rattle.play_script.specs.declared.scripts.ReadCall.{ReadCall}
 use Rattle.play_script.specs.declared.scripts.Access.{Access}
@@ -41,7 +43,7 @@ use Rattle.std.specs.Prelude.{All}
 use Rattle.std.proofs.lemmas.List.Elements.{All-head, All-tail}
 use Rattle.zarr_changes.specs.Sets.{add_refusal, text_refusal, drop_refusal, unset_refusal}
 use Rattle.session.specs.declared.chunks.Value.{Value}
-use Rattle.session.specs.Editing.{group_fault, array_fault, node_fault, added, entered, group_added, array_added, node_added, meta_set, node_dropped, if_writes, unless_bad, unless_refused, refusal_of_edit, drawn_node, if_there, listed}
+use Rattle.session.specs.Editing.{group_fault, array_fault, node_fault, added, entered, group_added, array_added, node_added, meta_set, node_dropped, if_writes, unless_bad, unless_refused, unless_unfit, refusal_of_edit, drawn_node, with_prop, prop_added, if_there, listed}
 use Rattle.session.specs.Chunks.{set_program, get_program, chunk_unset, without_chunk}
 use Rattle.commit_path.specs.Laws.{TellsFaults}
 use Rattle.commit_path.specs.Opened.{IsOpened}
@@ -61,7 +63,8 @@ use Rattle.zarr_keys.specs.Keys.{session_of, meta_value, put_over, erased_at, ke
 use Rattle.play_tasks.specs.Lines.{deed, edit_deed, read_deed, edited, read_by, silent, still, nodes_shown, meta_shown, value_shown, key_shown, chunk_key_shown, key_set_deed, key_get_deed, filled, Goes}
 use Rattle.play_tasks.specs.Playing.{Rest, after_line, how_of, after_settling, doubt_of, doubt_play, after_commit, after_rebase, after_open, shown_by, commit_play, tries_of, policy_of, play_deed, play_lines, asked_by, session_play}
 use Rattle.run_histories.specs.Sources.{NodesAreNew}
-use Rattle.run_histories.proofs.Drawing.{edited-draws, text-draws, taken-draws, access-ids}
+use Rattle.commit_path.proofs.Adding.{prop-added, prop-opened}
+use Rattle.run_histories.proofs.Drawing.{edited-draws, prop-draws, text-draws, taken-draws, access-ids}
 use Rattle.run_histories.proofs.Edits.{Edits, edit-later, edit-goes, edit-base, own-stay}
 use Rattle.run_histories.proofs.Editing.{Leads, call-leads}
 use Rattle.play_course.specs.Refusing.{is_strange, strange_end}
@@ -132,6 +135,16 @@ unfolding chunk_unset
 unset-plain s path index =
     let r : Result SessionState Refusal = unless_refused (unset_refusal (nodes_seen s) path index) (Ok (without_chunk s path index)) in
     writes-plain (writes s) r (unless-plain (unset_refusal (nodes_seen s) path index) (Ok (without_chunk s path index)) (done-plain (without_chunk s path index)))
+
+fit-plain : {A : Type 0} (o : Option PropFault) (r : Result A Refusal) → IsPlain r → IsPlain (unless_unfit o r)
+fit-plain None r p why e = p why e
+fit-plain (Some fault) r p why e = refused_as why (R.BadProp fault) refl e
+
+pub prop-plain : (s : SessionState) (name value : List ℕ) → IsPlain (prop_added s name value)
+unfolding prop_added
+prop-plain s name value =
+    let r : Result SessionState Refusal = unless_unfit (prop_fault s.props name value) (Ok (with_prop s name value)) in
+    writes-plain (writes s) r (fit-plain (prop_fault s.props name value) (Ok (with_prop s name value)) (done-plain (with_prop s name value)))
 
 pub put-plain : (o : Option Node) (s : SessionState) (path text : List ℕ) → IsPlain (put_over o s path text)
 put-plain (Some node) s path text = set-plain s path text
@@ -261,6 +274,13 @@ module _ (client : Client) (ids : AnyIds) where
       go t (shown ++ []) journal (held-led s t journal (leads [] t (ap (λ (x : Result SessionState Refusal). silent x) e)) (edited-draws client.draw client.number edit s t h.known e) (edited-known edit s t journal e h.opened) h)
   edit-meets line shown edit s rest journal h go leads (Err why) e = refused-plain line shown why journal (edited-plain edit s why e)
 
+  -- a property is added
+  prop-meets : (line : ℕ) (shown : List Shown) (name value : List ℕ) (s : SessionState) (rest : Rest) (journal : List Event) → Held client ids s journal → GoesOn rest → Leads (Goes (silent (prop_added s name value))) s → (r : Result SessionState Refusal) → prop_added s name value ≡ r
+      → PlayMeets Ends (beside client ids) (after_line line shown (silent r) rest) journal
+  prop-meets line shown name value s rest journal h go leads (Ok t) e =
+      go t (shown ++ []) journal (held-led s t journal (leads [] t (ap (λ (x : Result SessionState Refusal). silent x) e)) (prop-draws client.draw client.number s t name value h.known e) (prop-opened s t name value journal (prop-added s t name value e) h.opened) h)
+  prop-meets line shown name value s rest journal h go leads (Err why) e = refused-plain line shown why journal (prop-plain s name value why e)
+
   -- a key's metadata is put
   put-draws : (o : Option Node) (s t : SessionState) (path text : List ℕ) → AreIts client s.ids → put_over o s path text ≡ Ok t → AreIts client t.ids
   put-draws (Some node) s t path text known e = text-draws client.draw client.number s t path text known e
@@ -373,6 +393,7 @@ module _ (client : Client) (ids : AnyIds) where
   deed-meets law access line (Edit edit) shown s rest journal h go leads = edit-deed-meets access line edit shown s rest journal h go leads
   deed-meets law access line (Read look) shown s rest journal h go leads = read-deed-meets access line look shown s rest journal h go
   deed-meets law access line (Ref call) shown s rest journal h go leads = go s (shown ++ []) journal h
+  deed-meets law access line (Prop name value) shown s rest journal h go leads = prop-meets line shown name value s rest journal h go leads (prop_added s name value) refl
   deed-meets law access line (Commit message) shown s rest journal h go leads = tries-meet law (tries_of access) (policy_of access) line shown message s journal (held-may client ids s journal h)
 
   lines-meets : (law : SnapshotLaw) (access : Access) (lines : List Line) → All IsWellLine lines → (s : SessionState) (shown : List Shown) (journal : List Event) → Held client ids s journal → PlayMeets Ends (beside client ids) (play_lines access lines s shown) journal

@@ -4,6 +4,7 @@ use cleanup_reports::{RefCases, Removed};
 use ice_base::{Bytes, RefName, Text};
 use ice_ids::Id12;
 use ice_items::Items;
+use snapshot_file::Props;
 use store_api::Refusal;
 use zarr_path::Path;
 
@@ -35,13 +36,14 @@ pub enum Shown {
         line: u32,
         bytes: Option<Bytes>,
     },
-    /// A snapshot of a log that was asked for in this line of the script: when it was flushed, in microseconds, and the message of
-    /// its commit.
+    /// A snapshot of a log that was asked for in this line of the script: when it was flushed, in microseconds, and the message and
+    /// the properties of its commit.
     Log {
         line: u32,
         id: Id12,
         flushed_at: u64,
         message: Text,
+        props: Props,
     },
 }
 

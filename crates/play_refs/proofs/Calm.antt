@@ -29,6 +29,7 @@ line-calm line (calls_of.Ref r) shown rest q calm c = call-calm line r shown res
 line-calm line (calls_of.Edit edit) shown rest q calm c = calm c
 line-calm line (calls_of.Read read) shown rest q calm c = calm c
 line-calm line (calls_of.Commit message) shown rest q calm c = calm c
+line-calm line (calls_of.Prop name value) shown rest q calm c = calm c
 
 pub refs-calm : (lines : List Line) (shown : List Shown) (q : Play Outcome) → Comes (refs_play lines shown) q → dooms is_failed q ≡ false
 unfolding refs_play

@@ -26,7 +26,7 @@ Rest = List Shown → Play Outcome
 -- ---- what a call shows
 -- what is shown of a snapshot of a log that this line of the script asked for
 abbrev pub log_shown : ℕ → LogLine → Shown
-log_shown line l = Shown_log line l.id l.flushed_at l.message
+log_shown line l = Shown_log line l.id l.flushed_at l.message l.props
 
 -- a log shows its snapshots, in their order
 abbrev pub logged : ℕ → Result (List LogLine) Refusal → Result (List Shown) Refusal
@@ -59,6 +59,7 @@ play_ref_line line (call.Ref c) shown rest = ref_play line c (after_ref line sho
 play_ref_line line (call.Edit edit) shown rest = rest shown
 play_ref_line line (call.Read read) shown rest = rest shown
 play_ref_line line (call.Commit message) shown rest = rest shown
+play_ref_line line (call.Prop name value) shown rest = rest shown
 
 -- the lines in their order, the first that is refused being the last; where memory is wanting, the task ends in this line
 unfoldable pub refs_play : List Line → List Shown → Play Outcome

@@ -40,12 +40,14 @@ pub(crate) fn show_log(
             id,
             flushed_at,
             message,
+            props,
         } = log_line;
         let snapshot = Shown::Log {
             line,
             id,
             flushed_at,
             message,
+            props,
         };
         if shown.push(snapshot).is_err() {
             shown.truncate(before);

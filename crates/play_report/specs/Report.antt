@@ -56,11 +56,30 @@ shown_text (Meta line text) = decimal line space codes "meta" space map printed 
 shown_text (Chunk line bytes) = decimal line space codes "chunk" space bytes_text bytes
 shown_text (Fill line) = decimal line space codes "fill"
 shown_text (Key line bytes) = decimal line space codes "zget" space value_text bytes
-shown_text (Log line snapshot flushed_at message) =
+shown_text (Log line snapshot flushed_at message props) =
     decimal line space codes "log" space id12_text snapshot space decimal flushed_at space map printed message
 
 abbrev pub shown_line : List ℕ → Shown → List ℕ
 shown_line name shown = line_of name (shown_text shown)
+
+-- a property of a snapshot of a log, its name and its value
+abbrev pub property_text : ℕ → List ℕ × List ℕ → List ℕ
+property_text line prop = decimal line space codes "prop" space prop.0 space map printed prop.1
+
+abbrev pub property_line : List ℕ → ℕ → List ℕ × List ℕ → List ℕ
+property_line name line prop = line_of name (property_text line prop)
+
+-- what is shown of it in lines of their own: the properties of a snapshot of a log
+abbrev pub property_lines : List ℕ → Shown → List ℕ
+property_lines name (Node line array path) = []
+property_lines name (Meta line text) = []
+property_lines name (Chunk line bytes) = []
+property_lines name (Fill line) = []
+property_lines name (Key line bytes) = []
+property_lines name (Log line snapshot flushed_at message props) = flat_map (property_line name line) props
+
+abbrev pub shown_lines : List ℕ → Shown → List ℕ
+shown_lines name shown = shown_line name shown ++ property_lines name shown
 
 -- how many snapshots, logs, manifests and objects with chunks a collection removed
 abbrev pub removed_text : Removed → List ℕ
@@ -138,7 +157,7 @@ end_text (Expired line cases result) = result_text line result
 
 -- what a task showed in order, what it had done, and then how it ended
 abbrev pub outcome_text : List ℕ → Outcome → List ℕ
-outcome_text name outcome = flat_map (shown_line name) outcome.shown ++ (done_lines name outcome.end ++ line_of name (end_text outcome.end))
+outcome_text name outcome = flat_map (shown_lines name) outcome.shown ++ (done_lines name outcome.end ++ line_of name (end_text outcome.end))
 
 -- each task in order, under its name; what one list has beyond the other is left out
 abbrev pub tasks_text : List (List ℕ) → List Outcome → List ℕ

@@ -3,6 +3,7 @@
 
 mod cases;
 mod drafts;
+mod properties;
 mod refusals;
 mod reporting;
 mod texts;

@@ -3,11 +3,12 @@
 
 ghost use Rattle.std.specs.Prelude.{◌≡◌, IfOk, OnOk, length, map, vec_capacity};
 ghost use Rattle.std.specs.List.{flat_map};
-ghost use Rattle.play_report.specs.Report.{line_of, is_nothing, removed_text, removed_lines, done_lines, end_text, shown_line, outcome_text, tasks_text, opening_text, ref_line, refs_text, refused_line, played_text, report_of};
+ghost use Rattle.play_report.specs.Report.{line_of, is_nothing, removed_text, removed_lines, done_lines, end_text, shown_line, shown_lines, outcome_text, tasks_text, opening_text, ref_line, refs_text, refused_line, played_text, report_of};
 ghost use Rattle.play_report.specs.inside.Drafts.{added};
 
 use crate::cases::add_cases;
 use crate::drafts::Draft;
+use crate::properties::add_properties;
 use crate::refusals::add_refusal;
 use crate::texts::{add_end, add_ref, add_removed, add_shown, ref_kind};
 use cleanup_reports::Removed;
@@ -25,12 +26,27 @@ fn add_shown_line(out: &mut Draft, name: &[u8], shown: &Shown) -> Result<(), All
     out.add(b"\n")
 }
 
+/// What a task showed: a line, and one for each property of a snapshot of a log.
+fn add_shown_lines(out: &mut Draft, name: &[u8], shown: &Shown) -> Result<(), AllocError>
+    ensures { OnOk result (out.new ≡ added out.old (shown_lines name.now shown.now)) }
+{
+    add_shown_line(out, name, shown)?;
+    match shown {
+        Shown::Node { .. }
+        | Shown::Meta { .. }
+        | Shown::Chunk { .. }
+        | Shown::Fill { .. }
+        | Shown::Key { .. } => Ok(()),
+        Shown::Log { line, props, .. } => add_properties(out, name, *line, props),
+    }
+}
+
 /// The lines that a task showed.
 fn add_all_shown(out: &mut Draft, name: &[u8], all: &[Shown]) -> Result<(), AllocError>
-    ensures { OnOk result (out.new ≡ added out.old (flat_map (shown_line name.now) all.now)) }
+    ensures { OnOk result (out.new ≡ added out.old (flat_map (shown_lines name.now) all.now)) }
 {
     for shown in all {
-        add_shown_line(out, name, shown)?;
+        add_shown_lines(out, name, shown)?;
     }
     Ok(())
 }

@@ -35,7 +35,7 @@ fn printed(byte: u8) -> u8
 }
 
 /// Metadata, or a message.
-fn add_printed(out: &mut Draft, text: &[u8]) -> Result<(), AllocError>
+pub fn add_printed(out: &mut Draft, text: &[u8]) -> Result<(), AllocError>
     ensures { OnOk result (out.new ≡ added out.old (map printed text.now)) }
 {
     for byte in text {
@@ -127,6 +127,7 @@ pub fn add_shown(out: &mut Draft, shown: &Shown) -> Result<(), AllocError>
             id,
             flushed_at,
             message,
+            props: _,
         } => {
             add_head(out, *line, "log")?;
             write!(out, "{id} {flushed_at} ")?;

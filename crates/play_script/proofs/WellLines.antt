@@ -29,7 +29,7 @@ use Rattle.play_script.specs.Words.{Text, cut_of, next, one, two, three, five}
 use Rattle.play_script.specs.Parts.{◌&◌, made}
 use Rattle.play_script.specs.Values.{◌reads◌, path_of, text_of, ref_name_of, id_of, tries_in, policy_in, numbers_of, fill_of, count_of, index_of, bytes_of, byte_of, cutoff_of, flags_of}
 use Rattle.play_script.specs.Arrays.{array_line_text}
-use Rattle.play_script.specs.Forms.{taken, lone_path, path_and_text, array_of, path_and_array, path_and_index, chunk_and_bytes, chunk_and_byte, lone_key, key_and_bytes, node_edit_of, chunk_edit_of, key_edit_of, edit_of, read_of, commit_of, at_of, lone_at, lone_name, name_and_at, ref_of, form, no_form, form_of, write_of, refs_of, collect_of, expire_of, head_of}
+use Rattle.play_script.specs.Forms.{taken, lone_path, path_and_text, array_of, path_and_array, path_and_index, chunk_and_bytes, chunk_and_byte, lone_key, key_and_bytes, node_edit_of, chunk_edit_of, key_edit_of, edit_of, read_of, commit_of, name_and_value, prop_of, at_of, lone_at, lone_name, name_and_at, ref_of, form, no_form, form_of, write_of, refs_of, collect_of, expire_of, head_of}
 use Rattle.play_script.specs.Places.{class_of, client_from, turn, turn_of}
 use Rattle.play_script.specs.Well.{IsWellPath, IsWellText, IsWellIndex, IsWellEdit, IsWellRead, IsWellAt, IsWellRef, IsWellCall, IsWellAccess, IsWellHead, IsWellTurn}
 use Rattle.play_script.proofs.Inversions.{made_ok, both_ok, taken_ok, path_ok, text_ok, ref_name_ok, numbers_ok, fill_ok, count_ok, index_ok, byte_ok, bytes_ok, tries_ok}
@@ -173,6 +173,21 @@ commit_ok : (first : Text) (rest : Option Text) → IsRight IsWellText (commit_o
 unfolding commit_of
 commit_ok first rest = form_right IsWellText (first reads codes "commit") _ _ (rest_ok rest) tt
 
+-- a property's name and its value
+abbrev IsWellProp : Text × Text → Type 0
+IsWellProp v = IsWellText v.0 × IsWellText v.1
+
+name_and_value_ok : (rest : Option Text) (v : Text × Text) → name_and_value rest ≡ Ok v → IsWellProp v
+unfolding name_and_value
+name_and_value_ok rest v h =
+    let t = taken_ok (next rest) (λ p. text_of p.0 & taken p.1 text_of) v h in
+    let b = both_ok (text_of t.0.0) (taken t.0.1 text_of) v t.2 in
+    (text_ok t.0.0 v.0 b.0, rest_ok t.0.1 v.1 b.1)
+
+prop_ok : (first : Text) (rest : Option Text) → IsRight IsWellProp (prop_of first rest)
+unfolding prop_of
+prop_ok first rest = form_right IsWellProp (first reads codes "prop") _ _ (name_and_value_ok rest) tt
+
 -- what names a snapshot, where it is read
 abbrev AreWellAts : Result At ScriptKind → Type 0
 AreWellAts r = (v : At) → r ≡ Ok v → IsWellAt v
@@ -233,7 +248,8 @@ form_ok first rest =
     class_ok IsWellEdit c.Edit call.Edit (edit_of first rest) _ (λ x w. (w, refl)) (edit_ok first rest)
     (class_ok IsWellRead c.Read call.Read (read_of first rest) _ (λ x w. (w, refl)) (read_ok first rest)
     (class_ok IsWellText c.Commit call.Commit (commit_of first rest) _ (λ x w. (w, refl)) (commit_ok first rest)
-    (class_ok IsWellRef c.Ref call.Ref (ref_of first rest) no_form (λ x w. (w, refl)) (ref_ok first rest) (λ v h. absurd (cc)))))
+    (class_ok IsWellRef c.Ref call.Ref (ref_of first rest) _ (λ x w. (w, refl)) (ref_ok first rest)
+    (class_ok IsWellProp c.Edit (λ v. call.Prop v.0 v.1) (prop_of first rest) no_form (λ x w. (w, refl)) (prop_ok first rest) (λ v h. absurd (cc))))))
 
 -- what a task opens, where it is read
 written : (branch : Text) (tries : ℕ) (policy : Policy) (opened : Access) → access.Write branch tries policy ≡ opened → IsRefName branch → tries ≤ 9 → IsWellAccess opened

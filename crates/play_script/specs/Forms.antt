@@ -67,6 +67,10 @@ lone_key rest = taken (one rest) text_of
 unfoldable pub key_and_bytes : Option Text → Result (Text × List ℕ) ScriptKind
 key_and_bytes rest = taken (two rest) (λ w. text_of w.0 & bytes_of w.1)
 
+-- a name, which is any word, and one space, and then a value to the line's end, perhaps empty
+unfoldable pub name_and_value : Option Text → Result (Text × Text) ScriptKind
+name_and_value rest = taken (next rest) (λ p. text_of p.0 & taken p.1 text_of)
+
 -- Lines by class: what a line of this first word calls, if the class has such a line.
 
 -- `group PATH`, `array PATH TYPE SHAPE CHUNKS FILL`, `make PATH JSON`, `meta PATH JSON`, `drop PATH`
@@ -106,6 +110,10 @@ read_of first rest =
 unfoldable pub commit_of : Text → Option Text → Option (Result Text ScriptKind)
 commit_of first rest =
     if first reads codes "commit" then Some (taken rest text_of) else None
+
+-- `prop NAME VALUE`
+unfoldable pub prop_of : Text → Option Text → Option (Result (Text × Text) ScriptKind)
+prop_of first rest = if first reads codes "prop" then Some (name_and_value rest) else None
 
 -- Names of snapshots, and calls on refs.
 
@@ -152,7 +160,8 @@ form_of first rest =
     unwrap_or (form c.Edit call.Edit (edit_of first rest))
     (unwrap_or (form c.Read call.Read (read_of first rest))
     (unwrap_or (form c.Commit call.Commit (commit_of first rest))
-    (unwrap_or (form c.Ref call.Ref (ref_of first rest)) no_form)))
+    (unwrap_or (form c.Ref call.Ref (ref_of first rest))
+    (unwrap_or (form c.Edit (λ v. call.Prop v.0 v.1) (prop_of first rest)) no_form))))
 
 -- Heads.
 

@@ -39,6 +39,7 @@ class_of (call.Edit change) = c.Edit
 class_of (call.Read look) = c.Read
 class_of (call.Commit message) = c.Commit
 class_of (call.Ref r) = c.Ref
+class_of (call.Prop name value) = c.Edit
 
 abbrev pub access_takes : Access → Class → Bool
 access_takes (access.Write branch tries policy) c.Ref = false
@@ -58,6 +59,7 @@ is_commit_call (call.Edit change) = false
 is_commit_call (call.Read look) = false
 is_commit_call (call.Commit message) = true
 is_commit_call (call.Ref r) = false
+is_commit_call (call.Prop name value) = false
 
 abbrev pub is_commit : Option Line → Bool
 is_commit None = false

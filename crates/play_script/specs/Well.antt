@@ -77,6 +77,7 @@ IsWellCall (call.Edit change) = IsWellEdit change
 IsWellCall (call.Read look) = IsWellRead look
 IsWellCall (call.Commit message) = IsWellText message
 IsWellCall (call.Ref r) = IsWellRef r
+IsWellCall (call.Prop name value) = IsWellText name × IsWellText value
 
 -- a number of a line, which is at most that of the first byte too many
 abbrev pub IsLineNumber : ℕ → Type 0

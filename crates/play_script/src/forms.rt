@@ -6,7 +6,7 @@ ghost use Rattle.play_script.specs.declared.scripts.Call.TheVariants as Call;
 ghost use Rattle.play_script.specs.declared.scripts.Class.TheVariants as Class;
 ghost use Rattle.play_script.specs.Parts.{◌&◌};
 ghost use Rattle.play_script.specs.Values.{text_of, path_of, index_of, bytes_of};
-ghost use Rattle.play_script.specs.Forms.{taken, lone_path, path_and_text, array_of, path_and_array, path_and_index, chunk_and_bytes, chunk_and_byte, lone_key, key_and_bytes, node_edit_of, chunk_edit_of, key_edit_of, edit_of, read_of, commit_of, ref_of, form, form_of};
+ghost use Rattle.play_script.specs.Forms.{taken, lone_path, path_and_text, array_of, path_and_array, path_and_index, chunk_and_bytes, chunk_and_byte, lone_key, key_and_bytes, node_edit_of, chunk_edit_of, key_edit_of, edit_of, read_of, commit_of, name_and_value, prop_of, ref_of, form, form_of};
 
 use crate::arrays::array_text;
 use crate::boxed::Boxed;
@@ -209,6 +209,24 @@ fn key_and_bytes(
     }
 }
 
+/// A name and one space, and all that is left behind them.
+#[tactic(auto, unfolding(crate::specs::Forms::name_and_value))]
+fn name_and_value(
+    alloc: Global,
+    rest: Option<&str>,
+) -> Result<Result<(Boxed<Text>, Boxed<Text>), ScriptKind>, AllocError>
+    ensures { IfOk result (λ r. r ≡ name_and_value (seen rest.entry)) }
+{
+    let Some((name, rest)) = next(rest) else {
+        return Ok(Err(ScriptKind::Word));
+    };
+    let name = Boxed::new(alloc, text_in(alloc, name)?)?;
+    match boxed(alloc, rest_text(alloc, rest)?)? {
+        Ok(value) => Ok(Ok((name, value))),
+        Err(kind) => Ok(Err(kind)),
+    }
+}
+
 /// What a line calls that changes a node.
 #[tactic(auto, unfolding(crate::specs::Forms::node_edit_of))]
 fn node_edit(
@@ -362,6 +380,21 @@ fn refs_in(alloc: Global, first: &str, rest: Option<&str>) -> Result<Option<Form
     }
 }
 
+/// A line that adds a property to the commit.
+#[tactic(auto, unfolding(crate::specs::Forms::prop_of))]
+fn prop_in(alloc: Global, first: &str, rest: Option<&str>) -> Result<Option<Form>, AllocError>
+    ensures { IfOk result (λ f. f ≡ form Class.Edit (λ v. Call.Prop v.0 v.1) (prop_of first.now (seen rest.entry))) }
+{
+    let call = match first {
+        "prop" => name_and_value(alloc, rest)?.map(|(name, value)| Call::Prop { name, value }),
+        _ => return Ok(None),
+    };
+    Ok(Some(Form {
+        class: Class::Edit,
+        call,
+    }))
+}
+
 /// A body line by its first word.
 #[tactic(auto, unfolding(crate::specs::Forms::form_of))]
 pub fn form_in(alloc: Global, first: &str, rest: Option<&str>) -> Result<Form, AllocError>
@@ -377,6 +410,9 @@ pub fn form_in(alloc: Global, first: &str, rest: Option<&str>) -> Result<Form, A
         return Ok(form);
     }
     if let Some(form) = refs_in(alloc, first, rest)? {
+        return Ok(form);
+    }
+    if let Some(form) = prop_in(alloc, first, rest)? {
         return Ok(form);
     }
     Ok(Form {

@@ -6,8 +6,8 @@
 //!
 //! - `task NAME write BRANCH TRIES POLICY`, a task that edits: lines `group PATH`, `array PATH TYPE SHAPE CHUNKS FILL`,
 //!   `make PATH JSON`, `meta PATH JSON`, `drop PATH`, `set PATH INDEX HEX`, `fill PATH INDEX BYTE`, `unset PATH INDEX`,
-//!   `zset KEY HEX`, `zdel KEY`, and those of a task that reads, then at most one `commit MESSAGE`; JSON and MESSAGE are the
-//!   rest of the line and may be empty;
+//!   `zset KEY HEX`, `zdel KEY`, `prop PROPERTY VALUE`, and those of a task that reads, then at most one `commit MESSAGE`;
+//!   JSON, VALUE and MESSAGE are the rest of the line and may be empty;
 //! - `task NAME read AT`, a task that reads: lines `list PATH`, `get PATH`, `chunk PATH INDEX` and `zget KEY`;
 //! - `task NAME refs`, a task about refs: lines `branch REF AT`, `reset REF AT`, `unbranch REF`, `tag REF AT`, `untag REF` and
 //!   `log AT`, one at least;
@@ -19,8 +19,8 @@
 //! POLICY is `fail`, `ours` or `theirs`, alone or followed by `+a`, `+g` or `+ag`. AT is `branch REF`, `tag REF` or `id ID`.
 //! SHAPE and CHUNKS are numbers of up to 128 bits, and INDEX of up to 32 bits, joined by commas, or `-` for none; FILL is a
 //! number of 128 bits with a sign. HEX is pairs of lower-case digits of base 16, or `-` for no bytes; BYTE is one such pair.
-//! A KEY is any word. A CUTOFF is microseconds since 1970 in up to 20 digits, or `@` and an instant; FLAGS is `keep`, `branches`,
-//! `tags` or `both`.
+//! A KEY or a PROPERTY is any word. A CUTOFF is microseconds since 1970 in up to 20 digits, or `@` and an instant; FLAGS is
+//! `keep`, `branches`, `tags` or `both`.
 #![tactic(auto)]
 
 mod arrays;

@@ -163,6 +163,13 @@ pub enum Call {
     },
     /// A call on refs.
     Ref(Boxed<RefCall>),
+    /// Adds a property to the snapshot that the task commits.
+    Prop {
+        /// The property's name, any word.
+        name: Boxed<Text>,
+        /// The property's value, any UTF-8.
+        value: Boxed<Text>,
+    },
 }
 
 /// The classes of calls: a head takes all lines of a class, or none.

@@ -16,6 +16,8 @@ use Rattle.zarr_meta.specs.Meta.{meta_of}
 use Rattle.zarr_meta.specs.Plain.{group_text}
 use Rattle.zarr_tree.specs.Nodes.{Node}
 use Rattle.zarr_changes.specs.Sets.{add_refusal, text_refusal, drop_refusal, unset_refusal}
+use Rattle.snapshot_file.specs.declared.properties.PropFault.{PropFault}
+use Rattle.snapshot_file.specs.Props.{prop_fault}
 use Rattle.snapshot_file.specs.declared.snapshot.SnapshotFile.{SnapshotFile}
 use Rattle.repo_objects.specs.declared.bad.Bad.{Bad}
 use Rattle.repo_objects.specs.Readings.{read_ref, read_snapshot, ref_of}
@@ -49,7 +51,7 @@ use Rattle.session.specs.declared.origin.Origin.TheVariants.{Writes, ReadsBranch
 use Rattle.session.specs.Sessions.{SessionState, branch_of, nodes_seen, origin_at, tip_at, tip_branch, tip_in, writes, writes_in}
 use Rattle.session.specs.Opening.{Asked, of_branch, origin_for, begun, base_program, open_program}
 use Rattle.session.specs.Chunks.{set_program, get_program, chunk_unset}
-use Rattle.session.specs.Editing.{group_fault, array_fault, node_fault, added, group_added, array_added, node_added, meta_set, node_dropped, drawn_node}
+use Rattle.session.specs.Editing.{group_fault, array_fault, node_fault, added, group_added, array_added, node_added, meta_set, node_dropped, drawn_node, unless_unfit, with_prop, prop_added}
 use Rattle.zarr_keys.specs.Keys.{meta_put, put_over, erased_at, key_erased, session_of}
 use Rattle.commit_path.specs.declared.commit.Tried.{Tried}
 use Rattle.commit_path.specs.declared.commit.Tried.TheVariants.{Done as Was_done, Lost}
@@ -104,6 +106,14 @@ drop-leaves s path = by_writes _ (writes s) _ (by_edit _ (drop_refusal (nodes_se
 unset-leaves : (s : SessionState) (path index : List ℕ) → Leaves s (chunk_unset s path index)
 unfolding chunk_unset
 unset-leaves s path index = by_writes _ (writes s) _ (by_edit _ (unset_refusal (nodes_seen s) path index) _ (record { base = refl; origin = refl }))
+
+by_prop : (s : SessionState) (o : Option PropFault) (r : Result SessionState Refusal) → Leaves s r → Leaves s (unless_unfit o r)
+by_prop s None r l = l
+by_prop s (Some fault) r l = tt
+
+prop-leaves : (s : SessionState) (name value : List ℕ) → Leaves s (prop_added s name value)
+unfolding prop_added
+prop-leaves s name value = by_writes _ (writes s) _ (by_prop s (prop_fault s.props name value) (Ok (with_prop s name value)) (record { base = refl; origin = refl }))
 
 node-leaves : (s : SessionState) (r : Result (Id8 × SessionState) Refusal) → IfOk r (λ a. IsSame s a.1) → Leaves s (session_of r)
 node-leaves s (Ok a) l = l
@@ -170,6 +180,7 @@ deed-same line s (call.Edit change) = edit-same s change
 deed-same line s (call.Read look) = read-same line s look
 deed-same line s (call.Commit message) = tt
 deed-same line s (call.Ref own) = same s
+deed-same line s (call.Prop name value) = silent-same s (prop_added s name value) (prop-leaves s name value)
 
 -- ---- what was asked for
 -- the same branch at another version

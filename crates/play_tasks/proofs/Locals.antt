@@ -11,12 +11,14 @@ use Rattle.zarr_meta.specs.declared.views.View.{View}
 use Rattle.zarr_meta.specs.Meta.{meta_of}
 use Rattle.zarr_tree.specs.declared.edit.EditFault.{EditFault}
 use Rattle.zarr_changes.specs.Sets.{add_refusal, text_refusal, drop_refusal, unset_refusal}
+use Rattle.snapshot_file.specs.declared.properties.PropFault.{PropFault}
+use Rattle.snapshot_file.specs.Props.{prop_fault}
 use Rattle.store_api.specs.declared.machines.Refusal.{Refusal}
 use Rattle.store_api.specs.declared.machines.Refusal.TheVariants as R
 use Rattle.store_api.specs.Program.{is_fault}
 use Rattle.store_api.specs.Plays.{Play, Or, Comes}
 use Rattle.session.specs.Sessions.{SessionState, writes, nodes_seen}
-use Rattle.session.specs.Editing.{Adds, Leaves, refusal_of_edit, node_fault, added, meta_set, node_dropped, if_writes, unless_bad, unless_refused, drawn_node}
+use Rattle.session.specs.Editing.{Adds, Leaves, refusal_of_edit, node_fault, added, meta_set, node_dropped, if_writes, unless_bad, unless_refused, unless_unfit, drawn_node, prop_added}
 use Rattle.session.specs.Chunks.{chunk_unset}
 use Rattle.zarr_keys.specs.Keys.{session_of}
 use Rattle.play_script.specs.declared.scripts.Access.{Access}
@@ -73,6 +75,14 @@ drop_local s p = by_writes (writes s) _ (by_edit (drop_refusal (nodes_seen s) p)
 pub unset_local : (s : SessionState) (p i : List ℕ) → IsLocal (chunk_unset s p i)
 unfolding chunk_unset
 unset_local s p i = by_writes (writes s) _ (by_edit (unset_refusal (nodes_seen s) p i) _ (λ why e. absurd (cc)))
+
+by_prop : {A : Type 0} (o : Option PropFault) (r : Result A Refusal) → IsLocal r → IsLocal (unless_unfit o r)
+by_prop None r l why e = l why e
+by_prop (Some fault) r l why e = let x : R.BadProp fault ≡ why = cc in sym (ap is_fault x)
+
+pub prop_local : (s : SessionState) (name value : List ℕ) → IsLocal (prop_added s name value)
+unfolding prop_added
+prop_local s name value = by_writes (writes s) _ (by_prop (prop_fault s.props name value) _ (λ why e. absurd (cc)))
 
 adds-local : (expected : Result (Id8 × SessionState) Refusal) (s t : SessionState) (r : Result Id8 Refusal) → IsLocal expected → Adds expected s r t → is_local (without_id r) ≡ true
 adds-local expected s t (Ok id) l a = refl

@@ -109,6 +109,7 @@ deed-bytes line (call.Edit change) s path index bytes well d = edit-bytes change
 deed-bytes line (call.Read look) s path index bytes well d = absurd (reads-no-bytes line look s path index bytes d)
 deed-bytes line (call.Commit message) s path index bytes well d = absurd cc
 deed-bytes line (call.Ref own) s path index bytes well d = absurd cc
+deed-bytes line (call.Prop name value) s path index bytes well d = absurd cc
 
 key-set-no-message : (held : List ℕ) (o : Option ZarrKey) (s : SessionState) (message : List ℕ) → key_set_deed held o s ≡ Commits message → ⊥
 key-set-no-message held None s message d = cc
@@ -142,6 +143,7 @@ deed-utf8 : (line : ℕ) (x : Call) (s : SessionState) (message : List ℕ) → 
 deed-utf8 line (call.Edit change) s message well d = absurd (edits-no-message change s message d)
 deed-utf8 line (call.Read look) s message well d = absurd (reads-no-message line look s message d)
 deed-utf8 line (call.Ref own) s message well d = absurd cc
+deed-utf8 line (call.Prop name value) s message well d = absurd cc
 deed-utf8 line (call.Commit own) s message well d = let is : own ≡ message = cc in subst IsUtf8 is (IsUtf8-from_is_utf8 own well)
 
 module _ (L : Laws) (by : Caller) (ids : AnyIds) (access : Access) (body : List Line) (opened : SessionState) (start : List Event) where

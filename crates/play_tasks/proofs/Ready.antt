@@ -20,10 +20,14 @@ use Rattle.zarr_tree.specs.Nodes.{Node}
 use Rattle.zarr_changes.specs.Sets.{add_refusal, text_refusal, drop_refusal, unset_refusal}
 use Rattle.object_store.specs.declared.events.Event.{Event}
 use Rattle.store_api.specs.declared.machines.Refusal.{Refusal}
+use Rattle.std.proofs.lemmas.Str.{IsUtf8-from_is_utf8}
+use Rattle.snapshot_file.specs.declared.properties.PropFault.{PropFault}
+use Rattle.snapshot_file.specs.Props.{prop_fault}
 use Rattle.session.specs.Sessions.{SessionState, writes, nodes_seen}
 use Rattle.session.specs.Sources.{IsLater}
+use Rattle.commit_path.proofs.Adding.{prop-added, prop-owned}
 use Rattle.session.specs.Chunks.{chunk_unset}
-use Rattle.session.specs.Editing.{group_fault, array_fault, node_fault, added, group_added, array_added, node_added, meta_set, node_dropped, if_writes, unless_bad, unless_refused, drawn_node}
+use Rattle.session.specs.Editing.{group_fault, array_fault, node_fault, added, group_added, array_added, node_added, meta_set, node_dropped, if_writes, unless_bad, unless_refused, unless_unfit, drawn_node, with_prop, prop_added}
 use Rattle.commit_path.specs.Own.{Owns, OwningLaw}
 use Rattle.commit_path.specs.Opened.{IsOpened}
 use Rattle.commit_path.specs.Spelled.{IsSpelled}
@@ -81,6 +85,14 @@ drop-later s path = by_writes _ (writes s) _ (by_edit _ (drop_refusal (nodes_see
 unset-later : (s : SessionState) (path index : List ℕ) → DrawsOn s.ids (chunk_unset s path index)
 unfolding chunk_unset
 unset-later s path index = by_writes _ (writes s) _ (by_edit _ (unset_refusal (nodes_seen s) path index) _ (later-same s.ids))
+
+by_prop : (s : SessionState) (o : Option PropFault) (r : Result SessionState Refusal) → DrawsOn s.ids r → DrawsOn s.ids (unless_unfit o r)
+by_prop s None r l = l
+by_prop s (Some fault) r l = tt
+
+prop-later : (s : SessionState) (name value : List ℕ) → DrawsOn s.ids (prop_added s name value)
+unfolding prop_added
+prop-later s name value = by_writes _ (writes s) _ (by_prop s (prop_fault s.props name value) (Ok (with_prop s name value)) (later-same s.ids))
 
 put-later : (o : Option Node) (s : SessionState) (path text : List ℕ) → DrawsOn s.ids (put_over o s path text)
 put-later (Some node) s path text = text-later s path text
@@ -172,4 +184,8 @@ module _ (L : SessionLaw) (O : OwningLaw) (ids : AnyIds) (client : ℕ) (start :
   deed-ready line (call.Edit change) s went journal well ready d = edits-ready change s went journal well ready d
   deed-ready line (call.Read look) s went journal well ready d = reads-ready line look s went journal ready d
   deed-ready line (call.Commit message) s went journal well ready d = absurd cc
+  deed-ready line (call.Prop name value) s went journal well ready d = change-ready s went journal ready (prop_added s name value) (prop_added s name value) (prop-later s name value) (λ t e. (
+    L.props s t name value journal (IsUtf8-from_is_utf8 name well.0) (IsUtf8-from_is_utf8 value well.1) e ready.spelled ready.opened,
+    prop-owned ids client s t name value start journal (prop-added s t name value e) ready.owned,
+  )) refl (cc)
   deed-ready line (call.Ref own) s went journal well ready d = let is : ([], s) ≡ went = cc in subst (λ (x : List Shown × SessionState). IsReady ids client start x.1 journal) is ready

@@ -72,6 +72,7 @@ other-spelled s ids w = record {
   frozen = w.frozen;
   free = w.free;
   chunks = w.chunks;
+  props = w.props;
   few = w.few;
 }
 

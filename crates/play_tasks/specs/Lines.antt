@@ -14,12 +14,12 @@ use Rattle.session.specs.declared.chunks.Value.{Value}
 use Rattle.session.specs.declared.chunks.Value.TheVariants.{Held, Fill}
 use Rattle.session.specs.Sessions.{SessionState, nodes_seen}
 use Rattle.session.specs.Chunks.{chunk_unset}
-use Rattle.session.specs.Editing.{group_added, array_added, node_added, meta_set, node_dropped, text_at, listed}
+use Rattle.session.specs.Editing.{group_added, array_added, node_added, meta_set, node_dropped, prop_added, text_at, listed}
 use Rattle.zarr_keys.specs.declared.values.KeyValue.{KeyValue}
 use Rattle.zarr_keys.specs.declared.values.KeyValue.TheVariants.{Bytes, Absent}
 use Rattle.zarr_keys.specs.Keys.{meta_value, chunk_value, session_of, meta_put, key_erased}
 use Rattle.play_script.specs.declared.scripts.Call.{Call}
-use Rattle.play_script.specs.declared.scripts.Call.TheVariants.{Edit, Read, Commit, Ref}
+use Rattle.play_script.specs.declared.scripts.Call.TheVariants.{Edit, Read, Commit, Ref, Prop}
 use Rattle.play_script.specs.declared.scripts.EditCall.{EditCall}
 use Rattle.play_script.specs.declared.scripts.EditCall.TheVariants.{Group, Array, Make, Meta, Drop, Set, Fill as Fill_call, Unset, KeySet, KeyErase}
 use Rattle.play_script.specs.declared.scripts.ReadCall.{ReadCall}
@@ -136,3 +136,4 @@ deed line (Edit edit) s = edit_deed edit s
 deed line (Read read) s = read_deed line read s
 deed line (Commit message) s = Commits message
 deed line (Ref call) s = Goes (Ok ([], s))
+deed line (Prop name value) s = Goes (silent (prop_added s name value))

@@ -2,7 +2,7 @@
 
 ghost use Rattle.std.specs.Prelude.{ℕ, ◌≡◌, ◌≤◌, ◌+◌, ◌-◌, ◌*◌, ◌++◌, true, length, map, IfOk, OnErr};
 ghost use Rattle.store_api.specs.Plays.{Comes};
-ghost use Rattle.session.specs.Editing.{listed, text_at};
+ghost use Rattle.session.specs.Editing.{listed, prop_added, text_at};
 ghost use Rattle.play_tasks.specs.Lines.{node_shown, nodes_shown, meta_shown, deed, edit_deed, read_deed, Goes, Commits, edited, silent, still, read_by};
 ghost use Rattle.play_tasks.specs.inside.Working.{is_clean, is_well, is_local, without_id, working_rest, working_left, most_steps, lines_from, Edits, Looks, LineComes, CallComes, IsBounded};
 
@@ -251,6 +251,28 @@ fn play_commit(
     Step::Stop(begin_commit(alloc, line, tries, shown, message, session))
 }
 
+/// Adds a property to the snapshot that the session commits.
+fn add_prop(name: &Text, value: &Text, session: &mut Session) -> Result<(), Refusal>
+    ensures edits { Edits (prop_added session.old name.now value.now) result session.new }
+    ensures local { is_local result ≡ true }
+{
+    session.add_prop(name.as_str(), value.as_str())
+}
+
+fn play_prop(line: u32, name: &Text, value: &Text, mut session: Session, shown: Vec<Shown>) -> Step
+    ensures comes { (at : ℕ) → CallComes line at shown.items session (Goes (silent (prop_added session name.now value.now))) result }
+    ensures clean { is_clean result ≡ true }
+    ensures bounded { (at : ℕ) → IsBounded at result }
+{
+    match add_prop(name, value, &mut session) {
+        Ok(()) => Step::On { session, shown },
+        Err(why) => {
+            drop(session);
+            Step::Stop(refuse(line, shown, why))
+        }
+    }
+}
+
 /// Plays a line on a session that was opened so; the line behind it has the number `at`.
 fn play_line(
     alloc: Global,
@@ -276,6 +298,7 @@ fn play_line(
             shown,
         ),
         Call::Ref(_) => Step::On { session, shown },
+        Call::Prop { name, value } => play_prop(line.number, name, value, session, shown),
     }
 }
 

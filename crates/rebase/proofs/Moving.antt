@@ -163,6 +163,7 @@ same-spelled s version w = record {
   frozen = w.frozen;
   free = w.free;
   chunks = w.chunks;
+  props = w.props;
   few = w.few;
 }
 
@@ -199,5 +200,6 @@ module _ (s : SessionState) (id : Id12) (version : ℕ) where
     frozen = moved-frozen policy l left r;
     free = moved-free policy l left r;
     chunks = sized-fewer s.held.chunks r.less.rows r.less.fewer w.chunks;
+    props = w.props;
     few = subst (λ (held : Held Place). len (nodes_over held (nodes_in l.file.nodes)) ≤ most_nodes) r.less.is few;
   })

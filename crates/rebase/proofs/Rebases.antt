@@ -10,17 +10,12 @@ use Rattle.ice_ids.specs.Text.{same_id12}
 use Rattle.manifest_file.specs.declared.manifest.Place.{Place}
 use Rattle.snapshot_file.specs.declared.snapshot.SnapshotFile.{SnapshotFile}
 use Rattle.txn_file.specs.declared.log.TxnFile.{TxnFile}
-use Rattle.txn_file.specs.Logs.{txn_of}
-use Rattle.txn_file.specs.Laws.{OrderedLaw, TouchedLaw}
-use Rattle.flat_tables.specs.declared.fault.FileFault.{FileFault}
 use Rattle.repo_objects.specs.declared.bad.Bad.{Bad}
-use Rattle.repo_objects.specs.Readings.{read_log, in_file, under}
 use Rattle.repo_objects.specs.Trees.{nodes_in}
 use Rattle.zarr_path.specs.Paths.{path_cmp}
 use Rattle.zarr_tree.specs.declared.cases.Conflict.{Conflict}
 use Rattle.zarr_tree.specs.declared.lists.Touched.{Touched}
 use Rattle.zarr_tree.specs.Nodes.{Node}
-use Rattle.zarr_tree.specs.Touched.{IsOrdered}
 use Rattle.zarr_tree.specs.Held.{Held}
 use Rattle.zarr_changes.specs.Edits.{without_chunks}
 use Rattle.conflicts.specs.declared.solving.Policy.{Policy}
@@ -158,21 +153,6 @@ module _ (policy : Policy) (held : Held Place) (before : FinMap path_cmp Node) (
   link-went reply log w t q result l n =
       subst (λ (p : Program Rebased). Took p reply q result) (sym (past (Get (Txn f.id)) (log_told f.id) link-behind k))
       (log-went f.id reply (λ log. link-behind log >>= k) w log t q result l n)
-
--- the lists of a log that was read stand in order
-pub lists-ordered : OrderedLaw → TouchedLaw → (id : Id12) (reply : Reply) (log : TxnFile) → log_told id reply ≡ Ok log → IsOrdered log.lists
-unfolding read_log
-lists-ordered o t id (Got (Found bytes version now)) log e = by_file (txn_of bytes) refl e
-  where
-    by_id : (l : TxnFile) → txn_of bytes ≡ Ok l → (b : Bool) → at_key (Txn id) (cond b (Ok l) (Err (Rattle.repo_objects.specs.declared.bad.Bad.TheVariants.WrongId l.id))) ≡ Ok log → IsOrdered log.lists
-    by_id l is true e = let same : l ≡ log = cc in subst (λ (x : TxnFile). IsOrdered x.lists) same (t.listed l.id l.lists (o bytes l is))
-    by_id l is false e = absurd (cc)
-
-    by_file : (r : Result TxnFile FileFault) → txn_of bytes ≡ r → at_key (Txn id) (Rattle.repo_objects.specs.Readings.◌>>=◌ (in_file r) (λ l. under id l.id l)) ≡ Ok log → IsOrdered log.lists
-    by_file (Ok l) is e = by_id l is (same_id12 l.id id) e
-    by_file (Err fault) is e = absurd (cc)
-lists-ordered o t id (Got (Absent now)) log e = absurd (cc)
-lists-ordered o t id _ log e = absurd (cc)
 
 -- ---- states of the machine
 module _ (policy : Policy) (session : Option SessionState) where

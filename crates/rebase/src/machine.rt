@@ -13,6 +13,7 @@ use crate::rebasing::{Rebasing, Solving, Walk};
 use crate::solving::{before_of, held_of, is_too_full, taken_out, without};
 use commit_path::Writer;
 use conflicts::Policy;
+use held_log::HeldLists;
 use ice_items::Items;
 use repo_objects::Loaded;
 use repo_read::{MOST_SNAPSHOTS, Resolved, log_told, ref_told, snapshot_told};
@@ -20,9 +21,8 @@ use session::Session;
 use std::alloc::{AllocError, Global};
 use std::mem;
 use store_api::{Key, Machine, Next, Refusal, Reply, Request, Store, drive};
-use txn_file::laws::{ordered_law, touched_law};
 use zarr_changes::ChangeSet;
-use zarr_tree::{EditFault, Touched};
+use zarr_tree::EditFault;
 
 /// What a rebase came to, with the session.
 #[derive(Drop)]
@@ -256,11 +256,9 @@ impl Rebase {
         ensures session { KeepsSession result (rebase_session self.old) (rebase_session self.new) }
         ensures listed { IfErr result MayRefuseRebase }
     {
-        ordered_law();
-        touched_law();
-        match log_told(self.alloc, solving.oldest.file().id, reply) {
+        match log_told(solving.oldest.file().id, reply) {
             Ok(log) => {
-                let answer = self.on_lists(solving, &log.lists);
+                let answer = self.on_lists(solving, &log.lists());
                 drop(log);
                 answer
             }
@@ -272,7 +270,7 @@ impl Rebase {
     }
 
     /// A commit's log was read: the conflicts with it are solved.
-    fn on_lists(&mut self, solving: Solving, lists: &Touched) -> Result<Next<Rebased>, Refusal>
+    fn on_lists(&mut self, solving: Solving, lists: &HeldLists) -> Result<Next<Rebased>, Refusal>
         requires live { IsSome self.old.session }
         requires ended { self.old.state ≡ Rebasing.Ended }
         requires order { IsOrdered lists.now }

@@ -13,13 +13,14 @@ ghost use Rattle.rebase.specs.inside.Working.{Clears, GivesUp, Shows, MayRefuseC
 
 use crate::hiding::first_hidden;
 use conflicts::{ChunkPlace, Policy, Solved, detect, keys_at, solve};
+use held_log::HeldLists;
 use ice_items::Items;
 use repo_objects::{Bad, Loaded};
 use session::Session;
 use std::alloc::{AllocError, Global};
 use store_api::{Key, Refusal};
 use zarr_changes::{ChangeSet, ChunkKey};
-use zarr_tree::{MOST_NODES, Touched};
+use zarr_tree::MOST_NODES;
 
 /// The snapshot of the commit before, or else the session's base.
 pub(crate) fn before_of<'a>(session: &'a Session, before: &'a Option<Loaded>) -> &'a Loaded
@@ -48,7 +49,7 @@ fn given_up(
     held: &ChangeSet,
     before: &Loaded,
     commit: &Loaded,
-    lists: &Touched,
+    lists: &HeldLists,
 ) -> Result<Items<ChunkPlace>, Refusal>
     requires { IsOrdered lists.now }
     ensures given { GivesUp policy held.now (nodes_in before.now.nodes) (record { file = commit.now; lists = lists.now }) result }
@@ -87,7 +88,7 @@ pub(crate) fn taken_out(
     held: &ChangeSet,
     before: &Loaded,
     commit: &Loaded,
-    lists: &Touched,
+    lists: &HeldLists,
 ) -> Result<Items<ChunkKey>, Refusal>
     requires { IsOrdered lists.now }
     ensures clears { Clears policy held.now (nodes_in before.now.nodes) (record { file = commit.now; lists = lists.now }) result }

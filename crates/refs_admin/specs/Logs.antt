@@ -1,5 +1,5 @@
 -- The program that reads the log of a snapshot's chain. (Icechunk specification version 1, "Snapshots": each names its parent, and has a
--- message and the time of its flush.)
+-- message, properties and the time of its flush.)
 use Rattle.std.specs.Prelude.{List, map, Ok, Err}
 use Rattle.ice_ids.specs.declared.Id12.{Id12}
 use Rattle.snapshot_file.specs.declared.snapshot.SnapshotFile.{SnapshotFile}
@@ -14,7 +14,7 @@ use Rattle.repo_read.specs.Resolving.{no_ref, resolve_at_program}
 
 -- what the log says of a snapshot
 abbrev pub line_of : SnapshotFile → LogLine
-line_of s = record { id = s.id; flushed_at = s.flushed_at; message = s.message }
+line_of s = record { id = s.id; flushed_at = s.flushed_at; message = s.message; props = s.props }
 
 -- its lines, in the order of the snapshots
 abbrev pub told_lines : List SnapshotFile → Program (List LogLine)

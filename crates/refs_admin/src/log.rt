@@ -16,6 +16,7 @@ use ice_ids::Id12;
 use ice_items::Items;
 use repo_objects::Loaded;
 use repo_read::{At, MOST_SNAPSHOTS, Resolution, Resolving, snapshot_told};
+use snapshot_file::Props;
 use std::alloc::{AllocError, Global};
 use std::mem;
 use store_api::{Key, Machine, Next, Refusal, Reply, Request, Store, drive};
@@ -29,6 +30,8 @@ pub struct LogLine {
     pub flushed_at: u64,
     /// The message of its commit.
     pub message: Text,
+    /// The properties of its commit.
+    pub props: Props,
 }
 
 /// Lines of a log.
@@ -259,6 +262,7 @@ fn line_of(alloc: Global, loaded: &Loaded) -> Result<LogLine, AllocError>
         id: file.id,
         flushed_at: file.flushed_at,
         message: file.message.copy(alloc)?,
+        props: file.props.copy(alloc)?,
     })
 }
 

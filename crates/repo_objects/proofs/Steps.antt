@@ -36,9 +36,9 @@ loads_fault {B = B} r next fault u reads is = rw is (by_fault reads)
 
 -- ---- logs
 
-pub log_fault : (id : Id12) (bytes : List ℕ) (fault : FileFault) (u : Unread) → Reads (λ x. x) (Err fault) (txn_of bytes) → u ≡ unread_of fault → Loads (read_log id bytes) (Err u)
+pub log_fault : (id : Id12) (bytes : List ℕ) (fault : FileFault) → txn_of bytes ≡ Err fault → read_log id bytes ≡ Err (File fault)
 unfolding read_log
-log_fault id bytes fault u reads is = loads_fault (txn_of bytes) (λ log. under id log.id log) fault u reads is
+log_fault id bytes fault is = rw is refl
 
 pub log_same : (id : Id12) (bytes : List ℕ) (log : TxnFile) → txn_of bytes ≡ Ok log → same_id12 log.id id ≡ true → read_log id bytes ≡ Ok log
 unfolding read_log

@@ -14,4 +14,4 @@ pub use bad::{Bad, Unread};
 pub use chunks::{chunk_read, inline_read};
 pub use laws::{initial_law, log_law, manifest_law, ref_law, snapshot_law};
 pub use loaded::Loaded;
-pub use readings::{log_read, manifest_hold, ref_read};
+pub use readings::{log_hold, manifest_hold, ref_read};

@@ -7,12 +7,12 @@ ghost use Rattle.repo_objects.specs.inside.Metas.{unread_of, unread_ref_of};
 
 use crate::bad::{Bad, Unread};
 use flat_tables::FileFault;
+use held_log::HeldLog;
 use held_manifest::{Held, hold};
 use ice_base::Bytes;
 use ice_ids::Id12;
 use ref_file::RefFault;
 use std::alloc::Global;
-use txn_file::TxnFile;
 
 /// Why a file isn't read.
 pub(crate) fn unread(fault: FileFault) -> Unread
@@ -21,24 +21,6 @@ pub(crate) fn unread(fault: FileFault) -> Unread
     match fault {
         FileFault::NoMemory => Unread::NoMemory,
         fault => Unread::Bad(Bad::File(fault)),
-    }
-}
-
-/// Reads a transaction log under the id of its key, which is that of its snapshot. (Icechunk specification version 1,
-/// "Transaction log".)
-#[tactic(auto, using(crate::proofs::Steps::log_fault, crate::proofs::Steps::log_same, crate::proofs::Steps::log_other))]
-pub fn log_read(alloc: Global, id: Id12, file: &[u8]) -> Result<TxnFile, Unread>
-    ensures { Loads (read_log id file.now) result }
-{
-    match txn_file::read(alloc, file) {
-        Err(fault) => Err(unread(fault)),
-        Ok(log) => {
-            if log.id == id {
-                Ok(log)
-            } else {
-                Err(Unread::Bad(Bad::WrongId(log.id)))
-            }
-        }
     }
 }
 
@@ -60,6 +42,23 @@ pub fn manifest_hold(id: Id12, file: Bytes) -> Result<Held, Bad>
     }
 }
 
+/// Holds the file of a transaction log, to be read in place, under the id of its key, which is that of its snapshot. It takes no
+/// memory. (Icechunk specification version 1, "Transaction log".)
+pub fn log_hold(id: Id12, file: Bytes) -> Result<HeldLog, Bad>
+    ensures { result ≡ read_log id file }
+{
+    match held_log::hold(file) {
+        Err((_, fault)) => Err(Bad::File(fault)),
+        Ok(log) => {
+            if log.id() == id {
+                Ok(log)
+            } else {
+                Err(Bad::WrongId(log.id()))
+            }
+        }
+    }
+}
+
 /// Why a reference isn't read.
 fn unread_ref(fault: RefFault) -> Unread
     ensures { result ≡ unread_ref_of fault }
@@ -71,7 +70,6 @@ fn unread_ref(fault: RefFault) -> Unread
 }
 
 /// Reads a reference: the id of the snapshot to which it refers. (Icechunk specification version 1, "Reference Files".)
-
 pub fn ref_read(alloc: Global, file: &[u8]) -> Result<Id12, Unread>
     ensures { Loads (read_ref file.now) result }
 {

@@ -4,13 +4,13 @@ ghost use Rattle.std.specs.Prelude.{◌≡◌, IfErr};
 ghost use Rattle.repo_read.specs.Answers.{ref_told, snapshot_told, manifest_told, log_told, object_told, Answers};
 ghost use Rattle.repo_read.specs.Programs.{MayRefuseRef, MayRefuseObject};
 
+use held_log::HeldLog;
 use held_manifest::Held;
 use ice_base::{Bytes, RefName};
 use ice_ids::Id12;
-use repo_objects::{Loaded, Unread, chunk_read, log_read, manifest_hold, ref_read};
+use repo_objects::{Loaded, Unread, chunk_read, log_hold, manifest_hold, ref_read};
 use std::alloc::Global;
 use store_api::{Got, Key, Refusal, Reply, Version};
-use txn_file::TxnFile;
 
 /// What a branch names: a snapshot, from this version on.
 #[derive(Clone, Copy, Debug, PartialEq, Eq)]
@@ -95,10 +95,10 @@ pub fn manifest_told(id: Id12, reply: Reply) -> Result<Held, Refusal>
     }
 }
 
-/// What a reply to the get of a transaction log tells. Refusals: `Missing` where it was absent, `BadFile` where its bytes are no
-/// log of this id, `StoreFault` where the get failed, or `NoMemory`.
-pub fn log_told(alloc: Global, id: Id12, reply: Reply) -> Result<TxnFile, Refusal>
-    ensures told { Answers (log_told id reply) result }
+/// What a reply to the get of a transaction log tells. It takes no memory. Refusals: `Missing` where it was absent, `BadFile`
+/// where its bytes are no log of this id, or `StoreFault` where the get failed.
+pub fn log_told(id: Id12, reply: Reply) -> Result<HeldLog, Refusal>
+    ensures told { result ≡ log_told id reply }
     ensures listed { IfErr result MayRefuseObject }
 {
     let Reply::Got(got) = reply else {
@@ -112,10 +112,9 @@ pub fn log_told(alloc: Global, id: Id12, reply: Reply) -> Result<TxnFile, Refusa
     else {
         return Err(Refusal::Missing(Key::Txn(id)));
     };
-    match log_read(alloc, id, bytes.as_slice()) {
+    match log_hold(id, bytes) {
         Ok(log) => Ok(log),
-        Err(Unread::NoMemory) => Err(Refusal::NoMemory),
-        Err(Unread::Bad(bad)) => Err(Refusal::BadFile(Key::Txn(id), bad)),
+        Err(bad) => Err(Refusal::BadFile(Key::Txn(id), bad)),
     }
 }
 

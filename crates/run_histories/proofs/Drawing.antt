@@ -17,7 +17,8 @@ use Rattle.zarr_meta.specs.declared.views.View.{View}
 use Rattle.zarr_meta.specs.Plain.{group_text}
 use Rattle.store_api.specs.declared.machines.Refusal.{Refusal}
 use Rattle.session.specs.Sessions.{SessionState}
-use Rattle.session.specs.Editing.{group_fault, array_fault, node_fault, added, group_added, array_added, node_added, meta_set, node_dropped}
+use Rattle.session.specs.Editing.{group_fault, array_fault, node_fault, added, group_added, array_added, node_added, meta_set, node_dropped, prop_added}
+use Rattle.commit_path.proofs.Adding.{prop-added}
 use Rattle.session.specs.Chunks.{chunk_unset}
 use Rattle.session.specs.Sources.{MayDrawObject}
 use Rattle.commit_path.specs.Laws.{TellsFaults}
@@ -100,6 +101,10 @@ module _ (draw : Draw) (client : ℕ) where
   edited-draws (Unset path index) s t known e = unset-draws s t path index known e
   edited-draws (KeySet key bytes) s t known e = stays-draws s t known e
   edited-draws (KeyErase key) s t known e = key-draws s t key known e
+
+  -- and behind a property
+  pub prop-draws : (s t : SessionState) (name value : List ℕ) → AreOf draw client s.ids → prop_added s name value ≡ Ok t → AreOf draw client t.ids
+  prop-draws s t name value known e = subst (λ (x : SessionState). AreOf draw client x.ids) (sym (prop-added s t name value e).is) known
 
   -- and behind a chunk that was set
   pub set-draws : (s t : SessionState) → AreOf draw client s.ids → SetsChunk s t → AreOf draw client t.ids

@@ -24,14 +24,17 @@ use Rattle.object_store.specs.declared.events.Event.{Event}
 use Rattle.store_api.specs.declared.machines.Refusal.{Refusal}
 use Rattle.session.specs.Sessions.{SessionState, base_tree, nodes_seen}
 use Rattle.session.specs.Sources.{IsLater}
-use Rattle.session.specs.Editing.{group_fault, array_fault, node_fault, added, group_added, array_added, node_added, meta_set, node_dropped}
+use Rattle.session.specs.Editing.{group_fault, array_fault, node_fault, added, group_added, array_added, node_added, meta_set, node_dropped, prop_added}
+use Rattle.commit_path.proofs.Adding.{prop-added}
+use Rattle.std.specs.BTreeMap.{insert_entry}
+use Rattle.snapshot_file.specs.Props.{name_cmp}
 use Rattle.session.specs.Chunks.{chunk_unset}
 use Rattle.commit_path.specs.Laws.{TellsFaults}
 use Rattle.commit_path.proofs.Editing.{Added, node-added, text-set, node-dropped}
 use Rattle.commit_path.proofs.Sources.{later-same}
 use Rattle.zarr_keys.specs.Keys.{session_of, meta_value, put_over, erased_at, key_erased}
 use Rattle.play_script.specs.declared.scripts.Call.{Call}
-use Rattle.play_script.specs.declared.scripts.Call.TheVariants.{Edit, Read as Read_call, Commit, Ref}
+use Rattle.play_script.specs.declared.scripts.Call.TheVariants.{Edit, Read as Read_call, Commit, Ref, Prop}
 use Rattle.play_script.specs.declared.scripts.EditCall.{EditCall}
 use Rattle.play_script.specs.declared.scripts.EditCall.TheVariants.{Group, Array, Make, Meta, Drop, Set, Fill, Unset, KeySet, KeyErase}
 use Rattle.play_script.specs.declared.scripts.ReadCall.{ReadCall}
@@ -77,7 +80,10 @@ still-leads s (Ok old) shown t e = inl (sym (ap (λ (q : List Shown × SessionSt
 still-leads s (Err why) shown t e = cc
 
 unset-leads : (path index : List ℕ) (s t : SessionState) → chunk_unset s path index ≡ Ok t → Edits s t
-unset-leads path index s t e = inr (inr (inr (inr (unset-edits s t path index e))))
+unset-leads path index s t e = inr (inr (inr (inr (inl (unset-edits s t path index e)))))
+
+prop-leads : (name value : List ℕ) (s t : SessionState) → prop_added s name value ≡ Ok t → Edits s t
+prop-leads name value s t e = let a = prop-added s t name value e in inr (inr (inr (inr (inr (record { props = insert_entry name_cmp s.props name value; is = a.is })))))
 
 -- a key's metadata is put
 put-edits : (o : Option Node) (path text : List ℕ) (s t : SessionState) → is_path path ≡ true → put_over o s path text ≡ Ok t → Edits s t
@@ -127,6 +133,7 @@ call-leads line (Edit edit) s well = edit-leads edit s well
 call-leads line (Read_call look) s well = read-leads line look s
 call-leads line (Commit message) s well = tt
 call-leads line (Ref call) s well = still-leads s (Ok [])
+call-leads line (Prop name value) s well = silent-leads s (prop_added s name value) (λ t e. prop-leads name value s t e)
 
 -- ---- the lines of a task
 -- what holds behind a line that leads on

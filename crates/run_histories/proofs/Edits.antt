@@ -75,8 +75,13 @@ pub record UnsetsChunk (s t : SessionState) : Type 0 where
   pub allowed : unset_refusal (nodes_seen s) path index ≡ None
   pub is : t ≡ without_chunk s path index
 
+-- a property of the commit to come, which leaves the changes
+pub record AddsProp (s t : SessionState) : Type 0 where
+  pub props : List (List ℕ × List ℕ)
+  pub is : t ≡ record s { props = props }
+
 abbrev pub Edits : SessionState → SessionState → Type 0
-Edits s t = AddsNode s t ⊎ (SetsText s t ⊎ (DropsNode s t ⊎ (SetsChunk s t ⊎ UnsetsChunk s t)))
+Edits s t = AddsNode s t ⊎ (SetsText s t ⊎ (DropsNode s t ⊎ (SetsChunk s t ⊎ (UnsetsChunk s t ⊎ AddsProp s t))))
 
 -- the source after a chunk was set
 set-later : (s t : SessionState) (a : SetsChunk s t) → IsLater s.ids a.ids
@@ -240,7 +245,8 @@ module _ (ids : AnyIds) (spends : SpendsNodes ids) (s : SessionState) (later : I
   edit-keeps t (inr (inl a)) = text-keeps t a
   edit-keeps t (inr (inr (inl a))) = drop-keeps t a
   edit-keeps t (inr (inr (inr (inl a)))) = set-keeps t a
-  edit-keeps t (inr (inr (inr (inr a)))) = unset-keeps t a
+  edit-keeps t (inr (inr (inr (inr (inl a))))) = unset-keeps t a
+  edit-keeps t (inr (inr (inr (inr (inr a))))) = subst (IsKept ids) (sym a.is) (record { added = k.added; dropped = k.dropped; normal = k.normal })
 
 -- an edit leaves the base
 pub edit-at : (s t : SessionState) → Edits s t → t.base ≡ s.base
@@ -248,14 +254,16 @@ edit-at s t (inl a) = ap (λ (x : SessionState). x.base) a.is
 edit-at s t (inr (inl a)) = ap (λ (x : SessionState). x.base) a.is
 edit-at s t (inr (inr (inl a))) = ap (λ (x : SessionState). x.base) a.is
 edit-at s t (inr (inr (inr (inl a)))) = ap (λ (x : SessionState). x.base) a.is
-edit-at s t (inr (inr (inr (inr a)))) = ap (λ (x : SessionState). x.base) a.is
+edit-at s t (inr (inr (inr (inr (inl a))))) = ap (λ (x : SessionState). x.base) a.is
+edit-at s t (inr (inr (inr (inr (inr a))))) = ap (λ (x : SessionState). x.base) a.is
 
 pub edit-base : (s t : SessionState) → Edits s t → t.rows ≡ s.rows
 edit-base s t (inl a) = ap (λ (x : SessionState). x.rows) a.is
 edit-base s t (inr (inl a)) = ap (λ (x : SessionState). x.rows) a.is
 edit-base s t (inr (inr (inl a))) = ap (λ (x : SessionState). x.rows) a.is
 edit-base s t (inr (inr (inr (inl a)))) = ap (λ (x : SessionState). x.rows) a.is
-edit-base s t (inr (inr (inr (inr a)))) = ap (λ (x : SessionState). x.rows) a.is
+edit-base s t (inr (inr (inr (inr (inl a))))) = ap (λ (x : SessionState). x.rows) a.is
+edit-base s t (inr (inr (inr (inr (inr a))))) = ap (λ (x : SessionState). x.rows) a.is
 
 -- an edit leaves one text for each node
 set-metas : (h : Held Place) (index : List ℕ) (place : Place) (there : Option Node) → (held.with_chunk h index place there).metas ≡ h.metas
@@ -274,8 +282,9 @@ edit-texts s t (inr (inl a)) one =
 edit-texts s t (inr (inr (inl a))) one = subst (λ (x : SessionState). HasOneTextEach x.held) (sym a.is) (drop-texts s.held (base_nodes s) a.path one)
 edit-texts s t (inr (inr (inr (inl a)))) one =
     same-texts t.held s.held (ap (λ (x : SessionState). x.held.metas) a.is ∙ set-metas s.held a.index a.place (get (nodes_over s.held (base_nodes s)) a.path)) one
-edit-texts s t (inr (inr (inr (inr a)))) one =
+edit-texts s t (inr (inr (inr (inr (inl a))))) one =
     same-texts t.held s.held (ap (λ (x : SessionState). x.held.metas) a.is ∙ unset-metas s.held a.index (get s.held.added a.path) (get (nodes_over s.held (base_nodes s)) a.path)) one
+edit-texts s t (inr (inr (inr (inr (inr a))))) one = subst (λ (x : SessionState). HasOneTextEach x.held) (sym a.is) one
 
 -- ---- along edits
 -- What holds along the lines of a task: the session's source is a later one, it holds one text for each node, and it is kept, where the first source
@@ -290,7 +299,8 @@ edit-later s t (inl a) = subst (λ (x : SessionState). IsLater s.ids x.ids) (sym
 edit-later s t (inr (inl a)) = subst (λ (x : SessionState). IsLater s.ids x.ids) (sym a.is) (later-same s.ids)
 edit-later s t (inr (inr (inl a))) = subst (λ (x : SessionState). IsLater s.ids x.ids) (sym a.is) (later-same s.ids)
 edit-later s t (inr (inr (inr (inl a)))) = subst (λ (x : SessionState). IsLater s.ids x.ids) (sym a.is) (set-later s t a)
-edit-later s t (inr (inr (inr (inr a)))) = subst (λ (x : SessionState). IsLater s.ids x.ids) (sym a.is) (later-same s.ids)
+edit-later s t (inr (inr (inr (inr (inl a))))) = subst (λ (x : SessionState). IsLater s.ids x.ids) (sym a.is) (later-same s.ids)
+edit-later s t (inr (inr (inr (inr (inr a))))) = subst (λ (x : SessionState). IsLater s.ids x.ids) (sym a.is) (later-same s.ids)
 
 -- nodes of the base are new where the base stays
 pub own-stay : (ids : AnyIds) (s t : SessionState) → t.rows ≡ s.rows → OwnAreNew ids t → OwnAreNew ids s

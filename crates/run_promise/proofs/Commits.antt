@@ -92,6 +92,7 @@ call-commits number (C.Edit edit) s message e = absurd (edit-commits edit s mess
 call-commits number (C.Read look) s message e = absurd (read-commits number look s message e)
 call-commits number (C.Commit own) s message e = let is : own ≡ message = cc in ap (λ (m : List ℕ). C.Commit m) is
 call-commits number (C.Ref call) s message e = absurd cc
+call-commits number (C.Prop name value) s message e = absurd cc
 
 -- ---- where a session began
 began-branch : (trees : Id12 → Option Tree) (changes : ℕ → Changes) (client : ℕ) (branch : List ℕ) (writes : _) (s : SessionState) (start journal : List Event) → told.BeganAtBranch trees changes client branch writes s start journal → FoundBranch (files_by trees) changes client branch s.base start journal

@@ -38,9 +38,10 @@ use Rattle.store_api.specs.Journal.{WasPut, IsGoodJournal, IsOnce, puts_of}
 use Rattle.session.specs.declared.chunks.Value.{Value}
 use Rattle.session.specs.declared.chunks.Value.TheVariants.{Held, Fill}
 use Rattle.session.specs.Sessions.{SessionState, nodes_seen, base_tree, changes_in, overlay}
-use Rattle.session.specs.Editing.{group_fault, array_fault, node_fault, added, group_added, array_added, node_added, meta_set, node_dropped, with_node, listing, listed, beneath, text_at, if_there}
+use Rattle.session.specs.Editing.{group_fault, array_fault, node_fault, added, group_added, array_added, node_added, meta_set, node_dropped, prop_added, with_node, listing, listed, beneath, text_at, if_there}
 use Rattle.session.specs.Editing as session
 use Rattle.session.specs.Chunks.{most_inline, with_chunk, without_chunk, after_draw, chunk_unset}
+use Rattle.commit_path.proofs.Adding.{PropAdded, prop-added, prop-opened}
 use Rattle.commit_path.specs.Laws.{TellsFaults}
 use Rattle.commit_path.specs.Opened.{IsOpened}
 use Rattle.commit_path.proofs.Editing.{node-added, text-set, node-dropped, added-opened, set-opened, dropped-opened}
@@ -348,6 +349,16 @@ module _ (client : ℕ) (start journal : List Event) (good : IsGoodJournal journ
       (ap (λ (x : Shown). Some (x ∷ [])) (chunk-shown number d.1 ((overlay put s).chunk path index) (held-is s path index d.1 frozen d.3)) ∙ ap (λ (xs : List Shown). Some xs) (sym d.2), d.0)
   read-shown number (R.KeyGet key) s t shown frozen d = key_get-shown number s t shown (key_of key) frozen d
 
+  -- a property shows nothing, and leaves the tree
+  prop-did : (s t : SessionState) (name value : List ℕ) (shown : List Shown) → line.silent (prop_added s name value) ≡ Ok (shown, t) → (shown ≡ []) × PropAdded s t name value
+  prop-did s t name value shown d = by_answer (prop_added s name value) refl d
+    where
+      by_answer : (r : Result SessionState Refusal) → prop_added s name value ≡ r → line.silent r ≡ Ok (shown, t) → (shown ≡ []) × PropAdded s t name value
+      by_answer (Ok u) is e =
+          let same = pair-same ([], u) (shown, t) e in
+          (sym (ap (λ (q : List Shown × SessionState). q.0) same), prop-added s t name value (is ∙ ap (λ (q : List Shown × SessionState). Ok q.1) same))
+      by_answer (Err why) is e = absurd cc
+
   -- ---- a line
   pub line-does : (number : ℕ) (call : Call) (s t : SessionState) (shown : List Shown) → KeepsFrozen s.held s.rows → AreNormal put s t → DidPlay client (line.deed number call s) s start shown t journal → Does number call (overlay put s) shown (overlay put t)
   line-does number (C.Edit edit) s t shown frozen n d = did-edits edit s t shown (edit-did edit s t shown d) n
@@ -356,6 +367,9 @@ module _ (client : ℕ) (start journal : List Event) (good : IsGoodJournal journ
   line-does number (C.Ref call) s t shown frozen n d =
       let same = pair-same ([], s) (shown, t) d in
       (sym (ap (λ (q : List Shown × SessionState). q.0) same), sym (ap (λ (q : List Shown × SessionState). overlay put q.1) same))
+  line-does number (C.Prop name value) s t shown frozen n d =
+      let p = prop-did s t name value shown d in
+      (p.0, subst (λ (x : SessionState). overlay put x ≡ overlay put s) (sym p.1.is) refl)
 
   -- it knows as much of the journal, and has the same base
   pub record GoesOn (s t : SessionState) : Type 0 where
@@ -370,4 +384,7 @@ module _ (client : ℕ) (start journal : List Event) (good : IsGoodJournal journ
   line-goes number (C.Edit edit) s t shown d o = let did = edit-did edit s t shown d in record { opened = did.took.opened o; rows = did.took.rows; at = did.took.at }
   line-goes number (C.Read look) s t shown d o = same-goes s t (look-stays number look s t shown d) o
   line-goes number (C.Commit message) s t shown d o = absurd d
+  line-goes number (C.Prop name value) s t shown d o =
+      let a = (prop-did s t name value shown d).1 in
+      record { opened = prop-opened s t name value journal a o; rows = ap (λ (x : SessionState). x.rows) a.is; at = ap (λ (x : SessionState). x.base) a.is }
   line-goes number (C.Ref call) s t shown d o = same-goes s t (sym (ap (λ (q : List Shown × SessionState). q.1) (pair-same ([], s) (shown, t) d))) o

@@ -94,12 +94,13 @@ pub record Edits (edit : EditCall) (t : Tree) (shown : List Shown) (u : Tree) : 
   pub silent : shown ≡ []
 
 -- A call that was played on a session that sees the tree t, what it showed, and the tree behind it. A commit is none of these; calls on refs stand in
--- no session's body.
+-- no session's body; a property is the commit's, and leaves the tree as it is.
 abbrev pub Does : ℕ → Call → Tree → List Shown → Tree → Type 0
 Does line (C.Edit edit) t shown u = Edits edit t shown u
 Does line (C.Read read) t shown u = (shown_of line read t ≡ Some shown) × (u ≡ t)
 Does line (C.Commit message) t shown u = ⊥
 Does line (C.Ref call) t shown u = (shown ≡ []) × (u ≡ t)
+Does line (C.Prop name value) t shown u = (shown ≡ []) × (u ≡ t)
 
 -- lines one after another
 unfoldable pub Plays : List Line → Tree → List Shown → Tree → Type 0

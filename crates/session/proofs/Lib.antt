@@ -4,3 +4,4 @@ pub mod Changing
 pub mod SeenRows
 pub mod Chunking
 pub mod ReadSteps
+pub mod PropAdding

@@ -106,13 +106,16 @@ coded_origin = code_by Named (coded× coded_ℕ (coded× coded_path coded_ℕ)) 
 abbrev pub Opened : Type 0
 Opened = Origin × List ℕ
 
+abbrev pub Props : Type 0
+Props = List (List ℕ × List ℕ)
+
 abbrev pub Changed : Type 0
-Changed = (List NodeRow × List ManifestInfo) × (Held Place × AnyIds)
+Changed = (List NodeRow × List ManifestInfo) × (Held Place × (Props × AnyIds))
 
 abbrev pub coded_session : Coded SessionState
 coded_session =
     code_by (Opened × Changed)
-    (coded× (coded× coded_origin coded_path) (coded× (coded× (coded_list coded_row) (coded_list coded_file)) (coded× (coded_held coded_place) coded_ids)))
-    (λ s. ((s.origin, s.base.0), ((s.rows, s.files), (s.held, s.ids))))
-    (λ p. record { origin = p.0.0; base = record { 0 = p.0.1 }; rows = p.1.0.0; files = p.1.0.1; held = p.1.1.0; ids = p.1.1.1 })
+    (coded× (coded× coded_origin coded_path) (coded× (coded× (coded_list coded_row) (coded_list coded_file)) (coded× (coded_held coded_place) (coded× (coded_list (coded× coded_path coded_path)) coded_ids))))
+    (λ s. ((s.origin, s.base.0), ((s.rows, s.files), (s.held, (s.props, s.ids)))))
+    (λ p. record { origin = p.0.0; base = record { 0 = p.0.1 }; rows = p.1.0.0; files = p.1.0.1; held = p.1.1.0; props = p.1.1.1.0; ids = p.1.1.1.1 })
     (λ _. refl)

@@ -1,6 +1,7 @@
 -- The calls of a session.
 use Rattle.std.specs.Prelude.{◌≡◌, ◌⊎◌, ℕ, Bool, true, false, List, map, Option, Some, None, option_map, ok_or, Result, Ok, Err}
 use Rattle.std.specs.Borrow.{Bor}
+use Rattle.std.specs.BTreeMap.{insert_entry}
 use Rattle.std.specs.FinMap.{get, entries}
 use Rattle.std.specs.List.{filter}
 use Rattle.ice_ids.specs.declared.Id8.{Id8}
@@ -17,6 +18,8 @@ use Rattle.zarr_tree.specs.declared.edit.EditFault.{EditFault}
 use Rattle.zarr_tree.specs.declared.edit.EditFault.TheVariants as E
 use Rattle.zarr_changes.specs.Edits.{with_added, with_text_at, without_node}
 use Rattle.zarr_changes.specs.Sets.{add_refusal, text_refusal, drop_refusal}
+use Rattle.snapshot_file.specs.declared.properties.PropFault.{PropFault}
+use Rattle.snapshot_file.specs.Props.{name_cmp, prop_fault}
 use Rattle.store_api.specs.declared.machines.Refusal.{Refusal}
 use Rattle.store_api.specs.declared.machines.Refusal.TheVariants as R
 use Rattle.session.specs.declared.session.Listing.{Listing}
@@ -105,6 +108,18 @@ without s path = record s { held = without_node s.held (base_nodes s) path }
 -- the session without the node at a path and all beneath it, or the first refusal: ReadOnly, that of the edit on its tree
 unfoldable pub node_dropped : SessionState → (path : List ℕ) → Result SessionState Refusal
 node_dropped s path = if_writes (writes s) (unless_refused (drop_refusal (nodes_seen s) path) (Ok (without s path)))
+
+-- ---- properties of the snapshot to come
+abbrev pub with_prop : SessionState → (name value : List ℕ) → SessionState
+with_prop s name value = record s { props = insert_entry name_cmp s.props name value }
+
+abbrev pub unless_unfit : {A : Type 0} → Option PropFault → Result A Refusal → Result A Refusal
+unless_unfit None r = r
+unless_unfit (Some fault) r = Err (R.BadProp fault)
+
+-- the session with one more property of the snapshot that it commits, or the first refusal: ReadOnly, BadProp
+unfoldable pub prop_added : SessionState → (name value : List ℕ) → Result SessionState Refusal
+prop_added s name value = if_writes (writes s) (unless_unfit (prop_fault s.props name value) (Ok (with_prop s name value)))
 
 -- ---- what the calls answer and leave
 -- nothing changed but that one id may have been drawn

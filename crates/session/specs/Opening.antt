@@ -1,5 +1,5 @@
 -- The program of an opening: it gets what names a snapshot, if that is a ref, and then the snapshot.
-use Rattle.std.specs.Prelude.{ℕ, ◌+◌, if◌then◌else◌, Bool, Option, Some, None, Ok, Err}
+use Rattle.std.specs.Prelude.{ℕ, ◌+◌, if◌then◌else◌, Bool, [], Option, Some, None, Ok, Err}
 use Rattle.ice_ids.specs.declared.drawing.AnyIds.{AnyIds}
 use Rattle.snapshot_file.specs.declared.snapshot.SnapshotFile.{SnapshotFile}
 use Rattle.zarr_changes.specs.Edits.{nothing}
@@ -41,7 +41,7 @@ origin_for a named = origin_named a.writes a.at named.version
 
 -- the session that begins at the snapshot that was named
 abbrev pub begun : Asked → Named → SnapshotFile → SessionState
-begun a named snap = record { origin = origin_for a named; base = named.id; rows = snap.nodes; files = snap.manifest_files; held = nothing; ids = a.ids }
+begun a named snap = record { origin = origin_for a named; base = named.id; rows = snap.nodes; files = snap.manifest_files; held = nothing; props = []; ids = a.ids }
 
 -- gets the snapshot that was named
 abbrev pub base_program : Asked → Named → Program SessionState

@@ -19,14 +19,15 @@ use Rattle.session.specs.declared.origin.Tip.{Tip}
 use Rattle.session.specs.declared.origin.Origin.{Origin}
 use Rattle.session.specs.declared.origin.Origin.TheVariants.{Writes, ReadsBranch, ReadsTag, ReadsId}
 
--- What named a session's base, and whether it writes; the snapshot that is its base, with its rows and manifests; what was changed of it; and the
--- ids to draw.
+-- What named a session's base, and whether it writes; the snapshot that is its base, with its rows and manifests; what was changed of it; the
+-- properties of the snapshot that it commits; and the ids to draw.
 pub record SessionState : Type 0 where
   pub origin : Origin
   pub base : Id12
   pub rows : List NodeRow
   pub files : List ManifestInfo
   pub held : Held Place
+  pub props : List (List ℕ × List ℕ)
   pub ids : AnyIds
 
 -- ---- what named the base

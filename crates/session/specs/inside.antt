@@ -1,2 +1,3 @@
+pub mod Props
 pub mod Reads
 pub mod Working

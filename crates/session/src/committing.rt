@@ -18,7 +18,6 @@ use ice_base::{Bytes, Text};
 use ice_ids::{Id8, Id12, Ids};
 use ice_items::Items;
 use manifest_file::Place;
-use snapshot_file::Props;
 use std::alloc::AllocError;
 use zarr_changes::ChangedArray;
 use zarr_path::Index;
@@ -54,18 +53,17 @@ impl Session {
     }
 
     /// The file of the snapshot of this session under an id, flushed at this time, with these new lists of manifests, which stand in
-    /// the order of their paths' bytes, and with this message and these properties; `TooLarge` where it would be longer than
-    /// a file may be.
+    /// the order of their paths' bytes, with this message and the session's properties; `TooLarge` where it would be longer than a
+    /// file may be.
     pub fn write(
         &self,
         id: Id12,
         flushed_at: u64,
         news: &[NewList],
         message: &Text,
-        props: &Props,
     ) -> Result<Bytes, WriteFault>
         requires { Ascends list_key None news.now }
-        ensures { Writes result (snapshot_bytes (snapshot_over self.now.held news.now self.now.rows self.now.files (record { id = id; parent = self.now.base; flushed_at = flushed_at }) message.now props.now)) }
+        ensures { Writes result (snapshot_bytes (snapshot_over self.now.held news.now self.now.rows self.now.files (record { id = id; parent = self.now.base; flushed_at = flushed_at }) message.now self.now.props)) }
     {
         let stamp = Stamp {
             id,
@@ -79,7 +77,7 @@ impl Session {
             news,
             stamp,
             message,
-            props,
+            &self.props,
         )
     }
 

@@ -9,6 +9,7 @@ mod moving;
 mod open;
 mod opening;
 mod origin;
+mod properties;
 mod putting;
 mod reading;
 mod rows;

@@ -8,6 +8,7 @@ use ice_base::RefName;
 use ice_ids::{AnyIds, Id12};
 use ice_items::Items;
 use repo_objects::Loaded;
+use snapshot_file::Props;
 use std::alloc::Global;
 use std::marker::Model;
 use store_api::Version;
@@ -35,6 +36,7 @@ pub struct Session {
     pub(crate) loaded: Loaded,
     pub(crate) changes: ChangeSet,
     pub(crate) reader: MetaReader,
+    pub(crate) props: Props,
     pub(crate) ids: AnyIds,
 }
 
@@ -58,6 +60,7 @@ impl Model for Session {
 }
 
 impl Session {
+    ghost use Rattle.std.specs.Prelude.{[]};
     ghost use Rattle.zarr_changes.specs.Edits.{nothing};
 
     /// A session over this snapshot, without changes.
@@ -68,7 +71,7 @@ impl Session {
         base: Id12,
         loaded: Loaded,
     ) -> Session
-        ensures { result ≡ record { origin = origin; base = base; rows = loaded.nodes; files = loaded.manifest_files; held = nothing; ids = ids } }
+        ensures { result ≡ record { origin = origin; base = base; rows = loaded.nodes; files = loaded.manifest_files; held = nothing; props = []; ids = ids } }
     {
         // What was loaded has no more nodes than a tree may have.
         let _ = loaded.file();
@@ -79,6 +82,7 @@ impl Session {
             loaded,
             changes: ChangeSet::new(alloc),
             reader: MetaReader::new(),
+            props: Props::new(alloc),
             ids,
         }
     }
@@ -129,11 +133,13 @@ impl Session {
             loaded,
             changes,
             reader,
+            props,
             ..
         } = self;
         drop(loaded);
         drop(changes);
         drop(reader);
+        drop(props);
         match origin {
             Origin::Writes(tip) => tip.branch,
             Origin::ReadsBranch(_) | Origin::ReadsTag(_) | Origin::ReadsId => unreachable!(),

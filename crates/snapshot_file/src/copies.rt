@@ -4,6 +4,7 @@ ghost use Rattle.std.specs.Prelude.{◌≡◌, IfOk};
 
 use crate::lists::Names;
 use crate::nodes::{ManifestRef, NodeKind, NodeRow};
+use crate::properties::Props;
 use ice_base::Text;
 use ice_items::Items;
 use std::alloc::{AllocError, Global};
@@ -51,6 +52,19 @@ pub fn copy_manifests(
         copy.push(manifest.copy(alloc)?)?;
     }
     Ok(Items::from_vec(copy))
+}
+
+impl Props {
+    /// The same properties once more.
+    pub fn copy(&self, alloc: Global) -> Result<Props, AllocError>
+        ensures { IfOk result (λ copy. copy ≡ self.now) }
+    {
+        let mut rows = Vec::with_capacity(alloc, self.len())?;
+        for (name, value) in self.rows() {
+            rows.push((name.copy(alloc)?, value.copy(alloc)?))?;
+        }
+        Ok(Props::from_rows(alloc, rows))
+    }
 }
 
 impl ManifestRef {

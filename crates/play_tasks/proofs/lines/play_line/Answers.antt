@@ -1,5 +1,6 @@
-use Rattle.std.proofs.Common.{sym, subst}
+use Rattle.std.proofs.Common.{◌∙◌, ℕ, List, sym, ap, subst}
 use Rattle.play_script.specs.declared.scripts.Call.{Call}
+use Rattle.play_script.specs.declared.scripts.Call.TheVariants.{Prop}
 use Rattle.play_tasks.specs.Lines.{deed}
 use Rattle.play_tasks.specs.inside.Working.{LineComes}
 use Rattle.play_tasks.proofs.lines.play_line.Goals as goal
@@ -15,3 +16,12 @@ returns-in-Edit-clause-comes c = subst (λ (x : Call). LineComes c.args.access.n
 
 pub returns-in-Read-clause-comes : goal.returns-in-Read-clause-comes
 returns-in-Read-clause-comes c = subst (λ (x : Call). LineComes c.args.access.now c.args.line.now.number c.args.at c.args.shown.items c.args.session (deed c.args.line.now.number x c.args.session) c.play_read.result) (sym c.in-Read.is) (c.play_read.ensures.comes c.args.access.now)
+
+pub returns-in-Prop-clause-comes : goal.returns-in-Prop-clause-comes
+returns-in-Prop-clause-comes c =
+    let name = c.deref.result.now in
+    let is = c.in-Prop.is ∙ (ap (λ (n : List ℕ). Prop n c.in-Prop.value) (sym c.deref.ensures) ∙ ap (λ (v : List ℕ). Prop name v) (sym c.deref-in-Prop.ensures)) in
+    subst (λ (x : Call). LineComes c.args.access.now c.args.line.now.number c.args.at c.args.shown.items c.args.session (deed c.args.line.now.number x c.args.session) c.play_prop.result) (sym is) (c.play_prop.ensures.comes c.args.at c.args.access.now)
+
+pub returns-in-Prop-clause-bounded : goal.returns-in-Prop-clause-bounded
+returns-in-Prop-clause-bounded c = c.play_prop.ensures.bounded c.args.at

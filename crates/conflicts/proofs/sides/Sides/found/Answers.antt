@@ -1,4 +1,4 @@
-use Rattle.std.proofs.Common.{◌≡◌, ◌∙◌, ℕ, List, ap, arith}
+use Rattle.std.proofs.Common.{◌≡◌, ◌∙◌, ap, arith}
 use Rattle.std.specs.FinMap.{keys}
 use Rattle.conflicts.specs.Found.{Sides}
 use Rattle.conflicts.proofs.Steps.{all-found}

@@ -1,4 +1,4 @@
-use Rattle.std.proofs.Common.{◌≡◌, ◌∙◌, ap, option_map}
+use Rattle.std.proofs.Common.{◌∙◌, ap, option_map}
 use Rattle.zarr_tree.specs.Touched.{lists}
 use Rattle.zarr_changes.proofs.Walking.{met_up, gone_met, met_next}
 use Rattle.conflicts.proofs.sides.Sides.is_gone.Goals as goal

@@ -1,11 +1,10 @@
-use Rattle.std.proofs.Common.{◌≡◌, ◌≤◌, ◌∙◌, ℕ, List, true, false, length, Some, sym, ap, arith}
+use Rattle.std.proofs.Common.{◌≡◌, ◌∙◌, ℕ, List, true, false, length, Some, sym, ap, arith}
 use Rattle.std.specs.Prelude.{slice_get}
 use Rattle.std.specs.Ordering.{is_lt}
 use Rattle.std.specs.FinMap.{entries, len, len-entries}
 use Rattle.zarr_path.specs.Paths.{path_cmp}
 use Rattle.zarr_tree.specs.Nodes.{Node}
 use Rattle.zarr_tree.specs.Rows.{node_found}
-use Rattle.zarr_tree.specs.Held.{Rows}
 use Rattle.conflicts.specs.Found.{Sides, of_row}
 use Rattle.conflicts.proofs.Steps.{before-pushed, none-before, all-before, from-later, from-here, from-none}
 use Rattle.conflicts.proofs.sides.Sides.push_before.Goals as goal

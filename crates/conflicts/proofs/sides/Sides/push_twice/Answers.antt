@@ -1,14 +1,18 @@
-use Rattle.std.proofs.Common.{◌≡◌, ◌∙◌, ◌++◌, ℕ, List, length, get_or, ap, arith}
-use Rattle.conflicts.specs.Found.{chunks_listed}
-use Rattle.conflicts.specs.inside.Looking.{twice_at}
-use Rattle.conflicts.proofs.Steps.{twice-more}
+use Rattle.std.proofs.Common.{◌≡◌, ◌∙◌, false, sym, ap}
+use Rattle.zarr_tree.specs.Rows.{node_found}
+use Rattle.zarr_changes.specs.Sets.{has_chunks}
+use Rattle.held_log.specs.LookUp.{chunks_listed}
+use Rattle.conflicts.specs.Found.{Sides}
+use Rattle.conflicts.proofs.Steps.{twice-next, none-both}
 use Rattle.conflicts.proofs.sides.Sides.push_twice.Goals as goal
 
-pub loop-index-preserved : goal.loop-index-preserved
-loop-index-preserved g c =
-    let listed : List (List ℕ) = chunks_listed c.args.self.now.theirs.updated_chunks c.args.node.id in
-    let is : c.chunks_listed-index-items.result.now ≡ listed = c.chunks_listed-index-items.ensures in
-    let many : length c.chunks_listed-index-items.result.now ≡ length listed = ap length is in
-    twice-more c.args.self.now c.args.path.now c.args.node.id listed c.loop-index.index-index c.index-item.result c.loop-index.found c.push_chunk.new.found _ (omega (arith, many, c.loop-index-test.true))
-    (c.in_ok-push_chunk.ensures ∙ ap (λ (i : List ℕ). c.loop-index.found ++ twice_at c.args.self.now c.args.path.now c.args.node.id i)
-    (c.index-item.is ∙ ap (λ (xs : List (List ℕ)). get_or xs c.loop-index.index-index c.index-item.result) is)) c.loop-index.invariant
+pub returns-then-not-contains : goal.returns-then-not-contains
+returns-then-not-contains g c =
+    let own : has_chunks c.args.self.now.held.chunks c.args.node.id ≡ false =
+    sym (ap (λ (s : Sides). has_chunks s.held.chunks c.args.node.id) c.self.view_is) ∙ sym (c.self.invariant.arrays c.args.node.id) ∙ sym c.contains.ensures ∙ c.if-not-contains.true in
+    none-both c.args.self.now c.args.path.now (node_found c.args.node) c.args.found.now own
+
+pub loop-at-preserved : goal.loop-at-preserved
+loop-at-preserved g c =
+    twice-next c.args.self.now c.args.path.now c.args.node.id (chunks_listed c.args.self.now.theirs.updated_chunks c.args.node.id) c.loop-at.at c.at.result c.loop-at.found c.push_chunk.new.found _
+    (sym (ap (λ xs. Rattle.std.specs.Prelude.slice_get xs c.loop-at.at) c.chunks_listed-listed.ensures) ∙ c.at.ensures) c.in_ok-push_chunk.ensures c.loop-at.invariant

@@ -1,0 +1,10 @@
+pub mod Walked
+pub mod Made
+pub mod Contained
+pub mod Found
+pub mod Rising
+pub mod Places
+pub mod Added
+pub mod Parts
+pub mod NoMemory
+pub mod Agreeing

@@ -1,0 +1,29 @@
+use Rattle.std.proofs.Common.{sym, subst, ◌∙◌}
+use Rattle.std.specs.Prelude.{IsOk, Result, Option}
+use Rattle.flat_tables.specs.declared.fault.FlatFault.{FlatFault}
+use Rattle.flat_tables.specs.Places.{VectorIn, vector_of}
+use Rattle.snapshot_file.specs.Snapshots.{files_in, files_of}
+use Rattle.held_manifest.proofs.Checked.{read_ok}
+use Rattle.held_manifest.proofs.Parts.{sized}
+use Rattle.held_snapshot.proofs.Parts.{found_ok, none_was, some_was}
+use Rattle.held_snapshot.proofs.files.held_files.Goals as goal
+
+pub unwrap-requires : goal.unwrap-requires
+unfolding files_of
+unwrap-requires c = subst (λ (r : Result (Option VectorIn) FlatFault). IsOk r) (sym c.vector.ensures.read) (found_ok (vector_of c.args.table.now 6 32) files_in c.requires)
+
+pub invariant_of-result : goal.invariant_of-result
+unfolding files_of
+invariant_of-result c =
+    let same = some_was (vector_of c.args.table.now 6 32) files_in c.in-Some.vector (sym c.vector.ensures.read ∙ c.in-Some.ensures) in
+    (subst (λ r. IsOk r) same c.requires, sized c.vector.result _ c.in-Some.vector 32 c.vector.ensures.size c.unwrap.ensures c.in-Some.is)
+
+pub returns-in-None : goal.returns-in-None
+unfolding files_of
+returns-in-None c = none_was (vector_of c.args.table.now 6 32) files_in (sym c.vector.ensures.read ∙ c.in-None.ensures)
+
+pub returns-in-Some : goal.returns-in-Some
+unfolding files_of
+returns-in-Some c =
+    let same = some_was (vector_of c.args.table.now 6 32) files_in c.in-Some.vector (sym c.vector.ensures.read ∙ c.in-Some.ensures) in
+    same ∙ read_ok (files_in c.in-Some.vector) (subst (λ r. IsOk r) same c.requires)

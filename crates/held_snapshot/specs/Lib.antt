@@ -1,0 +1,4 @@
+pub mod Views
+pub mod LookUp
+pub mod Files
+pub mod Laws
