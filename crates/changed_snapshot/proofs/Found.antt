@@ -15,7 +15,7 @@ use Rattle.zarr_path.specs.Paths.{path_cmp, same_path}
 use Rattle.zarr_path.proofs.OrderLaws.{same_path-true, same_path-refl}
 use Rattle.zarr_tree.specs.Nodes.{Node}
 use Rattle.zarr_tree.specs.Held.{Held, nodes_over}
-use Rattle.zarr_tree.proofs.Maps.{Path, get-made}
+use Rattle.zarr_tree.proofs.Maps.{Path}
 use Rattle.snapshot_file.specs.declared.nodes.NodeRow.{NodeRow}
 use Rattle.snapshot_file.specs.Snapshots.{manifests_named}
 use Rattle.repo_objects.specs.Trees.{node_of, nodes_in, row_at}
@@ -47,16 +47,6 @@ row_has P (x ∷ xs) p row all h = elim (same_path x.path p) as (λ b. cond b (S
   | true ↦ λ k. let is : x ≡ row = cc k in subst P is all.0
   | false ↦ λ k. row_has P xs p row all.1 k
 ] h
-
-found_node : (rows : List NodeRow) (p : Path) → find path_cmp p (map (λ (row : NodeRow). (row.path, node_of row)) rows) ≡ option_map node_of (row_at rows p)
-found_node [] p = refl
-found_node (x ∷ xs) p =
-    ap (λ b. cond b (Some (node_of x)) (find path_cmp p (map (λ (row : NodeRow). (row.path, node_of row)) xs))) (turned p x.path)
-    ∙ elim (same_path x.path p) as (λ b. cond b (Some (node_of x)) (find path_cmp p (map (λ (row : NodeRow). (row.path, node_of row)) xs)) ≡ option_map node_of (cond b (Some x) (row_at xs p))) [ true ↦ refl | false ↦ found_node xs p ]
-
--- the node at a path is that of the row there
-pub node_at_row : (rows : List NodeRow) (p : Path) → get (nodes_in rows) p ≡ option_map node_of (row_at rows p)
-node_at_row rows p = get-made (map (λ (row : NodeRow). (row.path, node_of row)) rows) p ∙ found_node rows p
 
 -- ---- the row of an entry
 

@@ -40,7 +40,8 @@ use Rattle.changed_snapshot.specs.Rows.{refs_of, infos_of, files_with, kind_of, 
 use Rattle.changed_snapshot.specs.Laws.{IsFineNode, AddsFine, SetsFine, IsSized, AreSized, FineLaw, ProperLaw}
 use Rattle.changed_snapshot.proofs.ArrayRows.{metadata_bytes, kind_is}
 use Rattle.changed_snapshot.proofs.FilesById.{files_ascend, infos_with}
-use Rattle.changed_snapshot.proofs.Found.{all_over, by_list, row_there, row_has, node_at_row}
+use Rattle.repo_objects.proofs.Rows.{node_at_row}
+use Rattle.changed_snapshot.proofs.Found.{all_over, by_list, row_there, row_has}
 use Rattle.changed_snapshot.proofs.Orders.{rows_ascend, rows_many, filter_ascends}
 use Rattle.changed_snapshot.proofs.Named.{rows_named}
 

@@ -27,7 +27,8 @@ use Rattle.repo_objects.specs.Trees.{Puts, bytes_at, node_of, nodes_in, row_at, 
 use Rattle.changed_snapshot.specs.declared.written.NewList.{NewList}
 use Rattle.changed_snapshot.specs.Rows.{new_list, manifests_for, kind_of, row_of, row_from, row_over, rows_over}
 use Rattle.changed_snapshot.specs.Laws.{HasMerged, TreeLaw}
-use Rattle.changed_snapshot.proofs.Found.{row_made, new_row, node_at_row}
+use Rattle.repo_objects.proofs.Rows.{node_at_row}
+use Rattle.changed_snapshot.proofs.Found.{row_made, new_row}
 use Rattle.changed_snapshot.proofs.Entered.{first-entry, no-entry}
 use Rattle.changed_snapshot.proofs.NodesHold.{nodes_hold}
 

@@ -8,6 +8,7 @@ ghost use Rattle.changed_snapshot.specs.inside.Named.{has_id, have_id, files_by_
 
 use crate::rows::RowsOver;
 use crate::written::NewList;
+use held_snapshot::HeldFiles;
 use ice_ids::Id12;
 use ice_items::Items;
 use snapshot_file::{ManifestInfo, ManifestRef, RowSource};
@@ -43,16 +44,26 @@ fn by_id(alloc: Global, files: &[ManifestInfo]) -> Result<BTreeMap<Id12, Manifes
     Ok(by_id)
 }
 
+/// Appends what a snapshot says of these manifests.
+fn push_files(all: &mut Vec<ManifestInfo>, files: &HeldFiles) -> Result<(), AllocError>
+    ensures { OnOk result (all.new.items ≡ all.old.items ++ files.now) }
+{
+    for at in 0..files.len() {
+        all.push(files.at(at))?;
+    }
+    Ok(())
+}
+
 /// New manifests and these, in the order of their ids, of two of one id the first.
 pub(crate) fn files_with(
     alloc: Global,
-    files: &[ManifestInfo],
+    files: &HeldFiles,
     news: &[NewList],
 ) -> Result<Items<ManifestInfo>, AllocError>
     ensures { IfOk result (λ with. with ≡ files_with files.now news.now) }
 {
     let mut all = infos_of(alloc, news)?;
-    all.extend_from_slice(files)?;
+    push_files(&mut all, files)?;
     let by_id = by_id(alloc, all.as_slice())?;
     Ok(Items::from_vec(by_id.into_values().collect(alloc)?))
 }

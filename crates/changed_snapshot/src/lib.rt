@@ -8,5 +8,4 @@ mod rows;
 mod written;
 
 pub use laws::{fine_law, frozen_law, nodes_law, own_law, proper_law, ranked_law, tree_law};
-pub use rows::row_at;
 pub use written::{NewList, NewLists, NewManifest, Stamp, write_over};

@@ -6,15 +6,15 @@ ghost use Rattle.zarr_path.specs.Paths.{path_cmp, same_path, is_path};
 ghost use Rattle.zarr_tree.specs.Nodes.{array_of_view};
 ghost use Rattle.zarr_tree.specs.Rows.{node_found};
 ghost use Rattle.flat_tables.specs.Rows.{Ascends};
-ghost use Rattle.snapshot_file.specs.Snapshots.{node_key};
 ghost use Rattle.repo_objects.specs.Trees.{row_at};
 ghost use Rattle.changed_snapshot.specs.Rows.{refs_of, new_list, list_key, kind_of, row_of, row_from, row_over, rows_over};
 
 use crate::names::copy_names;
 use crate::written::{NewList, NewManifest};
+use held_snapshot::{HeldNode, HeldNodes};
 use ice_items::Items;
 use repo_objects::Loaded;
-use snapshot_file::{ManifestRef, NodeKind, NodeRow, RowSource, Shape, copy_manifests};
+use snapshot_file::{ManifestRef, NodeKind, NodeRow, RowSource, Shape};
 use std::alloc::{AllocError, Global};
 use std::cmp::Ordering;
 use std::marker::Model;
@@ -83,40 +83,22 @@ fn row_from(
     alloc: Global,
     path: &str,
     found: &Found,
-    old: Option<&NodeRow>,
+    old: Option<HeldNode>,
 ) -> Result<NodeRow, AllocError>
     requires { IsTrue (is_path path.now) }
-    ensures { IfOk result (λ row. row ≡ row_from path.now (node_found found.now) (option_copied old.entry)) }
+    ensures { IfOk result (λ row. row ≡ row_from path.now (node_found found.now) old.entry) }
 {
     let Some(old) = old else {
         return row_of(alloc, path, found, Items::new(alloc));
     };
-    if old.id != found.id {
+    if old.id() != found.id {
         return row_of(alloc, path, found, Items::new(alloc));
     }
-    if old.user_data.as_slice() == found.meta.text.as_slice() {
+    if old.text() == found.meta.text.as_slice() {
         return old.copy(alloc);
     }
-    let manifests = copy_manifests(alloc, old.kind.manifests())?;
+    let manifests = old.kind().manifests().copy(alloc)?;
     row_of(alloc, path, found, manifests)
-}
-
-/// How a row's path compares with another.
-fn compare(row: &NodeRow, path: &str) -> Ordering
-    ensures { result ≡ path_cmp row.now.path path.now }
-{
-    row.path.as_str().cmp(path)
-}
-
-/// The row at a path, found by halves.
-pub fn row_at<'a>(rows: &'a [NodeRow], path: &str) -> Option<&'a NodeRow>
-    requires { Ascends node_key None rows.now }
-    ensures { option_copied result ≡ row_at rows.now path.now }
-{
-    match rows.binary_search_by(|row| compare(row, path)) {
-        Ok(at) => Some(&rows[at]),
-        Err(_) => None,
-    }
 }
 
 /// How a list's path compares with another.
@@ -137,6 +119,30 @@ fn list_at<'a>(news: &'a [NewList], path: &str) -> Option<&'a NewList>
     }
 }
 
+/// The row at a path: where it stands at this place, as is to be expected, nothing else is looked at; else it is found by halves.
+fn row_near<'a>(old: &HeldNodes<'a>, place: usize, path: &str) -> Option<HeldNode<'a>>
+    ensures { result ≡ row_at old.now path.now }
+{
+    if place < old.len() {
+        let row = old.at(place);
+        if row.path().cmp(path).is_eq() {
+            return Some(row);
+        }
+    }
+    old.find(path)
+}
+
+/// Where a path is to be expected, from a place on at which all paths before it are passed: at the first row that isn't before
+/// it.
+fn place_from(old: &HeldNodes, from: usize, path: &str) -> usize {
+    for place in from..old.len() {
+        if old.at(place).path().cmp(path).is_ge() {
+            return place;
+        }
+    }
+    old.len()
+}
+
 /// The list of a new manifest, if there is one.
 fn refs_of(alloc: Global, manifest: &Option<NewManifest>) -> Result<Items<ManifestRef>, AllocError>
     ensures { IfOk result (λ refs. refs ≡ refs_of manifest.now) }
@@ -151,46 +157,47 @@ fn refs_of(alloc: Global, manifest: &Option<NewManifest>) -> Result<Items<Manife
     Ok(refs)
 }
 
-/// The row of a node at a path, over the rows of a base, with its new list, if it has one.
+/// The row of a node at a path, over the rows of a base, in which it is to be expected at this place, with its new list, if it
+/// has one.
 fn row_over(
     alloc: Global,
-    old: &[NodeRow],
+    old: &HeldNodes,
+    place: usize,
     news: &[NewList],
     path: &str,
     found: &Found,
 ) -> Result<NodeRow, AllocError>
-    requires ascend { Ascends node_key None old.now }
     requires lists { Ascends list_key None news.now }
     requires path { IsTrue (is_path path.now) }
     ensures { IfOk result (λ row. row ≡ row_over path.now (node_found found.now) (row_at old.now path.now) (new_list news.now path.now)) }
 {
     match list_at(news, path) {
         Some(list) => row_of(alloc, path, found, refs_of(alloc, &list.manifest)?),
-        None => row_from(alloc, path, found, row_at(old, path)),
+        None => row_from(alloc, path, found, row_near(old, place, path)),
     }
 }
 
 /// The rows of nodes over those of a base, with new lists, each made where it is asked for. Contracts see the rows.
 #[derive(Drop)]
 pub(crate) struct RowsOver<'a> {
-    old: &'a [NodeRow],
+    old: HeldNodes<'a>,
     news: &'a [NewList],
     nodes: Vec<Row<'a>>,
+    places: Vec<usize>,
 }
 
 impl<'a> Model for RowsOver<'a> {
-    ghost use Rattle.std.specs.Prelude.{List, map, None};
+    ghost use Rattle.std.specs.Prelude.{List, map, length, ◌≡◌, None};
     ghost use Rattle.flat_tables.specs.Rows.{Ascends};
     ghost use Rattle.snapshot_file.specs.declared.nodes.NodeRow.{NodeRow as TheRow};
-    ghost use Rattle.snapshot_file.specs.Snapshots.{node_key};
     ghost use Rattle.zarr_changes.specs.Rows.{row_found, ArePaths};
     ghost use Rattle.changed_snapshot.specs.Rows.{list_key, rows_of};
 
     ghost Value = { List TheRow };
 
-    ghost view = { λ r. rows_of r.news.now r.old.now (map row_found r.nodes.items) };
+    ghost view = { λ r. rows_of r.news.now r.old (map row_found r.nodes.items) };
 
-    ghost invariant = { λ r. Ascends node_key None r.old.now × Ascends list_key None r.news.now × ArePaths (map row_found r.nodes.items) };
+    ghost invariant = { λ r. Ascends list_key None r.news.now × ArePaths (map row_found r.nodes.items) × (length r.places.items ≡ length r.nodes.items) };
 }
 
 impl<'a> RowSource for RowsOver<'a> {
@@ -202,7 +209,7 @@ impl<'a> RowSource for RowsOver<'a> {
 
     fn row(&self, alloc: Global, at: usize) -> Result<NodeRow, AllocError> {
         let (path, found) = self.nodes[at];
-        row_over(alloc, self.old, self.news, path, &found)
+        row_over(alloc, &self.old, self.places[at], self.news, path, &found)
     }
 }
 
@@ -217,12 +224,21 @@ pub(crate) fn rows_over<'a>(
     requires { Ascends list_key None news.now }
     ensures { IfOk result (λ rows. rows ≡ rows_over changes.now news.now base.now.nodes) }
 {
-    let old = base.file().nodes.as_slice();
+    let old = base.file().nodes();
     let mut left = changes.over(base);
     let most = old.len().saturating_add(changes.added_len());
     let mut nodes = Vec::with_capacity(alloc, most)?;
+    let mut places = Vec::with_capacity(alloc, most)?;
+    let mut place = 0;
     while let Some(row) = left.next() {
+        place = place_from(&old, place, row.0);
         nodes.push(row)?;
+        places.push(place)?;
     }
-    Ok(RowsOver { old, news, nodes })
+    Ok(RowsOver {
+        old,
+        news,
+        nodes,
+        places,
+    })
 }

@@ -80,7 +80,7 @@ pub fn write_over(
     ensures { Writes result (snapshot_bytes (snapshot_over changes.now news.now base.now.nodes base.now.manifest_files stamp message.now props.now)) }
 {
     let rows = rows_over(alloc, base, changes, news)?;
-    let files = files_with(alloc, base.file().manifest_files.as_slice(), news)?;
+    let files = files_with(alloc, &base.file().manifest_files(), news)?;
     let manifest_files = files_over(alloc, files.as_slice(), &rows)?;
     let head = SnapshotHead {
         id: stamp.id,

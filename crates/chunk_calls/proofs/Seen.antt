@@ -29,7 +29,7 @@ use Rattle.snapshot_file.specs.Snapshots.{manifests_named}
 use Rattle.repo_objects.specs.Trees.{Puts, NamesManifest, bytes_at, node_of, nodes_in, row_at, listed, place_in, chunk_under}
 use Rattle.changed_snapshot.specs.Rows.{manifests_for, own_manifests}
 use Rattle.changed_snapshot.specs.Laws.{KeepsFrozen}
-use Rattle.changed_snapshot.proofs.Found.{node_at_row}
+use Rattle.repo_objects.proofs.Rows.{node_at_row}
 use Rattle.store_api.proofs.SameTree.{find-contains}
 use Rattle.session.specs.Sessions.{SessionState, nodes_seen, base_tree, changes_in, overlay}
 

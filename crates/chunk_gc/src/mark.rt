@@ -19,7 +19,6 @@ use held_manifest::Held;
 use ice_ids::{Id12, ObjectIds};
 use repo_objects::Loaded;
 use repo_read::{MOST_SNAPSHOTS, manifest_told, snapshot_told};
-use snapshot_file::SnapshotFile;
 use std::alloc::{AllocError, Global};
 use std::mem;
 use store_api::{Entry, Key, Machine, Next, Part, Refusal, Reply, Request, Store, drive};
@@ -369,7 +368,7 @@ impl Mark {
         ensures calm { IfErr result (λ why. is_fault why ≡ false) }
         ensures listed { IfErr result MayRefuseMark }
     {
-        let entered = self.enter_snapshot(loaded.file());
+        let entered = self.enter_snapshot(&loaded);
         drop(loaded);
         match entered {
             Ok(()) => self.next_manifest(),
@@ -378,15 +377,16 @@ impl Mark {
     }
 
     /// What a snapshot names is found.
-    fn enter_snapshot(&mut self, file: &SnapshotFile) -> Result<(), AllocError>
-        ensures work { OnOk result (work_of self.new ≡ with_snapshot file.now (work_of self.old)) }
+    fn enter_snapshot(&mut self, loaded: &Loaded) -> Result<(), AllocError>
+        ensures work { OnOk result (work_of self.new ≡ with_snapshot loaded.now (work_of self.old)) }
         ensures few { OnOk result (length self.new.files.todo < many) }
         ensures state { self.new.state ≡ self.old.state }
         ensures names { self.new.names ≡ self.old.names }
         ensures left { self.new.left ≡ self.old.left }
     {
-        self.snapshots.enter_some(file.parent)?;
-        self.files.enter_rows(file.nodes.as_slice())?;
+        let file = loaded.file();
+        self.snapshots.enter_some(file.parent())?;
+        self.files.enter_rows(&file.nodes())?;
         let _few = self.files.waiting();
         Ok(())
     }

@@ -4,9 +4,9 @@ ghost use Rattle.std.specs.Prelude.{◌≡◌, [], ◌∷◌, ◌++◌, length, 
 ghost use Rattle.chunk_gc.specs.Lines.{enter, enter_some, enter_refs, enter_rows, no_ids, Pops, Takes};
 ghost use Rattle.ice_ids.specs.Sets.{has_object};
 
+use held_snapshot::{HeldManifests, HeldNodes};
 use ice_ids::{Id12, ObjectIds};
 use object_store::Key;
-use snapshot_file::{ManifestRef, NodeRow};
 use std::alloc::{AllocError, Global};
 use std::collections::VecDeque;
 use std::marker::Model;
@@ -65,21 +65,21 @@ impl Queue {
     }
 
     /// Adds the manifests that an array names, those that are new.
-    fn enter_refs(&mut self, manifests: &[ManifestRef]) -> Result<(), AllocError>
+    fn enter_refs(&mut self, manifests: &HeldManifests) -> Result<(), AllocError>
         ensures { OnOk result (self.new ≡ enter_refs manifests.now self.old) }
     {
-        for manifest in manifests {
-            self.enter(manifest.id)?;
+        for at in 0..manifests.len() {
+            self.enter(manifests.at(at).id())?;
         }
         Ok(())
     }
 
     /// Adds the manifests that rows name, those that are new.
-    pub fn enter_rows(&mut self, rows: &[NodeRow]) -> Result<(), AllocError>
+    pub fn enter_rows(&mut self, rows: &HeldNodes) -> Result<(), AllocError>
         ensures { OnOk result (self.new ≡ enter_rows rows.now self.old) }
     {
-        for row in rows {
-            self.enter_refs(row.kind.manifests())?;
+        for at in 0..rows.len() {
+            self.enter_refs(&rows.at(at).kind().manifests())?;
         }
         Ok(())
     }

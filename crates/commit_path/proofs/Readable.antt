@@ -26,7 +26,8 @@ use Rattle.repo_objects.specs.Trees.{Puts, manifest_put, or_empty, listed, bytes
 use Rattle.changed_snapshot.specs.declared.written.NewList.{NewList}
 use Rattle.changed_snapshot.specs.Rows.{refs_of, manifests_for, own_manifests, kind_of, row_of, row_from, rows_over}
 use Rattle.changed_snapshot.specs.Laws.{KeepsFrozen}
-use Rattle.changed_snapshot.proofs.Found.{by_list, row_made, new_row, node_at_row}
+use Rattle.repo_objects.proofs.Rows.{node_at_row}
+use Rattle.changed_snapshot.proofs.Found.{by_list, row_made, new_row}
 use Rattle.changed_snapshot.proofs.Entered.{first-entry}
 use Rattle.commit_path.specs.Owed.{HasChunks}
 use Rattle.commit_path.proofs.Putting.{bytes-extend}

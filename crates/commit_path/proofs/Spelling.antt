@@ -31,7 +31,8 @@ use Rattle.repo_objects.specs.Readings.{snapshot_by, log_by}
 use Rattle.repo_objects.specs.Trees.{Puts, bytes_at, tree_under, nodes_in, node_of, row_at}
 use Rattle.file_fields.specs.Fields.{IsIndex}
 use Rattle.repo_objects.specs.Laws.{SnapshotLaw, LogLaw, RefLaw, InitialLaw, IsProper, ManifestLaw}
-use Rattle.changed_snapshot.proofs.Found.{node_at_row, row_has}
+use Rattle.changed_snapshot.proofs.Found.{row_has}
+use Rattle.repo_objects.proofs.Rows.{node_at_row}
 use Rattle.session.specs.Sessions.{SessionState, base_nodes, nodes_seen, base_tree, changes_in, overlay}
 use Rattle.commit_path.specs.Committing.{log_for, snap_for, is_long}
 use Rattle.commit_path.specs.Spelled.{IsSpelled}

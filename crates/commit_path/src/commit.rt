@@ -294,7 +294,7 @@ impl Commit {
         let session = self.session.as_session();
         let manifests = session.manifests(&array.path, array.node);
         if got.len() < manifests.len() {
-            let Ok(manifest) = manifests[got.len()].copy(self.alloc) else {
+            let Ok(manifest) = manifests.at(got.len()).copy(self.alloc) else {
                 return Err(Refusal::NoMemory);
             };
             self.state.follow(Committing::Old { manifest, got });

@@ -1,18 +1,20 @@
 //! Which refs are dropped, where histories are cut, and what a cut puts.
 
-ghost use Rattle.std.specs.Prelude.{◌≡◌, IfErr, false};
+ghost use Rattle.std.specs.Prelude.{◌≡◌, length, IfErr, false};
+ghost use Rattle.flat_tables.specs.File.{Writes};
 ghost use Rattle.ice_base.specs.Names.{main_name, same_name};
 ghost use Rattle.store_api.specs.Program.{is_fault};
 ghost use Rattle.repo_read.specs.Answers.{Answers};
 ghost use Rattle.expiry.specs.Verdicts.{is_older, may_drop};
-ghost use Rattle.expiry.specs.Looks.{but_initial, next_of, cuts, MayRefuseLook};
+ghost use Rattle.expiry.specs.Looks.{but_initial, next_of, cut_bytes, cuts, MayRefuseLook};
 
 use crate::look::{Decision, Seen};
 use crate::terms::Terms;
 use flat_tables::{Kind, WriteFault};
-use ice_base::{Bytes, RefName};
+use ice_base::{Bytes, RefName, Text};
 use ice_ids::Id12;
-use snapshot_file::{SnapshotFile, SnapshotHead, write_rows};
+use repo_objects::Loaded;
+use snapshot_file::{SnapshotHead, write_rows};
 use std::alloc::Global;
 use store_api::{Key, Refusal};
 
@@ -36,10 +38,10 @@ pub(crate) fn may_drop(terms: Terms, key: &Key) -> bool
 }
 
 /// Whether a snapshot was flushed before the cutoff.
-pub(crate) fn is_older(cutoff: u64, file: &SnapshotFile) -> bool
-    ensures { result ≡ is_older cutoff file.now }
+pub(crate) fn is_older(cutoff: u64, loaded: &Loaded) -> bool
+    ensures { result ≡ is_older cutoff loaded.now }
 {
-    file.flushed_at < cutoff
+    loaded.file().flushed_at() < cutoff
 }
 
 /// The initial snapshot isn't read as a parent.
@@ -58,13 +60,30 @@ fn but_initial(parent: Option<Id12>) -> Option<Id12>
 }
 
 /// The parent that is read next.
-pub(crate) fn next_of(file: &SnapshotFile) -> Option<Id12>
-    ensures { result ≡ next_of file.now }
+pub(crate) fn next_of(loaded: &Loaded) -> Option<Id12>
+    ensures { result ≡ next_of loaded.now }
 {
-    if file.id == Id12::INITIAL {
+    let file = loaded.file();
+    if file.id() == Id12::INITIAL {
         return None;
     }
-    but_initial(file.parent)
+    but_initial(file.parent())
+}
+
+/// The file of the cut of a history at this snapshot.
+fn cut_file(alloc: Global, loaded: &Loaded) -> Result<Vec<u8>, WriteFault>
+    ensures { let file = cut_bytes loaded.now in Writes result file (length file) }
+{
+    let file = loaded.file();
+    let head = SnapshotHead {
+        id: file.id(),
+        parent: Some(Id12::INITIAL),
+        flushed_at: file.flushed_at(),
+        message: &Text::of(alloc, file.message())?,
+        props: &file.props().copy(alloc)?,
+        manifest_files: &file.manifest_files().copy(alloc)?,
+    };
+    write_rows(alloc, &head, &file.nodes())
 }
 
 /// The cut of a history at this snapshot: it is put over with the initial snapshot as its parent, and all else as it was.
@@ -74,18 +93,9 @@ pub(crate) fn cut(alloc: Global, last: &Seen) -> Result<Decision, Refusal>
     ensures calm { IfErr result (λ why. is_fault why ≡ false) }
     ensures listed { IfErr result MayRefuseLook }
 {
-    let file = last.file.file();
-    let head = SnapshotHead {
-        id: file.id,
-        parent: Some(Id12::INITIAL),
-        flushed_at: file.flushed_at,
-        message: &file.message,
-        props: &file.props,
-        manifest_files: &file.manifest_files,
-    };
-    match write_rows(alloc, &head, &file.nodes) {
+    match cut_file(alloc, &last.file) {
         Ok(bytes) => Ok(Decision::Cuts {
-            id: file.id,
+            id: last.file.file().id(),
             version: last.version,
             bytes: Bytes::from_vec(bytes),
         }),

@@ -223,7 +223,7 @@ impl Look {
         ensures calm { IfErr result (λ why. is_fault why ≡ false) }
         ensures listed { IfErr result MayRefuseLook }
     {
-        if may_drop(self.terms, &self.key) && is_older(self.terms.cutoff, head.file.file()) {
+        if may_drop(self.terms, &self.key) && is_older(self.terms.cutoff, &head.file) {
             return Ok(Next::Ready(Decision::Drops { version }));
         }
         self.walk_on(head, MOST_BELOW)
@@ -238,7 +238,7 @@ impl Look {
         ensures calm { IfErr result (λ why. is_fault why ≡ false) }
         ensures listed { IfErr result MayRefuseLook }
     {
-        match next_of(last.file.file()) {
+        match next_of(&last.file) {
             None => Ok(Next::Ready(Decision::Keeps)),
             Some(next) => {
                 if left == 0 {
@@ -273,7 +273,7 @@ impl Look {
         ensures calm { IfErr result (λ why. is_fault why ≡ false) }
         ensures listed { IfErr result MayRefuseLook }
     {
-        if !is_older(self.terms.cutoff, seen.file.file()) {
+        if !is_older(self.terms.cutoff, &seen.file) {
             return self.walk_on(seen, walk.left - 1);
         }
         match cut(self.alloc, &walk.last) {

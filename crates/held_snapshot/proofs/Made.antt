@@ -1,6 +1,8 @@
 -- Elements of a vector that are made of its bytes, and lists that are copied element by element.
-use Rattle.std.proofs.Common.{◌≡◌, ℕ, zero, suc, ◌+◌, ◌<◌, ◌≤◌, List, [], ◌∷◌, ◌++◌, length, map, take, Some, refl, ap, ◌∙◌, arith}
+use Rattle.std.proofs.Common.{◌≡◌, ℕ, zero, suc, ◌+◌, ◌<◌, ◌≤◌, List, [], ◌∷◌, ◌++◌, length, map, take, drop, Some, refl, ap, ◌∙◌, arith}
 use Rattle.std.specs.Prelude.{slice_get}
+use Rattle.std.proofs.lemmas.List.{drop_more}
+use Rattle.std.proofs.lemmas.Option.{slice_get_within, get_or_from_slice_get}
 use Rattle.flat_tables.specs.Places.{VectorIn, item_of, items_from, items_of}
 
 made_long : {A : Type 0} (make : List ℕ → A) (v : VectorIn) (i n : ℕ) → length (map make (items_from v i n)) ≡ n
@@ -33,3 +35,7 @@ take_whole [] zero le = refl
 take_whole [] (suc k) le = refl
 take_whole (x ∷ xs) zero le = absurd (omega arith)
 take_whole (x ∷ xs) (suc k) le = ap (λ zs. x ∷ zs) (take_whole xs k (omega arith))
+
+-- what is left from number k on
+pub from_here : {A : Type 0} (xs : List A) (k : ℕ) (x : A) → slice_get xs k ≡ Some x → drop k xs ≡ x ∷ drop (k + 1) xs
+from_here xs k x is = drop_more xs k x (slice_get_within xs k x is) ∙ ap (λ y. y ∷ drop (k + 1) xs) (get_or_from_slice_get xs k x x is)

@@ -1,6 +1,6 @@
 -- A loop that reads rows by their number and keeps none, and what its rows are.
 use Rattle.std.proofs.Common.{◌≡◌, ℕ, zero, suc, ◌+◌, ◌<◌, ◌≤◌, List, [], ◌∷◌, ◌++◌, length, Some, Result, Ok, Err, refl, sym, subst, ap, ◌∙◌, arith}
-use Rattle.std.specs.Prelude.{IsOk, slice_get}
+use Rattle.std.specs.Prelude.{IsOk, IsOkAnd, slice_get}
 use Rattle.flat_tables.specs.declared.fault.FileFault.{FileFault}
 use Rattle.flat_tables.specs.Rows.{rows, each, in_order}
 use Rattle.flat_tables.proofs.Loop.{SoFar, ReadsFrom, begins, each_goes_on, each_is, faults, all_read, rows_read, each_were}
@@ -24,6 +24,12 @@ walk_fault f count i fault w lt is = faults (each f) count w.front i fault w.so_
 
 pub walk_end : {A : Type 0} (f : ℕ → Result A FileFault) (count i : ℕ) → Walked f count i → count ≤ i → IsOk (rows (each f) [] count)
 walk_end f count i w le = ok_by (rows (each f) [] count) w.front (all_read (each f) count w.front i w.so_far le)
+
+-- ---- what a test of a row found
+
+pub found_row : {A : Type 0} (r : Result A FileFault) (P : A → Type 0) → IsOkAnd r P → (row : A) × (r ≡ Ok row) × P row
+found_row (Ok row) P is = (row, refl, is)
+found_row (Err fault) P is = absurd is
 
 -- ---- row number i
 

@@ -4,7 +4,7 @@ ghost use Rattle.snapshot_file.specs.Snapshots.{node_limit, node_key, nodes_in, 
 ghost use Rattle.held_snapshot.specs.LookUp.{row_place, row_at};
 
 use crate::order::text_follows;
-use crate::rows::{HeldNode, held_node, node_at};
+use crate::rows::{HeldNode, held_node, path_at};
 use crate::slots::vector_in;
 use flat_tables::{FileFault, Table, Vector};
 use snapshot_file::{NODE_LIMIT, NodeRow, RowSource};
@@ -39,7 +39,7 @@ fn nodes_in<'a>(vector: Vector<'a>) -> Result<HeldNodes<'a>, FileFault>
 {
     let mut last: Option<&'a str> = None;
     for at in 0..vector.len() {
-        let path = node_at(&vector, at)?.path();
+        let path = path_at(&vector, at)?;
         if !text_follows(last, path) {
             return Err(FileFault::Order { slot: 2, at });
         }

@@ -1,7 +1,6 @@
-ghost use Rattle.std.specs.Prelude.{◌≡◌, ◌<◌, Ok, IfOk, IsOk, IsTrue};
+ghost use Rattle.std.specs.Prelude.{◌≡◌, ◌<◌, Ok, Err, IfOk, IsOk, IsOkAnd, IsTrue, MatchResult};
 ghost use Rattle.zarr_path.specs.Paths.{is_path};
 ghost use Rattle.snapshot_file.specs.Nodes.{node_of, node_at};
-ghost use Rattle.held_manifest.specs.Files.{Checks};
 
 use crate::kinds::{HeldKind, held_kind, kind_of};
 use crate::slots::{number_in, table_in, text_in, vector_in};
@@ -34,10 +33,10 @@ impl<'a> Model for HeldNode<'a> {
     ghost invariant = { λ n. IsOk (node_of n.at n.table) };
 }
 
-/// Whether a table has node number `at`; else its first fault.
+/// The path of node number `at`, which a table has; else the node's first fault.
 #[tactic(auto, unfolding(snapshot_file::specs::Nodes::node_of))]
-fn check_node(at: usize, table: &Table) -> Result<(), FileFault>
-    ensures { Checks result (node_of at table.now) }
+fn check_node<'a>(at: usize, table: &Table<'a>) -> Result<&'a str, FileFault>
+    ensures { MatchResult result (λ path. IsOkAnd (node_of at table.now) (λ row. row.path ≡ path.now)) (λ fault. node_of at table.now ≡ Err fault) }
 {
     let _id = id8_of(table, 0)?;
     let path = text_in(table, 1)?;
@@ -51,19 +50,18 @@ fn check_node(at: usize, table: &Table) -> Result<(), FileFault>
     if kind.is_none() {
         return Err(FileFault::NodeKind { at });
     }
-    Ok(())
+    Ok(path)
 }
 
-/// Node number `at`, to which that element leads; else its first fault.
+/// The path of node number `at`, to which that element leads; else the node's first fault.
 #[tactic(auto, unfolding(snapshot_file::specs::Nodes::node_at))]
-pub(crate) fn node_at<'a>(vector: &Vector<'a>, at: usize) -> Result<HeldNode<'a>, FileFault>
+pub(crate) fn path_at<'a>(vector: &Vector<'a>, at: usize) -> Result<&'a str, FileFault>
     requires below { at < vector.now.count }
     requires offsets { vector.now.size ≡ 4 }
-    ensures { result ≡ node_at vector.now at }
+    ensures { MatchResult result (λ path. IsOkAnd (node_at vector.now at) (λ row. row.path ≡ path.now)) (λ fault. node_at vector.now at ≡ Err fault) }
 {
     let table = vector.table_at(at)?;
-    check_node(at, &table)?;
-    Ok(HeldNode { at, table })
+    check_node(at, &table)
 }
 
 /// Node number `at`, which was read before.

@@ -1,26 +1,21 @@
 //! The kinds of cases.
 
-use crate::changing::tell_changes;
-use crate::conflicting::{tell_conflicts, tell_solved};
 use crate::ends::{tell_byte_list, tell_input, tell_output};
-use crate::files::{tell_header, tell_header_of, tell_log, tell_log_again};
-use crate::grids::{tell_grid, tell_in_grid};
-use crate::loads::{tell_known_log, tell_known_ref, tell_loaded};
-use crate::manifests::{tell_held, tell_manifest, tell_manifest_again};
-use crate::metas::{tell_json, tell_member, tell_meta, tell_meta_text, tell_number, tell_plain};
-use crate::props::tell_properties;
 use crate::ref_calls::tell_refs;
 use crate::refusals::tell_refusal;
 use crate::reports::tell_report;
 use crate::scripts::tell_script;
-use crate::snapshots::{tell_initial, tell_snapshot, tell_snapshot_again};
 use crate::store_keys::{tell_object, tell_same};
 use crate::storing::tell_store;
-use crate::texts::{
-    tell_draw, tell_draw_at, tell_draw_stream, tell_id, tell_id_of, tell_indices, tell_key,
-    tell_keys, tell_name, tell_names, tell_node_id, tell_path, tell_paths, tell_ref, tell_ref_of,
+use show_trees::{
+    NoAnswer, tell_changes, tell_conflicts, tell_draw, tell_draw_at, tell_draw_stream, tell_grid,
+    tell_header, tell_header_of, tell_held, tell_id, tell_id_of, tell_in_grid, tell_indices,
+    tell_initial, tell_json, tell_key, tell_keys, tell_known_log, tell_known_ref, tell_loaded,
+    tell_log, tell_log_again, tell_manifest, tell_manifest_again, tell_member, tell_meta,
+    tell_meta_text, tell_name, tell_names, tell_node_id, tell_number, tell_path, tell_paths,
+    tell_plain, tell_properties, tell_ref, tell_ref_of, tell_snapshot, tell_snapshot_again,
+    tell_solved, text_of,
 };
-use crate::words::{NoAnswer, text_of};
 use std::alloc::Global;
 
 /// What is told of the bytes of a case of this kind.

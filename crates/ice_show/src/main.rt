@@ -3,30 +3,18 @@
 #![tactic(auto)]
 
 mod answering;
-mod changing;
-mod conflicting;
 mod counted;
 mod ends;
 mod expiries;
-mod files;
-mod grids;
 mod kept;
 mod kinds;
-mod loads;
-mod manifests;
-mod metas;
 mod parts;
-mod props;
 mod ref_calls;
 mod refusals;
 mod reports;
 mod scripts;
-mod snapshots;
 mod store_keys;
 mod storing;
-mod texts;
-mod told;
-mod words;
 
 use answering::answer;
 use kept::Kept;

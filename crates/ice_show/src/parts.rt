@@ -10,7 +10,7 @@
 
 use crate::counted::push_turns;
 use crate::kept::Kept;
-use crate::words::{NoAnswer, first_word};
+use show_trees::{NoAnswer, first_word};
 use std::alloc::{AllocError, Global};
 
 /// The bytes so far, and where the last part of them begins.

@@ -1,10 +1,7 @@
 //! Calls on refs, over a store in memory.
 
-use crate::props::push_props;
 use crate::store_keys::key_of;
 use crate::storing::{Memory, call_told, push_asked, push_line};
-use crate::texts::name_of;
-use crate::words::{NoAnswer, first_word, parted};
 use ice_base::{RefName, TickClock};
 use mem_store::MemStore;
 use play_outcome::RefLines;
@@ -14,6 +11,7 @@ use refs_admin::{
 };
 use repo_read::At;
 use repository::{begin, read_refs};
+use show_trees::{NoAnswer, first_word, name_of, parted, push_props};
 use std::alloc::{AllocError, Global};
 use store_api::{Key, Refusal};
 

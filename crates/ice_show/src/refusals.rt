@@ -1,12 +1,11 @@
 //! What refusals are called in a report.
 
 use crate::store_keys::{id_of, key_of};
-use crate::texts::{index_of, path_of};
-use crate::words::{NoAnswer, first_word, number_of};
 use flat_tables::Kind;
 use ice_items::Items;
 use ref_file::RefFault;
 use repo_objects::Bad;
+use show_trees::{NoAnswer, first_word, index_of, number_of, path_of};
 use snapshot_file::PropFault;
 use std::alloc::Global;
 use store_api::{Refusal, RegionFault, Version};

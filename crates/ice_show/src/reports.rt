@@ -5,15 +5,15 @@
 //! opening that went well stands `-`, and a refusal may stand in that of the refs, behind `!`.
 
 use crate::expiries::expired_of;
-use crate::props::props_of;
 use crate::refusals::{refusal_of, result_of};
 use crate::store_keys::id_of;
-use crate::texts::{name_of, path_of};
-use crate::words::{NoAnswer, first_word, number_of, parted, small_number_of, text_of};
 use cleanup_reports::Removed;
 use ice_base::Text;
 use play_outcome::{End, How, Outcome, RefLine, RefLines, Shown, Shows};
 use play_report::report;
+use show_trees::{
+    NoAnswer, first_word, name_of, number_of, parted, path_of, props_of, small_number_of, text_of,
+};
 use std::alloc::{AllocError, Global};
 use store_api::Refusal;
 

@@ -1,13 +1,12 @@
 //! Scripts of tasks.
 
-use crate::told::{push_bytes, push_index};
-use crate::words::NoAnswer;
 use conflicts::{Pick, Policy};
 use ice_base::RefName;
 use play_script::{
     Access, Call, EditCall, Head, Line, ReadCall, RefCall, Script, ScriptFault, Task, Turn,
 };
 use repo_read::At;
+use show_trees::{NoAnswer, push_bytes, push_index};
 use std::alloc::{AllocError, Global};
 use zarr_path::{Index, Path};
 

@@ -1,9 +1,8 @@
 //! The keys of objects in a store.
 
-use crate::texts::name_of;
-use crate::words::{NoAnswer, first_word, said};
 use ice_base::RefName;
 use ice_ids::Id12;
+use show_trees::{NoAnswer, first_word, name_of, said};
 use std::alloc::{AllocError, Global};
 use store_api::Key;
 

@@ -2,9 +2,9 @@
 //! stands a version, and behind `=` the bytes of a put. `, ` stands between operations.
 
 use crate::store_keys::key_of;
-use crate::words::{NoAnswer, first_word, number_of, parted, small_number_of};
 use ice_base::TickClock;
 use mem_store::{Failing, FaultStore, MemStore, OpRef};
+use show_trees::{NoAnswer, first_word, number_of, parted, small_number_of};
 use std::alloc::{AllocError, Global};
 use store_api::{Key, Part, Polite, Reply, StoreFault, Version, Why};
 

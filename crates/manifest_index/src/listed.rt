@@ -1,10 +1,9 @@
 ghost use Rattle.std.specs.Prelude.{◌≡◌, IfOk};
 ghost use Rattle.manifest_index.specs.Merging.{ids_within};
 
-use held_manifest::is_within;
+use held_snapshot::HeldManifests;
 use ice_ids::Id12;
 use ice_items::Items;
-use snapshot_file::ManifestRef;
 use std::alloc::{AllocError, Global};
 use zarr_path::Index;
 
@@ -15,15 +14,16 @@ use zarr_path::Index;
 /// Memory may run out.
 pub fn candidates(
     alloc: Global,
-    refs: &[ManifestRef],
+    refs: &HeldManifests,
     index: &Index,
 ) -> Result<Items<Id12>, AllocError>
     ensures { IfOk result (λ ids. ids ≡ ids_within index.now refs.now) }
 {
     let mut ids = Items::new(alloc);
-    for manifest in refs {
-        if is_within(manifest.extents.as_slice(), index.parts()) {
-            ids.push(manifest.id)?;
+    for at in 0..refs.len() {
+        let manifest = refs.at(at);
+        if manifest.extents().contain(index.parts()) {
+            ids.push(manifest.id())?;
         }
     }
     Ok(ids)

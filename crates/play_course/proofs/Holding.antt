@@ -19,7 +19,7 @@ use Rattle.snapshot_file.specs.Snapshots.{manifests_named}
 use Rattle.repo_objects.specs.Trees.{manifest_put, listed, bytes_at, node_of, row_at, HasTree}
 use Rattle.changed_snapshot.specs.Rows.{manifests_for, own_manifests}
 use Rattle.changed_snapshot.specs.Laws.{KeepsFrozen}
-use Rattle.changed_snapshot.proofs.Found.{node_at_row}
+use Rattle.repo_objects.proofs.Rows.{node_at_row}
 use Rattle.object_store.specs.declared.keys.Key.{Key}
 use Rattle.object_store.specs.declared.keys.Key.TheVariants.{Manifest}
 use Rattle.object_store.specs.declared.events.Event.{Event}

@@ -1,5 +1,5 @@
 -- What a client owned with a session it owns with the one that a rebase answers.
-use Rattle.std.proofs.Common.{◌≡◌, ℕ, List, sym, ◌∙◌, ap, subst}
+use Rattle.std.proofs.Common.{ℕ, List, sym, ◌∙◌, ap, subst}
 use Rattle.std.specs.Prelude.{Result, Ok, Err}
 use Rattle.ice_ids.specs.declared.drawing.AnyIds.{AnyIds}
 use Rattle.manifest_file.specs.declared.manifest.Place.{Place}
@@ -11,7 +11,7 @@ use Rattle.store_api.specs.declared.machines.Refusal.{Refusal}
 use Rattle.store_api.specs.Callers.{Caller}
 use Rattle.store_api.specs.Program.{Leads}
 use Rattle.store_api.proofs.Programs.{Leads-weaker}
-use Rattle.session.specs.Sessions.{SessionState, base_nodes, moved_to}
+use Rattle.session.specs.Sessions.{SessionState, base_nodes}
 use Rattle.commit_path.specs.Own.{OwnsChunks, Owns}
 use Rattle.commit_path.proofs.OwnPuts.{owns-fewer, Owns-gets}
 use Rattle.rebase.specs.declared.machine.Rebased.{Rebased}
@@ -20,7 +20,7 @@ use Rattle.rebase.specs.Along.{Link, along}
 use Rattle.rebase.specs.Laws.{OwnsOn}
 use Rattle.rebase.specs.Rebasing.{rebase_program}
 use Rattle.rebase.specs.Telling.{HasMoved, WasUpToDate, RebaseTells}
-use Rattle.rebase.proofs.Moving.{IsLess, EndsAt, way-ends}
+use Rattle.rebase.proofs.Moving.{EndsAt, way-ends}
 use Rattle.rebase.proofs.Saying.{rebase-leads}
 
 module _ (ids : AnyIds) (client : ℕ) (start : List Event) where

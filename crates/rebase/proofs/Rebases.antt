@@ -10,7 +10,6 @@ use Rattle.ice_ids.specs.Text.{same_id12}
 use Rattle.manifest_file.specs.declared.manifest.Place.{Place}
 use Rattle.snapshot_file.specs.declared.snapshot.SnapshotFile.{SnapshotFile}
 use Rattle.txn_file.specs.declared.log.TxnFile.{TxnFile}
-use Rattle.repo_objects.specs.declared.bad.Bad.{Bad}
 use Rattle.repo_objects.specs.Trees.{nodes_in}
 use Rattle.zarr_path.specs.Paths.{path_cmp}
 use Rattle.zarr_tree.specs.declared.cases.Conflict.{Conflict}
@@ -23,9 +22,7 @@ use Rattle.object_store.specs.declared.keys.Key.TheVariants.{Snapshot, Txn}
 use Rattle.object_store.specs.declared.events.Event.{Event}
 use Rattle.object_store.specs.declared.events.Op.{Op}
 use Rattle.object_store.specs.declared.events.Op.TheVariants.{Get}
-use Rattle.object_store.specs.declared.events.Got.TheVariants.{Found, Absent}
 use Rattle.object_store.specs.declared.events.Reply.{Reply}
-use Rattle.object_store.specs.declared.events.Reply.TheVariants.{Got}
 use Rattle.store_api.specs.declared.machines.Next.{Next}
 use Rattle.store_api.specs.declared.machines.Refusal.{Refusal}
 use Rattle.store_api.specs.declared.machines.Refusal.TheVariants as R
@@ -33,7 +30,7 @@ use Rattle.store_api.specs.Program.{Prog, Done, Ask, bind, IsAsk, IsDone, NextIs
 use Rattle.store_api.specs.Running.{Program, on_answer, ◌>>=◌}
 use Rattle.store_api.specs.Driving.{Asks, Awaits, Took}
 use Rattle.repo_read.specs.declared.answers.Resolved.{Resolved}
-use Rattle.repo_read.specs.Answers.{at_key, ref_told, snapshot_told, log_told, Answers}
+use Rattle.repo_read.specs.Answers.{ref_told, snapshot_told, log_told, Answers}
 use Rattle.repo_read.specs.Chains.{most_snapshots}
 use Rattle.repo_read.specs.Programs.{resolve_program}
 use Rattle.repo_read.proofs.Told.{ref-refused, ref-went, snapshot-refused, snapshot-went, log-refused, log-went}

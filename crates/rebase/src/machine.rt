@@ -66,7 +66,7 @@ impl Machine for Rebase {
                 key: Key::Snapshot(walk.next),
             }),
             Rebasing::Log(solving) => Ok(Request::Get {
-                key: Key::Txn(solving.oldest.file().id),
+                key: Key::Txn(solving.oldest.file().id()),
             }),
             Rebasing::Ended => unreachable!(),
         }
@@ -223,7 +223,7 @@ impl Rebase {
         ensures faultless { IfErr result (λ refusal. is_fault refusal ≡ false) }
         ensures listed { IfErr result MayRefuseRebase }
     {
-        let Some(parent) = loaded.file().parent else {
+        let Some(parent) = loaded.file().parent() else {
             let head = walk.named.id;
             drop(walk);
             drop(loaded);
@@ -256,7 +256,7 @@ impl Rebase {
         ensures session { KeepsSession result (rebase_session self.old) (rebase_session self.new) }
         ensures listed { IfErr result MayRefuseRebase }
     {
-        match log_told(solving.oldest.file().id, reply) {
+        match log_told(solving.oldest.file().id(), reply) {
             Ok(log) => {
                 let answer = self.on_lists(solving, &log.lists());
                 drop(log);

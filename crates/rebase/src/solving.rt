@@ -61,7 +61,7 @@ fn given_up(
     match solve(alloc, policy, found.as_slice()) {
         Ok(Solved::Done(given)) => Ok(given),
         Ok(Solved::Left(conflicts)) => Err(Refusal::Left {
-            at: commit.file().id,
+            at: commit.file().id(),
             conflicts,
         }),
         Err(_) => Err(Refusal::NoMemory),
@@ -75,7 +75,7 @@ fn show_all(alloc: Global, held: &ChangeSet, commit: &Loaded) -> Result<(), Refu
 {
     match first_hidden(alloc, held, commit) {
         Ok(None) => Ok(()),
-        Ok(Some(node)) => Err(Refusal::BadFile(Key::Txn(commit.file().id), Bad::Unlisted(node))),
+        Ok(Some(node)) => Err(Refusal::BadFile(Key::Txn(commit.file().id()), Bad::Unlisted(node))),
         Err(_) => Err(Refusal::NoMemory),
     }
 }

@@ -218,7 +218,7 @@ impl Log {
         let Ok(walk) = walk.with_line(self.alloc, loaded) else {
             return Err(Refusal::NoMemory);
         };
-        match loaded.file().parent {
+        match loaded.file().parent() {
             Some(id) => self.onto(walk, id),
             None => Ok(Next::Ready(walk.lines)),
         }
@@ -259,10 +259,10 @@ fn line_of(alloc: Global, loaded: &Loaded) -> Result<LogLine, AllocError>
 {
     let file = loaded.file();
     Ok(LogLine {
-        id: file.id,
-        flushed_at: file.flushed_at,
-        message: file.message.copy(alloc)?,
-        props: file.props.copy(alloc)?,
+        id: file.id(),
+        flushed_at: file.flushed_at(),
+        message: Text::of(alloc, file.message())?,
+        props: file.props().copy(alloc)?,
     })
 }
 

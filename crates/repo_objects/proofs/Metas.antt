@@ -1,15 +1,15 @@
 -- The metadata of rows, read one after another.
 use Rattle.std.proofs.Common.{◌≡◌, ℕ, ◌+◌, ◌<◌, ◌≤◌, List, [], ◌∷◌, ◌++◌, map, length, drop, get_or, None, Some, option_map, Ok, Err, refl, sym, ap, ◌∙◌, arith, append_assoc}
-use Rattle.std.proofs.lemmas.List.{map-append, length-map, drop_more, drop_all, append-nil}
+use Rattle.std.proofs.lemmas.List.{map-append, length-map, drop_all, append-nil}
 use Rattle.std.specs.Prelude.{slice_get}
-use Rattle.std.proofs.lemmas.Option.{slice_get-get_or, slice_get-map}
+use Rattle.std.proofs.lemmas.Option.{slice_get-get_or, slice_get-map, slice_get_within}
 use Rattle.zarr_meta.specs.declared.metas.Meta.{Meta}
 use Rattle.snapshot_file.specs.declared.nodes.NodeRow.{NodeRow}
+use Rattle.held_snapshot.proofs.Made.{from_here}
 use Rattle.repo_objects.specs.declared.bad.Unread.{Unread}
 use Rattle.repo_objects.specs.declared.bad.Unread.TheVariants as unread
 use Rattle.repo_objects.specs.declared.bad.Bad.TheVariants.{Node}
 use Rattle.repo_objects.specs.Readings.{row_fault, first_bad}
-use Rattle.repo_objects.specs.Trees.{node_of}
 use Rattle.repo_objects.specs.inside.Metas.{AreMetas, LoadsMeta, LoadsMetas}
 
 abbrev texts : List NodeRow → List (List ℕ)
@@ -23,26 +23,23 @@ pub record SoFar (rows : List NodeRow) (at : ℕ) (metas : List Meta) : Type 0 w
 pub none_read : (rows : List NodeRow) (metas : List Meta) → metas ≡ [] → SoFar rows 0 metas
 none_read rows metas none = record { passed = refl; texts = rw none refl }
 
-cut : (rows : List NodeRow) (at : ℕ) (row : NodeRow) → at < length rows → row ≡ get_or rows at row → drop at rows ≡ row ∷ drop (at + 1) rows
-cut rows at row lt is = drop_more rows at row lt ∙ ap (λ (x : NodeRow). x ∷ drop (at + 1) rows) (sym is)
-
-pub one_more : (rows : List NodeRow) (at : ℕ) (metas after : List Meta) (row : NodeRow) (meta : Meta) → at < length rows → row ≡ get_or rows at row → SoFar rows at metas → (row_fault row ≡ None) × (meta.text ≡ row.user_data) → after ≡ metas ++ meta ∷ [] → SoFar rows (at + 1) after
+pub one_more : (rows : List NodeRow) (at : ℕ) (metas after : List Meta) (row : NodeRow) (meta : Meta) → slice_get rows at ≡ Some row → SoFar rows at metas → (row_fault row ≡ None) × (meta.text ≡ row.user_data) → after ≡ metas ++ meta ∷ [] → SoFar rows (at + 1) after
 unfolding first_bad
-one_more rows at metas after row meta lt is so_far read grown = record {
+one_more rows at metas after row meta is so_far read grown = record {
   passed =
       let here : first_bad at (row ∷ drop (at + 1) rows) ≡ first_bad (at + 1) (drop (at + 1) rows) = rw (read.0, first_bad) refl in
-      sym here ∙ ap (first_bad at) (sym (cut rows at row lt is)) ∙ so_far.passed;
+      sym here ∙ ap (first_bad at) (sym (from_here rows at row is)) ∙ so_far.passed;
   texts =
       rw (grown, map-append (λ (m : Meta). m.text) metas (meta ∷ []), append_assoc, read.1)
-      (ap (λ (rest : List NodeRow). map (λ (m : Meta). m.text) metas ++ texts rest) (sym (cut rows at row lt is)) ∙ so_far.texts);
+      (ap (λ (rest : List NodeRow). map (λ (m : Meta). m.text) metas ++ texts rest) (sym (from_here rows at row is)) ∙ so_far.texts);
 }
 
-pub stopped : (rows : List NodeRow) (at : ℕ) (metas : List Meta) (row : NodeRow) (u : Unread) → at < length rows → row ≡ get_or rows at row → SoFar rows at metas → LoadsMeta at row (Err u) → LoadsMetas rows (Err u)
+pub stopped : (rows : List NodeRow) (at : ℕ) (metas : List Meta) (row : NodeRow) (u : Unread) → slice_get rows at ≡ Some row → SoFar rows at metas → LoadsMeta at row (Err u) → LoadsMetas rows (Err u)
 unfolding first_bad
-stopped rows at metas row unread.NoMemory lt is so_far why = tt
-stopped rows at metas row (unread.Bad bad) lt is so_far why =
+stopped rows at metas row unread.NoMemory is so_far why = tt
+stopped rows at metas row (unread.Bad bad) is so_far why =
     let here : first_bad at (row ∷ drop (at + 1) rows) ≡ Some (Node at why.0) = rw (why.1, first_bad) refl in
-    sym so_far.passed ∙ ap (first_bad at) (cut rows at row lt is) ∙ here ∙ ap Some (sym why.2)
+    sym so_far.passed ∙ ap (first_bad at) (from_here rows at row is) ∙ here ∙ ap Some (sym why.2)
 
 pub all_read : (rows : List NodeRow) (at : ℕ) (metas : List Meta) → length rows ≤ at → SoFar rows at metas → LoadsMetas rows (Ok metas)
 unfolding first_bad
@@ -55,15 +52,11 @@ all_read rows at metas le so_far =
 pub same_length : (rows : List NodeRow) (metas : List Meta) → AreMetas rows metas → length metas ≡ length rows
 same_length rows metas are = sym (length-map metas (λ meta. meta.text)) ∙ ap length are ∙ length-map rows (λ row. row.user_data)
 
-read_at : {A : Type 0} (xs : List A) (at : ℕ) (x : A) → at < length xs → x ≡ get_or xs at x → slice_get xs at ≡ Some x
-read_at xs at x lt is = slice_get-get_or xs at x lt ∙ ap Some (sym is)
-
-pub node_read : (rows : List NodeRow) (metas : List Meta) (at : ℕ) (row : NodeRow) (meta : Meta) → AreMetas rows metas → at < length rows → row ≡ get_or rows at row → meta ≡ get_or metas at meta → option_map node_of (slice_get rows at) ≡ Some (record { id = row.id; text = meta.text })
-node_read rows metas at row meta are lt is has =
-    let here : slice_get rows at ≡ Some row = read_at rows at row lt is in
-    let there : slice_get metas at ≡ Some meta = read_at metas at meta (omega (arith, same_length rows metas are)) has in
+pub node_read : (rows : List NodeRow) (metas : List Meta) (at : ℕ) (row : NodeRow) (meta : Meta) → AreMetas rows metas → slice_get rows at ≡ Some row → meta ≡ get_or metas at meta → meta.text ≡ row.user_data
+node_read rows metas at row meta are is has =
+    let lt : at < length metas = omega (arith, same_length rows metas are, slice_get_within rows at row is) in
+    let there : slice_get metas at ≡ Some meta = slice_get-get_or metas at meta lt ∙ ap Some (sym has) in
     let left : slice_get (map (λ (m : Meta). m.text) metas) at ≡ Some meta.text = slice_get-map (λ (m : Meta). m.text) metas at ∙ ap (option_map (λ (m : Meta). m.text)) there in
-    let right : slice_get (map (λ (r : NodeRow). r.user_data) rows) at ≡ Some row.user_data = slice_get-map (λ (r : NodeRow). r.user_data) rows at ∙ ap (option_map (λ (r : NodeRow). r.user_data)) here in
+    let right : slice_get (map (λ (r : NodeRow). r.user_data) rows) at ≡ Some row.user_data = slice_get-map (λ (r : NodeRow). r.user_data) rows at ∙ ap (option_map (λ (r : NodeRow). r.user_data)) is in
     let both : Some meta.text ≡ Some row.user_data = sym left ∙ ap (λ (xs : List (List ℕ)). slice_get xs at) are ∙ right in
-    let same : row.user_data ≡ meta.text = cc in
-    rw here (ap (λ (text : List ℕ). Some (record { id = row.id; text = text })) same)
+    cc

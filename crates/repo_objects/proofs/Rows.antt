@@ -1,26 +1,24 @@
 -- Rows in the order of their paths, and the map of their nodes.
-use Rattle.std.proofs.Common.{◌≡◌, ℕ, zero, suc, ◌<◌, true, false, Bool, ◌&&◌, T, List, [], ◌∷◌, map, length, get_or, Option, None, Some, option_map, Result, Ok, Err, refl, sym, ap, subst, ◌∙◌, arith, inl, inr, add-one}
+use Rattle.std.proofs.Common.{◌≡◌, ℕ, ◌<◌, true, false, Bool, cond, ◌&&◌, T, List, [], ◌∷◌, map, length, Option, None, Some, option_map, refl, sym, ap, subst, ◌∙◌, arith}
 use Rattle.std.specs.Prelude.{slice_get}
+use Rattle.std.specs.Cmp.{both_ways}
 use Rattle.std.specs.declared.cmp.Ordering.{Ordering}
 use Rattle.std.specs.declared.cmp.Ordering.TheVariants.{Less, Equal, Greater}
-use Rattle.std.specs.Ordering.{is_lt, is_eq, ordering_index, ordering_reverse}
+use Rattle.std.specs.Ordering.{is_lt}
 use Rattle.std.specs.List.{list_all}
-use Rattle.std.specs.List.Sorted.{IsSearchInRange, IsBinarySearchResult, IsNonDecreasingBy}
-use Rattle.std.specs.Result.{result_ok}
-use Rattle.std.specs.FinMap.{find, len, entries, is_sorted, from_sorted, entries-from_sorted, get-from_sorted, len-entries}
-use Rattle.std.proofs.lemmas.Bool.{cases_lt}
+use Rattle.std.specs.FinMap.{find, get, len, entries, is_sorted, from_sorted, entries-from_sorted, get-from_sorted, len-entries}
 use Rattle.std.proofs.lemmas.List.{length-map}
-use Rattle.std.proofs.lemmas.List.Sorted.{searchable_from_sorted}
 use Rattle.std.proofs.lemmas.Option.{slice_get-map}
 use Rattle.flat_tables.specs.Rows.{Ascends}
 use Rattle.zarr_path.specs.Paths.{path_cmp, same_path}
-use Rattle.zarr_path.proofs.OrderLaws.{total, exact}
+use Rattle.zarr_path.proofs.OrderLaws.{total, same_path-true, same_path-refl}
 use Rattle.zarr_tree.specs.Nodes.{Node}
 use Rattle.zarr_tree.proofs.Maps.{same, get-made}
 use Rattle.snapshot_file.specs.declared.nodes.NodeRow.{NodeRow}
 use Rattle.snapshot_file.specs.Snapshots.{node_key}
-use Rattle.repo_objects.specs.Trees.{node_of, nodes_in}
-use Rattle.repo_objects.specs.inside.Places.{IsPlace}
+use Rattle.held_snapshot.specs.LookUp.{row_place}
+use Rattle.held_snapshot.proofs.Found.{found_by, found_none}
+use Rattle.repo_objects.specs.Trees.{node_of, nodes_in, row_at}
 
 -- a row as an entry of the map
 abbrev entry : NodeRow → List ℕ × Node
@@ -35,12 +33,6 @@ less_is : (o : Ordering) → is_lt o ≡ true → o ≡ Less
 less_is Less h = refl
 less_is Equal h = absurd cc
 less_is Greater h = absurd cc
-
-turned : (p q : List ℕ) (o : Ordering) → path_cmp p q ≡ o → path_cmp q p ≡ ordering_reverse o
-turned p q o e = total.antisymm q p ∙ ap ordering_reverse e
-
-other : (p q : List ℕ) (o : Ordering) → path_cmp p q ≡ o → is_eq (ordering_reverse o) ≡ false → same_path q p ≡ false
-other p q o is apart = ap is_eq (turned p q o is) ∙ apart
 
 -- ---- rows that ascend are the map's own
 
@@ -93,47 +85,24 @@ module _ (rows nodes : List NodeRow) (same : rows ≡ nodes) (ascend : Ascends n
           let right : node_of row ≡ node = cc in
           ap (λ (p : List ℕ). Some (p, node_of row)) left ∙ ap (λ (n : Node). Some (path, n)) right
 
--- ---- a search by halves
+-- ---- the node at a path
 
-adjacent : (before : Option (List ℕ)) (rows : List NodeRow) → Ascends node_key before rows → (k : ℕ) (d : NodeRow) → suc k < length rows → is_lt (path_cmp (get_or rows (suc k) d).path (get_or rows k d).path) ≡ false
-adjacent before [] ascend k d lt = absurd (omega arith)
-adjacent before (row ∷ []) ascend k d lt = absurd (omega arith)
-adjacent before (row ∷ next ∷ rows) ascend zero d lt = ap is_lt (turned row.path next.path Less (less_is _ ascend.1.0))
-adjacent before (row ∷ next ∷ rows) ascend (suc k) d lt = adjacent (Some row.path) (next ∷ rows) ascend.1 k d (omega arith)
+turned : (p q : List ℕ) → same_path p q ≡ same_path q p
+turned p q = both_ways _ _ (λ e. ap (same_path q) (same_path-true p q e) ∙ same_path-refl q) (λ e. ap (same_path p) (same_path-true q p e) ∙ same_path-refl p)
 
-rises : (rows : List NodeRow) (path : List ℕ) → Ascends node_key None rows → IsNonDecreasingBy (λ (row : NodeRow). ordering_index (path_cmp row.path path)) rows
-rises rows path ascend = searchable_from_sorted total (λ (row : NodeRow). row.path) rows path (λ k d low lt. rw add-one (adjacent None rows ascend k d (omega arith)))
+found_node : (rows : List NodeRow) (p : List ℕ) → find path_cmp p (entries_of rows) ≡ option_map node_of (row_at rows p)
+found_node [] p = refl
+found_node (x ∷ xs) p =
+    ap (λ b. cond b (Some (node_of x)) (find path_cmp p (entries_of xs))) (turned p x.path)
+    ∙ elim (same_path x.path p) as (λ b. cond b (Some (node_of x)) (find path_cmp p (entries_of xs)) ≡ option_map node_of (cond b (Some x) (row_at xs p))) [ true ↦ refl | false ↦ found_node xs p ]
 
--- the row that a search has found
-found_at : (before : Option (List ℕ)) (rows : List NodeRow) (path : List ℕ) (at : ℕ) → Ascends node_key before rows → at < length rows → ((d : NodeRow) → path_cmp (get_or rows at d).path path ≡ Equal) → find path_cmp path (entries_of rows) ≡ option_map node_of (slice_get rows at)
-found_at before [] path at ascend lt is = absurd (omega arith)
-found_at before (row ∷ rows) path zero ascend lt is =
-    let here : same_path path row.path ≡ true = ap is_eq (turned row.path path Equal (is row)) in
-    rw here refl
-found_at before (row ∷ rows) path (suc at) ascend lt is =
-    let behind : same_path path row.path ≡ false = other row.path path Less lower refl in
-    rw behind (found_at (Some row.path) rows path at ascend.1 (omega arith) is)
-  where
-    above : (p : List ℕ) (rows : List NodeRow) (at : ℕ) (d : NodeRow) → Ascends node_key (Some p) rows → at < length rows → path_cmp p (get_or rows at d).path ≡ Less
-    above p [] at d ascend lt = absurd (omega arith)
-    above p (next ∷ rows) zero d ascend lt = less_is _ ascend.0
-    above p (next ∷ rows) (suc at) d ascend lt = total.trans p next.path (get_or rows at d).path (less_is _ ascend.0) (above next.path rows at d ascend.1 (omega arith))
+-- the node at a path is that of the row there
+pub node_at_row : (rows : List NodeRow) (p : List ℕ) → get (nodes_in rows) p ≡ option_map node_of (row_at rows p)
+node_at_row rows p = get-made (entries_of rows) p ∙ found_node rows p
 
-    lower : path_cmp row.path path ≡ Less
-    lower = ap (path_cmp row.path) (sym (exact (get_or rows at row).path path (is row))) ∙ above row.path rows at row ascend.1 (omega arith)
+-- and it is found by the row's number
+pub node_missing : (rows : List NodeRow) (p : List ℕ) → row_place rows p ≡ None → get (nodes_in rows) p ≡ None
+node_missing rows p is = node_at_row rows p ∙ ap (option_map node_of) (found_none (λ row. same_path row.path p) rows is)
 
-none_at : (rows : List NodeRow) (path : List ℕ) → ((k : ℕ) (d : NodeRow) → k < length rows → same_path path (get_or rows k d).path ≡ false) → find path_cmp path (entries_of rows) ≡ None
-none_at [] path apart = refl
-none_at (row ∷ rows) path apart =
-    let here : same_path path row.path ≡ false = apart 0 row (omega arith) in
-    rw here (none_at rows path (λ k d lt. apart (suc k) d (omega arith)))
-
-pub searched : (rows : List NodeRow) (path : List ℕ) (r : Result ℕ ℕ) → Ascends node_key None rows → IsSearchInRange r (length rows) → IsBinarySearchResult (λ (row : NodeRow). path_cmp row.path path) rows r → IsPlace rows path (result_ok r)
-searched rows path (Ok at) ascend bound found = (bound, get-made (entries_of rows) path ∙ found_at None rows path at ascend bound found)
-searched rows path (Err at) ascend bound found =
-    let split = found (rises rows path ascend) in
-    get-made (entries_of rows) path
-    ∙ none_at rows path (λ k d lt. elim (cases_lt k at) [
-      | inl less ↦ other (get_or rows k d).path path Less (split.0 k d (omega arith) less) refl
-      | inr ge ↦ other (get_or rows k d).path path Greater (split.1 k d ge lt) refl
-    ])
+pub node_placed : (rows : List NodeRow) (p : List ℕ) (at : ℕ) (row : NodeRow) → row_place rows p ≡ Some at → slice_get rows at ≡ Some row → get (nodes_in rows) p ≡ Some (node_of row)
+node_placed rows p at row is there = node_at_row rows p ∙ ap (option_map node_of) (found_by (λ r. same_path r.path p) rows at row is there)

@@ -1,13 +1,10 @@
 -- What a reader answers, by what the file says.
-use Rattle.std.proofs.Common.{◌≡◌, ℕ, suc, true, false, List, [], ◌∷◌, get_or, None, Result, Ok, Err, refl, sym, ap, ◌∙◌, subst, inl, inr, Fits, w8, arith}
+use Rattle.std.proofs.Common.{◌≡◌, ℕ, true, false, List, None, Result, Ok, Err, refl}
 use Rattle.std.specs.Prelude.{nat_lt}
 use Rattle.std.specs.List.{list_all}
-use Rattle.std.proofs.lemmas.Bool.{lt-ltb}
 use Rattle.ice_ids.specs.declared.Id12.{Id12}
 use Rattle.ice_ids.specs.Text.{same_id12}
 use Rattle.flat_tables.specs.declared.fault.FileFault.{FileFault}
-use Rattle.flat_tables.specs.declared.fault.FileFault.TheVariants as file
-use Rattle.flat_tables.specs.Rows.{Reads}
 use Rattle.snapshot_file.specs.declared.nodes.NodeRow.{NodeRow}
 use Rattle.snapshot_file.specs.declared.snapshot.SnapshotFile.{SnapshotFile}
 use Rattle.snapshot_file.specs.Snapshots.{snapshot_of}
@@ -21,18 +18,7 @@ use Rattle.repo_objects.specs.declared.bad.Unread.{Unread}
 use Rattle.repo_objects.specs.declared.bad.Unread.TheVariants as unread
 use Rattle.repo_objects.specs.Readings.{◌>>=◌, in_file, under, unless, first_bad, read_snapshot, read_manifest, read_log}
 use Rattle.repo_objects.specs.Loading.{Loads}
-use Rattle.repo_objects.specs.inside.Metas.{unread_of, LoadsMetas}
-
-told : (A : Type 0) (fault : FileFault) → Loads {A = A} (Err (File fault)) (Err (unread_of fault))
-told A file.NoMemory = tt
-told A fault = refl
-
-pub loads_fault : {A B : Type 0} (r : Result A FileFault) (next : A → Result B Bad) (fault : FileFault) (u : Unread) → Reads (λ x. x) (Err fault) r → u ≡ unread_of fault → Loads (in_file r >>= next) (Err u)
-loads_fault {B = B} r next fault u reads is = rw is (by_fault reads)
-  where
-    by_fault : Reads (λ x. x) (Err fault) r → Loads (in_file r >>= next) (Err (unread_of fault))
-    by_fault (inl none) = rw none tt
-    by_fault (inr same) = rw same (told B fault)
+use Rattle.repo_objects.specs.inside.Metas.{LoadsMetas}
 
 -- ---- logs
 
@@ -64,14 +50,6 @@ manifest_other id bytes manifest all is other = rw (all, is, other) refl
 
 -- ---- snapshots
 
--- what the type of a list of bytes says of it
-abbrev AreBytes : List ℕ → Type 0
-AreBytes bytes = (i : ℕ) → Fits w8 (get_or bytes i 0)
-
-all_below : (bytes : List ℕ) → AreBytes bytes → list_all (λ n. nat_lt n 256) bytes ≡ true
-all_below [] are = refl
-all_below (b ∷ bytes) are = rw (lt-ltb b 256 (omega (arith, are 0))) (all_below bytes (λ i. are (suc i)))
-
 -- what a snapshot stands for under the id of a key
 abbrev snapshot_under : Id12 → SnapshotFile → Result SnapshotFile Bad
 snapshot_under id s = under id s.id s >>= λ own. unless (first_bad 0 own.nodes) own
@@ -80,18 +58,15 @@ pub read_by : (id : Id12) (bytes : List ℕ) → list_all (λ n. nat_lt n 256) b
 unfolding read_snapshot
 read_by id bytes all = rw all refl
 
-pub snapshot_fault : (id : Id12) (bytes : List ℕ) (fault : FileFault) (u : Unread) → AreBytes bytes → Reads (λ x. x) (Err fault) (snapshot_of bytes) → u ≡ unread_of fault → Loads (read_snapshot id bytes) (Err u)
-snapshot_fault id bytes fault u are reads is = subst (λ r. Loads r (Err u)) (sym (read_by id bytes (all_below bytes are))) (loads_fault (snapshot_of bytes) (snapshot_under id) fault u reads is)
+pub snapshot_fault : (id : Id12) (bytes : List ℕ) (fault : FileFault) → list_all (λ n. nat_lt n 256) bytes ≡ true → snapshot_of bytes ≡ Err fault → read_snapshot id bytes ≡ Err (File fault)
+snapshot_fault id bytes fault all is = rw (read_by id bytes all, is) refl
 
-pub snapshot_other : (id : Id12) (bytes : List ℕ) (s : SnapshotFile) → AreBytes bytes → snapshot_of bytes ≡ Ok s → same_id12 s.id id ≡ false → read_snapshot id bytes ≡ Err (WrongId s.id)
-snapshot_other id bytes s are is other = rw (read_by id bytes (all_below bytes are), is, other) refl
+pub snapshot_other : (id : Id12) (bytes : List ℕ) (s : SnapshotFile) → list_all (λ n. nat_lt n 256) bytes ≡ true → snapshot_of bytes ≡ Ok s → same_id12 s.id id ≡ false → read_snapshot id bytes ≡ Err (WrongId s.id)
+snapshot_other id bytes s all is other = rw (read_by id bytes all, is, other) refl
 
-pub snapshot_bad : (id : Id12) (bytes : List ℕ) (s : SnapshotFile) (rows : List NodeRow) (u : Unread) → AreBytes bytes → snapshot_of bytes ≡ Ok s → same_id12 s.id id ≡ true → rows ≡ s.nodes → LoadsMetas rows (Err u) → Loads (read_snapshot id bytes) (Err u)
-snapshot_bad id bytes s rows (unread.Bad bad) are is same nodes why = rw (read_by id bytes (all_below bytes are), is, same, ← nodes, why) refl
-snapshot_bad id bytes s rows unread.NoMemory are is same nodes why = tt
+pub snapshot_bad : (id : Id12) (bytes : List ℕ) (s : SnapshotFile) (rows : List NodeRow) (u : Unread) → list_all (λ n. nat_lt n 256) bytes ≡ true → snapshot_of bytes ≡ Ok s → same_id12 s.id id ≡ true → rows ≡ s.nodes → LoadsMetas rows (Err u) → Loads (read_snapshot id bytes) (Err u)
+snapshot_bad id bytes s rows (unread.Bad bad) all is same nodes why = rw (read_by id bytes all, is, same, ← nodes, why) refl
+snapshot_bad id bytes s rows unread.NoMemory all is same nodes why = tt
 
 pub snapshot_same : (id : Id12) (bytes : List ℕ) (s : SnapshotFile) → list_all (λ n. nat_lt n 256) bytes ≡ true → snapshot_of bytes ≡ Ok s → same_id12 s.id id ≡ true → first_bad 0 s.nodes ≡ None → read_snapshot id bytes ≡ Ok s
 snapshot_same id bytes s all is same texts = rw (read_by id bytes all, is, same, texts) refl
-
-pub snapshot_loaded : (id : Id12) (bytes : List ℕ) (s : SnapshotFile) (rows : List NodeRow) → AreBytes bytes → snapshot_of bytes ≡ Ok s → same_id12 s.id id ≡ true → rows ≡ s.nodes → first_bad 0 rows ≡ None → read_snapshot id bytes ≡ Ok s
-snapshot_loaded id bytes s rows are is same nodes texts = snapshot_same id bytes s (all_below bytes are) is same (ap (first_bad 0) (sym nodes) ∙ texts)

@@ -1,11 +1,11 @@
 -- The tree of a snapshot, by what was put. (Icechunk specification version 1, "Snapshots", "Manifests", "Chunks"; which
 -- manifest of a node's list has a chunk is own.)
-use Rattle.std.specs.Prelude.{◌≡◌, ℕ, ◌+◌, nat_le, if◌then◌else◌, List, [], length, take, drop, map, find, Option, Some, None, option_and_then, IsSome}
+use Rattle.std.specs.Prelude.{◌≡◌, ℕ, ◌+◌, nat_le, if◌then◌else◌, List, [], length, take, drop, map, Option, Some, None, option_and_then, IsSome}
 use Rattle.std.specs.Option.{unwrap_or}
 use Rattle.std.specs.List.{Contains}
 use Rattle.std.specs.FinMap.{FinMap, from_entries}
 use Rattle.ice_ids.specs.declared.Id12.{Id12}
-use Rattle.zarr_path.specs.Paths.{path_cmp, same_path}
+use Rattle.zarr_path.specs.Paths.{path_cmp}
 use Rattle.zarr_meta.specs.declared.views.ArrayView.{ArrayView}
 use Rattle.zarr_tree.specs.Nodes.{Node, array_in}
 use Rattle.zarr_tree.specs.Trees.{Tree, IsWellFormed}
@@ -18,6 +18,7 @@ use Rattle.manifest_file.specs.declared.manifest.ManifestFile.{ManifestFile}
 use Rattle.manifest_file.specs.declared.manifest.ArrayRefs.{ArrayRefs}
 use Rattle.manifest_file.specs.declared.manifest.ChunkRef.{ChunkRef}
 use Rattle.held_manifest.specs.LookUp.{Listed, chunk_place}
+pub use Rattle.held_snapshot.specs.LookUp.{row_at}
 use Rattle.repo_objects.specs.Readings.{manifest_by}
 
 -- ---- nodes
@@ -29,10 +30,6 @@ node_of row = record { id = row.id; text = row.user_data }
 -- the nodes of rows, by their paths
 abbrev pub nodes_in : List NodeRow → FinMap path_cmp Node
 nodes_in rows = from_entries (map (λ row. (row.path, node_of row)) rows)
-
--- the row at a path
-abbrev pub row_at : List NodeRow → List ℕ → Option NodeRow
-row_at rows p = find (λ row. same_path row.path p) rows
 
 -- ---- chunks
 

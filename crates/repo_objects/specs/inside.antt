@@ -1,2 +1,1 @@
 pub mod Metas
-pub mod Places

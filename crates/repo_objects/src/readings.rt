@@ -3,26 +3,15 @@
 ghost use Rattle.std.specs.Prelude.{◌≡◌, MatchResult, Ok, Err};
 ghost use Rattle.repo_objects.specs.Readings.{read_manifest, read_log, read_ref};
 ghost use Rattle.repo_objects.specs.Loading.{Loads};
-ghost use Rattle.repo_objects.specs.inside.Metas.{unread_of, unread_ref_of};
+ghost use Rattle.repo_objects.specs.inside.Metas.{unread_ref_of};
 
 use crate::bad::{Bad, Unread};
-use flat_tables::FileFault;
 use held_log::HeldLog;
 use held_manifest::{Held, hold};
 use ice_base::Bytes;
 use ice_ids::Id12;
 use ref_file::RefFault;
 use std::alloc::Global;
-
-/// Why a file isn't read.
-pub(crate) fn unread(fault: FileFault) -> Unread
-    ensures { result ≡ unread_of fault }
-{
-    match fault {
-        FileFault::NoMemory => Unread::NoMemory,
-        fault => Unread::Bad(Bad::File(fault)),
-    }
-}
 
 /// Holds the file of a manifest, to be read in place, under the id of its key. It takes no memory. (Icechunk specification
 /// version 1, "Manifests".)

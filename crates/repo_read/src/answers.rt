@@ -48,7 +48,7 @@ pub fn ref_told(alloc: Global, branch: &RefName, reply: Reply) -> Result<Resolve
     }
 }
 
-/// What a reply to the get of a snapshot tells. Refusals: `Missing` where it was absent, `BadFile` where its bytes are no
+/// What a reply to the get of a snapshot tells, which holds its file. Refusals: `Missing` where it was absent, `BadFile` where its bytes are no
 /// snapshot of this id, `StoreFault` where the get failed, or `NoMemory`.
 pub fn snapshot_told(alloc: Global, id: Id12, reply: Reply) -> Result<Loaded, Refusal>
     ensures told { Answers (snapshot_told id reply) result }
@@ -65,7 +65,7 @@ pub fn snapshot_told(alloc: Global, id: Id12, reply: Reply) -> Result<Loaded, Re
     else {
         return Err(Refusal::Missing(Key::Snapshot(id)));
     };
-    match Loaded::read(alloc, id, bytes.as_slice()) {
+    match Loaded::read(alloc, id, bytes) {
         Ok(loaded) => Ok(loaded),
         Err(Unread::NoMemory) => Err(Refusal::NoMemory),
         Err(Unread::Bad(bad)) => Err(Refusal::BadFile(Key::Snapshot(id), bad)),

@@ -92,7 +92,7 @@ impl Chain {
         ensures faultless { IfErr result (λ refusal. is_fault refusal ≡ false) }
         ensures listed { IfErr result MayRefuseChain }
     {
-        let parent = loaded.file().parent;
+        let parent = loaded.file().parent();
         let Ok(()) = self.seen.push(loaded) else {
             return Err(Refusal::NoMemory);
         };

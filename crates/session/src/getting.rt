@@ -94,7 +94,7 @@ impl Session {
             Some(Some(place)) => first_own(self.alloc, place),
             Some(None) => Ok(First::Told(Value::Fill)),
             None => {
-                let ids = candidates(self.alloc, self.manifests(path, at.node), index)?;
+                let ids = candidates(self.alloc, &self.manifests(path, at.node), index)?;
                 Ok(first_listed(ids))
             }
         }

@@ -4,20 +4,19 @@ ghost use Rattle.std.specs.Prelude.{◌≡◌};
 ghost use Rattle.changed_snapshot.specs.Rows.{own_manifests};
 
 use crate::Session;
-use changed_snapshot::row_at;
+use held_snapshot::HeldManifests;
 use ice_ids::Id8;
-use snapshot_file::ManifestRef;
 use zarr_path::Path;
 
 impl Session {
     /// The manifests that the base has for this node at a path; none where another node stands there, or none. The row is found
     /// by halves, without memory.
-    pub fn manifests(&self, path: &Path, node: Id8) -> &[ManifestRef]
-        ensures { result.now ≡ own_manifests self.now.rows path.now node }
+    pub fn manifests(&self, path: &Path, node: Id8) -> HeldManifests<'_>
+        ensures { result ≡ own_manifests self.now.rows path.now node }
     {
-        match row_at(self.loaded.file().nodes.as_slice(), path.as_str()) {
-            Some(row) if row.id == node => row.kind.manifests(),
-            _ => &[],
+        match self.loaded.file().nodes().find(path.as_str()) {
+            Some(row) if row.id() == node => row.kind().manifests(),
+            _ => HeldManifests::none(),
         }
     }
 }

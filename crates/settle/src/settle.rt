@@ -182,7 +182,7 @@ impl Settle {
         ensures listed { IfErr result MayRefuseSettle }
     {
         let loaded = snapshot_told(self.alloc, way.next, reply)?;
-        self.on_parent(way, loaded.file().parent)
+        self.on_parent(way, loaded.file().parent())
     }
 
     /// Behind a snapshot with this parent.

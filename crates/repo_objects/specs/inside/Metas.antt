@@ -1,22 +1,16 @@
 -- What the code's own functions answer; no public contract cites this.
 use Rattle.std.specs.Prelude.{◌≡◌, ⊤, ℕ, List, map, Some, None, Result, Ok, Err}
-use Rattle.flat_tables.specs.declared.fault.FileFault.{FileFault}
-use Rattle.flat_tables.specs.declared.fault.FileFault.TheVariants as file
 use Rattle.ref_file.specs.declared.RefFault.{RefFault}
 use Rattle.ref_file.specs.declared.RefFault.TheVariants as ref
 use Rattle.zarr_meta.specs.declared.faults.MetaFault.{MetaFault}
 use Rattle.zarr_meta.specs.declared.metas.Meta.{Meta}
 use Rattle.snapshot_file.specs.declared.nodes.NodeRow.{NodeRow}
-use Rattle.repo_objects.specs.declared.bad.Bad.TheVariants.{File, Ref, Node}
+use Rattle.repo_objects.specs.declared.bad.Bad.TheVariants.{Ref, Node}
 use Rattle.repo_objects.specs.declared.bad.Unread.{Unread}
 use Rattle.repo_objects.specs.declared.bad.Unread.TheVariants as unread
 use Rattle.repo_objects.specs.Readings.{row_fault, first_bad}
 
--- why a file isn't read whose reader tells this
-abbrev pub unread_of : FileFault → Unread
-unread_of file.NoMemory = unread.NoMemory
-unread_of fault = unread.Bad (File fault)
-
+-- why a reference isn't read whose reader tells this
 abbrev pub unread_ref_of : RefFault → Unread
 unread_ref_of ref.NoMemory = unread.NoMemory
 unread_ref_of fault = unread.Bad (Ref fault)

@@ -10,6 +10,7 @@ abbrev pub invariant-loop-row : goal.invariant-loop-row
 invariant-loop-row l = record {
   nodes : map row_found l.nodes.items ++ l.left ≡ entries (nodes_over l.fn.changes (nodes_in l.fn.base.nodes));
   paths : ArePaths (map row_found l.nodes.items);
+  placed : length l.places.items ≡ length l.nodes.items;
 }
 
 abbrev pub decreases-loop-row : goal.decreases-loop-row

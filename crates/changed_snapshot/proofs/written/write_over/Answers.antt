@@ -22,9 +22,9 @@ write_rows-requires c =
       manifest_files = files;
     } in
     let rows : c.in_ok-rows.rows ≡ rows_over c.args.changes.now c.args.news.now base.nodes = c.in_ok-rows.ensures in
-    let old : c.as_slice.result.now ≡ base.manifest_files = c.as_slice.ensures ∙ ap (λ (s : SnapshotFile). s.manifest_files) c.file.ensures.value in
+    let old : c.manifest_files.result ≡ base.manifest_files = c.manifest_files.ensures ∙ ap (λ (s : SnapshotFile). s.manifest_files) c.file.ensures.value in
     let with : c.in_ok-files.files ≡ all = c.in_ok-files.ensures ∙ ap (λ (xs : List ManifestInfo). files_with xs c.args.news.now) old in
     let files : c.in_ok-manifest_files.manifest_files ≡ files_over all (rows_over c.args.changes.now c.args.news.now base.nodes) =
-    c.in_ok-manifest_files.ensures ∙ (λ i. files_over ((c.as_slice-2.ensures ∙ with) i) (rows i))
+    c.in_ok-manifest_files.ensures ∙ (λ i. files_over ((c.as_slice.ensures ∙ with) i) (rows i))
     in
     subst IsWritable (λ i. file (sym rows i) (sym files i)) (writable_over base c.args.changes.now c.args.news.now c.args.stamp c.args.message.now c.args.props.now c.file.ensures.writable c.requires.few)

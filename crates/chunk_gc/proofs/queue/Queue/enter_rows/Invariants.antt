@@ -2,5 +2,5 @@ use Rattle.std.proofs.Common.{◌≡◌, drop}
 use Rattle.chunk_gc.specs.Lines.{enter_rows}
 use Rattle.chunk_gc.proofs.queue.Queue.enter_rows.Given as goal
 
-abbrev pub invariant-loop-row : goal.invariant-loop-row
-invariant-loop-row l = enter_rows (drop l.row-index l.rows) l.self ≡ enter_rows l.rows l.fn.self
+abbrev pub invariant-loop-at : goal.invariant-loop-at
+invariant-loop-at l = enter_rows (drop l.at l.rows) l.self ≡ enter_rows l.rows l.fn.self

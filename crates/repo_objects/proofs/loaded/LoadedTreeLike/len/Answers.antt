@@ -8,6 +8,6 @@ use Rattle.repo_objects.proofs.loaded.LoadedTreeLike.len.Goals as goal
 
 pub returns : goal.returns
 returns c =
-    let rows = c.self.inside.file.nodes in
+    let rows = c.self.inside.held.nodes in
     c.len.ensures ∙ same_length rows c.self.inside.metas c.self.invariant.1 ∙ sym (len-nodes rows c.self.invariant.0.nodes)
     ∙ ap (λ (s : SnapshotFile). len (nodes_in s.nodes)) c.self.view_is

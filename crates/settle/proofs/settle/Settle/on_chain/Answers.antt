@@ -1,4 +1,4 @@
-use Rattle.std.proofs.Common.{ap, sym}
+use Rattle.std.proofs.Common.{ap, sym, ◌∙◌}
 use Rattle.std.proofs.lemmas.Result.{err_from_is_err_and}
 use Rattle.snapshot_file.specs.declared.snapshot.SnapshotFile.{SnapshotFile}
 use Rattle.settle.proofs.Steps.{deep-faultless, state-over, state-falls, way-refused, way-awaits, way-went}
@@ -17,4 +17,4 @@ on_parent-requires-clause-left c = way-awaits c.args.self.now.doubt c.args.way.h
 
 pub returns-clause-took : goal.returns-clause-took
 returns-clause-took c =
-    way-went c.args.self.now.doubt c.args.way.head c.args.way.left c.args.way.next c.args.reply c.in_ok-loaded.loaded _ c.requires.awaited c.in_ok-loaded.ensures.told (sym (ap (λ (f : SnapshotFile). f.parent) c.file.ensures.value)) _ _ c.on_parent.ensures.lands (deep-faultless _ c.on_parent.ensures.refused)
+    way-went c.args.self.now.doubt c.args.way.head c.args.way.left c.args.way.next c.args.reply c.in_ok-loaded.loaded _ c.requires.awaited c.in_ok-loaded.ensures.told (sym (c.parent.ensures ∙ ap (λ (f : SnapshotFile). f.parent) c.file.ensures.value)) _ _ c.on_parent.ensures.lands (deep-faultless _ c.on_parent.ensures.refused)

@@ -1,5 +1,0 @@
-use Rattle.std.proofs.Common.{length}
-use Rattle.ice_show.proofs.changing.push_rows_of.Given as goal
-
-abbrev pub decreases-loop-path : goal.decreases-loop-path
-decreases-loop-path l = length l.rows

@@ -1,4 +1,0 @@
-use Rattle.ice_show.proofs.conflicting.log_of.Goals as goal
-
-pub write-written-requires : goal.write-written-requires
-write-written-requires c = c.touched_law.ensures.writable _ c.args.lists c.requires

@@ -1,0 +1,4 @@
+use Rattle.show_trees.proofs.conflicting.log_of.Goals as goal
+
+pub write-written-requires : goal.write-written-requires
+write-written-requires c = c.touched_law.ensures.writable _ c.args.lists c.requires
