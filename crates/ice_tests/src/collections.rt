@@ -1,4 +1,4 @@
-//! A collection at once beside eight tasks that commit on one branch.
+//! A collection, and an expiry, at once beside eight tasks that commit on one branch.
 
 use crate::at_once::left;
 use crate::checking::holds;
@@ -17,6 +17,10 @@ const BEGUN: &str =
 /// Eight tasks that commit, and one that collects what was put before all of them.
 const AT_ONCE: &str =
     "task t0 write main 9 fail\ngroup /g0\ncommit c\ntask t1 write main 9 fail\ngroup /g1\ncommit c\ntask t2 write main 9 fail\ngroup /g2\ncommit c\ntask t3 write main 9 fail\ngroup /g3\ncommit c\ntask t4 write main 9 fail\ngroup /g4\ncommit c\ntask t5 write main 9 fail\ngroup /g5\ncommit c\ntask t6 write main 9 fail\ngroup /g6\ncommit c\ntask t7 write main 9 fail\ngroup /g7\ncommit c\ntask c collect 15\n";
+
+/// The same tasks, and one that cuts what was flushed before all of them.
+const EXPIRED: &str =
+    "task t0 write main 9 fail\ngroup /g0\ncommit c\ntask t1 write main 9 fail\ngroup /g1\ncommit c\ntask t2 write main 9 fail\ngroup /g2\ncommit c\ntask t3 write main 9 fail\ngroup /g3\ncommit c\ntask t4 write main 9 fail\ngroup /g4\ncommit c\ntask t5 write main 9 fail\ngroup /g5\ncommit c\ntask t6 write main 9 fail\ngroup /g6\ncommit c\ntask t7 write main 9 fail\ngroup /g7\ncommit c\ntask e expire 15 both\n";
 
 /// All that the branch's head has.
 const READ: &str = "task r read branch main\nlist /\nchunk /x 0\nturns\n";
@@ -63,4 +67,38 @@ fn are_kept<R: Threads + Wait + Sync>(rt: &R, alloc: Global) -> bool {
 #[test]
 fn collected_at_once(rt: HostRuntime) -> Result<(), Fail> {
     holds(are_kept(&rt, rt.alloc()), "eight commits, one object less")
+}
+
+/// How often a report has a word.
+fn count(report: &Option<String>, word: &str) -> usize {
+    match report {
+        Some(report) => report.matches(word).count(),
+        None => 0,
+    }
+}
+
+/// Whether each task commits or finds that its base was cut off, `main` stays, and its head has the group of each commit that
+/// was told, and no other.
+fn are_cut<R: Threads + Wait + Sync>(rt: &R, alloc: Global) -> bool {
+    let store = Untold::new(alloc, None);
+    let (store, begun) = told(rt, alloc, Draw::Count, BEGUN, store);
+    let (store, beside) = told(rt, alloc, Draw::Stream([7; 32]), EXPIRED, store);
+    let (store, read) = told(rt, alloc, Draw::Stream([8; 32]), READ, store);
+    drop(store);
+    drop(begun);
+    let committed = count(&beside, " committed ");
+    let refused = count(&beside, " notancestor ");
+    let stays = count(&beside, "e 25 branch main ") == 1 && count(&beside, "e done\n") == 1;
+    let listed = count(&read, " list ");
+    drop(beside);
+    let whole = has(read, "r 3 chunk 0101", " list ", listed);
+    stays
+        && whole
+        && committed.saturating_add(refused) == 8
+        && listed == committed.saturating_add(1)
+}
+
+#[test]
+fn expired_at_once(rt: HostRuntime) -> Result<(), Fail> {
+    holds(are_cut(&rt, rt.alloc()), "as many groups as commits")
 }

@@ -24,11 +24,17 @@ mod doubts;
 #[cfg(test)]
 mod ends;
 #[cfg(test)]
+mod faulted;
+#[cfg(test)]
 mod gates;
 #[cfg(test)]
 mod grids;
 #[cfg(test)]
 mod grown;
+#[cfg(test)]
+mod hostile;
+#[cfg(test)]
+mod lying;
 #[cfg(test)]
 mod manifests;
 #[cfg(test)]

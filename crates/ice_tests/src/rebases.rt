@@ -130,7 +130,7 @@ enum Carried {
 }
 
 /// A rebase that has begun.
-fn rebasing(alloc: Global, session: Session) -> Option<Rebase>
+pub(crate) fn rebasing(alloc: Global, session: Session) -> Option<Rebase>
     ensures { IfSome result (λ r. IsAsk (rebase_rest r)) }
 {
     Rebase::start(alloc, session, POLICY).ok()

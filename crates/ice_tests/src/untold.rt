@@ -120,7 +120,7 @@ pub fn opened(alloc: Global, ids: AnyIds, store: &mut Untold) -> Option<Session>
 }
 
 /// The opening of a session to write on `main`.
-fn opening(alloc: Global, ids: AnyIds) -> Option<Open>
+pub(crate) fn opening(alloc: Global, ids: AnyIds) -> Option<Open>
     ensures { IfSome result (λ machine. IsAsk (open_rest machine)) }
 {
     let main = RefName::main(alloc).ok()?;
