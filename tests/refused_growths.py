@@ -10,15 +10,16 @@ Each script is a case of `ice_faults` with its journal. It is played once with a
 this one growth refused, until none is met. Of each run it is looked at that
 
 - the program ends by itself: no crash, and status 0, or 7 where the simulator had no memory for what it prints itself;
-- the report is the one without a refusal, or the status is 7; then it tells nothing, or a want of memory;
+- the report is the one without a refusal, or the status is 7; then it tells a want of memory, or nothing;
+- nothing is told only where no task has made an operation, as the journal shows;
 - a refusal that isn't told without a refused growth is `nomemory`, or, where one is told, follows from it as the script's row says;
 - the journal is legal, polite, and puts nothing again (`journals.py`), and what each task tells is what its events show
   (`judge` of `made_faults.py`). So where the put over of the branch has failed, one whose growth is refused behind it is in doubt,
   `unsettled nomemory` at worst, and never refused.
 
 Then `icerepo` plays the smallest commit over a directory, with each growth refused alone (`directory`), and with all behind it
-(`from_there_on`). It ends with status 0 or 7; what it tells is so in the log of the branch, which the next run reads; and that one
-leaves nothing aside.
+(`from_there_on`). It ends with status 0 or 7; what it tells is so in the log of the branch, which the next run reads; where it tells
+nothing, nothing was committed; and that one leaves nothing aside.
 
 It prints a table: of each script how many growths a run has, how the runs ended, and what was told in those that ended otherwise.
 It ends with 1 if any went wrong.
@@ -32,6 +33,7 @@ import tempfile
 from typing import NamedTuple
 
 import growths
+import journals
 import made_faults
 
 ICEREPO = os.environ.get("ICE_PROGRAM") or os.path.join(made_faults.TOP, "crates", "ice_cli", "out", "ice_cli")
@@ -145,6 +147,8 @@ def faults_of(script, calm, run):
         wrong.append(f"status {status} with another report")
     if status == 7 and report and not starved and report != report_of(calm)[: len(report)]:
         wrong.append("status 7 with a report that tells no want of memory")
+    if status == 7 and not report and any(event.client != 0 for event in journals.events_of(run.printed)):
+        wrong.append("a task made an operation, and nothing is told")
     return wrong + [f"told: {line}" for line in strange_refusals(script, report_of(calm), report)]
 
 
@@ -222,6 +226,8 @@ def faults_of_directory(status, report, read, log, aside):
         wrong.append(f"told {committed}, and the log is {shown}")
     if status == 0 and not committed:
         wrong.append("status 0 without a commit")
+    if not report and len(shown) != 1:
+        wrong.append(f"told nothing, and the log is {shown}")
     if any(line.startswith("a refused") for line in report) and len(shown) != 1:
         wrong.append(f"told a refusal, and the log is {shown}")
     if any(" refused " in line and not line.endswith(" nomemory") for line in report):

@@ -97,7 +97,7 @@ fn row_from(
     if old.text() == found.meta.text.as_slice() {
         return old.copy(alloc);
     }
-    let manifests = old.kind().manifests().copy(alloc)?;
+    let manifests = old.manifests().copy(alloc)?;
     row_of(alloc, path, found, manifests)
 }
 

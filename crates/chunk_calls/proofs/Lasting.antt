@@ -26,7 +26,7 @@ use Rattle.session.specs.Sessions.{SessionState, overlay}
 use Rattle.session.specs.Chunks.{most_inline, with_chunk}
 use Rattle.store_api.proofs.Happening.{ChangedNothing-others, HasOwn-append, WasGot-append, WasAbsent-append}
 use Rattle.commit_path.proofs.Lasting.{failed-others}
-use Rattle.chunk_calls.specs.Told.{WasPutOut, WasSet, WasObjectTaken, IsOfSet, SetRefused, SetTells, value_of, IsChunk, WasToldPlace, IsPartOf, HasItsChunk, IsOfGet, WasNotThere, IsUnfit, WasUnfit, GetRefused, GetTells}
+use Rattle.chunk_calls.specs.Told.{WasPutOut, WasSet, WasObjectTaken, IsOfSet, SetRefused, SetTells, value_of, IsChunk, WasToldPlace, IsPartOf, IsOfGet, WasNotThere, IsUnfit, WasUnfit, GetRefused, GetTells}
 use Rattle.chunk_calls.specs.Laws.{TellsLaw}
 use Rattle.chunk_calls.proofs.Growing.{Surely-append}
 

@@ -1,11 +1,10 @@
 -- What a client owns it owns behind sets and reads, and the object of a set is put where it put none.
 use Rattle.std.proofs.Common.{◌≡◌, ℕ, List, [], length, refl, subst}
-use Rattle.std.specs.Prelude.{Option, Some, None, Result, Ok, Err, IfOk}
+use Rattle.std.specs.Prelude.{Result, IfOk}
 use Rattle.std.specs.FinMap.{get}
 use Rattle.ice_ids.specs.declared.Id12.{Id12}
 use Rattle.ice_ids.specs.declared.drawing.AnyIds.{AnyIds}
 use Rattle.ice_ids.specs.Drawing.{after12}
-use Rattle.zarr_tree.specs.declared.edit.EditFault.{EditFault}
 use Rattle.manifest_file.specs.declared.manifest.Place.TheVariants.{Inline, Object}
 use Rattle.object_store.specs.declared.keys.Key.{Key}
 use Rattle.object_store.specs.declared.keys.Key.TheVariants.{Chunk}
@@ -18,11 +17,11 @@ use Rattle.object_store.specs.declared.events.Reply.{Reply}
 use Rattle.object_store.specs.declared.events.Reply.TheVariants.{New as Is_new}
 use Rattle.object_store.specs.declared.events.Event.{Event}
 use Rattle.store_api.specs.declared.machines.Refusal.{Refusal}
-use Rattle.store_api.specs.Callers.{Caller, Makes, Waits, own_event}
+use Rattle.store_api.specs.Callers.{Caller, Makes}
 use Rattle.store_api.specs.Program.{Prog, Done, Ask, Leads}
 use Rattle.session.specs.Sessions.{SessionState, nodes_seen}
 use Rattle.session.specs.Sources.{IsLater}
-use Rattle.session.specs.Chunks.{with_chunk, after_draw, after_object, set_program, get_program}
+use Rattle.session.specs.Chunks.{with_chunk, after_object, set_program, get_program}
 use Rattle.reach.specs.Own.{PutItself}
 use Rattle.commit_path.specs.Own.{OwnsChunks, HasPutDrawn, OwesOwn, Owns}
 use Rattle.commit_path.proofs.Listing.{more-makes}

@@ -32,11 +32,11 @@ use Rattle.store_api.specs.Running.{on_answer}
 use Rattle.repo_read.specs.Answers.{at_key, snapshot_told, manifest_told}
 use Rattle.repo_read.specs.Chains.{most_snapshots}
 use Rattle.live_refs.specs.Live.{live}
-use Rattle.collecting.specs.Walks.{Walk, fresh, Marked, IsClosed, IsFound, RefsRead, May, ended, with_root, with_read, told_ref, told_object, told_got, told}
+use Rattle.collecting.specs.Walks.{Walk, fresh, Marked, IsClosed, RefsRead, May, ended, with_root, with_read, told_ref, told_object, told_got, told}
 use Rattle.collecting.specs.Walks as walks
 use Rattle.chunk_gc.specs.Told.{listed_told, first_told, some_id, ref_got}
 use Rattle.chunk_gc.specs.Programs.{Answer, Work, no_work, with_ref, get_refs, with_file, leaving_files, get_files, with_snapshot, leaving_snapshots, mark_files, mark_last, mark_next, mark, sweeping, swept, dooms, list_objects, told_doomed, list_chunks, list_manifests, list_logs, list_snapshots, marking, list_tags, mark_program}
-use Rattle.chunk_gc.specs.Exact.{Deed, Picks, InOrder, Cause, HasFailed, WasAhead, WasBad, WasMissing, WasDeep, IsUnread}
+use Rattle.chunk_gc.specs.Exact.{Deed, Picks, InOrder, Cause}
 use Rattle.chunk_gc.specs.Exact as exact
 use Rattle.chunk_gc.proofs.Marking.{Holds, ListedIn, holds-nothing, holds-root, holds-read, holds-file, holds-closed, marked-listed, listed-marked, wanted-file, wanted-snapshot}
 use Rattle.chunk_gc.proofs.Sweeping.{swept-picks, picks-append}

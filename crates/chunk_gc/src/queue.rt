@@ -79,7 +79,7 @@ impl Queue {
         ensures { OnOk result (self.new ≡ enter_rows rows.now self.old) }
     {
         for at in 0..rows.len() {
-            self.enter_refs(&rows.at(at).kind().manifests())?;
+            self.enter_refs(&rows.at(at).manifests())?;
         }
         Ok(())
     }

@@ -1,7 +1,7 @@
 -- The parts of what was read, as they are read once more.
-use Rattle.std.proofs.Common.{◌≡◌, ◌≢◌, ℕ, ◌==◌, ◌<◌, ◌≤◌, Bool, true, false, cond, List, [], length, Option, None, Some, Result, Ok, Err, refl, sym, subst, ap, ◌∙◌}
+use Rattle.std.proofs.Common.{◌≡◌, ◌≢◌, ℕ, ◌==◌, ◌<◌, ◌≤◌, Bool, true, false, cond, List, [], length, Option, None, Some, Result, Ok, Err, inl, inr, refl, sym, subst, ap, ◌∙◌}
 use Rattle.std.specs.Prelude.{slice_get, IsOk, IfOk, IsOkAnd, IsSome, IfSome, is_some}
-use Rattle.std.proofs.lemmas.Bool.{ne_eqb}
+use Rattle.std.proofs.lemmas.Bool.{cases_eq, eq-eqb, ne_eqb}
 use Rattle.flat_tables.specs.declared.header.Kind.TheVariants as kinds
 use Rattle.flat_tables.specs.declared.fault.FlatFault.{FlatFault}
 use Rattle.flat_tables.specs.declared.fault.FileFault.{FileFault}
@@ -22,7 +22,7 @@ use Rattle.snapshot_file.specs.declared.nodes.NodeRow.{NodeRow}
 use Rattle.snapshot_file.specs.declared.snapshot.SnapshotFile.{SnapshotFile}
 use Rattle.snapshot_file.specs.Nodes.{manifests_of, names_in, names_of, shape_of, array_of, kind_of, proper_path, known_kind, node_of, node_at}
 use Rattle.snapshot_file.specs.Props.{prop_limit, prop_key}
-use Rattle.snapshot_file.specs.Snapshots.{node_limit, nodes_in, nodes_of, property_at, properties_in, few_properties_in, properties_of, files_of, first_unlisted, parent_of, rest_of, payload_of, snapshot_of}
+use Rattle.snapshot_file.specs.Snapshots.{node_limit, nodes_in, nodes_of, property_at, properties_in, few_properties_in, properties_of, files_of, manifests_named, first_unlisted, parent_of, rest_of, payload_of, snapshot_of}
 use Rattle.snapshot_file.proofs.WasRead.{Rest, listed_read}
 use Rattle.held_manifest.specs.Views.{rows_or_none}
 use Rattle.held_manifest.proofs.Checked.{ok_by, read_ok}
@@ -154,6 +154,29 @@ kind_group type t other has =
     let no : (type == 1) ≡ false = ne_eqb type 1 other in
     let e : kind_of type t ≡ group_or_none (type == 2) = rw no refl in
     e ∙ group_kind (type == 2) (subst (λ r. IsOkAnd r (λ kind. IsSome kind)) e has)
+
+-- ---- what the type tells
+
+type_array : (kind : NodeKind) (made : NodeKind) (t : TableIn) (some : SomeArray t) → kind ≡ made → made ≡ Array some.shape some.names some.manifests → is_array kind ≡ true
+type_array kind made t some is array = ap is_array (is ∙ array)
+
+some_kind : (a b : NodeKind) → (let r : Result (Option NodeKind) FileFault = Ok (Some a) in r) ≡ Ok (Some b) → a ≡ b
+some_kind a b e = cc
+
+pub type_tells : (type : ℕ) (t : TableIn) (kind : NodeKind) → kind_of type t ≡ Ok (Some kind) → (type == 1) ≡ is_array kind
+type_tells type t kind is =
+    let has = has_kind type t kind is in
+    elim (cases_eq type 1) [
+      | inl one ↦
+          let made = kind_array type t one has in
+          let some = some_array t made.ok in
+          eq-eqb type 1 one ∙ sym (type_array kind (kind_or_group (array_of t)) t some (some_kind kind _ (sym is ∙ made.is)) some.is)
+      | inr other ↦ ne_eqb type 1 other ∙ ap is_array (some_kind Group kind (sym (kind_group type t other has) ∙ is))
+    ]
+
+pub group_names_none : (kind : NodeKind) → is_array kind ≡ false → manifests_named kind ≡ []
+group_names_none Group e = refl
+group_names_none (Array shape names manifests) e = absurd cc
 
 -- ---- a node
 

@@ -9,7 +9,7 @@ use crate::rows::HeldNode;
 fn all_listed(files: &HeldFiles, node: &HeldNode) -> bool
     ensures { result ≡ all_listed files.now node.now }
 {
-    let manifests = node.kind().manifests();
+    let manifests = node.manifests();
     for i in 0..manifests.len() {
         if !files.has(&manifests.at(i).id()) {
             return false;

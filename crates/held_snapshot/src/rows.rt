@@ -1,8 +1,11 @@
 ghost use Rattle.std.specs.Prelude.{◌≡◌, ◌<◌, Ok, Err, IfOk, IsOk, IsOkAnd, IsTrue, MatchResult};
 ghost use Rattle.zarr_path.specs.Paths.{is_path};
 ghost use Rattle.snapshot_file.specs.Nodes.{node_of, node_at};
+ghost use Rattle.snapshot_file.specs.Snapshots.{manifests_named};
+ghost use Rattle.held_snapshot.specs.LookUp.{is_array};
 
 use crate::kinds::{HeldKind, held_kind, kind_of};
+use crate::manifests::HeldManifests;
 use crate::slots::{number_in, table_in, text_in, vector_in};
 use file_fields::id8_of;
 use flat_tables::{FileFault, Table, Vector};
@@ -103,6 +106,23 @@ impl<'a> HeldNode<'a> {
         ensures { result.now ≡ self.now.user_data }
     {
         vector_in(&self.table, 2, 1).unwrap().all()
+    }
+
+    /// Whether it is an array. Its type alone is read.
+    pub fn is_array(&self) -> bool
+        ensures { result ≡ is_array self.now.kind }
+    {
+        number_in(&self.table, 3, 1).unwrap() == 1
+    }
+
+    /// The manifests that it names: those of an array. Of a group its type alone is read.
+    pub fn manifests(&self) -> HeldManifests<'a>
+        ensures { result ≡ manifests_named self.now.kind }
+    {
+        if !self.is_array() {
+            return HeldManifests::none();
+        }
+        self.kind().manifests()
     }
 
     /// What it is.

@@ -1,12 +1,11 @@
 //! The kinds of cases.
 
-use crate::ends::{tell_byte_list, tell_input, tell_output};
 use crate::ref_calls::tell_refs;
-use crate::refusals::tell_refusal;
-use crate::reports::tell_report;
-use crate::scripts::tell_script;
-use crate::store_keys::{tell_object, tell_same};
 use crate::storing::tell_store;
+use show_runs::{
+    tell_byte_list, tell_input, tell_object, tell_output, tell_refusal, tell_report, tell_same,
+    tell_script,
+};
 use show_trees::{
     NoAnswer, tell_changes, tell_conflicts, tell_draw, tell_draw_at, tell_draw_stream, tell_grid,
     tell_header, tell_header_of, tell_held, tell_id, tell_id_of, tell_in_grid, tell_indices,

@@ -4,16 +4,10 @@
 
 mod answering;
 mod counted;
-mod ends;
-mod expiries;
 mod kept;
 mod kinds;
 mod parts;
 mod ref_calls;
-mod refusals;
-mod reports;
-mod scripts;
-mod store_keys;
 mod storing;
 
 use answering::answer;

@@ -1,6 +1,5 @@
 //! Calls on refs, over a store in memory.
 
-use crate::store_keys::key_of;
 use crate::storing::{Memory, call_told, push_asked, push_line};
 use ice_base::{RefName, TickClock};
 use mem_store::MemStore;
@@ -11,6 +10,7 @@ use refs_admin::{
 };
 use repo_read::At;
 use repository::{begin, read_refs};
+use show_runs::key_of;
 use show_trees::{NoAnswer, first_word, name_of, parted, push_props};
 use std::alloc::{AllocError, Global};
 use store_api::{Key, Refusal};

@@ -1,9 +1,9 @@
 //! Operations on stores in memory, of which planned ones fail. An operation is a word with a key like `branch main`; behind `@`
 //! stands a version, and behind `=` the bytes of a put. `, ` stands between operations.
 
-use crate::store_keys::key_of;
 use ice_base::TickClock;
 use mem_store::{Failing, FaultStore, MemStore, OpRef};
+use show_runs::key_of;
 use show_trees::{NoAnswer, first_word, number_of, parted, small_number_of};
 use std::alloc::{AllocError, Global};
 use store_api::{Key, Part, Polite, Reply, StoreFault, Version, Why};

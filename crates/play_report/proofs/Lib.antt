@@ -1,3 +1,1 @@
-pub mod Drafting
-pub mod Ended
-pub mod PropRows
+pub mod Lines

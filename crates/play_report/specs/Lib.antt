@@ -1,4 +1,3 @@
-pub mod inside
 pub mod Words
 pub mod Refusals
 pub mod Report

@@ -2,11 +2,11 @@
 #![tactic(auto)]
 
 mod cases;
-mod drafts;
 mod properties;
 mod refusals;
 mod reporting;
 mod texts;
+mod words;
 
-pub use refusals::refusal_text;
-pub use reporting::report;
+pub use refusals::add_refusal;
+pub use reporting::add_report;

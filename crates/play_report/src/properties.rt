@@ -1,45 +1,44 @@
 //! The properties of snapshots of a log.
-#![tactic(auto, using(crate::proofs::Drafting::drafting))]
+#![tactic(auto)]
 
-ghost use Rattle.std.specs.Prelude.{◌≡◌, OnOk};
+ghost use Rattle.std.specs.Prelude.{◌≡◌};
 ghost use Rattle.std.specs.List.{flat_map};
+ghost use Rattle.drafts.specs.Drafts.{Took};
 ghost use Rattle.play_report.specs.Report.{property_line};
-ghost use Rattle.play_report.specs.inside.Drafts.{added};
 
-use crate::drafts::Draft;
-use crate::texts::add_printed;
+use crate::texts::add_printed_text;
+use crate::words::{add_small, add_text};
+use drafts::Draft;
+use ice_base::Sink;
 use snapshot_file::Props;
-use std::alloc::AllocError;
 
 /// A property, as a line.
-fn add_property_line(
+fn add_property_line<K: Sink>(
     out: &mut Draft,
+    to: &mut K,
     name: &[u8],
     line: u32,
     key: &str,
     value: &str,
-) -> Result<(), AllocError>
-    ensures { OnOk result (out.new ≡ added out.old (property_line name.now line (key.now, value.now))) }
+)
+    ensures { Took out.old (K.at to.old) (property_line name.now line (key.now, value.now)) out.new (K.at to.new) }
 {
-    out.add(name)?;
-    out.add(b" ")?;
-    write!(out, "{line} prop {key} ")?;
-    add_printed(out, value.as_bytes())?;
-    out.add(b"\n")
+    out.add(to, name);
+    out.add(to, b" ");
+    add_small(out, to, line);
+    out.add(to, b" prop ");
+    add_text(out, to, key);
+    out.add(to, b" ");
+    add_printed_text(out, to, value);
+    out.add(to, b"\n");
 }
 
 /// The properties of a snapshot of a log that was asked for in this line of the script, each as a line, in their order.
-pub fn add_properties(
-    out: &mut Draft,
-    name: &[u8],
-    line: u32,
-    props: &Props,
-) -> Result<(), AllocError>
-    ensures { OnOk result (out.new ≡ added out.old (flat_map (property_line name.now line) props.now)) }
+pub fn add_properties<K: Sink>(out: &mut Draft, to: &mut K, name: &[u8], line: u32, props: &Props)
+    ensures { Took out.old (K.at to.old) (flat_map (property_line name.now line) props.now) out.new (K.at to.new) }
 {
     for at in 0..props.len() {
         let (key, value) = props.row(at);
-        add_property_line(out, name, line, key, value)?;
+        add_property_line(out, to, name, line, key, value);
     }
-    Ok(())
 }

@@ -1,30 +1,35 @@
 //! The texts of refusals.
-#![tactic(auto, using(crate::proofs::Drafting::drafting))]
+#![tactic(auto)]
 
-ghost use Rattle.std.specs.Prelude.{◌≡◌, IfOk, IfSome, OnOk, codes, decimal, length, vec_capacity};
-ghost use Rattle.ice_ids.specs.Text.{id12_text};
+ghost use Rattle.std.specs.Prelude.{◌≡◌, ◌++◌, codes, decimal};
+ghost use Rattle.zarr_meta.specs.Shown.{text_of};
+ghost use Rattle.zarr_tree.specs.Cases.{number};
+ghost use Rattle.drafts.specs.Drafts.{Took};
 ghost use Rattle.play_report.specs.Words.{◌space◌};
 ghost use Rattle.play_report.specs.Refusals.{conflict_text, conflicts_text, edit_text, frozen_text, index_text, kind_text, more_numbers, place_text, prop_text, refusal_text, region_text, version_text};
-ghost use Rattle.play_report.specs.inside.Drafts.{added};
 ghost use Rattle.store_api.specs.declared.machines.Refusal.TheVariants.{Conflict as Lost, Left, Moved};
 
-use crate::drafts::Draft;
+use crate::words::{
+    add_id, add_path, add_small, add_told_id, add_told_key, add_told_number, add_told_numbers,
+    add_told_text,
+};
+use drafts::Draft;
 use flat_tables::Kind;
+use ice_base::Sink;
 use ice_ids::Id12;
 use snapshot_file::PropFault;
-use std::alloc::{AllocError, Global};
-use std::fmt;
 use store_api::{Refusal, RegionFault, Version};
+use zarr_meta::MetaFault;
 use zarr_path::Index;
-use zarr_tree::{Conflict, EditFault, Frozen};
+use zarr_tree::{Case, Conflict, EditFault, Frozen};
 
 /// The version that stood at a ref, and `-` where none did.
-fn add_version(out: &mut Draft, found: Option<Version>) -> Result<(), AllocError>
-    ensures { OnOk result (out.new ≡ added out.old (version_text found)) }
+fn add_version<K: Sink>(out: &mut Draft, to: &mut K, found: Option<Version>)
+    ensures { Took out.old (K.at to.old) (version_text found) out.new (K.at to.new) }
 {
     match found {
-        Some(version) => write!(out, "{}", version.0),
-        None => out.add(b"-"),
+        Some(version) => out.add_number(to, version.0),
+        None => out.add(to, b"-"),
     }
 }
 
@@ -65,170 +70,198 @@ fn prop_text(fault: PropFault) -> &'static str
     }
 }
 
+/// The member of metadata that is at fault.
+fn meta_text(fault: &MetaFault) -> &'static str
+    ensures { result.now ≡ text_of fault.now }
+{
+    match fault {
+        MetaFault::Json => "json",
+        MetaFault::Format => "zarr_format",
+        MetaFault::NodeType => "node_type",
+        MetaFault::Shape => "shape",
+        MetaFault::DataType => "data_type",
+        MetaFault::Grid => "chunk_grid",
+        MetaFault::KeyEncoding => "chunk_key_encoding",
+        MetaFault::Fill => "fill_value",
+        MetaFault::Codec => "codecs",
+        MetaFault::Transformers => "storage_transformers",
+        MetaFault::Attributes => "attributes",
+        MetaFault::Names => "dimension_names",
+        MetaFault::Extra(_) => "extra",
+        MetaFault::NoMemory => "no memory",
+    }
+}
+
+/// A number behind a comma.
+fn add_next_number<K: Sink>(out: &mut Draft, to: &mut K, number: u32)
+    ensures { Took out.old (K.at to.old) (codes "," ++ decimal number) out.new (K.at to.new) }
+{
+    out.add(to, b",");
+    add_small(out, to, number);
+}
+
 /// Numbers, each behind a comma.
-fn add_more_numbers(out: &mut Draft, numbers: &[u32]) -> Result<(), AllocError>
-    ensures { OnOk result (out.new ≡ added out.old (more_numbers numbers.now)) }
+fn add_more_numbers<K: Sink>(out: &mut Draft, to: &mut K, numbers: &[u32])
+    ensures { Took out.old (K.at to.old) (more_numbers numbers.now) out.new (K.at to.new) }
 {
     for number in numbers {
-        write!(out, ",{number}")?;
+        add_next_number(out, to, *number);
     }
-    Ok(())
+}
+
+/// A number, and others, each behind a comma.
+fn add_numbers<K: Sink>(out: &mut Draft, to: &mut K, first: u32, more: &[u32])
+    ensures { Took out.old (K.at to.old) (decimal first ++ more_numbers more.now) out.new (K.at to.new) }
+{
+    add_small(out, to, first);
+    add_more_numbers(out, to, more);
 }
 
 /// The numbers of an index, joined by commas, and `-` where there are none.
-fn add_index(out: &mut Draft, index: &[u32]) -> Result<(), AllocError>
-    ensures { OnOk result (out.new ≡ added out.old (index_text index.now)) }
+fn add_index<K: Sink>(out: &mut Draft, to: &mut K, index: &[u32])
+    ensures { Took out.old (K.at to.old) (index_text index.now) out.new (K.at to.new) }
 {
-    let Some((first, more)) = index.split_first() else {
-        return out.add(b"-");
-    };
-    write!(out, "{first}")?;
-    add_more_numbers(out, more)
+    match index {
+        [] => out.add(to, b"-"),
+        [first, more @ ..] => add_numbers(out, to, *first, more),
+    }
+}
+
+/// The index of a chunk behind a colon.
+fn add_chunk_index<K: Sink>(out: &mut Draft, to: &mut K, index: &Index)
+    ensures { Took out.old (K.at to.old) (codes ":" ++ index_text index.now) out.new (K.at to.new) }
+{
+    out.add(to, b":");
+    add_index(out, to, index.parts());
 }
 
 /// The index of a chunk behind a colon, if there is one.
-fn add_place(out: &mut Draft, index: &Option<Index>) -> Result<(), AllocError>
-    ensures { OnOk result (out.new ≡ added out.old (place_text index.now)) }
+fn add_place<K: Sink>(out: &mut Draft, to: &mut K, index: &Option<Index>)
+    ensures { Took out.old (K.at to.old) (place_text index.now) out.new (K.at to.new) }
 {
     match index {
-        None => Ok(()),
-        Some(index) => {
-            out.add(b":")?;
-            add_index(out, index.parts())
-        }
+        Some(index) => add_chunk_index(out, to, index),
+        None => {}
     }
 }
 
-/// A conflict.
-fn add_conflict(out: &mut Draft, conflict: &Conflict) -> Result<(), AllocError>
-    ensures { OnOk result (out.new ≡ added out.old (conflict_text conflict.now)) }
+/// The number of a case of conflicts.
+fn add_case<K: Sink>(out: &mut Draft, to: &mut K, case: Case)
+    ensures { Took out.old (K.at to.old) (decimal (number case)) out.new (K.at to.new) }
 {
-    write!(out, "{}:", conflict.case.number())?;
-    out.add(conflict.path.as_str().as_bytes())?;
-    add_place(out, &conflict.index)
+    add_small(out, to, u32::from(case.number()));
+}
+
+/// A conflict, behind a space.
+fn add_conflict<K: Sink>(out: &mut Draft, to: &mut K, conflict: &Conflict)
+    ensures { Took out.old (K.at to.old) (codes " " ++ conflict_text conflict.now) out.new (K.at to.new) }
+{
+    out.add(to, b" ");
+    add_case(out, to, conflict.case);
+    out.add(to, b":");
+    add_path(out, to, &conflict.path);
+    add_place(out, to, &conflict.index);
 }
 
 /// Conflicts, each behind a space.
-fn add_conflicts(out: &mut Draft, conflicts: &[Conflict]) -> Result<(), AllocError>
-    ensures { OnOk result (out.new ≡ added out.old (conflicts_text conflicts.now)) }
+fn add_conflicts<K: Sink>(out: &mut Draft, to: &mut K, conflicts: &[Conflict])
+    ensures { Took out.old (K.at to.old) (conflicts_text conflicts.now) out.new (K.at to.new) }
 {
     for conflict in conflicts {
-        out.add(b" ")?;
-        add_conflict(out, conflict)?;
+        add_conflict(out, to, conflict);
     }
-    Ok(())
 }
 
 /// The snapshot of a commit, and its conflicts that stay.
-fn add_left(out: &mut Draft, at: Id12, conflicts: &[Conflict]) -> Result<(), AllocError>
-    ensures { OnOk result (out.new ≡ added out.old (refusal_text (Left at conflicts.now))) }
+fn add_left<K: Sink>(out: &mut Draft, to: &mut K, at: Id12, conflicts: &[Conflict])
+    ensures { Took out.old (K.at to.old) (refusal_text (Left at conflicts.now)) out.new (K.at to.new) }
 {
-    write!(out, "left {at}")?;
-    add_conflicts(out, conflicts)
+    out.add(to, b"left ");
+    add_id(out, to, at);
+    add_conflicts(out, to, conflicts);
 }
 
 /// The version that stood at a ref, behind a word.
-fn add_moved(out: &mut Draft, found: Option<Version>) -> Result<(), AllocError>
-    ensures { OnOk result (out.new ≡ added out.old (refusal_text (Moved found))) }
+fn add_moved<K: Sink>(out: &mut Draft, to: &mut K, found: Option<Version>)
+    ensures { Took out.old (K.at to.old) (refusal_text (Moved found)) out.new (K.at to.new) }
 {
-    out.add(b"moved ")?;
-    add_version(out, found)
+    out.add(to, b"moved ");
+    add_version(out, to, found);
 }
 
 /// The version that was read of a branch, and the one that stood there, behind a word.
-fn add_lost(out: &mut Draft, old: Version, found: Option<Version>) -> Result<(), AllocError>
-    ensures { OnOk result (out.new ≡ added out.old (refusal_text (Lost old found))) }
+fn add_lost<K: Sink>(out: &mut Draft, to: &mut K, old: Version, found: Option<Version>)
+    ensures { Took out.old (K.at to.old) (refusal_text (Lost old found)) out.new (K.at to.new) }
 {
-    write!(out, "conflict {} ", old.0)?;
-    add_version(out, found)
-}
-
-/// A word, and a value behind a space.
-pub(crate) fn add_told<D: fmt::Display + Drop>(
-    out: &mut Draft,
-    word: &str,
-    value: D,
-) -> Result<(), AllocError>
-    ensures { OnOk result (IfSome (D.output value) (λ text. out.new ≡ added out.old (word.now space text))) }
-{
-    write!(out, "{word} {value}")
+    out.add(to, b"conflict ");
+    out.add_number(to, old.0);
+    out.add(to, b" ");
+    add_version(out, to, found);
 }
 
 /// Why a tree doesn't take an edit.
-fn add_edit(out: &mut Draft, fault: EditFault) -> Result<(), AllocError>
-    ensures { OnOk result (out.new ≡ added out.old (edit_text fault)) }
+fn add_edit<K: Sink>(out: &mut Draft, to: &mut K, fault: EditFault)
+    ensures { Took out.old (K.at to.old) (edit_text fault) out.new (K.at to.new) }
 {
     match fault {
-        EditFault::NodeExists => out.add(b"nodeexists"),
-        EditFault::NoParent => out.add(b"noparent"),
-        EditFault::Full => out.add(b"full"),
-        EditFault::NoNode => out.add(b"nonode"),
-        EditFault::FrozenField(part) => add_told(out, "frozen", frozen_text(part)),
-        EditFault::NotArray => out.add(b"notarray"),
-        EditFault::OutOfGrid => out.add(b"outofgrid"),
-        EditFault::ChunkLength { want, got } => write!(out, "chunklength {want} {got}"),
-        EditFault::NoMemory => out.add(b"nomemory"),
+        EditFault::NodeExists => out.add(to, b"nodeexists"),
+        EditFault::NoParent => out.add(to, b"noparent"),
+        EditFault::Full => out.add(to, b"full"),
+        EditFault::NoNode => out.add(to, b"nonode"),
+        EditFault::FrozenField(part) => add_told_text(out, to, "frozen", frozen_text(part)),
+        EditFault::NotArray => out.add(to, b"notarray"),
+        EditFault::OutOfGrid => out.add(to, b"outofgrid"),
+        EditFault::ChunkLength { want, got } => add_told_numbers(out, to, "chunklength", want, got),
+        EditFault::NoMemory => out.add(to, b"nomemory"),
     }
 }
 
 /// Why a box of cells can't be read or written.
-fn add_region(out: &mut Draft, fault: RegionFault) -> Result<(), AllocError>
-    ensures { OnOk result (out.new ≡ added out.old (region_text fault)) }
+fn add_region<K: Sink>(out: &mut Draft, to: &mut K, fault: RegionFault)
+    ensures { Took out.old (K.at to.old) (region_text fault) out.new (K.at to.new) }
 {
     match fault {
-        RegionFault::OutOfShape => out.add(b"outofshape"),
-        RegionFault::Large => out.add(b"regionlarge"),
-        RegionFault::CellCount { want, got } => write!(out, "cellcount {want} {got}"),
-        RegionFault::CellRange { at } => add_told(out, "cellrange", at),
+        RegionFault::OutOfShape => out.add(to, b"outofshape"),
+        RegionFault::Large => out.add(to, b"regionlarge"),
+        RegionFault::CellCount { want, got } => add_told_numbers(out, to, "cellcount", want, got),
+        RegionFault::CellRange { at } => add_told_number(out, to, "cellrange", at),
     }
 }
 
-/// The text of a refusal: its word, and behind it, after spaces, what it tells. A ref that was found absent is told as `-`.
-pub fn add_refusal(out: &mut Draft, why: &Refusal) -> Result<(), AllocError>
-    ensures { OnOk result (out.new ≡ added out.old (refusal_text why.now)) }
+/// Adds the text of a refusal: its word, and behind it, after spaces, what it tells. A ref that was found absent is told as `-`.
+pub fn add_refusal<K: Sink>(out: &mut Draft, to: &mut K, why: &Refusal)
+    ensures { Took out.old (K.at to.old) (refusal_text why.now) out.new (K.at to.new) }
 {
     match why {
-        Refusal::NoRef => out.add(b"noref"),
-        Refusal::Edit(fault) => add_edit(out, *fault),
-        Refusal::BadMeta(fault) => add_told(out, "badmeta", fault),
-        Refusal::ReadOnly => out.add(b"readonly"),
-        Refusal::Missing(key) => add_told(out, "missing", key),
-        Refusal::BadFile(key, _) => add_told(out, "badfile", key),
-        Refusal::TooDeep => out.add(b"toodeep"),
-        Refusal::StoreFault => out.add(b"storefault"),
-        Refusal::IdTaken(key) => add_told(out, "idtaken", key),
-        Refusal::NoMemory => out.add(b"nomemory"),
-        Refusal::IdsSpent => out.add(b"idsspent"),
-        Refusal::BadKey => out.add(b"badkey"),
-        Refusal::Conflict { old, found } => add_lost(out, *old, *found),
-        Refusal::NothingToCommit => out.add(b"nothing"),
-        Refusal::TooLarge(kind) => add_told(out, "toolarge", kind_text(*kind)),
-        Refusal::InDoubt { snapshot } => add_told(out, "indoubt", snapshot),
-        Refusal::Left { at, conflicts } => add_left(out, *at, conflicts.as_slice()),
-        Refusal::NotAncestor { head } => add_told(out, "notancestor", head),
-        Refusal::RefExists(version) => add_told(out, "refexists", version.0),
-        Refusal::NoSnapshot => out.add(b"nosnapshot"),
-        Refusal::TagGone => out.add(b"taggone"),
-        Refusal::MainKept => out.add(b"mainkept"),
-        Refusal::Moved { found } => add_moved(out, *found),
-        Refusal::CutoffAhead { now } => add_told(out, "cutoffahead", now),
-        Refusal::Unnamed => out.add(b"unnamed"),
-        Refusal::BadProp(fault) => add_told(out, "badprop", prop_text(*fault)),
-        Refusal::Unsound(faults) => add_told(out, "unsound", faults),
-        Refusal::Differs(key) => add_told(out, "differs", key),
-        Refusal::TargetFault => out.add(b"targetfault"),
-        Refusal::Region(fault) => add_region(out, *fault),
+        Refusal::NoRef => out.add(to, b"noref"),
+        Refusal::Edit(fault) => add_edit(out, to, *fault),
+        Refusal::BadMeta(fault) => add_told_text(out, to, "badmeta", meta_text(fault)),
+        Refusal::ReadOnly => out.add(to, b"readonly"),
+        Refusal::Missing(key) => add_told_key(out, to, "missing", key),
+        Refusal::BadFile(key, _) => add_told_key(out, to, "badfile", key),
+        Refusal::TooDeep => out.add(to, b"toodeep"),
+        Refusal::StoreFault => out.add(to, b"storefault"),
+        Refusal::IdTaken(key) => add_told_key(out, to, "idtaken", key),
+        Refusal::NoMemory => out.add(to, b"nomemory"),
+        Refusal::IdsSpent => out.add(to, b"idsspent"),
+        Refusal::BadKey => out.add(to, b"badkey"),
+        Refusal::Conflict { old, found } => add_lost(out, to, *old, *found),
+        Refusal::NothingToCommit => out.add(to, b"nothing"),
+        Refusal::TooLarge(kind) => add_told_text(out, to, "toolarge", kind_text(*kind)),
+        Refusal::InDoubt { snapshot } => add_told_id(out, to, "indoubt", *snapshot),
+        Refusal::Left { at, conflicts } => add_left(out, to, *at, conflicts.as_slice()),
+        Refusal::NotAncestor { head } => add_told_id(out, to, "notancestor", *head),
+        Refusal::RefExists(version) => add_told_number(out, to, "refexists", version.0),
+        Refusal::NoSnapshot => out.add(to, b"nosnapshot"),
+        Refusal::TagGone => out.add(to, b"taggone"),
+        Refusal::MainKept => out.add(to, b"mainkept"),
+        Refusal::Moved { found } => add_moved(out, to, *found),
+        Refusal::CutoffAhead { now } => add_told_number(out, to, "cutoffahead", *now),
+        Refusal::Unnamed => out.add(to, b"unnamed"),
+        Refusal::BadProp(fault) => add_told_text(out, to, "badprop", prop_text(*fault)),
+        Refusal::Unsound(faults) => add_told_number(out, to, "unsound", *faults),
+        Refusal::Differs(key) => add_told_key(out, to, "differs", key),
+        Refusal::TargetFault => out.add(to, b"targetfault"),
+        Refusal::Region(fault) => add_region(out, to, *fault),
     }
-}
-
-/// The text of a refusal, in just as much memory as it has bytes.
-pub fn refusal_text(alloc: Global, why: &Refusal) -> Result<Vec<u8>, AllocError>
-    ensures text { IfOk result (λ text. text.items ≡ refusal_text why.now) }
-    ensures memory { IfOk result (λ text. vec_capacity text ≡ length text.items) }
-{
-    let mut counted = Draft::without_room(alloc);
-    add_refusal(&mut counted, why)?;
-    let mut out = Draft::with_room(alloc, counted.count())?;
-    add_refusal(&mut out, why)?;
-    Ok(out.into_kept())
 }

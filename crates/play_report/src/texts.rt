@@ -1,31 +1,45 @@
 //! What stands in a report, line by line, behind the first word of the line.
-#![tactic(auto, using(crate::proofs::Drafting::drafting))]
+#![tactic(auto)]
 
-ghost use Rattle.std.specs.Prelude.{◌≡◌, ◌<◌, ◌++◌, OnOk, codes, decimal, map};
-ghost use Rattle.play_report.specs.Words.{◌space◌};
+ghost use Rattle.std.specs.Prelude.{◌≡◌, ◌<◌, ◌++◌, ◌∷◌, [], codes, decimal, map};
 ghost use Rattle.std.specs.Char.{digit_char};
 ghost use Rattle.std.specs.List.{flat_map};
+ghost use Rattle.ice_ids.specs.Text.{id12_text};
+ghost use Rattle.drafts.specs.Drafts.{Took};
+ghost use Rattle.play_report.specs.Words.{◌space◌};
+ghost use Rattle.play_report.specs.Refusals.{refusal_text};
 ghost use Rattle.play_report.specs.Report.{node_kind, ref_kind, printed, byte_text, bytes_text, value_text, shown_text, removed_text, refused_text, result_text, how_text, end_text, ref_text};
-ghost use Rattle.play_report.specs.inside.Drafts.{added};
 
-use crate::drafts::Draft;
-use crate::refusals::{add_refusal, add_told};
+use crate::refusals::add_refusal;
+use crate::words::{add_id, add_name, add_path, add_small, add_text, add_told_id};
 use cleanup_reports::Removed;
-use ice_base::Bytes;
+use drafts::Draft;
+use ice_base::{Bytes, Sink};
+use ice_ids::Id12;
 use play_outcome::{End, How, RefLine, Shown};
-use std::alloc::AllocError;
 use store_api::Refusal;
+use zarr_path::Path;
 
-fn node_kind(array: bool) -> &'static str
-    ensures { result.now ≡ node_kind array }
+/// Whether a node is an array or a group.
+fn add_node_kind<K: Sink>(out: &mut Draft, to: &mut K, array: bool)
+    ensures { Took out.old (K.at to.old) (node_kind array) out.new (K.at to.new) }
 {
-    if array { "array" } else { "group" }
+    if array {
+        out.add(to, b"array")
+    } else {
+        out.add(to, b"group")
+    }
 }
 
-pub fn ref_kind(tag: bool) -> &'static str
-    ensures { result.now ≡ ref_kind tag }
+/// Whether a ref is a tag or a branch.
+pub fn add_ref_kind<K: Sink>(out: &mut Draft, to: &mut K, tag: bool)
+    ensures { Took out.old (K.at to.old) (ref_kind tag) out.new (K.at to.new) }
 {
-    if tag { "tag" } else { "branch" }
+    if tag {
+        out.add(to, b"tag")
+    } else {
+        out.add(to, b"branch")
+    }
 }
 
 fn printed(byte: u8) -> u8
@@ -34,14 +48,27 @@ fn printed(byte: u8) -> u8
     if byte < 32 || byte == 127 { b' ' } else { byte }
 }
 
+/// A byte of metadata, or of a message.
+fn add_printed_byte<K: Sink>(out: &mut Draft, to: &mut K, byte: u8)
+    ensures { Took out.old (K.at to.old) (printed byte ∷ []) out.new (K.at to.new) }
+{
+    out.add_byte(to, printed(byte));
+}
+
 /// Metadata, or a message.
-pub fn add_printed(out: &mut Draft, text: &[u8]) -> Result<(), AllocError>
-    ensures { OnOk result (out.new ≡ added out.old (map printed text.now)) }
+fn add_printed<K: Sink>(out: &mut Draft, to: &mut K, text: &[u8])
+    ensures { Took out.old (K.at to.old) (map printed text.now) out.new (K.at to.new) }
 {
     for byte in text {
-        out.add(&[printed(*byte)])?;
+        add_printed_byte(out, to, *byte);
     }
-    Ok(())
+}
+
+/// The same of a text.
+pub fn add_printed_text<K: Sink>(out: &mut Draft, to: &mut K, text: &str)
+    ensures { Took out.old (K.at to.old) (map printed text.now) out.new (K.at to.new) }
+{
+    add_printed(out, to, text.as_bytes());
 }
 
 /// A digit of base 16.
@@ -57,154 +84,218 @@ fn digit(value: u8) -> u8
 }
 
 /// A byte in two digits of base 16.
-fn add_byte(out: &mut Draft, byte: u8) -> Result<(), AllocError>
-    ensures { OnOk result (out.new ≡ added out.old (byte_text byte)) }
+fn add_pair<K: Sink>(out: &mut Draft, to: &mut K, byte: u8)
+    ensures { Took out.old (K.at to.old) (byte_text byte) out.new (K.at to.new) }
 {
-    out.add(&[digit(byte / 16), digit(byte % 16)])
+    out.add(to, &[digit(byte / 16), digit(byte % 16)]);
 }
 
 /// Bytes in pairs of digits of base 16.
-fn add_pairs(out: &mut Draft, bytes: &[u8]) -> Result<(), AllocError>
-    ensures { OnOk result (out.new ≡ added out.old (flat_map byte_text bytes.now)) }
+fn add_pairs<K: Sink>(out: &mut Draft, to: &mut K, bytes: &[u8])
+    ensures { Took out.old (K.at to.old) (flat_map byte_text bytes.now) out.new (K.at to.new) }
 {
     for byte in bytes {
-        add_byte(out, *byte)?;
+        add_pair(out, to, *byte);
     }
-    Ok(())
 }
 
 /// Bytes in pairs of digits of base 16, and `-` where there are none.
-fn add_bytes(out: &mut Draft, bytes: &[u8]) -> Result<(), AllocError>
-    ensures { OnOk result (out.new ≡ added out.old (bytes_text bytes.now)) }
+fn add_bytes<K: Sink>(out: &mut Draft, to: &mut K, bytes: &[u8])
+    ensures { Took out.old (K.at to.old) (bytes_text bytes.now) out.new (K.at to.new) }
 {
     match bytes {
-        [] => out.add(b"-"),
-        [_, ..] => add_pairs(out, bytes),
+        [] => out.add(to, b"-"),
+        [_, ..] => add_pairs(out, to, bytes),
     }
 }
 
 /// The value of a key, if it has one.
-fn add_value(out: &mut Draft, value: &Option<Bytes>) -> Result<(), AllocError>
-    ensures { OnOk result (out.new ≡ added out.old (value_text value.now)) }
+fn add_value<K: Sink>(out: &mut Draft, to: &mut K, value: &Option<Bytes>)
+    ensures { Took out.old (K.at to.old) (value_text value.now) out.new (K.at to.new) }
 {
     match value {
-        Some(bytes) => add_bytes(out, bytes.as_slice()),
-        None => out.add(b"absent"),
+        Some(bytes) => add_bytes(out, to, bytes.as_slice()),
+        None => out.add(to, b"absent"),
     }
 }
 
 /// The line of a task, and a word, with a space behind each.
-fn add_head(out: &mut Draft, line: u32, word: &str) -> Result<(), AllocError>
-    ensures { OnOk result (out.new ≡ added out.old (decimal line space word.now ++ codes " ")) }
+fn add_head<K: Sink>(out: &mut Draft, to: &mut K, line: u32, word: &str)
+    ensures { Took out.old (K.at to.old) (decimal line space word.now ++ codes " ") out.new (K.at to.new) }
 {
-    write!(out, "{line} {word} ")
+    add_small(out, to, line);
+    out.add(to, b" ");
+    add_text(out, to, word);
+    out.add(to, b" ");
+}
+
+/// A node of a listing.
+fn add_node<K: Sink>(out: &mut Draft, to: &mut K, line: u32, array: bool, path: &Path)
+    ensures { Took out.old (K.at to.old) (decimal line space codes "list" space node_kind array space path.now) out.new (K.at to.new) }
+{
+    add_head(out, to, line, "list");
+    add_node_kind(out, to, array);
+    out.add(to, b" ");
+    add_path(out, to, path);
+}
+
+/// The metadata of a node.
+fn add_meta<K: Sink>(out: &mut Draft, to: &mut K, line: u32, text: &Bytes)
+    ensures { Took out.old (K.at to.old) (decimal line space codes "meta" space map printed text.now) out.new (K.at to.new) }
+{
+    add_head(out, to, line, "meta");
+    add_printed(out, to, text.as_slice());
+}
+
+/// The bytes of a chunk.
+fn add_chunk<K: Sink>(out: &mut Draft, to: &mut K, line: u32, bytes: &Bytes)
+    ensures { Took out.old (K.at to.old) (decimal line space codes "chunk" space bytes_text bytes.now) out.new (K.at to.new) }
+{
+    add_head(out, to, line, "chunk");
+    add_bytes(out, to, bytes.as_slice());
+}
+
+/// A chunk that isn't written.
+fn add_fill<K: Sink>(out: &mut Draft, to: &mut K, line: u32)
+    ensures { Took out.old (K.at to.old) (decimal line space codes "fill") out.new (K.at to.new) }
+{
+    add_small(out, to, line);
+    out.add(to, b" fill");
+}
+
+/// The value of a key of the Zarr store.
+fn add_key_value<K: Sink>(out: &mut Draft, to: &mut K, line: u32, value: &Option<Bytes>)
+    ensures { Took out.old (K.at to.old) (decimal line space codes "zget" space value_text value.now) out.new (K.at to.new) }
+{
+    add_head(out, to, line, "zget");
+    add_value(out, to, value);
+}
+
+/// A snapshot of a log.
+fn add_log<K: Sink>(
+    out: &mut Draft,
+    to: &mut K,
+    line: u32,
+    id: Id12,
+    flushed_at: u64,
+    message: &str,
+)
+    ensures { Took out.old (K.at to.old) (decimal line space codes "log" space id12_text id space decimal flushed_at space map printed message.now) out.new (K.at to.new) }
+{
+    add_head(out, to, line, "log");
+    add_id(out, to, id);
+    out.add(to, b" ");
+    out.add_number(to, flushed_at);
+    out.add(to, b" ");
+    add_printed_text(out, to, message);
 }
 
 /// What a task showed.
-pub fn add_shown(out: &mut Draft, shown: &Shown) -> Result<(), AllocError>
-    ensures { OnOk result (out.new ≡ added out.old (shown_text shown.now)) }
+pub fn add_shown<K: Sink>(out: &mut Draft, to: &mut K, shown: &Shown)
+    ensures { Took out.old (K.at to.old) (shown_text shown.now) out.new (K.at to.new) }
 {
     match shown {
-        Shown::Node { line, array, path } => {
-            add_head(out, *line, "list")?;
-            add_told(out, node_kind(*array), path.as_str())
-        }
-        Shown::Meta { line, text } => {
-            add_head(out, *line, "meta")?;
-            add_printed(out, text.as_slice())
-        }
-        Shown::Chunk { line, bytes } => {
-            add_head(out, *line, "chunk")?;
-            add_bytes(out, bytes.as_slice())
-        }
-        Shown::Fill { line } => write!(out, "{line} fill"),
-        Shown::Key { line, bytes } => {
-            add_head(out, *line, "zget")?;
-            add_value(out, bytes)
-        }
+        Shown::Node { line, array, path } => add_node(out, to, *line, *array, path),
+        Shown::Meta { line, text } => add_meta(out, to, *line, text),
+        Shown::Chunk { line, bytes } => add_chunk(out, to, *line, bytes),
+        Shown::Fill { line } => add_fill(out, to, *line),
+        Shown::Key { line, bytes } => add_key_value(out, to, *line, bytes),
         Shown::Log {
             line,
             id,
             flushed_at,
             message,
             props: _,
-        } => {
-            add_head(out, *line, "log")?;
-            write!(out, "{id} {flushed_at} ")?;
-            add_printed(out, message.as_str().as_bytes())
-        }
+        } => add_log(out, to, *line, *id, *flushed_at, message.as_str()),
     }
 }
 
 /// How many snapshots, logs, manifests and objects with chunks a collection removed.
-pub fn add_removed(out: &mut Draft, removed: Removed) -> Result<(), AllocError>
-    ensures { OnOk result (out.new ≡ added out.old (removed_text removed)) }
+pub fn add_removed<K: Sink>(out: &mut Draft, to: &mut K, removed: Removed)
+    ensures { Took out.old (K.at to.old) (removed_text removed) out.new (K.at to.new) }
 {
-    let Removed {
-        snapshots,
-        logs,
-        manifests,
-        chunks,
-    } = removed;
-    write!(out, "collected {snapshots} {logs} {manifests} {chunks}")
+    out.add(to, b"collected ");
+    out.add_number(to, removed.snapshots);
+    out.add(to, b" ");
+    out.add_number(to, removed.logs);
+    out.add(to, b" ");
+    out.add_number(to, removed.manifests);
+    out.add(to, b" ");
+    out.add_number(to, removed.chunks);
 }
 
 /// The line that was refused, and why.
-fn add_refused_at(out: &mut Draft, line: u32, why: &Refusal) -> Result<(), AllocError>
-    ensures { OnOk result (out.new ≡ added out.old (refused_text line why.now)) }
+fn add_refused_at<K: Sink>(out: &mut Draft, to: &mut K, line: u32, why: &Refusal)
+    ensures { Took out.old (K.at to.old) (refused_text line why.now) out.new (K.at to.new) }
 {
-    write!(out, "refused {line} ")?;
-    add_refusal(out, why)
+    out.add(to, b"refused ");
+    add_small(out, to, line);
+    out.add(to, b" ");
+    add_refusal(out, to, why);
 }
 
 /// How what began on this line ended.
-fn add_result(out: &mut Draft, line: u32, outcome: &Result<(), Refusal>) -> Result<(), AllocError>
-    ensures { OnOk result (out.new ≡ added out.old (result_text line outcome.now)) }
+fn add_result<K: Sink>(out: &mut Draft, to: &mut K, line: u32, outcome: &Result<(), Refusal>)
+    ensures { Took out.old (K.at to.old) (result_text line outcome.now) out.new (K.at to.new) }
 {
     match outcome {
-        Ok(()) => out.add(b"done"),
-        Err(why) => add_refused_at(out, line, why),
+        Ok(()) => out.add(to, b"done"),
+        Err(why) => add_refused_at(out, to, line, why),
     }
+}
+
+/// That a doubt couldn't be settled, and why.
+fn add_unsettled<K: Sink>(out: &mut Draft, to: &mut K, why: &Refusal)
+    ensures { Took out.old (K.at to.old) (codes "unsettled" space refusal_text why.now) out.new (K.at to.new) }
+{
+    out.add(to, b"unsettled ");
+    add_refusal(out, to, why);
 }
 
 /// What its branch told of a commit in doubt.
-fn add_how(out: &mut Draft, how: &How) -> Result<(), AllocError>
-    ensures { OnOk result (out.new ≡ added out.old (how_text how.now)) }
+fn add_how<K: Sink>(out: &mut Draft, to: &mut K, how: &How)
+    ensures { Took out.old (K.at to.old) (how_text how.now) out.new (K.at to.new) }
 {
     match how {
-        How::Committed => out.add(b"committed"),
-        How::NotCommitted => out.add(b"notcommitted"),
-        How::NotAncestor => out.add(b"notancestor"),
-        How::NoRef => out.add(b"noref"),
-        How::Unsettled(why) => {
-            out.add(b"unsettled ")?;
-            add_refusal(out, why)
-        }
+        How::Committed => out.add(to, b"committed"),
+        How::NotCommitted => out.add(to, b"notcommitted"),
+        How::NotAncestor => out.add(to, b"notancestor"),
+        How::NoRef => out.add(to, b"noref"),
+        How::Unsettled(why) => add_unsettled(out, to, why),
     }
 }
 
+/// The snapshot of a commit in doubt, and what its branch told of it.
+fn add_doubt<K: Sink>(out: &mut Draft, to: &mut K, id: Id12, how: &How)
+    ensures { Took out.old (K.at to.old) (codes "indoubt" space id12_text id space how_text how.now) out.new (K.at to.new) }
+{
+    out.add(to, b"indoubt ");
+    add_id(out, to, id);
+    out.add(to, b" ");
+    add_how(out, to, how);
+}
+
 /// How a task ended.
-pub fn add_end(out: &mut Draft, end: &End) -> Result<(), AllocError>
-    ensures { OnOk result (out.new ≡ added out.old (end_text end.now)) }
+pub fn add_end<K: Sink>(out: &mut Draft, to: &mut K, end: &End)
+    ensures { Took out.old (K.at to.old) (end_text end.now) out.new (K.at to.new) }
 {
     match end {
-        End::Committed(id) => write!(out, "committed {id}"),
-        End::Collected(removed) => add_removed(out, *removed),
-        End::Done => out.add(b"done"),
+        End::Committed(id) => add_told_id(out, to, "committed", *id),
+        End::Collected(removed) => add_removed(out, to, *removed),
+        End::Done => out.add(to, b"done"),
         End::Refused { line, why } | End::Stopped { line, why, .. } => add_refused_at(
-            out, *line, why,
+            out, to, *line, why,
         ),
-        End::InDoubt { id, how } => {
-            write!(out, "indoubt {id} ")?;
-            add_how(out, how)
-        }
-        End::Expired { line, result, .. } => add_result(out, *line, result),
+        End::InDoubt { id, how } => add_doubt(out, to, *id, how),
+        End::Expired { line, result, .. } => add_result(out, to, *line, result),
     }
 }
 
 /// The ref's name and the snapshot's id.
-pub fn add_ref(out: &mut Draft, line: &RefLine) -> Result<(), AllocError>
-    ensures { OnOk result (out.new ≡ added out.old (ref_text line.now)) }
+pub fn add_ref<K: Sink>(out: &mut Draft, to: &mut K, line: &RefLine)
+    ensures { Took out.old (K.at to.old) (ref_text line.now) out.new (K.at to.new) }
 {
-    write!(out, "{} {}", line.name, line.id)
+    add_name(out, to, &line.name);
+    out.add(to, b" ");
+    add_id(out, to, line.id);
 }

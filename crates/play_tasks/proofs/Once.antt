@@ -39,7 +39,6 @@ use Rattle.session.specs.Sessions.{SessionState, base_nodes, branch_of, version_
 use Rattle.session.specs.Opening.{open_program}
 use Rattle.session.specs.Chunks.{set_program, get_program}
 use Rattle.commit_path.specs.declared.commit.Tried.{Tried}
-use Rattle.commit_path.specs.declared.commit.Tried.TheVariants.{Done as Was_done, Lost}
 use Rattle.commit_path.specs.Committing.{Written, is_long, snap_for, log_for, put_log, after_log, put_snapshot, after_snapshot, put_branch, after_branch, after_arrays, arrays_program, unwritten, commit_program}
 use Rattle.commit_path.proofs.Gets.{Gets}
 use Rattle.commit_path.proofs.Opened.{open-gets}
@@ -65,7 +64,7 @@ use Rattle.play_tasks.specs.Played.{PlaysTo, CommitsOnce, is_moved}
 use Rattle.play_tasks.proofs.Doubting.{which, no-doubt, settle-within, walked-get}
 use Rattle.play_tasks.proofs.Elsewhere.{refs-once, collect-once, expire-once}
 use Rattle.play_tasks.proofs.Singly.{OnlyGets, Once, NoCommit, get-none, gets-once, once-path, weaker-within, call-gets, call-once, bind-once, ask-once, either-once}
-use Rattle.play_tasks.proofs.Within.{Within, WithinOk, Climbs, IsOnHead, IsSame, set-within, get-within, arrays-within, ref-within}
+use Rattle.play_tasks.proofs.Within.{Within, Climbs, IsOnHead, IsSame, set-within, get-within, arrays-within, ref-within}
 
 -- ---- no operation but the put over of a branch is a commit
 none-gets : (key : Key) → is_branch key ≡ false → NoCommit (Get key)

@@ -17,7 +17,7 @@ use Rattle.object_store.specs.declared.events.Event.{Event}
 use Rattle.store_api.specs.declared.machines.Refusal.{Refusal}
 use Rattle.store_api.specs.declared.machines.Refusal.TheVariants as R
 use Rattle.store_api.specs.Journal.{IsPolite}
-use Rattle.store_api.specs.Callers.{Caller, Makes, own_event}
+use Rattle.store_api.specs.Callers.{Caller, Makes}
 use Rattle.store_api.specs.Program.{Prog, Done, Ask, bind, Leads, Keeps}
 use Rattle.store_api.specs.Running.{Program, on_answer, StaysPolite, ◌>>=◌}
 use Rattle.store_api.proofs.Programs.{Leads-bind}
@@ -33,9 +33,9 @@ use Rattle.repo_read.specs.Resolving.{no_ref}
 use Rattle.refs_admin.specs.Logs.{line_of, told_lines, refused_now, refused_first, chain_at, log_program}
 use Rattle.repo_read.specs.Naming.{WasResolved, NamingTells, IsNaming}
 use Rattle.refs_admin.specs.LogTelling.{WasWalked, IsOfLog, LogSays, LogTells}
-use Rattle.repo_read.proofs.Own.{MadeGets-none, MadeGets-get, made-more}
+use Rattle.repo_read.proofs.Own.{MadeGets-none, MadeGets-get}
 use Rattle.repo_read.proofs.Replies.{got-cases}
-use Rattle.repo_read.proofs.Leading.{leading-append, leading-makes, leading-next}
+use Rattle.repo_read.proofs.Leading.{leading-makes, leading-next}
 use Rattle.repo_read.proofs.Namings.{got-made, absent-made, failed-made, WasResolved-makes, naming-leads}
 use Rattle.refs_admin.proofs.NewBranch.{failure-as}
 

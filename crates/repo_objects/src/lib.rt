@@ -9,6 +9,7 @@ mod chunks;
 mod laws;
 mod loaded;
 mod readings;
+mod texts;
 
 pub use bad::{Bad, Unread};
 pub use chunks::{chunk_read, inline_read};

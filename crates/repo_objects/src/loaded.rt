@@ -10,13 +10,14 @@ ghost use Rattle.snapshot_file.specs.Layout.{IsWritable};
 ghost use Rattle.zarr_tree.specs.Rows.{node_found};
 
 use crate::bad::{Bad, Unread};
-use held_snapshot::{HeldKind, HeldNode, HeldNodes, HeldSnapshot, hold};
+use crate::texts::TextReader;
+use held_snapshot::{HeldNode, HeldNodes, HeldSnapshot, hold};
 use ice_base::Bytes;
 use ice_ids::Id12;
 use ice_items::Items;
 use std::alloc::Global;
 use std::marker::Model;
-use zarr_meta::{MetaFault, MetaReader, SharedMeta, View};
+use zarr_meta::{MetaFault, SharedMeta, View};
 use zarr_tree::{Found, TreeLike};
 
 /// A snapshot whose file is held, and the metadata of its nodes. Contracts see what the snapshot says.
@@ -38,11 +39,11 @@ impl Model for Loaded {
     ghost invariant = { λ l. IsWritable l.held × AreMetas l.held.nodes l.metas };
 }
 
-/// Whether a text that says this may stand in a row of this kind.
-fn is_kind(kind: &HeldKind, view: &View) -> bool
-    ensures { result ≡ not (is_some (kind_fault kind.now (Ok view.now))) }
+/// Whether a text that says this may stand in a row.
+fn is_kind(row: &HeldNode, view: &View) -> bool
+    ensures { result ≡ not (is_some (kind_fault row.now.kind (Ok view.now))) }
 {
-    kind.is_array() == matches!(view, View::Array(_))
+    row.is_array() == matches!(view, View::Array(_))
 }
 
 impl Loaded {
@@ -61,7 +62,7 @@ impl Loaded {
         if held.id() != id {
             return Err(Unread::Bad(Bad::WrongId(held.id())));
         }
-        let metas = read_metas(alloc, &held.nodes())?;
+        let metas = read_metas(alloc, &held.nodes(), held.file().len())?;
         Ok(Loaded { held, metas })
     }
 
@@ -75,11 +76,11 @@ impl Loaded {
 }
 
 /// The metadata of row number `at`.
-fn row_meta(
+fn row_meta<'a>(
     alloc: Global,
-    reader: &mut MetaReader,
+    reader: &mut TextReader<'a>,
     at: usize,
-    row: &HeldNode,
+    row: &HeldNode<'a>,
 ) -> Result<SharedMeta, Unread>
     ensures { LoadsMeta at row.now result }
 {
@@ -88,7 +89,7 @@ fn row_meta(
         Err(MetaFault::NoMemory) => return Err(Unread::NoMemory),
         Err(fault) => return Err(Unread::Bad(Bad::Node { at, fault })),
     };
-    if is_kind(&row.kind(), &meta.view) {
+    if is_kind(row, &meta.view) {
         Ok(meta)
     } else {
         Err(Unread::Bad(Bad::Node {
@@ -98,11 +99,11 @@ fn row_meta(
     }
 }
 
-/// The metadata of rows. Rows of the same text that follow each other share it.
-fn read_metas(alloc: Global, rows: &HeldNodes) -> Result<Items<SharedMeta>, Unread>
+/// The metadata of the rows of a file of so many bytes. Rows of the same text that follow each other share it.
+fn read_metas(alloc: Global, rows: &HeldNodes, bytes: usize) -> Result<Items<SharedMeta>, Unread>
     ensures { LoadsMetas rows.now result }
 {
-    let mut reader = MetaReader::new();
+    let mut reader = TextReader::new(alloc, bytes);
     let mut metas = Vec::with_capacity(alloc, rows.len())?;
     for at in 0..rows.len() {
         metas.push(row_meta(alloc, &mut reader, at, &rows.at(at))?)?;

@@ -1,9 +1,6 @@
 -- What is left of a reading of refs.
-use Rattle.std.proofs.Common.{◌≡◌, ℕ, ◌+◌, ◌-◌, ◌<◌, ◌≤◌, Bool, true, false, cond, List, [], ◌∷◌, length, take, drop, get_or, sym, ◌∙◌, ap}
+use Rattle.std.proofs.Common.{◌≡◌, ℕ, ◌+◌, ◌-◌, ◌<◌, ◌≤◌, List, [], ◌∷◌, ◌∙◌}
 use Rattle.std.specs.Prelude.{Result, Ok, Err}
-use Rattle.std.proofs.Math.Seq.{take-length}
-use Rattle.std.proofs.Math.ListN.{drop_of_length-le}
-use Rattle.std.proofs.lemmas.List.{drop_more, length-drop}
 use Rattle.object_store.specs.declared.keys.Key.{Key}
 use Rattle.object_store.specs.declared.keys.Part.{Part}
 use Rattle.object_store.specs.declared.keys.Part.TheVariants.{Branches, Tags}
@@ -20,7 +17,7 @@ use Rattle.store_api.specs.Callers.{Caller}
 use Rattle.store_api.specs.Program.{Prog, Done, Ask, bind, Keeps}
 use Rattle.play_outcome.specs.declared.outcome.RefLine.{RefLine}
 use Rattle.store_api.specs.Running.{Program, StaysPolite, ◌>>=◌, on_answer}
-use Rattle.repository.specs.Refs.{refs_program, list_part, on_listed, on_got, read_each, read_ref, with_line, live, is_gone}
+use Rattle.repository.specs.Refs.{refs_program, list_part, on_listed, on_got, read_each, read_ref, with_line, live}
 
 -- ---- the parts of a reading
 abbrev pub after_tags : List RefLine → List Entry → Program (List RefLine)

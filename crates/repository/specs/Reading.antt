@@ -1,6 +1,5 @@
 -- The machine that reads all refs: what it has still to do.
 use Rattle.std.specs.Prelude.{◌≡◌, ℕ, ◌+◌, ◌-◌, ◌^◌, List, [], ◌∷◌, drop, length, Option, Result, Ok, Err, false}
-use Rattle.object_store.specs.declared.keys.Key.{Key}
 use Rattle.object_store.specs.declared.events.Entry.{Entry}
 use Rattle.store_api.specs.declared.machines.Refusal.{Refusal}
 use Rattle.store_api.specs.declared.machines.Refusal.TheVariants.{NoMemory}
@@ -10,7 +9,7 @@ use Rattle.play_outcome.specs.declared.outcome.RefLine.{RefLine}
 use Rattle.repository.specs.declared.refs.Reading.{Reading}
 use Rattle.repository.specs.declared.refs.Reading.TheVariants.{Branches, Branch, Tags, Tag, Ended}
 use Rattle.repository.specs.declared.refs.ReadRefs.{ReadRefs}
-use Rattle.live_refs.specs.Live.{live, first_and_live}
+use Rattle.live_refs.specs.Live.{live}
 use Rattle.repository.specs.Refs.{read_each, read_tags, read_all, with_line}
 
 -- ---- the rest of a listing

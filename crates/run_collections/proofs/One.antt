@@ -11,7 +11,7 @@ use Rattle.reach.specs.Own.{OwnLaw}
 use Rattle.collecting.specs.Walks.{Walk, Doomed}
 use Rattle.collecting.specs.Runs.{walk_of, OwesCollecting}
 use Rattle.history_laws.specs.Collections as laws
-use Rattle.history_laws.specs.Collections.{Collection, DoomedBy, Owes, IsNotBefore, IsPreceded, IsOfSession, CommitsOwn, IsQuiet, IsListed, IsCollected, Collects}
+use Rattle.history_laws.specs.Collections.{Collection, DoomedBy, Owes, IsNotBefore, IsPreceded, CommitsOwn, IsQuiet, IsListed, IsCollected, Collects}
 use Rattle.history_laws.specs.Refs.{Commits}
 use Rattle.history_laws.specs.Laws.{collection_of, ClientCollects, CommitsChild, RefsKept, BasesKept, PutsKept, AnchoredReached}
 use Rattle.play_script.specs.declared.scripts.Task.{Task}

@@ -32,7 +32,7 @@ use Rattle.play_outcome.specs.declared.outcome.End.{End}
 use Rattle.play_outcome.specs.declared.outcome.End.TheVariants.{Refused, InDoubt}
 use Rattle.play_tasks.specs.Lines.{Deed, Goes, Sets, Reads, Commits, deed}
 use Rattle.play_tasks.specs.Telling as told
-use Rattle.run_promise.specs.Promise.{TakesEffect, HasCommitted, HasNotCommitted, EndsRight}
+use Rattle.run_promise.specs.Promise.{TakesEffect, HasCommitted, EndsRight}
 
 some-id : (a b : Id12) → Some a ≡ Some b → a ≡ b
 some-id a b e = cc
@@ -69,7 +69,7 @@ effect-changes files client journal event branch old id own e leaves =
     let version : length journal ≡ e.stored.version = sym after.2 ∙ ap (λ (s : Stored). s.version) same in
     omega (arith, less, version)
 
-pub none-committed : (files : Files) (client : ℕ) (start journal : List Event) → ChangedNothing client start journal → HasNotCommitted files client start journal
+pub none-committed : (files : Files) (client : ℕ) (start journal : List Event) → ChangedNothing client start journal → (id : Id12) → ¬ HasCommitted files client id start journal
 none-committed files client start journal c id h =
     let whole : start ++ c.more ≡ start ++ (h.since ++ h.event ∷ h.after) =
     sym c.is ∙ h.is ∙ ap (λ (x : List Event). x ++ h.event ∷ h.after) h.before_is ∙ append_assoc start h.since (h.event ∷ h.after) in
@@ -186,7 +186,7 @@ doubt-names trees client s message start end journal d other c =
 -- ---- refusals
 module _ (trees : Id12 → Option Tree) (client : ℕ) (start journal : List Event) where
   abbrev None_ : Type 0
-  None_ = HasNotCommitted (files_by trees) client start journal
+  None_ = (id : Id12) → ¬ HasCommitted (files_by trees) client id start journal
 
   nothing : ChangedNothing client start journal → None_
   nothing c = none-committed (files_by trees) client start journal c

@@ -15,7 +15,7 @@ use Rattle.zarr_meta.specs.declared.views.View.{View}
 use Rattle.zarr_meta.specs.Plain.{group_text}
 use Rattle.zarr_tree.specs.declared.edit.EditFault.{EditFault}
 use Rattle.zarr_tree.specs.declared.edit.EditFault.TheVariants as Fault
-use Rattle.zarr_tree.specs.Nodes.{Node}
+use Rattle.zarr_tree.specs.Nodes.{Node, is_array}
 use Rattle.zarr_tree.specs.Trees.{Tree, node_at, IsWellFormed}
 use Rattle.zarr_tree.specs.Edits.{Edit, Add, SetMeta, Drop, Set, Unset, change, refusal, unless}
 use Rattle.zarr_tree.specs.Changes.{Changes, apply, extended, IsNormal, IsFresh, CanExtend, result_map}
@@ -38,7 +38,7 @@ use Rattle.store_api.specs.Journal.{WasPut, IsGoodJournal, IsOnce, puts_of}
 use Rattle.session.specs.declared.chunks.Value.{Value}
 use Rattle.session.specs.declared.chunks.Value.TheVariants.{Held, Fill}
 use Rattle.session.specs.Sessions.{SessionState, nodes_seen, base_tree, changes_in, overlay}
-use Rattle.session.specs.Editing.{group_fault, array_fault, node_fault, added, group_added, array_added, node_added, meta_set, node_dropped, prop_added, with_node, listing, listed, beneath, text_at, if_there}
+use Rattle.session.specs.Editing.{group_fault, array_fault, node_fault, added, group_added, array_added, node_added, meta_set, node_dropped, prop_added, with_node, listing, beneath, if_there}
 use Rattle.session.specs.Editing as session
 use Rattle.session.specs.Chunks.{most_inline, with_chunk, without_chunk, after_draw, chunk_unset}
 use Rattle.commit_path.proofs.Adding.{PropAdded, prop-added, prop-opened}
@@ -62,7 +62,7 @@ use Rattle.play_outcome.specs.declared.outcome.Shown.TheVariants as S
 use Rattle.play_tasks.specs.Lines as line
 use Rattle.play_tasks.specs.Solving.{DidPlay}
 use Rattle.run_promise.proofs.Objects.{object-bytes, object-put}
-use Rattle.run_promise.specs.Lines.{edit_of, text_put, key_put, key_erase, shown_of, key_shown, chunk_shown, node_shown, beneath_shown, text_shown, text_of, Edits, Does}
+use Rattle.run_promise.specs.Lines.{edit_of, text_put, key_put, key_erase, shown_of, key_shown, chunk_shown, beneath_shown, Edits, Does}
 
 -- both sessions' changes are normal for the tree of their base, which is well formed
 pub record AreNormal (puts : Puts) (s t : SessionState) : Type 0 where
@@ -282,9 +282,9 @@ module _ (client : ℕ) (start journal : List Event) (good : IsGoodJournal journ
   did-edits edit s t shown d n = record { id = d.took.id; made = d.took.made; asked = d.took.asked; changed = d.took.takes n; silent = d.silent }
 
   -- ---- what a read shows
-  nodes-shown : (number : ℕ) (rows : List (List ℕ × Node)) → map (line.node_shown number) (map listing rows) ≡ map (node_shown number) rows
+  nodes-shown : (number : ℕ) (rows : List (List ℕ × Node)) → map (line.node_shown number) (map listing rows) ≡ map (λ row. S.Node number (is_array row.1.text) row.0) rows
   nodes-shown number [] = refl
-  nodes-shown number (row ∷ rows) = ap (λ (xs : List Shown). node_shown number row ∷ xs) (nodes-shown number rows)
+  nodes-shown number (row ∷ rows) = ap (λ (xs : List Shown). S.Node number (is_array row.1.text) row.0 ∷ xs) (nodes-shown number rows)
 
   list-shown : (number : ℕ) (path : List ℕ) (s t : SessionState) (shown : List Shown) (o : Option Node) → line.still s (line.nodes_shown number (if_there o (beneath s path))) ≡ Ok (shown, t)
       → (option_map (λ (node : Node). beneath_shown number (overlay put s) path) o ≡ Some shown) × (t ≡ s)
@@ -294,10 +294,10 @@ module _ (client : ℕ) (start journal : List Event) (good : IsGoodJournal journ
       (ap (λ (xs : List Shown). Some xs) (sym (nodes-shown number (filter (λ row. is_beneath path row.0) (entries (nodes_seen s)))) ∙ ap (λ (q : List Shown × SessionState). q.0) same), sym (ap (λ (q : List Shown × SessionState). q.1) same))
 
   get-shown : (number : ℕ) (s t : SessionState) (shown : List Shown) (o : Option Node) → line.still s (line.meta_shown number (ok_or (option_map (λ (n : Node). n.text) o) (Refused.Edit Fault.NoNode))) ≡ Ok (shown, t)
-      → (option_map (λ (node : Node). text_shown number node ∷ []) o ≡ Some shown) × (t ≡ s)
+      → (option_map (λ (node : Node). S.Meta number node.text ∷ []) o ≡ Some shown) × (t ≡ s)
   get-shown number s t shown None e = absurd cc
   get-shown number s t shown (Some node) e =
-      let same = pair-same (text_shown number node ∷ [], s) (shown, t) e in
+      let same = pair-same (S.Meta number node.text ∷ [], s) (shown, t) e in
       (ap (λ (q : List Shown × SessionState). Some q.0) same, sym (ap (λ (q : List Shown × SessionState). q.1) same))
 
   chunk-shown : (number : ℕ) (value : Value) (o : Option (List ℕ)) → o ≡ value_of value → chunk_shown number o ≡ line.value_shown number value
@@ -316,7 +316,7 @@ module _ (client : ℕ) (start journal : List Event) (good : IsGoodJournal journ
   key_get-shown number s t shown None frozen d = absurd cc
   key_get-shown number s t shown (Some (K.Meta path)) frozen d = meta (get (nodes_seen s) path) d
     where
-      meta : (o : Option Node) → ◌≡◌ {A = Result (List Shown × SessionState) Refusal} (Ok (line.key_shown number (node_value o) ∷ [], s)) (Ok (shown, t)) → (Some (S.Key number (text_of o) ∷ []) ≡ Some shown) × (t ≡ s)
+      meta : (o : Option Node) → ◌≡◌ {A = Result (List Shown × SessionState) Refusal} (Ok (line.key_shown number (node_value o) ∷ [], s)) (Ok (shown, t)) → (Some (S.Key number (option_map (λ (node : Node). node.text) o) ∷ []) ≡ Some shown) × (t ≡ s)
       meta None e =
           let same = pair-same (S.Key number None ∷ [], s) (shown, t) e in
           (ap (λ (q : List Shown × SessionState). Some q.0) same, sym (ap (λ (q : List Shown × SessionState). q.1) same))

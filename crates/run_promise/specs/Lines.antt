@@ -54,33 +54,23 @@ edit_of (E.KeyErase key) id t = key_erase (key_of key)
 
 -- ---- reads
 -- what stands strictly beneath a path, in the order of the paths' bytes
-abbrev pub node_shown : ℕ → List ℕ × Node → Shown
-node_shown line row = S.Node line (is_array row.1.text) row.0
-
 abbrev pub beneath_shown : ℕ → Tree → List ℕ → List Shown
-beneath_shown line t path = map (node_shown line) (filter (λ row. is_beneath path row.0) (entries t.nodes))
+beneath_shown line t path = map (λ row. S.Node line (is_array row.1.text) row.0) (filter (λ row. is_beneath path row.0) (entries t.nodes))
 
--- the text of a node; a chunk's bytes, where none is held the fill value; what a key has, or nothing
-abbrev pub text_shown : ℕ → Node → Shown
-text_shown line node = S.Meta line node.text
-
+-- a chunk's bytes, where none is held the fill value; what a key has, or nothing
 abbrev pub chunk_shown : ℕ → Option (List ℕ) → Shown
 chunk_shown line (Some bytes) = S.Chunk line bytes
 chunk_shown line None = S.Fill line
 
-abbrev pub text_of : Option Node → Option (List ℕ)
-text_of None = None
-text_of (Some node) = Some node.text
-
 abbrev pub key_shown : ℕ → Option ZarrKey → Tree → Option (List Shown)
 key_shown line None t = None
-key_shown line (Some (K.Meta path)) t = Some (S.Key line (text_of (node_at t path)) ∷ [])
+key_shown line (Some (K.Meta path)) t = Some (S.Key line (option_map (λ (node : Node). node.text) (node_at t path)) ∷ [])
 key_shown line (Some (K.Chunk path index)) t = Some (S.Key line (t.chunk path index) ∷ [])
 
 -- what a read in this line of the script shows of the tree, unless it is refused
 abbrev pub shown_of : ℕ → ReadCall → Tree → Option (List Shown)
 shown_of line (R.List path) t = option_map (λ (node : Node). beneath_shown line t path) (node_at t path)
-shown_of line (R.Get path) t = option_map (λ (node : Node). text_shown line node ∷ []) (node_at t path)
+shown_of line (R.Get path) t = option_map (λ (node : Node). S.Meta line node.text ∷ []) (node_at t path)
 shown_of line (R.Chunk path index) t = Some (chunk_shown line (t.chunk path index) ∷ [])
 shown_of line (R.KeyGet key) t = key_shown line (key_of key) t
 

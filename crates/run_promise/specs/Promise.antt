@@ -1,6 +1,6 @@
 -- What is promised of a run: of the lists of its branches, of each commit, of each read, and of how each task ended. In words of trees, and of the
 -- events on branches; how files are read is a parameter. (Icechunk's manual, "Sessions", "Conflict resolution"; own.)
-use Rattle.std.specs.Prelude.{◌≡◌, ◌⊎◌, ℕ, ◌+◌, false, true, List, [], ◌∷◌, ◌++◌, length, Some, Result, Ok, slice_get}
+use Rattle.std.specs.Prelude.{◌≡◌, ◌⊎◌, ℕ, ◌+◌, true, List, [], ◌∷◌, ◌++◌, length, Some, Result, Ok, slice_get}
 use Rattle.ice_ids.specs.declared.Id12.{Id12}
 use Rattle.zarr_tree.specs.Trees.{Tree}
 use Rattle.zarr_tree.specs.Changes.{Changes, apply}
@@ -144,17 +144,13 @@ pub record HasCommitted (files : Files) (client : ℕ) (id : Id12) (start journa
   pub old : ℕ
   pub takes_effect : TakesEffect files before event branch old id
 
--- no event of the client since then is one
-abbrev pub HasNotCommitted : Files → ℕ → (start journal : List Event) → Type 0
-HasNotCommitted files client start journal = (id : Id12) → ¬ HasCommitted files client id start journal
-
 -- A task that tells a commit made it, and one that is in doubt made the commit of that snapshot, or none; any other made none. No task of a session
 -- tells a collection or an expiry.
 abbrev pub EndsRight : Files → ℕ → End → (start journal : List Event) → Type 0
 EndsRight files client (Committed id) start journal = HasCommitted files client id start journal
 EndsRight files client (Collected removed) start journal = ⊥
-EndsRight files client Done start journal = HasNotCommitted files client start journal
-EndsRight files client (Refused line why) start journal = HasNotCommitted files client start journal
+EndsRight files client Done start journal = (id : Id12) → ¬ HasCommitted files client id start journal
+EndsRight files client (Refused line why) start journal = (id : Id12) → ¬ HasCommitted files client id start journal
 EndsRight files client (Stopped line why removed) start journal = ⊥
 EndsRight files client (InDoubt id how) start journal = (other : Id12) → HasCommitted files client other start journal → other ≡ id
 EndsRight files client (Expired line cases result) start journal = ⊥

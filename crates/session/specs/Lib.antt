@@ -8,3 +8,4 @@ pub mod Sources
 pub mod Setting
 pub mod Getting
 pub mod inside
+pub mod Arrays

@@ -21,5 +21,6 @@ pub use chunks::Value;
 pub use getting::{GetChunk, Getting};
 pub use open::Open;
 pub use origin::{Origin, Tip};
+pub use seeing::ArrayAt;
 pub use session::{Listing, Listings, Session};
 pub use setting::{SetChunk, Setting};

@@ -15,7 +15,7 @@ impl Session {
         ensures { result ≡ own_manifests self.now.rows path.now node }
     {
         match self.loaded.file().nodes().find(path.as_str()) {
-            Some(row) if row.id() == node => row.kind().manifests(),
+            Some(row) if row.id() == node => row.manifests(),
             _ => HeldManifests::none(),
         }
     }

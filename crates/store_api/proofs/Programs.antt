@@ -1,5 +1,5 @@
 -- Laws of programs.
-use Rattle.std.proofs.Common.{◌≡◌, ℕ, inl, inr, Bool, true, false, List, [], ◌∷◌, ◌++◌, refl, sym, ◌∙◌, ap, subst, append_assoc, append-nil, ne_eqb, eq-eqb, arith}
+use Rattle.std.proofs.Common.{◌≡◌, ℕ, inl, inr, Bool, true, false, List, [], ◌∷◌, ◌++◌, refl, sym, ◌∙◌, ap, subst, append_assoc, ne_eqb, eq-eqb, arith}
 use Rattle.std.specs.Prelude.{◌==◌, nat_le, IsTrue, Result, Ok, Err}
 use Rattle.std.proofs.lemmas.List.Elements.{filter-append}
 use Rattle.std.proofs.lemmas.Bool.Decides.{nat_tests}
@@ -16,7 +16,7 @@ use Rattle.object_store.specs.Machine.{IsAnswered}
 use Rattle.store_api.specs.Journal.{Each, IsPolite, IsGood}
 use Rattle.store_api.specs.Callers.{Caller, View, IsOther, Waits, Makes, Did, Called, own_event, owns, HasAll, Fits}
 use Rattle.store_api.specs.Program.{Prog, Done, IsDone, Path, events_of, Keeps, Leads, Ask, bind, Blames, Lands, Steps, Grows, moves_branch, IsSure, is_fault}
-use Rattle.object_store.proofs.Journals.{Each-append, Each-weaker, Each-one, Each-none}
+use Rattle.object_store.proofs.Journals.{Each-append, Each-weaker, Each-one}
 use Rattle.object_store.proofs.Waits.{Waits-none as none-by, Waits-same as same-by, Waits-trans as trans-by, Makes-waits as waits-by, Makes-alone as alone-by}
 use Rattle.store_api.proofs.Standing.{IsPolite-append}
 

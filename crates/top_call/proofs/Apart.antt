@@ -20,8 +20,8 @@ module _ (draw : Draw) (a b : World) where
   run-done : (command : Command) (status : Status) → WasRun command draw a.input b.input a.store b.store a.out b.out status → WasDone draw command a b status
   run-done command status r = done command status r.script r.reads r.played
 
-  short-done : (command : Command) → IsShort command draw a.input b.input a.store b.store a.out b.out → WasDone draw command a b S.NoMemory ⊎ WasCutShort draw command a b
-  short-done command i = elim i.went [ inl p ↦ inl (done command S.NoMemory i.script i.reads p) | inr u ↦ inr (record { script = i.script; reads = i.reads; out = u.out; came = u.came }) ]
+  short-done : (command : Command) → IsShort command draw a.input b.input a.store b.store a.out b.out → WasDone draw command a b S.NoMemory ⊎ WasCutShort command a b
+  short-done command i = elim i.went [ inl p ↦ inl (done command S.NoMemory i.script i.reads p) | inr u ↦ inr (record { script = i.script; reads = i.reads; out = u.out; began = u.began }) ]
 
   plays-exactly : (command : Command) (status : Status) → PlayEnds command draw a.input b.input a.store b.store a.out b.out status → Plays draw command a b status
   plays-exactly command S.Ok e = run-done command S.Ok e

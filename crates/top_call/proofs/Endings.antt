@@ -1,7 +1,6 @@
 -- What the statuses of a run say.
 use Rattle.std.proofs.Common.{◌≡◌, ℕ, List, inl, inr, Bool, true, false, refl, sym, subst}
-use Rattle.std.specs.Prelude.{if◌then◌else◌, Result, Ok, Err, IfOk, IfErr, MatchResult}
-use Rattle.std.specs.declared.alloc.AllocError.{AllocError}
+use Rattle.std.specs.Prelude.{if◌then◌else◌}
 use Rattle.ice_base.specs.Ends.{InputAt, OutputAt, Rose}
 use Rattle.ice_ids.specs.declared.drawing.Draw.{Draw}
 use Rattle.store_api.specs.Callers.{View}
@@ -55,12 +54,6 @@ module _ (command : Command) (draw : Draw) (a b : InputAt) (s t : View) (x y : O
 
   pub ends_untold : (script : Script) → HasScript command a b script → WasUntold draw script s t x y → PlayEnds command draw a b s t x y S.NoMemory
   ends_untold script h u = inr (record { script = script; reads = h; went = inr u })
-
-  -- what was told of a run, or nothing for want of memory
-  pub ends_told : (script : Script) (told : Result Status AllocError) (status : Status) → IfErr told (λ error. WasUntold draw script s t x y) → IfOk told (λ said. WasPlayed command draw script s t x y said)
-      → MatchResult told (λ said. status ≡ said) (λ error. status ≡ S.NoMemory) → HasScript command a b script → PlayEnds command draw a b s t x y status
-  ends_told script (Ok said) status u p e h = subst (λ (is : Status). PlayEnds command draw a b s t x y is) (sym e) (ends_played script said h p)
-  ends_told script (Err error) status u p e h = subst (λ (is : Status). PlayEnds command draw a b s t x y is) (sym e) (ends_untold script h u)
 
   -- a fault is told only where it rose
   pub store_played : (status : Status) → PlayEnds command draw a b s t x y status → status ≡ S.StoreFault → Rose s.faults t.faults

@@ -21,7 +21,7 @@ use Rattle.command_words.specs.declared.reading.Command.TheVariants as C
 use Rattle.top_call.specs.declared.statuses.Status.{Status}
 use Rattle.top_call.specs.declared.statuses.Status.TheVariants as S
 use Rattle.top_call.specs.Run.{HasScript}
-use Rattle.top_call.specs.Promise.{World, Spares, WherePlayed, Played, Promised, OverSound, KeepsSound, KeepsOwn, SparesOver, SparesSound, SparesOwn}
+use Rattle.top_call.specs.Promise.{World, Spares, WasUnplayed, WherePlayed, Played, Promised, OverSound, KeepsSound, KeepsOwn, SparesOver, SparesSound, SparesOwn}
 use Rattle.top_call.specs.inside.Playing.{WasPlayed, WasRun, IsShort, PlayEnds, Ends}
 
 -- a script that was read is well
@@ -39,12 +39,12 @@ module _ (draw : Draw) (a b : World) where
     of_run : (status : Status) → WasRun command draw a.input b.input a.store b.store a.out b.out status → P status
     of_run status r = of_played status r.script r.reads r.played
 
-    -- where memory ran out, or nothing was written
-    of_short : IsShort command draw a.input b.input a.store b.store a.out b.out → (b.out ≡ a.out) ⊎ P S.NoMemory
-    of_short i = elim i.went [ inl p ↦ inr (of_played S.NoMemory i.script i.reads p) | inr u ↦ inl u.out ]
+    -- where memory ran out, or no task was played
+    of_short : IsShort command draw a.input b.input a.store b.store a.out b.out → WasUnplayed a b ⊎ P S.NoMemory
+    of_short i = elim i.went [ inl p ↦ inr (of_played S.NoMemory i.script i.reads p) | inr u ↦ inl (record { out = u.out; store = inr u.began }) ]
 
-    of_starved : PlayEnds command draw a.input b.input a.store b.store a.out b.out S.NoMemory → (b.out ≡ a.out) ⊎ P S.NoMemory
-    of_starved e = elim e [ inl same ↦ inl same.out | inr short ↦ of_short short ]
+    of_starved : PlayEnds command draw a.input b.input a.store b.store a.out b.out S.NoMemory → WasUnplayed a b ⊎ P S.NoMemory
+    of_starved e = elim e [ inl same ↦ inl (record { out = same.out; store = inl same.store }) | inr short ↦ of_short short ]
 
   pub where-played : (P : Status → Type 0) (command : Command) (status : Status) → ((status : Status) (script : Script) → HasScript command a.input b.input script → WasPlayed command draw script a.store b.store a.out b.out status → P status)
       → Ends command draw a.input b.input a.store b.store a.out b.out status → WherePlayed command a b status (P status)
@@ -64,7 +64,7 @@ module _ (draw : Draw) (a b : World) where
   where-played P (C.Grow tasks) S.ReadFault of e = λ played. absurd played
   where-played P (C.Grow tasks) (S.Script line kind) of e = λ played. absurd played
   where-played P (C.Grow tasks) (S.Usage fault) of e = λ played. absurd played
-  where-played P (C.Help topic) S.NoMemory of e = inl e.2
+  where-played P (C.Help topic) S.NoMemory of e = inl (record { out = e.2; store = inl e.1 })
   where-played P (C.Help topic) S.Ok of e = λ played. absurd played
   where-played P (C.Help topic) S.Refused of e = λ played. absurd played
   where-played P (C.Help topic) S.StoreFault of e = λ played. absurd played
@@ -72,7 +72,7 @@ module _ (draw : Draw) (a b : World) where
   where-played P (C.Help topic) S.ReadFault of e = λ played. absurd played
   where-played P (C.Help topic) (S.Script line kind) of e = λ played. absurd played
   where-played P (C.Help topic) (S.Usage fault) of e = λ played. absurd played
-  where-played P C.Version S.NoMemory of e = inl e.2
+  where-played P C.Version S.NoMemory of e = inl (record { out = e.2; store = inl e.1 })
   where-played P C.Version S.Ok of e = λ played. absurd played
   where-played P C.Version S.Refused of e = λ played. absurd played
   where-played P C.Version S.StoreFault of e = λ played. absurd played

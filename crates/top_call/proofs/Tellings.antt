@@ -1,11 +1,11 @@
 -- The causes of a run, one after the other and together.
-use Rattle.std.proofs.Common.{◌-◌, ◌^◌, ltb, ◌≡◌, ℕ, zero, suc, ◌≤◌, ◌<◌, ◌⊎◌, inl, inr, Bool, true, false, List, [], ◌∷◌, ◌++◌, refl, sym, ◌∙◌, ap, subst, arith, length, ◌+◌, length-append}
-use Rattle.std.specs.Prelude.{IsTrue, ◌||◌, Result, Ok, Err, Option, Some, None, slice_get, IfOk, IfErr}
-use Rattle.std.specs.declared.alloc.AllocError.{AllocError}
+use Rattle.std.proofs.Common.{◌-◌, ◌^◌, ltb, ◌≡◌, ℕ, zero, suc, ◌≤◌, ◌<◌, ◌⊎◌, inl, inr, Bool, true, false, List, [], ◌∷◌, ◌++◌, refl, sym, ◌∙◌, ap, subst, arith, length, map, ◌+◌, length-append}
+use Rattle.std.specs.Prelude.{IsTrue, ◌||◌, Result, Ok, Err, Option, Some, None, slice_get}
 use Rattle.std.specs.List.{list_any, flat_map}
 use Rattle.std.proofs.lemmas.Bool.{ltb-true, ltb-false}
 use Rattle.std.proofs.lemmas.List.Folds.{list_any-append}
 use Rattle.ice_base.specs.Ends.{OutputAt, Rose}
+use Rattle.drafts.specs.Drafts.{Wrote}
 use Rattle.ice_ids.specs.declared.drawing.Draw.{Draw}
 use Rattle.object_store.specs.declared.events.Event.{Event}
 use Rattle.store_api.specs.declared.machines.Refusal.{Refusal}
@@ -24,13 +24,14 @@ use Rattle.play_outcome.specs.declared.outcome.RefLine.{RefLine}
 use Rattle.play_outcome.specs.Ending.{end_failed, is_failed}
 use Rattle.play_script.specs.Well.{IsWell}
 use Rattle.run_promise.specs.Law.{PromiseLaw}
+use Rattle.play_report.specs.Report.{report_of}
 use Rattle.play_course.specs.Course.{Course, OnlyBegan, Plays, RanBy}
 use Rattle.top_call.specs.declared.statuses.Causes.{Causes}
 use Rattle.top_call.specs.declared.statuses.Status.{Status}
 use Rattle.top_call.specs.declared.statuses.Status.TheVariants as S
 use Rattle.top_call.specs.Statuses.{status_of}
 use Rattle.play_outcome.specs.Ending.{end_why, why_ended}
-use Rattle.top_call.specs.Telling.{why_of, refusals, is_other, causes, line_text, IsText, Wrote, Told, KeepsAll, IsRegular}
+use Rattle.top_call.specs.Telling.{why_of, refusals, is_other, causes, line_text, IsText, Told, KeepsAll, IsRegular}
 use Rattle.top_call.specs.inside.Adding.{added, all_added}
 use Rattle.top_call.proofs.Rows.{rows-all}
 use Rattle.top_call.specs.inside.Playing.{KeepsHistories, KeepsBranches, WasUntold, WasPlayed}
@@ -164,12 +165,19 @@ pub kept-all : PromiseLaw → (draw : Draw) (script : Script) (s t : View) (open
 kept-all law draw script s t opening outcomes refs well c tells before sound new = law draw script before s t opening outcomes refs well.tasks c tells sound new
 
 -- ---- what was played and told
-pub finished : (command : Command) (draw : Draw) (script : Script) (s t : View) (x y : OutputAt) (opening : Result (Unit {0}) Refusal) (outcomes : List Outcome) (refs : Result (List RefLine) Refusal) (result : Result Status AllocError)
+pub finished : (command : Command) (draw : Draw) (script : Script) (s t : View) (x y : OutputAt) (opening : Result (Unit {0}) Refusal) (outcomes : List Outcome) (refs : Result (List RefLine) Refusal) (status : Status)
     → (c : Course draw script s t opening outcomes refs) → KeepsAll draw script s c.begun t outcomes refs → KeepsHistories draw script s t refs → IsRegular draw script s opening outcomes refs
-    → IfOk result (λ status. Told (IsText command script s t opening outcomes refs) (refusals opening outcomes refs) x y status)
-    → IfOk result (λ status. WasPlayed command draw script s t x y status)
-finished command draw script s t x y opening outcomes refs (Ok status) c all kept regular told = record { opening = opening; outcomes = outcomes; refs = refs; course = c; promise = all; histories = kept; regular = regular; told = told }
-finished command draw script s t x y opening outcomes refs (Err error) c all kept regular told = tt
+    → Told (IsText command script s t opening outcomes refs) (refusals opening outcomes refs) x y status
+    → WasPlayed command draw script s t x y status
+finished command draw script s t x y opening outcomes refs status c all kept regular told = record { opening = opening; outcomes = outcomes; refs = refs; course = c; promise = all; histories = kept; regular = regular; told = told }
+
+-- ---- the report
+-- by the names of the script's tasks
+pub told-report : (names : List (List ℕ)) (script : Script) (s t : View) (opening : Result (Unit {0}) Refusal) (outcomes : List Outcome) (refs : Result (List RefLine) Refusal) (x y : OutputAt) (status : Status)
+    → names ≡ map (λ (t : Task). t.name) script.tasks
+    → Told (λ text. text ≡ report_of names opening outcomes refs) (refusals opening outcomes refs) x y status
+    → Told (IsText C.Play script s t opening outcomes refs) (refusals opening outcomes refs) x y status
+told-report names script s t opening outcomes refs x y status same told = record { text = told.text; is = told.is ∙ ap (λ (n : List (List ℕ)). report_of n opening outcomes refs) same; unwritten = told.unwritten; wrote = told.wrote; status_is = told.status_is }
 
 -- ---- the line of a grown script
 -- a run adds to a journal that is told
@@ -208,23 +216,12 @@ counted draw script s t opening outcomes refs before after c first last told =
     omega (arith, grew.0, one, two)
 
 -- the line was told
-pub told-line : (tasks events : ℕ) (script : Script) (s t : View) (opening : Result (Unit {0}) Refusal) (outcomes : List Outcome) (refs : Result (List RefLine) Refusal) (x y : OutputAt) (result : Result Status AllocError)
+pub told-line : (tasks events : ℕ) (script : Script) (s t : View) (opening : Result (Unit {0}) Refusal) (outcomes : List Outcome) (refs : Result (List RefLine) Refusal) (x y : OutputAt) (status : Status)
     → (IsTrue s.caller.tells → length t.seen ≡ length s.seen + events)
-    → IfOk result (λ status. Told (λ text. text ≡ line_text tasks outcomes events) (refusals opening outcomes refs) x y status)
-    → IfOk result (λ status. Told (IsText (C.Grow tasks) script s t opening outcomes refs) (refusals opening outcomes refs) x y status)
-told-line tasks events script s t opening outcomes refs x y (Ok status) grew told = record { text = told.text; is = record { events = events; counted = grew; is = told.is }; unwritten = told.unwritten; wrote = told.wrote; status_is = told.status_is }
-told-line tasks events script s t opening outcomes refs x y (Err error) grew told = tt
+    → Told (λ text. text ≡ line_text tasks outcomes events) (refusals opening outcomes refs) x y status
+    → Told (IsText (C.Grow tasks) script s t opening outcomes refs) (refusals opening outcomes refs) x y status
+told-line tasks events script s t opening outcomes refs x y status grew told = record { text = told.text; is = record { events = events; counted = grew; is = told.is }; unwritten = told.unwritten; wrote = told.wrote; status_is = told.status_is }
 
 -- ---- where memory ran out
-pub untold : (draw : Draw) (script : Script) (s t : View) (x y : OutputAt) (opening : Result (Unit {0}) Refusal) (outcomes : List Outcome) (refs : Result (List RefLine) Refusal) (result : Result Status AllocError)
-    → (c : Course draw script s t opening outcomes refs) → KeepsAll draw script s c.begun t outcomes refs → KeepsHistories draw script s t refs → IfErr result (λ error. y ≡ x) → IfErr result (λ error. WasUntold draw script s t x y)
-untold draw script s t x y opening outcomes refs (Ok status) c all kept out = tt
-untold draw script s t x y opening outcomes refs (Err error) c all kept out =
-    record { out = out; came = inl (record { opening = opening; outcomes = outcomes; refs = refs; course = c; promise = all }); histories = λ told before sound new. let k = kept told before sound new in (k.start, k.histories) }
-
 pub unplayed : (draw : Draw) (script : Script) (s t : View) (x : OutputAt) → OnlyBegan s t → KeepsBranches draw script s t → WasUntold draw script s t x x
-unplayed draw script s t x b kept = record { out = refl; came = inr b; histories = kept }
-
-pub unplayed-told : (draw : Draw) (script : Script) (s t : View) (x : OutputAt) (result : Result Status AllocError) → OnlyBegan s t → KeepsBranches draw script s t → IfErr result (λ error. WasUntold draw script s t x x)
-unplayed-told draw script s t x (Ok status) b kept = tt
-unplayed-told draw script s t x (Err error) b kept = unplayed draw script s t x b kept
+unplayed draw script s t x b kept = record { out = refl; began = b; histories = kept }

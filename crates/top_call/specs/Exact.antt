@@ -12,7 +12,7 @@ use Rattle.command_words.specs.declared.reading.Command.TheVariants as C
 use Rattle.command_words.specs.Help.{help_of, version_line}
 use Rattle.top_call.specs.declared.statuses.Status.{Status}
 use Rattle.top_call.specs.declared.statuses.Status.TheVariants as S
-use Rattle.top_call.specs.Telling.{Told, IsText, IsRegular, HasCourse, refusals}
+use Rattle.top_call.specs.Telling.{Told, IsText, IsRegular, refusals}
 use Rattle.top_call.specs.Run.{HasScript, HasFailed, HasFault, IsUntouched, Says}
 use Rattle.top_call.specs.Promise.{World}
 
@@ -28,12 +28,12 @@ pub record WasDone (draw : Draw) (command : Command) (a b : World) (status : Sta
   pub told : Told (IsText command script a.store b.store opening outcomes refs) (refusals opening outcomes refs) a.out b.out status
   pub regular : IsRegular draw script a.store opening outcomes refs
 
--- A script was read, and memory ran out before anything was written: behind all that was to be played, or before the first task.
-pub record WasCutShort (draw : Draw) (command : Command) (a b : World) : Type 0 where
+-- A script was read, and memory ran out before the first task: the repository was begun at most, and nothing was written.
+pub record WasCutShort (command : Command) (a b : World) : Type 0 where
   pub script : Script
   pub reads : HasScript command a.input b.input script
   pub out : b.out ≡ a.out
-  pub came : HasCourse draw script a.store b.store ⊎ OnlyBegan a.store b.store
+  pub began : OnlyBegan a.store b.store
 
 -- nothing was done, and nothing written
 abbrev pub IsSame : World → World → Type 0
@@ -48,7 +48,7 @@ Plays draw command a b S.WriteFault = WasDone draw command a b S.WriteFault
 Plays draw command a b S.ReadFault = HasFailed command a.input b.input × IsSame a b
 Plays draw command a b (S.Script line kind) = HasFault command a.input b.input line kind × IsSame a b
 Plays draw command a b (S.Usage fault) = ⊥
-Plays draw command a b S.NoMemory = IsSame a b ⊎ (WasDone draw command a b S.NoMemory ⊎ WasCutShort draw command a b)
+Plays draw command a b S.NoMemory = IsSame a b ⊎ (WasDone draw command a b S.NoMemory ⊎ WasCutShort command a b)
 
 -- ---- each command
 -- `play` reads its input; `grow` reads none; help and the version are written, and nothing is read or done

@@ -12,6 +12,7 @@ use Rattle.histories.specs.Formats.{files_by}
 use Rattle.play_script.specs.declared.scripts.Script.{Script}
 use Rattle.play_outcome.specs.declared.outcome.Outcome.{Outcome}
 use Rattle.play_outcome.specs.declared.outcome.RefLine.{RefLine}
+use Rattle.play_course.specs.Course.{OnlyBegan}
 use Rattle.run_histories.specs.Sources.{IsNewRun}
 use Rattle.run_histories.specs.Runs.{IsSound}
 use Rattle.run_collections.specs.Keeping.{KeepsNeeded}
@@ -64,9 +65,14 @@ HasPlayed (C.Grow tasks) S.StoreFault = Unit {0}
 HasPlayed (C.Grow tasks) S.WriteFault = Unit {0}
 HasPlayed command status = ⊥
 
--- Where it was, this is promised; and so it is where memory was wanting, unless nothing was written.
+-- no task was played: nothing was written, and the repository was begun at most
+pub record WasUnplayed (a b : World) : Type 0 where
+  pub out : b.out ≡ a.out
+  pub store : (b.store ≡ a.store) ⊎ OnlyBegan a.store b.store
+
+-- Where it was, this is promised; and so it is where memory was wanting, unless no task was played.
 abbrev pub WherePlayed : Command → World → World → Status → Type 0 → Type 0
-WherePlayed command a b S.NoMemory P = (b.out ≡ a.out) ⊎ P
+WherePlayed command a b S.NoMemory P = WasUnplayed a b ⊎ P
 WherePlayed command a b status P = HasPlayed command status → P
 
 -- a script that was read, and what is promised of it

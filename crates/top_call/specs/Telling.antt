@@ -1,7 +1,8 @@
 -- What is told of a run: the report, or the line of a grown script, and the status (own).
 use Rattle.std.specs.Prelude.{◌≡◌, ℕ, Bool, true, false, not, ◌&&◌, List, [], ◌∷◌, ◌++◌, ◌+◌, length, map, codes, Result, Ok, Err, IsTrue}
 use Rattle.std.specs.List.{list_any, flat_map, count_by}
-use Rattle.ice_base.specs.Ends.{OutputAt, WroteWhole, WroteLess}
+use Rattle.ice_base.specs.Ends.{OutputAt}
+use Rattle.drafts.specs.Drafts.{Wrote}
 use Rattle.ice_ids.specs.declared.drawing.Draw.{Draw}
 use Rattle.ice_ids.specs.Drawing.{DrawsOnce}
 use Rattle.store_api.specs.declared.machines.Refusal.{Refusal}
@@ -21,7 +22,6 @@ use Rattle.grow_script.specs.Summary.{summary_text}
 use Rattle.zarr_tree.specs.Changes.{Changes}
 use Rattle.run_histories.specs.Sources.{IsNewRun}
 use Rattle.run_histories.specs.Runs.{IsSound}
-use Rattle.play_course.specs.Course.{Course}
 use Rattle.play_course.specs.Refusing.{NothingStrange}
 use Rattle.run_promise.specs.Law.{KeepsPromise}
 use Rattle.top_call.specs.declared.statuses.Causes.{Causes}
@@ -46,11 +46,6 @@ abbrev pub causes : Bool → List Refusal → Causes
 causes unwritten whys = record { no_memory = list_any is_no_memory whys; store_fault = list_any is_fault whys; unwritten = unwritten; refused = list_any is_other whys }
 
 -- ---- what is told
--- the whole text was written; or not all of it, and the sink failed
-abbrev pub Wrote : OutputAt → OutputAt → List ℕ → Bool → Type 0
-Wrote old new text false = WroteWhole old new text
-Wrote old new text true = WroteLess old new text
-
 abbrev pub end_committed : End → Bool
 end_committed (E.Committed id) = true
 end_committed (E.Collected removed) = false
@@ -109,11 +104,3 @@ KeepsAll draw script old begun new outcomes refs = IsTrue old.caller.tells → (
 -- refused because an id was taken or a file can't be read, nor, where no task collects, because an object is missing
 abbrev pub IsRegular : Draw → Script → View → Result (Unit {0}) Refusal → List Outcome → Result (List RefLine) Refusal → Type 0
 IsRegular draw script old opening outcomes refs = IsTrue old.caller.tells → old.seen ≡ [] → DrawsOnce draw (length script.tasks) → NothingStrange (has_collection script.tasks) opening outcomes refs
-
--- all was played, whatever it came to
-pub record HasCourse (draw : Draw) (script : Script) (old new : View) : Type 0 where
-  pub opening : Result (Unit {0}) Refusal
-  pub outcomes : List Outcome
-  pub refs : Result (List RefLine) Refusal
-  pub course : Course draw script old new opening outcomes refs
-  pub promise : KeepsAll draw script old course.begun new outcomes refs

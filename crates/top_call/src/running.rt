@@ -1,6 +1,7 @@
 //! The top call.
 
-ghost use Rattle.std.specs.Prelude.{◌≡◌, ◌≤◌, ◌⊎◌, true, Ok, Err, IfOk, MatchResult};
+ghost use Rattle.std.specs.Prelude.{◌≡◌, ◌≤◌, ◌⊎◌, true, map, Ok, Err, IfOk, MatchResult};
+ghost use Rattle.drafts.specs.Drafts.{IsBlank};
 ghost use Rattle.ice_base.specs.Ends.{InputAt, Rose, TakesAtMost};
 ghost use Rattle.store_api.specs.Journal.{IsGoodJournal};
 ghost use Rattle.play_script.specs.Well.{IsWell};
@@ -15,8 +16,9 @@ ghost use Rattle.top_call.specs.inside.Playing.{PlayEnds, Ends};
 use crate::ending::Ended;
 use crate::saying::{say, say_help};
 use crate::statuses::Status;
-use crate::telling::{finish, finish_grown};
+use crate::telling::{finish, finish_grown, names_of};
 use command_words::{Command, Word, read_words, version};
+use drafts::Draft;
 use grow_script::grown_script;
 use ice_base::{Sink, Source, read_input};
 use ice_ids::Draw;
@@ -33,21 +35,16 @@ use store_api::Counting;
 /// The longest input that is read: one byte more than a script may have.
 const MOST_INPUT: usize = 1_048_577;
 
-/// How a run ended of which this was told, or nothing for want of memory.
-fn ended<S>(store: S, told: Result<Status, AllocError>) -> Ended<S>
-    ensures store { result.store ≡ store }
-    ensures status { MatchResult told (λ status. result.status ≡ status) (λ error. result.status ≡ Status.NoMemory) }
+/// What is taken before a script is played: a draft of its report, and the names of its tasks.
+fn prepare<'a>(alloc: Global, script: &'a Script) -> Result<(Draft, Vec<&'a [u8]>), AllocError>
+    ensures { IfOk result (λ made. IsBlank made.0 × (map (λ n. n.now) made.1.items ≡ map (λ t. t.name) script.now.tasks)) }
 {
-    match told {
-        Ok(status) => Ended { status, store },
-        Err(_) => Ended {
-            status: Status::NoMemory,
-            store,
-        },
-    }
+    let draft = Draft::new(alloc)?;
+    let names = names_of(alloc, script.tasks.as_slice())?;
+    Ok((draft, names))
 }
 
-/// Plays the script of the input and writes the report.
+/// Plays the script of the input and writes the report. What that takes is taken first.
 fn play_and_report<R: Threads + Wait + Sync, S: Counting + Send, K: Sink, G: Gate + Sync>(
     rt: &R,
     alloc: Global,
@@ -62,14 +59,29 @@ fn play_and_report<R: Threads + Wait + Sync, S: Counting + Send, K: Sink, G: Gat
     ensures { (a : InputAt) (b : InputAt) → HasScript Command.Play a b script.now → PlayEnds Command.Play draw a b (S.view store) (S.view result.store) (K.at out.old) (K.at out.new) result.status }
 {
     promise_law();
+    let (draft, names) = match prepare(alloc, script) {
+        Ok(made) => made,
+        Err(_) => {
+            return Ended {
+                status: Status::NoMemory,
+                store,
+            };
+        }
+    };
     let (store, played) = play(rt, alloc, script, draw, store, gate);
     match played {
-        Ok(played) => ended(store, finish(alloc, script, &played, out)),
-        Err(error) => ended(store, Err(error)),
+        Ok(played) => {
+            let status = finish(draft, &names, &played, out);
+            Ended { status, store }
+        }
+        Err(_) => Ended {
+            status: Status::NoMemory,
+            store,
+        },
     }
 }
 
-/// Plays the script of `grow` and writes its line.
+/// Plays the script of `grow` and writes its line. What that takes is taken first.
 fn play_and_count<R: Threads + Wait + Sync, S: Counting + Send, K: Sink, G: Gate + Sync>(
     rt: &R,
     alloc: Global,
@@ -84,15 +96,28 @@ fn play_and_count<R: Threads + Wait + Sync, S: Counting + Send, K: Sink, G: Gate
     requires good { S.tells ≡ true → IsGoodJournal (S.view store).seen }
     ensures { (a : InputAt) (b : InputAt) → HasScript (Command.Grow tasks) a b script.now → PlayEnds (Command.Grow tasks) draw a b (S.view store) (S.view result.store) (K.at out.old) (K.at out.new) result.status }
 {
-    let before = store.operations();
     promise_law();
+    let draft = match Draft::new(alloc) {
+        Ok(draft) => draft,
+        Err(_) => {
+            return Ended {
+                status: Status::NoMemory,
+                store,
+            };
+        }
+    };
+    let before = store.operations();
     let (store, played) = play(rt, alloc, script, draw, store, gate);
     match played {
         Ok(played) => {
             let events = store.operations().saturating_sub(before);
-            ended(store, finish_grown(alloc, tasks, events, &played, out))
+            let status = finish_grown(draft, tasks, events, &played, out);
+            Ended { status, store }
         }
-        Err(error) => ended(store, Err(error)),
+        Err(_) => Ended {
+            status: Status::NoMemory,
+            store,
+        },
     }
 }
 
@@ -211,8 +236,8 @@ pub fn run<R: Threads + Wait + Sync, I: Source, S: Counting + Send, K: Sink, G: 
     // Over an empty store that tells its journal, where ids are drawn by counting, each script that was played keeps what is
     // promised, with no premise: each branch's updates form one list, each commit is its session's solved changes on the entry
     // before it, each read sees its session's base under its own changes, each task ends as it tells, the refs that are told are
-    // those that stand, and the status is that of the first cause that holds. Where memory was wanting, this is so, or nothing was
-    // written.
+    // those that stand, and the status is that of the first cause that holds. Where memory was wanting, this is so, or no task was
+    // played: nothing was written, and the repository was begun at most.
     ensures ours { (command : Command) → command_of words.now ≡ Ok command → KeepsOwn draw command (record { input = I.at input.old; store = S.view store; out = K.at out.old }) (record { input = I.at input.new; store = S.view result.store; out = K.at out.new }) result.status }
 
     // The same over each store that tells a sound journal, to which the clients' ids are new.

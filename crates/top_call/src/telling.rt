@@ -1,26 +1,29 @@
 //! What is told of a run: the report, or the line of a grown script, and the status.
 
-ghost use Rattle.std.specs.Prelude.{◌≡◌, ◌∷◌, map, IfOk, IfErr, string_bytes};
+ghost use Rattle.std.specs.Prelude.{◌≡◌, ◌∷◌, ◌++◌, map, codes, IfOk};
 ghost use Rattle.std.specs.List.{count_by, flat_map};
+ghost use Rattle.drafts.specs.Drafts.{IsBlank, Took};
+ghost use Rattle.grow_script.specs.Summary.{summary_text};
 ghost use Rattle.play_report.specs.Report.{report_of};
 ghost use Rattle.play_outcome.specs.Ending.{end_why, why_ended, why_unsettled};
 ghost use Rattle.store_api.specs.declared.machines.Refusal.TheVariants as Doubts;
-ghost use Rattle.top_call.specs.Telling.{why_of, refusals, causes, is_committed, is_refused, line_text, Wrote, Told};
+ghost use Rattle.top_call.specs.Telling.{why_of, refusals, causes, is_committed, is_refused, line_text, Told};
 ghost use Rattle.top_call.specs.inside.Adding.{added, all_added};
 
 use crate::statuses::{Causes, Status};
+use drafts::Draft;
 use grow_script::Summary;
-use ice_base::{Sink, write_whole};
+use ice_base::Sink;
 use ice_ids::Id12;
 use play_course::Played;
 use play_outcome::{End, How, Outcome, RefLines};
-use play_report::report;
-use play_script::{Script, Task};
+use play_report::add_report;
+use play_script::Task;
 use std::alloc::{AllocError, Global};
 use store_api::Refusal;
 
 /// The names of the tasks.
-fn names_of<'a>(alloc: Global, tasks: &'a [Task]) -> Result<Vec<&'a [u8]>, AllocError>
+pub fn names_of<'a>(alloc: Global, tasks: &'a [Task]) -> Result<Vec<&'a [u8]>, AllocError>
     ensures { IfOk result (λ names. map (λ n. n.now) names.items ≡ map (λ t. t.name) tasks.now) }
 {
     let mut names = Vec::new(alloc);
@@ -107,33 +110,22 @@ fn causes_of(played: &Played, unwritten: bool) -> Causes
     causes
 }
 
-/// Writes a text; whether not all of it was written.
-fn write_text<K: Sink>(out: &mut K, text: &[u8]) -> bool
-    ensures { Wrote (K.at out.old) (K.at out.new) text.now result }
+/// Writes the report of what was played, over a blank draft, and tells the status. It takes no memory.
+pub fn finish<K: Sink>(draft: Draft, names: &[&[u8]], played: &Played, out: &mut K) -> Status
+    requires { IsBlank draft }
+    ensures { Told (λ text. text ≡ report_of (map (λ n. n.now) names.now) played.now.opening played.now.outcomes.items played.now.refs) (refusals played.now.opening played.now.outcomes.items played.now.refs) (K.at out.old) (K.at out.new) result }
 {
-    write_whole(out, text).is_err()
-}
-
-/// Writes the report of what was played, and tells the status. Without memory for it nothing is written.
-pub fn finish<K: Sink>(
-    alloc: Global,
-    script: &Script,
-    played: &Played,
-    out: &mut K,
-) -> Result<Status, AllocError>
-    ensures nothing { IfErr result (λ error. K.at out.new ≡ K.at out.old) }
-    ensures told { IfOk result (λ status. Told (λ text. text ≡ report_of (map (λ t. t.name) script.now.tasks) played.now.opening played.now.outcomes.items played.now.refs) (refusals played.now.opening played.now.outcomes.items played.now.refs) (K.at out.old) (K.at out.new) status) }
-{
-    let names = names_of(alloc, script.tasks.as_slice())?;
-    let text = report(
-        alloc,
-        &names,
+    let mut draft = draft;
+    add_report(
+        &mut draft,
+        out,
+        names,
         &played.opening,
         &played.outcomes,
         &played.refs,
-    )?;
-    let unwritten = write_text(out, &text);
-    Ok(causes_of(played, unwritten).status())
+    );
+    let unwritten = draft.finish(out);
+    causes_of(played, unwritten).status()
 }
 
 /// How many tasks committed, and how many were refused.
@@ -157,33 +149,48 @@ fn numbers(outcomes: &[Outcome]) -> (u64, u64)
     (committed, refused)
 }
 
-/// The line of a grown script.
-fn line(alloc: Global, tasks: u8, outcomes: &[Outcome], events: u64) -> Result<String, AllocError>
-    ensures { IfOk result (λ text. string_bytes text ≡ line_text tasks outcomes.now events) }
+/// What the run of a grown script came to.
+fn summary_of(tasks: u8, outcomes: &[Outcome], events: u64) -> Summary
+    ensures { summary_text result ++ codes "\n" ≡ line_text tasks outcomes.now events }
 {
     let (committed, refused) = numbers(outcomes);
-    let summary = Summary {
+    Summary {
         tasks: u64::from(tasks) + 1,
         committed,
         refused,
         events,
-    };
-    format!(in alloc; "{summary}\n")
+    }
 }
 
-/// Writes the line of a grown script whose run made so many operations, and tells the status. Without
-/// memory for it nothing is written.
+/// The line of a grown script.
+fn add_summary<K: Sink>(draft: &mut Draft, out: &mut K, summary: Summary)
+    ensures { Took draft.old (K.at out.old) (summary_text summary ++ codes "\n") draft.new (K.at out.new) }
+{
+    draft.add(out, b"tasks ");
+    draft.add_number(out, summary.tasks);
+    draft.add(out, b" committed ");
+    draft.add_number(out, summary.committed);
+    draft.add(out, b" refused ");
+    draft.add_number(out, summary.refused);
+    draft.add(out, b" events ");
+    draft.add_number(out, summary.events);
+    draft.add(out, b"\n");
+}
+
+/// Writes the line of a grown script whose run made so many operations, over a blank draft, and tells the status. It takes no
+/// memory.
 pub fn finish_grown<K: Sink>(
-    alloc: Global,
+    draft: Draft,
     tasks: u8,
     events: u64,
     played: &Played,
     out: &mut K,
-) -> Result<Status, AllocError>
-    ensures nothing { IfErr result (λ error. K.at out.new ≡ K.at out.old) }
-    ensures told { IfOk result (λ status. Told (λ text. text ≡ line_text tasks played.now.outcomes.items events) (refusals played.now.opening played.now.outcomes.items played.now.refs) (K.at out.old) (K.at out.new) status) }
+) -> Status
+    requires { IsBlank draft }
+    ensures { Told (λ text. text ≡ line_text tasks played.now.outcomes.items events) (refusals played.now.opening played.now.outcomes.items played.now.refs) (K.at out.old) (K.at out.new) result }
 {
-    let text = line(alloc, tasks, &played.outcomes, events)?;
-    let unwritten = write_text(out, text.as_bytes());
-    Ok(causes_of(played, unwritten).status())
+    let mut draft = draft;
+    add_summary(&mut draft, out, summary_of(tasks, &played.outcomes, events));
+    let unwritten = draft.finish(out);
+    causes_of(played, unwritten).status()
 }

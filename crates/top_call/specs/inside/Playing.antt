@@ -19,7 +19,7 @@ use Rattle.command_words.specs.declared.reading.Command.TheVariants as C
 use Rattle.command_words.specs.Help.{help_of, version_line}
 use Rattle.top_call.specs.declared.statuses.Status.{Status}
 use Rattle.top_call.specs.declared.statuses.Status.TheVariants as S
-use Rattle.top_call.specs.Telling.{IsText, Told, KeepsAll, IsRegular, HasCourse, refusals}
+use Rattle.top_call.specs.Telling.{IsText, Told, KeepsAll, IsRegular, refusals}
 use Rattle.top_call.specs.Run.{HasScript, HasFailed, HasFault, IsUntouched, Says}
 
 -- where the store tells its journal, and that is sound and the clients' ids are new to it, a run keeps the histories, and the
@@ -31,10 +31,10 @@ KeepsHistories draw script old new refs = IsTrue old.caller.tells → (before : 
 abbrev pub KeepsBranches : Draw → Script → View → View → Type 0
 KeepsBranches draw script old new = IsTrue old.caller.tells → (before : ℕ → Changes) → IsSound old.seen before → IsNewRun draw script.tasks old.seen → (start : List Event) × HasHistories draw script.tasks before old.seen start new.seen
 
--- Memory ran out before anything was written: behind all that was to be played, or before the first task.
+-- Memory ran out before the first task: nothing was written, and the repository was begun at most.
 pub record WasUntold (draw : Draw) (script : Script) (store_old store_new : View) (out_old out_new : OutputAt) : Type 0 where
   pub out : out_new ≡ out_old
-  pub came : HasCourse draw script store_old store_new ⊎ OnlyBegan store_old store_new
+  pub began : OnlyBegan store_old store_new
   pub histories : KeepsBranches draw script store_old store_new
 
 -- What was played by a command, and what was told of it: all tasks have ended, with these outcomes.
@@ -56,7 +56,7 @@ pub record WasRun (command : Command) (draw : Draw) (in_old in_new : InputAt) (s
   pub played : WasPlayed command draw script s t out_old out_new status
 
 -- A script was read when memory ran out. It was played and told (so that the status is that of a task that found no memory),
--- or nothing was written.
+-- or no task was played.
 pub record IsShort (command : Command) (draw : Draw) (in_old in_new : InputAt) (s t : View) (out_old out_new : OutputAt) : Type 0 where
   pub script : Script
   pub reads : HasScript command in_old in_new script

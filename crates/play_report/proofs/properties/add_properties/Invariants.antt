@@ -1,8 +1,9 @@
-use Rattle.std.proofs.Common.{◌≡◌, drop}
+use Rattle.std.proofs.Common.{take}
 use Rattle.std.specs.List.{flat_map}
 use Rattle.play_report.specs.Report.{property_line}
-use Rattle.play_report.specs.inside.Drafts.{added}
+use Rattle.drafts.specs.Drafts.{Took}
 use Rattle.play_report.proofs.properties.add_properties.Given as goal
 
+-- what has been added so far
 abbrev pub invariant-loop-at : goal.invariant-loop-at
-invariant-loop-at l = added l.out (flat_map (property_line l.name l.line) (drop l.at l.props)) ≡ added l.fn.out (flat_map (property_line l.name l.line) l.props)
+invariant-loop-at g l = Took l.fn.out (g.K.Sink.at l.fn.to) (flat_map (property_line l.name l.line) (take l.at l.props)) l.out (g.K.Sink.at l.to)

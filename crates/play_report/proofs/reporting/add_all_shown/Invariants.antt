@@ -1,8 +1,9 @@
-use Rattle.std.proofs.Common.{◌≡◌, drop}
+use Rattle.std.proofs.Common.{take}
 use Rattle.std.specs.List.{flat_map}
 use Rattle.play_report.specs.Report.{shown_lines}
-use Rattle.play_report.specs.inside.Drafts.{added}
+use Rattle.drafts.specs.Drafts.{Took}
 use Rattle.play_report.proofs.reporting.add_all_shown.Given as goal
 
+-- what has been added so far
 abbrev pub invariant-loop-shown : goal.invariant-loop-shown
-invariant-loop-shown l = added l.out (flat_map (shown_lines l.name) (drop l.shown-index l.all)) ≡ added l.fn.out (flat_map (shown_lines l.name) l.all)
+invariant-loop-shown g l = Took l.fn.out (g.K.Sink.at l.fn.to) (flat_map (shown_lines l.name) (take l.shown-index l.all)) l.out (g.K.Sink.at l.to)

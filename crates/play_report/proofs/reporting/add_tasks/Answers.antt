@@ -1,13 +1,13 @@
-use Rattle.std.proofs.Common.{List, ℕ, sym, ◌∙◌, ap}
-use Rattle.std.proofs.lemmas.Slice.Zip.{either_empty_from_Zip}
-use Rattle.std.specs.Iterator.Adapters.{zip_first, zip_second}
-use Rattle.std.specs.Slice.Iter.{iter_rest}
-use Rattle.play_report.specs.inside.Drafts.{added}
-use Rattle.play_report.proofs.Drafting.{added_none}
-use Rattle.play_report.proofs.Ended.{tasks_text-ended}
+use Rattle.std.proofs.Common.{arith}
+use Rattle.drafts.proofs.Taking.{took_as, took_none, took_on}
+use Rattle.play_report.proofs.Lines.{tasks-next, tasks-all}
 use Rattle.play_report.proofs.reporting.add_tasks.Goals as goal
 
+pub loop-place-init : goal.loop-place-init
+loop-place-init g c = took_none _ _
+
+pub loop-place-preserved : goal.loop-place-preserved
+loop-place-preserved g c = took_as (tasks-next (λ n. n.now) c.args.names.now c.args.outcomes.now c.loop-place.place _ c.index-outcomes-place.result (omega arith) (omega arith) c.index-outcomes-place.is) (took_on c.loop-place.invariant c.add_outcome.ensures)
+
 pub returns : goal.returns
-returns c =
-    let ended = tasks_text-ended (λ n. n.now) (iter_rest (zip_first c.loop-name.name-iterator)) (iter_rest (zip_second c.loop-name.name-iterator)) (either_empty_from_Zip c.loop-name.name-iterator c.next.new.self c.next.result c.in-None.is c.next.ensures.steps) in
-    sym (added_none c.loop-name.out) ∙ (sym (ap (λ (text : List ℕ). added c.loop-name.out text) ended) ∙ c.loop-name.invariant)
+returns g c = took_as (tasks-all (λ n. n.now) c.args.names.now c.args.outcomes.now c.loop-place.place (omega arith)) c.loop-place.invariant

@@ -1,11 +1,8 @@
-use Rattle.std.proofs.Common.{◌≡◌, map}
-use Rattle.std.specs.Iterator.Adapters.{zip_first, zip_second}
-use Rattle.std.specs.Slice.Iter.{iter_rest}
+use Rattle.std.proofs.Common.{take, map}
 use Rattle.play_report.specs.Report.{tasks_text}
-use Rattle.play_report.specs.inside.Drafts.{added}
+use Rattle.drafts.specs.Drafts.{Took}
 use Rattle.play_report.proofs.reporting.add_tasks.Given as goal
 
-abbrev pub invariant-loop-name : goal.invariant-loop-name
-invariant-loop-name l =
-    added l.out (tasks_text (map (λ n. n.now) (iter_rest (zip_first l.name-iterator))) (iter_rest (zip_second l.name-iterator)))
-    ≡ added l.fn.out (tasks_text (map (λ n. n.now) l.names) l.outcomes)
+-- what has been added so far
+abbrev pub invariant-loop-place : goal.invariant-loop-place
+invariant-loop-place g l = Took l.fn.out (g.K.Sink.at l.fn.to) (tasks_text (map (λ n. n.now) (take l.place l.names)) (take l.place l.outcomes)) l.out (g.K.Sink.at l.to)

@@ -1,8 +1,9 @@
-use Rattle.std.proofs.Common.{◌≡◌, drop}
+use Rattle.std.proofs.Common.{take}
 use Rattle.std.specs.List.{flat_map}
 use Rattle.play_report.specs.Report.{byte_text}
-use Rattle.play_report.specs.inside.Drafts.{added}
+use Rattle.drafts.specs.Drafts.{Took}
 use Rattle.play_report.proofs.texts.add_pairs.Given as goal
 
+-- what has been added so far
 abbrev pub invariant-loop-byte : goal.invariant-loop-byte
-invariant-loop-byte l = added l.out (flat_map byte_text (drop l.byte-index l.bytes)) ≡ added l.fn.out (flat_map byte_text l.bytes)
+invariant-loop-byte g l = Took l.fn.out (g.K.Sink.at l.fn.to) (flat_map byte_text (take l.byte-index l.bytes)) l.out (g.K.Sink.at l.to)

@@ -1,7 +1,7 @@
 use Rattle.std.proofs.Common.{refl}
 use Rattle.session.specs.Opening.{open_rest}
 use Rattle.play_tasks.specs.Playing.{after_open}
-use Rattle.play_tasks.proofs.Machines.{again-faults, stop-faults, well-faults}
+use Rattle.play_tasks.proofs.Machines.{again-faults, well-faults}
 use Rattle.play_tasks.proofs.steps.after_opening.Goals as goal
 
 pub returns-in-Ok-Again-clause-blames : goal.returns-in-Ok-Again-clause-blames

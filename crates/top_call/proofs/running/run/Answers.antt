@@ -68,13 +68,13 @@ pub returns-in-Ok-clause-spares_ours : goal.returns-in-Ok-clause-spares_ours
 returns-in-Ok-clause-spares_ours g c = of_said _ _ c.in-Ok.ensures.says (λ command. SparesOwn c.args.draw command (record { input = g.I.Source.at c.args.input.now; store = g.S.Viewed.view c.args.store; out = g.K.Sink.at c.args.out.now }) (record { input = g.I.Source.at c.run_command.new.input; store = g.S.Viewed.view c.run_command.result.store; out = g.K.Sink.at c.run_command.new.out }) c.run_command.result.status) (spares-own c.args.draw (record { input = g.I.Source.at c.args.input.now; store = g.S.Viewed.view c.args.store; out = g.K.Sink.at c.args.out.now }) (record { input = g.I.Source.at c.run_command.new.input; store = g.S.Viewed.view c.run_command.result.store; out = g.K.Sink.at c.run_command.new.out }) c.nothing_law.ensures c.in-Ok.command c.run_command.result.status c.run_command.ensures.ends)
 
 pub returns-in-Err-clause-promise : goal.returns-in-Err-clause-promise
-returns-in-Err-clause-promise g c = rw c.from.ensures (λ command k. starved (command_of c.args.words.now) c.in-Err.fault c.in-Err.ensures.says (λ status. KeepsSound c.args.draw command (record { input = g.I.Source.at c.args.input.now; store = g.S.Viewed.view c.args.store; out = g.K.Sink.at c.args.out.now }) (record { input = g.I.Source.at c.args.input.now; store = g.S.Viewed.view c.args.store; out = g.K.Sink.at c.args.out.now }) status) (inl refl) command k)
+returns-in-Err-clause-promise g c = rw c.from.ensures (λ command k. starved (command_of c.args.words.now) c.in-Err.fault c.in-Err.ensures.says (λ status. KeepsSound c.args.draw command (record { input = g.I.Source.at c.args.input.now; store = g.S.Viewed.view c.args.store; out = g.K.Sink.at c.args.out.now }) (record { input = g.I.Source.at c.args.input.now; store = g.S.Viewed.view c.args.store; out = g.K.Sink.at c.args.out.now }) status) (inl (record { out = refl; store = inl refl })) command k)
 
 pub returns-in-Err-clause-ours : goal.returns-in-Err-clause-ours
-returns-in-Err-clause-ours g c = rw c.from.ensures (λ command k. starved (command_of c.args.words.now) c.in-Err.fault c.in-Err.ensures.says (λ status. KeepsOwn c.args.draw command (record { input = g.I.Source.at c.args.input.now; store = g.S.Viewed.view c.args.store; out = g.K.Sink.at c.args.out.now }) (record { input = g.I.Source.at c.args.input.now; store = g.S.Viewed.view c.args.store; out = g.K.Sink.at c.args.out.now }) status) (inl refl) command k)
+returns-in-Err-clause-ours g c = rw c.from.ensures (λ command k. starved (command_of c.args.words.now) c.in-Err.fault c.in-Err.ensures.says (λ status. KeepsOwn c.args.draw command (record { input = g.I.Source.at c.args.input.now; store = g.S.Viewed.view c.args.store; out = g.K.Sink.at c.args.out.now }) (record { input = g.I.Source.at c.args.input.now; store = g.S.Viewed.view c.args.store; out = g.K.Sink.at c.args.out.now }) status) (inl (record { out = refl; store = inl refl })) command k)
 
 pub returns-in-Err-clause-spares : goal.returns-in-Err-clause-spares
-returns-in-Err-clause-spares g c = rw c.from.ensures (λ command k. starved (command_of c.args.words.now) c.in-Err.fault c.in-Err.ensures.says (λ status. SparesSound c.args.draw command (record { input = g.I.Source.at c.args.input.now; store = g.S.Viewed.view c.args.store; out = g.K.Sink.at c.args.out.now }) (record { input = g.I.Source.at c.args.input.now; store = g.S.Viewed.view c.args.store; out = g.K.Sink.at c.args.out.now }) status) (inl refl) command k)
+returns-in-Err-clause-spares g c = rw c.from.ensures (λ command k. starved (command_of c.args.words.now) c.in-Err.fault c.in-Err.ensures.says (λ status. SparesSound c.args.draw command (record { input = g.I.Source.at c.args.input.now; store = g.S.Viewed.view c.args.store; out = g.K.Sink.at c.args.out.now }) (record { input = g.I.Source.at c.args.input.now; store = g.S.Viewed.view c.args.store; out = g.K.Sink.at c.args.out.now }) status) (inl (record { out = refl; store = inl refl })) command k)
 
 pub returns-in-Err-clause-spares_ours : goal.returns-in-Err-clause-spares_ours
-returns-in-Err-clause-spares_ours g c = rw c.from.ensures (λ command k. starved (command_of c.args.words.now) c.in-Err.fault c.in-Err.ensures.says (λ status. SparesOwn c.args.draw command (record { input = g.I.Source.at c.args.input.now; store = g.S.Viewed.view c.args.store; out = g.K.Sink.at c.args.out.now }) (record { input = g.I.Source.at c.args.input.now; store = g.S.Viewed.view c.args.store; out = g.K.Sink.at c.args.out.now }) status) (inl refl) command k)
+returns-in-Err-clause-spares_ours g c = rw c.from.ensures (λ command k. starved (command_of c.args.words.now) c.in-Err.fault c.in-Err.ensures.says (λ status. SparesOwn c.args.draw command (record { input = g.I.Source.at c.args.input.now; store = g.S.Viewed.view c.args.store; out = g.K.Sink.at c.args.out.now }) (record { input = g.I.Source.at c.args.input.now; store = g.S.Viewed.view c.args.store; out = g.K.Sink.at c.args.out.now }) status) (inl (record { out = refl; store = inl refl })) command k)

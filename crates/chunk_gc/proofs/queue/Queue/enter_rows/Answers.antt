@@ -1,8 +1,6 @@
 use Rattle.std.proofs.Common.{List, ap, sym, ◌∙◌, arith}
 use Rattle.std.proofs.lemmas.List.{drop_all}
 use Rattle.snapshot_file.specs.declared.nodes.NodeRow.{NodeRow}
-use Rattle.snapshot_file.specs.declared.nodes.NodeKind.{NodeKind}
-use Rattle.snapshot_file.specs.Snapshots.{manifests_named}
 use Rattle.held_snapshot.proofs.Made.{from_here}
 use Rattle.chunk_gc.specs.Lines.{enter_rows}
 use Rattle.chunk_gc.proofs.queue.Queue.enter_rows.Goals as goal
@@ -10,8 +8,7 @@ use Rattle.chunk_gc.proofs.queue.Queue.enter_rows.Goals as goal
 pub loop-at-preserved : goal.loop-at-preserved
 loop-at-preserved c =
     let here = ap (λ (rows : List NodeRow). enter_rows rows c.loop-at.self) (from_here c.args.rows.now c.loop-at.at c.at.result c.at.ensures) in
-    let named = c.manifests.ensures ∙ ap (λ (kind : NodeKind). manifests_named kind) c.kind.ensures in
-    rw (c.in_ok-enter_refs.ensures, named) (sym here ∙ c.loop-at.invariant)
+    rw (c.in_ok-enter_refs.ensures, c.manifests.ensures) (sym here ∙ c.loop-at.invariant)
 
 pub returns : goal.returns
 returns c = ap (λ (rows : List NodeRow). enter_rows rows c.loop-at.self) (sym (drop_all c.loop-at.at c.args.rows.now (omega (arith, c.len-at-end.ensures.count)))) ∙ c.loop-at.invariant

@@ -1,5 +1,4 @@
 use Rattle.std.proofs.Common.{◌≡◌, ◌∙◌, None, Some, ap, sym}
-use Rattle.snapshot_file.specs.declared.snapshot.SnapshotFile.{SnapshotFile}
 use Rattle.expiry.specs.Looks.{next_of, look_below}
 use Rattle.expiry.proofs.StepsLook.{below-ends, below-deep, below-live, state-over}
 use Rattle.expiry.proofs.look.Look.walk_on.Goals as goal

@@ -1,0 +1,5 @@
+pub mod Planned
+pub mod Entered
+pub mod Looking
+pub mod Going
+pub mod Taking

@@ -1,0 +1,4 @@
+pub mod Cells
+pub mod Planning
+pub mod Reading
+pub mod Getting

@@ -1,0 +1,35 @@
+//! Plans of what is read.
+
+ghost use Rattle.array_region.specs.Getting.{Plans};
+
+use crate::plans::{Plan, Region, counted};
+use session::Session;
+use std::alloc::Global;
+use store_api::Refusal;
+use zarr_tree::grid_law;
+
+/// What is to be read.
+pub(crate) fn planned(alloc: Global, session: &Session, region: Region) -> Result<Plan, Refusal>
+    ensures { Plans session.now region result }
+{
+    grid_law();
+    let found = match session.find_array(&region.path) {
+        Ok(found) => found,
+        Err(why) => return Err(why),
+    };
+    let count = match counted(found.array, &region) {
+        Ok(count) => count,
+        Err(why) => return Err(why),
+    };
+    let Ok(array) = found.array.copy(alloc) else {
+        drop(region);
+        return Err(Refusal::NoMemory);
+    };
+    let node = found.node;
+    Ok(Plan {
+        node,
+        array,
+        region,
+        count,
+    })
+}

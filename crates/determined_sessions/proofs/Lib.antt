@@ -1,0 +1,5 @@
+mod Commits
+mod Sessions
+mod Firsts
+mod Solved
+mod Trees

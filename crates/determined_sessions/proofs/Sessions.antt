@@ -1,0 +1,101 @@
+-- The sessions of tasks are determined.
+use Rattle.std.proofs.Common.{◌≡◌, ◌⊎◌, inl, inr, ℕ, ◌≤◌, List, [], ◌∷◌, ◌++◌, length, Some, Result, Ok, sym, ◌∙◌, ap, subst, arith}
+use Rattle.ice_ids.specs.declared.Id12.{Id12}
+use Rattle.manifest_file.specs.declared.manifest.Place.TheVariants.{Inline, Object}
+use Rattle.repo_objects.specs.Readings.{snapshot_by}
+use Rattle.object_store.specs.declared.events.Event.{Event}
+use Rattle.store_api.specs.declared.machines.Refusal.{Refusal}
+use Rattle.session.specs.Sessions.{SessionState}
+use Rattle.session.specs.Chunks.{most_inline, with_chunk, after_draw}
+use Rattle.session.specs.Opening.{Asked, begun}
+use Rattle.chunk_calls.specs.Told.{WasSet, WasPutOut}
+use Rattle.commit_path.specs.Opened.{WasBegun}
+use Rattle.play_script.specs.declared.scripts.Access.{Access}
+use Rattle.play_script.specs.declared.scripts.Head.TheVariants.{Session}
+use Rattle.play_script.specs.declared.scripts.Line.{Line}
+use Rattle.play_outcome.specs.declared.outcome.Shown.{Shown}
+use Rattle.play_tasks.specs.Lines.{Deed, Goes, Sets, Reads, Commits, deed}
+use Rattle.play_tasks.specs.Playing.{asked_by}
+use Rattle.play_tasks.specs.Solving.{DidPlay, PlaysAll}
+use Rattle.determined_sessions.specs.Sessions.{LinesLaw, SessionsLaw}
+
+some-same : {A : Type 0} (a b : A) → Some a ≡ Some b → a ≡ b
+some-same a b e = cc
+
+went-same : (r : Result (List Shown × SessionState) Refusal) (a b : List Shown × SessionState) → r ≡ Ok a → r ≡ Ok b → a ≡ b
+went-same r a b e f = cc
+
+cons-head : (k l : Line) (ks ls : List Line) → k ∷ ks ≡ l ∷ ls → k ≡ l
+cons-head k l ks ls e = cc
+
+cons-tail : (k l : Line) (ks ls : List Line) → k ∷ ks ≡ l ∷ ls → ks ≡ ls
+cons-tail k l ks ls e = cc
+
+-- ---- lines
+-- a short chunk stands in the session, and a long one in an object under the next id
+set-one : (client other : ℕ) (s : SessionState) (path index bytes : List ℕ) (t u : SessionState) (start journal begun whole : List Event) → WasSet client s path index bytes t start journal → WasSet other s path index bytes u begun whole → t ≡ u
+set-one client other s path index bytes t u start journal begun whole p q = by_case p.is q.is
+  where
+    by_case : ((length bytes ≤ most_inline) × (t ≡ with_chunk s path index (Inline bytes))) ⊎ WasPutOut client s path index bytes t start journal
+        → ((length bytes ≤ most_inline) × (u ≡ with_chunk s path index (Inline bytes))) ⊎ WasPutOut other s path index bytes u begun whole → t ≡ u
+    by_case (inl a) (inl b) = a.1 ∙ sym b.1
+    by_case (inl a) (inr b) = let short = a.0 in let long = b.long in absurd (omega (arith, short, long))
+    by_case (inr a) (inl b) = let short = b.0 in let long = a.long in absurd (omega (arith, short, long))
+    by_case (inr a) (inr b) =
+        let id : a.id ≡ b.id = some-same a.id b.id (sym a.drawn ∙ b.drawn) in
+        a.is ∙ ap (λ (k : Id12). with_chunk (after_draw s) path index (Object k 0 (length bytes))) id ∙ sym b.is
+
+did-one : (client other : ℕ) (d : Deed) (s t u : SessionState) (start journal begun whole : List Event) (shown told : List Shown) → DidPlay client d s start shown t journal → DidPlay other d s begun told u whole → t ≡ u
+did-one client other (Goes went) s t u start journal begun whole shown told p q = ap (λ (x : List Shown × SessionState). x.1) (went-same went (shown, t) (told, u) p q)
+did-one client other (Sets path index bytes) s t u start journal begun whole shown told p q = set-one client other s path index bytes t u start journal begun whole p.1 q.1
+did-one client other (Reads path index show) s t u start journal begun whole shown told p q = p.0 ∙ sym q.0
+did-one client other (Commits message) s t u start journal begun whole shown told p q = absurd p
+
+pub lines-law : LinesLaw
+unfolding PlaysAll
+lines-law client other [] s t u start journal begun whole shown told p q = p.1 ∙ sym q.1
+lines-law client other (l ∷ ls) s t u start journal begun whole shown told p q =
+    let mid : p.2 ≡ q.2 = did-one client other (deed l.number l.call s) s p.2 q.2 start journal begun whole p.0 q.0 p.4 q.4 in
+    lines-law client other ls q.2 t u start journal begun whole p.1 q.1 (subst (λ (m : SessionState). PlaysAll client ls m start p.1 t journal) mid p.5) q.5
+
+-- ---- to the line that commits
+-- no line before it commits, so in one body it is one line
+came-one : (client other : ℕ) (xs ys : List Line) (x y : Line) (left rest : List Line) (o s t : SessionState) (start journal begun whole : List Event) (shown told : List Shown) (message text : List ℕ) → xs ++ x ∷ left ≡ ys ++ y ∷ rest
+    → PlaysAll client xs o start shown s journal → PlaysAll other ys o begun told t whole → deed x.number x.call s ≡ Commits message → deed y.number y.call t ≡ Commits text → s ≡ t
+unfolding PlaysAll
+came-one client other [] [] x y left rest o s t start journal begun whole shown told message text e p q f g = p.1 ∙ sym q.1
+came-one client other [] (k ∷ ys) x y left rest o s t start journal begun whole shown told message text e p q f g =
+    let head : x ≡ k = cons-head x k left (ys ++ y ∷ rest) e in
+    let is : deed k.number k.call o ≡ Commits message = ap (λ (l : Line). deed l.number l.call o) (sym head) ∙ ap (deed x.number x.call) (sym p.1) ∙ f in
+    absurd (subst (λ (d : Deed). DidPlay other d o begun q.0 q.2 whole) is q.4)
+came-one client other (k ∷ xs) [] x y left rest o s t start journal begun whole shown told message text e p q f g =
+    let head : k ≡ y = cons-head k y (xs ++ x ∷ left) rest e in
+    let is : deed k.number k.call o ≡ Commits text = ap (λ (l : Line). deed l.number l.call o) head ∙ ap (deed y.number y.call) (sym q.1) ∙ g in
+    absurd (subst (λ (d : Deed). DidPlay client d o start p.0 p.2 journal) is p.4)
+came-one client other (k ∷ xs) (l ∷ ys) x y left rest o s t start journal begun whole shown told message text e p q f g =
+    let head : l ≡ k = sym (cons-head k l (xs ++ x ∷ left) (ys ++ y ∷ rest) e) in
+    let tail : xs ++ x ∷ left ≡ ys ++ y ∷ rest = cons-tail k l (xs ++ x ∷ left) (ys ++ y ∷ rest) e in
+    let did : DidPlay other (deed k.number k.call o) o begun q.0 q.2 whole = subst (λ (z : Line). DidPlay other (deed z.number z.call o) o begun q.0 q.2 whole) head q.4 in
+    let mid : p.2 ≡ q.2 = did-one client other (deed k.number k.call o) o p.2 q.2 start journal begun whole p.0 q.0 p.4 did in
+    came-one client other xs ys x y left rest q.2 s t start journal begun whole p.1 q.1 message text tail (subst (λ (m : SessionState). PlaysAll client xs m start p.1 s journal) mid p.5) q.5 f g
+
+-- ---- where a session begins
+pub access-same : (a b : Access) → Session a ≡ Session b → a ≡ b
+access-same a b e = cc
+
+pub begun-one : (client : ℕ) (a : Asked) (s t : SessionState) (start journal whole : List Event) (x : WasBegun client a s start journal) (y : WasBegun client a t start whole) → x.named ≡ y.named → x.bytes ≡ y.bytes → s ≡ t
+begun-one client a s t start journal whole x y named bytes =
+    let first : snapshot_by x.named.id x.bytes ≡ Some x.snap = ap (λ (i : Id12). snapshot_by i x.bytes) (sym x.base) ∙ x.read in
+    let second : snapshot_by y.named.id y.bytes ≡ Some y.snap = ap (λ (i : Id12). snapshot_by i y.bytes) (sym y.base) ∙ y.read in
+    let snap : x.snap ≡ y.snap = some-same x.snap y.snap (sym first ∙ (λ i. snapshot_by ((named i).id) (bytes i)) ∙ second) in
+    x.begins ∙ (λ i. begun a (named i) (snap i)) ∙ sym y.begins
+
+pub sessions-law : SessionsLaw
+sessions-law ids task client start journal whole t u id other a b named bytes =
+    let access : a.access ≡ b.access = access-same a.access b.access (sym a.head_is ∙ b.head_is) in
+    let opened : a.opened ≡ b.opened =
+    subst (λ (x : Access). (y : WasBegun client (asked_by x ids) b.opened start whole) → a.begun.named ≡ y.named → a.begun.bytes ≡ y.bytes → a.opened ≡ b.opened) access
+    (λ y n m. begun-one client (asked_by a.access ids) a.opened b.opened start journal whole a.begun y n m) b.begun named bytes
+    in
+    came-one client client a.came.played b.came.played a.came.line b.came.line a.came.left b.came.left b.opened a.session b.session start journal start whole a.came.shown b.came.shown a.came.message b.came.message (sym a.came.body_is ∙ b.came.body_is)
+    (subst (λ (o : SessionState). PlaysAll client a.came.played o start a.came.shown a.session journal) opened a.came.plays) b.came.plays a.came.commits b.came.commits

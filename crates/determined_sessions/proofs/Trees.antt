@@ -1,0 +1,138 @@
+-- What lines do is determined, and what is left of changes, in words of trees.
+use Rattle.std.proofs.Common.{◌≡◌, ℕ, List, [], ◌∷◌, ◌++◌, Option, Some, None, Result, Ok, refl, sym, ◌∙◌, ap, subst}
+use Rattle.std.specs.Cmp.{both_ways}
+use Rattle.ice_ids.specs.declared.Id8.{Id8}
+use Rattle.ice_ids.specs.declared.Id12.{Id12}
+use Rattle.zarr_path.specs.Keys.{key_of}
+use Rattle.zarr_path.specs.declared.keys.ZarrKey.{ZarrKey}
+use Rattle.zarr_path.specs.declared.keys.ZarrKey.TheVariants as K
+use Rattle.zarr_tree.specs.declared.edit.EditFault.{EditFault}
+use Rattle.zarr_tree.specs.Nodes.{Node}
+use Rattle.zarr_tree.specs.Trees.{Tree, node_at}
+use Rattle.zarr_tree.specs.Changes.{Changes}
+use Rattle.zarr_tree.specs.Conflicts.{without}
+use Rattle.zarr_tree.specs.Edits.{Edit, Add, SetMeta, Drop, Set, Unset, change}
+use Rattle.zarr_meta.specs.Plain.{group_text}
+use Rattle.conflicts.specs.declared.solving.Policy.{Policy}
+use Rattle.rebase.specs.Along.{Link}
+use Rattle.rebase.specs.AlongLaws.{Passes}
+use Rattle.play_script.specs.declared.scripts.EditCall.{EditCall}
+use Rattle.play_script.specs.declared.scripts.EditCall.TheVariants as E
+use Rattle.play_script.specs.declared.scripts.Call.{Call}
+use Rattle.play_script.specs.declared.scripts.Call.TheVariants as C
+use Rattle.play_outcome.specs.declared.outcome.Shown.{Shown}
+use Rattle.run_promise.specs.Lines.{text_put, key_put, key_erase, edit_of, Does, Plays}
+use Rattle.run_promise.specs.Ways.{Carried, stays, over}
+use Rattle.determined_sessions.specs.Trees.{id_added, id_given, ids_given, PlaysLaw, links_of, CarriedLaw}
+
+some-same : {A : Type 0} (a b : A) → Some a ≡ Some b → a ≡ b
+some-same a b e = cc
+
+tree-same : (r : Result Tree EditFault) (t u : Tree) → r ≡ Ok t → r ≡ Ok u → t ≡ u
+tree-same r t u e f = cc
+
+-- ---- one line
+-- the edits are one, and so are the ids behind theirs
+abbrev Same : (m n : Edit) (xs ys : List Id8) → Type 0
+Same m n xs ys = (m ≡ n) × (xs ≡ ys)
+
+adds-same : (path text : List ℕ) (id other : Id8) (m n : Edit) (xs ys : List Id8) → Some (Add path id text) ≡ Some m → Some (Add path other text) ≡ Some n → id_added m ++ xs ≡ id_added n ++ ys → Same m n xs ys
+adds-same path text id other m n xs ys e f h =
+    let first : Add path id text ≡ m = some-same (Add path id text) m e in
+    let second : Add path other text ≡ n = some-same (Add path other text) n f in
+    let ids : id ∷ xs ≡ other ∷ ys = ap (λ (k : Edit). id_added k ++ xs) first ∙ h ∙ sym (ap (λ (k : Edit). id_added k ++ ys) second) in
+    let one : id ≡ other = cc in
+    let more : xs ≡ ys = cc in
+    (sym first ∙ ap (λ (k : Id8). Add path k text) one ∙ second, more)
+
+-- an edit that adds no node
+plain-same : (o : Edit) → id_added o ≡ [] → (m n : Edit) (xs ys : List Id8) → Some o ≡ Some m → Some o ≡ Some n → id_added m ++ xs ≡ id_added n ++ ys → Same m n xs ys
+plain-same o none m n xs ys e f h =
+    let first : o ≡ m = some-same o m e in
+    let second : o ≡ n = some-same o n f in
+    (sym first ∙ second, sym (ap (λ (ids : List Id8). ids ++ xs) none) ∙ ap (λ (k : Edit). id_added k ++ xs) first ∙ h ∙ sym (ap (λ (k : Edit). id_added k ++ ys) second) ∙ ap (λ (ids : List Id8). ids ++ ys) none)
+
+text-put-same : (there : Option Node) (path text : List ℕ) (id other : Id8) (m n : Edit) (xs ys : List Id8) → Some (text_put there id path text) ≡ Some m → Some (text_put there other path text) ≡ Some n → id_added m ++ xs ≡ id_added n ++ ys → Same m n xs ys
+text-put-same None path text id other m n xs ys e f h = adds-same path text id other m n xs ys e f h
+text-put-same (Some node) path text id other m n xs ys e f h = plain-same (SetMeta path text) refl m n xs ys e f h
+
+key-put-same : (key : Option ZarrKey) (bytes : List ℕ) (t : Tree) (id other : Id8) (m n : Edit) (xs ys : List Id8) → key_put key id bytes t ≡ Some m → key_put key other bytes t ≡ Some n → id_added m ++ xs ≡ id_added n ++ ys → Same m n xs ys
+key-put-same None bytes t id other m n xs ys e f h = absurd cc
+key-put-same (Some (K.Meta path)) bytes t id other m n xs ys e f h = text-put-same (node_at t path) path bytes id other m n xs ys e f h
+key-put-same (Some (K.Chunk path index)) bytes t id other m n xs ys e f h = plain-same (Set path index bytes) refl m n xs ys e f h
+
+key-erase-same : (key : Option ZarrKey) (m n : Edit) (xs ys : List Id8) → key_erase key ≡ Some m → key_erase key ≡ Some n → id_added m ++ xs ≡ id_added n ++ ys → Same m n xs ys
+key-erase-same None m n xs ys e f h = absurd cc
+key-erase-same (Some (K.Meta path)) m n xs ys e f h = plain-same (Drop path) refl m n xs ys e f h
+key-erase-same (Some (K.Chunk path index)) m n xs ys e f h = plain-same (Unset path index) refl m n xs ys e f h
+
+edit-same : (edit : EditCall) (t : Tree) (id other : Id8) (m n : Edit) (xs ys : List Id8) → edit_of edit id t ≡ Some m → edit_of edit other t ≡ Some n → id_added m ++ xs ≡ id_added n ++ ys → Same m n xs ys
+edit-same (E.Group path) t id other m n xs ys e f h = adds-same path group_text id other m n xs ys e f h
+edit-same (E.Array path text) t id other m n xs ys e f h = adds-same path text id other m n xs ys e f h
+edit-same (E.Make path text) t id other m n xs ys e f h = adds-same path text id other m n xs ys e f h
+edit-same (E.Meta path text) t id other m n xs ys e f h = plain-same (SetMeta path text) refl m n xs ys e f h
+edit-same (E.Drop path) t id other m n xs ys e f h = plain-same (Drop path) refl m n xs ys e f h
+edit-same (E.Set path index bytes) t id other m n xs ys e f h = plain-same (Set path index bytes) refl m n xs ys e f h
+edit-same (E.Fill path index byte) t id other m n xs ys e f h = plain-same (Set path index _) refl m n xs ys e f h
+edit-same (E.Unset path index) t id other m n xs ys e f h = plain-same (Unset path index) refl m n xs ys e f h
+edit-same (E.KeySet key bytes) t id other m n xs ys e f h = key-put-same (key_of key) bytes t id other m n xs ys e f h
+edit-same (E.KeyErase key) t id other m n xs ys e f h = key-erase-same (key_of key) m n xs ys e f h
+
+-- what one line shows, the tree behind it, and the ids behind its own
+abbrev Alike : (shown told : List Shown) (u v : Tree) (xs ys : List Id8) → Type 0
+Alike shown told u v xs ys = (shown ≡ told) × (u ≡ v) × (xs ≡ ys)
+
+does-same : (line : ℕ) (call : Call) (t : Tree) (shown told : List Shown) (u v : Tree) (p : Does line call t shown u) (q : Does line call t told v) (xs ys : List Id8)
+    → id_given line call t shown u p ++ xs ≡ id_given line call t told v q ++ ys → Alike shown told u v xs ys
+does-same line (C.Edit edit) t shown told u v p q xs ys h =
+    let one = edit-same edit t p.id q.id p.made q.made xs ys p.asked q.asked h in
+    (p.silent ∙ sym q.silent, tree-same (change t q.made) u v (ap (change t) (sym one.0) ∙ p.changed) q.changed, one.1)
+does-same line (C.Read read) t shown told u v p q xs ys h = (some-same shown told (sym p.0 ∙ q.0), p.1 ∙ sym q.1, h)
+does-same line (C.Commit message) t shown told u v p q xs ys h = absurd p
+does-same line (C.Ref call) t shown told u v p q xs ys h = (p.0 ∙ sym q.0, p.1 ∙ sym q.1, h)
+does-same line (C.Prop name value) t shown told u v p q xs ys h = (p.0 ∙ sym q.0, p.1 ∙ sym q.1, h)
+
+-- ---- lines
+pub plays-law : PlaysLaw
+unfolding Plays ids_given
+plays-law [] t shown told u v p q h = (p.0 ∙ sym q.0, p.1 ∙ sym q.1)
+plays-law (l ∷ ls) t shown told u v p q h =
+    let one = does-same l.number l.call t p.0 q.0 p.2 q.2 p.4 q.4 (ids_given ls p.2 p.1 u p.5) (ids_given ls q.2 q.1 v q.5) h in
+    let more =
+    subst (λ (m : Tree). (r : Plays ls m q.1 v) → ids_given ls p.2 p.1 u p.5 ≡ ids_given ls m q.1 v r → (p.1 ≡ q.1) × (u ≡ v)) one.1
+    (λ r k. plays-law ls p.2 p.1 q.1 u v p.5 r k) q.5 one.2
+    in
+    (p.3 ∙ (λ i. one.0 i ++ more.0 i) ∙ sym q.3, more.1)
+
+-- ---- the commits of others
+pass-one : (policy : Policy) (c : Changes) (l : Link) (t u : Tree) (d e : Changes) → Passes policy c l t u d → Passes policy c l t u e → d ≡ e
+pass-one policy c l t u d e a b =
+    a.rest
+    ∙ (λ z. without c (λ id i. both_ways (a.out id i) (b.out id i) (λ k. (b.given_up id i).1 ((a.given_up id i).0 k)) (λ k. (a.given_up id i).1 ((b.given_up id i).0 k)) z))
+    ∙ sym b.rest
+
+none-some : (l : Link) (ls : List Link) → [] ≡ l ∷ ls → ⊥
+none-some l ls e = cc
+
+cons-head : (k l : Link) (ks ls : List Link) → k ∷ ks ≡ l ∷ ls → k ≡ l
+cons-head k l ks ls e = cc
+
+cons-tail : (k l : Link) (ks ls : List Link) → k ∷ ks ≡ l ∷ ls → ks ≡ ls
+cons-tail k l ks ls e = cc
+
+carried-one : {trees : Id12 → Option Tree} {policy : Policy} {base head other : Id12} {c e f : Changes} (a : Carried trees policy base c head e) (b : Carried trees policy base c other f) → links_of a ≡ links_of b → (head ≡ other) × (e ≡ f)
+unfolding links_of
+carried-one stays stays h = (refl, refl)
+carried-one stays (over l was is follows passes more) h = absurd (none-some l (links_of more) h)
+carried-one (over l was is follows passes more) stays h = absurd (none-some l (links_of more) (sym h))
+carried-one {trees} {policy} {base} {head} {other} {c} {e} {f} (over {d = d} {t = t} {u = u} l was is follows passes more) (over {d = g} {t = v} {u = w} k has at after goes rest) h =
+    let link : l ≡ k = cons-head l k (links_of more) (links_of rest) h in
+    let earlier : v ≡ t = some-same v t (sym has ∙ was) in
+    let later : w ≡ u = some-same w u (sym at ∙ ap (λ (x : Link). trees x.file.id) (sym link) ∙ is) in
+    let passed : Passes policy c l t u g = subst (λ (x : Link). Passes policy c x t u g) (sym link) (subst (λ (x : Tree). Passes policy c k t x g) later (subst (λ (x : Tree). Passes policy c k x w g) earlier goes)) in
+    let left : d ≡ g = pass-one policy c l t u d g passes passed in
+    subst (λ (x : Link). (r : Carried trees policy x.file.id g other f) → links_of more ≡ links_of r → (head ≡ other) × (e ≡ f)) link
+    (subst (λ (x : Changes). (r : Carried trees policy l.file.id x other f) → links_of more ≡ links_of r → (head ≡ other) × (e ≡ f)) left (λ r m. carried-one more r m)) rest (cons-tail l k (links_of more) (links_of rest) h)
+
+pub carried-law : CarriedLaw
+carried-law trees policy base head other c e f a b h = carried-one a b h

@@ -1,9 +1,0 @@
-use Rattle.std.proofs.Common.{◌≡◌, ◌++◌, take}
-use Rattle.std.specs.Prelude.{vec_capacity}
-use Rattle.play_report.proofs.drafts.push_all.Given as goal
-
-abbrev pub invariant-loop-byte : goal.invariant-loop-byte
-invariant-loop-byte l = record {
-  items : l.kept.items ≡ l.fn.kept.items ++ take l.byte-index l.bytes;
-  room : vec_capacity l.kept ≡ vec_capacity l.fn.kept;
-}

@@ -1,0 +1,5 @@
+use Rattle.drafts.proofs.Taking.{◌then◌}
+use Rattle.play_report.proofs.texts.add_doubt.Goals as goal
+
+pub returns : goal.returns
+returns g c = c.add.ensures then c.add_id.ensures then c.add-2.ensures then c.add_how.ensures

@@ -1,0 +1,5 @@
+use Rattle.drafts.proofs.Taking.{◌then◌}
+use Rattle.play_report.proofs.words.add_object.Goals as goal
+
+pub returns : goal.returns
+returns g c = c.add_text.ensures then c.add_id.ensures
