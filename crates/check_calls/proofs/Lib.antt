@@ -1,0 +1,13 @@
+pub mod Lists
+pub mod Steady
+pub mod Own
+pub mod Replies
+pub mod Rows
+pub mod Trees
+pub mod Chains
+pub mod Leads
+pub mod Course
+pub mod Sound
+pub mod Still
+pub mod Failing
+pub mod Telling

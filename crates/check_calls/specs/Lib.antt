@@ -1,0 +1,4 @@
+pub mod Whole
+pub mod Beside
+pub mod Told
+pub mod Laws

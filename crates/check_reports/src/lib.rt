@@ -1,0 +1,6 @@
+//! What checks report.
+#![tactic(auto)]
+
+mod faults;
+
+pub use faults::{CheckFault, CheckFaults, Checked, FaultKind};

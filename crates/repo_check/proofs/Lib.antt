@@ -1,0 +1,13 @@
+pub mod Sets
+pub mod Made
+pub mod Settling
+pub mod Keeping
+pub mod Going
+pub mod Walking
+pub mod Ending
+pub mod Playing
+pub mod Journals
+pub mod Stepping
+pub mod Acting
+pub mod Telling
+pub mod Answering
