@@ -143,6 +143,37 @@ printf 'task a write main 0 fail\ngroup /new\ncommit never\ntask r read tag v1\n
 same 'a full directory' "a refused 3 storefault|r 5 chunk 0102|r done|branch main $head|tag v1 $head|icerepo: write \"d/\$KEY\": File too large (os error 27)|icerepo: store fault|6|" "$(sed 's|"d/[^"]*"|"d/$KEY"|' printed | tr '\n' '|')"
 same 'it stands as it did' "$before" "$(contents d)"
 
+# A check names exactly the object that is damaged: gone, a byte short, with the bytes of another one, or of none. The longest object has
+# chunks, so that the bytes of each other one are fewer than it needs.
+mkdir whole
+printf 'task a write main 0 fail\ngroup /\narray /x uint8 1200 600 0\narray /y uint8 4 2 0\narray /z uint8 50000 50000 0\nfill /x 1 07\nset /y 0 0102\nfill /z 0 08\ncommit one\n' >given
+printf 'task b write main 0 fail\nfill /x 0 09\nset /y 1 0304\ncommit two\ntask t refs\ntag v1 branch main\nturns\n' >>given
+call play --dir whole >/dev/null
+same 'a repository to check' 0 "$(cat said)"
+same 'nothing is wrong' 'check checked 3 3|0|' "$(call check --dir whole)"
+checked() {
+    same "$1 is found" "check $2 $1|check refused 0 unsound 1|1|" "$(call check --dir harmed)"
+    rm -rf harmed
+}
+(cd whole && find snapshots transactions manifests chunks -type f) | sort >objects
+same 'its objects' 13 "$(wc -l <objects | tr -d ' ')"
+while read -r key; do
+    cp -r whole harmed && rm "harmed/$key"
+    checked "$key" absent
+    cp -r whole harmed && head -c -1 "whole/$key" >"harmed/$key"
+    checked "$key" bad
+    cp -r whole harmed && echo text >"harmed/$key"
+    checked "$key" bad
+    for other in $(grep -v "^$key\$" objects); do
+        case $key in
+            chunks/*) [ "$(wc -c <"whole/$other")" -lt "$(wc -c <"whole/$key")" ] || continue ;;
+        esac
+        cp -r whole harmed && cat "whole/$other" >"harmed/$key"
+        checked "$key" bad
+        break
+    done
+done <objects
+
 # A script that is made from a number.
 mkdir grown
 : >given

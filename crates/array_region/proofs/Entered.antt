@@ -1,11 +1,10 @@
 -- The numbers of a chunk that was read.
-use Rattle.std.proofs.Common.{◌≡◌, ℕ, ℤ, Bool, true, false, cond, List, length, refl, sym, ◌∙◌, ap, eqb-true}
-use Rattle.std.specs.Prelude.{◌==◌, ◌&&◌, nat_eq}
-use Rattle.zarr_meta.specs.declared.kinds.IntKind.{IntKind}
+use Rattle.std.proofs.Common.{◌≡◌, ℕ, ℤ, true, false, cond, List, length, sym, ◌∙◌, ap, eqb-true}
+use Rattle.std.specs.Prelude.{◌&&◌, nat_eq}
 use Rattle.zarr_tree.specs.Nodes.{chunk_length}
 use Rattle.zarr_tree.proofs.Apply.{first, second}
 use Rattle.session.specs.declared.chunks.Value.{Value}
-use Rattle.session.specs.declared.chunks.Value.TheVariants.{Held, Fill}
+use Rattle.session.specs.declared.chunks.Value.TheVariants.{Held}
 use Rattle.region_cells.specs.Boxes.{count_of}
 use Rattle.region_cells.specs.Parts.{ReadsPart}
 use Rattle.region_cells.specs.Walks.{with_part}

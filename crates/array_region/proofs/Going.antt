@@ -1,10 +1,10 @@
 -- Reading one chunk after another.
-use Rattle.std.proofs.Common.{◌≡◌, ◌≤◌, ◌<◌, ◌+◌, ◌-◌, ◌*◌, ◌^◌, ℕ, ℤ, false, List, [], ◌∷◌, ◌++◌, length, take, drop, get_or, append-nil, take_all, refl, sym, ◌∙◌, ap, subst, arith}
-use Rattle.std.specs.Prelude.{Option, Some, None, Result, Ok, Err}
+use Rattle.std.proofs.Common.{◌≡◌, ◌≤◌, ◌<◌, ◌+◌, ◌-◌, ◌^◌, ℕ, ℤ, List, [], ◌∷◌, ◌++◌, length, take, drop, get_or, append-nil, take_all, refl, sym, ◌∙◌, ap, subst, arith}
+use Rattle.std.specs.Prelude.{Ok, Err}
 use Rattle.zarr_tree.specs.Nodes.{chunk_length}
 use Rattle.store_api.specs.declared.machines.Refusal.{Refusal}
 use Rattle.store_api.specs.Program.{Done, Ask, IsAsk, IsDone}
-use Rattle.store_api.specs.Running.{Program, ◌>>=◌}
+use Rattle.store_api.specs.Running.{Program}
 use Rattle.session.specs.declared.chunks.Value.{Value}
 use Rattle.session.specs.Sessions.{SessionState}
 use Rattle.session.specs.inside.Working.{LandsCalmly}

@@ -3,3 +3,9 @@ pub mod Entered
 pub mod Looking
 pub mod Going
 pub mod Taking
+pub mod Ranged
+pub mod Objects
+pub mod Writes
+pub mod RunTaking
+pub mod Started
+pub mod Written

@@ -1,6 +1,6 @@
 -- Looks for a chunk in lists of manifests.
-use Rattle.std.proofs.Common.{◌≡◌, ◌≤◌, ◌<◌, ◌+◌, ◌-◌, ℕ, zero, suc, Bool, true, false, cond, List, [], ◌∷◌, length, drop, get_or, refl, sym, ◌∙◌, ap, subst, arith}
-use Rattle.std.specs.Prelude.{Option, Some, None, Result, Ok, Err}
+use Rattle.std.proofs.Common.{◌≡◌, ◌≤◌, ◌<◌, ◌+◌, ℕ, zero, suc, Bool, true, false, cond, List, [], ◌∷◌, length, drop, get_or, refl, sym, ◌∙◌, ap, subst, arith}
+use Rattle.std.specs.Prelude.{Some, None, Result, Ok, Err}
 use Rattle.ice_ids.specs.declared.Id12.{Id12}
 use Rattle.ice_ids.specs.Text.{same_id12}
 use Rattle.ice_ids.proofs.TextLaws.{same_id12-true}
@@ -12,10 +12,9 @@ use Rattle.store_api.specs.declared.machines.Refusal.{Refusal}
 use Rattle.store_api.specs.Program.{IsAsk}
 use Rattle.store_api.specs.Running.{Program}
 use Rattle.session.specs.declared.chunks.Value.TheVariants.{Fill}
-use Rattle.array_region.specs.declared.stages.Stage.{Stage}
 use Rattle.array_region.specs.declared.stages.Found.{Found}
 use Rattle.array_region.specs.declared.stages.Found.TheVariants.{Told, Gets}
-use Rattle.array_region.specs.Reading.{Kept, Chunk, Reads, keeping, place_kept, entry_kept, in_file, got_kept, in_manifest, file_kept, listed_kept}
+use Rattle.array_region.specs.Reading.{Kept, Chunk, Reads, keeping, place_kept, entry_kept, got_kept, in_manifest, file_kept, listed_kept}
 use Rattle.array_region.specs.Getting.{Finds, Looks}
 
 -- fewer steps are few enough

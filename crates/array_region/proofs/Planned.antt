@@ -1,5 +1,5 @@
 -- Boxes that lie in an array.
-use Rattle.std.proofs.Common.{◌≡◌, ◌≤◌, ◌*◌, ◌∙◌, ℕ, ◌+◌, ◌<◌, ◌^◌, Bool, true, false, cond, List, [], ◌∷◌, length, replicate, refl, sym, ap, arith, eq-eqb}
+use Rattle.std.proofs.Common.{◌≡◌, ◌≤◌, ◌*◌, ◌∙◌, ℕ, ℤ, ◌^◌, Bool, true, false, cond, List, [], ◌∷◌, length, replicate, refl, sym, ap, arith, eq-eqb}
 use Rattle.std.specs.Prelude.{◌&&◌, ◌-◌, nat_le, nat_eq, Option, Some, None, option_map, ok_or, Result, Ok, Err}
 use Rattle.std.specs.Int.{div_ceil}
 use Rattle.std.specs.FinMap.{get}
@@ -8,25 +8,26 @@ use Rattle.std.proofs.lemmas.Bool.{eqb-true, leb-true, le-leb}
 use Rattle.std.proofs.lemmas.Grind.{div_ceil_times}
 use Rattle.std.proofs.Math.Nat.{mul-le-mul_right}
 use Rattle.zarr_meta.specs.declared.views.ArrayView.{ArrayView}
-use Rattle.zarr_meta.specs.Grids.{grid_of, are_lengths, has_few_chunks, has_small_chunks, has_grid, most_chunk_length, most_chunks}
+use Rattle.zarr_meta.specs.Grids.{are_lengths, has_few_chunks, has_small_chunks, has_grid, most_chunk_length, most_chunks}
 use Rattle.zarr_meta.specs.Kinds.{size_of}
 use Rattle.zarr_tree.specs.declared.edit.EditFault.{EditFault}
 use Rattle.zarr_tree.specs.declared.edit.EditFault.TheVariants as E
 use Rattle.zarr_tree.specs.Nodes.{Node, array_in}
 use Rattle.zarr_tree.proofs.Apply.{first, second}
-use Rattle.zarr_changes.proofs.GridParts.{IsGrid, grid_parts}
+use Rattle.zarr_changes.proofs.GridParts.{grid_parts}
 use Rattle.store_api.specs.declared.machines.Refusal.{Refusal}
 use Rattle.store_api.specs.declared.machines.Refusal.TheVariants as R
 use Rattle.store_api.specs.declared.machines.RegionFault.{RegionFault}
 use Rattle.store_api.specs.declared.machines.RegionFault.TheVariants as F
 use Rattle.store_api.specs.Program.{Done, is_fault}
-use Rattle.session.specs.Sessions.{SessionState, nodes_seen}
+use Rattle.session.specs.Sessions.{SessionState, nodes_seen, writes}
 use Rattle.session.specs.Arrays.{array_of, array_at}
 use Rattle.region_cells.specs.Boxes.{count_of, IsBoxOver}
 use Rattle.region_cells.specs.Walks.{chunks_met, are_at_most, is_in_shape, count_within, most_cells, AreGridded}
 use Rattle.array_region.specs.Planning.{cells_counted, box_count, is_box_of, IsBoxOf}
 use Rattle.array_region.specs.Getting.{Refuses}
 use Rattle.array_region.specs.Reading.{Reads, read_chunks, read_box, read_array, region_program}
+use Rattle.array_region.specs.Writing.{old_chunk, cells_refused, unless_why, write_chunks, write_box, write_array, region_set_program}
 
 -- along a dimension a box ends before 2^32 chunks
 few_before : (s n b : ℕ) → 1 ≤ n → b ≤ s → div_ceil s n ≤ 2 ^ 32 - 1 → b ≤ n * (2 ^ 32 - 1)
@@ -217,6 +218,31 @@ module _ (s : SessionState) (path from to : List ℕ) where
     unfolding region_program
     box_program count c = ap (read_array s path from to) e ∙ ap (read_box s reads) c
 
+-- ---- what is to be written
+module _ (s : SessionState) (path from to : List ℕ) (numbers : List ℤ) where
+  pub read_only : writes s ≡ false → region_set_program s path from to numbers ≡ Done (Err R.ReadOnly)
+  unfolding region_set_program
+  read_only e = ap (λ b. cond b (write_array s path from to numbers (array_at s path)) (Done (Err R.ReadOnly))) e
+
+  module _ (w : writes s ≡ true) where
+    writable : region_set_program s path from to numbers ≡ write_array s path from to numbers (array_at s path)
+    unfolding region_set_program
+    writable = ap (λ b. cond b (write_array s path from to numbers (array_at s path)) (Done (Err R.ReadOnly))) w
+
+    pub no_array_write : (why : Refusal) → array_at s path ≡ Err why → region_set_program s path from to numbers ≡ Done (Err why)
+    no_array_write why e = writable ∙ ap (write_array s path from to numbers) e
+
+    module _ (id : Id8) (array : ArrayView) (e : array_at s path ≡ Ok (id, array)) where
+      abbrev written : Reads
+      written = record { node = id; array = array; path = path; from = from; to = to }
+
+      pub no_box_write : (why : Refusal) → box_count array from to ≡ Err why → region_set_program s path from to numbers ≡ Done (Err why)
+      no_box_write why c = writable ∙ ap (write_array s path from to numbers) e ∙ ap (write_box s written numbers) c
+
+      pub box_write : (count : ℕ) → box_count array from to ≡ Ok count
+          → region_set_program s path from to numbers ≡ unless_why (cells_refused array.kind count numbers) (write_chunks (old_chunk s written) s written numbers None (chunks_met array.chunks from to))
+      box_write count c = writable ∙ ap (write_array s path from to numbers) e ∙ ap (write_box s written numbers) c
+
 -- neither is a fault of the store
 pub calm_edit : (why : Refusal) → IsEdit why → is_fault why ≡ false
 calm_edit why i = ap is_fault i.is
@@ -254,6 +280,26 @@ module _ (s : SessionState) (path from to : List ℕ) (told : Result (Id8 × Arr
       planned_program =
           box_program s path from to id array (sym asked ∙ e) n (sym counted_is ∙ c)
           ∙ sym (ap (λ (a : ArrayView). read_chunks s (record { node = id; array = a; path = path; from = from; to = to }) None (replicate n a.fill) (chunks_met a.chunks from to)) same)
+
+-- what a plan of this box says of its writing
+module _ (s : SessionState) (path from to : List ℕ) (told : Result (Id8 × ArrayView) Refusal) (asked : told ≡ array_at s path) (numbers : List ℤ) (w : writes s ≡ true) where
+  pub told_unwritten : (why : Refusal) → told ≡ Err why → Refuses (region_set_program s path from to numbers) why
+  told_unwritten why e =
+      let none = sym asked ∙ e in
+      record { is = λ m. no_array_write s path from to numbers w why none; calm = calm_edit why (no_array (get (nodes_seen s) path) why none) }
+
+  module _ (id : Id8) (array : ArrayView) (e : told ≡ Ok (id, array)) (count : Result ℕ Refusal) (counted_is : count ≡ box_count array from to) where
+    pub count_unwritten : (why : Refusal) → count ≡ Err why → Refuses (region_set_program s path from to numbers) why
+    count_unwritten why c =
+        let none = sym counted_is ∙ c in
+        record { is = λ m. no_box_write s path from to numbers w id array (sym asked ∙ e) why none; calm = calm_region why (no_box array from to why none) }
+
+    pub planned_write : (n : ℕ) → count ≡ Ok n → (copy : ArrayView) → copy ≡ array
+        → region_set_program s path from to numbers
+        ≡ unless_why (cells_refused copy.kind n numbers) (write_chunks (old_chunk s (record { node = id; array = copy; path = path; from = from; to = to })) s (record { node = id; array = copy; path = path; from = from; to = to }) numbers None (chunks_met copy.chunks from to))
+    planned_write n c copy same =
+        box_write s path from to numbers w id array (sym asked ∙ e) n (sym counted_is ∙ c)
+        ∙ sym (ap (λ (a : ArrayView). unless_why (cells_refused a.kind n numbers) (write_chunks (old_chunk s (record { node = id; array = a; path = path; from = from; to = to })) s (record { node = id; array = a; path = path; from = from; to = to }) numbers None (chunks_met a.chunks from to))) same)
 
 gridded_ranks : (chunks from to : List ℕ) → AreGridded chunks from to → length from ≡ length to
 gridded_ranks [] [] [] g = refl

@@ -1,5 +1,5 @@
 -- What replies lead to.
-use Rattle.std.proofs.Common.{◌≡◌, ◌≤◌, ◌<◌, ◌+◌, ℕ, ℤ, false, true, List, drop, refl, sym, subst, ap}
+use Rattle.std.proofs.Common.{◌≡◌, ℕ, false, true, List, drop, subst}
 use Rattle.std.specs.Prelude.{Result, Ok, Err}
 use Rattle.ice_ids.specs.declared.Id12.{Id12}
 use Rattle.manifest_file.specs.declared.manifest.ManifestFile.{ManifestFile}
@@ -9,7 +9,7 @@ use Rattle.object_store.specs.declared.events.Reply.{Reply}
 use Rattle.object_store.specs.declared.events.Reply.TheVariants as reply
 use Rattle.store_api.specs.declared.machines.Next.{Next}
 use Rattle.store_api.specs.declared.machines.Refusal.{Refusal}
-use Rattle.store_api.specs.Program.{Done, Ask, Lands, IsSure}
+use Rattle.store_api.specs.Program.{Ask, Lands, IsSure}
 use Rattle.store_api.specs.Running.{Program}
 use Rattle.store_api.specs.Driving.{Heard, Took, Excuses}
 use Rattle.repo_read.specs.Answers.{manifest_told, object_told}
@@ -22,7 +22,7 @@ calm_excuses : {T : Type 0} (r : Reply) (result : Result (Next T) Refusal) → I
 calm_excuses r (Ok next) c = tt
 calm_excuses r (Err why) c = λ h. c
 
-heard_manifest : (id : Id12) (P : Result ManifestFile Refusal → Type 0) (r : Reply) → P (manifest_told id r) → Heard (λ x. P (manifest_told id x)) r
+pub heard_manifest : (id : Id12) (P : Result ManifestFile Refusal → Type 0) (r : Reply) → P (manifest_told id r) → Heard (λ x. P (manifest_told id x)) r
 heard_manifest id P (reply.Failed done) p = λ d. p
 heard_manifest id P (reply.Got got) p = p
 heard_manifest id P (reply.New new) p = p
@@ -31,7 +31,7 @@ heard_manifest id P (reply.Gone gone) p = p
 heard_manifest id P (reply.GoneAt gone) p = p
 heard_manifest id P (reply.Listed listed) p = p
 
-heard_object : (want : ℕ) (id : Id12) (offset size : ℕ) (P : Result (List ℕ) Refusal → Type 0) (r : Reply) → P (object_told want id offset size r) → Heard (λ x. P (object_told want id offset size x)) r
+pub heard_object : (want : ℕ) (id : Id12) (offset size : ℕ) (P : Result (List ℕ) Refusal → Type 0) (r : Reply) → P (object_told want id offset size r) → Heard (λ x. P (object_told want id offset size x)) r
 heard_object want id offset size P (reply.Failed done) p = λ d. p
 heard_object want id offset size P (reply.Got got) p = p
 heard_object want id offset size P (reply.New new) p = p

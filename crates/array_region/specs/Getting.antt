@@ -97,3 +97,8 @@ abbrev pub Begins : Program (List ℤ) → SessionState → Result Getting (Sess
 Begins p s (Ok (Ready t numbers)) = (p ≡ Done (Ok numbers)) × (t ≡ s)
 Begins p s (Ok (Again m)) = (region_rest m ≡ p) × IsAsk p × (region_session m ≡ s)
 Begins p s (Err refused) = (is_no_memory refused.1 ≡ false → p ≡ Done (Err refused.1)) × (refused.0 ≡ s)
+
+-- a machine has so few steps left
+abbrev pub IsFew : Getting → Type 0
+IsFew (Ready t numbers) = Unit {0}
+IsFew (Again m) = region_left m ≤ 2 ^ 128

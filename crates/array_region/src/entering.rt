@@ -1,6 +1,6 @@
 //! The numbers of chunks that were read.
 
-ghost use Rattle.std.specs.Prelude.{◌≡◌, ◌<◌, [], length, get_or, IfOk};
+ghost use Rattle.std.specs.Prelude.{◌≡◌, ◌<◌, ◌^◌, [], length, get_or, IfOk};
 ghost use Rattle.zarr_tree.specs.Nodes.{chunk_length};
 ghost use Rattle.array_region.specs.Reading.{fits, with_value};
 ghost use Rattle.array_region.specs.Getting.{reads_of, chunks_of};
@@ -22,7 +22,8 @@ impl Plan {
 
     /// How many chunks the box meets.
     pub(crate) fn met(&self) -> usize
-        ensures { result ≡ length (chunks_of (reads_of self.now)) }
+        ensures value { result ≡ length (chunks_of (reads_of self.now)) }
+        ensures few { length (chunks_of (reads_of self.now)) < 2 ^ 64 }
     {
         count_chunks(
             self.array.chunks.as_slice(),
@@ -46,7 +47,7 @@ impl Plan {
     }
 
     /// Whether these are the bytes of a chunk with such an index, and the numbers of the box.
-    fn fits(&self, index: &Index, bytes: &[u8], numbers: &[i128]) -> bool
+    pub(crate) fn fits(&self, index: &Index, bytes: &[u8], numbers: &[i128]) -> bool
         ensures { result ≡ fits (reads_of self.now) index.now bytes.now numbers.now }
     {
         index.parts().len() == self.array.chunks.as_slice().len()
@@ -55,7 +56,7 @@ impl Plan {
     }
 
     /// The box over a chunk.
-    fn sides<'a>(&'a self, index: &'a Index) -> Sides<'a>
+    pub(crate) fn sides<'a>(&'a self, index: &'a Index) -> Sides<'a>
         ensures from { result.from.now ≡ self.now.region.from.items }
         ensures to { result.to.now ≡ self.now.region.to.items }
         ensures chunks { result.chunks.now ≡ self.now.array.chunks }

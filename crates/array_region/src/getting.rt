@@ -1,7 +1,7 @@
 //! Reading boxes of numbers.
 
-ghost use Rattle.std.specs.Prelude.{◌≡◌, ◌≤◌, ◌<◌, ◌+◌, ◌-◌, ◌^◌, ℕ, List, [], length, drop, get_or, IfErr};
-ghost use Rattle.store_api.specs.Program.{IsAsk, Steps};
+ghost use Rattle.std.specs.Prelude.{◌≡◌, ◌≤◌, ◌<◌, ◌+◌, ◌-◌, ◌^◌, false, ℕ, List, [], length, drop, get_or, IfOk, IfErr};
+ghost use Rattle.store_api.specs.Program.{IsAsk, Steps, is_fault};
 ghost use Rattle.store_api.specs.Running.{Program as TheProgram};
 ghost use Rattle.store_api.specs.Driving.{Awaits, Took};
 ghost use Rattle.zarr_tree.specs.Nodes.{chunk_length};
@@ -9,7 +9,7 @@ ghost use Rattle.repo_read.specs.Programs.{MayRefuseObject};
 ghost use Rattle.session.specs.Chunks.{read_object};
 ghost use Rattle.session.specs.inside.Working.{LandsCalmly};
 ghost use Rattle.array_region.specs.Reading.{Chunk, object_kept, in_file, got_kept, listed_kept, chunk_kept, read_chunks, region_program};
-ghost use Rattle.array_region.specs.Getting.{region_rest, region_left, region_session, reads_of, kept_of, chunks_of, box_after, left_behind, Finds, Looks, Begins};
+ghost use Rattle.array_region.specs.Getting.{region_rest, region_left, region_session, reads_of, kept_of, chunks_of, box_after, left_behind, Finds, Looks, Begins, IsFew};
 
 use crate::held::KeptManifest;
 use crate::planning::planned;
@@ -62,7 +62,9 @@ impl RegionGet {
         session: Session,
         region: Region,
     ) -> Result<Getting, (Session, Refusal)>
-        ensures { Begins (region_program session region.path region.from.items region.to.items) session result }
+        ensures begins { Begins (region_program session region.path region.from.items region.to.items) session result }
+        ensures few { IfOk result IsFew }
+        ensures calm { IfErr result (λ refused. is_fault refused.1 ≡ false) }
     {
         let plan = match planned(alloc, &session, region) {
             Ok(plan) => plan,
@@ -136,6 +138,7 @@ impl RegionGet {
         requires { self.old.stage ≡ Stage.Ended }
         ensures took { LandsCalmly (read_chunks self.old.session (reads_of self.old.plan) (kept_of self.old.kept) self.old.numbers.items (drop self.old.at (chunks_of (reads_of self.old.plan)))) (region_rest self.new) result }
         ensures falls { region_left self.new ≤ left_behind (reads_of self.old.plan) self.old.at }
+        ensures few { left_behind (reads_of self.old.plan) self.old.at ≤ 2 ^ 128 }
         ensures kept { region_session self.new ≡ region_session self.old }
         ensures listed { IfErr result MayRefuseObject }
     {

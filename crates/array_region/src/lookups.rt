@@ -4,7 +4,7 @@ ghost use Rattle.std.specs.Prelude.{◌≡◌, ◌+◌, ◌-◌, ◌^◌, length
 ghost use Rattle.zarr_tree.specs.Nodes.{chunk_length};
 ghost use Rattle.held_manifest.specs.Places.{place_seen};
 ghost use Rattle.session.specs.Sessions.{SessionState};
-ghost use Rattle.array_region.specs.Reading.{Kept, own_kept, place_kept, listed_kept, chunk_kept};
+ghost use Rattle.array_region.specs.Reading.{Kept, own_kept, place_kept, in_file, listed_kept, chunk_kept};
 ghost use Rattle.array_region.specs.Getting.{Looks, kept_of, reads_of};
 
 use crate::held::KeptManifest;
@@ -89,6 +89,31 @@ impl Plan {
             }
         }
         Ok(Found::Told(index, Value::Fill))
+    }
+
+    /// A manifest was read: it is kept, and the chunk is where it has it, if it has it.
+    pub(crate) fn in_file(
+        &self,
+        alloc: Global,
+        kept: &mut Option<KeptManifest>,
+        index: Index,
+        ids: Items<Id12>,
+        at: usize,
+        got: KeptManifest,
+    ) -> Result<Found, Refusal>
+        ensures { Looks (reads_of self.now) (kept_of kept.new) index (length ids - at + 1) (in_file (chunk_length self.now.array) self.now.node index got.id (listed_kept (chunk_length self.now.array) self.now.node index (drop at ids)) got.held) result }
+    {
+        match got.held.seek(self.node, &index) {
+            Some(place) => {
+                let found = self.at_place(alloc, index, got.id, place);
+                *kept = Some(got);
+                found
+            }
+            None => {
+                *kept = Some(got);
+                self.look_up(alloc, kept, index, ids, at)
+            }
+        }
     }
 
     /// Looks for a chunk.

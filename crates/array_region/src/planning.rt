@@ -1,6 +1,7 @@
-//! Plans of what is read.
+//! Plans of what is read or written.
 
 ghost use Rattle.array_region.specs.Getting.{Plans};
+ghost use Rattle.array_region.specs.Setting.{PlansWrite};
 
 use crate::plans::{Plan, Region, counted};
 use session::Session;
@@ -8,9 +9,10 @@ use std::alloc::Global;
 use store_api::Refusal;
 use zarr_tree::grid_law;
 
-/// What is to be read.
+/// What is to be read or written.
 pub(crate) fn planned(alloc: Global, session: &Session, region: Region) -> Result<Plan, Refusal>
-    ensures { Plans session.now region result }
+    ensures reads { Plans session.now region result }
+    ensures writes { PlansWrite session.now region result }
 {
     grid_law();
     let found = match session.find_array(&region.path) {

@@ -133,14 +133,16 @@ fn row_near<'a>(old: &HeldNodes<'a>, place: usize, path: &str) -> Option<HeldNod
 }
 
 /// Where a path is to be expected, from a place on at which all paths before it are passed: at the first row that isn't before
-/// it.
-fn place_from(old: &HeldNodes, from: usize, path: &str) -> usize {
+/// it. And the place at which all up to it are.
+fn place_from(old: &HeldNodes, from: usize, path: &str) -> (usize, usize) {
     for place in from..old.len() {
-        if old.at(place).path().cmp(path).is_ge() {
-            return place;
+        match old.at(place).path().cmp(path) {
+            Ordering::Less => {}
+            Ordering::Equal => return (place, place + 1),
+            Ordering::Greater => return (place, place),
         }
     }
-    old.len()
+    (old.len(), old.len())
 }
 
 /// The list of a new manifest, if there is one.
@@ -229,9 +231,10 @@ pub(crate) fn rows_over<'a>(
     let most = old.len().saturating_add(changes.added_len());
     let mut nodes = Vec::with_capacity(alloc, most)?;
     let mut places = Vec::with_capacity(alloc, most)?;
-    let mut place = 0;
+    let mut from = 0;
     while let Some(row) = left.next() {
-        place = place_from(&old, place, row.0);
+        let (place, behind) = place_from(&old, from, row.0);
+        from = behind;
         nodes.push(row)?;
         places.push(place)?;
     }

@@ -1,6 +1,7 @@
 -- Sound means whole.
 use Rattle.std.proofs.Common.{◌≡◌, ◌⊎◌, inl, inr, ℕ, zero, suc, ◌+◌, ◌<◌, ◌≤◌, Bool, true, false, cond, ◌&&◌, List, [], ◌∷◌, ◌++◌, length, Option, Some, None, IsSome, is_some, option_map, refl, sym, ◌∙◌, ap, subst, arith, eqb-true}
 use Rattle.std.specs.Prelude.{◌==◌, nat_le, Contains, Ok, Err, option_and_then}
+use Rattle.std.specs.Option.{option_or}
 use Rattle.std.specs.Result.{result_ok}
 use Rattle.std.proofs.lemmas.Bool.{leb-true}
 use Rattle.ice_ids.specs.declared.Id12.{Id12}
@@ -38,7 +39,7 @@ use Rattle.history_laws.specs.Laws.{Stands}
 use Rattle.intact.specs.declared.visits.FileVisit.{FileVisit}
 use Rattle.intact.specs.declared.visits.PartVisit.{PartVisit}
 use Rattle.intact.specs.Rows.{file_for, files_of_row, want_of, first_unwell}
-use Rattle.intact.specs.Parts.{entries_of, fault_in, inline_fault, or_later, first_short, part_at, parts_in, parts_of}
+use Rattle.intact.specs.Parts.{entries_of, fault_in, inline_fault, first_short, part_at, parts_in, parts_of}
 use Rattle.intact.specs.Told.{found_snapshot}
 use Rattle.intact.specs.Visits.{Visit, Ref, Snap, Log, File, Part, op_for, or_nowhere, behind_ref, behind_snapshot}
 use Rattle.intact.specs.Intact.{Made, IsTold, IsMade, Named, HasParent, IsAbove, IsIntact}
@@ -86,7 +87,7 @@ unfolding first_short
 none-short want [] e chunk c = absurd (none-in chunk c)
 none-short want (x ∷ xs) e chunk c = by (none-short want xs) (inline_fault want x.place) refl e
   where
-    by : (first_short want xs ≡ None → (r : ChunkRef) → Contains xs r → inline_fault want r.place ≡ None) → (o : Option Bad) → inline_fault want x.place ≡ o → or_later o (first_short want xs) ≡ None → inline_fault want chunk.place ≡ None
+    by : (first_short want xs ≡ None → (r : ChunkRef) → Contains xs r → inline_fault want r.place ≡ None) → (o : Option Bad) → inline_fault want x.place ≡ o → option_or o (first_short want xs) ≡ None → inline_fault want chunk.place ≡ None
     by again (Some fault) f k = absurd cc
     by again None f k = elim (first-or-later x chunk xs c) [ inl s ↦ ap (λ (r : ChunkRef). inline_fault want r.place) (sym s) ∙ f | inr l ↦ again k chunk l ]
 

@@ -1,6 +1,7 @@
 -- Exact when still.
 use Rattle.std.proofs.Common.{◌≡◌, inl, inr, ℕ, ◌+◌, ◌≤◌, Bool, true, false, cond, ◌&&◌, List, [], ◌∷◌, ◌++◌, map, length, Option, Some, None, IsSome, refl, sym, ◌∙◌, ap, subst, eq-eqb}
 use Rattle.std.specs.Prelude.{◌==◌, nat_le, Contains, Result, Ok, Err, option_and_then}
+use Rattle.std.specs.Option.{option_or}
 use Rattle.std.specs.Result.{result_ok}
 use Rattle.std.proofs.lemmas.Bool.{le-leb}
 use Rattle.ice_ids.specs.declared.Id12.{Id12}
@@ -40,7 +41,7 @@ use Rattle.history_laws.specs.Refs.{IsRef}
 use Rattle.intact.specs.declared.visits.FileVisit.{FileVisit}
 use Rattle.intact.specs.declared.visits.PartVisit.{PartVisit}
 use Rattle.intact.specs.Rows.{file_for, files_of_row, want_of, first_unwell}
-use Rattle.intact.specs.Parts.{entries_of, fault_in, inline_fault, or_later, first_short, part_at, parts_of}
+use Rattle.intact.specs.Parts.{entries_of, fault_in, inline_fault, first_short, part_at, parts_of}
 use Rattle.intact.specs.Told.{found_ref, found_snapshot, found_manifest, found_part, some_ref, well, unless_unwell, any_log, long, unless_short, any_part}
 use Rattle.intact.specs.Visits.{Visit, Refs, Ref, Snap, Log, File, Part, op_for, told, leads, leading, nowhere, behind_ref, behind_snapshot, behind_manifest}
 use Rattle.intact.specs.Intact.{Made, IsTold, IsMade, IsFine, IsFineBy, Named, HasParent, IsAbove, IsIntact}
@@ -73,7 +74,7 @@ whole-inline journal want (Object id offset size) w = refl
 all-long : (want : ℕ) (chunks : List ChunkRef) → ((chunk : ChunkRef) → Contains chunks chunk → inline_fault want chunk.place ≡ None) → first_short want chunks ≡ None
 unfolding first_short
 all-long want [] h = refl
-all-long want (x ∷ xs) h = ap (λ (o : Option Bad). or_later o (first_short want xs)) (h x (first-is x xs)) ∙ all-long want xs (λ chunk c. h chunk (later-is x chunk xs c))
+all-long want (x ∷ xs) h = ap (λ (o : Option Bad). option_or o (first_short want xs)) (h x (first-is x xs)) ∙ all-long want xs (λ chunk c. h chunk (later-is x chunk xs c))
 
 whole-part : (want offset size : ℕ) (bytes : List ℕ) → size ≡ want → offset + size ≤ length bytes → read_chunk want offset size bytes ≡ Ok (given offset size bytes)
 whole-part want offset size bytes e l =

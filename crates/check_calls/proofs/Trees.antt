@@ -1,5 +1,5 @@
 -- The tree of a snapshot whose manifests can be read, and whose chunks are whole.
-use Rattle.std.proofs.Common.{◌≡◌, ◌⊎◌, inl, inr, ℕ, ◌+◌, ◌≤◌, Bool, true, false, cond, ◌&&◌, List, [], ◌∷◌, length, take, drop, Option, Some, None, option_map, is_some, IsSome, refl, sym, ◌∙◌, ap, subst, arith, eqb-true, length-drop, length-take-le}
+use Rattle.std.proofs.Common.{◌≡◌, ◌⊎◌, inl, inr, ℕ, ◌+◌, ◌≤◌, Bool, true, false, cond, ◌&&◌, List, [], ◌∷◌, length, take, drop, Option, Some, None, option_map, unwrap_or, is_some, IsSome, refl, sym, ◌∙◌, ap, subst, arith, eqb-true, length-drop, length-take-le}
 use Rattle.std.specs.Prelude.{◌==◌, nat_le, nat_lt, Contains, find, option_and_then, bytes_eq}
 use Rattle.std.specs.List.{AllByRecursion}
 use Rattle.std.specs.Option.{option_or}
@@ -31,7 +31,7 @@ use Rattle.object_store.specs.declared.events.Event.{Event}
 use Rattle.store_api.specs.Journal.{puts_of}
 use Rattle.store_api.proofs.SameTree.{find-contains}
 use Rattle.intact.specs.Rows.{want_in, want_of, first_unwell}
-use Rattle.intact.specs.Parts.{or_none, entries_of}
+use Rattle.intact.specs.Parts.{entries_of}
 use Rattle.repo_check.proofs.Made.{first-is, later-is}
 use Rattle.check_calls.specs.Whole.{IsWholeChunk, HasEntry}
 use Rattle.check_calls.proofs.Steady.{last-stands}
@@ -89,7 +89,7 @@ entry-in node index file place e =
     let c = map-some (λ (x : ChunkRef). x.place) (find (λ (x : ChunkRef). bytes_eq x.index index) r.from) place r.gives in
     record {
       chunk = c.from;
-      has = subst (λ (o : Option (List ChunkRef)). Contains (or_none o) c.from) (sym r.is) (find-contains (λ (x : ChunkRef). bytes_eq x.index index) r.from c.from c.is);
+      has = subst (λ (o : Option (List ChunkRef)). Contains (unwrap_or o []) c.from) (sym r.is) (find-contains (λ (x : ChunkRef). bytes_eq x.index index) r.from c.from c.is);
       place_is = c.gives;
     }
 

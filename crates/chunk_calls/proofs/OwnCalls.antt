@@ -39,7 +39,7 @@ module _ (by : Caller) (ids : AnyIds) (start : List Event) where
   Answered answer h = IfOk answer (λ t. Owns ids by.number t start h)
 
   -- what is owned stays so at a get
-  got-owned : (s : SessionState) (key : Key) (reply : Reply) (old new : List Event) → Makes by (Get key) reply old new → Owned s old → Owned s new
+  pub got-owned : (s : SessionState) (key : Key) (reply : Reply) (old new : List Event) → Makes by (Get key) reply old new → Owned s old → Owned s new
   got-owned s key reply old new m o = record {
     chunks = more-makes (OwnsChunks by.number s.held.chunks start) (OwnsChunks-append by.number start s.held.chunks) by (Get key) reply old new m o.chunks;
     drawn = HasPutDrawn-makes by ids s.ids start (Get key) reply old new m (λ other bytes why id e i. absurd (cc)) o.drawn;

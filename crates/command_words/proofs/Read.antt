@@ -9,7 +9,7 @@ use Rattle.clap.proofs.CallerReads.{required_reads}
 use Rattle.clap.specs.declared.builder.arg.Arg.{Arg}
 use Rattle.clap.specs.declared.builder.command.Command.{Command}
 use Rattle.clap.specs.declared.parser.matches.ArgMatches.{ArgMatches}
-use Rattle.std.specs.Prelude.{Result, option_map}
+use Rattle.std.specs.Prelude.{Result, option_map, unwrap_or}
 use Rattle.std.specs.declared.num.ParseIntError.{ParseIntError}
 use Rattle.std.specs.Str.Parse.{ParsesUnsigned, ExplainsUnsignedError, HasUnsignedDigitsIfOk, digits_value, without_leading_plus}
 use Rattle.clap.specs.Matches.{ReadsOne}
@@ -27,7 +27,9 @@ use Rattle.clap.proofs.CallerLemmas.{added_plain}
 use Rattle.clap.specs.declared.builder.action.ArgAction.TheVariants.{Set}
 use Rattle.clap.specs.declared.builder.command.Command.TheViews.{out-Command}
 use Rattle.command_words.specs.Parsers.{count_rule, dir_rule}
-use Rattle.command_words.specs.Parsers.{count_parser, count_in, dir_in, kinds_of, grow, play}
+use Rattle.command_words.specs.Parsers.{count_parser, count_in, dir_in, kinds_of, word_in, cells, check, grow, play}
+use Rattle.command_words.specs.declared.reading.BoxWords.{BoxWords}
+use Rattle.command_words.specs.Words.{box_in}
 use Rattle.command_words.specs.inside.Parsing.{IsGrow, IsGrown, IsTaken, IsRefused, IsRefusalFor}
 use Rattle.command_words.specs.declared.parsers.Refusal.{Refusal}
 use Rattle.command_words.specs.declared.parsers.Refusal.TheVariants as R
@@ -157,6 +159,44 @@ play_is_free = refl
 pub play_one : (words : List Text) → IsOne (fault_of play words)
 unfolding play
 play_one words = one_kind play words refl refl refl
+
+pub check_is_simple : is_simple check ≡ true
+unfolding check clap_on_literals
+check_is_simple = refl
+
+pub check_is_free : is_simple_and_free check ≡ true
+unfolding check clap_on_literals
+check_is_free = refl
+
+pub check_one : (words : List Text) → IsOne (fault_of check words)
+unfolding check
+check_one words = one_kind check words refl refl refl
+
+pub cells_is_simple : is_simple cells ≡ true
+unfolding cells clap_on_literals
+cells_is_simple = refl
+
+pub cells_is_free : is_simple_and_free cells ≡ true
+unfolding cells clap_on_literals
+cells_is_free = refl
+
+pub cells_one : (words : List Text) → IsOne (fault_of cells words)
+unfolding cells
+cells_one words = one_kind cells words refl refl refl
+
+-- a word of `cells` that clap gives
+word_given : (words : List Text) (m : ArgMatches) (id word : Text) → HasMatchesOf cells words m → word ≡ unwrap_or (first_value (found_of m) id) [] → word ≡ word_in id words
+unfolding word_in
+word_given words m id word matches is =
+    is ∙ ap (λ o. unwrap_or o []) (first_value-rows (found_of m) id ∙ ap (first_of id) (matches cells_is_simple).0)
+
+-- the four words of it
+pub boxed : (words : List Text) (m : ArgMatches) (b p f t : Text) → HasMatchesOf cells words m
+    → b ≡ unwrap_or (first_value (found_of m) (codes "branch")) [] → p ≡ unwrap_or (first_value (found_of m) (codes "path")) []
+    → f ≡ unwrap_or (first_value (found_of m) (codes "from")) [] → t ≡ unwrap_or (first_value (found_of m) (codes "to")) []
+    → ◌≡◌ {A = BoxWords} (record { branch = b; path = p; from = f; to = t }) (box_in words)
+boxed words m b p f t matches is_b is_p is_f is_t =
+    rw (word_given words m (codes "branch") b matches is_b, word_given words m (codes "path") p matches is_p, word_given words m (codes "from") f matches is_f, word_given words m (codes "to") t matches is_t) refl
 
 pub grow_one : (words : List Text) → IsOne (fault_of grow words)
 unfolding grow

@@ -12,10 +12,12 @@ abbrev pub program_text : List ℕ
 program_text =
     codes "icerepo keeps versioned trees of Zarr groups and arrays in an object store.\n"
     ++ codes "\n"
-    ++ codes "icerepo play [--dir PATH]     plays the script of standard input, and prints its report\n"
-    ++ codes "icerepo grow N [--dir PATH]   makes a script of N tasks and one before them, plays it, and prints one line\n"
-    ++ codes "icerepo COMMAND --help        says more of a command\n"
-    ++ codes "icerepo --version             prints the version\n"
+    ++ codes "icerepo play [--dir PATH]                        plays the script of standard input, and prints its report\n"
+    ++ codes "icerepo cells BRANCH PATH FROM TO [--dir PATH]   prints the numbers of a box of cells of an array\n"
+    ++ codes "icerepo grow N [--dir PATH]                      plays a script that is made from N, and prints one line\n"
+    ++ codes "icerepo check [--dir PATH] [--progress]          checks all that the refs of a repository reach\n"
+    ++ codes "icerepo COMMAND --help                           says more of a command\n"
+    ++ codes "icerepo --version                                prints the version\n"
     ++ codes "\n"
     ++ codes "Without --dir the repository is in memory, and is gone at the end. With it, it stays in that directory.\n"
     ++ codes "\n"
@@ -26,10 +28,22 @@ play_text =
     codes "icerepo play [--dir PATH]\n"
     ++ codes "\n"
     ++ codes "Reads a script from standard input and plays it, over a repository in memory, or in the directory PATH.\n"
+    ++ codes "A line `put PATH FROM TO CELLS` writes the numbers of a box of cells, and `cells PATH FROM TO` shows them.\n"
     ++ codes "A line `prop NAME VALUE` before a commit gives its snapshot a text under a name, which `log` shows.\n"
     ++ codes "A task `task NAME expire @2026-01-01T00:00:00Z keep` takes older snapshots out of the histories of refs.\n"
     ++ codes "A task `task NAME collect @2026-01-01T00:00:00Z` removes objects that no ref reaches and that are older.\n"
     ++ codes "Prints what each task showed and how it ended, and then the snapshot at which each branch and tag stands.\n"
+    ++ codes "\n"
+
+-- what `cells` reads and prints
+abbrev pub cells_text : List ℕ
+cells_text =
+    codes "icerepo cells BRANCH PATH FROM TO [--dir PATH]\n"
+    ++ codes "\n"
+    ++ codes "Reads nothing. Prints the numbers that the array PATH has at BRANCH in the box from FROM up to TO, which isn't\n"
+    ++ codes "in it. FROM and TO have a number for each dimension, with commas between them, and are `-` where it has none.\n"
+    ++ codes "Plays the script of the two lines `task cells read branch BRANCH` and `cells PATH FROM TO`, over a repository\n"
+    ++ codes "in memory, where there is no array, or in the directory PATH, and prints its report.\n"
     ++ codes "\n"
 
 -- what `grow` reads and prints
@@ -41,6 +55,19 @@ grow_text =
     ++ codes "50 of its chunks, and plays it, over a repository in memory, or in the directory PATH. The same N makes the\n"
     ++ codes "same script. Prints one line: how many tasks there were, how many committed and were refused, and how many\n"
     ++ codes "operations of the store were made.\n"
+    ++ codes "\n"
+
+-- what `check` reads and prints
+abbrev pub check_text : List ℕ
+check_text =
+    codes "icerepo check [--dir PATH] [--progress]\n"
+    ++ codes "\n"
+    ++ codes "Reads nothing. Reads all that the branches and tags of the repository reach, in memory, where there is none, or in\n"
+    ++ codes "the directory PATH: snapshots, logs, manifests, and the objects with chunks, each once. Changes nothing. Prints a\n"
+    ++ codes "line for each object that is wrong: `absent`, `bad`, `ring` or `notwell`, and its name; and then `check checked`\n"
+    ++ codes "with the numbers of snapshots and of objects with chunks, or `check refused 0` and why. That a chunk has as many\n"
+    ++ codes "bytes as it should is tested; what they are isn't, as no digest of them is kept: a changed byte in a chunk isn't found.\n"
+    ++ codes "With --progress it says on standard error how many operations it has made, at each thousand.\n"
     ++ codes "\n"
 
 -- what the exit statuses mean
@@ -66,6 +93,15 @@ play_example =
     ++ codes "a committed 0000008000000000000G\n"
     ++ codes "branch main 0000008000000000000G\n"
 
+-- a call of `cells`
+abbrev pub cells_example : List ℕ
+cells_example =
+    codes "Example, over a directory in which `play` wrote four numbers:\n"
+    ++ codes "$ icerepo cells main /t 0 4 --dir repo\n"
+    ++ codes "cells 2 cells 1,2,-1,-1\n"
+    ++ codes "cells done\n"
+    ++ codes "branch main C6MK83Z0XBWTSG5RXQK0\n"
+
 -- a call of `grow`
 abbrev pub grow_example : List ℕ
 grow_example =
@@ -73,8 +109,17 @@ grow_example =
     ++ codes "$ icerepo grow 1\n"
     ++ codes "tasks 2 committed 2 refused 0 events 16\n"
 
+-- a call of `check`
+abbrev pub check_example : List ℕ
+check_example =
+    codes "Example:\n"
+    ++ codes "$ icerepo check\n"
+    ++ codes "check checked 0 0\n"
+
 -- the help on a topic
 abbrev pub help_of : Topic → List ℕ
 help_of T.Program = program_text ++ statuses_text ++ play_example
 help_of T.Play = play_text ++ statuses_text ++ play_example
+help_of T.Cells = cells_text ++ statuses_text ++ cells_example
 help_of T.Grow = grow_text ++ statuses_text ++ grow_example
+help_of T.Check = check_text ++ statuses_text ++ check_example

@@ -1,7 +1,9 @@
 -- What the words of the command line say (own).
-use Rattle.std.specs.Prelude.{◌≡◌, ◌≤◌, ℕ, List, [], ◌∷◌, drop, Option, Some, None, unwrap_or, Result, Ok, Err, MatchResult, bytes_eq, codes, if◌then◌else◌}
+use Rattle.std.specs.Prelude.{◌≡◌, ◌≤◌, ◌==◌, ◌&&◌, not, ℕ, Bool, List, [], ◌∷◌, drop, Option, Some, None, unwrap_or, Result, Ok, Err, MatchResult, false, bytes_eq, codes, if◌then◌else◌}
+use Rattle.std.specs.List.{list_all, list_any}
 use Rattle.clap.specs.Words.{Text, Kinds}
 use Rattle.clap.specs.declared.error.kind.ErrorKind.TheVariants.{DisplayHelp}
+use Rattle.command_words.specs.declared.reading.BoxWords.{BoxWords}
 use Rattle.command_words.specs.declared.reading.Command.{Command}
 use Rattle.command_words.specs.declared.reading.Command.TheVariants as C
 use Rattle.command_words.specs.declared.reading.Topic.{Topic}
@@ -14,34 +16,52 @@ use Rattle.command_words.specs.declared.reading.WordsFault.{WordsFault}
 use Rattle.command_words.specs.declared.reading.WordsFault.TheVariants as F
 use Rattle.command_words.specs.declared.reading.Place.{Place}
 use Rattle.command_words.specs.declared.reading.Place.TheVariants as P
-use Rattle.command_words.specs.Parsers.{play, grow, kinds_of, dir_in, count_in}
+use Rattle.command_words.specs.Parsers.{play, cells, grow, check, kinds_of, dir_in, word_in, count_in}
 
 -- what the first word names
 abbrev pub name_of : Text → Option Name
 name_of word =
     if bytes_eq word (codes "play") then Some N.Play else
+    (if bytes_eq word (codes "cells") then Some N.Cells else
     (if bytes_eq word (codes "grow") then Some N.Grow else
+    (if bytes_eq word (codes "check") then Some N.Check else
     (if bytes_eq word (codes "--help") then Some N.Help else
-    (if bytes_eq word (codes "--version") then Some N.Version else None)))
+    (if bytes_eq word (codes "--version") then Some N.Version else None)))))
 
--- clap takes the words; they ask for help; or clap refuses them otherwise
-abbrev pub answer_of : Kinds → Command → Topic → Result Command UsageFault
-answer_of [] command topic = Ok command
-answer_of (DisplayHelp ∷ kinds) command topic = Ok (C.Help topic)
-answer_of (kind ∷ kinds) command topic = Err Words
+-- clap takes the words, and this is what they say; they ask for help; or clap refuses them otherwise
+abbrev pub answer_of : Kinds → Result Command UsageFault → Topic → Result Command UsageFault
+answer_of [] said topic = said
+answer_of (DisplayHelp ∷ kinds) said topic = Ok (C.Help topic)
+answer_of (kind ∷ kinds) said topic = Err Words
 
 -- no word stands behind
 abbrev pub alone : List Text → Command → Result Command UsageFault
 alone [] command = Ok command
 alone (word ∷ others) command = Err Words
 
+-- a word without a space and a line feed is one word of a script
+abbrev pub is_one : Text → Bool
+is_one word = list_all (λ b. not (b == 32) && not (b == 10)) word
+
+abbrev pub are_ones : BoxWords → Bool
+are_ones box = is_one box.branch && is_one box.path && is_one box.from && is_one box.to
+
+-- the four words of `cells`
+abbrev pub box_in : List Text → BoxWords
+box_in words = record { branch = word_in (codes "branch") words; path = word_in (codes "path") words; from = word_in (codes "from") words; to = word_in (codes "to") words }
+
+abbrev pub box_said : BoxWords → Result Command UsageFault
+box_said box = if are_ones box then Ok (C.Cells box) else Err Words
+
 abbrev pub count_of : List Text → ℕ
 count_of words = unwrap_or (count_in words) 0
 
 abbrev pub command_named : Option Name → List Text → Result Command UsageFault
 command_named None words = Err Unknown
-command_named (Some N.Play) words = answer_of (kinds_of play words) C.Play T.Play
-command_named (Some N.Grow) words = answer_of (kinds_of grow words) (C.Grow (count_of words)) T.Grow
+command_named (Some N.Play) words = answer_of (kinds_of play words) (Ok C.Play) T.Play
+command_named (Some N.Cells) words = answer_of (kinds_of cells words) (box_said (box_in words)) T.Cells
+command_named (Some N.Grow) words = answer_of (kinds_of grow words) (Ok (C.Grow (count_of words))) T.Grow
+command_named (Some N.Check) words = answer_of (kinds_of check words) (Ok C.Check) T.Check
 command_named (Some N.Help) words = alone (drop 1 words) (C.Help T.Program)
 command_named (Some N.Version) words = alone (drop 1 words) C.Version
 
@@ -69,13 +89,22 @@ abbrev pub dir_where : Kinds → Option Text → Option Text
 dir_where [] dir = dir
 dir_where (kind ∷ kinds) dir = None
 
+-- what it gives beside the words of `cells`, where those are words of a script
+abbrev pub dir_beside : BoxWords → Option Text → Option Text
+dir_beside box dir = if are_ones box then dir else None
+
+abbrev pub box_dir : List Text → Option Text
+box_dir words = dir_beside (box_in words) (dir_in cells words)
+
 abbrev pub dir_named : Option Name → List Text → Option Text
 dir_named (Some N.Play) words = dir_where (kinds_of play words) (dir_in play words)
+dir_named (Some N.Cells) words = dir_where (kinds_of cells words) (box_dir words)
 dir_named (Some N.Grow) words = dir_where (kinds_of grow words) (dir_in grow words)
+dir_named (Some N.Check) words = dir_where (kinds_of check words) (dir_in check words)
 dir_named _ words = None
 
--- the path of the directory: there is one exactly where the first word names a command, clap takes the words, and `--dir` is
--- among them
+-- the path of the directory: there is one exactly where the first word names a command, clap takes the words, those of `cells` are
+-- words of a script, and `--dir` is among them
 abbrev pub dir_of : List Text → Option Text
 dir_of [] = None
 dir_of (first ∷ others) = dir_named (name_of first) (first ∷ others)
@@ -83,3 +112,13 @@ dir_of (first ∷ others) = dir_named (name_of first) (first ∷ others)
 abbrev pub path_of : Place → Option Text
 path_of P.Memory = None
 path_of (P.Dir path) = Some path.now
+
+-- ---- how far a check is
+-- whether one of the words is `--progress`
+abbrev pub has_progress : List Text → Bool
+has_progress words = list_any (λ word. bytes_eq word (codes "--progress")) words
+
+-- whether the words ask that it is told: the first one is `check`, and `--progress` stands behind it
+abbrev pub shows_progress : List Text → Bool
+shows_progress [] = false
+shows_progress (first ∷ others) = bytes_eq first (codes "check") && has_progress others

@@ -7,5 +7,7 @@ mod reading;
 mod words;
 
 pub use help::version;
-pub use reading::{Command, Place, Topic, UsageFault, WordsFault, place_of, read_words};
+pub use reading::{
+    BoxWords, Command, Place, Topic, UsageFault, WordsFault, place_of, read_words, shows_progress,
+};
 pub use words::{Word, words_of};

@@ -1,23 +1,40 @@
 //! What the words say.
 
-ghost use Rattle.std.specs.Prelude.{◌≡◌, List, IfOk, option_map};
-ghost use Rattle.command_words.specs.Parsers.{grow, kinds_of, play};
+ghost use Rattle.std.specs.Prelude.{◌≡◌, List, Ok, Option, Result as TheResult, IfOk, option_map};
+ghost use Rattle.command_words.specs.Parsers.{cells, check, grow, kinds_of, play};
 ghost use Rattle.clap.specs.Words.{App, Text};
-ghost use Rattle.command_words.specs.Words.{IsInRange, IsSaid, alone, answer_of, command_of, count_of, dir_of, name_of, path_of};
-ghost use Rattle.command_words.specs.inside.Parsing.{IsRefused, IsDir};
+ghost use Rattle.command_words.specs.Words.{IsInRange, has_progress, shows_progress, IsSaid, alone, answer_of, are_ones, box_dir, box_in, box_said, command_of, dir_beside, count_of, dir_of, is_one, name_of, path_of};
+ghost use Rattle.command_words.specs.inside.Parsing.{IsRefused, IsDir, IsDirOf, box_seen};
 
-use crate::parsers::{Refusal, read_grow, read_play};
+use crate::parsers::{CellsGiven, Refusal, read_cells, read_check, read_grow, read_play};
 use crate::words::Word;
 use std::alloc::{AllocError, Global};
 use std::convert::AsStr;
 
+/// The words that tell a box of cells of an array.
+#[derive(Debug, PartialEq, Eq, Drop)]
+pub struct BoxWords {
+    /// The branch at which the array is read.
+    pub branch: Word,
+    /// The array's path.
+    pub path: Word,
+    /// Where the box begins.
+    pub from: Word,
+    /// Where it ends; that isn't in it.
+    pub to: Word,
+}
+
 /// What the program is told to do.
-#[derive(Clone, Copy, Debug, PartialEq, Eq)]
+#[derive(Debug, PartialEq, Eq, Drop)]
 pub enum Command {
     /// Runs the script that comes on standard input, and prints its report.
     Play,
+    /// Makes a script that shows the numbers of a box of cells, runs it, and prints its report.
+    Cells(BoxWords),
     /// Makes a script of so many tasks beside the first one, from 1 to 60, runs it, and prints one line.
     Grow(u8),
+    /// Checks all that the refs of the repository reach, and prints what is wrong.
+    Check,
     /// Prints help.
     Help(Topic),
     /// Prints the version.
@@ -31,8 +48,12 @@ pub enum Topic {
     Program,
     /// The command `play`.
     Play,
+    /// The command `cells`.
+    Cells,
     /// The command `grow`.
     Grow,
+    /// The command `check`.
+    Check,
 }
 
 /// How the words are wrong.
@@ -68,7 +89,9 @@ pub enum Place<'a> {
 #[derive(Clone, Copy, Debug, PartialEq, Eq)]
 enum Name {
     Play,
+    Cells,
     Grow,
+    Check,
     Help,
     Version,
 }
@@ -78,8 +101,12 @@ fn name_of(word: &str) -> Option<Name>
 {
     if word == "play" {
         Some(Name::Play)
+    } else if word == "cells" {
+        Some(Name::Cells)
     } else if word == "grow" {
         Some(Name::Grow)
+    } else if word == "check" {
+        Some(Name::Check)
     } else if word == "--help" {
         Some(Name::Help)
     } else if word == "--version" {
@@ -91,7 +118,7 @@ fn name_of(word: &str) -> Option<Name>
 
 /// What clap's refusal of a command's words comes to.
 fn refused(refusal: Refusal, topic: Topic) -> Result<Command, WordsFault>
-    ensures says { (a : App) (words : List Text) (command : Command) → IsRefused a words refusal → IsSaid (answer_of (kinds_of a words) command topic) result }
+    ensures says { (a : App) (words : List Text) (said : TheResult Command UsageFault) → IsRefused a words refusal → IsSaid (answer_of (kinds_of a words) said topic) result }
     ensures range { IfOk result IsInRange }
 {
     match refusal {
@@ -102,7 +129,7 @@ fn refused(refusal: Refusal, topic: Topic) -> Result<Command, WordsFault>
 }
 
 fn play_said(alloc: Global, words: &[Word]) -> Result<Command, WordsFault>
-    ensures { IsSaid (answer_of (kinds_of play words.now) Command.Play Topic.Play) result }
+    ensures { IsSaid (answer_of (kinds_of play words.now) (Ok Command.Play) Topic.Play) result }
 {
     match read_play(alloc, words) {
         Ok(_) => Ok(Command::Play),
@@ -110,13 +137,81 @@ fn play_said(alloc: Global, words: &[Word]) -> Result<Command, WordsFault>
     }
 }
 
+/// Whether a word is one word of a script.
+fn is_one(word: &str) -> bool
+    ensures { result ≡ is_one word.now }
+{
+    word.bytes().all(|b| b != b' ' && b != b'\n')
+}
+
+impl<'a> CellsGiven<'a> {
+    /// Whether the four words are words of a script.
+    fn are_ones(self) -> bool
+        ensures { result ≡ are_ones (box_seen self.entry) }
+    {
+        is_one(self.branch) && is_one(self.path) && is_one(self.from) && is_one(self.to)
+    }
+
+    /// The four words, in memory of their own.
+    fn words(self, alloc: Global) -> Result<BoxWords, AllocError>
+        ensures { IfOk result (λ words. words ≡ box_seen self.entry) }
+    {
+        Ok(BoxWords {
+            branch: Word::of(alloc, self.branch)?,
+            path: Word::of(alloc, self.path)?,
+            from: Word::of(alloc, self.from)?,
+            to: Word::of(alloc, self.to)?,
+        })
+    }
+
+    /// What the words say.
+    fn said(self, alloc: Global) -> Result<Command, WordsFault>
+        ensures says { IsSaid (box_said (box_seen self.entry)) result }
+        ensures range { IfOk result IsInRange }
+    {
+        if !self.are_ones() {
+            return Err(WordsFault::Usage(UsageFault::Words));
+        }
+        match self.words(alloc) {
+            Ok(words) => Ok(Command::Cells(words)),
+            Err(_) => Err(WordsFault::NoMemory),
+        }
+    }
+
+    /// The path of the directory, where the four words are words of a script.
+    fn dir(self) -> Option<&'a str>
+        ensures { option_map (λ s. s.now) result ≡ dir_beside (box_seen self.entry) (option_map (λ s. s.now) self.entry.dir) }
+    {
+        if self.are_ones() { self.dir } else { None }
+    }
+}
+
+fn cells_said(alloc: Global, words: &[Word]) -> Result<Command, WordsFault>
+    ensures says { IsSaid (answer_of (kinds_of cells words.now) (box_said (box_in words.now)) Topic.Cells) result }
+    ensures range { IfOk result IsInRange }
+{
+    match read_cells(alloc, words) {
+        Ok(given) => given.said(alloc),
+        Err(refusal) => refused(refusal, Topic::Cells),
+    }
+}
+
 fn grow_said(alloc: Global, words: &[Word]) -> Result<Command, WordsFault>
-    ensures says { IsSaid (answer_of (kinds_of grow words.now) (Command.Grow (count_of words.now)) Topic.Grow) result }
+    ensures says { IsSaid (answer_of (kinds_of grow words.now) (Ok (Command.Grow (count_of words.now))) Topic.Grow) result }
     ensures range { IfOk result IsInRange }
 {
     match read_grow(alloc, words) {
         Ok(given) => Ok(Command::Grow(given.count)),
         Err(refusal) => refused(refusal, Topic::Grow),
+    }
+}
+
+fn check_said(alloc: Global, words: &[Word]) -> Result<Command, WordsFault>
+    ensures { IsSaid (answer_of (kinds_of check words.now) (Ok Command.Check) Topic.Check) result }
+{
+    match read_check(alloc, words) {
+        Ok(_) => Ok(Command::Check),
+        Err(refusal) => refused(refusal, Topic::Check),
     }
 }
 
@@ -132,11 +227,12 @@ fn alone(others: &[Word], command: Command) -> Result<Command, WordsFault>
 }
 
 /// The command that the words after the program's name say. The first one names it, and clap reads
-/// the words of `play` and `grow`.
+/// the words of `play`, `cells`, `grow` and `check`.
 ///
 /// The fault is `NoCommand` where there is no word, `Unknown` where the first one names no command,
-/// and `Words` exactly where clap refuses the others for another cause than memory, or where a word
-/// stands behind `--help` or `--version`. A command's own `--help` asks for help on it.
+/// and `Words` exactly where clap refuses the others for another cause than memory, where one of the
+/// four words of `cells` holds a space or a line feed, or where a word stands behind `--help` or
+/// `--version`. A command's own `--help` asks for help on it.
 pub fn read_words(alloc: Global, words: &[Word]) -> Result<Command, WordsFault>
     ensures says { IsSaid (command_of words.now) result }
     ensures range { IfOk result IsInRange }
@@ -146,7 +242,9 @@ pub fn read_words(alloc: Global, words: &[Word]) -> Result<Command, WordsFault>
     };
     match name_of(first.as_str()) {
         Some(Name::Play) => play_said(alloc, words),
+        Some(Name::Cells) => cells_said(alloc, words),
         Some(Name::Grow) => grow_said(alloc, words),
+        Some(Name::Check) => check_said(alloc, words),
         Some(Name::Help) => alone(others, Command::Help(Topic::Program)),
         Some(Name::Version) => alone(others, Command::Version),
         None => Err(WordsFault::Usage(UsageFault::Unknown)),
@@ -155,7 +253,7 @@ pub fn read_words(alloc: Global, words: &[Word]) -> Result<Command, WordsFault>
 
 /// No directory is told where clap refuses the words.
 fn no_dir<'a>(refusal: Refusal) -> Result<Option<&'a str>, AllocError>
-    ensures { (a : App) (words : List Text) → IsRefused a words refusal → IsDir a words result }
+    ensures { (a : App) (words : List Text) (dir : Option Text) → IsRefused a words refusal → IsDirOf a words dir result }
 {
     match refusal {
         Refusal::NoMemory => Err(AllocError),
@@ -172,11 +270,29 @@ fn play_dir<'a>(alloc: Global, words: &'a [Word]) -> Result<Option<&'a str>, All
     }
 }
 
+fn cells_dir<'a>(alloc: Global, words: &'a [Word]) -> Result<Option<&'a str>, AllocError>
+    ensures { IsDirOf cells words.entry.now (box_dir words.entry.now) result }
+{
+    match read_cells(alloc, words) {
+        Ok(given) => Ok(given.dir()),
+        Err(refusal) => no_dir(refusal),
+    }
+}
+
 fn grow_dir<'a>(alloc: Global, words: &'a [Word]) -> Result<Option<&'a str>, AllocError>
     ensures { IsDir grow words.entry.now result }
 {
     match read_grow(alloc, words) {
         Ok(given) => Ok(given.dir),
+        Err(refusal) => no_dir(refusal),
+    }
+}
+
+fn check_dir<'a>(alloc: Global, words: &'a [Word]) -> Result<Option<&'a str>, AllocError>
+    ensures { IsDir check words.entry.now result }
+{
+    match read_check(alloc, words) {
+        Ok(dir) => Ok(dir),
         Err(refusal) => no_dir(refusal),
     }
 }
@@ -189,13 +305,16 @@ fn named_dir<'a>(alloc: Global, words: &'a [Word]) -> Result<Option<&'a str>, Al
     };
     match name_of(first.as_str()) {
         Some(Name::Play) => play_dir(alloc, words),
+        Some(Name::Cells) => cells_dir(alloc, words),
         Some(Name::Grow) => grow_dir(alloc, words),
+        Some(Name::Check) => check_dir(alloc, words),
         _ => Ok(None),
     }
 }
 
 /// Where the words say that the repository lies: in a directory exactly where the first word names a
-/// command, clap takes the others, and `--dir` is among them; else in memory.
+/// command, clap takes the others, the four words of `cells` hold neither a space nor a line feed, and
+/// `--dir` is among them; else in memory.
 pub fn place_of<'a>(alloc: Global, words: &'a [Word]) -> Result<Place<'a>, AllocError>
     ensures { IfOk result (λ place. path_of place ≡ dir_of words.entry.now) }
 {
@@ -203,4 +322,22 @@ pub fn place_of<'a>(alloc: Global, words: &'a [Word]) -> Result<Place<'a>, Alloc
         Some(path) => Place::Dir(path),
         None => Place::Memory,
     })
+}
+
+/// Whether one of the words is `--progress`.
+fn has_progress(words: &[Word]) -> bool
+    ensures { result ≡ has_progress words.now }
+{
+    words.iter().any(|word| word.as_str() == "--progress")
+}
+
+/// Whether the words ask that a check tells how far it is: the first one is `check`, and `--progress` stands behind it. Where they
+/// are no command, nothing is checked.
+pub fn shows_progress(words: &[Word]) -> bool
+    ensures { result ≡ shows_progress words.now }
+{
+    match words {
+        [first, others @ ..] => first.as_str() == "check" && has_progress(others),
+        [] => false,
+    }
 }

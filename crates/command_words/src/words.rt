@@ -23,6 +23,27 @@ impl Model for Word {
     ghost view = { λ word. string_bytes word.text };
 }
 
+impl PartialEq for Word {
+    ghost use Rattle.std.specs.Prelude.{bytes_eq};
+    ghost use Rattle.std.specs.Cmp.{on_per, partial_equiv_from_equiv};
+    ghost use Rattle.std.specs.Cmp.Lexicographic.{nat_list_eq_equiv};
+
+    ghost eq = { λ a b. bytes_eq a b };
+
+    ghost laws = { on_per (λ a. a) (partial_equiv_from_equiv nat_list_eq_equiv) };
+
+    fn eq(&self, other: &Word) -> bool {
+        self.as_str() == other.as_str()
+    }
+}
+
+impl Eq for Word {
+    ghost use Rattle.std.specs.Cmp.{on_equiv};
+    ghost use Rattle.std.specs.Cmp.Lexicographic.{nat_list_eq_equiv};
+
+    ghost laws = { on_equiv (λ a. a) nat_list_eq_equiv };
+}
+
 impl AsStr for Word {
     ghost text = { λ word. word };
 
@@ -37,6 +58,15 @@ impl Word {
         ensures { result ≡ string_bytes text }
     {
         Word { text }
+    }
+
+    /// The word of this text, in memory of its own.
+    pub fn of(alloc: Global, text: &str) -> Result<Word, AllocError>
+        ensures { IfOk result (λ word. word ≡ text.now) }
+    {
+        Ok(Word {
+            text: String::from_str(alloc, text)?,
+        })
     }
 }
 

@@ -98,9 +98,9 @@ carried-along client policy (suc count) s t start journal was =
     came-on policy s lost t first (links_read client policy lost t since journal was.5) on (rebased-along client policy lost t since journal was.5)
 
 pub solved-law : SolvedLaw
-solved-law ids task client start journal whole t u id other a b named bytes links =
+solved-law ids task client start journal whole t u id other a b named bytes boxes links =
     let access : a.access ≡ b.access = access-same a.access b.access (sym a.head_is ∙ b.head_is) in
-    let session : a.session ≡ b.session = sessions-law ids task client start journal whole t u id other a b named bytes in
+    let session : a.session ≡ b.session = sessions-law ids task client start journal whole t u id other a b named bytes boxes in
     let first = carried-along client (policy_of a.access) a.count a.session t start journal a.carried in
     let second = carried-along client (policy_of b.access) b.count b.session u start whole b.carried in
     solves-same t.held u.held (sym first.held ∙ (λ i. along (policy_of (access i)) ((session i).held) (base_nodes (session i)) (links i)) ∙ second.held)

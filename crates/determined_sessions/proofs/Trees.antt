@@ -1,9 +1,12 @@
 -- What lines do is determined, and what is left of changes, in words of trees.
-use Rattle.std.proofs.Common.{◌≡◌, ℕ, List, [], ◌∷◌, ◌++◌, Option, Some, None, Result, Ok, refl, sym, ◌∙◌, ap, subst}
+use Rattle.std.proofs.Common.{◌≡◌, ℕ, List, [], ◌∷◌, ◌++◌, Option, Some, None, Result, Ok, inl, inr, ℤ, Bool, true, false, refl, sym, ◌∙◌, ap, subst}
 use Rattle.std.specs.Cmp.{both_ways}
+use Rattle.std.proofs.lemmas.Bool.{false≢true}
 use Rattle.ice_ids.specs.declared.Id8.{Id8}
 use Rattle.ice_ids.specs.declared.Id12.{Id12}
+use Rattle.zarr_path.specs.Paths.{same_path}
 use Rattle.zarr_path.specs.Keys.{key_of}
+use Rattle.zarr_path.proofs.OrderLaws.{same_path-true, same_path-refl}
 use Rattle.zarr_path.specs.declared.keys.ZarrKey.{ZarrKey}
 use Rattle.zarr_path.specs.declared.keys.ZarrKey.TheVariants as K
 use Rattle.zarr_tree.specs.declared.edit.EditFault.{EditFault}
@@ -13,20 +16,28 @@ use Rattle.zarr_tree.specs.Changes.{Changes}
 use Rattle.zarr_tree.specs.Conflicts.{without}
 use Rattle.zarr_tree.specs.Edits.{Edit, Add, SetMeta, Drop, Set, Unset, change}
 use Rattle.zarr_meta.specs.Plain.{group_text}
+use Rattle.zarr_meta.specs.declared.views.ArrayView.{ArrayView}
+use Rattle.region_cells.specs.Walks.{chunks_met}
+use Rattle.region_calls.specs.Written.{IsTreeWith}
+use Rattle.region_calls.proofs.Cells.{has_told}
 use Rattle.conflicts.specs.declared.solving.Policy.{Policy}
 use Rattle.rebase.specs.Along.{Link}
 use Rattle.rebase.specs.AlongLaws.{Passes}
+use Rattle.play_script.specs.declared.scripts.CellBox.{CellBox}
 use Rattle.play_script.specs.declared.scripts.EditCall.{EditCall}
 use Rattle.play_script.specs.declared.scripts.EditCall.TheVariants as E
 use Rattle.play_script.specs.declared.scripts.Call.{Call}
 use Rattle.play_script.specs.declared.scripts.Call.TheVariants as C
 use Rattle.play_outcome.specs.declared.outcome.Shown.{Shown}
-use Rattle.run_promise.specs.Lines.{text_put, key_put, key_erase, edit_of, Does, Plays}
+use Rattle.run_promise.specs.Lines.{text_put, key_put, key_erase, edit_of, Edits, PutsBox, Changed, Does, Plays}
 use Rattle.run_promise.specs.Ways.{Carried, stays, over}
-use Rattle.determined_sessions.specs.Trees.{id_added, id_given, ids_given, PlaysLaw, links_of, CarriedLaw}
+use Rattle.determined_sessions.specs.Trees.{id_added, edit_ids, id_given, ids_given, PlaysLaw, links_of, CarriedLaw}
 
 some-same : {A : Type 0} (a b : A) → Some a ≡ Some b → a ≡ b
 some-same a b e = cc
+
+array-same : (a b : ArrayView) → Some a ≡ Some b → a ≡ b
+array-same a b e = cc
 
 tree-same : (r : Result Tree EditFault) (t u : Tree) → r ≡ Ok t → r ≡ Ok u → t ≡ u
 tree-same r t u e f = cc
@@ -75,6 +86,7 @@ edit-same (E.Drop path) t id other m n xs ys e f h = plain-same (Drop path) refl
 edit-same (E.Set path index bytes) t id other m n xs ys e f h = plain-same (Set path index bytes) refl m n xs ys e f h
 edit-same (E.Fill path index byte) t id other m n xs ys e f h = plain-same (Set path index _) refl m n xs ys e f h
 edit-same (E.Unset path index) t id other m n xs ys e f h = plain-same (Unset path index) refl m n xs ys e f h
+edit-same (E.Put place numbers) t id other m n xs ys e f h = absurd cc
 edit-same (E.KeySet key bytes) t id other m n xs ys e f h = key-put-same (key_of key) bytes t id other m n xs ys e f h
 edit-same (E.KeyErase key) t id other m n xs ys e f h = key-erase-same (key_of key) m n xs ys e f h
 
@@ -82,11 +94,48 @@ edit-same (E.KeyErase key) t id other m n xs ys e f h = key-erase-same (key_of k
 abbrev Alike : (shown told : List Shown) (u v : Tree) (xs ys : List Id8) → Type 0
 Alike shown told u v xs ys = (shown ≡ told) × (u ≡ v) × (xs ≡ ys)
 
-does-same : (line : ℕ) (call : Call) (t : Tree) (shown told : List Shown) (u v : Tree) (p : Does line call t shown u) (q : Does line call t told v) (xs ys : List Id8)
-    → id_given line call t shown u p ++ xs ≡ id_given line call t told v q ++ ys → Alike shown told u v xs ys
-does-same line (C.Edit edit) t shown told u v p q xs ys h =
+edits-same : (edit : EditCall) (t : Tree) (shown told : List Shown) (u v : Tree) (p : Edits edit t shown u) (q : Edits edit t told v) (xs ys : List Id8) → id_added p.made ++ xs ≡ id_added q.made ++ ys → Alike shown told u v xs ys
+edits-same edit t shown told u v p q xs ys h =
     let one = edit-same edit t p.id q.id p.made q.made xs ys p.asked q.asked h in
     (p.silent ∙ sym q.silent, tree-same (change t q.made) u v (ap (change t) (sym one.0) ∙ p.changed) q.changed, one.1)
+
+-- a tree with these numbers in a box is one tree
+module _ (path : List ℕ) (array : ArrayView) (from to : List ℕ) (numbers : List ℤ) (t u v : Tree) (a : IsTreeWith path array from to numbers t u) (b : IsTreeWith path array from to numbers t v) where
+  own-chunk : (index : List ℕ) → u.chunk path index ≡ v.chunk path index
+  own-chunk index = elim (has_told (chunks_met array.chunks from to) index) [ inl met ↦ a.touched index met ∙ sym (b.touched index met) | inr none ↦ a.others index none ∙ sym (b.others index none) ]
+
+  chunk-by : (q index : List ℕ) (same : Bool) → same_path q path ≡ same → u.chunk q index ≡ v.chunk q index
+  chunk-by q index true e = let is : q ≡ path = same_path-true q path e in ap (λ (p : List ℕ). u.chunk p index) is ∙ own-chunk index ∙ sym (ap (λ (p : List ℕ). v.chunk p index) is)
+  chunk-by q index false e =
+      let apart : q ≡ path → ⊥ = λ is. false≢true (sym e ∙ ap (same_path q) (sym is) ∙ same_path-refl q) in
+      a.elsewhere q index apart ∙ sym (b.elsewhere q index apart)
+
+  with-one : u ≡ v
+  with-one =
+      let nodes : u.nodes ≡ v.nodes = a.nodes ∙ sym b.nodes in
+      λ i. record { nodes = nodes i; chunk = λ q index. chunk-by q index (same_path q path) refl i }
+
+puts-same : (place : CellBox) (numbers : List ℤ) (t : Tree) (shown told : List Shown) (u v : Tree) (p : PutsBox place numbers t shown u) (q : PutsBox place numbers t told v) → u ≡ v
+puts-same place numbers t shown told u v p q =
+    let array : p.array ≡ q.array = array-same p.array q.array (sym p.there ∙ q.there) in
+    with-one place.path q.array place.from place.to numbers t u v (subst (λ (x : ArrayView). IsTreeWith place.path x place.from place.to numbers t u) array p.box) q.box
+
+changed-same : (edit : EditCall) (t : Tree) (shown told : List Shown) (u v : Tree) (p : Changed edit t shown u) (q : Changed edit t told v) (xs ys : List Id8) → edit_ids edit t shown u p ++ xs ≡ edit_ids edit t told v q ++ ys → Alike shown told u v xs ys
+changed-same (E.Group path) t shown told u v p q xs ys h = edits-same (E.Group path) t shown told u v p q xs ys h
+changed-same (E.Array path text) t shown told u v p q xs ys h = edits-same (E.Array path text) t shown told u v p q xs ys h
+changed-same (E.Make path text) t shown told u v p q xs ys h = edits-same (E.Make path text) t shown told u v p q xs ys h
+changed-same (E.Meta path text) t shown told u v p q xs ys h = edits-same (E.Meta path text) t shown told u v p q xs ys h
+changed-same (E.Drop path) t shown told u v p q xs ys h = edits-same (E.Drop path) t shown told u v p q xs ys h
+changed-same (E.Set path index bytes) t shown told u v p q xs ys h = edits-same (E.Set path index bytes) t shown told u v p q xs ys h
+changed-same (E.Fill path index byte) t shown told u v p q xs ys h = edits-same (E.Fill path index byte) t shown told u v p q xs ys h
+changed-same (E.Unset path index) t shown told u v p q xs ys h = edits-same (E.Unset path index) t shown told u v p q xs ys h
+changed-same (E.Put place numbers) t shown told u v p q xs ys h = (p.silent ∙ sym q.silent, puts-same place numbers t shown told u v p q, h)
+changed-same (E.KeySet key bytes) t shown told u v p q xs ys h = edits-same (E.KeySet key bytes) t shown told u v p q xs ys h
+changed-same (E.KeyErase key) t shown told u v p q xs ys h = edits-same (E.KeyErase key) t shown told u v p q xs ys h
+
+does-same : (line : ℕ) (call : Call) (t : Tree) (shown told : List Shown) (u v : Tree) (p : Does line call t shown u) (q : Does line call t told v) (xs ys : List Id8)
+    → id_given line call t shown u p ++ xs ≡ id_given line call t told v q ++ ys → Alike shown told u v xs ys
+does-same line (C.Edit edit) t shown told u v p q xs ys h = changed-same edit t shown told u v p q xs ys h
 does-same line (C.Read read) t shown told u v p q xs ys h = (some-same shown told (sym p.0 ∙ q.0), p.1 ∙ sym q.1, h)
 does-same line (C.Commit message) t shown told u v p q xs ys h = absurd p
 does-same line (C.Ref call) t shown told u v p q xs ys h = (p.0 ∙ sym q.0, p.1 ∙ sym q.1, h)

@@ -7,11 +7,13 @@ use Rattle.zarr_tree.specs.Changes.{Changes}
 use Rattle.zarr_tree.specs.Edits.{Edit, Add, SetMeta, Drop, Set, Unset}
 use Rattle.conflicts.specs.declared.solving.Policy.{Policy}
 use Rattle.rebase.specs.Along.{Link}
+use Rattle.play_script.specs.declared.scripts.EditCall.{EditCall}
+use Rattle.play_script.specs.declared.scripts.EditCall.TheVariants as E
 use Rattle.play_script.specs.declared.scripts.Call.{Call}
 use Rattle.play_script.specs.declared.scripts.Call.TheVariants as C
 use Rattle.play_script.specs.declared.scripts.Line.{Line}
 use Rattle.play_outcome.specs.declared.outcome.Shown.{Shown}
-use Rattle.run_promise.specs.Lines.{Does, Plays}
+use Rattle.run_promise.specs.Lines.{Changed, Does, Plays}
 use Rattle.run_promise.specs.Ways.{Carried, stays, over}
 
 -- ---- lines
@@ -23,8 +25,21 @@ id_added (Drop path) = []
 id_added (Set path index bytes) = []
 id_added (Unset path index) = []
 
+abbrev pub edit_ids : (edit : EditCall) (t : Tree) (shown : List Shown) (u : Tree) → Changed edit t shown u → List Id8
+edit_ids (E.Group path) t shown u did = id_added did.made
+edit_ids (E.Array path text) t shown u did = id_added did.made
+edit_ids (E.Make path text) t shown u did = id_added did.made
+edit_ids (E.Meta path text) t shown u did = id_added did.made
+edit_ids (E.Drop path) t shown u did = id_added did.made
+edit_ids (E.Set path index bytes) t shown u did = id_added did.made
+edit_ids (E.Fill path index byte) t shown u did = id_added did.made
+edit_ids (E.Unset path index) t shown u did = id_added did.made
+edit_ids (E.Put place numbers) t shown u did = []
+edit_ids (E.KeySet key bytes) t shown u did = id_added did.made
+edit_ids (E.KeyErase key) t shown u did = id_added did.made
+
 abbrev pub id_given : (line : ℕ) (call : Call) (t : Tree) (shown : List Shown) (u : Tree) → Does line call t shown u → List Id8
-id_given line (C.Edit edit) t shown u did = id_added did.made
+id_given line (C.Edit edit) t shown u did = edit_ids edit t shown u did
 id_given line (C.Read read) t shown u did = []
 id_given line (C.Commit message) t shown u did = []
 id_given line (C.Ref call) t shown u did = []

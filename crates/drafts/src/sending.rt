@@ -1,6 +1,7 @@
 //! What waits to be written.
 
 ghost use Rattle.std.specs.Prelude.{◌≡◌, ◌<◌, ◌-◌, ◌++◌, ◌∷◌, [], ℕ, List, false, min, length, take, drop, decimal, IfOk};
+ghost use Rattle.std.specs.Fmt.{signed_decimal};
 ghost use Rattle.ice_base.specs.Ends.{OutputAt};
 ghost use Rattle.drafts.specs.Drafts.{DraftAt, IsBlank, Took, Wrote};
 
@@ -127,6 +128,14 @@ impl Draft {
     /// Adds a number in digits of base 10.
     pub fn add_number<K: Sink>(&mut self, to: &mut K, number: u64)
         ensures { Took self.old (K.at to.old) (decimal number) self.new (K.at to.new) }
+    {
+        let mut digits = itoa::Buffer::new();
+        self.add(to, digits.format(number).as_bytes());
+    }
+
+    /// Adds a number of 128 bits with a sign, in digits of base 10.
+    pub fn add_signed<K: Sink>(&mut self, to: &mut K, number: i128)
+        ensures { Took self.old (K.at to.old) (signed_decimal number) self.new (K.at to.new) }
     {
         let mut digits = itoa::Buffer::new();
         self.add(to, digits.format(number).as_bytes());

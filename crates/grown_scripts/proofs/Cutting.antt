@@ -17,7 +17,7 @@ first_off c b bs h =
     (not-true (b == c) both.0, both.1)
 
 -- a line ends at its line feed
-feed_at : (w rest : Text) → list_all (is_not 10) w ≡ true → lines_of (w ++ 10 ∷ rest) ≡ w ∷ lines_of rest
+pub feed_at : (w rest : Text) → list_all (is_not 10) w ≡ true → lines_of (w ++ 10 ∷ rest) ≡ w ∷ lines_of rest
 unfolding lines_of
 feed_at [] rest h = refl
 feed_at (b ∷ bs) rest h = let off = first_off 10 b bs h in rw (off.0, feed_at bs rest off.1) refl

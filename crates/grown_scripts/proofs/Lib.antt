@@ -7,6 +7,7 @@ pub mod Fills
 pub mod Heads
 pub mod Turns
 pub mod Base
+pub mod Boxes
 pub mod Tasks
 pub mod Sizes
 pub mod Whole

@@ -3,6 +3,7 @@
 #![tactic(auto)]
 
 mod directory;
+mod progress;
 mod running;
 mod streams;
 mod system_store;

@@ -3,11 +3,11 @@
 ghost use Rattle.std.specs.Prelude.{◌≡◌, true};
 ghost use Rattle.store_api.specs.Journal.{IsGoodJournal};
 
-use command_words::Word;
+use crate::progress::Progress;
+use command_words::{Word, shows_progress};
 use ice_base::{StdSink, StdSource, TickClock};
 use ice_ids::Draw;
 use mem_store::MemStore;
-use play_at_once::OpenGate;
 use std::process::ExitCode;
 use std::sync::Wait;
 use std::thread::Threads;
@@ -23,6 +23,7 @@ pub fn run_over<
 {
     let mut input = StdSource::new(*rt);
     let mut output = StdSink::new(*rt);
+    let gate = Progress::new(*rt, shows_progress(words));
     run(
         rt,
         rt.alloc(),
@@ -30,7 +31,7 @@ pub fn run_over<
         draw,
         &mut input,
         store,
-        &OpenGate,
+        &gate,
         &mut output,
     )
 }

@@ -156,13 +156,15 @@ fn refused_lines(rt: HostRuntime) -> Result<(), Fail> {
     Ok(())
 }
 
-const WRONG: [(&[&str], UsageFault); 6] = [
+const WRONG: [(&[&str], UsageFault); 8] = [
     (&[], UsageFault::NoCommand),
     (&["Play"], UsageFault::Unknown),
     (&["pla", "--dir"], UsageFault::Unknown),
     (&["play", ""], UsageFault::Words),
     (&["play", "--dir"], UsageFault::Words),
     (&["grow", "61"], UsageFault::Words),
+    (&["cells", "main", "/a b", "0", "1"], UsageFault::Words),
+    (&["cells", "main", "/x", "0\n", "1"], UsageFault::Words),
 ];
 
 #[test]
@@ -187,6 +189,34 @@ fn other_commands(rt: HostRuntime) -> Result<(), Fail> {
         says(written(&rt, rt.alloc(), asked, Status::Ok), line)?;
     }
     Ok(())
+}
+
+/// `cells` plays two lines, and reads no input; a word that its line doesn't take is refused as one of a script.
+#[test]
+fn boxes_by_words(rt: HostRuntime) -> Result<(), Fail> {
+    let asked = asking(
+        rt.alloc(),
+        &["cells", "main", "/x", "0", "1"],
+        "",
+        &[0],
+        &[],
+    );
+    says(
+        written(&rt, rt.alloc(), asked, Status::Refused),
+        "cells refused 2 nonode\nbranch main 1CECHNKREP0F1RSTCMT0\n",
+    )?;
+    let asked = asking(
+        rt.alloc(),
+        &["cells", "main", "/x", "0", "one"],
+        "",
+        &[0],
+        &[],
+    );
+    let status = Status::Script {
+        line: 2,
+        kind: ScriptKind::Number,
+    };
+    says(written(&rt, rt.alloc(), asked, status), "")
 }
 
 /// What `grow 60` prints.

@@ -1,5 +1,7 @@
 use crate::checking::holds;
-use command_words::{Command, Place, Topic, UsageFault, Word, WordsFault, place_of, read_words};
+use command_words::{
+    BoxWords, Command, Place, Topic, UsageFault, Word, WordsFault, place_of, read_words,
+};
 use std::alloc::{AllocError, Global};
 use std::test::Fail;
 
@@ -40,7 +42,7 @@ const WRONG: Result<Command, WordsFault> = Err(WordsFault::Usage(UsageFault::Wor
 
 const UNKNOWN: Result<Command, WordsFault> = Err(WordsFault::Usage(UsageFault::Unknown));
 
-const LINES: [(&str, Result<Command, WordsFault>); 23] = [
+const LINES: [(&str, Result<Command, WordsFault>); 32] = [
     ("", Err(WordsFault::Usage(UsageFault::NoCommand))),
     ("run", UNKNOWN),
     ("-h", UNKNOWN),
@@ -53,6 +55,11 @@ const LINES: [(&str, Result<Command, WordsFault>); 23] = [
     ("play x", WRONG),
     ("play --dir", WRONG),
     ("play --dir a --dir b", WRONG),
+    ("cells --help", Ok(Command::Help(Topic::Cells))),
+    ("cells", WRONG),
+    ("cells main /x 0", WRONG),
+    ("cells main /x 0 1 2", WRONG),
+    ("cells main /x -1 1", WRONG),
     ("grow 1", Ok(Command::Grow(1))),
     ("grow +5", Ok(Command::Grow(5))),
     ("grow --dir=d 060", Ok(Command::Grow(60))),
@@ -61,6 +68,10 @@ const LINES: [(&str, Result<Command, WordsFault>); 23] = [
     ("grow 0", WRONG),
     ("grow 61", WRONG),
     ("grow 5 6", WRONG),
+    ("check", Ok(Command::Check)),
+    ("check --progress --dir d", Ok(Command::Check)),
+    ("check --help", Ok(Command::Help(Topic::Check))),
+    ("check x", WRONG),
     ("--help", Ok(Command::Help(Topic::Program))),
     ("--help play", WRONG),
     ("--version", Ok(Command::Version)),
@@ -74,12 +85,50 @@ fn words_are_read(rt: HostRuntime) -> Result<(), Fail> {
     Ok(())
 }
 
-const PLACES: [(&str, Place<'static>); 8] = [
+const BOXES: [(&str, [&str; 4]); 3] = [
+    ("cells main /x 0,1 3,5", ["main", "/x", "0,1", "3,5"]),
+    ("cells main --dir d /s - -", ["main", "/s", "-", "-"]),
+    ("cells --dir=d a b c d --", ["a", "b", "c", "d"]),
+];
+
+/// The command of four words.
+fn box_command(alloc: Global, [branch, path, from, to]: [&str; 4]) -> Result<Command, AllocError> {
+    Ok(Command::Cells(BoxWords {
+        branch: word(alloc, branch)?,
+        path: word(alloc, path)?,
+        from: word(alloc, from)?,
+        to: word(alloc, to)?,
+    }))
+}
+
+/// Whether the words of a line say a box of cells by these four words.
+fn says_box(alloc: Global, line: &str, four: [&str; 4]) -> bool {
+    let Ok(command) = box_command(alloc, four) else {
+        return false;
+    };
+    let said = Ok(command);
+    let says = says(alloc, line, &said);
+    drop(said);
+    says
+}
+
+#[test]
+fn boxes_are_told(rt: HostRuntime) -> Result<(), Fail> {
+    for (line, four) in &BOXES {
+        holds(says_box(rt.alloc(), line, *four), line)?;
+    }
+    Ok(())
+}
+
+const PLACES: [(&str, Place<'static>); 11] = [
     ("", Place::Memory),
     ("play", Place::Memory),
     ("play --dir d", Place::Dir("d")),
     ("play --dir=", Place::Dir("")),
     ("play --dir d x", Place::Memory),
+    ("cells main /x 0 1", Place::Memory),
+    ("cells main /x 0 1 --dir d", Place::Dir("d")),
+    ("cells main /x 0 --dir d", Place::Memory),
     ("grow 5 --dir d", Place::Dir("d")),
     ("grow 0 --dir d", Place::Memory),
     ("--version --dir d", Place::Memory),

@@ -1,9 +1,10 @@
 -- Places in a snapshot and in a manifest that move on.
-use Rattle.std.proofs.Common.{◌≡◌, ℕ, zero, suc, ◌+◌, ◌<◌, ◌≤◌, List, [], ◌∷◌, ◌++◌, map, take, drop, length, Option, Some, None, option_map, refl, sym, ◌∙◌, ap, subst, arith}
+use Rattle.std.proofs.Common.{◌≡◌, ℕ, zero, suc, ◌+◌, ◌<◌, ◌≤◌, List, [], ◌∷◌, ◌++◌, drop, length, Option, Some, None, option_map, refl, sym, ◌∙◌, ap, arith}
 use Rattle.std.specs.Prelude.{slice_get}
-use Rattle.std.specs.List.{cons_option, filter_map}
+use Rattle.std.specs.List.{cons_option}
+use Rattle.std.specs.Option.{option_or}
 use Rattle.std.proofs.lemmas.List.{drop_all, length-map}
-use Rattle.std.proofs.lemmas.Option.{slice_get-map, slice_get_within}
+use Rattle.std.proofs.lemmas.Option.{slice_get-map}
 use Rattle.manifest_file.specs.declared.manifest.ChunkRef.{ChunkRef}
 use Rattle.repo_objects.specs.declared.bad.Bad.{Bad}
 use Rattle.snapshot_file.specs.declared.nodes.ManifestRef.{ManifestRef}
@@ -12,7 +13,7 @@ use Rattle.snapshot_file.specs.Snapshots.{manifests_named}
 use Rattle.intact.specs.declared.visits.FileVisit.{FileVisit}
 use Rattle.intact.specs.declared.visits.PartVisit.{PartVisit}
 use Rattle.intact.specs.Rows.{file_for, files_of_row, files_of}
-use Rattle.intact.specs.Parts.{part_at, parts_in, inline_fault, first_short, or_later}
+use Rattle.intact.specs.Parts.{part_at, parts_in, inline_fault, first_short}
 use Rattle.intact.specs.Places.{files_behind, files_from}
 use Rattle.intact.proofs.Looking.{one-more}
 
@@ -65,11 +66,11 @@ few-parts want (chunk ∷ refs) = let rest = one-or-none (part_at want chunk.pla
 -- ---- chunks in a manifest
 pub short-here : (want : ℕ) (refs : List ChunkRef) (i : ℕ) (chunk : ChunkRef) (bad : Bad) → slice_get refs i ≡ Some chunk → inline_fault want chunk.place ≡ Some bad → first_short want (drop i refs) ≡ Some bad
 unfolding first_short
-short-here want refs i chunk bad at is = ap (first_short want) (one-more refs i chunk at) ∙ ap (λ (o : Option Bad). or_later o (first_short want (drop (i + 1) refs))) is
+short-here want refs i chunk bad at is = ap (first_short want) (one-more refs i chunk at) ∙ ap (λ (o : Option Bad). option_or o (first_short want (drop (i + 1) refs))) is
 
 pub short-passed : (want : ℕ) (refs : List ChunkRef) (i : ℕ) (chunk : ChunkRef) → slice_get refs i ≡ Some chunk → inline_fault want chunk.place ≡ None → first_short want (drop i refs) ≡ first_short want (drop (i + 1) refs)
 unfolding first_short
-short-passed want refs i chunk at is = ap (first_short want) (one-more refs i chunk at) ∙ ap (λ (o : Option Bad). or_later o (first_short want (drop (i + 1) refs))) is
+short-passed want refs i chunk at is = ap (first_short want) (one-more refs i chunk at) ∙ ap (λ (o : Option Bad). option_or o (first_short want (drop (i + 1) refs))) is
 
 pub short-end : (want : ℕ) (refs : List ChunkRef) (i : ℕ) → length refs ≤ i → first_short want (drop i refs) ≡ None
 unfolding first_short

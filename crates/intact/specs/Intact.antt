@@ -1,5 +1,5 @@
 -- When a repository is intact, by what operations on it were answered. No walk is known here.
-use Rattle.std.specs.Prelude.{◌≡◌, ◌⊎◌, List, Contains, Some, Result, Ok}
+use Rattle.std.specs.Prelude.{◌≡◌, List, Contains, Some, Ok}
 use Rattle.ice_ids.specs.declared.Id12.{Id12}
 use Rattle.snapshot_file.specs.declared.snapshot.SnapshotFile.{SnapshotFile}
 use Rattle.object_store.specs.declared.keys.Part.TheVariants.{Branches, Tags}

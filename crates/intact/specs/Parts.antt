@@ -1,5 +1,6 @@
 -- The chunks that a manifest has for a node: those that are in the manifest, and the parts of objects.
-use Rattle.std.specs.Prelude.{ℕ, List, [], ◌∷◌, Option, Some, None, Result, Ok, Err, filter_map}
+use Rattle.std.specs.Prelude.{ℕ, List, [], ◌∷◌, Option, Some, None, Result, Ok, Err, filter_map, unwrap_or}
+use Rattle.std.specs.Option.{option_or}
 use Rattle.ice_ids.specs.declared.Id8.{Id8}
 use Rattle.manifest_file.specs.declared.manifest.Place.{Place}
 use Rattle.manifest_file.specs.declared.manifest.Place.TheVariants.{Inline, Object}
@@ -11,13 +12,9 @@ use Rattle.repo_objects.specs.Readings.{read_inline}
 use Rattle.intact.specs.declared.visits.FileVisit.{FileVisit}
 use Rattle.intact.specs.declared.visits.PartVisit.{PartVisit}
 
-abbrev pub or_none : Option (List ChunkRef) → List ChunkRef
-or_none None = []
-or_none (Some refs) = refs
-
 -- the entries under a node's id
 abbrev pub entries_of : Id8 → ManifestFile → List ChunkRef
-entries_of node m = or_none (refs_of_node node m.arrays)
+entries_of node m = unwrap_or (refs_of_node node m.arrays) []
 
 -- ---- in the manifest
 abbrev pub fault_in : Result (List ℕ) Bad → Option Bad
@@ -28,14 +25,10 @@ abbrev pub inline_fault : (want : ℕ) → Place → Option Bad
 inline_fault want (Inline bytes) = fault_in (read_inline want bytes)
 inline_fault want (Object id offset size) = None
 
-abbrev pub or_later : Option Bad → Option Bad → Option Bad
-or_later None later = later
-or_later (Some bad) later = Some bad
-
 -- the first of these chunks that is in the manifest and isn't as long as a chunk
 unfoldable pub first_short : (want : ℕ) → List ChunkRef → Option Bad
 first_short want [] = None
-first_short want (chunk ∷ chunks) = or_later (inline_fault want chunk.place) (first_short want chunks)
+first_short want (chunk ∷ chunks) = option_or (inline_fault want chunk.place) (first_short want chunks)
 
 -- ---- in objects
 abbrev pub part_at : (want : ℕ) → Place → Option PartVisit

@@ -33,9 +33,9 @@ use Rattle.chunk_calls.specs.Told.{SetTells, GetTells}
 use Rattle.play_script.specs.declared.scripts.Call.{Call}
 use Rattle.play_script.specs.declared.scripts.Call.TheVariants.{Edit, Read, Commit, Ref, Prop}
 use Rattle.play_script.specs.declared.scripts.EditCall.{EditCall}
-use Rattle.play_script.specs.declared.scripts.EditCall.TheVariants.{Group, Array, Make, Meta, Drop, Set as Set_call, Fill, Unset, KeySet, KeyErase}
+use Rattle.play_script.specs.declared.scripts.EditCall.TheVariants.{Group, Array, Make, Meta, Drop, Set as Set_call, Fill, Unset, Put, KeySet, KeyErase}
 use Rattle.play_script.specs.declared.scripts.ReadCall.{ReadCall}
-use Rattle.play_script.specs.declared.scripts.ReadCall.TheVariants.{List as List_call, Get as Get_call, Chunk as Chunk_call, KeyGet}
+use Rattle.play_script.specs.declared.scripts.ReadCall.TheVariants.{List as List_call, Get as Get_call, Chunk as Chunk_call, Cells, KeyGet}
 use Rattle.play_script.specs.declared.scripts.Access.{Access}
 use Rattle.play_script.specs.declared.scripts.Head.TheVariants.{Session}
 use Rattle.play_script.specs.declared.scripts.Line.{Line}
@@ -44,10 +44,10 @@ use Rattle.play_outcome.specs.declared.outcome.Shown.{Shown}
 use Rattle.play_outcome.specs.declared.outcome.End.{End}
 use Rattle.play_outcome.specs.declared.outcome.End.TheVariants as E
 use Rattle.play_outcome.specs.declared.outcome.Outcome.{Outcome}
-use Rattle.play_tasks.specs.Lines.{Deed, Goes, Sets, Reads, Commits, deed, edit_deed, read_deed, edited, read_by, silent, still, key_set_deed, key_get_deed}
+use Rattle.play_tasks.specs.Lines.{Deed, Goes, Sets, Reads, Puts, Gathers, Commits, deed, edit_deed, read_deed, edited, read_by, silent, still, key_set_deed, key_get_deed}
 use Rattle.play_tasks.specs.Playing.{asked_by, policy_of}
 use Rattle.play_tasks.specs.Solving.{PlaysAll}
-use Rattle.play_tasks.specs.Telling.{Refuses, WasTriedAt, EndsAt, WasNotOpened, WasOpened}
+use Rattle.play_tasks.specs.Telling.{TellsOfChunks, Refuses, WasTriedAt, EndsAt, WasNotOpened, WasOpened}
 use Rattle.run_histories.specs.Told.{HasLost}
 use Rattle.play_course.specs.Refusing.{is_strange, strange_end}
 use Rattle.play_course.proofs.Reading.{edit-plain}
@@ -68,6 +68,8 @@ abbrev DeedIsPlain : Deed → Type 0
 DeedIsPlain (Goes r) = IsPlain r
 DeedIsPlain (Sets path index bytes) = Unit {0}
 DeedIsPlain (Reads path index show) = Unit {0}
+DeedIsPlain (Puts path from to numbers) = Unit {0}
+DeedIsPlain (Gathers path from to show) = Unit {0}
 DeedIsPlain (Commits message) = Unit {0}
 
 key-set-plain : (bytes : List ℕ) (o : Option ZarrKey) (s : SessionState) → DeedIsPlain (key_set_deed bytes o s)
@@ -88,6 +90,7 @@ edit-deed-plain (Meta path text) s = silent-plain (edited (Meta path text) s) (e
 edit-deed-plain (Drop path) s = silent-plain (edited (Drop path) s) (edited-plain (Drop path) s)
 edit-deed-plain (Unset path index) s = silent-plain (edited (Unset path index) s) (edited-plain (Unset path index) s)
 edit-deed-plain (KeyErase key) s = silent-plain (edited (KeyErase key) s) (edited-plain (KeyErase key) s)
+edit-deed-plain (Put place numbers) s = tt
 edit-deed-plain (KeySet key bytes) s = key-set-plain bytes (key_of key) s
 edit-deed-plain (Set_call path index bytes) s = tt
 edit-deed-plain (Fill path index byte) s = tt
@@ -96,6 +99,7 @@ read-deed-plain : (line : ℕ) (look : ReadCall) (s : SessionState) → DeedIsPl
 read-deed-plain line (List_call path) s = still-plain s (read_by line (List_call path) s) (read-plain line (List_call path) s)
 read-deed-plain line (Get_call path) s = still-plain s (read_by line (Get_call path) s) (read-plain line (Get_call path) s)
 read-deed-plain line (Chunk_call path index) s = tt
+read-deed-plain line (Cells place) s = tt
 read-deed-plain line (KeyGet key) s = key-get-plain line (key_of key) s
 
 deed-plain : (line : ℕ) (made : Call) (s : SessionState) → DeedIsPlain (deed line made s)
@@ -151,6 +155,8 @@ module _ (ids : AnyIds) (task : Task) (client : ℕ) (start journal : List Event
       let both = ap (is_strange false) f.2 ∙ edit-plain f.0 in
       absurd cc
   not-refused (Reads path index show) s why h p t = (subst (λ (w : Refusal). GetTells client s path index start (Err w) journal) h.is t).0.unfit
+  not-refused (Puts path from to numbers) s why h p t = subst TellsOfChunks h.is t.1
+  not-refused (Gathers path from to show) s why h p t = subst TellsOfChunks h.is t.1
   not-refused (Commits message) s why h p t = absurd t
 
   not-committed : (s : SessionState) (message : List ℕ) (why : Refusal) → SaysHidden why → CommitTells client s message start (Err why) journal → ⊥
@@ -224,5 +230,6 @@ module _ (ids : AnyIds) (task : Task) (client : ℕ) (start journal : List Event
       by_end (E.Stopped line why removed) e plain = plain
       by_end (E.InDoubt id how) e plain = plain
       by_end (E.Expired line cases result) e plain = plain
+      by_end (E.Checked line faults result) e plain = plain
       by_end (E.Refused line why) e (inl plain) = plain
       by_end (E.Refused line why) e (inr h) = absurd (never-told outcome line why e h t)

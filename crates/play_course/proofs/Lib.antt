@@ -7,6 +7,7 @@ mod Knowing
 mod Holding
 mod Reading
 pub mod Placing
+mod Boxing
 mod Committing
 mod Rebasing
 mod Naming
@@ -19,5 +20,6 @@ mod Marking
 mod Collecting
 mod Looking
 mod Expiring
+mod Checking
 mod Hiding
 mod Whole

@@ -56,9 +56,9 @@ pub last-was : (journal : List Event) (key : Key) (bytes : List ℕ) → last_pu
 last-was journal key bytes e = (sound journal key).begun bytes e
 
 module _ (client : Client) (ids : AnyIds) (s : SessionState) (path index bytes : List ℕ) where
-  -- a session is held, or the set is refused as it may be
+  -- a session is held in which the chunk was set, or the set is refused as it may be
   abbrev pub SetWell : Result SessionState Refusal → List Event → Type 0
-  SetWell (Ok t) h = Held client ids t h
+  SetWell (Ok t) h = Held client ids t h × SetsChunk s t
   SetWell (Err why) h = is_strange client.collects why ≡ false
 
   -- what is held behind a set that the tree allows
@@ -76,9 +76,11 @@ module _ (client : Client) (ids : AnyIds) (s : SessionState) (path index bytes :
   short-meets : (journal : List Event) → Held client ids s journal → set_refusal (nodes_seen s) path index (length bytes) ≡ None → Meets SetWell (beside client ids) (Done (Ok (with_chunk s path index (Inline bytes)))) journal
   short-meets journal h fine =
       let a : SetsChunk s (with_chunk s path index (Inline bytes)) = record { path = path; index = index; place = Inline bytes; allowed = fine; ids = s.ids; ids_are = inl refl; is = refl } in
-      done-meets SetWell (beside client ids) (Ok (with_chunk s path index (Inline bytes))) journal
-      (held-set (with_chunk s path index (Inline bytes)) journal a h journal h.before
-      (chunk-opened s path index (Inline bytes) (length bytes) (taken (nodes_seen s) path index (length bytes) fine) journal (λ id offset size e. absurd cc) (bytes, refl, refl) h.opened))
+      done-meets SetWell (beside client ids) (Ok (with_chunk s path index (Inline bytes))) journal (
+        held-set (with_chunk s path index (Inline bytes)) journal a h journal h.before
+            (chunk-opened s path index (Inline bytes) (length bytes) (taken (nodes_seen s) path index (length bytes) fine) journal (λ id offset size e. absurd cc) (bytes, refl, refl) h.opened),
+        a,
+      )
 
   out-meets : (id : Id12) → IsOut s path index bytes id → (journal : List Event) → Held client ids s journal → Meets SetWell (beside client ids) (put_object s path index bytes (Some id)) journal
   out-meets id out journal h =
@@ -95,12 +97,14 @@ module _ (client : Client) (ids : AnyIds) (s : SessionState) (path index bytes :
       let opened : IsOpened s after = IsOpened-append s (journal ++ more) (event ∷ []) (Each-one IsGood (journal ++ more) event own.tidy.good) mid.opened in
       let drawn : IsOpened (after_draw s) after = entries-opened s (after12 s.ids) s.held.chunks after opened opened.objects opened.chunks in
       let object_is : (x : Id12) (offset size : ℕ) → Object id 0 (length bytes) ≡ Object x offset size → id ≡ x = λ x offset size e. cc in
-      done-meets SetWell (beside client ids) (Ok t) after
-      (held-set t (journal ++ more) a mid after (before-put client ids s.ids mid.known (journal ++ more) event (Chunk id) bytes Set id own is refl out.drawn mid.before)
-      (chunk-opened (after_draw s) path index (Object id 0 (length bytes)) (length bytes) (taken (nodes_seen s) path index (length bytes) out.fine) after
-      (λ x offset size e. subst (λ (y : Id12). WasPut after (Chunk y)) (object_is x offset size e) (last-was after (Chunk id) bytes last))
-      (bytes, ap (option_and_then (part_of 0 (length bytes))) last ∙ part-whole bytes, refl)
-      drawn)))
+      done-meets SetWell (beside client ids) (Ok t) after (
+        held-set t (journal ++ more) a mid after (before-put client ids s.ids mid.known (journal ++ more) event (Chunk id) bytes Set id own is refl out.drawn mid.before)
+            (chunk-opened (after_draw s) path index (Object id 0 (length bytes)) (length bytes) (taken (nodes_seen s) path index (length bytes) out.fine) after
+            (λ x offset size e. subst (λ (y : Id12). WasPut after (Chunk y)) (object_is x offset size e) (last-was after (Chunk id) bytes last))
+            (bytes, ap (option_and_then (part_of 0 (length bytes))) last ∙ part-whole bytes, refl)
+            drawn),
+        a,
+      ))
       (λ failed. done-meets SetWell (beside client ids) (Err R.StoreFault) ((journal ++ more) ++ event ∷ []) refl))
 
   -- a set is never refused so

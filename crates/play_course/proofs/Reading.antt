@@ -106,16 +106,16 @@ module _ (client : Client) (ids : AnyIds) (s : SessionState) where
   pub grown : (journal more : List Event) → Each (OfOthers client ids) journal more → Held client ids s journal → Extends (puts_of journal) (puts_of (journal ++ more))
   grown journal more others h = puts-kept journal more (good-others client ids journal more others) (held-others client ids s journal more others h).before.so_far.once
 
-  grown-got : (journal : List Event) (event : Event) → OfOwn client ids journal event → Extends (puts_of journal) (puts_of (journal ++ event ∷ []))
+  pub grown-got : (journal : List Event) (event : Event) → OfOwn client ids journal event → Extends (puts_of journal) (puts_of (journal ++ event ∷ []))
   grown-got journal event own = puts-kept journal (event ∷ []) (Each-one IsGood journal event own.tidy.good) own.after.once
 
   -- ---- an object
   -- a chunk of so many bytes is at the place
-  abbrev Has : ℕ → Place → List Event → Type 0
+  abbrev pub Has : ℕ → Place → List Event → Type 0
   Has want place journal = (b : List ℕ) × (bytes_at (puts_of journal) place ≡ Some b) × (length b ≡ want)
 
   -- and it will be
-  abbrev Stays : ℕ → Place → List Event → Type 0
+  abbrev pub Stays : ℕ → Place → List Event → Type 0
   Stays want place journal = (h : List Event) → Held client ids s h → Extends (puts_of journal) (puts_of h) → Has want place h
 
   object-meets : (want : ℕ) (id : Id12) (offset size : ℕ) (journal : List Event) → Held client ids s journal → Stays want (Object id offset size) journal → Meets ReadWell (beside client ids) (read_object want id offset size) journal
@@ -136,12 +136,12 @@ module _ (client : Client) (ids : AnyIds) (s : SessionState) where
 
   module _ (path index : List ℕ) (at : ChunkAt) (t : IsThere s path index at) where
     -- ---- the base's chunk
-    abbrev all : List ManifestRef
+    abbrev pub all : List ManifestRef
     all = own_manifests s.rows path at.node
 
     module _ (none : entry_in s.held.chunks at.node index ≡ None) where
       -- where the base's manifests have the chunk, whatever more is put
-      abbrev IsAt : Place → List Event → Type 0
+      abbrev pub IsAt : Place → List Event → Type 0
       IsAt place journal = (puts : Puts) → Extends (puts_of journal) puts → look_up at.node index (listed puts all) ≡ Some place
 
       has-place : (place : Place) (journal : List Event) → IsAt place journal → Stays at.bytes place journal
@@ -151,7 +151,7 @@ module _ (client : Client) (ids : AnyIds) (s : SessionState) where
           let chunk : (overlay (puts_of h) s).chunk path index ≡ Some b.0 = by-base s path index at t (puts_of h) none (keeps-frozen client ids s h k) ∙ ap (option_and_then (bytes_at (puts_of h))) looked ∙ b.1 in
           (b.0, b.1, is-whole client ids s h k path index at t b.0 chunk)
 
-      place-meets : (id : Id12) (place : Place) (journal : List Event) → Held client ids s journal → IsAt place journal → Meets ReadWell (beside client ids) (read_place at.bytes id place) journal
+      pub place-meets : (id : Id12) (place : Place) (journal : List Event) → Held client ids s journal → IsAt place journal → Meets ReadWell (beside client ids) (read_place at.bytes id place) journal
       place-meets id (Inline bytes) journal h is =
           let b = has-place (Inline bytes) journal is journal h (extends-same (puts_of journal)) in
           let same : bytes ≡ b.0 = some-same bytes b.0 b.1 in
@@ -208,7 +208,7 @@ module _ (client : Client) (ids : AnyIds) (s : SessionState) where
         let b = has-chunks client ids s h k at.node index place e in
         (b.0, b.1, is-whole client ids s h k path index at t b.0 (by-entry s path index at t (puts_of h) (Some (Some place)) e ∙ b.1))
 
-    at-meets : (entry : Option (Option Place)) → entry_in s.held.chunks at.node index ≡ entry → (journal : List Event) → Held client ids s journal → Meets ReadWell (beside client ids) (read_at s path index at entry) journal
+    pub at-meets : (entry : Option (Option Place)) → entry_in s.held.chunks at.node index ≡ entry → (journal : List Event) → Held client ids s journal → Meets ReadWell (beside client ids) (read_at s path index at entry) journal
     at-meets (Some (Some (Inline bytes))) e journal h = done-meets ReadWell (beside client ids) (Ok (Is_held bytes)) journal h
     at-meets (Some (Some (Object id offset size))) e journal h = object-meets at.bytes id offset size journal h (entry-has (Object id offset size) e journal)
     at-meets (Some None) e journal h = done-meets ReadWell (beside client ids) (Ok Fill) journal h

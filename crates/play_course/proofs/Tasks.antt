@@ -1,5 +1,5 @@
 -- What tasks answer in a run over an empty store.
-use Rattle.std.proofs.Common.{◌≡◌, ◌⊎◌, inl, inr, ℕ, zero, suc, Bool, true, false, List, [], ◌∷◌, ◌++◌, refl, sym, ap, subst}
+use Rattle.std.proofs.Common.{◌≡◌, ◌⊎◌, inl, inr, ℕ, ℤ, zero, suc, Bool, true, false, List, [], ◌∷◌, ◌++◌, refl, sym, ap, subst}
 use Rattle.std.specs.Prelude.{Option, Some, None, option_map, ok_or, Result, Ok, Err}
 use Rattle.std.specs.FinMap.{get}
 use Rattle.ice_ids.specs.declared.Id8.{Id8}
@@ -45,6 +45,8 @@ use Rattle.zarr_changes.specs.Sets.{add_refusal, text_refusal, drop_refusal, uns
 use Rattle.session.specs.declared.chunks.Value.{Value}
 use Rattle.session.specs.Editing.{group_fault, array_fault, node_fault, added, entered, group_added, array_added, node_added, meta_set, node_dropped, if_writes, unless_bad, unless_refused, unless_unfit, refusal_of_edit, drawn_node, with_prop, prop_added, if_there, listed}
 use Rattle.session.specs.Chunks.{set_program, get_program, chunk_unset, without_chunk}
+use Rattle.array_region.specs.Reading.{region_program}
+use Rattle.array_region.specs.Writing.{region_set_program}
 use Rattle.commit_path.specs.Laws.{TellsFaults}
 use Rattle.commit_path.specs.Opened.{IsOpened}
 use Rattle.commit_path.specs.declared.commit.Tried.{Tried}
@@ -56,11 +58,11 @@ use Rattle.rebase.specs.declared.machine.Rebased.TheVariants.{Moved, UpToDate}
 use Rattle.rebase.specs.Rebasing.{rebase_program}
 use Rattle.commit_path.proofs.Editing.{node-added, text-set, node-dropped, added-opened, set-opened, dropped-opened}
 use Rattle.commit_path.proofs.Setting.{chunk-unset, without-opened}
-use Rattle.play_script.specs.declared.scripts.EditCall.TheVariants.{Group, Array, Make, Meta, Drop, Set as Set_call, Fill, Unset, KeySet, KeyErase}
-use Rattle.play_script.specs.declared.scripts.ReadCall.TheVariants.{List as List_call, Get as Get_call, Chunk as Chunk_call, KeyGet}
+use Rattle.play_script.specs.declared.scripts.EditCall.TheVariants.{Group, Array, Make, Meta, Drop, Set as Set_call, Fill, Unset, Put, KeySet, KeyErase}
+use Rattle.play_script.specs.declared.scripts.ReadCall.TheVariants.{List as List_call, Get as Get_call, Chunk as Chunk_call, Cells, KeyGet}
 use Rattle.play_script.specs.Well.{IsWellLine}
 use Rattle.zarr_keys.specs.Keys.{session_of, meta_value, put_over, erased_at, key_erased}
-use Rattle.play_tasks.specs.Lines.{deed, edit_deed, read_deed, edited, read_by, silent, still, nodes_shown, meta_shown, value_shown, key_shown, chunk_key_shown, key_set_deed, key_get_deed, filled, Goes}
+use Rattle.play_tasks.specs.Lines.{deed, edit_deed, read_deed, edited, read_by, silent, still, nodes_shown, meta_shown, value_shown, cells_shown, key_shown, chunk_key_shown, key_set_deed, key_get_deed, filled, Goes}
 use Rattle.play_tasks.specs.Playing.{Rest, after_line, how_of, after_settling, doubt_of, doubt_play, after_commit, after_rebase, after_open, shown_by, commit_play, tries_of, policy_of, play_deed, play_lines, asked_by, session_play}
 use Rattle.run_histories.specs.Sources.{NodesAreNew}
 use Rattle.commit_path.proofs.Adding.{prop-added, prop-opened}
@@ -77,6 +79,7 @@ use Rattle.play_course.proofs.Holding.{Held, MayCommit, held-may}
 use Rattle.play_course.proofs.Reading.{edit-plain, ReadWell, get-meets}
 use Rattle.play_course.proofs.Opening.{Opens, open-meets}
 use Rattle.play_course.proofs.Placing.{SetWell, set-meets}
+use Rattle.play_course.proofs.Boxing.{NumbersWell, WriteWell, gather-meets, put-box-meets}
 use Rattle.play_course.proofs.Committing.{CommitsWell, commit-meets}
 use Rattle.play_course.proofs.Rebasing.{IsFine, RebasesWell, rebase-meets}
 
@@ -168,6 +171,7 @@ edited-plain (Drop path) s = drop-plain s path
 edited-plain (Set_call path index bytes) s = done-plain s
 edited-plain (Fill path index byte) s = done-plain s
 edited-plain (Unset path index) s = unset-plain s path index
+edited-plain (Put place numbers) s = done-plain s
 edited-plain (KeySet key bytes) s = done-plain s
 edited-plain (KeyErase key) s = key-plain s key
 
@@ -189,6 +193,7 @@ shown-plain shown why e = cc
 pub read-plain : (line : ℕ) (look : ReadCall) (s : SessionState) → IsPlain (read_by line look s)
 read-plain line (List_call path) s = nodes-plain line (listed s path) (there-plain _ _)
 read-plain line (Chunk_call path index) s = shown-plain []
+read-plain line (Cells place) s = shown-plain []
 read-plain line (KeyGet key) s = shown-plain []
 read-plain line (Get_call path) s = meta-plain line (option_map (λ (n : Node). n.text) (get (nodes_seen s) path))
 
@@ -223,6 +228,7 @@ edited-known (Drop path) s t journal e o = dropped-opened s t path journal (node
 edited-known (Set_call path index bytes) s t journal e o = same-known s t journal e o
 edited-known (Fill path index byte) s t journal e o = same-known s t journal e o
 edited-known (Unset path index) s t journal e o = without-opened s t path index journal (chunk-unset s t path index e) o
+edited-known (Put place numbers) s t journal e o = same-known s t journal e o
 edited-known (KeySet key bytes) s t journal e o = same-known s t journal e o
 edited-known (KeyErase key) s t journal e o = key-known key s t journal e o
 
@@ -235,6 +241,7 @@ EndsFine collects (E.Refused line why) = IsFine collects why
 EndsFine collects (E.Stopped line why removed) = is_strange collects why ≡ false
 EndsFine collects (E.InDoubt id how) = strange_end collects (E.InDoubt id how) ≡ false
 EndsFine collects (E.Expired line cases result) = strange_end collects (E.Expired line cases result) ≡ false
+EndsFine collects (E.Checked line faults result) = strange_end collects (E.Checked line faults result) ≡ false
 
 module _ (client : Client) (ids : AnyIds) where
   abbrev Knows : SessionState → List Event → Type 0
@@ -297,12 +304,20 @@ module _ (client : Client) (ids : AnyIds) where
   look-meets line shown s rest journal h go (Err why) p = refused-plain line shown why journal (p why refl)
 
   set-goes : (line : ℕ) (shown : List Shown) (s : SessionState) (path index bytes : List ℕ) (rest : Rest) → GoesOn rest → (r : Result SessionState Refusal) (journal : List Event) → SetWell client ids s path index bytes r journal → PlayMeets Ends (beside client ids) (after_line line shown (silent r) rest) journal
-  set-goes line shown s path index bytes rest go (Ok t) journal h = go t (shown ++ []) journal h
+  set-goes line shown s path index bytes rest go (Ok t) journal h = go t (shown ++ []) journal h.0
   set-goes line shown s path index bytes rest go (Err why) journal p = refused-meets line shown why journal p
 
   get-goes : (line : ℕ) (shown : List Shown) (s : SessionState) (show : Value → Shown) (rest : Rest) → GoesOn rest → (r : Result Value Refusal) (journal : List Event) → ReadWell client ids s r journal → PlayMeets Ends (beside client ids) (after_line line shown (shown_by s show r) rest) journal
   get-goes line shown s show rest go (Ok value) journal h = go s _ journal h
   get-goes line shown s show rest go (Err why) journal p = refused-meets line shown why journal p
+
+  put-box-goes : (line : ℕ) (shown : List Shown) (rest : Rest) → GoesOn rest → (r : Result SessionState Refusal) (journal : List Event) → WriteWell client ids r journal → PlayMeets Ends (beside client ids) (after_line line shown (silent r) rest) journal
+  put-box-goes line shown rest go (Ok t) journal h = go t (shown ++ []) journal h
+  put-box-goes line shown rest go (Err why) journal p = refused-meets line shown why journal p
+
+  gather-goes : (line : ℕ) (shown : List Shown) (s : SessionState) (show : List ℤ → Shown) (rest : Rest) → GoesOn rest → (r : Result (List ℤ) Refusal) (journal : List Event) → NumbersWell client ids s r journal → PlayMeets Ends (beside client ids) (after_line line shown (shown_by s show r) rest) journal
+  gather-goes line shown s show rest go (Ok numbers) journal h = go s _ journal h
+  gather-goes line shown s show rest go (Err why) journal p = refused-meets line shown why journal p
 
   -- ---- commits
   -- a commit in doubt
@@ -371,6 +386,9 @@ module _ (client : Client) (ids : AnyIds) where
   edit-deed-meets access line (KeyErase key) shown s rest journal h go leads = edit-meets line shown (KeyErase key) s rest journal h go leads (edited (KeyErase key) s) refl
   edit-deed-meets access line (KeySet key bytes) shown s rest journal h go leads = key-set-meets access line bytes (key_of key) shown s rest journal h go leads
   edit-deed-meets access line (Set_call path index bytes) shown s rest journal h go leads = sets-meets line shown s path index bytes rest journal h go
+  edit-deed-meets access line (Put place numbers) shown s rest journal h go leads =
+      call-meets Ends (beside client ids) (WriteWell client ids) (region_set_program s place.path place.from place.to numbers) (λ answer. after_line line shown (silent answer) rest) journal (put-box-meets client ids s place.path place.from place.to numbers journal h)
+      (λ r j w. put-box-goes line shown rest go r j w) (λ j. refused-meets line shown R.NoMemory j refl)
   edit-deed-meets access line (Fill path index byte) shown s rest journal h go leads = sets-meets line shown s path index (filled s path byte) rest journal h go
 
   reads-meets : (line : ℕ) (show : Value → Shown) (path index : List ℕ) (shown : List Shown) (s : SessionState) (rest : Rest) (journal : List Event) → Held client ids s journal → GoesOn rest → PlayMeets Ends (beside client ids) (call (get_program s path index) (λ answer. after_line line shown (shown_by s show answer) rest)) journal
@@ -387,6 +405,9 @@ module _ (client : Client) (ids : AnyIds) where
   read-deed-meets access line (List_call path) shown s rest journal h go = look-meets line shown s rest journal h go (read_by line (List_call path) s) (read-plain line (List_call path) s)
   read-deed-meets access line (Get_call path) shown s rest journal h go = look-meets line shown s rest journal h go (read_by line (Get_call path) s) (read-plain line (Get_call path) s)
   read-deed-meets access line (Chunk_call path index) shown s rest journal h go = reads-meets line (value_shown line) path index shown s rest journal h go
+  read-deed-meets access line (Cells place) shown s rest journal h go =
+      call-meets Ends (beside client ids) (NumbersWell client ids s) (region_program s place.path place.from place.to) (λ answer. after_line line shown (shown_by s (cells_shown line) answer) rest) journal (gather-meets client ids s place.path place.from place.to journal h)
+      (λ r j w. gather-goes line shown s (cells_shown line) rest go r j w) (λ j. refused-meets line shown R.NoMemory j refl)
   read-deed-meets access line (KeyGet key) shown s rest journal h go = key-get-meets access line (key_of key) shown s rest journal h go
 
   deed-meets : (law : SnapshotLaw) (access : Access) (line : ℕ) (made : Call) (shown : List Shown) (s : SessionState) (rest : Rest) (journal : List Event) → Held client ids s journal → GoesOn rest → Leads (deed line made s) s → PlayMeets Ends (beside client ids) (play_deed access line shown s (deed line made s) rest) journal

@@ -34,7 +34,7 @@ use Rattle.repository.specs.Beginning.{begin_program}
 use Rattle.repository.specs.Refs.{refs_program}
 use Rattle.play_script.specs.Collections.{has_collection, is_collection}
 use Rattle.play_script.specs.declared.scripts.Head.{Head}
-use Rattle.play_script.specs.declared.scripts.Head.TheVariants.{Session, Refs, Collect, Expire}
+use Rattle.play_script.specs.declared.scripts.Head.TheVariants.{Session, Refs, Collect, Expire, Check}
 use Rattle.play_script.specs.declared.scripts.Script.{Script}
 use Rattle.play_script.specs.declared.scripts.Task.{Task}
 use Rattle.play_script.specs.Well.{IsWell, IsWellTask}
@@ -52,6 +52,7 @@ use Rattle.run_histories.specs.Sources.{NodesAreNew, IsNewRun}
 use Rattle.run_histories.specs.Runs.{IsBy, IsRun, IsSound, RanAlone}
 use Rattle.run_histories.specs.Told.{NoneHidden, RunLaw}
 use Rattle.run_histories.proofs.Expiring.{expiry-keeps, expiry-plain}
+use Rattle.run_histories.proofs.Checking.{read-plain}
 use Rattle.run_histories.proofs.Removals.{IsRemoval}
 use Rattle.run_histories.proofs.Programs.{IsCleanup, IsPlain, IsPlainOrCleanup, AllPlain, path-plain, begin-plain, refs-plain}
 use Rattle.run_histories.proofs.Drawing.{IsDrawnBy, object-draws, drawn-apart, ids_at-of}
@@ -68,6 +69,7 @@ use Rattle.play_course.proofs.Meeting.{Watch, drawing, Meets, PlayMeets, IsWatch
 use Rattle.play_course.proofs.Calling.{calls-meet}
 use Rattle.play_course.proofs.Collecting.{collection-meets}
 use Rattle.play_course.proofs.Expiring.{expiry-meets}
+use Rattle.play_course.proofs.Checking.{check-plain, meets-any}
 use Rattle.play_course.proofs.Tasks.{EndsFine, session-meets}
 use Rattle.play_course.proofs.Hiding.{NeverHides, told-plain}
 use Rattle.play_course.proofs.Knowing.{IsSoFar, IsFreeId, OfOthers, OfOwn, Before, beside}
@@ -76,12 +78,14 @@ use Rattle.play_course.proofs.Leaving.{ran-alone, course-run}
 use Rattle.play_course.proofs.Edges.{plain-puts, plain-tidy, begin-meets, refs-meets}
 
 -- ---- the ends of tasks
--- a task on refs ends by no strange refusal, nor does one that collects or expires; one that opens a session by none but one that says that a log hides a node
+-- A task on refs ends by no strange refusal, nor does one that collects or expires; one that opens a session by none but one that says that a log hides a
+-- node. Of one that checks, what it tells says so.
 abbrev EndsBy : (collects : Bool) → Head → End → Type 0
 EndsBy collects (Session access) end = EndsFine collects end
 EndsBy collects Refs end = strange_end collects end ≡ false
 EndsBy collects (Collect cutoff) end = strange_end collects end ≡ false
 EndsBy collects (Expire cutoff drop_branches drop_tags) end = strange_end collects end ≡ false
+EndsBy collects Check end = Unit {0}
 
 -- what is told of a task says that it isn't by that either
 told-by_head : (collects : Bool) (ids : AnyIds) (task : Task) (client : ℕ) (start journal : List Event) → NeverHides ids task client start journal → (outcome : Outcome) → (head : Head) → task.head ≡ head → TellsBy head ids task client start outcome journal → EndsBy collects head outcome.end → strange_end collects outcome.end ≡ false
@@ -89,6 +93,7 @@ told-by_head collects ids task client start journal never outcome (Session acces
 told-by_head collects ids task client start journal never outcome Refs is told ends = ends
 told-by_head collects ids task client start journal never outcome (Collect cutoff) is told ends = ends
 told-by_head collects ids task client start journal never outcome (Expire cutoff drop_branches drop_tags) is told ends = ends
+told-by_head collects ids task client start journal never outcome Check is told ends = check-plain collects task.line client start outcome journal told
 
 -- where a task collects, some one does
 collects-at : (tasks : List Task) (place : ℕ) (task : Task) (cutoff : ℕ) → slice_get tasks place ≡ Some task → task.head ≡ Collect cutoff → has_collection tasks ≡ true
@@ -184,6 +189,7 @@ module _ (initial : InitialLaw) (draw : Draw) (tasks : List Task) (once : DrawsO
       by_head Refs o = either-puts initial (IsDrawnBy draw (c.place + 1)) event.op (inl (owes-plain event.op o))
       by_head (Collect cutoff) o = may-puts cutoff (walk_of cutoff (c.place + 1) start journal) (IsDrawnBy draw (c.place + 1)) event.op o.may.1
       by_head (Expire cutoff drop_branches drop_tags) o = either-puts initial (IsDrawnBy draw (c.place + 1)) event.op (expiry-plain (terms_of cutoff drop_branches drop_tags) (c.place + 1) start journal event.op o)
+      by_head Check o = either-puts initial (IsDrawnBy draw (c.place + 1)) event.op (inl (read-plain event.op o))
 
   anybody : (start journal : List Event) (event : Event) → IsOfClient draw tasks start journal event → IsAny journal event
   anybody start journal event c = any-of (IsDrawnBy draw (c.place + 1)) journal event (client-tidy start journal event c)
@@ -199,6 +205,7 @@ module _ (initial : InitialLaw) (draw : Draw) (tasks : List Task) (once : DrawsO
       by_head (Expire cutoff drop_branches drop_tags) is o =
           let t : Terms = terms_of cutoff drop_branches drop_tags in
           either-keeps event.op (expiry-plain t (c.place + 1) start journal event.op o) (expiry-keeps t (c.place + 1) start journal event.op o)
+      by_head Check is o = plain-keeps event.op (read-plain event.op o)
 
   -- two clients of tasks draw no id both
   apart : (a b : ℕ) (id : Id12) → a < length tasks → b < length tasks → IsDrawnBy draw (a + 1) id → IsDrawnBy draw (b + 1) id → a + 1 ≡ b + 1
@@ -333,12 +340,13 @@ module _ (initial : InitialLaw) (run : RunLaw) (draw : Draw) (tasks : List Task)
         nodes = λ none new. nodes-stay journal event c.1 (λ e p. none p) new;
       }
 
-      -- of a task that opens a session, calls on refs, collects, or expires
+      -- of a task that opens a session, calls on refs, collects, expires, or checks
       headed-well : SnapshotLaw → (task : Task) → slice_get tasks k ≡ Some task → Before client ids begun → NodesAreNew ids begun → (head : Head) → task.head ≡ head → PlayMeets (λ o. EndsBy (has_collection tasks) head o.end) watch (headed_play head ids task) begun
       headed-well law task at before nodes (Session access) is = session-meets client ids law access task.line task.body (well-at draw tasks wells k task at).body begun (ids_at-of draw k) before nodes
       headed-well law task at before nodes Refs is = calls-meet client ids task.body [] begun (record { tidy = before.tidy; so_far = before.so_far })
       headed-well law task at before nodes (Collect cutoff) is = collection-meets client ids law (collects-at tasks k task cutoff at is) task.line cutoff begun (record { tidy = before.tidy; so_far = before.so_far })
       headed-well law task at before nodes (Expire cutoff drop_branches drop_tags) is = expiry-meets client ids task.line (terms_of cutoff drop_branches drop_tags) begun (record { tidy = before.tidy; so_far = before.so_far })
+      headed-well law task at before nodes Check is = meets-any (λ (o : Outcome). EndsBy (has_collection tasks) Check o.end) (λ o. tt) watch (headed_play Check ids task) begun
 
       -- it ends so, whatever the order in which the tasks' clients act
       ends-well : SnapshotLaw → (task : Task) → slice_get tasks k ≡ Some task → (outcome : Outcome) → PlaysTo (task_play ids task) (events_of (k + 1) own) outcome → EndsBy (has_collection tasks) task.head outcome.end

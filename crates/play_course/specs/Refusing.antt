@@ -55,6 +55,8 @@ strange_end collects (E.Stopped line why removed) = is_strange collects why
 strange_end collects (E.InDoubt id how) = list_any (is_strange collects) (why_unsettled how)
 strange_end collects (E.Expired line cases (Ok done)) = false
 strange_end collects (E.Expired line cases (Err why)) = is_strange collects why
+strange_end collects (E.Checked line faults (Ok counts)) = false
+strange_end collects (E.Checked line faults (Err why)) = is_strange collects why
 
 -- Nothing that was played was refused so: not the opening, no task, not the closing reading. Where a task collects, an object may be missing to the tasks,
 -- but not to the opening and the closing reading.

@@ -7,7 +7,7 @@ use Rattle.store_api.specs.Program.{is_no_memory, is_fault}
 use Rattle.play_outcome.specs.declared.outcome.How.{How}
 use Rattle.play_outcome.specs.declared.outcome.How.TheVariants as H
 use Rattle.play_outcome.specs.declared.outcome.End.{End}
-use Rattle.play_outcome.specs.declared.outcome.End.TheVariants.{Committed, Collected, Done, Refused, Stopped, InDoubt, Expired}
+use Rattle.play_outcome.specs.declared.outcome.End.TheVariants.{Committed, Collected, Done, Refused, Stopped, InDoubt, Expired, Checked}
 use Rattle.play_outcome.specs.declared.outcome.Outcome.{Outcome}
 
 -- why a doubt couldn't be settled, if it couldn't
@@ -28,6 +28,8 @@ end_why (Stopped line why removed) = why ∷ []
 end_why (InDoubt id how) = R.InDoubt id ∷ why_unsettled how
 end_why (Expired line cases (Ok done)) = []
 end_why (Expired line cases (Err why)) = why ∷ []
+end_why (Checked line faults (Ok counts)) = []
+end_why (Checked line faults (Err why)) = why ∷ []
 
 abbrev pub why_ended : Outcome → List Refusal
 why_ended outcome = end_why outcome.end
@@ -41,6 +43,8 @@ end_starved (Stopped line why removed) = is_no_memory why
 end_starved (InDoubt id how) = list_any is_no_memory (why_unsettled how)
 end_starved (Expired line cases (Ok done)) = false
 end_starved (Expired line cases (Err why)) = is_no_memory why
+end_starved (Checked line faults (Ok counts)) = false
+end_starved (Checked line faults (Err why)) = is_no_memory why
 
 abbrev pub end_failed : End → Bool
 end_failed (Committed id) = false
@@ -51,6 +55,8 @@ end_failed (Stopped line why removed) = is_fault why
 end_failed (InDoubt id how) = true
 end_failed (Expired line cases (Ok done)) = false
 end_failed (Expired line cases (Err why)) = is_fault why
+end_failed (Checked line faults (Ok counts)) = false
+end_failed (Checked line faults (Err why)) = is_fault why
 
 abbrev pub is_starved : Outcome → Bool
 is_starved outcome = end_starved outcome.end

@@ -1,5 +1,6 @@
 //! Outcomes of tasks.
 
+use check_reports::{CheckFaults, Checked};
 use cleanup_reports::{RefCases, Removed};
 use ice_base::{Bytes, RefName, Text};
 use ice_ids::Id12;
@@ -30,6 +31,11 @@ pub enum Shown {
     /// A chunk that was asked for in this line of the script and isn't written: all its elements are the fill value.
     Fill {
         line: u32,
+    },
+    /// The numbers of a box of cells that was asked for in this line of the script, in C order.
+    Cells {
+        line: u32,
+        numbers: Items<i128>,
     },
     /// The value of a key of the Zarr store that was asked for in this line of the script, if the key has one.
     Key {
@@ -80,6 +86,12 @@ pub enum End {
         line: u32,
         cases: RefCases,
         result: Result<(), Refusal>,
+    },
+    /// It checked on this line of the script: the faults that it found, and how many objects it found where all is intact; or why it was refused, as `Unsound` where there are faults.
+    Checked {
+        line: u32,
+        faults: CheckFaults,
+        result: Result<Checked, Refusal>,
     },
 }
 

@@ -1,6 +1,7 @@
 -- The report of a run (own): lines of words.
-use Rattle.std.specs.Prelude.{ℕ, ◌/◌, ◌%◌, ◌==◌, nat_lt, List, [], ◌∷◌, ◌++◌, map, Bool, true, false, ◌&&◌, ◌||◌, if◌then◌else◌, Option, Some, None, Result, Ok, Err, codes, decimal}
+use Rattle.std.specs.Prelude.{ℕ, ℤ, ◌/◌, ◌%◌, ◌==◌, nat_lt, List, [], ◌∷◌, ◌++◌, map, Bool, true, false, ◌&&◌, ◌||◌, if◌then◌else◌, Option, Some, None, Result, Ok, Err, codes, decimal}
 use Rattle.std.specs.List.{flat_map}
+use Rattle.std.specs.Fmt.{signed_decimal}
 use Rattle.std.specs.Char.{digit_char}
 use Rattle.ice_ids.specs.Text.{id12_text}
 use Rattle.object_store.specs.declared.keys.Key.{Key as ObjectKey}
@@ -9,13 +10,18 @@ use Rattle.cleanup_reports.specs.declared.removed.Removed.{Removed}
 use Rattle.cleanup_reports.specs.declared.cases.What.{What}
 use Rattle.cleanup_reports.specs.declared.cases.What.TheVariants.{Kept, Cut, Dropped, Moved, Absent}
 use Rattle.cleanup_reports.specs.declared.cases.RefCase.{RefCase}
+use Rattle.object_store.specs.Names.{key_name}
+use Rattle.check_reports.specs.declared.faults.FaultKind.{FaultKind}
+use Rattle.check_reports.specs.declared.faults.FaultKind.TheVariants as fault
+use Rattle.check_reports.specs.declared.faults.CheckFault.{CheckFault}
+use Rattle.check_reports.specs.declared.faults.Checked.{Checked as Counts}
 use Rattle.store_api.specs.declared.machines.Refusal.{Refusal}
 use Rattle.play_outcome.specs.declared.outcome.Shown.{Shown}
-use Rattle.play_outcome.specs.declared.outcome.Shown.TheVariants.{Node, Meta, Chunk, Fill, Key, Log}
+use Rattle.play_outcome.specs.declared.outcome.Shown.TheVariants.{Node, Meta, Chunk, Fill, Cells, Key, Log}
 use Rattle.play_outcome.specs.declared.outcome.How.{How}
 use Rattle.play_outcome.specs.declared.outcome.How.TheVariants as how
 use Rattle.play_outcome.specs.declared.outcome.End.{End}
-use Rattle.play_outcome.specs.declared.outcome.End.TheVariants.{Committed, Collected, Done, Refused, Stopped, InDoubt, Expired}
+use Rattle.play_outcome.specs.declared.outcome.End.TheVariants.{Committed, Collected, Done, Refused, Stopped, InDoubt, Expired, Checked}
 use Rattle.play_outcome.specs.declared.outcome.Outcome.{Outcome}
 use Rattle.play_outcome.specs.declared.outcome.RefLine.{RefLine}
 use Rattle.play_report.specs.Words.{◌space◌}
@@ -44,6 +50,15 @@ abbrev pub bytes_text : List ℕ → List ℕ
 bytes_text [] = codes "-"
 bytes_text (b ∷ bs) = flat_map byte_text (b ∷ bs)
 
+-- the number of a cell behind a comma
+abbrev pub next_cell : ℤ → List ℕ
+next_cell number = codes "," ++ signed_decimal number
+
+-- the numbers of cells, joined by commas, and `-` where there are none
+abbrev pub cells_text : List ℤ → List ℕ
+cells_text [] = codes "-"
+cells_text (number ∷ numbers) = signed_decimal number ++ flat_map next_cell numbers
+
 -- the value of a key, if it has one
 abbrev pub value_text : Option (List ℕ) → List ℕ
 value_text None = codes "absent"
@@ -55,6 +70,7 @@ shown_text (Node line array path) = decimal line space codes "list" space node_k
 shown_text (Meta line text) = decimal line space codes "meta" space map printed text
 shown_text (Chunk line bytes) = decimal line space codes "chunk" space bytes_text bytes
 shown_text (Fill line) = decimal line space codes "fill"
+shown_text (Cells line numbers) = decimal line space codes "cells" space cells_text numbers
 shown_text (Key line bytes) = decimal line space codes "zget" space value_text bytes
 shown_text (Log line snapshot flushed_at message props) =
     decimal line space codes "log" space id12_text snapshot space decimal flushed_at space map printed message
@@ -75,6 +91,7 @@ property_lines name (Node line array path) = []
 property_lines name (Meta line text) = []
 property_lines name (Chunk line bytes) = []
 property_lines name (Fill line) = []
+property_lines name (Cells line numbers) = []
 property_lines name (Key line bytes) = []
 property_lines name (Log line snapshot flushed_at message props) = flat_map (property_line name line) props
 
@@ -118,7 +135,21 @@ key_lines name line (key.Lease id) what = []
 abbrev pub case_lines : List ℕ → ℕ → RefCase → List ℕ
 case_lines name line c = key_lines name line c.key c.what
 
--- what was done, before the ending tells whether it is all: what a collection removed that was refused, and what an expiry made of each ref
+-- what is wrong with an object, and its name
+abbrev pub fault_word : FaultKind → List ℕ
+fault_word fault.Absent = codes "absent"
+fault_word (fault.Bad bad) = codes "bad"
+fault_word fault.Ring = codes "ring"
+fault_word (fault.NotWell at) = codes "notwell"
+
+abbrev pub fault_text : CheckFault → List ℕ
+fault_text f = fault_word f.kind space key_name f.key
+
+abbrev pub fault_line : List ℕ → CheckFault → List ℕ
+fault_line name f = line_of name (fault_text f)
+
+-- what was done, before the ending tells whether it is all: what a collection removed that was refused, what an expiry made of each ref, and the
+-- faults that a check found
 abbrev pub done_lines : List ℕ → End → List ℕ
 done_lines name (Committed id) = []
 done_lines name (Collected removed) = []
@@ -127,6 +158,7 @@ done_lines name (Refused line why) = []
 done_lines name (Stopped line why removed) = removed_lines name removed
 done_lines name (InDoubt id how) = []
 done_lines name (Expired line cases result) = flat_map (case_lines name line) cases
+done_lines name (Checked line faults result) = flat_map (fault_line name) faults
 
 -- the line that was refused, and why
 abbrev pub refused_text : ℕ → Refusal → List ℕ
@@ -136,6 +168,15 @@ refused_text line why = codes "refused" space decimal line space refusal_text wh
 abbrev pub result_text : ℕ → Result (Unit {0}) Refusal → List ℕ
 result_text line (Ok done) = codes "done"
 result_text line (Err why) = refused_text line why
+
+-- how many snapshots and objects with chunks a check found
+abbrev pub counts_text : Counts → List ℕ
+counts_text c = codes "checked" space decimal c.snapshots space decimal c.chunks
+
+-- how a check ended that began on this line
+abbrev pub checked_text : ℕ → Result Counts Refusal → List ℕ
+checked_text line (Ok counts) = counts_text counts
+checked_text line (Err why) = refused_text line why
 
 -- what its branch told of a commit in doubt
 abbrev pub how_text : How → List ℕ
@@ -154,6 +195,7 @@ end_text (Refused line why) = refused_text line why
 end_text (Stopped line why removed) = refused_text line why
 end_text (InDoubt id how) = codes "indoubt" space id12_text id space how_text how
 end_text (Expired line cases result) = result_text line result
+end_text (Checked line faults result) = checked_text line result
 
 -- what a task showed in order, what it had done, and then how it ended
 abbrev pub outcome_text : List ℕ → Outcome → List ℕ

@@ -2,6 +2,8 @@
 #![tactic(auto)]
 
 mod cases;
+mod cells;
+mod checks;
 mod properties;
 mod refusals;
 mod reporting;
@@ -9,4 +11,4 @@ mod texts;
 mod words;
 
 pub use refusals::add_refusal;
-pub use reporting::add_report;
+pub use reporting::{add_outcome, add_report};

@@ -7,6 +7,7 @@ ghost use Rattle.drafts.specs.Drafts.{Took};
 ghost use Rattle.play_report.specs.Report.{line_of, is_nothing, removed_text, removed_lines, done_lines, end_text, property_lines, shown_line, shown_lines, outcome_text, tasks_text, ref_line, refs_text, refused_line, played_text, report_of};
 
 use crate::cases::add_cases;
+use crate::checks::add_faults;
 use crate::properties::add_properties;
 use crate::refusals::add_refusal;
 use crate::texts::{add_end, add_ref, add_ref_kind, add_removed, add_shown};
@@ -35,6 +36,7 @@ fn add_property_lines<K: Sink>(out: &mut Draft, to: &mut K, name: &[u8], shown: 
         | Shown::Meta { .. }
         | Shown::Chunk { .. }
         | Shown::Fill { .. }
+        | Shown::Cells { .. }
         | Shown::Key { .. } => {}
         Shown::Log { line, props, .. } => add_properties(out, to, name, *line, props),
     }
@@ -83,7 +85,7 @@ fn add_removed_lines<K: Sink>(out: &mut Draft, to: &mut K, name: &[u8], removed:
     add_removed_line(out, to, name, removed);
 }
 
-/// What was done, as lines: what a collection removed that was refused, and what an expiry made of each ref.
+/// What was done, as lines: what a collection removed that was refused, what an expiry made of each ref, and the faults that a check found.
 fn add_done_lines<K: Sink>(out: &mut Draft, to: &mut K, name: &[u8], end: &End)
     ensures { Took out.old (K.at to.old) (done_lines name.now end.now) out.new (K.at to.new) }
 {
@@ -95,6 +97,7 @@ fn add_done_lines<K: Sink>(out: &mut Draft, to: &mut K, name: &[u8], end: &End)
         | End::InDoubt { .. } => {}
         End::Stopped { removed, .. } => add_removed_lines(out, to, name, *removed),
         End::Expired { line, cases, .. } => add_cases(out, to, name, *line, cases.as_slice()),
+        End::Checked { faults, .. } => add_faults(out, to, name, faults.as_slice()),
     }
 }
 
@@ -108,8 +111,8 @@ fn add_end_line<K: Sink>(out: &mut Draft, to: &mut K, name: &[u8], end: &End)
     out.add(to, b"\n");
 }
 
-/// What the task of this name showed, line by line, what it had done, and how it ended.
-fn add_outcome<K: Sink>(out: &mut Draft, to: &mut K, name: &[u8], outcome: &Outcome)
+/// Adds what the task of this name showed, line by line, what it had done, and how it ended.
+pub fn add_outcome<K: Sink>(out: &mut Draft, to: &mut K, name: &[u8], outcome: &Outcome)
     ensures { Took out.old (K.at to.old) (outcome_text name.now outcome.now) out.new (K.at to.new) }
 {
     add_all_shown(out, to, name, outcome.shown.as_slice());

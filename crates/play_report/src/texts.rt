@@ -8,10 +8,14 @@ ghost use Rattle.ice_ids.specs.Text.{id12_text};
 ghost use Rattle.drafts.specs.Drafts.{Took};
 ghost use Rattle.play_report.specs.Words.{◌space◌};
 ghost use Rattle.play_report.specs.Refusals.{refusal_text};
-ghost use Rattle.play_report.specs.Report.{node_kind, ref_kind, printed, byte_text, bytes_text, value_text, shown_text, removed_text, refused_text, result_text, how_text, end_text, ref_text};
+ghost use Rattle.play_report.specs.Report.{node_kind, ref_kind, printed, byte_text, bytes_text, cells_text, value_text, shown_text, removed_text, refused_text, result_text, counts_text, checked_text, how_text, end_text, ref_text};
 
+use crate::cells::add_cells;
 use crate::refusals::add_refusal;
-use crate::words::{add_id, add_name, add_path, add_small, add_text, add_told_id};
+use crate::words::{
+    add_id, add_name, add_path, add_small, add_text, add_told_id, add_told_numbers,
+};
+use check_reports::Checked;
 use cleanup_reports::Removed;
 use drafts::Draft;
 use ice_base::{Bytes, Sink};
@@ -163,6 +167,14 @@ fn add_fill<K: Sink>(out: &mut Draft, to: &mut K, line: u32)
     out.add(to, b" fill");
 }
 
+/// The numbers of a box of cells.
+fn add_box<K: Sink>(out: &mut Draft, to: &mut K, line: u32, numbers: &[i128])
+    ensures { Took out.old (K.at to.old) (decimal line space codes "cells" space cells_text numbers.now) out.new (K.at to.new) }
+{
+    add_head(out, to, line, "cells");
+    add_cells(out, to, numbers);
+}
+
 /// The value of a key of the Zarr store.
 fn add_key_value<K: Sink>(out: &mut Draft, to: &mut K, line: u32, value: &Option<Bytes>)
     ensures { Took out.old (K.at to.old) (decimal line space codes "zget" space value_text value.now) out.new (K.at to.new) }
@@ -199,6 +211,7 @@ pub fn add_shown<K: Sink>(out: &mut Draft, to: &mut K, shown: &Shown)
         Shown::Meta { line, text } => add_meta(out, to, *line, text),
         Shown::Chunk { line, bytes } => add_chunk(out, to, *line, bytes),
         Shown::Fill { line } => add_fill(out, to, *line),
+        Shown::Cells { line, numbers } => add_box(out, to, *line, numbers.as_slice()),
         Shown::Key { line, bytes } => add_key_value(out, to, *line, bytes),
         Shown::Log {
             line,
@@ -275,6 +288,23 @@ fn add_doubt<K: Sink>(out: &mut Draft, to: &mut K, id: Id12, how: &How)
     add_how(out, to, how);
 }
 
+/// How many snapshots and objects with chunks a check found.
+fn add_counts<K: Sink>(out: &mut Draft, to: &mut K, counts: Checked)
+    ensures { Took out.old (K.at to.old) (counts_text counts) out.new (K.at to.new) }
+{
+    add_told_numbers(out, to, "checked", counts.snapshots, counts.chunks);
+}
+
+/// How a check ended that began on this line.
+fn add_checked<K: Sink>(out: &mut Draft, to: &mut K, line: u32, ended: &Result<Checked, Refusal>)
+    ensures { Took out.old (K.at to.old) (checked_text line ended.now) out.new (K.at to.new) }
+{
+    match ended {
+        Ok(counts) => add_counts(out, to, *counts),
+        Err(why) => add_refused_at(out, to, line, why),
+    }
+}
+
 /// How a task ended.
 pub fn add_end<K: Sink>(out: &mut Draft, to: &mut K, end: &End)
     ensures { Took out.old (K.at to.old) (end_text end.now) out.new (K.at to.new) }
@@ -288,6 +318,7 @@ pub fn add_end<K: Sink>(out: &mut Draft, to: &mut K, end: &End)
         ),
         End::InDoubt { id, how } => add_doubt(out, to, *id, how),
         End::Expired { line, result, .. } => add_result(out, to, *line, result),
+        End::Checked { line, result, .. } => add_checked(out, to, *line, result),
     }
 }
 

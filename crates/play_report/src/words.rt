@@ -66,7 +66,7 @@ fn add_ref_object<K: Sink>(out: &mut Draft, to: &mut K, before: &str, name: &Ref
 }
 
 /// The name of an object.
-fn add_key<K: Sink>(out: &mut Draft, to: &mut K, key: &Key)
+pub fn add_key<K: Sink>(out: &mut Draft, to: &mut K, key: &Key)
     ensures { Took out.old (K.at to.old) (key_name key.now) out.new (K.at to.new) }
 {
     match key {

@@ -25,13 +25,14 @@ use Rattle.store_api.proofs.Happening.{ChangedNothing-others}
 use Rattle.store_api.proofs.Standing.{IsPolite-append}
 use Rattle.commit_path.proofs.Singling.{HasPutAlike-others}
 use Rattle.play_script.specs.declared.scripts.Head.{Head}
-use Rattle.play_script.specs.declared.scripts.Head.TheVariants.{Session, Refs, Collect, Expire}
+use Rattle.play_script.specs.declared.scripts.Head.TheVariants.{Session, Refs, Collect, Expire, Check}
 use Rattle.play_script.specs.declared.scripts.Task.{Task}
 use Rattle.play_refs.proofs.Playing.{RefsTells-others}
 use Rattle.play_collect.proofs.Lasting.{owed-others, CollectedTells-others}
 use Rattle.play_expire.specs.Playing.{terms_of}
 use Rattle.play_expire.proofs.Lasting.{ExpiredTells-more}
 use Rattle.expiry.proofs.Lasting.{owed-more}
+use Rattle.play_check.proofs.Lasting.{outcome-lasts}
 use Rattle.play_outcome.specs.declared.outcome.Outcome.{Outcome}
 use Rattle.play_outcome.specs.Ending.{is_failed}
 use Rattle.play_tasks.specs.Playing.{asked_by, policy_of}
@@ -131,7 +132,7 @@ Keeps-polite ids task number start by (Or p r) journal k = tt
 
 -- what an outcome tells lasts
 outcomes : OutcomeLaw
-outcomes by ids task outcome start journal more others = TellsOutcome-others (record { session = session-law; answers = answers-law; settle = λ by branch d result start journal more others t. settle-kept by branch d start journal more others result t; chunks = tells-law; refs = λ by body outcome start journal more others. RefsTells-others by journal more others body start outcome; collect = λ by line cutoff outcome start journal more others. CollectedTells-others cutoff by start journal more others line outcome; expire = λ by line terms outcome start journal more others. ExpiredTells-more line terms by.number start journal more outcome }) by start journal more others ids task outcome
+outcomes by ids task outcome start journal more others = TellsOutcome-others (record { session = session-law; answers = answers-law; settle = λ by branch d result start journal more others t. settle-kept by branch d start journal more others result t; chunks = tells-law; refs = λ by body outcome start journal more others. RefsTells-others by journal more others body start outcome; collect = λ by line cutoff outcome start journal more others. CollectedTells-others cutoff by start journal more others line outcome; expire = λ by line terms outcome start journal more others. ExpiredTells-more line terms by.number start journal more outcome; check = outcome-lasts }) by start journal more others ids task outcome
 
 next_same : (k t : ℕ) → t + 1 ≡ k + 1 → k ≡ t
 next_same k t e = omega (arith, e)
@@ -164,12 +165,14 @@ owes-others by ids task start journal more op o polite (Session access) owes =
 owes-others by ids task start journal more op o polite Refs owes = owes
 owes-others by ids task start journal more op o polite (Collect cutoff) owes = owed-others cutoff by start journal more o op owes
 owes-others by ids task start journal more op o polite (Expire cutoff drop_branches drop_tags) owes = owed-more (terms_of cutoff drop_branches drop_tags) by.number start journal more op owes
+owes-others by ids task start journal more op o polite Check owes = owes
 
 own-others : (by : Caller) (ids : AnyIds) (start journal more : List Event) (op : Op) → Each (IsOther by) journal more → (head : Head) → OwesOwnBy head ids by.number start journal op → OwesOwnBy head ids by.number start (journal ++ more) op
 own-others by ids start journal more op o (Session access) own = OwesOwn-others by ids start journal more op o own
 own-others by ids start journal more op o Refs own = own
 own-others by ids start journal more op o (Collect cutoff) own = own
 own-others by ids start journal more op o (Expire cutoff drop_branches drop_tags) own = own
+own-others by ids start journal more op o Check own = own
 
 stable : (ids : AnyIds) (task : Task) (start : List Event) (by : Caller) (journal more : List Event) (op : Op) → Each (IsOther by) journal more → Owing ids task start journal by.number op → Owing ids task start (journal ++ more) by.number op
 stable ids task start by journal more op o c = record { polite = IsPolite-append journal more op (good-waits by journal more o) c.polite; owes = owes-others by ids task start journal more op o c.polite task.head c.owes; own = own-others by ids start journal more op o task.head c.own; open_at = open-others by start journal more o task.head ids op c.open_at }
@@ -207,6 +210,7 @@ before-others by start journal more op others (Session access) c = λ puts. Chan
 before-others by start journal more op others Refs c = c
 before-others by start journal more op others (Collect cutoff) c = c
 before-others by start journal more op others (Expire cutoff drop_branches drop_tags) c = c
+before-others by start journal more op others Check c = c
 
 pub stable-before : (task : Task) (start : List Event) (by : Caller) (journal more : List Event) (op : Op) → Each (IsOther by) journal more → Before task start journal by.number op → Before task start (journal ++ more) by.number op
 stable-before task start by journal more op others c = before-others by start journal more op others task.head c

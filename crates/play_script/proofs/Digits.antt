@@ -28,5 +28,8 @@ parsed_at k bs r h d = parse_digits own k bs r h (split (not (nat_eq (length bs)
 pub parsed : {E : Type 0} (bs : List ℕ) (r : Result ℕ E) → ParsesUnsigned 32 10 bs r → is_digits bs ≡ true → OkIff r ((0 < length bs) × (digits_value 10 bs < 2 ^ 32)) (digits_value 10 bs)
 parsed bs r h d = parsed_at 32 bs r h d
 
+pub parsed_long : {E : Type 0} (bs : List ℕ) (r : Result ℕ E) → ParsesUnsigned 64 10 bs r → is_digits bs ≡ true → OkIff r ((0 < length bs) × (digits_value 10 bs < 2 ^ 64)) (digits_value 10 bs)
+parsed_long bs r h d = parsed_at 64 bs r h d
+
 pub parsed_wide : {E : Type 0} (bs : List ℕ) (r : Result ℕ E) → ParsesUnsigned 128 10 bs r → is_digits bs ≡ true → OkIff r ((0 < length bs) × (digits_value 10 bs < 2 ^ 128)) (digits_value 10 bs)
 parsed_wide bs r h d = parsed_at 128 bs r h d

@@ -16,8 +16,9 @@ use Rattle.play_script.specs.declared.faults.ScriptKind.{ScriptKind}
 use Rattle.play_script.specs.declared.faults.ScriptKind.TheVariants as k
 use Rattle.play_script.specs.Words.{Text, parts}
 use Rattle.play_script.specs.Parts.{◌&◌, made, each, only_if}
-use Rattle.play_script.specs.Values.{◌reads◌, is_task_name, task_name_of, path_of, text_of, ref_name_of, is_number, number_of, wide_of, numbers_of, is_digits, magnitude, is_signed, fill_of, count_of, index_part_of, index_of, hex_digit_of, byte_of, pairs, bytes_of, tries_in}
+use Rattle.play_script.specs.Values.{◌reads◌, is_task_name, task_name_of, path_of, text_of, ref_name_of, is_number, number_of, wide_of, numbers_of, is_digits, magnitude, is_signed, fill_of, count_of, index_part_of, index_of, long_of, corner_of, cells_of, hex_digit_of, byte_of, pairs, bytes_of, tries_in}
 use Rattle.play_script.specs.Forms.{taken}
+use Rattle.play_script.specs.Well.{IsWellCorner, AreWellCells}
 
 pub made_ok : {A B : Type 0} (f : A → B) (r : Result A ScriptKind) (t : B) → made f r ≡ Ok t → (x : A) × (r ≡ Ok x) × (f x ≡ t)
 made_ok f (Ok x) t h = (x, refl, cc)
@@ -126,6 +127,30 @@ index_ok w index h =
     cond_both (w reads codes "-") (Ok []) (each index_part_of (parts 44 w)) (λ (r : Result (List ℕ) ScriptKind). r ≡ Ok index → is_index index ≡ true)
     (λ _ e. let none : [] ≡ index = cc in subst (λ (ns : List ℕ). is_index ns ≡ true) none (all_low [] (All-nil IsLow)))
     (λ _ e. all_low index (each_ok IsLow index_part_of (parts 44 w) index (λ part n is. omega (arith, (number_ok 0 (2 ^ 32 - 1) part n is).1)) e))
+    h
+
+-- the numbers of a corner have 64 bits
+abbrev IsLong : ℕ → Type 0
+IsLong n = n < 2 ^ 64
+
+pub corner_ok : (w : Text) (corner : List ℕ) → corner_of w ≡ Ok corner → IsWellCorner corner
+unfolding corner_of
+corner_ok w corner h =
+    cond_both (w reads codes "-") (Ok []) (each long_of (parts 44 w)) (λ (r : Result (List ℕ) ScriptKind). r ≡ Ok corner → All IsLong corner)
+    (λ _ e. let none : [] ≡ corner = cc in subst (All IsLong) none (All-nil IsLong))
+    (λ _ e. each_ok IsLong long_of (parts 44 w) corner (λ part n is. omega (arith, (number_ok 0 (2 ^ 64 - 1) part n is).1)) e)
+    h
+
+-- the numbers of cells have 128 bits, with a sign
+abbrev IsSigned : ℤ → Type 0
+IsSigned z = is_signed z ≡ true
+
+pub cells_ok : (w : Text) (numbers : List ℤ) → cells_of w ≡ Ok numbers → AreWellCells numbers
+unfolding cells_of
+cells_ok w numbers h =
+    cond_both (w reads codes "-") (Ok []) (each fill_of (parts 44 w)) (λ (r : Result (List ℤ) ScriptKind). r ≡ Ok numbers → All IsSigned numbers)
+    (λ _ e. let none : [] ≡ numbers = cc in subst (All IsSigned) none (All-nil IsSigned))
+    (λ _ e. each_ok IsSigned fill_of (parts 44 w) numbers fill_ok e)
     h
 
 pub digit_ok : (b d : ℕ) → hex_digit_of b ≡ Ok d → d < 16

@@ -12,6 +12,7 @@ use Rattle.repo_read.specs.declared.resolving.At.TheVariants as at
 use Rattle.play_script.specs.declared.faults.ScriptKind.{ScriptKind}
 use Rattle.play_script.specs.declared.scripts.Call.{Call}
 use Rattle.play_script.specs.declared.scripts.Call.TheVariants as call
+use Rattle.play_script.specs.declared.scripts.CellBox.{CellBox}
 use Rattle.play_script.specs.declared.scripts.EditCall.TheVariants as edit
 use Rattle.play_script.specs.declared.scripts.ReadCall.TheVariants as read
 use Rattle.play_script.specs.declared.faults.ScriptKind.TheVariants as k
@@ -25,14 +26,14 @@ use Rattle.play_script.specs.declared.scripts.Turn.{Turn}
 use Rattle.play_script.specs.declared.scripts.Class.{Class}
 use Rattle.play_script.specs.declared.scripts.Class.TheVariants as c
 use Rattle.play_script.specs.declared.forms.Form.{Form}
-use Rattle.play_script.specs.Words.{Text, cut_of, next, one, two, three, five}
+use Rattle.play_script.specs.Words.{Text, cut_of, next, one, two, three, four, five}
 use Rattle.play_script.specs.Parts.{◌&◌, made}
-use Rattle.play_script.specs.Values.{◌reads◌, path_of, text_of, ref_name_of, id_of, tries_in, policy_in, numbers_of, fill_of, count_of, index_of, bytes_of, byte_of, cutoff_of, flags_of}
+use Rattle.play_script.specs.Values.{◌reads◌, path_of, text_of, ref_name_of, id_of, tries_in, policy_in, numbers_of, fill_of, count_of, index_of, bytes_of, byte_of, corner_of, cells_of, cutoff_of, flags_of}
 use Rattle.play_script.specs.Arrays.{array_line_text}
-use Rattle.play_script.specs.Forms.{taken, lone_path, path_and_text, array_of, path_and_array, path_and_index, chunk_and_bytes, chunk_and_byte, lone_key, key_and_bytes, node_edit_of, chunk_edit_of, key_edit_of, edit_of, read_of, commit_of, name_and_value, prop_of, at_of, lone_at, lone_name, name_and_at, ref_of, form, no_form, form_of, write_of, refs_of, collect_of, expire_of, head_of}
+use Rattle.play_script.specs.Forms.{taken, lone_path, path_and_text, array_of, path_and_array, path_and_index, chunk_and_bytes, chunk_and_byte, cell_box, box_of, lone_box, box_and_cells, lone_key, key_and_bytes, node_edit_of, chunk_edit_of, key_edit_of, edit_of, read_of, commit_of, name_and_value, prop_of, at_of, lone_at, lone_name, name_and_at, ref_of, form, no_form, form_of, write_of, refs_of, collect_of, expire_of, check_of, head_of}
 use Rattle.play_script.specs.Places.{class_of, client_from, turn, turn_of}
-use Rattle.play_script.specs.Well.{IsWellPath, IsWellText, IsWellIndex, IsWellEdit, IsWellRead, IsWellAt, IsWellRef, IsWellCall, IsWellAccess, IsWellHead, IsWellTurn}
-use Rattle.play_script.proofs.Inversions.{made_ok, both_ok, taken_ok, path_ok, text_ok, ref_name_ok, numbers_ok, fill_ok, count_ok, index_ok, byte_ok, bytes_ok, tries_ok}
+use Rattle.play_script.specs.Well.{IsWellPath, IsWellText, IsWellIndex, IsWellBox, AreWellCells, IsWellEdit, IsWellRead, IsWellAt, IsWellRef, IsWellCall, IsWellAccess, IsWellHead, IsWellTurn}
+use Rattle.play_script.proofs.Inversions.{made_ok, both_ok, taken_ok, path_ok, text_ok, ref_name_ok, numbers_ok, fill_ok, count_ok, index_ok, byte_ok, bytes_ok, corner_ok, cells_ok, tries_ok}
 use Rattle.play_script.proofs.WellCutoffs.{IsCutoff, cutoff_ok}
 use Rattle.play_script.proofs.ArrayUtf8.{array_utf8}
 
@@ -103,6 +104,29 @@ chunk_and_byte_ok rest v h =
     let a = both_ok (path_of t.0.0) (index_of t.0.1) v.0 b.0 in
     (path_ok t.0.0 v.0.0 a.0, index_ok t.0.1 v.0.1 a.1, byte_ok t.0.2 v.1 b.1)
 
+box_ok : (path from to : Text) (v : CellBox) → box_of path from to ≡ Ok v → IsWellBox v
+box_ok path from to v h =
+    let m = made_ok cell_box (path_of path & corner_of from & corner_of to) v h in
+    let all = both_ok (path_of path & corner_of from) (corner_of to) m.0 m.1 in
+    let one = both_ok (path_of path) (corner_of from) m.0.0 all.0 in
+    subst IsWellBox m.2 (path_ok path _ one.0, corner_ok from _ one.1, corner_ok to _ all.1)
+
+lone_box_ok : (rest : Option Text) (v : CellBox) → lone_box rest ≡ Ok v → IsWellBox v
+unfolding lone_box
+lone_box_ok rest v h =
+    let t = taken_ok (three rest) (λ w. box_of w.0 w.1 w.2) v h in
+    box_ok t.0.0 t.0.1 t.0.2 v t.2
+
+abbrev IsWellPut : CellBox × List ℤ → Type 0
+IsWellPut v = IsWellBox v.0 × AreWellCells v.1
+
+box_and_cells_ok : (rest : Option Text) (v : CellBox × List ℤ) → box_and_cells rest ≡ Ok v → IsWellPut v
+unfolding box_and_cells
+box_and_cells_ok rest v h =
+    let t = taken_ok (four rest) (λ w. box_of w.0 w.1 w.2 & cells_of w.3) v h in
+    let b = both_ok (box_of t.0.0 t.0.1 t.0.2) (cells_of t.0.3) v t.2 in
+    (box_ok t.0.0 t.0.1 t.0.2 v.0 b.0, cells_ok t.0.3 v.1 b.1)
+
 lone_key_ok : (rest : Option Text) (key : Text) → lone_key rest ≡ Ok key → IsWellText key
 unfolding lone_key
 lone_key_ok rest key h = let t = taken_ok (one rest) text_of key h in text_ok t.0 key t.2
@@ -143,7 +167,8 @@ unfolding chunk_edit_of
 chunk_edit_ok first rest =
     form_right IsWellEdit (first reads codes "set") _ _ (made_right IsWellBytes IsWellEdit (λ v. edit.Set v.0.0 v.0.1 v.1) (chunk_and_bytes rest) (λ x w. w) (chunk_and_bytes_ok rest))
     (form_right IsWellEdit (first reads codes "fill") _ _ (made_right IsWellByte IsWellEdit (λ v. edit.Fill v.0.0 v.0.1 v.1) (chunk_and_byte rest) (λ x w. w) (chunk_and_byte_ok rest))
-    (form_right IsWellEdit (first reads codes "unset") _ _ (made_right IsWellChunk IsWellEdit (λ v. edit.Unset v.0 v.1) (path_and_index rest) (λ x w. w) (path_and_index_ok rest)) tt))
+    (form_right IsWellEdit (first reads codes "unset") _ _ (made_right IsWellChunk IsWellEdit (λ v. edit.Unset v.0 v.1) (path_and_index rest) (λ x w. w) (path_and_index_ok rest))
+    (form_right IsWellEdit (first reads codes "put") _ _ (made_right IsWellPut IsWellEdit (λ v. edit.Put v.0 v.1) (box_and_cells rest) (λ x w. w) (box_and_cells_ok rest)) tt)))
 
 key_edit_ok : (first : Text) (rest : Option Text) → IsRight IsWellEdit (key_edit_of first rest)
 unfolding key_edit_of
@@ -167,7 +192,8 @@ read_ok first rest =
     form_right IsWellRead (first reads codes "list") _ _ (made_right IsWellPath IsWellRead read.List (lone_path rest) (λ x w. w) (lone_path_ok rest))
     (form_right IsWellRead (first reads codes "get") _ _ (made_right IsWellPath IsWellRead read.Get (lone_path rest) (λ x w. w) (lone_path_ok rest))
     (form_right IsWellRead (first reads codes "chunk") _ _ (made_right IsWellChunk IsWellRead (λ v. read.Chunk v.0 v.1) (path_and_index rest) (λ x w. w) (path_and_index_ok rest))
-    (form_right IsWellRead (first reads codes "zget") _ _ (made_right IsWellText IsWellRead read.KeyGet (lone_key rest) (λ x w. w) (lone_key_ok rest)) tt)))
+    (form_right IsWellRead (first reads codes "cells") _ _ (made_right IsWellBox IsWellRead read.Cells (lone_box rest) (λ x w. w) (lone_box_ok rest))
+    (form_right IsWellRead (first reads codes "zget") _ _ (made_right IsWellText IsWellRead read.KeyGet (lone_key rest) (λ x w. w) (lone_key_ok rest)) tt))))
 
 commit_ok : (first : Text) (rest : Option Text) → IsRight IsWellText (commit_of first rest)
 unfolding commit_of
@@ -288,6 +314,10 @@ expire_ok rest =
     let b = both_ok (cutoff_of t.0.0) (flags_of t.0.1) v t.2 in
     cutoff_ok t.0.0 v.0 b.0)
 
+check_ok : (rest : Option Text) → AreWellHeads (check_of rest)
+check_ok None v h = let same : head.Check ≡ v = cc in subst IsWellHead same tt
+check_ok (Some rest) v h = absurd (cc)
+
 pub head_ok : (word : Text) (rest : Option Text) → AreWellHeads (head_of word rest)
 unfolding head_of
 head_ok word rest =
@@ -295,7 +325,8 @@ head_ok word rest =
     cond_both (word reads codes "read") _ _ AreWellHeads (λ _. made_right IsWellAccess IsWellHead head.Session (made access.Read (lone_at rest)) (λ x w. w) (made_right IsWellAt IsWellAccess access.Read (lone_at rest) (λ x w. w) (lone_at_ok rest))) (λ _.
     cond_both (word reads codes "refs") _ _ AreWellHeads (λ _. refs_ok rest) (λ _.
     cond_both (word reads codes "collect") _ _ AreWellHeads (λ _. collect_ok rest) (λ _.
-    cond_both (word reads codes "expire") _ _ AreWellHeads (λ _. expire_ok rest) (λ _ v h. absurd (cc))))))
+    cond_both (word reads codes "expire") _ _ AreWellHeads (λ _. expire_ok rest) (λ _.
+    cond_both (word reads codes "check") _ _ AreWellHeads (λ _. check_ok rest) (λ _ v h. absurd (cc)))))))
 
 -- a task of refs has the word `refs`
 abbrev IsNoRefs : Result Head ScriptKind → Type 0
@@ -314,6 +345,10 @@ expires rest h =
     let e : head.Expire m.0.0 m.0.1.0 m.0.1.1 ≡ head.Refs = m.2 in
     absurd (cc)
 
+checks : (rest : Option Text) → IsNoRefs (check_of rest)
+checks None h = absurd (cc)
+checks (Some rest) h = absurd (cc)
+
 abbrev ReadsRefs : Text → Result Head ScriptKind → Type 0
 ReadsRefs word r = r ≡ Ok head.Refs → (word reads codes "refs") ≡ true
 
@@ -324,7 +359,8 @@ refs_word word rest =
     cond_both (word reads codes "read") _ _ (ReadsRefs word) (λ _ h. absurd (opens _ h)) (λ _.
     cond_both (word reads codes "refs") _ _ (ReadsRefs word) (λ e _. e) (λ _.
     cond_both (word reads codes "collect") _ _ (ReadsRefs word) (λ _ h. absurd (collects (taken (one rest) cutoff_of) h)) (λ _.
-    cond_both (word reads codes "expire") _ _ (ReadsRefs word) (λ _ h. absurd (expires rest h)) (λ _ h. absurd (cc))))))
+    cond_both (word reads codes "expire") _ _ (ReadsRefs word) (λ _ h. absurd (expires rest h)) (λ _.
+    cond_both (word reads codes "check") _ _ (ReadsRefs word) (λ _ h. absurd (checks rest h)) (λ _ h. absurd (cc)))))))
 
 -- a client is the number of a task
 abbrev IsFrom : ℕ → ℕ → Result ℕ ScriptKind → Type 0

@@ -72,6 +72,7 @@ first_line : (s : Script) (after : List Text) (word : Text) (rest : Option Text)
 first_line s after word rest (head.Session opened) placed is none = tt
 first_line s after word rest (head.Collect cutoff) placed is none = tt
 first_line s after word rest (head.Expire cutoff drop_branches drop_tags) placed is none = tt
+first_line s after word rest head.Check placed is none = tt
 first_line s after word rest head.Refs placed is none = absurd (both_ways (has_line after) none (line_comes s after word placed (refs_word word rest is)))
 
 task_well : (s : Script) (n : ℕ) (after : List Text) (name word : Text) (rest : Option Text) → IsSoFar false s → IsLineNumber n → IsSoFarIfRead (has_line after) (task_line s n after name word rest)

@@ -92,6 +92,7 @@ some_line : (opened : Head) (body : List Line) (l : Line) → HasItsLine opened 
 some_line (head.Session access) body l = tt
 some_line (head.Collect cutoff) body l = tt
 some_line (head.Expire cutoff drop_branches drop_tags) body l = tt
+some_line head.Check body l = tt
 some_line head.Refs [] l = λ e. cc
 some_line head.Refs (b ∷ body) l = λ e. cc
 

@@ -2,7 +2,7 @@
 use Rattle.std.specs.Prelude.{Bool, true, false, List}
 use Rattle.std.specs.List.{list_any}
 use Rattle.play_script.specs.declared.scripts.Head.{Head}
-use Rattle.play_script.specs.declared.scripts.Head.TheVariants.{Session, Refs, Collect, Expire}
+use Rattle.play_script.specs.declared.scripts.Head.TheVariants.{Session, Refs, Collect, Expire, Check}
 use Rattle.play_script.specs.declared.scripts.Task.{Task}
 
 abbrev pub is_collection : Head → Bool
@@ -10,6 +10,7 @@ is_collection (Session access) = false
 is_collection Refs = false
 is_collection (Collect cutoff) = true
 is_collection (Expire cutoff drop_branches drop_tags) = false
+is_collection Check = false
 
 -- whether one of them does
 abbrev pub has_collection : List Task → Bool

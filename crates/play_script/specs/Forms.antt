@@ -1,5 +1,5 @@
 -- Own: the forms of heads and body lines, each by its words.
-use Rattle.std.specs.Prelude.{ℕ, List, if◌then◌else◌, Option, Some, None, option_map, unwrap_or, Result, Ok, Err, codes}
+use Rattle.std.specs.Prelude.{ℕ, ℤ, List, if◌then◌else◌, Option, Some, None, option_map, unwrap_or, Result, Ok, Err, codes}
 use Rattle.std.specs.Option.{option_or}
 use Rattle.repo_read.specs.declared.resolving.At.{At}
 use Rattle.repo_read.specs.declared.resolving.At.TheVariants as at
@@ -7,6 +7,7 @@ use Rattle.play_script.specs.declared.faults.ScriptKind.{ScriptKind}
 use Rattle.play_script.specs.declared.faults.ScriptKind.TheVariants as k
 use Rattle.play_script.specs.declared.scripts.Call.{Call}
 use Rattle.play_script.specs.declared.scripts.Call.TheVariants as call
+use Rattle.play_script.specs.declared.scripts.CellBox.{CellBox}
 use Rattle.play_script.specs.declared.scripts.EditCall.{EditCall}
 use Rattle.play_script.specs.declared.scripts.EditCall.TheVariants as edit
 use Rattle.play_script.specs.declared.scripts.ReadCall.{ReadCall}
@@ -20,9 +21,9 @@ use Rattle.play_script.specs.declared.scripts.Head.TheVariants as head
 use Rattle.play_script.specs.declared.scripts.Class.{Class}
 use Rattle.play_script.specs.declared.scripts.Class.TheVariants as c
 use Rattle.play_script.specs.declared.forms.Form.{Form}
-use Rattle.play_script.specs.Words.{Text, next, one, two, three, five}
+use Rattle.play_script.specs.Words.{Text, next, one, two, three, four, five}
 use Rattle.play_script.specs.Parts.{◌&◌, made}
-use Rattle.play_script.specs.Values.{◌reads◌, path_of, text_of, ref_name_of, id_of, tries_in, policy_in, numbers_of, fill_of, index_of, bytes_of, byte_of, cutoff_of, flags_of}
+use Rattle.play_script.specs.Values.{◌reads◌, path_of, text_of, ref_name_of, id_of, tries_in, policy_in, numbers_of, fill_of, index_of, bytes_of, byte_of, corner_of, cells_of, cutoff_of, flags_of}
 use Rattle.play_script.specs.Arrays.{array_line_text}
 
 -- the words that a form takes, and what it makes of them
@@ -59,6 +60,21 @@ chunk_and_bytes rest = taken (three rest) (λ w. path_of w.0 & index_of w.1 & by
 unfoldable pub chunk_and_byte : Option Text → Result ((Text × List ℕ) × ℕ) ScriptKind
 chunk_and_byte rest = taken (three rest) (λ w. path_of w.0 & index_of w.1 & byte_of w.2)
 
+-- a box by its array and its two corners
+abbrev pub cell_box : (Text × List ℕ) × List ℕ → CellBox
+cell_box v = record { path = v.0.0; from = v.0.1; to = v.1 }
+
+abbrev pub box_of : Text → Text → Text → Result CellBox ScriptKind
+box_of path from to = made cell_box (path_of path & corner_of from & corner_of to)
+
+-- a box, and nothing else
+unfoldable pub lone_box : Option Text → Result CellBox ScriptKind
+lone_box rest = taken (three rest) (λ w. box_of w.0 w.1 w.2)
+
+-- a box, and the numbers of its cells
+unfoldable pub box_and_cells : Option Text → Result (CellBox × List ℤ) ScriptKind
+box_and_cells rest = taken (four rest) (λ w. box_of w.0 w.1 w.2 & cells_of w.3)
+
 -- one key, which is any word, and nothing else
 unfoldable pub lone_key : Option Text → Result Text ScriptKind
 lone_key rest = taken (one rest) text_of
@@ -82,12 +98,13 @@ node_edit_of first rest =
     (if first reads codes "meta" then Some (made (λ v. edit.Meta v.0 v.1) (path_and_text rest)) else
     (if first reads codes "drop" then Some (made edit.Drop (lone_path rest)) else None))))
 
--- `set PATH INDEX HEX`, `fill PATH INDEX BYTE`, `unset PATH INDEX`
+-- `set PATH INDEX HEX`, `fill PATH INDEX BYTE`, `unset PATH INDEX`, `put PATH FROM TO CELLS`
 unfoldable pub chunk_edit_of : Text → Option Text → Option (Result EditCall ScriptKind)
 chunk_edit_of first rest =
     if first reads codes "set" then Some (made (λ v. edit.Set v.0.0 v.0.1 v.1) (chunk_and_bytes rest)) else
     (if first reads codes "fill" then Some (made (λ v. edit.Fill v.0.0 v.0.1 v.1) (chunk_and_byte rest)) else
-    (if first reads codes "unset" then Some (made (λ v. edit.Unset v.0 v.1) (path_and_index rest)) else None))
+    (if first reads codes "unset" then Some (made (λ v. edit.Unset v.0 v.1) (path_and_index rest)) else
+    (if first reads codes "put" then Some (made (λ v. edit.Put v.0 v.1) (box_and_cells rest)) else None)))
 
 -- `zset KEY HEX`, `zdel KEY`
 unfoldable pub key_edit_of : Text → Option Text → Option (Result EditCall ScriptKind)
@@ -98,13 +115,14 @@ key_edit_of first rest =
 abbrev pub edit_of : Text → Option Text → Option (Result EditCall ScriptKind)
 edit_of first rest = option_or (node_edit_of first rest) (option_or (chunk_edit_of first rest) (key_edit_of first rest))
 
--- `list PATH`, `get PATH`, `chunk PATH INDEX`, `zget KEY`
+-- `list PATH`, `get PATH`, `chunk PATH INDEX`, `cells PATH FROM TO`, `zget KEY`
 unfoldable pub read_of : Text → Option Text → Option (Result ReadCall ScriptKind)
 read_of first rest =
     if first reads codes "list" then Some (made read.List (lone_path rest)) else
     (if first reads codes "get" then Some (made read.Get (lone_path rest)) else
     (if first reads codes "chunk" then Some (made (λ v. read.Chunk v.0 v.1) (path_and_index rest)) else
-    (if first reads codes "zget" then Some (made read.KeyGet (lone_key rest)) else None)))
+    (if first reads codes "cells" then Some (made read.Cells (lone_box rest)) else
+    (if first reads codes "zget" then Some (made read.KeyGet (lone_key rest)) else None))))
 
 -- `commit MESSAGE`: the rest of the line, perhaps empty
 unfoldable pub commit_of : Text → Option Text → Option (Result Text ScriptKind)
@@ -182,6 +200,11 @@ collect_of rest = made head.Collect (taken (one rest) cutoff_of)
 unfoldable pub expire_of : Option Text → Result Head ScriptKind
 expire_of rest = made (λ v. head.Expire v.0 v.1.0 v.1.1) (taken (two rest) (λ w. cutoff_of w.0 & flags_of w.1))
 
+-- `check`, and nothing else
+abbrev pub check_of : Option Text → Result Head ScriptKind
+check_of None = Ok head.Check
+check_of (Some rest) = Err k.Word
+
 -- a head by its word
 unfoldable pub head_of : Text → Option Text → Result Head ScriptKind
 head_of word rest =
@@ -189,4 +212,5 @@ head_of word rest =
     (if word reads codes "read" then made head.Session (made access.Read (lone_at rest)) else
     (if word reads codes "refs" then refs_of rest else
     (if word reads codes "collect" then collect_of rest else
-    (if word reads codes "expire" then expire_of rest else Err k.Word))))
+    (if word reads codes "expire" then expire_of rest else
+    (if word reads codes "check" then check_of rest else Err k.Word)))))

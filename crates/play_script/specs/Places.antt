@@ -53,6 +53,7 @@ head_takes head.Refs c.Ref = true
 head_takes head.Refs _ = false
 head_takes (head.Collect cutoff) class = false
 head_takes (head.Expire cutoff drop_branches drop_tags) class = false
+head_takes head.Check class = false
 
 abbrev pub is_commit_call : Call → Bool
 is_commit_call (call.Edit change) = false

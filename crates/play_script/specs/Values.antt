@@ -73,6 +73,13 @@ index_part_of w = number_of 0 (2 ^ 32 - 1) w
 unfoldable pub index_of : Text → Result (List ℕ) ScriptKind
 index_of w = if w reads codes "-" then Ok [] else each index_part_of (parts 44 w)
 
+-- a corner of a box has numbers of 64 bits with commas between them, or `-` where there are none
+abbrev pub long_of : Text → Result ℕ ScriptKind
+long_of w = number_of 0 (2 ^ 64 - 1) w
+
+unfoldable pub corner_of : Text → Result (List ℕ) ScriptKind
+corner_of w = if w reads codes "-" then Ok [] else each long_of (parts 44 w)
+
 -- a digit of base 16, with lower-case letters
 unfoldable pub hex_digit_of : ℕ → Result ℕ ScriptKind
 hex_digit_of b =
@@ -105,6 +112,10 @@ is_signed z = int_le (negsuc (2 ^ 127 - 1)) z && int_le z (pos (2 ^ 127 - 1))
 
 unfoldable pub fill_of : Text → Result ℤ ScriptKind
 fill_of w = if is_digits (magnitude w) && is_signed (signed_digits_value 10 w) then Ok (signed_digits_value 10 w) else Err k.Number
+
+-- the numbers of cells are written as fill values are, with commas between them, or `-` where there are none
+unfoldable pub cells_of : Text → Result (List ℤ) ScriptKind
+cells_of w = if w reads codes "-" then Ok [] else each fill_of (parts 44 w)
 
 -- the count of a turn, which is 1 where none stands
 unfoldable pub count_of : Option Text → Result ℕ ScriptKind

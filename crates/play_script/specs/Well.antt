@@ -1,5 +1,5 @@
 -- Own: what holds of every script that was read.
-use Rattle.std.specs.Prelude.{◌≡◌, ◌≢◌, ℕ, ◌+◌, ◌^◌, ◌<◌, ◌≤◌, List, [], ◌∷◌, length, map, IfSome, IsTrue, All, AllPairs}
+use Rattle.std.specs.Prelude.{◌≡◌, ◌≢◌, ℕ, ℤ, ◌+◌, ◌^◌, ◌<◌, ◌≤◌, List, [], ◌∷◌, length, map, IfSome, IsTrue, All, AllPairs}
 use Rattle.ice_base.specs.Names.{IsRefName}
 use Rattle.ice_base.specs.Lists.{IsBytes}
 use Rattle.std.specs.Str.{is_utf8}
@@ -9,6 +9,7 @@ use Rattle.repo_read.specs.declared.resolving.At.{At}
 use Rattle.repo_read.specs.declared.resolving.At.TheVariants as at
 use Rattle.play_script.specs.declared.scripts.Call.{Call}
 use Rattle.play_script.specs.declared.scripts.Call.TheVariants as call
+use Rattle.play_script.specs.declared.scripts.CellBox.{CellBox}
 use Rattle.play_script.specs.declared.scripts.EditCall.{EditCall}
 use Rattle.play_script.specs.declared.scripts.EditCall.TheVariants as edit
 use Rattle.play_script.specs.declared.scripts.ReadCall.{ReadCall}
@@ -24,7 +25,7 @@ use Rattle.play_script.specs.declared.scripts.Task.{Task}
 use Rattle.play_script.specs.declared.scripts.Turn.{Turn}
 use Rattle.play_script.specs.declared.scripts.Script.{Script}
 use Rattle.play_script.specs.Words.{Text}
-use Rattle.play_script.specs.Values.{is_task_name}
+use Rattle.play_script.specs.Values.{is_task_name, is_signed}
 use Rattle.play_script.specs.Places.{most_tasks, class_of, head_takes, is_commit_call}
 use Rattle.play_script.specs.Reading.{most_bytes}
 
@@ -40,6 +41,17 @@ IsWellText text = IsTrue (is_utf8 text)
 abbrev pub IsWellIndex : List ℕ → Type 0
 IsWellIndex index = IsTrue (is_index index)
 
+-- a corner of a box has numbers of 64 bits
+abbrev pub IsWellCorner : List ℕ → Type 0
+IsWellCorner corner = All (λ n. n < 2 ^ 64) corner
+
+abbrev pub IsWellBox : CellBox → Type 0
+IsWellBox place = IsWellPath place.path × IsWellCorner place.from × IsWellCorner place.to
+
+-- the numbers of cells have 128 bits, with a sign
+abbrev pub AreWellCells : List ℤ → Type 0
+AreWellCells numbers = All (λ z. IsTrue (is_signed z)) numbers
+
 abbrev pub IsWellEdit : EditCall → Type 0
 IsWellEdit (edit.Group path) = IsWellPath path
 IsWellEdit (edit.Array path text) = IsWellPath path × IsWellText text
@@ -49,6 +61,7 @@ IsWellEdit (edit.Drop path) = IsWellPath path
 IsWellEdit (edit.Set path index bytes) = IsWellPath path × IsWellIndex index × IsBytes bytes
 IsWellEdit (edit.Fill path index byte) = IsWellPath path × IsWellIndex index × (byte < 256)
 IsWellEdit (edit.Unset path index) = IsWellPath path × IsWellIndex index
+IsWellEdit (edit.Put place numbers) = IsWellBox place × AreWellCells numbers
 IsWellEdit (edit.KeySet key bytes) = IsWellText key × IsBytes bytes
 IsWellEdit (edit.KeyErase key) = IsWellText key
 
@@ -56,6 +69,7 @@ abbrev pub IsWellRead : ReadCall → Type 0
 IsWellRead (read.List path) = IsWellPath path
 IsWellRead (read.Get path) = IsWellPath path
 IsWellRead (read.Chunk path index) = IsWellPath path × IsWellIndex index
+IsWellRead (read.Cells place) = IsWellBox place
 IsWellRead (read.KeyGet key) = IsWellText key
 
 -- refs go by their names
@@ -102,6 +116,7 @@ IsWellHead (head.Session opened) = IsWellAccess opened
 IsWellHead head.Refs = Unit {0}
 IsWellHead (head.Collect cutoff) = cutoff < 2 ^ 64
 IsWellHead (head.Expire cutoff drop_branches drop_tags) = cutoff < 2 ^ 64
+IsWellHead head.Check = Unit {0}
 
 -- a task of refs has a line
 abbrev pub HasItsLine : Head → List Line → Type 0
@@ -109,6 +124,7 @@ HasItsLine (head.Session opened) body = Unit {0}
 HasItsLine head.Refs body = body ≢ []
 HasItsLine (head.Collect cutoff) body = Unit {0}
 HasItsLine (head.Expire cutoff drop_branches drop_tags) body = Unit {0}
+HasItsLine head.Check body = Unit {0}
 
 -- the lines are of classes that the head takes
 abbrev pub AreTaken : Head → List Line → Type 0

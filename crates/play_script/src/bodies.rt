@@ -26,6 +26,7 @@ fn head_takes(head: &Head, class: Class) -> bool
         Head::Refs => class == Class::Ref,
         Head::Collect { .. } => false,
         Head::Expire { .. } => false,
+        Head::Check => false,
     }
 }
 

@@ -6,16 +6,18 @@ ghost use Rattle.play_script.specs.declared.scripts.Call.TheVariants as Call;
 ghost use Rattle.play_script.specs.declared.scripts.Class.TheVariants as Class;
 ghost use Rattle.play_script.specs.Parts.{◌&◌};
 ghost use Rattle.play_script.specs.Values.{text_of, path_of, index_of, bytes_of};
-ghost use Rattle.play_script.specs.Forms.{taken, lone_path, path_and_text, array_of, path_and_array, path_and_index, chunk_and_bytes, chunk_and_byte, lone_key, key_and_bytes, node_edit_of, chunk_edit_of, key_edit_of, edit_of, read_of, commit_of, name_and_value, prop_of, ref_of, form, form_of};
+ghost use Rattle.play_script.specs.Forms.{taken, lone_path, path_and_text, array_of, path_and_array, path_and_index, chunk_and_bytes, chunk_and_byte, box_of, lone_box, box_and_cells, lone_key, key_and_bytes, node_edit_of, chunk_edit_of, key_edit_of, edit_of, read_of, commit_of, name_and_value, prop_of, ref_of, form, form_of};
 
 use crate::arrays::array_text;
 use crate::boxed::Boxed;
 use crate::faults::{ScriptKind, both, boxed};
+use crate::lists::{cells_in, corner_in, index_in, numbers_in};
 use crate::refs::ref_call;
-use crate::scripts::{Call, Class, EditCall, ReadCall};
-use crate::values::{byte_in, bytes_in, fill_in, index_in, numbers_in, path_in, text_in};
-use crate::words::{five, next, one, three, two};
+use crate::scripts::{Call, CellBox, Class, EditCall, ReadCall};
+use crate::values::{byte_in, bytes_in, fill_in, path_in, text_in};
+use crate::words::{five, four, next, one, three, two};
 use ice_base::{Bytes, Text};
+use ice_items::Items;
 use std::alloc::{AllocError, Global};
 use zarr_path::{Index, Path};
 
@@ -180,6 +182,52 @@ fn chunk_and_byte(
     Ok(both(chunk, byte_in(byte)))
 }
 
+/// The box of cells that three words tell, in memory of its own.
+fn box_in(
+    alloc: Global,
+    path: &str,
+    from: &str,
+    to: &str,
+) -> Result<Result<Boxed<CellBox>, ScriptKind>, AllocError>
+    ensures { IfOk result (λ r. r ≡ box_of path.now from.now to.now) }
+{
+    let path = path_in(alloc, path)?;
+    let from = corner_in(alloc, from)?;
+    let to = corner_in(alloc, to)?;
+    let place = both(both(path, from), to).map(|((path, from), to)| CellBox { path, from, to });
+    boxed(alloc, place)
+}
+
+/// A box of cells.
+#[tactic(auto, unfolding(crate::specs::Forms::lone_box))]
+fn lone_box(
+    alloc: Global,
+    rest: Option<&str>,
+) -> Result<Result<Boxed<CellBox>, ScriptKind>, AllocError>
+    ensures { IfOk result (λ r. r ≡ lone_box (seen rest.entry)) }
+{
+    match three(rest) {
+        Some((path, from, to)) => box_in(alloc, path, from, to),
+        None => Ok(Err(ScriptKind::Word)),
+    }
+}
+
+/// A box of cells, and their numbers.
+#[tactic(auto, unfolding(crate::specs::Forms::box_and_cells))]
+fn box_and_cells(
+    alloc: Global,
+    rest: Option<&str>,
+) -> Result<Result<(Boxed<CellBox>, Boxed<Items<i128>>), ScriptKind>, AllocError>
+    ensures { IfOk result (λ r. r ≡ box_and_cells (seen rest.entry)) }
+{
+    let Some((path, from, to, cells)) = four(rest) else {
+        return Ok(Err(ScriptKind::Word));
+    };
+    let place = box_in(alloc, path, from, to)?;
+    let numbers = boxed(alloc, cells_in(alloc, cells)?)?;
+    Ok(both(place, numbers))
+}
+
 /// The one key that is left of a line.
 #[tactic(auto, unfolding(crate::specs::Forms::lone_key))]
 fn lone_key(alloc: Global, rest: Option<&str>) -> Result<Result<Text, ScriptKind>, AllocError>
@@ -269,6 +317,9 @@ fn chunk_edit(
         "unset" => {
             path_and_index(alloc, rest)?.map(|(path, index)| EditCall::Unset { path, index })
         }
+        "put" => {
+            box_and_cells(alloc, rest)?.map(|(place, numbers)| EditCall::Put { place, numbers })
+        }
         _ => return Ok(None),
     }))
 }
@@ -334,6 +385,7 @@ fn read_call(
         "chunk" => {
             path_and_index(alloc, rest)?.map(|(path, index)| ReadCall::Chunk { path, index })
         }
+        "cells" => lone_box(alloc, rest)?.map(|place| ReadCall::Cells { place }),
         "zget" => lone_key(alloc, rest)?.map(|key| ReadCall::KeyGet { key }),
         _ => return Ok(None),
     }))

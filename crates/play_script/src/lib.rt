@@ -6,19 +6,20 @@
 //!
 //! - `task NAME write BRANCH TRIES POLICY`, a task that edits: lines `group PATH`, `array PATH TYPE SHAPE CHUNKS FILL`,
 //!   `make PATH JSON`, `meta PATH JSON`, `drop PATH`, `set PATH INDEX HEX`, `fill PATH INDEX BYTE`, `unset PATH INDEX`,
-//!   `zset KEY HEX`, `zdel KEY`, `prop PROPERTY VALUE`, and those of a task that reads, then at most one `commit MESSAGE`;
+//!   `put PATH FROM TO CELLS`, `zset KEY HEX`, `zdel KEY`, `prop PROPERTY VALUE`, and those of a task that reads, then at most one `commit MESSAGE`;
 //!   JSON, VALUE and MESSAGE are the rest of the line and may be empty;
-//! - `task NAME read AT`, a task that reads: lines `list PATH`, `get PATH`, `chunk PATH INDEX` and `zget KEY`;
+//! - `task NAME read AT`, a task that reads: lines `list PATH`, `get PATH`, `chunk PATH INDEX`, `cells PATH FROM TO` and `zget KEY`;
 //! - `task NAME refs`, a task about refs: lines `branch REF AT`, `reset REF AT`, `unbranch REF`, `tag REF AT`, `untag REF` and
 //!   `log AT`, one at least;
 //! - `task NAME collect CUTOFF`, a task that collects, with no line of its own;
 //! - `task NAME expire CUTOFF FLAGS`, a task that expires, with no line of its own;
+//! - `task NAME check`, a task that checks, with no line of its own;
 //! - `turns WORDS`, each word a task's `NAME`, or `NAME*COUNT` with a count of 1 to 9,999; perhaps no word.
 //!
 //! Names are 1 to 16 bytes of `a` to `z`, `0` to `9` and `_`, and distinct. TRIES is one digit.
 //! POLICY is `fail`, `ours` or `theirs`, alone or followed by `+a`, `+g` or `+ag`. AT is `branch REF`, `tag REF` or `id ID`.
-//! SHAPE and CHUNKS are numbers of up to 128 bits, and INDEX of up to 32 bits, joined by commas, or `-` for none; FILL is a
-//! number of 128 bits with a sign. HEX is pairs of lower-case digits of base 16, or `-` for no bytes; BYTE is one such pair.
+//! SHAPE and CHUNKS are numbers of up to 128 bits, INDEX of up to 32 bits, and FROM and TO of up to 64 bits, joined by commas,
+//! or `-` for none; FILL is a number of 128 bits with a sign, and CELLS are such numbers, joined likewise. HEX is pairs of lower-case digits of base 16, or `-` for no bytes; BYTE is one such pair.
 //! A KEY or a PROPERTY is any word. A CUTOFF is microseconds since 1970 in up to 20 digits, or `@` and an instant; FLAGS is
 //! `keep`, `branches`, `tags` or `both`.
 #![tactic(auto)]
@@ -30,6 +31,7 @@ mod faults;
 mod forms;
 mod heads;
 mod laws;
+mod lists;
 mod names;
 mod openings;
 mod reading;
@@ -45,6 +47,7 @@ pub use heads::MOST_TASKS;
 pub use laws::{hex_law, plain_law};
 pub use reading::MOST_BYTES;
 pub use scripts::{
-    Access, Call, EditCall, Head, Line, Lines, ReadCall, RefCall, Script, Task, Tasks, Turn, Turns,
+    Access, Call, CellBox, EditCall, Head, Line, Lines, ReadCall, RefCall, Script, Task, Tasks,
+    Turn, Turns,
 };
 pub use values::TaskName;

@@ -2,7 +2,7 @@
 
 ghost use Rattle.std.specs.Prelude.{◌≡◌, IfOk};
 ghost use Rattle.play_script.specs.Words.{seen};
-ghost use Rattle.play_script.specs.Forms.{write_of, refs_of, collect_of, expire_of, head_of};
+ghost use Rattle.play_script.specs.Forms.{write_of, refs_of, collect_of, expire_of, check_of, head_of};
 
 use crate::faults::{ScriptKind, both};
 use crate::refs::lone_at;
@@ -70,6 +70,16 @@ fn expire(rest: Option<&str>) -> Result<Head, ScriptKind>
     }
 }
 
+/// A task that checks, behind whose word nothing stands.
+fn check(rest: Option<&str>) -> Result<Head, ScriptKind>
+    ensures { result ≡ check_of (seen rest.entry) }
+{
+    match rest {
+        None => Ok(Head::Check),
+        Some(_) => Err(ScriptKind::Word),
+    }
+}
+
 /// A head by its word.
 #[tactic(auto, unfolding(crate::specs::Forms::head_of))]
 pub fn head_in(
@@ -85,6 +95,7 @@ pub fn head_in(
         "refs" => refs(rest),
         "collect" => collect(rest),
         "expire" => expire(rest),
+        "check" => check(rest),
         _ => Err(ScriptKind::Word),
     })
 }

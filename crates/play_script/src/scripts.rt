@@ -8,6 +8,17 @@ use ice_items::Items;
 use repo_read::At;
 use zarr_path::{Index, Path};
 
+/// A box of cells of the array at a path.
+#[derive(Drop)]
+pub struct CellBox {
+    /// The array's path.
+    pub path: Path,
+    /// Where the box begins along each dimension.
+    pub from: Items<u64>,
+    /// Where it ends; that isn't in it.
+    pub to: Items<u64>,
+}
+
 /// What a line calls that changes the tree of its task's session.
 #[derive(Drop)]
 pub enum EditCall {
@@ -67,6 +78,13 @@ pub enum EditCall {
         /// The chunk's place in the grid.
         index: Boxed<Index>,
     },
+    /// Writes the numbers of a box of cells.
+    Put {
+        /// The box.
+        place: Boxed<CellBox>,
+        /// The numbers of its cells, in C order.
+        numbers: Boxed<Items<i128>>,
+    },
     /// Writes the value of a key of the Zarr store.
     KeySet {
         /// The key, any word.
@@ -100,6 +118,11 @@ pub enum ReadCall {
         path: Boxed<Path>,
         /// The chunk's place in the grid.
         index: Boxed<Index>,
+    },
+    /// Shows the numbers of a box of cells.
+    Cells {
+        /// The box.
+        place: Boxed<CellBox>,
     },
     /// Shows the value of a key of the Zarr store.
     KeyGet {
@@ -237,6 +260,8 @@ pub enum Head {
         /// Whether tags are dropped.
         drop_tags: bool,
     },
+    /// The task checks: it reads all that refs reach, and tells what is wrong.
+    Check,
 }
 
 /// What one client does.

@@ -3,8 +3,8 @@
 ghost use Rattle.std.specs.Prelude.{◌≡◌, ◌<◌, IfOk, Ok};
 ghost use Rattle.std.specs.List.{list_all};
 ghost use Rattle.std.specs.Char.{is_ascii_digit};
-ghost use Rattle.play_script.specs.Values.{is_digits, number_of, wide_of, numbers_of, index_part_of, index_of, hex_digit_of, byte_of, pairs, bytes_of, magnitude, fill_of, is_task_name, is_task_byte, task_name_of, path_of, text_of, ref_name_of, id_of, tries_in, pick_in, drops_in, policy_in, count_of, cutoff_of, flags_of};
-ghost use Rattle.play_script.specs.Words.{parts, seen};
+ghost use Rattle.play_script.specs.Values.{is_digits, number_of, wide_of, long_of, hex_digit_of, byte_of, pairs, bytes_of, magnitude, fill_of, is_task_name, is_task_byte, task_name_of, path_of, text_of, ref_name_of, id_of, tries_in, pick_in, drops_in, policy_in, count_of, cutoff_of, flags_of};
+ghost use Rattle.play_script.specs.Words.{seen};
 ghost use Rattle.play_script.specs.Parts.{each};
 ghost use Rattle.play_script.specs.SoFar.{parts_seen};
 
@@ -16,7 +16,7 @@ use ice_ids::Id12;
 use moments::cutoff_read;
 use std::alloc::{AllocError, Global};
 use std::marker::Model;
-use zarr_path::{Index, Path, PathFault};
+use zarr_path::{Path, PathFault};
 
 /// The name of a task: 1 to 16 bytes of `a` to `z`, `0` to `9` and `_`. Contracts see it as the bytes of its text.
 #[derive(Drop)]
@@ -139,7 +139,7 @@ fn is_digits(word: &str) -> bool
 
 /// The number from `least` to `most` that a word's decimal digits stand for.
 #[tactic(auto, unfolding(crate::specs::Values::number_of), using(crate::proofs::Digits::parsed))]
-fn number_in(word: &str, least: u32, most: u32) -> Result<u32, ScriptKind>
+pub fn number_in(word: &str, least: u32, most: u32) -> Result<u32, ScriptKind>
     ensures { result ≡ number_of least most word.now }
 {
     if !is_digits(word) {
@@ -157,9 +157,23 @@ fn number_in(word: &str, least: u32, most: u32) -> Result<u32, ScriptKind>
     }
 }
 
+/// The number of up to 64 bits that a word's decimal digits stand for.
+#[tactic(auto, unfolding(crate::specs::Values::number_of), using(crate::proofs::Digits::parsed_long))]
+pub fn long_in(word: &str) -> Result<u64, ScriptKind>
+    ensures { result ≡ long_of word.now }
+{
+    if !is_digits(word) {
+        return Err(ScriptKind::Number);
+    }
+    match word.parse::<u64>() {
+        Ok(value) => Ok(value),
+        Err(_) => Err(ScriptKind::Number),
+    }
+}
+
 /// The number of up to 128 bits that a word's decimal digits stand for.
 #[tactic(auto, unfolding(crate::specs::Values::number_of), using(crate::proofs::Digits::parsed_wide))]
-fn wide_in(word: &str) -> Result<u128, ScriptKind>
+pub fn wide_in(word: &str) -> Result<u128, ScriptKind>
     ensures { result ≡ wide_of word.now }
 {
     if !is_digits(word) {
@@ -168,59 +182,6 @@ fn wide_in(word: &str) -> Result<u128, ScriptKind>
     match word.parse::<u128>() {
         Ok(value) => Ok(value),
         Err(_) => Err(ScriptKind::Number),
-    }
-}
-
-/// The numbers that stand between a word's commas, or the earliest of their faults.
-fn listed_in(alloc: Global, word: &str) -> Result<Result<Vec<u128>, ScriptKind>, AllocError>
-    ensures { IfOk result (λ r. parts_seen r ≡ each wide_of (parts 44 word.now)) }
-{
-    let mut numbers = Ok(Vec::new(alloc));
-    let mut left = Some(word);
-    while let Some(rest) = left {
-        let (number, after) = cut(rest, ',');
-        numbers = with_part(numbers, wide_in(number))?;
-        left = after;
-    }
-    Ok(numbers)
-}
-
-/// The numbers that a word lists, of which `-` lists none.
-#[tactic(auto, unfolding(crate::specs::Values::numbers_of))]
-pub fn numbers_in(alloc: Global, word: &str) -> Result<Result<Vec<u128>, ScriptKind>, AllocError>
-    ensures { IfOk result (λ r. parts_seen r ≡ numbers_of word.now) }
-{
-    if word == "-" {
-        return Ok(Ok(Vec::new(alloc)));
-    }
-    listed_in(alloc, word)
-}
-
-/// The numbers of an index that stand between a word's commas, or the earliest of their faults.
-fn index_parts_in(alloc: Global, word: &str) -> Result<Result<Vec<u32>, ScriptKind>, AllocError>
-    ensures { IfOk result (λ r. parts_seen r ≡ each index_part_of (parts 44 word.now)) }
-{
-    let mut numbers = Ok(Vec::new(alloc));
-    let mut left = Some(word);
-    while let Some(rest) = left {
-        let (number, after) = cut(rest, ',');
-        numbers = with_part(numbers, number_in(number, 0, u32::MAX))?;
-        left = after;
-    }
-    Ok(numbers)
-}
-
-/// The index that a word lists, of which `-` lists no number.
-#[tactic(auto, unfolding(crate::specs::Values::index_of))]
-pub fn index_in(alloc: Global, word: &str) -> Result<Result<Index, ScriptKind>, AllocError>
-    ensures { IfOk result (λ r. r ≡ index_of word.now) }
-{
-    if word == "-" {
-        return Ok(Ok(Index::from_parts(Vec::new(alloc))));
-    }
-    match index_parts_in(alloc, word)? {
-        Ok(numbers) => Ok(Ok(Index::from_parts(numbers))),
-        Err(kind) => Ok(Err(kind)),
     }
 }
 

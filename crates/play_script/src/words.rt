@@ -83,7 +83,7 @@ pub fn three<'a>(rest: Option<&'a str>) -> Option<(&'a str, &'a str, &'a str)>
 }
 
 /// The four words that are left.
-fn four<'a>(rest: Option<&'a str>) -> Option<(&'a str, &'a str, &'a str, &'a str)>
+pub fn four<'a>(rest: Option<&'a str>) -> Option<(&'a str, &'a str, &'a str, &'a str)>
     ensures { option_map (λ words. (words.0.now, words.1.now, words.2.now, words.3.now)) result ≡ four (seen rest.entry) }
 {
     let (first, rest) = next(rest)?;

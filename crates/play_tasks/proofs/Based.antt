@@ -27,7 +27,7 @@ use Rattle.session.specs.declared.origin.Origin.{Origin}
 use Rattle.session.specs.Opening.{Asked}
 use Rattle.repo_read.specs.declared.resolving.At.{At}
 use Rattle.play_script.specs.declared.scripts.Head.{Head}
-use Rattle.play_script.specs.declared.scripts.Head.TheVariants.{Session, Refs, Collect, Expire}
+use Rattle.play_script.specs.declared.scripts.Head.TheVariants.{Session, Refs, Collect, Expire, Check}
 use Rattle.play_outcome.specs.declared.outcome.Outcome.{Outcome}
 use Rattle.play_tasks.specs.Playing.{asked_by}
 use Rattle.play_tasks.specs.Bases.{ComesOpen, HasAsked, HasBase, IsAskedFor, IsRebasing, MadeAlone, NamesBase, OpensOrHasBase, WasNamed, naming_key, GetsWalked}
@@ -110,6 +110,7 @@ module _ (by : Caller) (start journal more : List Event) (others : Each (IsOther
   open-others Refs ids op o = o
   open-others (Collect cutoff) ids op o = o
   open-others (Expire cutoff drop_branches drop_tags) ids op o = o
+  open-others Check ids op o = o
 
 -- the journal goes on from `start`
 pub record GoesOn (start journal : List Event) : Type 0 where

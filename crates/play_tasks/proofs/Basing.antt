@@ -50,6 +50,8 @@ use Rattle.session.specs.declared.origin.Origin.{Origin}
 use Rattle.session.specs.declared.origin.Origin.TheVariants.{Writes, ReadsBranch, ReadsTag, ReadsId}
 use Rattle.session.specs.Sessions.{SessionState, branch_of, nodes_seen, origin_at, tip_at, tip_branch, tip_in, writes, writes_in}
 use Rattle.session.specs.Opening.{Asked, of_branch, origin_for, begun, base_program, open_program}
+use Rattle.array_region.specs.Reading.{region_program}
+use Rattle.array_region.specs.Writing.{region_set_program}
 use Rattle.session.specs.Chunks.{set_program, get_program, chunk_unset}
 use Rattle.session.specs.Editing.{group_fault, array_fault, node_fault, added, group_added, array_added, node_added, meta_set, node_dropped, drawn_node, unless_unfit, with_prop, prop_added}
 use Rattle.zarr_keys.specs.Keys.{meta_put, put_over, erased_at, key_erased, session_of}
@@ -70,13 +72,14 @@ use Rattle.play_script.specs.declared.scripts.ReadCall.TheVariants as read
 use Rattle.play_outcome.specs.declared.outcome.Outcome.{Outcome}
 use Rattle.play_outcome.specs.declared.outcome.Shown.{Shown}
 use Rattle.play_outcome.specs.Playing.{refused}
-use Rattle.play_tasks.specs.Lines.{Deed, Goes, Sets, Reads, Commits, deed, edit_deed, read_deed, key_set_deed, key_get_deed, read_by, silent, still}
+use Rattle.play_tasks.specs.Lines.{Deed, Goes, Sets, Reads, Puts, Gathers, Commits, deed, edit_deed, read_deed, key_set_deed, key_get_deed, read_by, silent, still}
 use Rattle.settle.specs.declared.settle.Settled.{Settled as TheSettled}
 use Rattle.settle.specs.Settling.{settle_program}
 use Rattle.play_tasks.specs.Playing.{after_settling, doubt_of, doubt_play, after_commit, after_line, after_open, after_rebase, asked_by, commit_play, play_deed, play_lines, policy_of, session_play, shown_by, tries_of}
 use Rattle.play_tasks.specs.Bases.{HasAsked, IsAskedFor, NamesBase, naming_key}
 use Rattle.play_tasks.proofs.Ready.{by_writes, by_text, by_edit}
 use Rattle.play_tasks.proofs.Doubting.{which, no-doubt, settle-within}
+use Rattle.play_tasks.proofs.Boxing.{AnyNumbers, gather-within, put-box-within}
 use Rattle.play_tasks.proofs.Within.{Within, WithinOk, Still, IsSame, IsOnHead, still-gets, still-puts, set-within, get-within, commit-within, ref-within}
 use Rattle.play_tasks.proofs.Based.{GoesOn, Opens, Settled, Rebasing, alone-none, climb-keeps, climb-leads, opens-call, own-now, rebase-begins, rebasing-makes, settled-has, settled-now, still-call, still-goes, still-keeps, still-leads, walk-call}
 
@@ -137,6 +140,8 @@ abbrev GoesSame : SessionState → Deed → Type 0
 GoesSame s (Goes r) = IfOk r (λ went. IsSame s went.1)
 GoesSame s (Sets path index bytes) = Unit {0}
 GoesSame s (Reads path index show) = Unit {0}
+GoesSame s (Puts path from to numbers) = Unit {0}
+GoesSame s (Gathers path from to show) = Unit {0}
 GoesSame s (Commits message) = Unit {0}
 
 silent-same : (s : SessionState) (r : Result SessionState Refusal) → Leaves s r → IfOk (silent r) (λ went. IsSame s went.1)
@@ -167,12 +172,14 @@ edit-same s (edit.Unset path index) = silent-same s (chunk_unset s path index) (
 edit-same s (edit.KeyErase key) = silent-same s (key_erased s key) (key-erase-leaves key s)
 edit-same s (edit.Set path index bytes) = tt
 edit-same s (edit.Fill path index byte) = tt
+edit-same s (edit.Put place numbers) = tt
 edit-same s (edit.KeySet key bytes) = key-set-same s bytes (key_of key)
 
 read-same : (line : ℕ) (s : SessionState) (x : ReadCall) → GoesSame s (read_deed line x s)
 read-same line s (read.List path) = still-same s (read_by line (read.List path) s)
 read-same line s (read.Get path) = still-same s (read_by line (read.Get path) s)
 read-same line s (read.Chunk path index) = tt
+read-same line s (read.Cells place) = tt
 read-same line s (read.KeyGet key) = key-get-same line s (key_of key)
 
 deed-same : (line : ℕ) (s : SessionState) (x : Call) → GoesSame s (deed line x s)
@@ -342,6 +349,12 @@ module _ (by : Caller) (a : Asked) (start : List Event) where
     deed-opens line shown s rest h x go (Reads path index show) leaves =
         still-call by a start (get_program s path index) (λ answer. after_line line shown (shown_by s show answer) rest) (λ v. Unit {0}) s.base s.origin h (get-within Still still-gets still-puts s path index) x
         (λ v j q y. go s (shown ++ show v ∷ []) j y) (λ why j. refused-opens line shown why j)
+    deed-opens line shown s rest h x go (Puts path from to numbers) leaves =
+        still-call by a start (region_set_program s path from to numbers) (λ answer. after_line line shown (silent answer) rest) (IsSame s) s.base s.origin h (put-box-within Still still-gets still-puts s path from to numbers) x
+        (λ t j i y. go t (shown ++ []) j (settled-same s t j i y)) (λ why j. refused-opens line shown why j)
+    deed-opens line shown s rest h x go (Gathers path from to show) leaves =
+        still-call by a start (region_program s path from to) (λ answer. after_line line shown (shown_by s show answer) rest) AnyNumbers s.base s.origin h (gather-within Still still-gets still-puts s path from to) x
+        (λ numbers j q y. go s (shown ++ show numbers ∷ []) j y) (λ why j. refused-opens line shown why j)
     deed-opens line shown s rest h x go (Commits message) leaves = commit-opens (tries_of access) (policy_of access) line shown message s h x
 
     lines-open : (ls : List Line) (s : SessionState) (shown : List Shown) (h : List Event) → Base s h → OpensAll (play_lines access ls s shown) h

@@ -9,7 +9,7 @@ use Rattle.session.specs.Opening.{open_program}
 use Rattle.play_script.specs.declared.scripts.Access.{Access}
 use Rattle.play_script.specs.declared.scripts.Access.TheVariants as access
 use Rattle.play_script.specs.declared.scripts.Head.{Head}
-use Rattle.play_script.specs.declared.scripts.Head.TheVariants.{Session, Refs, Collect, Expire}
+use Rattle.play_script.specs.declared.scripts.Head.TheVariants.{Session, Refs, Collect, Expire, Check}
 use Rattle.play_script.specs.declared.scripts.Line.{Line}
 use Rattle.play_script.specs.declared.scripts.Task.{Task}
 use Rattle.play_outcome.specs.declared.outcome.Outcome.{Outcome}
@@ -18,6 +18,7 @@ use Rattle.play_refs.proofs.Calm.{refs-calm}
 use Rattle.play_collect.proofs.Stepping.{task-calm}
 use Rattle.play_expire.specs.Playing.{terms_of}
 use Rattle.play_expire.proofs.Stepping.{expiry-calm}
+use Rattle.play_check.proofs.Stepping.{check-calm}
 use Rattle.play_tasks.specs.Playing.{asked_by, after_open, session_play, headed_play, task_play}
 
 -- an opening has something to do
@@ -35,6 +36,7 @@ begun-undoomed ids task q c = by_head task.head c
     by_head Refs d = refs-calm task.body [] q d
     by_head (Collect cutoff) d = task-calm task.line cutoff q d
     by_head (Expire cutoff drop_branches drop_tags) d = expiry-calm task.line (terms_of cutoff drop_branches drop_tags) q d
+    by_head Check d = check-calm task.line q d
 
 -- a session's play has come to itself
 pub session-begun : (ids : AnyIds) (a : Access) (line : ℕ) (body : List Line) (q : Play Outcome) → q ≡ session_play ids a line body → Comes (session_play ids a line body) q

@@ -19,21 +19,24 @@ use Rattle.commit_path.specs.Own.{OwesOwn, OwningLaw}
 use Rattle.commit_path.specs.Single.{HasPutNone, SingleLaw}
 use Rattle.chunk_calls.specs.Laws.{SetLaw, GetLaw, OwningCallsLaw}
 use Rattle.chunk_calls.proofs.Lasting.{WasSet-append, IsChunk-append}
+use Rattle.region_calls.specs.Laws.{RegionLaw, RegionSetLaw, OwningRegionLaw}
 use Rattle.rebase.specs.Laws.{RebaseLaw}
 use Rattle.settle.specs.Laws.{SettleLaw}
 use Rattle.play_refs.specs.Laws.{RefsTaskLaw}
 use Rattle.play_collect.specs.Laws.{CollectTaskLaw}
 use Rattle.play_expire.specs.Laws.{ExpireTaskLaw}
+use Rattle.play_check.specs.Laws.{CheckTaskLaw}
 use Rattle.play_script.specs.declared.scripts.Access.{Access}
 use Rattle.play_script.specs.declared.scripts.Line.{Line}
 use Rattle.play_outcome.specs.declared.outcome.Shown.{Shown}
 use Rattle.play_outcome.specs.declared.outcome.End.{End}
 use Rattle.play_outcome.specs.declared.outcome.End.TheVariants.{Refused}
 use Rattle.play_outcome.specs.declared.outcome.Outcome.{Outcome}
-use Rattle.play_tasks.specs.Lines.{Deed, Goes, Sets, Reads, Commits, deed}
+use Rattle.play_tasks.specs.Lines.{Deed, Goes, Sets, Reads, Puts, Gathers, Commits, deed}
 use Rattle.play_outcome.specs.Playing.{ended}
 use Rattle.play_tasks.specs.Solving.{DidPlay, PlaysAll, CameToCommit}
 use Rattle.play_tasks.specs.Telling.{Refuses, EndsAt}
+use Rattle.play_tasks.proofs.Boxing.{AreCells-append, WasWritten-append}
 use Rattle.play_tasks.proofs.Carrying.{Minds, Keeps-minds, careful-more}
 
 -- the laws on which tasks stand
@@ -48,15 +51,21 @@ pub record Laws : Type 0 where
   pub set : SetLaw
   pub get : GetLaw
   pub calls : OwningCallsLaw
+  pub gather : RegionLaw
+  pub put : RegionSetLaw
+  pub boxes : OwningRegionLaw
   pub refs : RefsTaskLaw
   pub collect : CollectTaskLaw
   pub expire : ExpireTaskLaw
+  pub check : CheckTaskLaw
 
 -- ---- what was told of a line stays so, whatever good events come
 pub DidPlay-append : (client : ℕ) (d : Deed) (s : SessionState) (start : List Event) (shown : List Shown) (t : SessionState) (journal more : List Event) → Each IsGood journal more → DidPlay client d s start shown t journal → DidPlay client d s start shown t (journal ++ more)
 DidPlay-append client (Goes went) s start shown t journal more g x = x
 DidPlay-append client (Sets path index bytes) s start shown t journal more g x = (x.0, WasSet-append client s path index bytes start journal more t x.1)
 DidPlay-append client (Reads path index show) s start shown t journal more g x = (x.0, x.1, x.2, IsChunk-append s path index x.1 journal more g x.3)
+DidPlay-append client (Puts path from to numbers) s start shown t journal more g x = (x.0, WasWritten-append client s path from to numbers t start journal more g x.1)
+DidPlay-append client (Gathers path from to show) s start shown t journal more g x = (x.0, x.1, x.2, AreCells-append s path from to x.1 journal more g x.3)
 DidPlay-append client (Commits message) s start shown t journal more g x = x
 
 pub PlaysAll-append : (client : ℕ) (ls : List Line) (s : SessionState) (start : List Event) (shown : List Shown) (t : SessionState) (journal more : List Event) → Each IsGood journal more → PlaysAll client ls s start shown t journal → PlaysAll client ls s start shown t (journal ++ more)

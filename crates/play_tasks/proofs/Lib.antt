@@ -18,5 +18,7 @@ pub mod Others
 pub mod Paths
 pub mod Begun
 pub mod Singly
+pub mod Boxing
 pub mod Elsewhere
+pub mod Checking
 pub mod Once

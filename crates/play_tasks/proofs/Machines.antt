@@ -11,6 +11,8 @@ use Rattle.store_api.specs.Program.{Prog, Done, Ask, IsAsk, is_ask, is_fault, is
 use Rattle.store_api.specs.Running.{Program}
 use Rattle.store_api.specs.Plays.{Play, Or, call, Comes, dooms}
 use Rattle.store_api.proofs.PlayLaws.{dooms-call}
+use Rattle.array_region.specs.Getting.{region_rest, region_session}
+use Rattle.array_region.specs.Filling.{region_set_rest}
 use Rattle.session.specs.declared.chunks.Value.{Value}
 use Rattle.session.specs.Sessions.{SessionState}
 use Rattle.session.specs.Setting.{set_rest, SetRefused}
@@ -29,7 +31,7 @@ use Rattle.play_outcome.specs.declared.outcome.Outcome.{Outcome}
 use Rattle.play_tasks.specs.declared.working.SessionTask.{SessionTask}
 use Rattle.play_tasks.specs.declared.working.Working.{Working}
 use Rattle.play_tasks.specs.declared.working.Working.TheVariants as w
-use Rattle.play_tasks.specs.Lines.{value_shown}
+use Rattle.play_tasks.specs.Lines.{value_shown, cells_shown}
 use Rattle.play_outcome.specs.Playing.{refused}
 use Rattle.play_tasks.specs.Playing.{Rest, doubt_play, after_commit, after_rebase, commit_play}
 use Rattle.play_outcome.specs.Ending.{is_failed}
@@ -52,8 +54,11 @@ pub began : {A : Type 0} (p q : Prog (Result A Refusal)) (f : Result A Refusal �
 began p q f e i = subst (λ (x : Prog (Result _ Refusal)). Comes (call x f) (call q f)) e (asks q f (is-ask p q e i))
 
 -- a reading has the session in it
+pub reads-began : {A : Type 0} (show : A → Shown) (line : ℕ) (shown : List Shown) (p q : Program A) (s t : SessionState) (rest : Rest) → q ≡ p → IsAsk p → t ≡ s → Comes (call p (after_get show line shown s rest)) (call q (after_get show line shown t rest))
+reads-began show line shown p q s t rest e i same = subst (λ (x : SessionState). Comes (call p (after_get show line shown s rest)) (call q (after_get show line shown x rest))) (sym same) (began p q (after_get show line shown s rest) e i)
+
 pub get-began : (line : ℕ) (shown : List Shown) (p q : Program Value) (s t : SessionState) (rest : Rest) → q ≡ p → IsAsk p → t ≡ s → Comes (call p (after_get (value_shown line) line shown s rest)) (call q (after_get (value_shown line) line shown t rest))
-get-began line shown p q s t rest e i same = subst (λ (x : SessionState). Comes (call p (after_get (value_shown line) line shown s rest)) (call q (after_get (value_shown line) line shown x rest))) (sym same) (began p q (after_get (value_shown line) line shown s rest) e i)
+get-began line shown p q s t rest e i same = reads-began (value_shown line) line shown p q s t rest e i same
 
 -- a commit, and what follows where it is lost
 pub tries-play : (left : ℕ) (policy : Policy) (line : ℕ) (shown : List Shown) (message : List ℕ) (s : SessionState) → commit_play left policy line shown message s ≡ call (commit_program s message) (after_commit line shown (doubt_play shown s) (after_lost left policy line shown message s))
@@ -175,6 +180,8 @@ pub well-faults : {T : Type 0} (answer : Result (Next T) Refusal) (task : Sessio
 well-faults answer task (w.Opening opener) e = absurd (cc)
 well-faults answer task (w.Setting line at shown set) e = ask-faults answer (set_rest set) (after_set line shown.items (lines_from task at)) refl e
 well-faults answer task (w.Getting line at for shown get) e = ask-faults answer (get_rest get) (after_get (shown_for for line) line shown.items (get_session get) (lines_from task at)) refl e
+well-faults answer task (w.Putting line at shown set) e = ask-faults answer (region_set_rest set) (after_set line shown.items (lines_from task at)) refl e
+well-faults answer task (w.Gathering line at shown get) e = ask-faults answer (region_rest get) (after_get (cells_shown line) line shown.items (region_session get) (lines_from task at)) refl e
 well-faults answer task (w.Committing line tries shown commit) e =
     ask-faults answer (commit_rest commit) (after_commit line shown (doubt_play shown (session_in commit)) (after_lost tries.left tries.policy line shown (message_in commit) (session_in commit))) refl e
 well-faults answer task (w.Settling shown id settle) e = absurd (cc)
@@ -190,6 +197,8 @@ pub well-works : (x : Working) → is_well x ≡ true → is_working x ≡ true
 well-works (w.Opening opener) e = absurd (cc)
 well-works (w.Setting line at shown set) e = e
 well-works (w.Getting line at for shown get) e = e
+well-works (w.Putting line at shown set) e = e
+well-works (w.Gathering line at shown get) e = e
 well-works (w.Committing line tries shown commit) e = e
 well-works (w.Settling shown id settle) e = absurd (cc)
 well-works (w.Rebasing line tries shown message rebase) e = e

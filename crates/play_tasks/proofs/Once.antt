@@ -1,5 +1,5 @@
 -- A task commits at most once: behind a commit that wasn't found moved it makes gets alone.
-use Rattle.std.proofs.Common.{◌≡◌, inl, inr, refl, sym, subst, cond, Bool, true, false, ℕ, zero, suc, List, [], ◌∷◌, ◌++◌, Option, None, Some, Result, Ok, Err}
+use Rattle.std.proofs.Common.{◌≡◌, inl, inr, refl, sym, subst, cond, Bool, true, false, ℕ, zero, suc, ℤ, List, [], ◌∷◌, ◌++◌, Option, None, Some, Result, Ok, Err}
 use Rattle.std.specs.Prelude.{IfOk}
 use Rattle.ice_ids.specs.declared.Id12.{Id12}
 use Rattle.ice_ids.specs.declared.drawing.AnyIds.{AnyIds}
@@ -34,6 +34,8 @@ use Rattle.store_api.specs.Telling.{IsGet}
 use Rattle.repo_read.specs.declared.answers.Resolved.{Resolved}
 use Rattle.repo_read.specs.Answers.{ref_told}
 use Rattle.repo_read.specs.Programs.{resolve_program}
+use Rattle.array_region.specs.Reading.{region_program}
+use Rattle.array_region.specs.Writing.{region_set_program}
 use Rattle.session.specs.declared.chunks.Value.{Value}
 use Rattle.session.specs.Sessions.{SessionState, base_nodes, branch_of, version_of, writes}
 use Rattle.session.specs.Opening.{open_program}
@@ -50,20 +52,22 @@ use Rattle.settle.specs.declared.settle.Settled.{Settled}
 use Rattle.settle.specs.Settling.{settle_program}
 use Rattle.play_script.specs.declared.scripts.Access.{Access}
 use Rattle.play_script.specs.declared.scripts.Head.{Head}
-use Rattle.play_script.specs.declared.scripts.Head.TheVariants.{Session, Refs, Collect, Expire}
+use Rattle.play_script.specs.declared.scripts.Head.TheVariants.{Session, Refs, Collect, Expire, Check}
 use Rattle.play_script.specs.declared.scripts.Line.{Line}
 use Rattle.play_script.specs.declared.scripts.Task.{Task}
 use Rattle.play_outcome.specs.declared.outcome.Shown.{Shown}
 use Rattle.play_outcome.specs.declared.outcome.Outcome.{Outcome}
 use Rattle.play_outcome.specs.Playing.{refused}
 use Rattle.play_expire.specs.Playing.{terms_of}
-use Rattle.play_tasks.specs.Lines.{Deed, Goes, Sets, Reads, Commits, deed, silent}
+use Rattle.play_tasks.specs.Lines.{Deed, Goes, Sets, Reads, Puts, Gathers, Commits, deed, silent}
 use Rattle.play_tasks.specs.Playing.{after_settling, doubt_of, doubt_play, after_commit, after_rebase, commit_play, tries_of, policy_of, after_line, shown_by, play_deed, play_lines, asked_by, after_open, session_play, headed_play, task_play}
 use Rattle.play_tasks.specs.Bases.{GetsWalked}
 use Rattle.play_tasks.specs.Played.{PlaysTo, CommitsOnce, is_moved}
 use Rattle.play_tasks.proofs.Doubting.{which, no-doubt, settle-within, walked-get}
 use Rattle.play_tasks.proofs.Elsewhere.{refs-once, collect-once, expire-once}
+use Rattle.play_tasks.proofs.Checking.{check-once}
 use Rattle.play_tasks.proofs.Singly.{OnlyGets, Once, NoCommit, get-none, gets-once, once-path, weaker-within, call-gets, call-once, bind-once, ask-once, either-once}
+use Rattle.play_tasks.proofs.Boxing.{AnyNumbers, gather-within, put-box-within}
 use Rattle.play_tasks.proofs.Within.{Within, Climbs, IsOnHead, IsSame, set-within, get-within, arrays-within, ref-within}
 
 -- ---- no operation but the put over of a branch is a commit
@@ -240,7 +244,7 @@ module _ (line : ℕ) (shown : List Shown) (rest : SessionState → List Shown �
   set-once (Ok t) = g t (shown ++ [])
   set-once (Err why) = ends-once line shown why
 
-  get-once : (s : SessionState) (show : Value → Shown) (r : Result Value Refusal) → Once (after_line line shown (shown_by s show r) rest)
+  get-once : {A : Type 0} (s : SessionState) (show : A → Shown) (r : Result A Refusal) → Once (after_line line shown (shown_by s show r) rest)
   get-once s show (Ok value) = g s (shown ++ show value ∷ [])
   get-once s show (Err why) = ends-once line shown why
 
@@ -251,6 +255,11 @@ module _ (line : ℕ) (shown : List Shown) (rest : SessionState → List Shown �
       call-once (λ (r : Result SessionState Refusal). IfOk r (IsSame s)) (set_program s path index bytes) (λ answer. after_line line shown (silent answer) rest) (set-within NoCommit none-gets none-puts s path index bytes) (λ r q. set-once r) (ends-once line shown R.NoMemory)
   deed-once access s (Reads path index show) =
       call-once (λ (r : Result Value Refusal). IfOk r (λ (v : Value). Unit {0})) (get_program s path index) (λ answer. after_line line shown (shown_by s show answer) rest) (get-within NoCommit none-gets none-puts s path index) (λ r q. get-once s show r) (ends-once line shown R.NoMemory)
+  deed-once access s (Puts path from to numbers) =
+      call-once (λ (r : Result SessionState Refusal). IfOk r (IsSame s)) (region_set_program s path from to numbers) (λ answer. after_line line shown (silent answer) rest) (put-box-within NoCommit none-gets none-puts s path from to numbers) (λ r q. set-once r)
+      (ends-once line shown R.NoMemory)
+  deed-once access s (Gathers path from to show) =
+      call-once (λ (r : Result (List ℤ) Refusal). IfOk r AnyNumbers) (region_program s path from to) (λ answer. after_line line shown (shown_by s show answer) rest) (gather-within NoCommit none-gets none-puts s path from to) (λ r q. get-once s show r) (ends-once line shown R.NoMemory)
   deed-once access s (Commits message) = tries-once line shown (tries_of access) (policy_of access) message s
 
 lines-once : (access : Access) (ls : List Line) (s : SessionState) (shown : List Shown) → Once (play_lines access ls s shown)
@@ -273,6 +282,7 @@ by_head ids task (Session access) = session-once ids access task.line task.body
 by_head ids task Refs = refs-once task.body []
 by_head ids task (Collect cutoff) = collect-once task.line cutoff
 by_head ids task (Expire cutoff drop_branches drop_tags) = expire-once task.line (terms_of cutoff drop_branches drop_tags)
+by_head ids task Check = check-once task.line
 
 -- Of the operations on a path of a task's play, one at most is a commit that was done, or may have been; behind it there are gets alone.
 pub task-once : (ids : AnyIds) (task : Task) (events : List Event) (outcome : Outcome) → PlaysTo (task_play ids task) events outcome → CommitsOnce events

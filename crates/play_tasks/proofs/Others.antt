@@ -22,17 +22,19 @@ use Rattle.play_refs.specs.Laws.{RefsOutcomeLaw}
 use Rattle.play_collect.specs.Laws.{CollectOutcomeLaw}
 use Rattle.play_expire.specs.Playing.{terms_of}
 use Rattle.play_expire.specs.Laws.{ExpireOutcomeLaw}
+use Rattle.play_check.specs.Laws.{CheckOutcomeLaw}
 use Rattle.play_script.specs.declared.scripts.Access.{Access}
 use Rattle.play_script.specs.declared.scripts.Head.{Head}
-use Rattle.play_script.specs.declared.scripts.Head.TheVariants.{Session, Refs, Collect, Expire}
+use Rattle.play_script.specs.declared.scripts.Head.TheVariants.{Session, Refs, Collect, Expire, Check}
 use Rattle.play_script.specs.declared.scripts.Line.{Line}
 use Rattle.play_script.specs.declared.scripts.Task.{Task}
 use Rattle.play_outcome.specs.declared.outcome.End.{End}
 use Rattle.play_outcome.specs.declared.outcome.Outcome.{Outcome}
-use Rattle.play_tasks.specs.Lines.{Deed, Goes, Sets, Reads, Commits, deed}
+use Rattle.play_tasks.specs.Lines.{Deed, Goes, Sets, Reads, Puts, Gathers, Commits, deed}
 use Rattle.play_tasks.specs.Playing.{asked_by, policy_of, doubt_of}
 use Rattle.play_tasks.specs.Telling.{Refuses, HasCommitted, WasInDoubt, WasCommitRefused, WasLostAtLast, WasNotRebased, EndsAt, TellsBy, TellsOutcome}
 use Rattle.play_tasks.specs.Laws.{OutcomeLaw}
+use Rattle.play_tasks.proofs.Boxing.{no-cells-others, no-put-others}
 use Rattle.play_tasks.proofs.Early.{WasBegun-more}
 use Rattle.play_tasks.proofs.Going.{PlaysAll-append}
 use Rattle.play_tasks.proofs.Tried.{WasCarried-append}
@@ -46,12 +48,15 @@ pub record Lasting : Type 0 where
   pub refs : RefsOutcomeLaw
   pub collect : CollectOutcomeLaw
   pub expire : ExpireOutcomeLaw
+  pub check : CheckOutcomeLaw
 
 module _ (L : Lasting) (by : Caller) (start journal more : List Event) (others : Each (IsOther by) journal more) where
   refuses-others : (d : Deed) (s : SessionState) (why : Refusal) → Refuses by.number d s start why journal → Refuses by.number d s start why (journal ++ more)
   refuses-others (Goes went) s why r = (r.0, ChangedNothing-others by start journal more others r.1)
   refuses-others (Sets path index bytes) s why r = L.chunks.sets by s path index bytes (Err why) start journal more others r
   refuses-others (Reads path index show) s why r = L.chunks.gets by s path index (Err why) start journal more others r
+  refuses-others (Puts path from to numbers) s why r = (no-put-others by.number s path from to numbers start why journal (journal ++ more) r.0, r.1, ChangedNothing-others by start journal more others r.2)
+  refuses-others (Gathers path from to show) s why r = (no-cells-others s path from to why journal (journal ++ more) r.0, r.1, ChangedNothing-others by start journal more others r.2)
   refuses-others (Commits message) s why r = r
 
   -- how its last commit ended
@@ -123,6 +128,7 @@ module _ (L : Lasting) (by : Caller) (start journal more : List Event) (others :
   headed-others Refs ids task outcome t = L.refs by task.body outcome start journal more others t
   headed-others (Collect cutoff) ids task outcome t = L.collect by task.line cutoff outcome start journal more others t
   headed-others (Expire cutoff drop_branches drop_tags) ids task outcome t = L.expire by task.line (terms_of cutoff drop_branches drop_tags) outcome start journal more others t
+  headed-others Check ids task outcome t = L.check by task.line outcome start journal more others t
 
   pub TellsOutcome-others : (ids : AnyIds) (task : Task) (outcome : Outcome) → TellsOutcome ids task by.number start outcome journal → TellsOutcome ids task by.number start outcome (journal ++ more)
   TellsOutcome-others ids task outcome t = headed-others task.head ids task outcome t

@@ -1,5 +1,5 @@
 -- Whatever others do, each operation of a task is minded, and its outcome tells the journal.
-use Rattle.std.proofs.Common.{◌≡◌, inl, inr, ℕ, ◌<◌, refl, sym, ap, subst, ◌∙◌, true, List, [], ◌∷◌, ◌++◌, zero-add, arith, Result, Ok, Err}
+use Rattle.std.proofs.Common.{◌≡◌, inl, inr, ℕ, ℤ, ◌<◌, refl, sym, ap, subst, ◌∙◌, true, List, [], ◌∷◌, ◌++◌, zero-add, arith, Result, Ok, Err}
 use Rattle.std.specs.Prelude.{All, Option, Some, None, IfOk, nat_lt}
 use Rattle.std.specs.List.{list_all}
 use Rattle.std.proofs.lemmas.List.Elements.{All-head, All-tail, All-replicate}
@@ -36,6 +36,14 @@ use Rattle.store_api.proofs.Happening.{ChangedNothing-none}
 use Rattle.commit_path.proofs.Singling.{HasPutNone-none, none-alike}
 use Rattle.commit_path.proofs.Sources.{later-same}
 use Rattle.chunk_calls.specs.Told.{SetTells, GetTells}
+use Rattle.chunk_calls.proofs.Gets.{gets-keep}
+use Rattle.chunk_calls.proofs.OwnCalls.{got-owned}
+use Rattle.array_region.specs.Reading.{region_program}
+use Rattle.array_region.specs.Writing.{region_set_program}
+use Rattle.region_calls.specs.Told.{RegionTells}
+use Rattle.region_calls.specs.Written.{RegionSetTells}
+use Rattle.region_calls.proofs.Gets.{region_gets}
+use Rattle.region_calls.proofs.Leading.{gets_lead}
 use Rattle.play_script.specs.declared.scripts.Call.{Call}
 use Rattle.play_script.specs.declared.scripts.Call.TheVariants as call
 use Rattle.play_script.specs.declared.scripts.EditCall.{EditCall}
@@ -45,14 +53,14 @@ use Rattle.play_script.specs.declared.scripts.ReadCall.TheVariants as read
 use Rattle.play_script.specs.declared.scripts.Access.{Access}
 use Rattle.play_script.specs.declared.scripts.Access.TheVariants as access
 use Rattle.play_script.specs.declared.scripts.Head.{Head}
-use Rattle.play_script.specs.declared.scripts.Head.TheVariants.{Session, Refs, Collect, Expire}
+use Rattle.play_script.specs.declared.scripts.Head.TheVariants.{Session, Refs, Collect, Expire, Check}
 use Rattle.play_script.specs.declared.scripts.Line.{Line}
 use Rattle.play_script.specs.declared.scripts.Task.{Task}
 use Rattle.play_script.specs.Well.{IsWellEdit, IsWellCall, IsWellLine, IsWellTask}
 use Rattle.play_outcome.specs.declared.outcome.Shown.{Shown}
 use Rattle.play_outcome.specs.declared.outcome.End.TheVariants.{Done, Refused}
 use Rattle.play_outcome.specs.declared.outcome.Outcome.{Outcome}
-use Rattle.play_tasks.specs.Lines.{Deed, Goes, Sets, Reads, Commits, deed, edit_deed, read_deed, key_set_deed, key_get_deed, silent, filled}
+use Rattle.play_tasks.specs.Lines.{Deed, Goes, Sets, Reads, Puts, Gathers, Commits, deed, edit_deed, read_deed, key_set_deed, key_get_deed, silent, filled}
 use Rattle.play_outcome.specs.Playing.{ended}
 use Rattle.play_tasks.specs.Playing.{tries_of, policy_of, commit_play, play_deed, play_lines, after_line, after_open, shown_by, asked_by, session_play, headed_play, task_play}
 use Rattle.play_tasks.specs.Solving.{DidPlay, PlaysAll, WasCarried, IsOfTask}
@@ -62,8 +70,12 @@ use Rattle.chunk_gc.specs.Exact.{IsOwed}
 use Rattle.expiry.specs.Owing.{IsOwed as OwesExpiry}
 use Rattle.play_collect.specs.Playing.{collect_task}
 use Rattle.play_expire.specs.Playing.{terms_of, expire_task}
+use Rattle.repo_check.specs.Exact.{IsRead}
+use Rattle.play_check.specs.Playing.{check_task}
 use Rattle.play_tasks.specs.Bases.{ComesOpen, OpensOrHasBase}
 use Rattle.play_tasks.proofs.Basing.{session-opens}
+use Rattle.play_tasks.proofs.Within.{IsSame}
+use Rattle.play_tasks.proofs.Boxing.{By, AnyNumbers, MovesNone, none-gets, none-puts, gather-goes, put-box-goes, within-leads, stays-leads}
 use Rattle.play_tasks.specs.Owing.{OwesBy, OwesOwnBy, IsDue, ComesBefore, BeforeChange}
 use Rattle.play_tasks.specs.Telling.{Refuses, TellsBy, TellsOutcome}
 use Rattle.play_outcome.proofs.Plays.{PlayLeads-weaker}
@@ -90,6 +102,7 @@ edit-bytes (edit.Make own text) s path index bytes well d = absurd cc
 edit-bytes (edit.Meta own text) s path index bytes well d = absurd cc
 edit-bytes (edit.Drop own) s path index bytes well d = absurd cc
 edit-bytes (edit.Unset own place) s path index bytes well d = absurd cc
+edit-bytes (edit.Put place numbers) s path index bytes well d = absurd cc
 edit-bytes (edit.KeySet key held) s path index bytes well d = key_bytes held (key_of key) s path index bytes well.1 d
 edit-bytes (edit.KeyErase key) s path index bytes well d = absurd cc
 
@@ -102,6 +115,7 @@ reads-no-bytes : (line : ℕ) (x : ReadCall) (s : SessionState) (path index byte
 reads-no-bytes line (read.List own) s path index bytes d = cc
 reads-no-bytes line (read.Get own) s path index bytes d = cc
 reads-no-bytes line (read.Chunk own place) s path index bytes d = cc
+reads-no-bytes line (read.Cells place) s path index bytes d = cc
 reads-no-bytes line (read.KeyGet key) s path index bytes d = key-no-bytes line (key_of key) s path index bytes d
 
 deed-bytes : (line : ℕ) (x : Call) (s : SessionState) (path index bytes : List ℕ) → IsWellCall x → deed line x s ≡ Sets path index bytes → list_all (λ n. nat_lt n 256) bytes ≡ true
@@ -125,6 +139,7 @@ edits-no-message (edit.Make own text) s message d = cc
 edits-no-message (edit.Meta own text) s message d = cc
 edits-no-message (edit.Drop own) s message d = cc
 edits-no-message (edit.Unset own place) s message d = cc
+edits-no-message (edit.Put place numbers) s message d = cc
 edits-no-message (edit.KeySet key held) s message d = key-set-no-message held (key_of key) s message d
 edits-no-message (edit.KeyErase key) s message d = cc
 
@@ -137,6 +152,7 @@ reads-no-message : (line : ℕ) (x : ReadCall) (s : SessionState) (message : Lis
 reads-no-message line (read.List own) s message d = cc
 reads-no-message line (read.Get own) s message d = cc
 reads-no-message line (read.Chunk own place) s message d = cc
+reads-no-message line (read.Cells place) s message d = cc
 reads-no-message line (read.KeyGet key) s message d = key-get-no-message line (key_of key) s message d
 
 deed-utf8 : (line : ℕ) (x : Call) (s : SessionState) (message : List ℕ) → IsWellCall x → deed line x s ≡ Commits message → IsUtf8 message
@@ -234,6 +250,77 @@ module _ (L : Laws) (by : Caller) (ids : AnyIds) (access : Access) (body : List 
         called-well by ids access Tried start (l ∷ ls) s shown p (λ answer. after_line l.number shown (shown_by s show answer) (play_lines access ls)) (λ answer h. At (l ∷ ls) s h × GetAnswers answer h) journal careful law.2 owning.0
         (Leads-good (At (l ∷ ls) s) (at-append (l ∷ ls) s) ids Tried by GetAnswers p journal careful came told) get-answered (λ h n. starved l ls s shown h n)
 
+  -- ---- a line that puts numbers into a box
+  module _ (l : Line) (ls : List Line) (s : SessionState) (shown : List Shown) (path from to : List ℕ) (numbers : List ℤ) (puts : deed l.number l.call s ≡ Puts path from to numbers) (go : AllGoWell ls) where
+    abbrev PutTells : Result SessionState Refusal → List Event → Type 0
+    PutTells answer h = RegionSetTells by.number s path from to numbers start answer h × IfOk answer (λ t. IsSpelled t × IsOpened t h × IsLater ids t.ids)
+
+    abbrev PutKeeps : Result SessionState Refusal → List Event → Type 0
+    PutKeeps answer h = PutNone h × IfOk answer (λ t. Owns ids by.number t start h)
+
+    abbrev PutAnswers : Result SessionState Refusal → List Event → Type 0
+    PutAnswers answer h = PutTells answer h × (By (IsSame s) answer × (Nothing h × PutKeeps answer h))
+
+    put-answered : (answer : Result SessionState Refusal) (h : List Event) → At (l ∷ ls) s h × PutAnswers answer h → Well (l ∷ ls) s shown (after_line l.number shown (silent answer) (play_lines access ls)) h
+    put-answered (Ok t) h q =
+        let did = subst (λ (d : Deed). DidPlay by.number d s start [] t h) (sym puts) (refl, q.1.0.0.0) in
+        went-well l ls s shown [] t h did
+        (go h q.1.1.1.0 q.1.1.1.1.0 t (shown ++ []) (record { opened = q.1.0.1.1; spelled = q.1.0.1.0; later = q.1.0.1.2; owned = q.1.1.1.1.1 }) (came-on by.number body opened start l ls s t [] h did q.0))
+    put-answered (Err why) h q = refused l ls s shown why h (subst (λ (d : Deed). Refuses by.number d s start why h) (sym puts) (q.1.0.0, q.1.1.0, q.1.1.1.0))
+
+    put-well : (journal : List Event) → IsReady ids by.number start s journal → Nothing journal → PutNone journal → At (l ∷ ls) s journal → Well (l ∷ ls) s shown (play_deed access l.number shown s (Puts path from to numbers) (play_lines access ls)) journal
+    put-well journal ready c f came =
+        let law = L.put by ids s path from to numbers start journal ready.later ready.spelled ready.opened c in
+        let owning = L.boxes by ids s path from to numbers start journal ready.later ready.owned in
+        let p = region_set_program s path from to numbers in
+        let careful = none-careful by ids Tried p journal law.0 in
+        let goes = put-box-goes MovesNone none-gets none-puts s path from to numbers in
+        let still = stays-leads Nothing (By (IsSame s)) by p journal c goes law.2 in
+        let tells = within-leads MovesNone (By (IsSame s)) by p journal goes in
+        let kept = Leads-both (λ answer h. PutNone h) (λ answer h. IfOk answer (λ t. Owns ids by.number t start h)) by p journal (puts-none by start p journal law.1 f) owning.1 in
+        let told = Leads-both PutTells (λ answer h. By (IsSame s) answer × (Nothing h × PutKeeps answer h)) by p journal law.3
+        (Leads-both (λ answer h. By (IsSame s) answer) (λ answer h. Nothing h × PutKeeps answer h) by p journal tells (Leads-both (λ answer h. Nothing h) PutKeeps by p journal still kept)) in
+        called-well by ids access Tried start (l ∷ ls) s shown p (λ answer. after_line l.number shown (silent answer) (play_lines access ls)) (λ answer h. At (l ∷ ls) s h × PutAnswers answer h) journal careful law.2 owning.0
+        (Leads-good (At (l ∷ ls) s) (at-append (l ∷ ls) s) ids Tried by PutAnswers p journal careful came told) put-answered (λ h n. starved l ls s shown h n)
+
+  -- ---- a line that gathers the numbers of a box
+  module _ (l : Line) (ls : List Line) (s : SessionState) (shown : List Shown) (path from to : List ℕ) (show : List ℤ → Shown) (gathers : deed l.number l.call s ≡ Gathers path from to show) (go : AllGoWell ls) (spelled : IsSpelled s) (later : IsLater ids s.ids) where
+    abbrev GatherKeeps : List Event → Type 0
+    GatherKeeps h = Nothing h × (PutNone h × Owns ids by.number s start h)
+
+    abbrev GatherAnswers : Result (List ℤ) Refusal → List Event → Type 0
+    GatherAnswers answer h = RegionTells s path from to answer h × (By AnyNumbers answer × GatherKeeps h)
+
+    abbrev Along : List Event → Type 0
+    Along h = At (l ∷ ls) s h × IsOpened s h
+
+    along : (journal more : List Event) → Each IsGood journal more → Along journal → Along (journal ++ more)
+    along journal more g a = (at-append (l ∷ ls) s journal more g a.0, L.session.kept s journal more g a.1)
+
+    gather-answered : (answer : Result (List ℤ) Refusal) (h : List Event) → Along h × GatherAnswers answer h → Well (l ∷ ls) s shown (after_line l.number shown (shown_by s show answer) (play_lines access ls)) h
+    gather-answered (Ok numbers) h q =
+        let did = subst (λ (d : Deed). DidPlay by.number d s start (show numbers ∷ []) s h) (sym gathers) (refl, numbers, refl, q.1.0) in
+        went-well l ls s shown (show numbers ∷ []) s h did
+        (go h q.1.1.1.0 q.1.1.1.1.0 s (shown ++ show numbers ∷ []) (record { opened = q.0.1; spelled = spelled; later = later; owned = q.1.1.1.1.1 }) (came-on by.number body opened start l ls s s (show numbers ∷ []) h did q.0.0))
+    gather-answered (Err why) h q = refused l ls s shown why h (subst (λ (d : Deed). Refuses by.number d s start why h) (sym gathers) (q.1.0, q.1.1.0, q.1.1.1.0))
+
+    gather-well : (journal : List Event) → IsOpened s journal → Owns ids by.number s start journal → Nothing journal → PutNone journal → At (l ∷ ls) s journal → Well (l ∷ ls) s shown (play_deed access l.number shown s (Gathers path from to show) (play_lines access ls)) journal
+    gather-well journal ready owned c f came =
+        let law = L.gather by ids s path from to start journal c in
+        let p = region_program s path from to in
+        let gets = region_gets s path from to in
+        let careful = none-careful by ids Tried p journal law.0 in
+        let goes = gather-goes MovesNone none-gets none-puts s path from to in
+        let still = stays-leads Nothing (By AnyNumbers) by p journal c goes law.2 in
+        let tells = within-leads MovesNone (By AnyNumbers) by p journal goes in
+        let owns = gets_lead (λ h. Owns ids by.number s start h) by (λ key reply old new m o. got-owned by ids start s key reply old new m o) p gets journal owned in
+        let kept = Leads-both (λ answer h. PutNone h) (λ answer h. Owns ids by.number s start h) by p journal (puts-none by start p journal law.1 f) owns in
+        let told = Leads-both (RegionTells s path from to) (λ answer h. By AnyNumbers answer × GatherKeeps h) by p journal law.3
+        (Leads-both (λ answer h. By AnyNumbers answer) (λ answer h. GatherKeeps h) by p journal tells (Leads-both (λ answer h. Nothing h) (λ answer h. PutNone h × Owns ids by.number s start h) by p journal still kept)) in
+        called-well by ids access Tried start (l ∷ ls) s shown p (λ answer. after_line l.number shown (shown_by s show answer) (play_lines access ls)) (λ answer h. Along h × GatherAnswers answer h) journal careful law.2
+        (gets-keep (λ h client op. OwesOwn ids client start op h) by (λ h key. tt) p gets journal)
+        (Leads-good Along along ids Tried by GatherAnswers p journal careful (came, ready) told) gather-answered (λ h n. starved l ls s shown h n)
+
   -- ---- a line that commits
   commit-well : (l : Line) (ls : List Line) (s : SessionState) (shown : List Shown) (message : List ℕ) → deed l.number l.call s ≡ Commits message → (journal : List Event) → IsUtf8 message → IsReady ids by.number start s journal → Nothing journal → PutNone journal → At (l ∷ ls) s journal
       → Well (l ∷ ls) s shown (commit_play (tries_of access) (policy_of access) l.number shown message s) journal
@@ -259,6 +346,8 @@ module _ (L : Laws) (by : Caller) (ids : AnyIds) (access : Access) (body : List 
       (go journal c f went.1 (shown ++ went.0) (deed-ready L.session L.owning ids by.number start l.number l.call s went journal well ready e) (came-on by.number body opened start l ls s went.1 went.0 journal did came))
   deed-well l ls s shown journal well ready c f came go (Sets path index bytes) e = set-well l ls s shown path index bytes e go journal (deed-bytes l.number l.call s path index bytes well e) ready c f came
   deed-well l ls s shown journal well ready c f came go (Reads path index show) e = get-well l ls s shown path index show e go ready.spelled ready.later journal ready.opened ready.owned c f came
+  deed-well l ls s shown journal well ready c f came go (Puts path from to numbers) e = put-well l ls s shown path from to numbers e go journal ready c f came
+  deed-well l ls s shown journal well ready c f came go (Gathers path from to show) e = gather-well l ls s shown path from to show e go ready.spelled ready.later journal ready.opened ready.owned c f came
   deed-well l ls s shown journal well ready c f came go (Commits message) e = commit-well l ls s shown message e journal (deed-utf8 l.number l.call s message well e) ready c f came
 
   lines-well : (ls : List Line) → All IsWellLine ls → AllGoWell ls
@@ -391,6 +480,11 @@ module _ (L : Laws) (by : Caller) (ids : AnyIds) (task : Task) (start : List Eve
       let p = expire_task task.line terms in
       let pays = PlayKeeps-own (λ h client op. IsPolite h op × OwesExpiry terms start h client op) (Pays head) by (λ h op x. (x.0, (x.1, (tt, tt)))) p start told.0 in
       (pays, all-before (Pays head) by p start pays, told.1)
+  by_head Check is =
+      let told = L.check by task.line start in
+      let p = check_task task.line in
+      let pays = PlayKeeps-weaker (λ h client op. IsPolite h op × IsRead op) (Pays Check) (λ h client op x. (x.0, (x.1, (tt, tt)))) by p start told.0 in
+      (pays, all-before (Pays Check) by p start pays, told.1)
 
   pub task-well : PlayKeeps (IsDue ids task by.number start) by (task_play ids task) start × PlayKeeps (λ journal client op. BeforeChange task client start journal op) by (task_play ids task) start
       × PlayLeads (TellsOutcome ids task by.number start) by (task_play ids task) start

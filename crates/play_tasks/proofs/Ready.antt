@@ -162,6 +162,7 @@ module _ (L : SessionLaw) (O : OwningLaw) (ids : AnyIds) (client : ℕ) (start :
   edits-ready (edit.Unset path index) s went journal well ready d = change-ready s went journal ready (chunk_unset s path index) (chunk_unset s path index) (unset-later s path index) (λ t e. (L.unsets s t path index journal e ready.spelled ready.opened, O.unsets ids client s t path index start journal e ready.owned)) refl (cc)
   edits-ready (edit.Set path index bytes) s went journal well ready d = absurd cc
   edits-ready (edit.Fill path index byte) s went journal well ready d = absurd cc
+  edits-ready (edit.Put place numbers) s went journal well ready d = absurd cc
   edits-ready (edit.KeySet key bytes) s went journal well ready d = key-set-ready key bytes (key_of key) s went journal well.0 refl ready d
   edits-ready (edit.KeyErase key) s went journal well ready d = key-erase-ready key s went journal ready (cc)
 
@@ -178,6 +179,7 @@ module _ (L : SessionLaw) (O : OwningLaw) (ids : AnyIds) (client : ℕ) (start :
   reads-ready line (read.List path) s went journal ready d = look-ready s went journal ready (read_by line (read.List path) s) (cc)
   reads-ready line (read.Get path) s went journal ready d = look-ready s went journal ready (read_by line (read.Get path) s) (cc)
   reads-ready line (read.Chunk path index) s went journal ready d = absurd cc
+  reads-ready line (read.Cells place) s went journal ready d = absurd cc
   reads-ready line (read.KeyGet key) s went journal ready d = key-get-ready line (key_of key) s went journal ready d
 
   pub deed-ready : (line : ℕ) (x : Call) (s : SessionState) (went : List Shown × SessionState) (journal : List Event) → IsWellCall x → IsReady ids client start s journal → deed line x s ≡ Goes (Ok went) → IsReady ids client start went.1 journal

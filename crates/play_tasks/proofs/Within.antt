@@ -84,7 +84,7 @@ abbrev pub Climbs : Op → Type 0
 Climbs op = GetsWalked op × ¬ GetsBranch op
 
 module _ (may : Op → Type 0) where
-  bind-within : {A B : Type 0} (Q : A → Type 0) (R : B → Type 0) (p : Prog A) (f : A → Prog B) → Within may Q p → ((a : A) → Q a → Within may R (f a)) → Within may R (bind p f)
+  pub bind-within : {A B : Type 0} (Q : A → Type 0) (R : B → Type 0) (p : Prog A) (f : A → Prog B) → Within may Q p → ((a : A) → Q a → Within may R (f a)) → Within may R (bind p f)
   unfolding Within
   bind-within Q R (Done a) f p g = g a p
   bind-within Q R (Ask op next) f p g = (p.0, λ reply. bind-within Q R (next reply) f (p.1 reply) g)
@@ -124,7 +124,7 @@ pub record IsSame (s t : SessionState) : Type 0 where
   pub base : t.base ≡ s.base
   pub origin : t.origin ≡ s.origin
 
-abbrev pub Any : Value → Type 0
+abbrev Any : Value → Type 0
 Any v = Unit {0}
 
 abbrev pub Wrote : Written → Type 0

@@ -21,7 +21,7 @@ use Rattle.session.specs.declared.origin.Origin.{Origin}
 use Rattle.session.specs.declared.origin.Origin.TheVariants.{Writes, ReadsBranch, ReadsTag, ReadsId}
 use Rattle.session.specs.Opening.{Asked, of_branch}
 use Rattle.play_script.specs.declared.scripts.Head.{Head}
-use Rattle.play_script.specs.declared.scripts.Head.TheVariants.{Session, Refs, Collect, Expire}
+use Rattle.play_script.specs.declared.scripts.Head.TheVariants.{Session, Refs, Collect, Expire, Check}
 use Rattle.play_script.specs.declared.scripts.Task.{Task}
 use Rattle.play_tasks.specs.Playing.{asked_by}
 
@@ -122,6 +122,7 @@ ComesOpen (Session access) ids client start journal op = OpensOrHasBase client (
 ComesOpen Refs ids client start journal op = Unit {0}
 ComesOpen (Collect cutoff) ids client start journal op = Unit {0}
 ComesOpen (Expire cutoff drop_branches drop_tags) ids client start journal op = Unit {0}
+ComesOpen Check ids client start journal op = Unit {0}
 
 abbrev pub IsOpenAt : AnyIds → Task → (client : ℕ) → (start journal : List Event) → Op → Type 0
 IsOpenAt ids task client start journal op = ComesOpen task.head ids client start journal op

@@ -1,5 +1,5 @@
 -- What a line of a task does to its session. Its play, what it shows, what refuses it and which session it leads to are all read from here.
-use Rattle.std.specs.Prelude.{ℕ, List, [], ◌∷◌, map, replicate, Option, Some, None, Result, Ok, Err}
+use Rattle.std.specs.Prelude.{ℕ, ℤ, List, [], ◌∷◌, map, replicate, Option, Some, None, Result, Ok, Err}
 use Rattle.std.specs.FinMap.{get}
 use Rattle.zarr_path.specs.declared.keys.ZarrKey.{ZarrKey}
 use Rattle.zarr_path.specs.declared.keys.ZarrKey.TheVariants.{Meta as Meta_key, Chunk as Chunk_key}
@@ -21,15 +21,15 @@ use Rattle.zarr_keys.specs.Keys.{meta_value, chunk_value, session_of, meta_put, 
 use Rattle.play_script.specs.declared.scripts.Call.{Call}
 use Rattle.play_script.specs.declared.scripts.Call.TheVariants.{Edit, Read, Commit, Ref, Prop}
 use Rattle.play_script.specs.declared.scripts.EditCall.{EditCall}
-use Rattle.play_script.specs.declared.scripts.EditCall.TheVariants.{Group, Array, Make, Meta, Drop, Set, Fill as Fill_call, Unset, KeySet, KeyErase}
+use Rattle.play_script.specs.declared.scripts.EditCall.TheVariants.{Group, Array, Make, Meta, Drop, Set, Fill as Fill_call, Unset, Put, KeySet, KeyErase}
 use Rattle.play_script.specs.declared.scripts.ReadCall.{ReadCall}
-use Rattle.play_script.specs.declared.scripts.ReadCall.TheVariants.{List as List_call, Get, Chunk, KeyGet}
+use Rattle.play_script.specs.declared.scripts.ReadCall.TheVariants.{List as List_call, Get, Chunk, Cells, KeyGet}
 use Rattle.play_outcome.specs.declared.outcome.Shown.{Shown}
-use Rattle.play_outcome.specs.declared.outcome.Shown.TheVariants.{Node as Shown_node, Meta as Shown_meta, Chunk as Shown_chunk, Fill as Shown_fill, Key as Shown_key}
+use Rattle.play_outcome.specs.declared.outcome.Shown.TheVariants.{Node as Shown_node, Meta as Shown_meta, Chunk as Shown_chunk, Fill as Shown_fill, Cells as Shown_cells, Key as Shown_key}
 
 -- ---- edits
 -- the session behind an edit that needs no operation, or why it is refused; a text that is made a node is a group's or an array's, as it
--- says; what sets a chunk leaves it as it is
+-- says; what sets chunks leaves it as it is
 abbrev pub edited : EditCall → SessionState → Result SessionState Refusal
 edited (Group path) s = session_of (group_added s path group_text)
 edited (Array path text) s = session_of (array_added s path text)
@@ -65,6 +65,10 @@ abbrev pub value_shown : ℕ → Value → Shown
 value_shown line (Held bytes) = Shown_chunk line bytes
 value_shown line Fill = Shown_fill line
 
+-- the numbers of a box of cells that this line of the script asked for
+abbrev pub cells_shown : ℕ → List ℤ → Shown
+cells_shown line numbers = Shown_cells line numbers
+
 -- what the key has that this line of the script asked for
 abbrev pub key_shown : ℕ → KeyValue → Shown
 key_shown line (Bytes bytes) = Shown_key line (Some bytes)
@@ -75,12 +79,14 @@ abbrev pub chunk_key_shown : ℕ → Value → Shown
 chunk_key_shown line value = key_shown line (chunk_value value)
 
 -- ---- lines
--- what a line does: it shows something and leads to a session, or is refused; it sets the bytes of a chunk; it reads a chunk and shows it so;
--- or it commits, with this message
+-- what a line does: it shows something and leads to a session, or is refused; it sets the bytes of a chunk; it reads a chunk and shows it so; it puts
+-- numbers into a box of cells; it gathers those of a box and shows them so; or it commits, with this message
 pub data Deed : Type 0 where
   Goes : Result (List Shown × SessionState) Refusal → Deed
   Sets : (path index bytes : List ℕ) → Deed
   Reads : (path index : List ℕ) → (Value → Shown) → Deed
+  Puts : (path from to : List ℕ) → List ℤ → Deed
+  Gathers : (path from to : List ℕ) → (List ℤ → Shown) → Deed
   Commits : List ℕ → Deed
 
 -- an edit shows nothing
@@ -121,12 +127,14 @@ key_get_deed line (Some (Chunk_key path index)) s = Reads path index (chunk_key_
 abbrev pub edit_deed : EditCall → SessionState → Deed
 edit_deed (Set path index bytes) s = Sets path index bytes
 edit_deed (Fill_call path index byte) s = Sets path index (filled s path byte)
+edit_deed (Put place numbers) s = Puts place.path place.from place.to numbers
 edit_deed (KeySet key bytes) s = key_set_deed bytes (key_of key) s
 edit_deed edit s = Goes (silent (edited edit s))
 
 -- what a read in this line of the script does
 abbrev pub read_deed : ℕ → ReadCall → SessionState → Deed
 read_deed line (Chunk path index) s = Reads path index (value_shown line)
+read_deed line (Cells place) s = Gathers place.path place.from place.to (cells_shown line)
 read_deed line (KeyGet key) s = key_get_deed line (key_of key) s
 read_deed line read s = Goes (still s (read_by line read s))
 

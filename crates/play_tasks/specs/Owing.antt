@@ -9,23 +9,25 @@ use Rattle.store_api.specs.Telling.{ChangedNothing}
 use Rattle.commit_path.specs.Owed.{Owes}
 use Rattle.commit_path.specs.Own.{OwesOwn}
 use Rattle.play_script.specs.declared.scripts.Head.{Head}
-use Rattle.play_script.specs.declared.scripts.Head.TheVariants.{Session, Refs, Collect, Expire}
+use Rattle.play_script.specs.declared.scripts.Head.TheVariants.{Session, Refs, Collect, Expire, Check}
 use Rattle.play_script.specs.declared.scripts.Task.{Task}
 use Rattle.play_refs.specs.Telling.{OwesRefs}
 use Rattle.chunk_gc.specs.Exact.{IsOwed}
 use Rattle.expiry.specs.Owing.{IsOwed as OwesExpiry}
 use Rattle.play_expire.specs.Playing.{terms_of}
+use Rattle.repo_check.specs.Exact.{IsRead}
 use Rattle.play_tasks.specs.Solving.{IsOfTask}
 use Rattle.play_tasks.specs.Bases.{IsOpenAt}
 
 -- a task that opens a session owes what clients owe who open and commit sessions, its own being those of the task; one that calls on refs,
--- what clients owe who call on refs; one that collects, what its collection may make next by what its client's own events told it; and one that
--- expires, what its expiry changes by what its client's own gets read
+-- what clients owe who call on refs; one that collects, what its collection may make next by what its client's own events told it; one that
+-- expires, what its expiry changes by what its client's own gets read; and one that checks, gets and listings alone
 abbrev pub OwesBy : Head → AnyIds → Task → (client : ℕ) → (start journal : List Event) → Op → Type 0
 OwesBy (Session access) ids task client start journal op = Owes ids (IsOfTask ids task client start) journal op
 OwesBy Refs ids task client start journal op = OwesRefs op
 OwesBy (Collect cutoff) ids task client start journal op = IsOwed cutoff start journal client op
 OwesBy (Expire cutoff drop_branches drop_tags) ids task client start journal op = OwesExpiry (terms_of cutoff drop_branches drop_tags) start journal client op
+OwesBy Check ids task client start journal op = IsRead op
 
 -- what this task owes, whose client has this number and whose session draws these ids if it opens one, where it began at `start`
 abbrev pub OwesOfTask : AnyIds → Task → (client : ℕ) → (start journal : List Event) → Op → Type 0
@@ -37,6 +39,7 @@ OwesOwnBy (Session access) ids client start journal op = OwesOwn ids client star
 OwesOwnBy Refs ids client start journal op = Unit {0}
 OwesOwnBy (Collect cutoff) ids client start journal op = Unit {0}
 OwesOwnBy (Expire cutoff drop_branches drop_tags) ids client start journal op = Unit {0}
+OwesOwnBy Check ids client start journal op = Unit {0}
 
 -- the operation is polite, and owed; in a task that opens a session it is the first one, or comes where the session has a base
 pub record IsDue (ids : AnyIds) (task : Task) (number : ℕ) (start journal : List Event) (client : ℕ) (op : Op) : Type 0 where
@@ -62,12 +65,13 @@ IsPut (RemoveAt key old why) = ⊥
 IsPut (ListPart part) = ⊥
 
 -- a task that opens a session puts nothing behind its client's change of a branch; one that calls on refs or expires changes as many as it likes,
--- and one that collects puts nothing at all
+-- and one that collects or checks puts nothing at all
 abbrev pub ComesBefore : Head → (client : ℕ) → (start journal : List Event) → Op → Type 0
 ComesBefore (Session access) client start journal op = IsPut op → ChangedNothing client start journal
 ComesBefore Refs client start journal op = Unit {0}
 ComesBefore (Collect cutoff) client start journal op = Unit {0}
 ComesBefore (Expire cutoff drop_branches drop_tags) client start journal op = Unit {0}
+ComesBefore Check client start journal op = Unit {0}
 
 abbrev pub BeforeChange : Task → (client : ℕ) → (start journal : List Event) → Op → Type 0
 BeforeChange task client start journal op = ComesBefore task.head client start journal op

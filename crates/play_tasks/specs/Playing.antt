@@ -8,9 +8,10 @@ use Rattle.store_api.specs.declared.machines.Refusal.TheVariants.{NoRef, NoMemor
 use Rattle.store_api.specs.declared.machines.Refusal.TheVariants as R
 use Rattle.store_api.specs.Plays.{Play, Or, call}
 use Rattle.session.specs.Sessions.{SessionState, branch_of}
-use Rattle.session.specs.declared.chunks.Value.{Value}
 use Rattle.session.specs.Opening.{Asked, open_program}
 use Rattle.session.specs.Chunks.{set_program, get_program}
+use Rattle.array_region.specs.Reading.{region_program}
+use Rattle.array_region.specs.Writing.{region_set_program}
 use Rattle.conflicts.specs.declared.solving.Policy.{Policy}
 use Rattle.conflicts.specs.declared.solving.Pick.TheVariants.{Fail}
 use Rattle.object_store.specs.declared.events.Version.{Version}
@@ -28,19 +29,20 @@ use Rattle.repo_read.specs.declared.resolving.At.{At}
 use Rattle.play_script.specs.declared.scripts.Access.{Access}
 use Rattle.play_script.specs.declared.scripts.Access.TheVariants.{Write, Read}
 use Rattle.play_script.specs.declared.scripts.Head.{Head}
-use Rattle.play_script.specs.declared.scripts.Head.TheVariants.{Session, Refs, Collect, Expire}
+use Rattle.play_script.specs.declared.scripts.Head.TheVariants.{Session, Refs, Collect, Expire, Check}
 use Rattle.play_script.specs.declared.scripts.Line.{Line}
 use Rattle.play_script.specs.declared.scripts.Task.{Task}
 use Rattle.play_refs.specs.Playing.{refs_play}
 use Rattle.play_collect.specs.Playing.{collect_task}
 use Rattle.play_expire.specs.Playing.{terms_of, expire_task}
+use Rattle.play_check.specs.Playing.{check_task}
 use Rattle.play_outcome.specs.declared.outcome.Shown.{Shown}
 use Rattle.play_outcome.specs.declared.outcome.How.{How}
 use Rattle.play_outcome.specs.declared.outcome.How.TheVariants as how
 use Rattle.play_outcome.specs.declared.outcome.End.TheVariants.{Committed, Done, InDoubt}
 use Rattle.play_outcome.specs.declared.outcome.Outcome.{Outcome}
 use Rattle.play_outcome.specs.Playing.{ended, refused}
-use Rattle.play_tasks.specs.Lines.{Deed, Goes, Sets, Reads, Commits, silent, deed}
+use Rattle.play_tasks.specs.Lines.{Deed, Goes, Sets, Reads, Puts, Gathers, Commits, silent, deed}
 
 -- what is played on a session once these lines were shown
 abbrev pub Rest : Type 0
@@ -102,8 +104,8 @@ policy_of (Read at) = record { chunks = Fail; drop_arrays = false; drop_groups =
 
 -- ---- lines
 
--- a chunk that was read is shown, and the session stays
-abbrev pub shown_by : SessionState → (Value → Shown) → Result Value Refusal → Result (List Shown × SessionState) Refusal
+-- what was read, a chunk or a box, is shown, and the session stays
+abbrev pub shown_by : {A : Type 0} → SessionState → (A → Shown) → Result A Refusal → Result (List Shown × SessionState) Refusal
 shown_by s show (Ok value) = Ok (show value ∷ [], s)
 shown_by s show (Err why) = Err why
 
@@ -112,6 +114,8 @@ abbrev pub play_deed : Access → ℕ → List Shown → SessionState → Deed �
 play_deed access line shown s (Goes went) rest = after_line line shown went rest
 play_deed access line shown s (Sets path index bytes) rest = call (set_program s path index bytes) (λ answer. after_line line shown (silent answer) rest)
 play_deed access line shown s (Reads path index show) rest = call (get_program s path index) (λ answer. after_line line shown (shown_by s show answer) rest)
+play_deed access line shown s (Puts path from to numbers) rest = call (region_set_program s path from to numbers) (λ answer. after_line line shown (silent answer) rest)
+play_deed access line shown s (Gathers path from to show) rest = call (region_program s path from to) (λ answer. after_line line shown (shown_by s show answer) rest)
 play_deed access line shown s (Commits message) rest = commit_play (tries_of access) (policy_of access) line shown message s
 
 -- the lines in their order, the first that is refused being the last; where memory is wanting, the task ends in this line
@@ -138,6 +142,7 @@ headed_play (Session access) ids t = session_play ids access t.line t.body
 headed_play Refs ids t = refs_play t.body []
 headed_play (Collect cutoff) ids t = collect_task t.line cutoff
 headed_play (Expire cutoff drop_branches drop_tags) ids t = expire_task t.line (terms_of cutoff drop_branches drop_tags)
+headed_play Check ids t = check_task t.line
 
 -- the play of a task; if it opens a session, that draws these ids
 abbrev pub task_play : AnyIds → Task → Play Outcome

@@ -1,5 +1,5 @@
 -- The sessions of a task at their commits.
-use Rattle.std.specs.Prelude.{◌≡◌, ◌⊎◌, ℕ, zero, suc, ◌≤◌, List, [], ◌∷◌, ◌++◌, Option, Ok}
+use Rattle.std.specs.Prelude.{◌≡◌, ◌⊎◌, ℕ, zero, suc, ◌≤◌, ℤ, List, [], ◌∷◌, ◌++◌, Option, Ok}
 use Rattle.ice_ids.specs.declared.Id12.{Id12}
 use Rattle.ice_ids.specs.declared.drawing.AnyIds.{AnyIds}
 use Rattle.conflicts.specs.declared.solving.Policy.{Policy}
@@ -9,6 +9,8 @@ use Rattle.session.specs.Sources.{MayDrawObject}
 use Rattle.object_store.specs.declared.events.Version.{Version}
 use Rattle.object_store.specs.declared.events.Event.{Event}
 use Rattle.chunk_calls.specs.Told.{WasSet, IsChunk}
+use Rattle.region_calls.specs.Told.{AreCells}
+use Rattle.region_calls.specs.Written.{WasWritten}
 use Rattle.commit_path.specs.Answered.{WasMoved}
 use Rattle.commit_path.specs.Opened.{IsOpened, WasBegun}
 use Rattle.commit_path.specs.Single.{HasPutNone, HasPutAlike}
@@ -18,7 +20,7 @@ use Rattle.play_script.specs.declared.scripts.Head.TheVariants.{Session}
 use Rattle.play_script.specs.declared.scripts.Line.{Line}
 use Rattle.play_script.specs.declared.scripts.Task.{Task}
 use Rattle.play_outcome.specs.declared.outcome.Shown.{Shown}
-use Rattle.play_tasks.specs.Lines.{Deed, Goes, Sets, Reads, Commits, deed}
+use Rattle.play_tasks.specs.Lines.{Deed, Goes, Sets, Reads, Puts, Gathers, Commits, deed}
 use Rattle.play_tasks.specs.Playing.{asked_by, tries_of, policy_of}
 
 -- ---- as the lines lead to it
@@ -27,6 +29,8 @@ abbrev pub DidPlay : ℕ → Deed → SessionState → List Event → List Shown
 DidPlay client (Goes went) s start shown t journal = went ≡ Ok (shown, t)
 DidPlay client (Sets path index bytes) s start shown t journal = (shown ≡ []) × WasSet client s path index bytes t start journal
 DidPlay client (Reads path index show) s start shown t journal = (t ≡ s) × (value : Value) × (shown ≡ show value ∷ []) × IsChunk s path index value journal
+DidPlay client (Puts path from to numbers) s start shown t journal = (shown ≡ []) × WasWritten client s path from to numbers t start journal
+DidPlay client (Gathers path from to show) s start shown t journal = (t ≡ s) × (numbers : List ℤ) × (shown ≡ show numbers ∷ []) × AreCells s path from to numbers journal
 DidPlay client (Commits message) s start shown t journal = ⊥
 
 -- lines that were played one after another, none of them refused and none of them a commit: what they showed, and the session that they led to

@@ -2,6 +2,8 @@
 use Rattle.std.specs.Prelude.{◌≡◌, ◌≢◌, ◌⊎◌, ℕ, ◌<◌, ◌≤◌, List, [], ◌∷◌, ◌++◌, Option, Result, Err}
 use Rattle.ice_ids.specs.declared.Id12.{Id12}
 use Rattle.ice_ids.specs.declared.drawing.AnyIds.{AnyIds}
+use Rattle.object_store.specs.declared.keys.Key.{Key}
+use Rattle.object_store.specs.declared.keys.Key.TheVariants.{Manifest, Chunk}
 use Rattle.object_store.specs.declared.events.Event.{Event}
 use Rattle.store_api.specs.declared.machines.Refusal.{Refusal}
 use Rattle.store_api.specs.declared.machines.Refusal.TheVariants.{NoMemory, Conflict}
@@ -21,17 +23,33 @@ use Rattle.play_outcome.specs.declared.outcome.End.{End}
 use Rattle.play_outcome.specs.declared.outcome.End.TheVariants.{Committed, Done, Refused, InDoubt}
 use Rattle.play_outcome.specs.declared.outcome.Outcome.{Outcome}
 use Rattle.chunk_calls.specs.Told.{SetTells, GetTells}
-use Rattle.play_tasks.specs.Lines.{Deed, Goes, Sets, Reads, Commits, deed}
+use Rattle.region_calls.specs.Told.{RegionTells}
+use Rattle.region_calls.specs.Written.{RegionSetTells}
+use Rattle.play_tasks.specs.Lines.{Deed, Goes, Sets, Reads, Puts, Gathers, Commits, deed}
 use Rattle.rebase.specs.Telling.{RebaseTells}
 use Rattle.play_script.specs.declared.scripts.Access.{Access}
 use Rattle.play_script.specs.declared.scripts.Head.{Head}
-use Rattle.play_script.specs.declared.scripts.Head.TheVariants.{Session, Refs, Collect, Expire}
+use Rattle.play_script.specs.declared.scripts.Head.TheVariants.{Session, Refs, Collect, Expire, Check}
 use Rattle.play_collect.specs.Telling.{CollectedTells}
 use Rattle.play_expire.specs.Playing.{terms_of}
 use Rattle.play_expire.specs.Telling.{ExpiredTells}
+use Rattle.play_check.specs.Telling.{CheckedTells}
 use Rattle.play_refs.specs.Telling.{RefsTells}
 use Rattle.play_tasks.specs.Playing.{asked_by, tries_of, policy_of, doubt_of, how_of}
 use Rattle.play_tasks.specs.Solving.{PlaysAll, WasLost, WasCarried}
+
+-- ---- boxes
+-- a manifest, or an object with chunks
+abbrev pub IsOfChunks : Key → Type 0
+IsOfChunks (Manifest id) = Unit {0}
+IsOfChunks (Chunk id) = Unit {0}
+IsOfChunks _ = ⊥
+
+-- what was missing, or stood for nothing, is such a one
+abbrev pub TellsOfChunks : Refusal → Type 0
+TellsOfChunks (R.Missing key) = IsOfChunks key
+TellsOfChunks (R.BadFile key bad) = IsOfChunks key
+TellsOfChunks why = Unit {0}
 
 -- ---- the end
 -- a line that does this was refused, for this reason
@@ -39,6 +57,8 @@ abbrev pub Refuses : ℕ → Deed → SessionState → List Event → Refusal �
 Refuses client (Goes went) s start why journal = (went ≡ Err why) × ChangedNothing client start journal
 Refuses client (Sets path index bytes) s start why journal = SetTells client s path index bytes start (Err why) journal
 Refuses client (Reads path index show) s start why journal = GetTells client s path index start (Err why) journal
+Refuses client (Puts path from to numbers) s start why journal = RegionSetTells client s path from to numbers start (Err why) journal × TellsOfChunks why × ChangedNothing client start journal
+Refuses client (Gathers path from to show) s start why journal = RegionTells s path from to (Err why) journal × TellsOfChunks why × ChangedNothing client start journal
 Refuses client (Commits message) s start why journal = ⊥
 
 -- the line's call was refused
@@ -143,6 +163,7 @@ TellsBy (Session access) ids task client start outcome journal = WasNotOpened id
 TellsBy Refs ids task client start outcome journal = RefsTells task.body client start outcome journal
 TellsBy (Collect cutoff) ids task client start outcome journal = CollectedTells task.line cutoff client start outcome journal
 TellsBy (Expire cutoff drop_branches drop_tags) ids task client start outcome journal = ExpiredTells task.line (terms_of cutoff drop_branches drop_tags) client start outcome journal
+TellsBy Check ids task client start outcome journal = CheckedTells task.line client start outcome journal
 
 -- What the outcome of a task, whose session draws these ids if it opens one, says of the journal, where the task began at
 -- `start` and its client made no other events from there on.

@@ -5,8 +5,9 @@ use Rattle.play_outcome.specs.declared.outcome.Outcome.{Outcome}
 use Rattle.play_refs.specs.Workers.{refs_rest, refs_left}
 use Rattle.play_collect.specs.Workers.{collecting_rest, collecting_left}
 use Rattle.play_expire.specs.Workers.{expiring_rest, expiring_left}
+use Rattle.play_check.specs.Workers.{checking_rest, checking_left}
 use Rattle.play_tasks.specs.declared.worker.Player.{Player}
-use Rattle.play_tasks.specs.declared.worker.Player.TheVariants.{Session, Refs, Collect, Expire}
+use Rattle.play_tasks.specs.declared.worker.Player.TheVariants.{Session, Refs, Collect, Expire, Check}
 use Rattle.play_tasks.specs.declared.worker.Worker.{Worker}
 use Rattle.play_tasks.specs.inside.Sessions.{session_rest, session_left}
 
@@ -15,6 +16,7 @@ player_rest (Session w) = session_rest w
 player_rest (Refs w) = refs_rest w
 player_rest (Collect w) = collecting_rest w
 player_rest (Expire w) = expiring_rest w
+player_rest (Check w) = checking_rest w
 
 -- what is still to be done
 abbrev pub worker_rest : Worker → Play Outcome
@@ -25,6 +27,7 @@ player_left (Session w) = session_left w
 player_left (Refs w) = refs_left w
 player_left (Collect w) = collecting_left w
 player_left (Expire w) = expiring_left w
+player_left (Check w) = checking_left w
 
 -- how many steps are left at most
 abbrev pub worker_left : Worker → ℕ

@@ -4,10 +4,12 @@ ghost use Rattle.play_tasks.specs.Laws.{OutcomeLaw, TaskLaw};
 
 use chunk_calls::{get_law, owning_calls_law, set_law, tells_law};
 use commit_path::{answers_law, commit_law, opening_law, owning_law, session_law, single_law};
+use play_check::{check_outcome_law, check_task_law};
 use play_collect::{collect_outcome_law, collect_task_law};
 use play_expire::{expire_outcome_law, expire_task_law};
 use play_refs::{refs_outcome_law, refs_task_law};
 use rebase::rebase_law;
+use region_calls::{owning_region_law, region_law, region_set_law};
 use settle::settle_law;
 
 /// Whatever others do, each operation of a task is polite, and what the task owes; if it opens a session, each that puts
@@ -27,9 +29,13 @@ pub fn task_law()
     set_law();
     get_law();
     owning_calls_law();
+    region_law();
+    region_set_law();
+    owning_region_law();
     refs_task_law();
     collect_task_law();
     expire_task_law();
+    check_task_law();
 }
 
 /// What the outcome of a task tells stays so, whatever good events others make.
@@ -43,4 +49,5 @@ pub fn outcome_law()
     refs_outcome_law();
     collect_outcome_law();
     expire_outcome_law();
+    check_outcome_law();
 }

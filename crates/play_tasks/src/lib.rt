@@ -1,6 +1,7 @@
 //! The tasks of a script as step machines over a store.
 #![tactic(auto)]
 
+mod boxes;
 mod chunks;
 mod commits;
 mod doubts;

@@ -6,6 +6,7 @@ ghost use Rattle.session.specs.Editing.{listed, prop_added, text_at};
 ghost use Rattle.play_tasks.specs.Lines.{node_shown, nodes_shown, meta_shown, deed, edit_deed, read_deed, Goes, Commits, edited, silent, still, read_by};
 ghost use Rattle.play_tasks.specs.inside.Working.{is_clean, is_well, is_local, without_id, working_rest, working_left, most_steps, lines_from, Edits, Looks, LineComes, CallComes, IsBounded};
 
+use crate::boxes::{play_cells, play_put};
 use crate::chunks::{play_fill, play_get, play_key_get, play_key_set, play_set, show};
 use crate::commits::{begin_commit, tries_for};
 use crate::working::{SessionTask, Step, Working};
@@ -115,7 +116,10 @@ fn edit_session(alloc: Global, edit: &EditCall, session: &mut Session) -> Result
         EditCall::Drop { path } => session.drop_node(path),
         EditCall::Unset { path, index } => session.unset_chunk(path, index),
         EditCall::KeyErase { key } => key_erase(alloc, session, key.as_str()),
-        EditCall::Set { .. } | EditCall::Fill { .. } | EditCall::KeySet { .. } => Ok(()),
+        EditCall::Set { .. }
+        | EditCall::Fill { .. }
+        | EditCall::Put { .. }
+        | EditCall::KeySet { .. } => Ok(()),
     }
 }
 
@@ -158,6 +162,9 @@ fn play_edit(
         EditCall::Fill { path, index, byte } => {
             play_fill(alloc, line, at, path, index, *byte, session, shown)
         }
+        EditCall::Put { place, numbers } => {
+            play_put(alloc, line, at, place, numbers, session, shown)
+        }
         EditCall::KeySet { key, bytes } => {
             play_key_set(alloc, line, at, key, bytes.as_slice(), session, shown)
         }
@@ -185,7 +192,7 @@ fn look(
     match read {
         ReadCall::List { path } => show_list(line, session, path, shown),
         ReadCall::Get { path } => show_meta(alloc, line, session, path, shown),
-        ReadCall::Chunk { .. } | ReadCall::KeyGet { .. } => Ok(()),
+        ReadCall::Chunk { .. } | ReadCall::Cells { .. } | ReadCall::KeyGet { .. } => Ok(()),
     }
 }
 
@@ -223,6 +230,7 @@ fn play_read(
 {
     match read {
         ReadCall::Chunk { path, index } => play_get(line, at, path, index, session, shown),
+        ReadCall::Cells { place } => play_cells(alloc, line, at, place, session, shown),
         ReadCall::KeyGet { key } => play_key_get(alloc, line, at, key, session, shown),
         ReadCall::List { .. } | ReadCall::Get { .. } => play_look(
             alloc, line, read, session, shown,

@@ -6,16 +6,21 @@ ghost use Rattle.store_api.specs.Plays.{call, Acts, Comes, IsLive, PlayIsPolite}
 ghost use Rattle.session.specs.Opening.{open_rest, open_left};
 ghost use Rattle.session.specs.Setting.{set_rest, set_left};
 ghost use Rattle.session.specs.Getting.{get_rest, get_left, get_session};
+ghost use Rattle.array_region.specs.Getting.{region_rest, region_left, region_session};
+ghost use Rattle.array_region.specs.Filling.{region_set_rest, region_set_left};
 ghost use Rattle.play_outcome.specs.Ending.{is_failed};
 ghost use Rattle.play_tasks.specs.Playing.{after_open};
+ghost use Rattle.play_tasks.specs.Lines.{cells_shown};
 ghost use Rattle.play_outcome.specs.Settling.{settled, answers_well, ComesOrStarves, Faults};
 ghost use Rattle.play_tasks.specs.inside.Working.{after_set, shown_for, after_get, is_working, lines_from, working_rest, working_left, most_steps};
 
+use crate::boxes::show_cells;
 use crate::chunks::show_value;
 use crate::commits::{step_committing, step_rebasing};
 use crate::doubts::step_settling;
 use crate::lines::{play_lines, refuse};
 use crate::working::{AskedFor, SessionTask, Working};
+use array_region::{Numbers, RegionGet, RegionSet};
 use play_outcome::Shown;
 use session::{GetChunk, Open, Session, SetChunk, Value};
 use std::alloc::Global;
@@ -124,6 +129,81 @@ fn after_getting(
     }
 }
 
+/// Where a worker stands after a step of the machine that writes a box.
+fn after_putting(
+    alloc: Global,
+    task: &SessionTask<'_>,
+    line: u32,
+    at: usize,
+    shown: Vec<Shown>,
+    set: RegionSet,
+    answer: Result<Next<Session>, Refusal>,
+) -> Working
+    requires { answers_well (is_ask (region_set_rest set)) answer ≡ true }
+    ensures comes { Comes (settled (after_set line shown.items (lines_from task.now at)) (region_set_rest set) answer) (working_rest task.now result) }
+    ensures works { is_working result ≡ true }
+    ensures falls { working_left (length task.now.body.now) result ≤ (length task.now.body.now - at) * most_steps + region_set_left set }
+    ensures blames { Faults answer (working_rest task.now result) }
+{
+    match answer {
+        Ok(Next::Again) => Working::Putting {
+            line,
+            at,
+            shown,
+            set,
+        },
+        Ok(Next::Ready(session)) => {
+            drop(set);
+            play_lines(alloc, task, at, session, shown)
+        }
+        Err(why) => {
+            drop(set);
+            refuse(line, shown, why)
+        }
+    }
+}
+
+/// Where a worker stands after a step of the machine that reads a box. Where there is no memory to show its numbers, the task ends
+/// as if there had been none for the step.
+fn after_gathering(
+    alloc: Global,
+    task: &SessionTask<'_>,
+    line: u32,
+    at: usize,
+    mut shown: Vec<Shown>,
+    get: RegionGet,
+    answer: Result<Next<Numbers>, Refusal>,
+) -> Working
+    requires { answers_well (is_ask (region_rest get)) answer ≡ true }
+    ensures comes { ComesOrStarves (after_get (cells_shown line) line shown.items (region_session get) (lines_from task.now at)) (region_rest get) answer (working_rest task.now result) }
+    ensures works { is_working result ≡ true }
+    ensures falls { working_left (length task.now.body.now) result ≤ (length task.now.body.now - at) * most_steps + region_left get }
+    ensures blames { Faults answer (working_rest task.now result) }
+{
+    let numbers = match answer {
+        Ok(Next::Again) => {
+            return Working::Gathering {
+                line,
+                at,
+                shown,
+                get,
+            };
+        }
+        Ok(Next::Ready(numbers)) => numbers,
+        Err(why) => {
+            drop(get);
+            return refuse(line, shown, why);
+        }
+    };
+    match show_cells(line, numbers, &mut shown) {
+        Ok(()) => play_lines(alloc, task, at, get.into_session(), shown),
+        Err(_) => {
+            drop(get);
+            refuse(line, shown, Refusal::NoMemory)
+        }
+    }
+}
+
 /// One step of the machine that opens the session.
 fn step_opening<S: Store>(
     alloc: Global,
@@ -180,6 +260,45 @@ fn step_getting<S: Store>(
     after_getting(alloc, task, line, at, asked, shown, get, answer)
 }
 
+/// One step of the machine that writes a box.
+fn step_putting<S: Store>(
+    alloc: Global,
+    task: &SessionTask<'_>,
+    line: u32,
+    at: usize,
+    shown: Vec<Shown>,
+    mut set: RegionSet,
+    store: &mut S,
+) -> Working
+    requires live { is_ask (region_set_rest set) ≡ true }
+    requires polite { IsTrue (S.view store.old).caller.tells → NextIsPolite (region_set_rest set) (S.view store.old).seen }
+    ensures acts { Acts is_failed (S.view store.old) (S.view store.new) (call (region_set_rest set) (after_set line shown.items (lines_from task.now at))) (working_rest task.now result) }
+    ensures works { is_working result ≡ true }
+    ensures falls { working_left (length task.now.body.now) result < (length task.now.body.now - at) * most_steps + region_set_left set }
+{
+    let answer = set.step(store);
+    after_putting(alloc, task, line, at, shown, set, answer)
+}
+
+/// One step of the machine that reads a box.
+fn step_gathering<S: Store>(
+    alloc: Global,
+    task: &SessionTask<'_>,
+    line: u32,
+    at: usize,
+    shown: Vec<Shown>,
+    mut get: RegionGet,
+    store: &mut S,
+) -> Working
+    requires live { is_ask (region_rest get) ≡ true }
+    ensures acts { Acts is_failed (S.view store.old) (S.view store.new) (call (region_rest get) (after_get (cells_shown line) line shown.items (region_session get) (lines_from task.now at))) (working_rest task.now result) }
+    ensures works { is_working result ≡ true }
+    ensures falls { working_left (length task.now.body.now) result < (length task.now.body.now - at) * most_steps + region_left get }
+{
+    let answer = get.step(store);
+    after_gathering(alloc, task, line, at, shown, get, answer)
+}
+
 /// One step of a worker that stands here.
 pub(crate) fn step_on<S: Store>(
     alloc: Global,
@@ -209,6 +328,18 @@ pub(crate) fn step_on<S: Store>(
             shown,
             get,
         } => step_getting(alloc, task, line, at, asked, shown, get, store),
+        Working::Putting {
+            line,
+            at,
+            shown,
+            set,
+        } => step_putting(alloc, task, line, at, shown, set, store),
+        Working::Gathering {
+            line,
+            at,
+            shown,
+            get,
+        } => step_gathering(alloc, task, line, at, shown, get, store),
         Working::Committing {
             line,
             tries,

@@ -4,6 +4,7 @@ use crate::session_worker::SessionWorker;
 use crate::working::SessionTask;
 use expiry::Terms;
 use ice_ids::AnyIds;
+use play_check::CheckWorker;
 use play_collect::CollectWorker;
 use play_expire::ExpireWorker;
 use play_outcome::Outcome;
@@ -19,9 +20,10 @@ enum Player<'a> {
     Refs(RefsWorker<'a>),
     Collect(CollectWorker),
     Expire(ExpireWorker),
+    Check(CheckWorker),
 }
 
-/// One task: it opens a session, plays the task's lines on it, and commits, or it calls on refs, or collects, or expires. Each step
+/// One task: it opens a session, plays the task's lines on it, and commits, or it calls on refs, collects, expires or checks. Each step
 /// makes one operation of the store, and the local work that follows from its answer.
 pub struct Worker<'a> {
     player: Player<'a>,
@@ -79,6 +81,9 @@ impl<'a> Worker<'a> {
                     player: Player::Expire(ExpireWorker::new(alloc, task.line, terms)),
                 })
             }
+            Head::Check => Ok(Worker {
+                player: Player::Check(CheckWorker::new(alloc, task.line)),
+            }),
         }
     }
 
@@ -92,6 +97,7 @@ impl<'a> Worker<'a> {
             Player::Refs(worker) => worker.has_ended(),
             Player::Collect(worker) => worker.has_ended(),
             Player::Expire(worker) => worker.has_ended(),
+            Player::Check(worker) => worker.has_ended(),
         }
     }
 
@@ -106,6 +112,7 @@ impl<'a> Worker<'a> {
             Player::Refs(worker) => worker.into_outcome(),
             Player::Collect(worker) => worker.into_outcome(),
             Player::Expire(worker) => worker.into_outcome(),
+            Player::Check(worker) => worker.into_outcome(),
         }
     }
 
@@ -121,6 +128,7 @@ impl<'a> Worker<'a> {
             Player::Refs(worker) => worker.step(store),
             Player::Collect(worker) => worker.step(store),
             Player::Expire(worker) => worker.step(store),
+            Player::Check(worker) => worker.step(store),
         }
     }
 }

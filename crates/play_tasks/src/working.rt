@@ -1,5 +1,6 @@
 //! Where a worker stands.
 
+use array_region::{RegionGet, RegionSet};
 use commit_path::Commit;
 use conflicts::Policy;
 use ice_base::Text;
@@ -60,6 +61,20 @@ pub enum Working {
         asked: AskedFor,
         shown: Vec<Shown>,
         get: GetChunk,
+    },
+    /// Numbers are being put into a box by this line of the script; the line behind it has the number `at` in the body, from 0.
+    Putting {
+        line: u32,
+        at: usize,
+        shown: Vec<Shown>,
+        set: RegionSet,
+    },
+    /// The numbers of a box are being read by this line of the script; the line behind it has the number `at` in the body, from 0.
+    Gathering {
+        line: u32,
+        at: usize,
+        shown: Vec<Shown>,
+        get: RegionGet,
     },
     /// The session is being committed, by this line of the script.
     Committing {

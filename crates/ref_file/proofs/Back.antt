@@ -1,5 +1,5 @@
 -- A reference that is written is read back.
-use Rattle.std.proofs.Common.{append_assoc, ◌≡◌, ◌∙◌, ◌<◌, ◌+◌, ◌++◌, ℕ, List, [], ◌∷◌, Option, Some, refl, sym, ap, arith, codes, rules, length, length-append}
+use Rattle.std.proofs.Common.{append_assoc, ◌≡◌, ◌∙◌, ◌<◌, ◌+◌, ◌++◌, ℕ, List, [], ◌∷◌, Option, Some, Ok, refl, sym, ap, subst, arith, codes, rules, length, length-append}
 use Rattle.std.specs.Prelude.{option_and_then}
 use Rattle.std.specs.List.{AllByRecursion}
 use Rattle.std.specs.Str.{IsUtf8}
@@ -14,8 +14,8 @@ use Rattle.json.proofs.Printed.Tokens.{tokens-print}
 use Rattle.serde_json.specs.Data.{Data, object, string, member, no_members}
 use Rattle.serde_json.specs.Read.{read, of_json, max_depth}
 use Rattle.ice_ids.specs.declared.Id12.{Id12}
-use Rattle.ice_ids.specs.Text.{IsId12, id12_text}
-use Rattle.ice_ids.proofs.TextLaws.{id12_of_text-id12_text, id12_text-plain, id12_text-IsUtf8, length-id12_text}
+use Rattle.ice_ids.specs.Text.{IsId12, id12_text, id12_of_text}
+use Rattle.ice_ids.proofs.TextLaws.{id12_of_text-id12_text, id12_of_text-Ok, id12_text-plain, id12_text-IsUtf8, length-id12_text}
 use Rattle.ref_file.specs.Refs.{RefersTo, ref_bytes}
 
 -- neither a control byte, a quote nor a backslash
@@ -78,6 +78,10 @@ unfolding ref_bytes
 ref_bytes-RefersTo id known =
     let plain : AllByRecursion IsPlain (id12_text id) = recursion_from_All IsPlain (id12_text id) (id12_text-plain id) in
     (ref_data (id12_text id), id12_text id, (utf8 (id12_text id) (id12_text-IsUtf8 id), back (id12_text id) plain), refl, id12_of_text-id12_text id known)
+
+-- a file that is written of an id that was read
+pub written_RefersTo : (file text : List ℕ) (id : Id12) → Ok id ≡ id12_of_text text → file ≡ ref_bytes id → RefersTo file id
+written_RefersTo file text id read is = subst (λ (f : List ℕ). RefersTo f id) (sym is) (ref_bytes-RefersTo id (id12_of_text-Ok text id (sym read)).1)
 
 pub length-ref_bytes : (id : Id12) → length (ref_bytes id) ≡ 35
 unfolding ref_bytes

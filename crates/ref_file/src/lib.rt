@@ -1,7 +1,7 @@
 //! The files of branches and tags: references to snapshots, as JSON.
 #![tactic(auto)]
 
-ghost use Rattle.std.specs.Prelude.{◌≡◌, MatchResult};
+ghost use Rattle.std.specs.Prelude.{◌≡◌, IfSome, MatchResult};
 ghost use Rattle.ref_file.specs.Refs.{RefersTo, Refuses, json_fault, ref_bytes};
 
 use ice_ids::{Id12, IdFault};
@@ -37,11 +37,33 @@ impl From<JsonFault> for RefFault {
     }
 }
 
+/// The id in a file that [`ref_write`] makes, if this is one.
+#[tactic(auto, using(crate::proofs::Back::written_RefersTo))]
+fn written_id(file: &[u8]) -> Option<Id12>
+    ensures { IfSome result (RefersTo file.now) }
+{
+    if file.len() != 35 {
+        return None;
+    }
+    let Ok(id) = Id12::read(&file[13..33]) else {
+        return None;
+    };
+    if file == ref_write(id).as_slice() {
+        Some(id)
+    } else {
+        None
+    }
+}
+
 /// Reads a reference: the id of the snapshot to which it refers. White space and other members are
-/// taken, and of a repeated member the last counts. (Icechunk specification version 1, references.)
+/// taken, and of a repeated member the last counts. A file as it is written here isn't read as JSON.
+/// (Icechunk specification version 1, references.)
 pub fn ref_read(alloc: Global, file: &[u8]) -> Result<Id12, RefFault>
     ensures { MatchResult result (RefersTo file.now) (Refuses file.now) }
 {
+    if let Some(id) = written_id(file) {
+        return Ok(id);
+    }
     let value = read_value(alloc, file)?;
     let Some(text) = value.get("snapshot").and_then(Value::as_str) else {
         return Err(RefFault::Member);

@@ -1,20 +1,17 @@
 -- What the read of a box answers, whatever others do.
-use Rattle.std.proofs.Common.{◌≡◌, ◌≤◌, ◌<◌, ◌%◌, inl, inr, ℕ, ℤ, Bool, true, false, cond, List, [], ◌∷◌, length, map, replicate, get_or, All, refl, sym, ◌∙◌, ap, subst, arith, eq-eqb}
+use Rattle.std.proofs.Common.{◌≡◌, ◌≤◌, ◌%◌, inl, inr, ℕ, ℤ, true, false, cond, List, [], ◌∷◌, length, map, replicate, All, refl, sym, ◌∙◌, ap, subst, arith, eq-eqb}
 use Rattle.std.specs.Prelude.{◌==◌, ◌&&◌, zip, Option, Some, None, option_map, option_and_then, Result, Ok, Err}
 use Rattle.std.specs.FinMap.{get}
 use Rattle.std.proofs.lemmas.List.{length-map, length-replicate}
 use Rattle.std.proofs.lemmas.List.Elements.{All-nil, All-head, All-tail, All-from_get_or}
 use Rattle.std.proofs.lemmas.Slice.Zip.{length-zip}
-use Rattle.std.proofs.lemmas.Bool.{cases_eq, cases_lt}
+use Rattle.std.proofs.lemmas.Bool.{cases_eq}
 use Rattle.ice_ids.specs.declared.Id8.{Id8}
 use Rattle.zarr_meta.specs.declared.views.ArrayView.{ArrayView}
-use Rattle.zarr_meta.specs.Grids.{has_grid}
 use Rattle.zarr_meta.specs.Kinds.{size_of}
-use Rattle.zarr_grid.specs.Cells.{chunk_of}
 use Rattle.zarr_tree.specs.Nodes.{Node, array_in, chunk_length}
-use Rattle.zarr_tree.specs.Trees.{HasArray, IsWellFormed}
+use Rattle.zarr_tree.specs.Trees.{Tree, node_at, IsWellFormed}
 use Rattle.zarr_tree.proofs.ViewLaws.{array_has_grid}
-use Rattle.zarr_changes.specs.declared.chunks.ChunkAt.{ChunkAt}
 use Rattle.zarr_changes.proofs.GridParts.{grid_parts}
 use Rattle.repo_objects.specs.Trees.{Puts}
 use Rattle.changed_snapshot.specs.Laws.{KeepsFrozen}
@@ -24,7 +21,6 @@ use Rattle.store_api.specs.declared.machines.Refusal.TheVariants as R
 use Rattle.store_api.specs.Callers.{Caller}
 use Rattle.store_api.specs.Program.{Leads}
 use Rattle.store_api.specs.Running.{on_answer}
-use Rattle.store_api.specs.Telling.{ChangedNothing}
 use Rattle.store_api.proofs.Programs.{Leads-bind, Leads-weaker}
 use Rattle.repo_read.specs.Programs.{MayRefuseObject}
 use Rattle.session.specs.declared.chunks.Value.{Value}
@@ -38,19 +34,18 @@ use Rattle.chunk_calls.proofs.Growing.{Surely}
 use Rattle.chunk_calls.proofs.Gets.{gets-keep, gets-stay}
 use Rattle.chunk_calls.proofs.Seen.{IsThere}
 use Rattle.region_cells.specs.Boxes.{box_cells, count_of}
-use Rattle.region_cells.specs.Walks.{AreGridded, chunks_met, firsts_of, ends_of, cell_at, is_same, with_part, with_chunk, with_chunks}
-use Rattle.region_cells.specs.Parts.{number_in_chunk}
+use Rattle.region_cells.specs.Walks.{AreGridded, chunks_met, firsts_of, ends_of, cell_at, with_part, with_chunk, with_chunks}
 use Rattle.region_cells.specs.Laws.{BoxLaw}
 use Rattle.region_cells.proofs.BoxLaws.{length-box, box_at}
-use Rattle.region_cells.proofs.WalkLaws.{met_some, met_is, met_none, length-met, same_length_met}
-use Rattle.array_region.specs.Cells.{array_of_tree, cell_number, cells_of}
+use Rattle.region_cells.proofs.WalkLaws.{met_is, met_none, same_length_met}
+use Rattle.array_region.specs.Cells.{cell_number}
 use Rattle.array_region.specs.Planning.{box_count, IsBoxOf}
 use Rattle.array_region.specs.Reading.{Kept, Chunk, Reads, fits, with_value, chunk_kept, read_chunks, read_box, read_array, region_program}
 use Rattle.array_region.proofs.Planned.{IsAt, at_array, IsEdit, no_array, IsRegion, no_box, box_passes, box_of}
 use Rattle.region_calls.specs.Told.{AreCells, RegionTells}
 use Rattle.region_calls.specs.Laws.{RegionLaw}
 use Rattle.region_calls.proofs.Gets.{region_gets}
-use Rattle.region_calls.proofs.Chunks.{KeptIs, Known, Told, chunk_told}
+use Rattle.region_calls.proofs.Chunks.{KeptIs, Told, chunk_told}
 
 -- ---- the chunks that a box meets have a number for each dimension
 record HasRanks (chunks from to : List ℕ) : Type 0 where
@@ -65,12 +60,15 @@ ranks (n ∷ chunks) [] to g = absurd g
 ranks (n ∷ chunks) (a ∷ from) [] g = absurd g
 ranks (n ∷ chunks) (a ∷ from) (b ∷ to) g = let r = ranks chunks from to g.2 in record { from_rank = omega (arith, r.from_rank); to_rank = omega (arith, r.to_rank) }
 
+pub same_ranks : (chunks from to : List ℕ) → AreGridded chunks from to → length from ≡ length to
+same_ranks chunks from to g = let r = ranks chunks from to g in r.from_rank ∙ sym r.to_rank
+
 length_cell : (from to : List ℕ) (k : ℕ) → length from ≡ length to → length (cell_at from to k) ≡ length from
 length_cell [] to k e = refl
 length_cell (a ∷ from) [] k e = absurd (omega (arith, e))
 length_cell (a ∷ from) (b ∷ to) k e = let rest = length_cell from to (k % count_of from to) (omega (arith, e)) in omega (arith, rest)
 
-met_ranked : (chunks from to : List ℕ) → AreGridded chunks from to → All (λ index. length index ≡ length chunks) (chunks_met chunks from to)
+pub met_ranked : (chunks from to : List ℕ) → AreGridded chunks from to → All (λ index. length index ≡ length chunks) (chunks_met chunks from to)
 met_ranked chunks from to g =
     elim (cases_eq (count_of from to) 0) [
       | inl none ↦ subst (All (λ index. length index ≡ length chunks)) (sym (met_none chunks from to none)) (All-nil (λ index. length index ≡ length chunks))
@@ -83,6 +81,17 @@ met_ranked chunks from to g =
           (All-from_get_or (λ index. length index ≡ length chunks) (box_cells (firsts_of chunks from) (ends_of chunks to)) []
           (λ k less. ap length (box_at (firsts_of chunks from) (ends_of chunks to) k same (omega (arith, less, length-box (firsts_of chunks from) (ends_of chunks to) same))) ∙ length_cell (firsts_of chunks from) (ends_of chunks to) k same ∙ long))
     ]
+
+-- a chunk that is held is whole
+pub whole_chunk : (t : Tree) (path index bytes : List ℕ) (n : Node) (array : ArrayView) → IsWellFormed t → node_at t path ≡ Some n → array_in n.text ≡ Some array → t.chunk path index ≡ Some bytes → length bytes ≡ chunk_length array
+whole_chunk t path index bytes n array wf found is e =
+    let has = wf.chunks path index bytes e in
+    let nodes : n ≡ has.node = some_same (sym found ∙ has.found) in
+    let arrays : array ≡ has.fits.array = some_same (sym is ∙ ap (λ (x : Node). array_in x.text) nodes ∙ has.fits.found) in
+    has.fits.whole bytes refl ∙ ap chunk_length (sym arrays)
+  where
+    some_same : {A : Type 0} {x y : A} → Some x ≡ Some y → x ≡ y
+    some_same e = cc
 
 -- ---- a box of it
 module _ (B : BoxLaw) (by : Caller) (s : SessionState) (r : Reads) (count : ℕ) (at : IsAt s r.path r.node r.array) (box : IsBoxOf r.array r.from r.to count) where
@@ -103,7 +112,7 @@ module _ (B : BoxLaw) (by : Caller) (s : SessionState) (r : Reads) (count : ℕ)
   Tells (Err why) h = MayRefuseObject why
 
   same_rank : length r.from ≡ length r.to
-  same_rank = let k = ranks r.array.chunks r.from r.to box.gridded in k.from_rank ∙ sym k.to_rank
+  same_rank = same_ranks r.array.chunks r.from r.to box.gridded
 
   there : (index : List ℕ) → length index ≡ length r.array.chunks → IsThere s r.path index (record { node = r.node; bytes = chunk_length r.array })
   there index rank = record {
@@ -116,24 +125,13 @@ module _ (B : BoxLaw) (by : Caller) (s : SessionState) (r : Reads) (count : ℕ)
     bytes = refl;
   }
 
-  -- a chunk that is held is whole
-  long_chunk : (puts : Puts) (index bytes : List ℕ) → IsWellFormed (overlay puts s) → held puts index ≡ Some bytes → length bytes ≡ chunk_length r.array
-  long_chunk puts index bytes wf e =
-      let has = wf.chunks r.path index bytes e in
-      let nodes : at.node ≡ has.node = some_same (sym at.found ∙ has.found) in
-      let arrays : r.array ≡ has.fits.array = some_same (sym at.is ∙ ap (λ (n : Node). array_in n.text) nodes ∙ has.fits.found) in
-      has.fits.whole bytes refl ∙ ap chunk_length (sym arrays)
-    where
-      some_same : {A : Type 0} {x y : A} → Some x ≡ Some y → x ≡ y
-      some_same e = cc
-
   -- so its numbers are entered
   entered : (puts : Puts) (index : List ℕ) (value : Value) (numbers : List ℤ) → IsWellFormed (overlay puts s) → held puts index ≡ value_of value → length index ≡ length r.array.chunks → length numbers ≡ count_of r.from r.to
       → with_value r index value numbers ≡ with_chunk r.array.kind r.array.big r.from r.to r.array.chunks index (held puts index) numbers
   entered puts index Fill numbers wf e rank long = sym (ap (λ o. with_chunk r.array.kind r.array.big r.from r.to r.array.chunks index o numbers) e)
   entered puts index (Held bytes) numbers wf e rank long =
       let fit : fits r index bytes numbers ≡ true = ap (λ b. b && length bytes == chunk_length r.array && length numbers == count_of r.from r.to) (eq-eqb _ _ rank)
-      ∙ ap (λ b. b && length numbers == count_of r.from r.to) (eq-eqb _ _ (long_chunk puts index bytes wf e)) ∙ eq-eqb _ _ long in
+      ∙ ap (λ b. b && length numbers == count_of r.from r.to) (eq-eqb _ _ (whole_chunk (overlay puts s) r.path index bytes at.node r.array wf at.found at.is e)) ∙ eq-eqb _ _ long in
       ap (λ b. cond b (with_part r.array.kind r.array.big r.from r.to r.array.chunks index bytes numbers) numbers) fit
       ∙ sym (ap (λ o. with_chunk r.array.kind r.array.big r.from r.to r.array.chunks index o numbers) e)
 

@@ -1,5 +1,5 @@
 -- What the read of a chunk of a box answers, whatever others do.
-use Rattle.std.proofs.Common.{◌≡◌, ℕ, Bool, true, false, cond, List, [], ◌∷◌, length, take, drop, map, refl, sym, ◌∙◌, ap, subst}
+use Rattle.std.proofs.Common.{◌≡◌, ℕ, Bool, true, false, cond, List, [], ◌∷◌, length, take, drop, map, refl, ◌∙◌, ap, subst}
 use Rattle.std.specs.Prelude.{◌+◌, ◌==◌, ◌&&◌, nat_le, Option, Some, None, option_and_then, Result, Ok, Err}
 use Rattle.std.specs.Option.{option_or}
 use Rattle.std.specs.Result.{result_ok}
@@ -27,7 +27,7 @@ use Rattle.object_store.specs.declared.events.Version.{Version}
 use Rattle.object_store.specs.declared.events.Op.TheVariants.{Get}
 use Rattle.object_store.specs.declared.events.Got.TheVariants.{Found, Absent}
 use Rattle.object_store.specs.declared.events.Reply.{Reply}
-use Rattle.object_store.specs.declared.events.Reply.TheVariants.{Got as Is_got, Failed}
+use Rattle.object_store.specs.declared.events.Reply.TheVariants.{Got as Is_got}
 use Rattle.object_store.specs.declared.events.Event.{Event}
 use Rattle.store_api.specs.declared.machines.Refusal.{Refusal}
 use Rattle.store_api.specs.Callers.{Caller, Makes}
@@ -36,8 +36,6 @@ use Rattle.store_api.specs.Running.{Program, on_answer}
 use Rattle.store_api.proofs.Telling.{get-had}
 use Rattle.repo_read.specs.Answers.{at_key, manifest_told, object_told}
 use Rattle.repo_read.specs.Programs.{MayRefuseObject}
-use Rattle.session.specs.declared.chunks.Value.{Value}
-use Rattle.session.specs.declared.chunks.Value.TheVariants.{Held, Fill}
 use Rattle.session.specs.Sessions.{SessionState, overlay}
 use Rattle.session.specs.Chunks.{found as found_bytes}
 use Rattle.chunk_calls.specs.Told.{value_of}
@@ -61,7 +59,7 @@ inline_read : (want : ℕ) (bytes got : List ℕ) → read_inline want bytes ≡
 inline_read want bytes got e = elim (length bytes == want) as (λ b. cond b (Ok bytes) (Err (BadChunk want (length bytes))) ≡ Ok got → bytes ≡ got) [ true ↦ λ d. cc | false ↦ λ d. cc ] e
 
 -- a manifest that is taken is the one that is kept
-taken : (kept : Kept) (id : Id12) (file : ManifestFile) → file_kept kept id ≡ Some file → kept ≡ Some (id, file)
+pub taken : (kept : Kept) (id : Id12) (file : ManifestFile) → file_kept kept id ≡ Some file → kept ≡ Some (id, file)
 taken None id file e = cc
 taken (Some kept) id file e = by_test (same_id12 kept.0 id) refl e
   where

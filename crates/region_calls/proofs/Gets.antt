@@ -1,5 +1,5 @@
 -- Reads of boxes only get.
-use Rattle.std.proofs.Common.{ℕ, ℤ, List, [], ◌∷◌, drop}
+use Rattle.std.proofs.Common.{ℕ, ℤ, List, [], ◌∷◌}
 use Rattle.std.specs.Prelude.{Result, Ok, Err, Option, Some, None}
 use Rattle.ice_ids.specs.declared.Id8.{Id8}
 use Rattle.ice_ids.specs.declared.Id12.{Id12}
@@ -15,19 +15,16 @@ use Rattle.changed_snapshot.specs.Rows.{own_manifests}
 use Rattle.repo_objects.specs.Readings.{read_inline}
 use Rattle.object_store.specs.declared.keys.Key.TheVariants.{Manifest}
 use Rattle.object_store.specs.declared.events.Op.TheVariants.{Get}
-use Rattle.object_store.specs.declared.events.Reply.{Reply}
 use Rattle.store_api.specs.declared.machines.Refusal.{Refusal}
 use Rattle.store_api.specs.Program.{Prog, Done, Ask, bind}
 use Rattle.store_api.specs.Running.{Program, ◌>>=◌, on_answer}
 use Rattle.repo_read.specs.Answers.{at_key, manifest_told, object_told}
-use Rattle.session.specs.declared.chunks.Value.{Value}
-use Rattle.session.specs.declared.chunks.Value.TheVariants.{Held}
 use Rattle.session.specs.Sessions.{SessionState}
 use Rattle.session.specs.Chunks.{found, read_place, read_own}
 use Rattle.session.specs.Arrays.{array_at}
 use Rattle.region_cells.specs.Walks.{chunks_met}
 use Rattle.array_region.specs.Planning.{box_count}
-use Rattle.array_region.specs.Reading.{Kept, Chunk, keeping, in_file, entry_kept, got_kept, in_manifest, file_kept, listed_kept, entered_kept, Reads, with_value, read_chunks, read_box, read_array, region_program}
+use Rattle.array_region.specs.Reading.{Kept, Chunk, keeping, in_file, entry_kept, in_manifest, file_kept, listed_kept, entered_kept, Reads, with_value, read_chunks, read_box, read_array, region_program}
 use Rattle.chunk_calls.proofs.Gets.{OnlyGets, held_of}
 
 bind_gets : {A B : Type 0} (p : Prog A) (f : A → Prog B) → OnlyGets p → ((a : A) → OnlyGets (f a)) → OnlyGets (bind p f)
@@ -50,11 +47,11 @@ found_gets : (r : Result (List ℕ) Refusal) → OnlyGets (found r)
 found_gets (Ok bytes) = tt
 found_gets (Err why) = tt
 
-place_gets : (want : ℕ) (manifest : Id12) (place : Place) → OnlyGets (read_place want manifest place)
+pub place_gets : (want : ℕ) (manifest : Id12) (place : Place) → OnlyGets (read_place want manifest place)
 place_gets want manifest (Inline bytes) = found_gets (at_key (Manifest manifest) (read_inline want bytes))
 place_gets want manifest (Object id offset size) = λ reply. held_gets (object_told want id offset size reply)
 
-own_gets : (want : ℕ) (place : Place) → OnlyGets (read_own want place)
+pub own_gets : (want : ℕ) (place : Place) → OnlyGets (read_own want place)
 own_gets want (Inline bytes) = tt
 own_gets want (Object id offset size) = λ reply. held_gets (object_told want id offset size reply)
 
@@ -75,7 +72,7 @@ module _ (want : ℕ) (node : Id8) (index : List ℕ) where
   listed_gets [] kept = tt
   listed_gets (manifest ∷ more) kept = manifest_gets manifest (listed_kept want node index more) (listed_gets more) (file_kept kept manifest)
 
-  entered_gets : (s : SessionState) (path : List ℕ) (kept : Kept) (entry : Option (Option Place)) → OnlyGets (entered_kept s path want node index kept entry)
+  pub entered_gets : (s : SessionState) (path : List ℕ) (kept : Kept) (entry : Option (Option Place)) → OnlyGets (entered_kept s path want node index kept entry)
   entered_gets s path kept (Some (Some place)) = then_gets (read_own want place) (keeping kept) (own_gets want place) (λ value. tt)
   entered_gets s path kept (Some None) = tt
   entered_gets s path kept None = listed_gets (ids_within index (own_manifests s.rows path node)) kept

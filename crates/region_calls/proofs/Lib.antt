@@ -1,3 +1,12 @@
 pub mod Gets
 pub mod Chunks
 pub mod Boxes
+pub mod Cells
+pub mod Fills
+pub mod Leading
+pub mod Walking
+pub mod Written
+pub mod Seeing
+pub mod Entering
+pub mod Sets
+pub mod Owning

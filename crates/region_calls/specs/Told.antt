@@ -2,7 +2,6 @@
 use Rattle.std.specs.Prelude.{◌≡◌, ℕ, ℤ, List, Some, Result, Ok, Err}
 use Rattle.ice_ids.specs.declared.Id8.{Id8}
 use Rattle.zarr_meta.specs.declared.views.ArrayView.{ArrayView}
-use Rattle.zarr_tree.specs.declared.edit.EditFault.{EditFault}
 use Rattle.zarr_tree.specs.Trees.{IsWellFormed}
 use Rattle.repo_objects.specs.Trees.{Puts, Extends}
 use Rattle.changed_snapshot.specs.Laws.{KeepsFrozen}

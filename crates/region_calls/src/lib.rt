@@ -1,6 +1,6 @@
-//! The law of reading boxes of numbers: what a read does, and what its answer says.
+//! The laws of boxes of numbers: what a read and a write do, and what their answers say.
 #![tactic(auto)]
 
 mod laws;
 
-pub use laws::region_law;
+pub use laws::{owning_region_law, region_law, region_set_law};

@@ -6,7 +6,7 @@ use Rattle.object_store.specs.declared.events.Event.{Event}
 use Rattle.history_laws.specs.Collections.{Collection}
 use Rattle.history_laws.specs.Laws.{collection_of}
 use Rattle.play_script.specs.declared.scripts.Head.{Head}
-use Rattle.play_script.specs.declared.scripts.Head.TheVariants.{Session, Refs, Collect, Expire}
+use Rattle.play_script.specs.declared.scripts.Head.TheVariants.{Session, Refs, Collect, Expire, Check}
 use Rattle.play_script.specs.declared.scripts.Task.{Task}
 use Rattle.run_collections.specs.Beside.{CollectsAt}
 
@@ -20,6 +20,7 @@ module _ (start journal : List Event) where
   with_head (Session access) place cs = cs
   with_head Refs place cs = cs
   with_head (Expire cutoff drop_branches drop_tags) place cs = cs
+  with_head Check place cs = cs
 
   -- the collections of the tasks, of which the first stands at this place
   abbrev pub all_from : (place : ℕ) → List Task → List Collection
@@ -34,12 +35,14 @@ module _ (start journal : List Event) where
   first-in (Session access) place cutoff cs e = absurd cc
   first-in Refs place cutoff cs e = absurd cc
   first-in (Expire before drop_branches drop_tags) place cutoff cs e = absurd cc
+  first-in Check place cutoff cs e = absurd cc
 
   later-in : (head : Head) (place : ℕ) (cs : List Collection) (c : Collection) → Contains cs c → Contains (with_head head place cs) c
   later-in (Collect own) place cs c h = Contains-append_right (its_own place own ∷ []) cs c h
   later-in (Session access) place cs c h = h
   later-in Refs place cs c h = h
   later-in (Expire cutoff drop_branches drop_tags) place cs c h = h
+  later-in Check place cs c h = h
 
   among-from : (tasks : List Task) (place k cutoff : ℕ) (task : Task) → slice_get tasks k ≡ Some task → task.head ≡ Collect cutoff → Contains (all_from place tasks) (its_own (place + k) cutoff)
   among-from [] place k cutoff task at head_is = absurd cc
@@ -76,6 +79,7 @@ module _ (start journal : List Event) where
   first-or-later (Session access) place cs c h = inr h
   first-or-later Refs place cs c h = inr h
   first-or-later (Expire cutoff drop_branches drop_tags) place cs c h = inr h
+  first-or-later Check place cs c h = inr h
 
   one-from : (tasks : List Task) (place : ℕ) (c : Collection) → Contains (all_from place tasks) c → IsOneFrom tasks place c
   one-from [] place c h = absurd (omega (arith, h.1))

@@ -32,7 +32,7 @@ use Rattle.play_expire.specs.Playing.{terms_of}
 use Rattle.play_refs.specs.Telling.{OwesRefs}
 use Rattle.play_script.specs.declared.scripts.Access.{Access}
 use Rattle.play_script.specs.declared.scripts.Head.{Head}
-use Rattle.play_script.specs.declared.scripts.Head.TheVariants.{Session, Refs, Collect, Expire}
+use Rattle.play_script.specs.declared.scripts.Head.TheVariants.{Session, Refs, Collect, Expire, Check}
 use Rattle.play_script.specs.declared.scripts.Task.{Task}
 use Rattle.play_script.specs.Well.{IsWellTask}
 use Rattle.commit_path.specs.Own.{IsOwnCommit, OwesOwn, id_of}
@@ -44,6 +44,7 @@ use Rattle.run_histories.proofs.Sources.{object-not_initial}
 use Rattle.run_histories.proofs.Carrying.{task-object}
 use Rattle.run_histories.proofs.Drawing.{are-among, ids_at-of}
 use Rattle.run_histories.proofs.Expiring.{expiry-plain}
+use Rattle.run_histories.proofs.Checking.{read-plain}
 use Rattle.run_histories.proofs.Programs.{IsCleanup, IsPlain, IsPlainOrCleanup}
 use Rattle.run_histories.proofs.Single.{CommitsFirst}
 
@@ -64,7 +65,7 @@ pub record Fits (draw : Draw) (tasks : List Task) (start journal : List Event) (
   pub own : CommitsOwn start journal event
   pub early : CommitsFirst start journal event
 
--- of the opening, the closing reading, a task on refs, a collection, or an expiry
+-- of the opening, the closing reading, a task on refs, a collection, an expiry, or a check
 plain-once : (journal : List Event) (op : Op) → IsPlain op → PutsOnce journal op
 plain-once journal (Get key) p = tt
 plain-once journal (PutNew (Snapshot id) bytes why) p = (λ e. p.1, λ differs. absurd (differs p.0))
@@ -165,7 +166,7 @@ may-plain cutoff w (PutOver key bytes old why) m = absurd m
 may-plain cutoff w (RemoveAt key old why) m = absurd m
 
 -- An event of a run, whose tasks began at the start: of a task that opens a session; or one of the opening, of a task on refs, of a collection, of an
--- expiry, or of the closing reading. So it may be a cut of a snapshot's parent.
+-- expiry, of a check, or of the closing reading. So it may be a cut of a snapshot's parent.
 abbrev pub IsOfRun : Draw → List Task → (start journal : List Event) → Event → Type 0
 IsOfRun draw tasks start journal event = IsOfOpener draw tasks start journal event ⊎ (IsGood journal event × IsPlainOrCleanup event.op)
 
@@ -182,6 +183,7 @@ by-head draw tasks start journal event c = by_cases c.task.head refl c.careful.o
     by_cases Refs e o own early = inr (c.careful.good, inl (owes-plain event.op o))
     by_cases (Collect cutoff) e o own early = inr (c.careful.good, may-plain cutoff (walk_of cutoff (c.place + 1) start journal) event.op o.may.1)
     by_cases (Expire cutoff drop_branches drop_tags) e o own early = inr (c.careful.good, expiry-plain (terms_of cutoff drop_branches drop_tags) (c.place + 1) start journal event.op o)
+    by_cases Check e o own early = inr (c.careful.good, inl (read-plain event.op o))
 
 -- ---- puts of new objects
 -- what the operation puts new, of the objects whose ids the source may draw, still stands where it was put before

@@ -10,10 +10,11 @@ use Rattle.collecting.specs.Runs.{walk_of}
 use Rattle.collecting.specs.Walks.{MayDo}
 use Rattle.commit_path.specs.Owed.{Owes}
 use Rattle.expiry.specs.Owing.{IsOwed}
+use Rattle.repo_check.specs.Exact.{IsRead}
 use Rattle.play_expire.specs.Playing.{terms_of}
 use Rattle.play_refs.specs.Telling.{OwesRefs}
 use Rattle.play_script.specs.declared.scripts.Head.{Head}
-use Rattle.play_script.specs.declared.scripts.Head.TheVariants.{Session, Refs, Collect, Expire}
+use Rattle.play_script.specs.declared.scripts.Head.TheVariants.{Session, Refs, Collect, Expire, Check}
 use Rattle.play_script.specs.declared.scripts.Task.{Task}
 use Rattle.play_tasks.specs.Owing.{OwesBy}
 use Rattle.play_tasks.specs.Solving.{IsOfTask}
@@ -37,6 +38,7 @@ module _ (draw : Draw) (tasks : List Task) (start journal : List Event) (event :
       by_head Refs e o = absurd (subst OwesRefs over.is o)
       by_head (Collect cutoff) e o = absurd (subst (MayDo cutoff (walk_of cutoff (c.place + 1) start journal)) over.is o.may.1)
       by_head (Expire cutoff drop_branches drop_tags) e o = record { place = c.place; task = c.task; cutoff = cutoff; drop_branches = drop_branches; drop_tags = drop_tags; at = c.at; head_is = e; client_is = c.client }
+      by_head Check e o = absurd (subst IsRead over.is o)
 
   -- and a client that expires does what its expiry owes
   client-owes : (place : ℕ) (task : Task) (cutoff : ℕ) (drop_branches drop_tags : Bool) → slice_get tasks place ≡ Some task → task.head ≡ Expire cutoff drop_branches drop_tags → OwesExpiring (terms_of cutoff drop_branches drop_tags) (place + 1) start journal event

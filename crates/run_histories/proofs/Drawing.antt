@@ -25,7 +25,7 @@ use Rattle.commit_path.specs.Laws.{TellsFaults}
 use Rattle.commit_path.proofs.Editing.{Added, node-added, text-set, node-dropped}
 use Rattle.commit_path.proofs.Setting.{chunk-unset}
 use Rattle.play_script.specs.declared.scripts.EditCall.{EditCall}
-use Rattle.play_script.specs.declared.scripts.EditCall.TheVariants.{Group, Array, Make, Meta, Drop, Set, Fill, Unset, KeySet, KeyErase}
+use Rattle.play_script.specs.declared.scripts.EditCall.TheVariants.{Group, Array, Make, Meta, Drop, Set, Fill, Unset, Put, KeySet, KeyErase}
 use Rattle.play_script.specs.declared.scripts.Access.{Access}
 use Rattle.play_script.specs.declared.scripts.Access.TheVariants.{Write, Read}
 use Rattle.zarr_keys.specs.Keys.{session_of, erased_at, key_erased}
@@ -99,6 +99,7 @@ module _ (draw : Draw) (client : ℕ) where
   edited-draws (Set path index bytes) s t known e = stays-draws s t known e
   edited-draws (Fill path index byte) s t known e = stays-draws s t known e
   edited-draws (Unset path index) s t known e = unset-draws s t path index known e
+  edited-draws (Put place numbers) s t known e = stays-draws s t known e
   edited-draws (KeySet key bytes) s t known e = stays-draws s t known e
   edited-draws (KeyErase key) s t known e = key-draws s t key known e
 

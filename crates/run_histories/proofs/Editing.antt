@@ -36,14 +36,15 @@ use Rattle.zarr_keys.specs.Keys.{session_of, meta_value, put_over, erased_at, ke
 use Rattle.play_script.specs.declared.scripts.Call.{Call}
 use Rattle.play_script.specs.declared.scripts.Call.TheVariants.{Edit, Read as Read_call, Commit, Ref, Prop}
 use Rattle.play_script.specs.declared.scripts.EditCall.{EditCall}
-use Rattle.play_script.specs.declared.scripts.EditCall.TheVariants.{Group, Array, Make, Meta, Drop, Set, Fill, Unset, KeySet, KeyErase}
+use Rattle.play_script.specs.declared.scripts.EditCall.TheVariants.{Group, Array, Make, Meta, Drop, Set, Fill, Unset, Put, KeySet, KeyErase}
 use Rattle.play_script.specs.declared.scripts.ReadCall.{ReadCall}
-use Rattle.play_script.specs.declared.scripts.ReadCall.TheVariants.{List as List_call, Get, Chunk, KeyGet}
+use Rattle.play_script.specs.declared.scripts.ReadCall.TheVariants.{List as List_call, Get, Chunk, Cells, KeyGet}
 use Rattle.play_script.specs.declared.scripts.Line.{Line}
 use Rattle.play_script.specs.Well.{IsWellEdit, IsWellCall, IsWellLine}
 use Rattle.play_outcome.specs.declared.outcome.Shown.{Shown}
-use Rattle.play_tasks.specs.Lines.{Deed, Goes, Sets, Reads, Commits, deed, edit_deed, read_deed, edited, read_by, key_shown, key_set_deed, key_get_deed, silent, still}
+use Rattle.play_tasks.specs.Lines.{Deed, Goes, Sets, Reads, Puts, Gathers, Commits, deed, edit_deed, read_deed, edited, read_by, key_shown, key_set_deed, key_get_deed, silent, still}
 use Rattle.play_tasks.specs.Solving.{DidPlay, PlaysAll}
+use Rattle.region_calls.specs.Written.{AreSet}
 use Rattle.run_histories.proofs.Sized.{sized}
 use Rattle.run_histories.proofs.Texts.{same-texts}
 use Rattle.run_histories.proofs.Setting.{set-told, unset-edits}
@@ -119,6 +120,7 @@ edit-leads (Drop path) s well = silent-leads s (node_dropped s path) (λ t e. dr
 edit-leads (Set path index bytes) s well = tt
 edit-leads (Fill path index byte) s well = tt
 edit-leads (Unset path index) s well = silent-leads s (chunk_unset s path index) (λ t e. unset-leads path index s t e)
+edit-leads (Put place numbers) s well = tt
 edit-leads (KeySet key bytes) s well = key-set-leads key bytes (key_of key) s refl
 edit-leads (KeyErase key) s well = silent-leads s (key_erased s key) (λ t e. key-erased-edits key s t e)
 
@@ -126,6 +128,7 @@ read-leads : (line : ℕ) (look : ReadCall) (s : SessionState) → Leads (read_d
 read-leads line (List_call path) s = still-leads s (read_by line (List_call path) s)
 read-leads line (Get path) s = still-leads s (read_by line (Get path) s)
 read-leads line (Chunk path index) s = tt
+read-leads line (Cells place) s = tt
 read-leads line (KeyGet key) s = key-get-leads line (key_of key) s
 
 pub call-leads : (line : ℕ) (call : Call) (s : SessionState) → IsWellCall call → Leads (deed line call s) s
@@ -171,19 +174,32 @@ all-front P [] ys all = All-nil P
 all-front P (x ∷ xs) ys all = All-cons P x xs (All-head P x (xs ++ ys) all) (all-front P xs ys (All-tail P x (xs ++ ys) all))
 
 module _ (ids : AnyIds) (client : ℕ) (start journal : List Event) where
-  deed-went : (s t : SessionState) (shown : List Shown) (d : Deed) → Leads d s → DidPlay client d s start shown t journal → (t ≡ s) ⊎ Edits s t
-  deed-went s t shown (Goes r) leads p = leads shown t p
-  deed-went s t shown (Sets path index bytes) leads p = sets s t (set-told s t path index bytes client start journal p.1)
-  deed-went s t shown (Reads path index show) leads p = inl p.0
-  deed-went s t shown (Commits message) leads p = absurd p
+  led-went : (s t : SessionState) → (t ≡ s) ⊎ Edits s t → GoesOn ids s → WentOn ids s t
+  led-went s t led g = went-behind ids s t t led (went-nowhere ids t t refl (led-goes ids s t led g))
+
+  -- chunks that were set one after another
+  sets-went : (path : List ℕ) (chunks : List (List ℕ × List ℕ)) (s t : SessionState) → GoesOn ids s → AreSet client s path chunks t start journal → WentOn ids s t
+  sets-went path [] s t g a = went-nowhere ids s t a g
+  sets-went path (c ∷ cs) s t g a =
+      let led = sets s a.0 (set-told s a.0 path c.0 c.1 client start journal a.1) in
+      went-behind ids s a.0 t led (sets-went path cs a.0 t (led-goes ids s a.0 led g) a.2)
+
+  deed-went : (s t : SessionState) (shown : List Shown) (d : Deed) → Leads d s → GoesOn ids s → DidPlay client d s start shown t journal → WentOn ids s t
+  deed-went s t shown (Goes r) leads g p = led-went s t (leads shown t p) g
+  deed-went s t shown (Sets path index bytes) leads g p = led-went s t (sets s t (set-told s t path index bytes client start journal p.1)) g
+  deed-went s t shown (Reads path index show) leads g p = went-nowhere ids s t p.0 g
+  deed-went s t shown (Puts path from to numbers) leads g p = sets-went path p.1.chunks s t g p.1.set
+  deed-went s t shown (Gathers path from to show) leads g p = went-nowhere ids s t p.0 g
+  deed-went s t shown (Commits message) leads g p = absurd p
 
   pub lines-went : (lines : List Line) (s t : SessionState) (shown : List Shown) → All IsWellLine lines → GoesOn ids s → PlaysAll client lines s start shown t journal → WentOn ids s t
   unfolding PlaysAll
   lines-went [] s t shown well g p = went-nowhere ids s t p.1 g
   lines-went (l ∷ ls) s t shown well g p =
       let mid : SessionState = p.2 in
-      let led = deed-went s mid p.0 (deed l.number l.call s) (call-leads l.number l.call s (All-head IsWellLine l ls well).call) p.4 in
-      went-behind ids s mid t led (lines-went ls mid t p.1 (All-tail IsWellLine l ls well) (led-goes ids s mid led g) p.5)
+      let one = deed-went s mid p.0 (deed l.number l.call s) (call-leads l.number l.call s (All-head IsWellLine l ls well).call) g p.4 in
+      let rest = lines-went ls mid t p.1 (All-tail IsWellLine l ls well) one.goes p.5 in
+      record { goes = rest.goes; base = rest.base ∙ one.base; rows = rest.rows ∙ one.rows }
 
 -- ---- its beginning
 -- a session as it began

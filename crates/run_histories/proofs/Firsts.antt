@@ -18,7 +18,7 @@ use Rattle.play_expire.specs.Playing.{terms_of}
 use Rattle.play_script.specs.Collections.{has_collection, is_collection}
 use Rattle.play_script.specs.Well.{IsWellTask}
 use Rattle.play_script.specs.declared.scripts.Head.{Head}
-use Rattle.play_script.specs.declared.scripts.Head.TheVariants.{Session, Refs, Collect, Expire}
+use Rattle.play_script.specs.declared.scripts.Head.TheVariants.{Session, Refs, Collect, Expire, Check}
 use Rattle.play_script.specs.declared.scripts.Task.{Task}
 use Rattle.play_tasks.specs.Owing.{OwesBy}
 use Rattle.play_tasks.specs.Solving.{IsOfTask}
@@ -28,6 +28,7 @@ use Rattle.run_histories.specs.Sources.{IsLeftUnput, IsNewRun, IsUnputRun, Objec
 use Rattle.run_histories.specs.Told.{HasCollections, IsOfCollection, KeepsObjects, RemovesCollecting}
 use Rattle.run_histories.proofs.Along.{ComesOnce, IsOfOpener, IsOfRun, PutsUnused, StaysOnce, among-at, by-head, opener-stays, owes-plain, plain-stays}
 use Rattle.run_histories.proofs.Expiring.{expiry-keeps}
+use Rattle.run_histories.proofs.Checking.{read-plain}
 use Rattle.run_histories.proofs.Programs.{IsPlain, begin-plain, path-plain, refs-plain}
 use Rattle.run_histories.proofs.Removals.{AllObjectsAreNew, IsRemoval, objects-one, owes-keeps, plain-keeps, removes-op, unused-key}
 use Rattle.run_histories.proofs.Sources.{object-not_initial}
@@ -100,6 +101,7 @@ module _ (draw : Draw) (tasks : List Task) (start journal : List Event) (event :
       by_head Refs e o = absurd (plain-keeps event.op (owes-plain event.op o) removal)
       by_head (Collect cutoff) e o = record { place = c.place; task = c.task; cutoff = cutoff; at = c.at; head_is = e; client_is = c.client }
       by_head (Expire cutoff drop_branches drop_tags) e o = absurd (expiry-keeps (terms_of cutoff drop_branches drop_tags) (c.place + 1) start journal event.op o removal)
+      by_head Check e o = absurd (plain-keeps event.op (read-plain event.op o) removal)
 
   -- so where no task collects, it removes none
   client-keeps : has_collection tasks ≡ false → Keeps journal event

@@ -20,6 +20,7 @@ pub mod Walked
 pub mod Single
 pub mod Removals
 pub mod Expiring
+pub mod Checking
 pub mod Along
 pub mod Unput
 pub mod Firsts

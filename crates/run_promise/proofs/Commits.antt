@@ -73,6 +73,7 @@ edit-commits (E.Make path text) s message e = cc
 edit-commits (E.Meta path text) s message e = cc
 edit-commits (E.Drop path) s message e = cc
 edit-commits (E.Unset path index) s message e = cc
+edit-commits (E.Put place numbers) s message e = cc
 edit-commits (E.KeySet key bytes) s message e = key-set-commits bytes (key_of key) s message e
 edit-commits (E.KeyErase key) s message e = cc
 
@@ -85,6 +86,7 @@ read-commits : (number : ℕ) (look : ReadCall) (s : SessionState) (message : Li
 read-commits number (L.List path) s message e = cc
 read-commits number (L.Get path) s message e = cc
 read-commits number (L.Chunk path index) s message e = cc
+read-commits number (L.Cells place) s message e = cc
 read-commits number (L.KeyGet key) s message e = key-get-commits number (key_of key) s message e
 
 call-commits : (number : ℕ) (call : Call) (s : SessionState) (message : List ℕ) → line.deed number call s ≡ line.Commits message → call ≡ C.Commit message

@@ -29,8 +29,8 @@ use Rattle.chunk_calls.specs.Told.{SetTells, GetTells, IsOfSet, IsOfGet}
 use Rattle.play_script.specs.declared.scripts.Access.{Access}
 use Rattle.play_script.specs.declared.scripts.Line.{Line}
 use Rattle.play_outcome.specs.declared.outcome.End.{End}
-use Rattle.play_outcome.specs.declared.outcome.End.TheVariants.{Refused, InDoubt}
-use Rattle.play_tasks.specs.Lines.{Deed, Goes, Sets, Reads, Commits, deed}
+use Rattle.play_outcome.specs.declared.outcome.End.TheVariants.{Refused}
+use Rattle.play_tasks.specs.Lines.{Deed, Goes, Sets, Reads, Puts, Gathers, Commits, deed}
 use Rattle.play_tasks.specs.Telling as told
 use Rattle.run_promise.specs.Promise.{TakesEffect, HasCommitted, EndsRight}
 
@@ -228,6 +228,8 @@ module _ (trees : Id12 → Option Tree) (client : ℕ) (start journal : List Eve
   refused-none (Goes went) s why t = nothing t.1
   refused-none (Sets path index bytes) s why t = set-none s path index bytes why t
   refused-none (Reads path index show) s why t = get-none s path index why t
+  refused-none (Puts path from to numbers) s why t = nothing t.2
+  refused-none (Gathers path from to show) s why t = nothing t.2
   refused-none (Commits message) s why t = absurd t
 
   -- ---- how the lines end

@@ -1,6 +1,6 @@
 -- What a line of a script does to a session, in words of trees.
-use Rattle.std.proofs.Common.{◌≡◌, ◌⊎◌, ◌≤◌, inl, inr, ℕ, Bool, true, false, cond, List, [], ◌∷◌, length, refl, sym, ◌∙◌, ap, subst, Result, Ok, Err}
-use Rattle.std.specs.Prelude.{Option, Some, None, is_some, map, filter, option_map, ok_or}
+use Rattle.std.proofs.Common.{◌≡◌, ◌⊎◌, ◌≤◌, inl, inr, ℕ, Bool, true, false, cond, List, [], ◌∷◌, length, refl, sym, ◌∙◌, ap, subst, ℤ, Result, Ok, Err}
+use Rattle.std.specs.Prelude.{Option, Some, None, is_some, map, filter, option_map, option_and_then, ok_or}
 use Rattle.std.specs.FinMap.{get, entries}
 use Rattle.ice_ids.specs.declared.Id8.{Id8}
 use Rattle.ice_ids.specs.declared.Id12.{Id12}
@@ -15,7 +15,7 @@ use Rattle.zarr_meta.specs.declared.views.View.{View}
 use Rattle.zarr_meta.specs.Plain.{group_text}
 use Rattle.zarr_tree.specs.declared.edit.EditFault.{EditFault}
 use Rattle.zarr_tree.specs.declared.edit.EditFault.TheVariants as Fault
-use Rattle.zarr_tree.specs.Nodes.{Node, is_array}
+use Rattle.zarr_tree.specs.Nodes.{Node, is_array, array_in}
 use Rattle.zarr_tree.specs.Trees.{Tree, node_at, IsWellFormed}
 use Rattle.zarr_tree.specs.Edits.{Edit, Add, SetMeta, Drop, Set, Unset, change, refusal, unless}
 use Rattle.zarr_tree.specs.Changes.{Changes, apply, extended, IsNormal, IsFresh, CanExtend, result_map}
@@ -50,7 +50,11 @@ use Rattle.changed_snapshot.specs.Laws.{KeepsFrozen}
 use Rattle.chunk_calls.specs.Told.{WasObjectPut, WasPutOut, WasSet, IsChunk, value_of}
 use Rattle.chunk_calls.proofs.Setting.{taken, entries-opened, chunk-opened}
 use Rattle.commit_path.proofs.Putting.{extends-same}
+use Rattle.array_region.proofs.Planned.{at_array}
+use Rattle.region_calls.specs.Told.{AreCells}
+use Rattle.region_calls.specs.Written.{AreSet, WasWritten}
 use Rattle.zarr_keys.specs.Keys.{session_of, node_value, meta_value, meta_put, put_over, erased_at, key_erased}
+use Rattle.array_region.specs.Cells.{cells_of}
 use Rattle.play_script.specs.declared.scripts.EditCall.{EditCall}
 use Rattle.play_script.specs.declared.scripts.EditCall.TheVariants as E
 use Rattle.play_script.specs.declared.scripts.ReadCall.{ReadCall}
@@ -62,7 +66,7 @@ use Rattle.play_outcome.specs.declared.outcome.Shown.TheVariants as S
 use Rattle.play_tasks.specs.Lines as line
 use Rattle.play_tasks.specs.Solving.{DidPlay}
 use Rattle.run_promise.proofs.Objects.{object-bytes, object-put}
-use Rattle.run_promise.specs.Lines.{edit_of, text_put, key_put, key_erase, shown_of, key_shown, chunk_shown, beneath_shown, Edits, Does}
+use Rattle.run_promise.specs.Lines.{edit_of, text_put, key_put, key_erase, shown_of, key_shown, chunk_shown, cells_shown, beneath_shown, Edits, Changed, Does}
 
 -- both sessions' changes are normal for the tree of their base, which is well formed
 pub record AreNormal (puts : Puts) (s t : SessionState) : Type 0 where
@@ -262,7 +266,12 @@ module _ (client : ℕ) (start journal : List Event) (good : IsGoodJournal journ
       (λ e. put-took put journal s (E.KeySet key bytes) path bytes t (get (nodes_seen s) path) (λ id. ap (λ (k : Option ZarrKey). key_put k id bytes (overlay put s)) is) e) d
   key_set-did key bytes s t shown (Some (K.Chunk path index)) is d = set-did (E.KeySet key bytes) s t shown path index bytes (λ id. ap (λ (k : Option ZarrKey). key_put k id bytes (overlay put s)) is) d
 
-  pub edit-did : (edit : EditCall) (s t : SessionState) (shown : List Shown) → DidPlay client (line.edit_deed edit s) s start shown t journal → Did put journal s edit t shown
+  -- such an edit, or numbers were put into a box
+  abbrev pub DidOne : EditCall → SessionState → SessionState → List Shown → Type 0
+  DidOne (E.Put place numbers) s t shown = (shown ≡ []) × WasWritten client s place.path place.from place.to numbers t start journal
+  DidOne edit s t shown = Did put journal s edit t shown
+
+  pub edit-did : (edit : EditCall) (s t : SessionState) (shown : List Shown) → DidPlay client (line.edit_deed edit s) s start shown t journal → DidOne edit s t shown
   unfolding key_erased
   edit-did (E.Group path) s t shown d =
       silent-did put journal s (E.Group path) t shown (session_of (group_added s path group_text)) (λ e. added-took put journal s (E.Group path) group_fault (λ bad. refl) path group_text t (λ id. refl) (group_added s path group_text) refl e) d
@@ -276,10 +285,35 @@ module _ (client : ℕ) (start journal : List Event) (good : IsGoodJournal journ
   edit-did (E.KeyErase key) s t shown d = silent-did put journal s (E.KeyErase key) t shown (key_erased s key) (λ e. erased-took put journal s (E.KeyErase key) t (key_of key) refl e) d
   edit-did (E.Set path index bytes) s t shown d = set-did (E.Set path index bytes) s t shown path index bytes (λ id. refl) d
   edit-did (E.Fill path index byte) s t shown d = set-did (E.Fill path index byte) s t shown path index (line.filled s path byte) (λ id. refl) d
+  edit-did (E.Put place numbers) s t shown d = d
   edit-did (E.KeySet key bytes) s t shown d = key_set-did key bytes s t shown (key_of key) refl d
 
-  pub did-edits : (edit : EditCall) (s t : SessionState) (shown : List Shown) → Did put journal s edit t shown → AreNormal put s t → Edits edit (overlay put s) shown (overlay put t)
-  did-edits edit s t shown d n = record { id = d.took.id; made = d.took.made; asked = d.took.asked; changed = d.took.takes n; silent = d.silent }
+  made-edits : (edit : EditCall) (s t : SessionState) (shown : List Shown) → Did put journal s edit t shown → AreNormal put s t → Edits edit (overlay put s) shown (overlay put t)
+  made-edits edit s t shown d n = record { id = d.took.id; made = d.took.made; asked = d.took.asked; changed = d.took.takes n; silent = d.silent }
+
+  pub did-edits : (edit : EditCall) (s t : SessionState) (shown : List Shown) → DidOne edit s t shown → KeepsFrozen s.held s.rows → AreNormal put s t → Changed edit (overlay put s) shown (overlay put t)
+  did-edits (E.Group path) s t shown d frozen n = made-edits (E.Group path) s t shown d n
+  did-edits (E.Array path text) s t shown d frozen n = made-edits (E.Array path text) s t shown d n
+  did-edits (E.Make path text) s t shown d frozen n = made-edits (E.Make path text) s t shown d n
+  did-edits (E.Meta path text) s t shown d frozen n = made-edits (E.Meta path text) s t shown d n
+  did-edits (E.Drop path) s t shown d frozen n = made-edits (E.Drop path) s t shown d n
+  did-edits (E.Set path index bytes) s t shown d frozen n = made-edits (E.Set path index bytes) s t shown d n
+  did-edits (E.Fill path index byte) s t shown d frozen n = made-edits (E.Fill path index byte) s t shown d n
+  did-edits (E.Unset path index) s t shown d frozen n = made-edits (E.Unset path index) s t shown d n
+  did-edits (E.KeySet key bytes) s t shown d frozen n = made-edits (E.KeySet key bytes) s t shown d n
+  did-edits (E.KeyErase key) s t shown d frozen n = made-edits (E.KeyErase key) s t shown d n
+  did-edits (E.Put place numbers) s t shown d frozen n =
+      let w = d.1 in
+      let at = at_array s place.path w.node w.array w.found in
+      record {
+        array = w.array;
+        there = ap (option_and_then (λ (node : Node). array_in node.text)) at.found ∙ at.is;
+        count = w.count;
+        counted = w.counted;
+        fit = w.fit;
+        box = w.tree once put (extends-same put) frozen n.before.well_formed;
+        silent = d.0;
+      }
 
   -- ---- what a read shows
   nodes-shown : (number : ℕ) (rows : List (List ℕ × Node)) → map (line.node_shown number) (map listing rows) ≡ map (λ row. S.Node number (is_array row.1.text) row.0) rows
@@ -340,14 +374,20 @@ module _ (client : ℕ) (start journal : List Event) (good : IsGoodJournal journ
   look-stays number (R.List path) s t shown d = still-stays s t shown (line.read_by number (R.List path) s) d
   look-stays number (R.Get path) s t shown d = still-stays s t shown (line.read_by number (R.Get path) s) d
   look-stays number (R.Chunk path index) s t shown d = d.0
+  look-stays number (R.Cells place) s t shown d = d.0
   look-stays number (R.KeyGet key) s t shown d = key-stays number s t shown (key_of key) d
 
-  pub read-shown : (number : ℕ) (look : ReadCall) (s t : SessionState) (shown : List Shown) → KeepsFrozen s.held s.rows → DidPlay client (line.read_deed number look s) s start shown t journal → (shown_of number look (overlay put s) ≡ Some shown) × (t ≡ s)
-  read-shown number (R.List path) s t shown frozen d = list-shown number path s t shown (get (nodes_seen s) path) d
-  read-shown number (R.Get path) s t shown frozen d = get-shown number s t shown (get (nodes_seen s) path) d
-  read-shown number (R.Chunk path index) s t shown frozen d =
+  -- so are the numbers of a box
+  cells-are : (s : SessionState) (path from to : List ℕ) (numbers : List ℤ) → KeepsFrozen s.held s.rows → IsWellFormed (overlay put s) → AreCells s path from to numbers journal → cells_of (overlay put s) path from to ≡ Some numbers
+  cells-are s path from to numbers frozen well are = are once put (extends-same put) frozen well
+
+  pub read-shown : (number : ℕ) (look : ReadCall) (s t : SessionState) (shown : List Shown) → KeepsFrozen s.held s.rows → IsWellFormed (overlay put s) → DidPlay client (line.read_deed number look s) s start shown t journal → (shown_of number look (overlay put s) ≡ Some shown) × (t ≡ s)
+  read-shown number (R.List path) s t shown frozen well d = list-shown number path s t shown (get (nodes_seen s) path) d
+  read-shown number (R.Get path) s t shown frozen well d = get-shown number s t shown (get (nodes_seen s) path) d
+  read-shown number (R.Chunk path index) s t shown frozen well d =
       (ap (λ (x : Shown). Some (x ∷ [])) (chunk-shown number d.1 ((overlay put s).chunk path index) (held-is s path index d.1 frozen d.3)) ∙ ap (λ (xs : List Shown). Some xs) (sym d.2), d.0)
-  read-shown number (R.KeyGet key) s t shown frozen d = key_get-shown number s t shown (key_of key) frozen d
+  read-shown number (R.Cells place) s t shown frozen well d = (ap (cells_shown number) (cells-are s place.path place.from place.to d.1 frozen well d.3) ∙ ap (λ (xs : List Shown). Some xs) (sym d.2), d.0)
+  read-shown number (R.KeyGet key) s t shown frozen well d = key_get-shown number s t shown (key_of key) frozen d
 
   -- a property shows nothing, and leaves the tree
   prop-did : (s t : SessionState) (name value : List ℕ) (shown : List Shown) → line.silent (prop_added s name value) ≡ Ok (shown, t) → (shown ≡ []) × PropAdded s t name value
@@ -361,8 +401,8 @@ module _ (client : ℕ) (start journal : List Event) (good : IsGoodJournal journ
 
   -- ---- a line
   pub line-does : (number : ℕ) (call : Call) (s t : SessionState) (shown : List Shown) → KeepsFrozen s.held s.rows → AreNormal put s t → DidPlay client (line.deed number call s) s start shown t journal → Does number call (overlay put s) shown (overlay put t)
-  line-does number (C.Edit edit) s t shown frozen n d = did-edits edit s t shown (edit-did edit s t shown d) n
-  line-does number (C.Read look) s t shown frozen n d = let r = read-shown number look s t shown frozen d in (r.0, ap (overlay put) r.1)
+  line-does number (C.Edit edit) s t shown frozen n d = did-edits edit s t shown (edit-did edit s t shown d) frozen n
+  line-does number (C.Read look) s t shown frozen n d = let r = read-shown number look s t shown frozen n.before.well_formed d in (r.0, ap (overlay put) r.1)
   line-does number (C.Commit message) s t shown frozen n d = absurd d
   line-does number (C.Ref call) s t shown frozen n d =
       let same = pair-same ([], s) (shown, t) d in
@@ -380,8 +420,32 @@ module _ (client : ℕ) (start journal : List Event) (good : IsGoodJournal journ
   same-goes : (s t : SessionState) → t ≡ s → IsOpened s journal → GoesOn s t
   same-goes s t is o = record { opened = subst (λ (x : SessionState). IsOpened x journal) (sym is) o; rows = ap (λ (x : SessionState). x.rows) is; at = ap (λ (x : SessionState). x.base) is }
 
+  did-goes : (edit : EditCall) (s t : SessionState) (shown : List Shown) → Did put journal s edit t shown → IsOpened s journal → GoesOn s t
+  did-goes edit s t shown d o = record { opened = d.took.opened o; rows = d.took.rows; at = d.took.at }
+
+  -- chunks that were set one after another
+  sets-go : (path : List ℕ) (chunks : List (List ℕ × List ℕ)) (s t : SessionState) → AreSet client s path chunks t start journal → IsOpened s journal → GoesOn s t
+  sets-go path [] s t a o = same-goes s t a o
+  sets-go path (c ∷ cs) s t a o =
+      let one = did-goes (E.Set path c.0 c.1) s a.0 [] (set-did (E.Set path c.0 c.1) s a.0 [] path c.0 c.1 (λ id. refl) (refl, a.1)) o in
+      let rest = sets-go path cs a.0 t a.2 one.opened in
+      record { opened = rest.opened; rows = rest.rows ∙ one.rows; at = rest.at ∙ one.at }
+
+  edit-goes : (edit : EditCall) (s t : SessionState) (shown : List Shown) → DidOne edit s t shown → IsOpened s journal → GoesOn s t
+  edit-goes (E.Group path) s t shown d o = did-goes (E.Group path) s t shown d o
+  edit-goes (E.Array path text) s t shown d o = did-goes (E.Array path text) s t shown d o
+  edit-goes (E.Make path text) s t shown d o = did-goes (E.Make path text) s t shown d o
+  edit-goes (E.Meta path text) s t shown d o = did-goes (E.Meta path text) s t shown d o
+  edit-goes (E.Drop path) s t shown d o = did-goes (E.Drop path) s t shown d o
+  edit-goes (E.Set path index bytes) s t shown d o = did-goes (E.Set path index bytes) s t shown d o
+  edit-goes (E.Fill path index byte) s t shown d o = did-goes (E.Fill path index byte) s t shown d o
+  edit-goes (E.Unset path index) s t shown d o = did-goes (E.Unset path index) s t shown d o
+  edit-goes (E.KeySet key bytes) s t shown d o = did-goes (E.KeySet key bytes) s t shown d o
+  edit-goes (E.KeyErase key) s t shown d o = did-goes (E.KeyErase key) s t shown d o
+  edit-goes (E.Put place numbers) s t shown d o = sets-go place.path d.1.chunks s t d.1.set o
+
   pub line-goes : (number : ℕ) (call : Call) (s t : SessionState) (shown : List Shown) → DidPlay client (line.deed number call s) s start shown t journal → IsOpened s journal → GoesOn s t
-  line-goes number (C.Edit edit) s t shown d o = let did = edit-did edit s t shown d in record { opened = did.took.opened o; rows = did.took.rows; at = did.took.at }
+  line-goes number (C.Edit edit) s t shown d o = edit-goes edit s t shown (edit-did edit s t shown d) o
   line-goes number (C.Read look) s t shown d o = same-goes s t (look-stays number look s t shown d) o
   line-goes number (C.Commit message) s t shown d o = absurd d
   line-goes number (C.Prop name value) s t shown d o =

@@ -1,6 +1,6 @@
 -- What the lines of a script do to the tree that a session sees, and what they show: in words of trees alone. (Zarr v3 core specification,
 -- "Hierarchy", "Chunks", "Stores".)
-use Rattle.std.specs.Prelude.{◌≡◌, ℕ, List, [], ◌∷◌, ◌++◌, map, filter, replicate, Option, Some, None, option_map, Ok}
+use Rattle.std.specs.Prelude.{◌≡◌, ℕ, ℤ, List, [], ◌∷◌, ◌++◌, map, filter, replicate, Option, Some, None, option_map, Ok}
 use Rattle.std.specs.FinMap.{entries}
 use Rattle.ice_ids.specs.declared.Id8.{Id8}
 use Rattle.zarr_path.specs.Paths.{is_beneath}
@@ -11,6 +11,12 @@ use Rattle.zarr_meta.specs.Plain.{group_text}
 use Rattle.zarr_tree.specs.Nodes.{Node, is_array}
 use Rattle.zarr_tree.specs.Trees.{Tree, node_at}
 use Rattle.zarr_tree.specs.Edits.{Edit, Add, SetMeta, Drop, Set, Unset, change}
+use Rattle.zarr_meta.specs.declared.views.ArrayView.{ArrayView}
+use Rattle.array_region.specs.Cells.{array_of_tree, cells_of}
+use Rattle.array_region.specs.Planning.{box_count}
+use Rattle.array_region.specs.Writing.{cells_refused}
+use Rattle.region_calls.specs.Written.{IsTreeWith}
+use Rattle.play_script.specs.declared.scripts.CellBox.{CellBox}
 use Rattle.play_script.specs.declared.scripts.EditCall.{EditCall}
 use Rattle.play_script.specs.declared.scripts.EditCall.TheVariants as E
 use Rattle.play_script.specs.declared.scripts.ReadCall.{ReadCall}
@@ -39,7 +45,7 @@ key_erase None = None
 key_erase (Some (K.Meta path)) = Some (Drop path)
 key_erase (Some (K.Chunk path index)) = Some (Unset path index)
 
--- the edit of the tree that a line asks for; a node that it adds gets this id
+-- the edit of the tree that a line asks for; a node that it adds gets this id. What puts numbers into a box asks for none.
 abbrev pub edit_of : EditCall → Id8 → Tree → Option Edit
 edit_of (E.Group path) id t = Some (Add path id group_text)
 edit_of (E.Array path text) id t = Some (Add path id text)
@@ -49,6 +55,7 @@ edit_of (E.Drop path) id t = Some (Drop path)
 edit_of (E.Set path index bytes) id t = Some (Set path index bytes)
 edit_of (E.Fill path index byte) id t = Some (Set path index (replicate (length_at (node_at t path)) byte))
 edit_of (E.Unset path index) id t = Some (Unset path index)
+edit_of (E.Put place numbers) id t = None
 edit_of (E.KeySet key bytes) id t = key_put (key_of key) id bytes t
 edit_of (E.KeyErase key) id t = key_erase (key_of key)
 
@@ -67,11 +74,16 @@ key_shown line None t = None
 key_shown line (Some (K.Meta path)) t = Some (S.Key line (option_map (λ (node : Node). node.text) (node_at t path)) ∷ [])
 key_shown line (Some (K.Chunk path index)) t = Some (S.Key line (t.chunk path index) ∷ [])
 
+-- the numbers of a box's cells
+abbrev pub cells_shown : ℕ → Option (List ℤ) → Option (List Shown)
+cells_shown line numbers = option_map (λ (held : List ℤ). S.Cells line held ∷ []) numbers
+
 -- what a read in this line of the script shows of the tree, unless it is refused
 abbrev pub shown_of : ℕ → ReadCall → Tree → Option (List Shown)
 shown_of line (R.List path) t = option_map (λ (node : Node). beneath_shown line t path) (node_at t path)
 shown_of line (R.Get path) t = option_map (λ (node : Node). S.Meta line node.text ∷ []) (node_at t path)
 shown_of line (R.Chunk path index) t = Some (chunk_shown line (t.chunk path index) ∷ [])
+shown_of line (R.Cells place) t = cells_shown line (cells_of t place.path place.from place.to)
 shown_of line (R.KeyGet key) t = key_shown line (key_of key) t
 
 -- ---- lines
@@ -83,10 +95,25 @@ pub record Edits (edit : EditCall) (t : Tree) (shown : List Shown) (u : Tree) : 
   pub changed : change t made ≡ Ok u
   pub silent : shown ≡ []
 
+-- Numbers that were put into a box: the tree has the array, the box lies in it, and it has as many cells as there are numbers, each of the array's type.
+-- Behind it the box has these numbers, each other cell the one that it had, and all else is as it was; and nothing is shown.
+pub record PutsBox (place : CellBox) (numbers : List ℤ) (t : Tree) (shown : List Shown) (u : Tree) : Type 0 where
+  pub array : ArrayView
+  pub there : array_of_tree t place.path ≡ Some array
+  pub count : ℕ
+  pub counted : box_count array place.from place.to ≡ Ok count
+  pub fit : cells_refused array.kind count numbers ≡ None
+  pub box : IsTreeWith place.path array place.from place.to numbers t u
+  pub silent : shown ≡ []
+
+abbrev pub Changed : EditCall → Tree → List Shown → Tree → Type 0
+Changed (E.Put place numbers) t shown u = PutsBox place numbers t shown u
+Changed edit t shown u = Edits edit t shown u
+
 -- A call that was played on a session that sees the tree t, what it showed, and the tree behind it. A commit is none of these; calls on refs stand in
 -- no session's body; a property is the commit's, and leaves the tree as it is.
 abbrev pub Does : ℕ → Call → Tree → List Shown → Tree → Type 0
-Does line (C.Edit edit) t shown u = Edits edit t shown u
+Does line (C.Edit edit) t shown u = Changed edit t shown u
 Does line (C.Read read) t shown u = (shown_of line read t ≡ Some shown) × (u ≡ t)
 Does line (C.Commit message) t shown u = ⊥
 Does line (C.Ref call) t shown u = (shown ≡ []) × (u ≡ t)

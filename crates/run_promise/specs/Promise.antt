@@ -26,7 +26,7 @@ use Rattle.play_script.specs.declared.scripts.Line.{Line}
 use Rattle.play_script.specs.declared.scripts.Task.{Task}
 use Rattle.play_outcome.specs.declared.outcome.Shown.{Shown}
 use Rattle.play_outcome.specs.declared.outcome.End.{End}
-use Rattle.play_outcome.specs.declared.outcome.End.TheVariants.{Committed, Collected, Done, Refused, Stopped, InDoubt, Expired}
+use Rattle.play_outcome.specs.declared.outcome.End.TheVariants.{Committed, Collected, Done, Refused, Stopped, InDoubt, Expired, Checked}
 use Rattle.play_outcome.specs.declared.outcome.Outcome.{Outcome}
 use Rattle.play_outcome.specs.declared.outcome.RefLine.{RefLine}
 use Rattle.play_tasks.specs.Playing.{policy_of}
@@ -145,7 +145,7 @@ pub record HasCommitted (files : Files) (client : ℕ) (id : Id12) (start journa
   pub takes_effect : TakesEffect files before event branch old id
 
 -- A task that tells a commit made it, and one that is in doubt made the commit of that snapshot, or none; any other made none. No task of a session
--- tells a collection or an expiry.
+-- tells a collection, an expiry or a check.
 abbrev pub EndsRight : Files → ℕ → End → (start journal : List Event) → Type 0
 EndsRight files client (Committed id) start journal = HasCommitted files client id start journal
 EndsRight files client (Collected removed) start journal = ⊥
@@ -154,6 +154,7 @@ EndsRight files client (Refused line why) start journal = (id : Id12) → ¬ Has
 EndsRight files client (Stopped line why removed) start journal = ⊥
 EndsRight files client (InDoubt id how) start journal = (other : Id12) → HasCommitted files client other start journal → other ≡ id
 EndsRight files client (Expired line cases result) start journal = ⊥
+EndsRight files client (Checked line faults result) start journal = ⊥
 
 -- ---- the promise
 -- Of a run over a journal that was old, whose tasks began at start and ended with these outcomes, nobody else acting; `changes` are those of the commit

@@ -21,7 +21,7 @@ use Rattle.zarr_tree.specs.Held.{Held, changes_of, nodes_over}
 use Rattle.zarr_tree.proofs.Maps.{get-put, same}
 use Rattle.zarr_tree.proofs.Extend.{put_added}
 use Rattle.zarr_changes.specs.Edits.{with_added}
-use Rattle.zarr_changes.specs.Sets.{add_refusal}
+use Rattle.zarr_changes.specs.Sets.{add_refusal, Enters}
 use Rattle.manifest_file.specs.declared.manifest.Place.{Place}
 use Rattle.store_api.specs.declared.machines.Refusal.{Refusal}
 use Rattle.store_api.specs.declared.machines.Refusal.TheVariants as R
@@ -71,9 +71,39 @@ told expected s E.OutOfGrid e = (e, refl)
 told expected s (E.ChunkLength want got) e = (e, refl)
 told expected s E.NoMemory e = inl refl
 
+-- a refused edit leaves what is held
+pub edit_kept : (refusal : Option EditFault) (made before after : Held Place) (fault : EditFault) → Enters refusal made before (Err fault) after → after ≡ before
+edit_kept refusal made before after E.NodeExists e = e.1
+edit_kept refusal made before after E.NoParent e = e.1
+edit_kept refusal made before after E.Full e = e.1
+edit_kept refusal made before after E.NoNode e = e.1
+edit_kept refusal made before after (E.FrozenField part) e = e.1
+edit_kept refusal made before after E.NotArray e = e.1
+edit_kept refusal made before after E.OutOfGrid e = e.1
+edit_kept refusal made before after (E.ChunkLength want got) e = e.1
+edit_kept refusal made before after E.NoMemory e = e
+
 module _ (s : SessionState) (p text : List ℕ) where
+  by_refusal : (fault : EditFault) → add_refusal (nodes_seen s) p ≡ Some fault → entered s p text ≡ Err (refusal_of_edit fault)
+  by_refusal fault e = refused_by (add_refusal (nodes_seen s) p) (drawn_node s p text (drawn8 s.ids)) fault e
+
+  same_held : (after : Held Place) → after ≡ s.held → record s { held = after } ≡ s
+  same_held after e = ap (λ (h : Held Place). record s { held = h }) e
+
   pub refused : (fault : EditFault) → Err fault ≡ unless (add_refusal (nodes_seen s) p) (tt {0}) → Adds (entered s p text) s (Err (refusal_of_edit fault)) s
-  refused fault e = told (entered s p text) s fault (refused_by (add_refusal (nodes_seen s) p) (drawn_node s p text (drawn8 s.ids)) fault (unless_err (add_refusal (nodes_seen s) p) fault e))
+  refused fault e = told (entered s p text) s fault (by_refusal fault (unless_err (add_refusal (nodes_seen s) p) fault e))
+
+  -- the set of changes refuses it
+  pub edit_refused : (made after : Held Place) (fault : EditFault) → Enters (add_refusal (nodes_seen s) p) made s.held (Err fault) after → Adds (entered s p text) s (Err (refusal_of_edit fault)) (record s { held = after })
+  edit_refused made after E.NodeExists e = (by_refusal E.NodeExists e.0, same_held after e.1)
+  edit_refused made after E.NoParent e = (by_refusal E.NoParent e.0, same_held after e.1)
+  edit_refused made after E.Full e = (by_refusal E.Full e.0, same_held after e.1)
+  edit_refused made after E.NoNode e = (by_refusal E.NoNode e.0, same_held after e.1)
+  edit_refused made after (E.FrozenField part) e = (by_refusal (E.FrozenField part) e.0, same_held after e.1)
+  edit_refused made after E.NotArray e = (by_refusal E.NotArray e.0, same_held after e.1)
+  edit_refused made after E.OutOfGrid e = (by_refusal E.OutOfGrid e.0, same_held after e.1)
+  edit_refused made after (E.ChunkLength want got) e = (by_refusal (E.ChunkLength want got) e.0, same_held after e.1)
+  edit_refused made after E.NoMemory e = inl (same_held after e)
 
   by_draw : (id : Option Id8) → add_refusal (nodes_seen s) p ≡ None → drawn8 s.ids ≡ id → entered s p text ≡ drawn_node s p text id
   by_draw id r n = taken (add_refusal (nodes_seen s) p) (drawn_node s p text (drawn8 s.ids)) r ∙ ap (drawn_node s p text) n

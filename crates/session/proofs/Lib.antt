@@ -5,3 +5,4 @@ pub mod SeenRows
 pub mod Chunking
 pub mod ReadSteps
 pub mod PropAdding
+pub mod Places

@@ -9,3 +9,4 @@ pub mod Setting
 pub mod Getting
 pub mod inside
 pub mod Arrays
+pub mod Placing

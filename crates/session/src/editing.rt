@@ -1,6 +1,7 @@
 //! Edits of nodes.
 
-ghost use Rattle.std.specs.Prelude.{◌≡◌};
+ghost use Rattle.std.specs.Prelude.{◌≡◌, ℕ, List, None, Err};
+ghost use Rattle.ice_ids.specs.Drawing.{drawn8};
 ghost use Rattle.session.specs.Editing.{Adds, Leaves, array_added, array_fault, entered, group_added, group_fault, meta_set, node_added, node_dropped, node_fault, refusal_of_edit};
 ghost use Rattle.session.specs.inside.Reads.{Reads};
 
@@ -71,21 +72,30 @@ impl Session {
         }
     }
 
-    /// Adds a node with this metadata at a path, and answers its id.
+    /// Why no node is added at a path where no id is left.
+    fn spent(&self, path: &Path) -> Refusal
+        requires { drawn8 self.now.ids ≡ None }
+        ensures { (text : List ℕ) → Adds (entered self.now path.now text) self.now (Err result) self.now }
+    {
+        match self.changes.may_add(&self.loaded, path) {
+            Ok(()) => Refusal::IdsSpent,
+            Err(fault) => refusal_of_edit(fault),
+        }
+    }
+
+    /// Adds a node with this metadata at a path, and answers its id. The id counts as drawn only where the node is there.
     fn add(&mut self, path: &Path, meta: SharedMeta) -> Result<Id8, Refusal>
         ensures { Adds (entered self.old path.now meta.text) self.old result self.new }
     {
-        if let Err(fault) = self.changes.may_add(&self.loaded, path) {
+        let mut ids = self.ids;
+        let Some(id) = ids.next8() else {
             drop(meta);
-            return Err(refusal_of_edit(fault));
-        }
-        let Some(id) = self.ids.next8() else {
-            drop(meta);
-            return Err(Refusal::IdsSpent);
+            return Err(self.spent(path));
         };
         if let Err(fault) = self.changes.add(self.alloc, &self.loaded, path, id, meta) {
             return Err(refusal_of_edit(fault));
         }
+        self.ids = ids;
         Ok(id)
     }
 

@@ -4,6 +4,7 @@
 //! kinds.
 #![tactic(auto)]
 
+mod checks;
 mod ends;
 mod expiries;
 mod refusals;

@@ -1,15 +1,17 @@
 //! Reports of runs. ` | ` stands between the opening, the tasks and the refs. A task is a name, what it showed and how it ended:
 //! `c - refused 10 NoNode`; `a 2=/,13:array=/a/b done` showed a group and an array in the lines 2 and 13, and
-//! `b 7:log=ID+unit=kelvin done` a snapshot of a log with a property; `d - collected 3 2 1 40` collected, and `e - stopped 7 3 2 1 40 StoreFault` was refused in the line 7 behind so many removals; of `f - expired`
-//! the rest is in `expiries`; `g - indoubt 1CECHNKREP0F1RSTCMT0 unsettled Missing ..` was left in doubt. `; ` stands between tasks, and `, ` between refs like `tag v 1=1CECHNKREP0F1RSTCMT0`. In the place of an
+//! `b 7:log=ID+unit=kelvin done` a snapshot of a log with a property, `b 8:cells=10+-1 done` numbers of cells; `d - collected 3 2 1 40` collected, and `e - stopped 7 3 2 1 40 StoreFault` was refused in the line 7 behind so many removals; of `f - expired`
+//! the rest is in `expiries`, and of `k - checked` in `checks`; `g - indoubt 1CECHNKREP0F1RSTCMT0 unsettled Missing ..` was left in doubt. `; ` stands between tasks, and `, ` between refs like `tag v 1=1CECHNKREP0F1RSTCMT0`. In the place of an
 //! opening that went well stands `-`, and a refusal may stand in that of the refs, behind `!`.
 
+use crate::checks::checked_of;
 use crate::expiries::expired_of;
 use crate::refusals::{refusal_of, result_of};
 use crate::store_keys::id_of;
 use crate::written::report_text;
 use cleanup_reports::Removed;
 use ice_base::Text;
+use ice_items::Items;
 use play_outcome::{End, How, Outcome, RefLine, RefLines, Shown, Shows};
 use show_trees::{
     NoAnswer, first_word, name_of, number_of, parted, path_of, props_of, small_number_of, text_of,
@@ -33,13 +35,37 @@ fn logged_of(alloc: Global, line: u32, words: &str) -> Result<Shown, NoAnswer> {
     })
 }
 
-/// What a word shows: `13:array=/a/b` a node, `7:log=ID` a snapshot of a log.
+/// The number with a sign that a word says.
+fn signed_of(word: &str) -> Result<i128, NoAnswer> {
+    match word.parse::<i128>() {
+        Ok(number) => Ok(number),
+        Err(_) => Err(NoAnswer::Words),
+    }
+}
+
+/// The numbers of cells between plus signs; `-` is none.
+fn cells_of(alloc: Global, words: &str) -> Result<Items<i128>, NoAnswer> {
+    let mut numbers = Items::new(alloc);
+    if words == "-" {
+        return Ok(numbers);
+    }
+    for word in words.split('+') {
+        numbers.push(signed_of(word)?)?;
+    }
+    Ok(numbers)
+}
+
+/// What a word shows: `13:array=/a/b` a node, `8:cells=10+-1` numbers of cells, `7:log=ID` a snapshot of a log.
 fn shown_of(alloc: Global, word: &str) -> Result<Shown, NoAnswer> {
     let (place, what) = parted(word, "=");
     let (line, kind) = parted(place, ":");
     let line = small_number_of(line)?;
     if kind == "log" {
         return logged_of(alloc, line, what);
+    }
+    if kind == "cells" {
+        let numbers = cells_of(alloc, what)?;
+        return Ok(Shown::Cells { line, numbers });
     }
     let array = kind == "array";
     let path = path_of(alloc, what)?;
@@ -122,6 +148,7 @@ fn end_of(alloc: Global, words: &str) -> Result<End, NoAnswer> {
         "collected" => collected_of(rest),
         "done" => Ok(End::Done),
         "expired" => expired_of(alloc, rest),
+        "checked" => checked_of(alloc, rest),
         "indoubt" => doubt_of(alloc, rest),
         "refused" => refused_of(alloc, rest),
         "stopped" => stopped_of(alloc, rest),

@@ -3,7 +3,7 @@
 use conflicts::{Pick, Policy};
 use ice_base::RefName;
 use play_script::{
-    Access, Call, EditCall, Head, Line, ReadCall, RefCall, Script, ScriptFault, Task, Turn,
+    Access, Call, CellBox, EditCall, Head, Line, ReadCall, RefCall, Script, ScriptFault, Task, Turn,
 };
 use repo_read::At;
 use show_trees::{NoAnswer, push_bytes, push_index};
@@ -47,6 +47,32 @@ fn push_fill(told: &mut String, path: &Path, index: &Index, byte: u8) -> Result<
     write!(told, " with {byte}")
 }
 
+/// Appends a corner of a box.
+fn push_corner(told: &mut String, corner: &str, numbers: &[u64]) -> Result<(), AllocError> {
+    told.push_str(corner)?;
+    for number in numbers {
+        write!(told, " {number}")?;
+    }
+    Ok(())
+}
+
+/// Appends a call at a box.
+fn push_box(told: &mut String, call: &str, place: &CellBox) -> Result<(), AllocError> {
+    push_path(told, call, &place.path)?;
+    push_corner(told, " from", place.from.as_slice())?;
+    push_corner(told, " to", place.to.as_slice())
+}
+
+/// Appends a put of a box.
+fn push_put(told: &mut String, place: &CellBox, numbers: &[i128]) -> Result<(), AllocError> {
+    push_box(told, "put ", place)?;
+    told.push_str(" numbers")?;
+    for number in numbers {
+        write!(told, " {number}")?;
+    }
+    Ok(())
+}
+
 /// Appends a call at a key.
 fn push_key(told: &mut String, call: &str, key: &str) -> Result<(), AllocError> {
     told.push_str(call)?;
@@ -70,6 +96,7 @@ fn push_edit(told: &mut String, edit: &EditCall) -> Result<(), AllocError> {
         EditCall::Set { path, index, bytes } => push_set(told, path, index, bytes.as_slice()),
         EditCall::Fill { path, index, byte } => push_fill(told, path, index, *byte),
         EditCall::Unset { path, index } => push_at(told, "unset ", path, index),
+        EditCall::Put { place, numbers } => push_put(told, place, numbers.as_slice()),
         EditCall::KeySet { key, bytes } => push_key_set(told, key.as_str(), bytes.as_slice()),
         EditCall::KeyErase { key } => push_key(told, "no key ", key.as_str()),
     }
@@ -81,6 +108,7 @@ fn push_read(told: &mut String, read: &ReadCall) -> Result<(), AllocError> {
         ReadCall::List { path } => push_path(told, "list ", path),
         ReadCall::Get { path } => push_path(told, "get ", path),
         ReadCall::Chunk { path, index } => push_at(told, "chunk ", path, index),
+        ReadCall::Cells { place } => push_box(told, "cells ", place),
         ReadCall::KeyGet { key } => push_key(told, "key ", key.as_str()),
     }
 }
@@ -233,6 +261,7 @@ fn push_head(told: &mut String, head: &Head) -> Result<(), AllocError> {
             drop_branches,
             drop_tags,
         } => push_expires(told, *cutoff, *drop_branches, *drop_tags),
+        Head::Check => told.push_str("checks"),
     }
 }
 

@@ -1,6 +1,9 @@
 ghost use Rattle.std.specs.Prelude.{◌≡◌, ◌<◌, ◌^◌, IsTrue, IfOk};
 ghost use Rattle.std.specs.Int.{w32, w64, to_le_bytes};
 ghost use Rattle.std.specs.Str.{IsUtf8};
+ghost use Rattle.zarr_path.specs.Paths.{is_path};
+ghost use Rattle.ice_base.specs.Lists.{IsBytes};
+ghost use Rattle.file_fields.specs.Fields.{bytes_part};
 ghost use Rattle.flat_tables.specs.Layout.{scalar};
 ghost use Rattle.flat_tables.specs.Trees.{part_of, is_writable_slot};
 ghost use Rattle.ice_ids.specs.Text.{IsId12};
@@ -8,8 +11,10 @@ ghost use Rattle.snapshot_file.specs.Layout.{text_part, dimension_bytes, extent_
 
 use file_fields::id12_bytes;
 use flat_tables::Slot;
+use ice_base::Bytes;
 use ice_ids::Id12;
 use std::alloc::{AllocError, Global};
+use zarr_path::Path;
 
 /// A string.
 pub fn text_slot(alloc: Global, text: &str) -> Result<Slot, AllocError>
@@ -18,6 +23,36 @@ pub fn text_slot(alloc: Global, text: &str) -> Result<Slot, AllocError>
     ensures text { IsUtf8 text.now }
 {
     Ok(Slot::Text(String::from_str(alloc, text)?))
+}
+
+/// A text is UTF-8. It does nothing: the contract tells what the type says.
+fn text_fits(text: &str)
+    ensures { IsUtf8 text.now }
+{}
+
+/// The string of a path.
+pub fn path_slot(path: Path) -> Slot
+    ensures part { part_of result ≡ text_part path }
+    ensures writable { IsTrue (is_writable_slot result) }
+    ensures path { IsTrue (is_path path) }
+    ensures text { IsUtf8 path }
+{
+    text_fits(path.as_str());
+    Slot::Text(path.into_string())
+}
+
+/// The field of bytes.
+pub fn data_slot(bytes: Bytes) -> Slot
+    ensures part { part_of result ≡ bytes_part bytes }
+    ensures writable { IsTrue (is_writable_slot result) }
+    ensures bytes { IsBytes bytes }
+{
+    let _bytes = bytes.as_slice();
+    Slot::Structs {
+        align: 1,
+        size: 1,
+        bytes: bytes.into_vec(),
+    }
 }
 
 /// A number of 8 bits.

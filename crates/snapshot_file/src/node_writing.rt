@@ -4,10 +4,10 @@ ghost use Rattle.flat_tables.specs.Layout.{part_if};
 ghost use Rattle.flat_tables.specs.Trees.{layout, part_of, is_writable, is_writable_slot};
 ghost use Rattle.snapshot_file.specs.Layout.{text_part, name_block, names_part, extents_part, manifest_block, manifests_part, shape_part, kind_block, type_of, node_block, IsDimension, IsExtent, IsName, IsManifest, IsKind, IsNode};
 
-use crate::fields::{dimension_bytes, extent_bytes, text_slot, u8_slot};
+use crate::fields::{data_slot, dimension_bytes, extent_bytes, path_slot, text_slot, u8_slot};
 use crate::lists::{Extents, Names, Shape};
 use crate::nodes::{ManifestRef, NodeKind, NodeRow};
-use file_fields::{bytes_slot, id8_slot, id12_slot};
+use file_fields::{id8_slot, id12_slot};
 use flat_tables::{Flat, Slot};
 use ice_base::Text;
 use ice_items::Items;
@@ -158,18 +158,24 @@ fn type_of(kind: &NodeKind) -> u8
     }
 }
 
-/// The table of a node.
-pub fn node_table(alloc: Global, node: &NodeRow) -> Result<Flat, AllocError>
-    ensures block { IfOk result (λ f. layout f ≡ node_block node.now) }
+/// The table of a node. Its path and its text go into it without a copy.
+pub fn node_table(alloc: Global, node: NodeRow) -> Result<Flat, AllocError>
+    ensures block { IfOk result (λ f. layout f ≡ node_block node) }
     ensures writable { IfOk result (λ f. IsTrue (is_writable f)) }
-    ensures sized { OnOk result (IsNode node.now) }
+    ensures sized { OnOk result (IsNode node) }
 {
+    let NodeRow {
+        id,
+        path,
+        user_data,
+        kind,
+    } = node;
     let slots = [
-        id8_slot(alloc, &node.id)?,
-        text_slot(alloc, node.path.as_str())?,
-        bytes_slot(alloc, node.user_data.as_slice())?,
-        u8_slot(type_of(&node.kind)),
-        Slot::Table(kind_table(alloc, &node.kind)?),
+        id8_slot(alloc, &id)?,
+        path_slot(path),
+        data_slot(user_data),
+        u8_slot(type_of(&kind)),
+        Slot::Table(kind_table(alloc, &kind)?),
     ];
     Ok(Flat {
         slots: Vec::from_array(alloc, slots)?,

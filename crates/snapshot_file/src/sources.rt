@@ -55,6 +55,6 @@ impl<'a, S: RowSource> TableSource for NodeTables<'a, S> {
 
     fn table(&self, alloc: Global, at: usize) -> Result<Flat, AllocError> {
         let row = self.rows.row(alloc, at)?;
-        node_table(alloc, &row)
+        node_table(alloc, row)
     }
 }

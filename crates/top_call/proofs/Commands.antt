@@ -32,7 +32,9 @@ module _ (said : Result Command UsageFault) where
 
 pub refused_starved : (command : Command) (a : InputAt) → TellsRefused command a S.NoMemory
 refused_starved C.Play a = λ bytes line kind e r. inr (inr refl)
+refused_starved (C.Cells box) a = λ line kind r. inr refl
 refused_starved (C.Grow tasks) a = λ line kind r. inr refl
+refused_starved C.Check a = tt
 refused_starved (C.Help topic) a = tt
 refused_starved C.Version a = tt
 

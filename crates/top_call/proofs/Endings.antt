@@ -1,41 +1,21 @@
 -- What the statuses of a run say.
-use Rattle.std.proofs.Common.{◌≡◌, ℕ, List, inl, inr, Bool, true, false, refl, sym, subst}
-use Rattle.std.specs.Prelude.{if◌then◌else◌}
+use Rattle.std.proofs.Common.{◌≡◌, ℕ, List, inl, inr, refl}
 use Rattle.ice_base.specs.Ends.{InputAt, OutputAt, Rose}
 use Rattle.ice_ids.specs.declared.drawing.Draw.{Draw}
 use Rattle.store_api.specs.Callers.{View}
 use Rattle.play_script.specs.declared.scripts.Script.{Script}
-use Rattle.top_call.specs.declared.statuses.Causes.{Causes}
 use Rattle.top_call.specs.declared.statuses.Status.{Status}
 use Rattle.top_call.specs.declared.statuses.Status.TheVariants as S
-use Rattle.top_call.specs.Statuses.{status_of}
 use Rattle.top_call.specs.Telling.{causes, refusals}
 use Rattle.top_call.proofs.Tellings.{store-rose, sink-rose}
+use Rattle.top_call.proofs.Lasts.{IsLast, status-last}
+use Rattle.top_call.proofs.Checking.{check-sink, check-store, stays-same}
+use Rattle.run_histories.specs.Told.{RunLaw}
 use Rattle.command_words.specs.declared.reading.Command.{Command}
 use Rattle.command_words.specs.declared.reading.Command.TheVariants as C
 use Rattle.command_words.specs.Help.{help_of, version_line}
 use Rattle.top_call.specs.Run.{HasScript, HasNone, SayEnds}
 use Rattle.top_call.specs.inside.Playing.{WasUntold, WasPlayed, PlayEnds, Ends}
-
--- a run has one of five statuses
-IsLast : Status → Type 0
-IsLast S.Ok = Unit {0}
-IsLast S.Refused = Unit {0}
-IsLast S.WriteFault = Unit {0}
-IsLast S.StoreFault = Unit {0}
-IsLast S.NoMemory = Unit {0}
-IsLast _ = ⊥
-
-by_causes : (a b c d : Bool) → IsLast (if a then S.NoMemory else (if b then S.StoreFault else (if c then S.WriteFault else (if d then S.Refused else S.Ok))))
-unfolding IsLast
-by_causes true b c d = tt
-by_causes false true c d = tt
-by_causes false false true d = tt
-by_causes false false false true = tt
-by_causes false false false false = tt
-
-status_last : (c : Causes) (status : Status) → status ≡ status_of c → IsLast status
-status_last c status e = subst IsLast (sym e) (by_causes c.no_memory c.store_fault c.unwritten c.refused)
 
 module _ (command : Command) (draw : Draw) (a b : InputAt) (s t : View) (x y : OutputAt) where
   by_status : (script : Script) (status : Status) → HasScript command a b script → WasPlayed command draw script s t x y status → IsLast status → PlayEnds command draw a b s t x y status
@@ -50,7 +30,7 @@ module _ (command : Command) (draw : Draw) (a b : InputAt) (s t : View) (x y : O
   by_status script (S.Script line kind) h p l = absurd l
 
   pub ends_played : (script : Script) (status : Status) → HasScript command a b script → WasPlayed command draw script s t x y status → PlayEnds command draw a b s t x y status
-  ends_played script status h p = by_status script status h p (status_last (causes p.told.unwritten (refusals p.opening p.outcomes p.refs)) status p.told.status_is)
+  ends_played script status h p = by_status script status h p (status-last (causes p.told.unwritten (refusals p.opening p.outcomes p.refs)) status p.told.status_is)
 
   pub ends_untold : (script : Script) → HasScript command a b script → WasUntold draw script s t x y → PlayEnds command draw a b s t x y S.NoMemory
   ends_untold script h u = inr (record { script = script; reads = h; went = inr u })
@@ -110,19 +90,25 @@ said_sink text x y (S.Script line kind) e k = absurd e
 module _ (draw : Draw) (a b : InputAt) (s t : View) (x y : OutputAt) (status : Status) where
   pub store_faulted : (command : Command) → Ends command draw a b s t x y status → status ≡ S.StoreFault → Rose s.faults t.faults
   store_faulted C.Play e k = store_played C.Play draw a b s t x y status e k
+  store_faulted (C.Cells box) e k = store_played (C.Cells box) draw a b s t x y status e.1 k
   store_faulted (C.Grow tasks) e k = store_played (C.Grow tasks) draw a b s t x y status e.1 k
+  store_faulted C.Check e k = check-store s t x y status e.1.0 k
   store_faulted (C.Help topic) e k = said_store (help_of topic) x y status e.2 k
   store_faulted C.Version e k = said_store version_line x y status e.2 k
 
   pub sink_faulted : (command : Command) → Ends command draw a b s t x y status → status ≡ S.WriteFault → Rose x.faults y.faults
   sink_faulted C.Play e k = sink_played C.Play draw a b s t x y status e k
+  sink_faulted (C.Cells box) e k = sink_played (C.Cells box) draw a b s t x y status e.1 k
   sink_faulted (C.Grow tasks) e k = sink_played (C.Grow tasks) draw a b s t x y status e.1 k
+  sink_faulted C.Check e k = check-sink s t x y status e.1.0 k
   sink_faulted (C.Help topic) e k = said_sink (help_of topic) x y status e.2 k
   sink_faulted C.Version e k = said_sink version_line x y status e.2 k
 
 -- without memory nothing was read, done or written
-pub ends_starved : (command : Command) (draw : Draw) (a : InputAt) (s : View) (x : OutputAt) → Ends command draw a a s s x x S.NoMemory
-ends_starved C.Play draw a s x = inl (record { store = refl; out = refl })
-ends_starved (C.Grow tasks) draw a s x = (refl, inl (record { store = refl; out = refl }))
-ends_starved (C.Help topic) draw a s x = (refl, refl, refl)
-ends_starved C.Version draw a s x = (refl, refl, refl)
+pub ends_starved : RunLaw → (command : Command) (draw : Draw) (a : InputAt) (s : View) (x : OutputAt) → Ends command draw a a s s x x S.NoMemory
+ends_starved law C.Play draw a s x = inl (record { store = refl; out = refl })
+ends_starved law (C.Cells box) draw a s x = (refl, inl (record { store = refl; out = refl }))
+ends_starved law (C.Grow tasks) draw a s x = (refl, inl (record { store = refl; out = refl }))
+ends_starved law C.Check draw a s x = (refl, (inl (record { store = refl; out = refl }), λ tells. stays-same law draw s.seen))
+ends_starved law (C.Help topic) draw a s x = (refl, refl, refl)
+ends_starved law C.Version draw a s x = (refl, refl, refl)

@@ -1,4 +1,6 @@
 mod Rows
+mod Lasts
+mod Checking
 pub mod Endings
 pub mod Tellings
 pub mod Readings

@@ -56,6 +56,14 @@ module _ (draw : Draw) (a b : World) where
   where-played P C.Play S.ReadFault of e = λ played. absurd played
   where-played P C.Play (S.Script line kind) of e = λ played. absurd played
   where-played P C.Play (S.Usage fault) of e = λ played. absurd played
+  where-played P (C.Cells box) S.Ok of e = λ played. of_run P (C.Cells box) of S.Ok e.1
+  where-played P (C.Cells box) S.Refused of e = λ played. of_run P (C.Cells box) of S.Refused e.1
+  where-played P (C.Cells box) S.StoreFault of e = λ played. of_run P (C.Cells box) of S.StoreFault e.1
+  where-played P (C.Cells box) S.WriteFault of e = λ played. of_run P (C.Cells box) of S.WriteFault e.1
+  where-played P (C.Cells box) S.NoMemory of e = of_starved P (C.Cells box) of e.1
+  where-played P (C.Cells box) S.ReadFault of e = λ played. absurd played
+  where-played P (C.Cells box) (S.Script line kind) of e = λ played. absurd played
+  where-played P (C.Cells box) (S.Usage fault) of e = λ played. absurd played
   where-played P (C.Grow tasks) S.Ok of e = λ played. of_run P (C.Grow tasks) of S.Ok e.1
   where-played P (C.Grow tasks) S.Refused of e = λ played. of_run P (C.Grow tasks) of S.Refused e.1
   where-played P (C.Grow tasks) S.StoreFault of e = λ played. of_run P (C.Grow tasks) of S.StoreFault e.1
@@ -64,6 +72,7 @@ module _ (draw : Draw) (a b : World) where
   where-played P (C.Grow tasks) S.ReadFault of e = λ played. absurd played
   where-played P (C.Grow tasks) (S.Script line kind) of e = λ played. absurd played
   where-played P (C.Grow tasks) (S.Usage fault) of e = λ played. absurd played
+  where-played P C.Check status of e = tt
   where-played P (C.Help topic) S.NoMemory of e = inl (record { out = e.2; store = inl e.1 })
   where-played P (C.Help topic) S.Ok of e = λ played. absurd played
   where-played P (C.Help topic) S.Refused of e = λ played. absurd played
@@ -80,6 +89,15 @@ module _ (draw : Draw) (a b : World) where
   where-played P C.Version S.ReadFault of e = λ played. absurd played
   where-played P C.Version (S.Script line kind) of e = λ played. absurd played
   where-played P C.Version (S.Usage fault) of e = λ played. absurd played
+
+  -- where there was no memory for the words
+  pub unplayed : (command : Command) (P : Type 0) → WasUnplayed a b → WherePlayed command a b S.NoMemory P
+  unplayed C.Play P u = inl u
+  unplayed (C.Cells box) P u = inl u
+  unplayed (C.Grow tasks) P u = inl u
+  unplayed C.Check P u = tt
+  unplayed (C.Help topic) P u = inl u
+  unplayed C.Version P u = inl u
 
   -- ---- what is promised of it
   promised : (command : Command) (status : Status) (script : Script) → WasPlayed command draw script a.store b.store a.out b.out status → IsTrue a.store.caller.tells → OverSound draw command a b status script

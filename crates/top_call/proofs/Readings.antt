@@ -16,6 +16,8 @@ use Rattle.command_words.specs.declared.reading.Command.{Command}
 use Rattle.command_words.specs.declared.reading.Command.TheVariants as C
 use Rattle.command_words.specs.Help.{help_of, version_line}
 use Rattle.top_call.specs.Run.{most_input, IsSource, HasFailed, HasScript, HasFault, SayEnds, TellsRefused, IsCalm, IsFaultless}
+use Rattle.top_call.specs.Check.{Checks}
+use Rattle.top_call.proofs.Checking.{check-sink, check-store}
 use Rattle.top_call.proofs.Endings.{store_played, sink_played}
 use Rattle.top_call.specs.inside.Playing.{PlayEnds, Ends}
 
@@ -71,14 +73,19 @@ module _ (draw : Draw) (a b : InputAt) (s t : View) (x y : OutputAt) (status : S
   pub tells_refused : (command : Command) → Ends command draw a b s t x y status → TellsRefused command a status
   tells_refused C.Play ends = λ bytes line kind e r.
       elim (first_refused C.Play a b line kind (λ text i. sym (reads_all a b text bytes i e) ∙ r) draw s t x y status ends) [ inl is ↦ inl is | inr other ↦ elim other [ inl failed ↦ inr (inl failed.0) | inr short ↦ inr (inr short) ] ]
+  tells_refused (C.Cells box) ends = λ line kind r.
+      elim (first_refused (C.Cells box) a b line kind (λ text i. ap script_of i ∙ r) draw s t x y status ends.1) [ inl is ↦ inl is | inr other ↦ elim other [ inl failed ↦ absurd failed.1 | inr short ↦ inr short ] ]
   tells_refused (C.Grow tasks) ends = λ line kind r.
       elim (first_refused (C.Grow tasks) a b line kind (λ text i. ap script_of i ∙ r) draw s t x y status ends.1) [ inl is ↦ inl is | inr other ↦ elim other [ inl failed ↦ absurd failed.1 | inr short ↦ inr short ] ]
+  tells_refused C.Check ends = tt
   tells_refused (C.Help topic) ends = tt
   tells_refused C.Version ends = tt
 
 failed_rose : (command : Command) (a b : InputAt) → HasFailed command a b → Rose a.faults b.faults
 failed_rose C.Play a b h = h
+failed_rose (C.Cells box) a b h = absurd h
 failed_rose (C.Grow tasks) a b h = absurd h
+failed_rose C.Check a b h = h
 failed_rose (C.Help topic) a b h = h
 failed_rose C.Version a b h = h
 
@@ -102,8 +109,20 @@ say_faultless text x y S.ReadFault ends calm = ends
 say_faultless text x y S.StoreFault ends calm = ends
 say_faultless text x y S.WriteFault ends calm = calm ends.faults
 
+check_faultless : (a b : InputAt) (s t : View) (x y : OutputAt) (status : Status) → Checks s t x y status → IsCalm a b s t x y → IsFaultless status
+check_faultless a b s t x y S.Ok c calm = tt
+check_faultless a b s t x y S.Refused c calm = tt
+check_faultless a b s t x y (S.Script line kind) c calm = tt
+check_faultless a b s t x y S.NoMemory c calm = tt
+check_faultless a b s t x y (S.Usage fault) c calm = c
+check_faultless a b s t x y S.ReadFault c calm = c
+check_faultless a b s t x y S.StoreFault c calm = calm.store (check-store s t x y S.StoreFault c refl)
+check_faultless a b s t x y S.WriteFault c calm = calm.output (check-sink s t x y S.WriteFault c refl)
+
 pub faultless : (draw : Draw) (a b : InputAt) (s t : View) (x y : OutputAt) (status : Status) (command : Command) → Ends command draw a b s t x y status → IsCalm a b s t x y → IsFaultless status
 faultless draw a b s t x y status C.Play ends calm = play_faultless C.Play draw a b s t x y status ends calm
+faultless draw a b s t x y status (C.Cells box) ends calm = play_faultless (C.Cells box) draw a b s t x y status ends.1 calm
 faultless draw a b s t x y status (C.Grow tasks) ends calm = play_faultless (C.Grow tasks) draw a b s t x y status ends.1 calm
+faultless draw a b s t x y status C.Check ends calm = check_faultless a b s t x y status ends.1.0 calm
 faultless draw a b s t x y status (C.Help topic) ends calm = say_faultless (help_of topic) x y status ends.2 calm.output
 faultless draw a b s t x y status C.Version ends calm = say_faultless version_line x y status ends.2 calm.output

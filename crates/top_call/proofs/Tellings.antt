@@ -34,7 +34,7 @@ use Rattle.play_outcome.specs.Ending.{end_why, why_ended}
 use Rattle.top_call.specs.Telling.{why_of, refusals, is_other, causes, line_text, IsText, Told, KeepsAll, IsRegular}
 use Rattle.top_call.specs.inside.Adding.{added, all_added}
 use Rattle.top_call.proofs.Rows.{rows-all}
-use Rattle.top_call.specs.inside.Playing.{KeepsHistories, KeepsBranches, WasUntold, WasPlayed}
+use Rattle.top_call.specs.inside.Playing.{KeepsHistories, KeepsBranches, WasUntold, WasPlayed, IsReported}
 
 -- ---- causes
 pub all_added-append : (xs ys : List Refusal) (c : Causes) → all_added c (xs ++ ys) ≡ all_added (all_added c xs) ys
@@ -59,9 +59,10 @@ added-together [] c = sym (rw (or-false c.no_memory, or-false c.store_fault, or-
 added-together (w ∷ ws) c =
     added-together ws (added c w) ∙ rw (or-assoc c.no_memory (is_no_memory w) (list_any is_no_memory ws), or-assoc c.store_fault (is_fault w) (list_any is_fault ws), or-assoc c.refused (is_other w) (list_any is_other ws)) refl
 
--- nothing is amiss but perhaps the report
-pub none_yet : Bool → Causes
-none_yet unwritten = record { no_memory = false; store_fault = false; unwritten = unwritten; refused = false }
+-- of one end, where nothing is amiss before but perhaps the report
+pub end-causes : (unwritten : Bool) (whys : List Refusal) → all_added (record { no_memory = false; store_fault = false; unwritten = unwritten; refused = false }) whys ≡ causes unwritten whys
+unfolding together
+end-causes unwritten whys = added-together whys (record { no_memory = false; store_fault = false; unwritten = unwritten; refused = false })
 
 pub all-causes : (unwritten : Bool) (opening : Result (Unit {0}) Refusal) (outcomes : List Outcome) (refs : Result (List RefLine) Refusal)
     → all_added (all_added (all_added (record { no_memory = false; store_fault = false; unwritten = unwritten; refused = false }) (why_of opening)) (flat_map why_ended outcomes)) (why_of refs) ≡ causes unwritten (refusals opening outcomes refs)
@@ -93,7 +94,7 @@ record HasFailed (outcomes : List Outcome) : Type 0 where
   pub at : slice_get outcomes place ≡ Some outcome
   pub failed : is_failed outcome ≡ true
 
-end-failed : (end : End) → list_any is_fault (end_why end) ≡ end_failed end
+pub end-failed : (end : End) → list_any is_fault (end_why end) ≡ end_failed end
 end-failed (E.Committed id) = refl
 end-failed (E.Collected removed) = refl
 end-failed E.Done = refl
@@ -102,6 +103,8 @@ end-failed (E.Stopped line why removed) = or-false (is_fault why)
 end-failed (E.InDoubt id how) = refl
 end-failed (E.Expired line cases (Ok done)) = refl
 end-failed (E.Expired line cases (Err why)) = or-false (is_fault why)
+end-failed (E.Checked line faults (Ok counts)) = refl
+end-failed (E.Checked line faults (Err why)) = or-false (is_fault why)
 
 or-cases : (a b : Bool) → (a || b) ≡ true → (a ≡ true) ⊎ (b ≡ true)
 or-cases true b e = inl refl
@@ -140,7 +143,7 @@ module _ (draw : Draw) (script : Script) where
       ]
 
 -- a write that failed told so
-wrote-rose : (old new : OutputAt) (text : List ℕ) (unwritten : Bool) → Wrote old new text unwritten → unwritten ≡ true → Rose old.faults new.faults
+pub wrote-rose : (old new : OutputAt) (text : List ℕ) (unwritten : Bool) → Wrote old new text unwritten → unwritten ≡ true → Rose old.faults new.faults
 wrote-rose old new text true w e = w.faults
 wrote-rose old new text false w e = cc
 
@@ -172,12 +175,23 @@ pub finished : (command : Command) (draw : Draw) (script : Script) (s t : View) 
 finished command draw script s t x y opening outcomes refs status c all kept regular told = record { opening = opening; outcomes = outcomes; refs = refs; course = c; promise = all; histories = kept; regular = regular; told = told }
 
 -- ---- the report
+pub is-report : (command : Command) (script : Script) (s t : View) (opening : Result (Unit {0}) Refusal) (outcomes : List Outcome) (refs : Result (List RefLine) Refusal) (text : List ℕ)
+    → IsReported command → text ≡ report_of (map (λ (t : Task). t.name) script.tasks) opening outcomes refs → IsText command script s t opening outcomes refs text
+is-report C.Play script s t opening outcomes refs text reported is = is
+is-report (C.Cells box) script s t opening outcomes refs text reported is = is
+is-report (C.Grow tasks) script s t opening outcomes refs text reported is = absurd reported
+is-report C.Check script s t opening outcomes refs text reported is = is
+is-report (C.Help topic) script s t opening outcomes refs text reported is = is
+is-report C.Version script s t opening outcomes refs text reported is = is
+
 -- by the names of the script's tasks
-pub told-report : (names : List (List ℕ)) (script : Script) (s t : View) (opening : Result (Unit {0}) Refusal) (outcomes : List Outcome) (refs : Result (List RefLine) Refusal) (x y : OutputAt) (status : Status)
+pub told-report : (command : Command) → IsReported command → (names : List (List ℕ)) (script : Script) (s t : View) (opening : Result (Unit {0}) Refusal) (outcomes : List Outcome) (refs : Result (List RefLine) Refusal) (x y : OutputAt) (status : Status)
     → names ≡ map (λ (t : Task). t.name) script.tasks
     → Told (λ text. text ≡ report_of names opening outcomes refs) (refusals opening outcomes refs) x y status
-    → Told (IsText C.Play script s t opening outcomes refs) (refusals opening outcomes refs) x y status
-told-report names script s t opening outcomes refs x y status same told = record { text = told.text; is = told.is ∙ ap (λ (n : List (List ℕ)). report_of n opening outcomes refs) same; unwritten = told.unwritten; wrote = told.wrote; status_is = told.status_is }
+    → Told (IsText command script s t opening outcomes refs) (refusals opening outcomes refs) x y status
+told-report command reported names script s t opening outcomes refs x y status same told =
+    let is = is-report command script s t opening outcomes refs told.text reported (told.is ∙ ap (λ (n : List (List ℕ)). report_of n opening outcomes refs) same) in
+    record { text = told.text; is = is; unwritten = told.unwritten; wrote = told.wrote; status_is = told.status_is }
 
 -- ---- the line of a grown script
 -- a run adds to a journal that is told

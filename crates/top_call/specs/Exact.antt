@@ -15,6 +15,7 @@ use Rattle.top_call.specs.declared.statuses.Status.TheVariants as S
 use Rattle.top_call.specs.Telling.{Told, IsText, IsRegular, refusals}
 use Rattle.top_call.specs.Run.{HasScript, HasFailed, HasFault, IsUntouched, Says}
 use Rattle.top_call.specs.Promise.{World}
+use Rattle.top_call.specs.Check.{Checks}
 
 -- A script was read and played: the opening, the tasks and the closing reading, each by its program and with these answers. This was told of it, and the
 -- status is that of the first cause that holds. Over an empty store nothing was refused strangely.
@@ -51,9 +52,11 @@ Plays draw command a b (S.Usage fault) = ⊥
 Plays draw command a b S.NoMemory = IsSame a b ⊎ (WasDone draw command a b S.NoMemory ⊎ WasCutShort command a b)
 
 -- ---- each command
--- `play` reads its input; `grow` reads none; help and the version are written, and nothing is read or done
+-- `play` reads its input; `cells`, `grow` and `check` read none; help and the version are written, and nothing is read or done
 abbrev pub Exact : Draw → Command → World → World → Status → Type 0
 Exact draw C.Play a b status = Plays draw C.Play a b status
+Exact draw (C.Cells box) a b status = (b.input ≡ a.input) × Plays draw (C.Cells box) a b status
 Exact draw (C.Grow tasks) a b status = (b.input ≡ a.input) × Plays draw (C.Grow tasks) a b status
+Exact draw C.Check a b status = (b.input ≡ a.input) × Checks a.store b.store a.out b.out status
 Exact draw (C.Help topic) a b status = Says (help_of topic) a.input b.input a.store b.store a.out b.out status
 Exact draw C.Version a b status = Says version_line a.input b.input a.store b.store a.out b.out status

@@ -59,6 +59,10 @@ HasPlayed C.Play S.Ok = Unit {0}
 HasPlayed C.Play S.Refused = Unit {0}
 HasPlayed C.Play S.StoreFault = Unit {0}
 HasPlayed C.Play S.WriteFault = Unit {0}
+HasPlayed (C.Cells box) S.Ok = Unit {0}
+HasPlayed (C.Cells box) S.Refused = Unit {0}
+HasPlayed (C.Cells box) S.StoreFault = Unit {0}
+HasPlayed (C.Cells box) S.WriteFault = Unit {0}
 HasPlayed (C.Grow tasks) S.Ok = Unit {0}
 HasPlayed (C.Grow tasks) S.Refused = Unit {0}
 HasPlayed (C.Grow tasks) S.StoreFault = Unit {0}
@@ -70,8 +74,9 @@ pub record WasUnplayed (a b : World) : Type 0 where
   pub out : b.out ≡ a.out
   pub store : (b.store ≡ a.store) ⊎ OnlyBegan a.store b.store
 
--- Where it was, this is promised; and so it is where memory was wanting, unless no task was played.
+-- Where it was, this is promised; and so it is where memory was wanting, unless no task was played. Of `check`, which plays no script, nothing is.
 abbrev pub WherePlayed : Command → World → World → Status → Type 0 → Type 0
+WherePlayed C.Check a b status P = Unit {0}
 WherePlayed command a b S.NoMemory P = WasUnplayed a b ⊎ P
 WherePlayed command a b status P = HasPlayed command status → P
 

@@ -6,6 +6,7 @@ use Rattle.play_script.specs.declared.scripts.Script.{Script}
 use Rattle.play_script.specs.Reading.{script_of}
 use Rattle.store_api.specs.Callers.{View}
 use Rattle.grow_script.specs.Script.{script_text}
+use Rattle.cells_script.specs.Script.{cells_text}
 use Rattle.command_words.specs.declared.reading.Command.{Command}
 use Rattle.command_words.specs.declared.reading.Command.TheVariants as C
 use Rattle.top_call.specs.declared.statuses.Status.{Status}
@@ -16,13 +17,15 @@ abbrev pub most_input : ℕ
 most_input = 1048577
 
 -- ---- the script that a command plays
--- its text: by `grow` the one that is made from the number, else the input
+-- its text: by `cells` the one that is made from the words, by `grow` the one that is made from the number, else the input
 abbrev pub IsSource : Command → InputAt → InputAt → List ℕ → Type 0
+IsSource (C.Cells box) old new text = text ≡ cells_text box.branch box.path box.from box.to
 IsSource (C.Grow tasks) old new text = text ≡ script_text tasks
 IsSource command old new text = IsInput most_input old new text
 
--- the input couldn't be read; the text that `grow` makes is no input
+-- the input couldn't be read; the text that `cells` or `grow` makes is no input
 abbrev pub HasFailed : Command → InputAt → InputAt → Type 0
+HasFailed (C.Cells box) old new = ⊥
 HasFailed (C.Grow tasks) old new = ⊥
 HasFailed command old new = Rose old.faults new.faults
 
@@ -64,11 +67,13 @@ Says text in_old in_new s t out_old out_new status = (in_new ≡ in_old) × (t �
 
 -- ---- which statuses there can be
 -- where the source tells its bytes and a line of them is refused, the status is that line, unless the source failed or memory
--- was wanting; and so it is where a line of the text that `grow` makes is refused
+-- was wanting; and so it is where a line of the text that `cells` or `grow` makes is refused
 abbrev pub TellsRefused : Command → InputAt → Status → Type 0
 TellsRefused C.Play input status =
     (bytes : List ℕ) (line : ℕ) (kind : ScriptKind) → input.left ≡ Some bytes → script_of bytes ≡ Err (line, kind)
     → (status ≡ S.Script line kind) ⊎ ((status ≡ S.ReadFault) ⊎ (status ≡ S.NoMemory))
+TellsRefused (C.Cells box) input status =
+    (line : ℕ) (kind : ScriptKind) → script_of (cells_text box.branch box.path box.from box.to) ≡ Err (line, kind) → (status ≡ S.Script line kind) ⊎ (status ≡ S.NoMemory)
 TellsRefused (C.Grow tasks) input status =
     (line : ℕ) (kind : ScriptKind) → script_of (script_text tasks) ≡ Err (line, kind) → (status ≡ S.Script line kind) ⊎ (status ≡ S.NoMemory)
 TellsRefused command input status = Unit {0}

@@ -54,6 +54,7 @@ end_committed (E.Refused line why) = false
 end_committed (E.Stopped line why removed) = false
 end_committed (E.InDoubt id how) = false
 end_committed (E.Expired line cases result) = false
+end_committed (E.Checked line faults result) = false
 
 abbrev pub end_refused : End → Bool
 end_refused (E.Refused line why) = true
@@ -61,6 +62,8 @@ end_refused (E.Stopped line why removed) = true
 end_refused (E.InDoubt id how) = false
 end_refused (E.Expired line cases (Err why)) = true
 end_refused (E.Expired line cases (Ok done)) = false
+end_refused (E.Checked line faults (Err why)) = true
+end_refused (E.Checked line faults (Ok counts)) = false
 end_refused (E.Committed id) = false
 end_refused (E.Collected removed) = false
 end_refused E.Done = false

@@ -1,6 +1,6 @@
 //! The top call.
 
-ghost use Rattle.std.specs.Prelude.{◌≡◌, ◌≤◌, ◌⊎◌, true, map, Ok, Err, IfOk, MatchResult};
+ghost use Rattle.std.specs.Prelude.{◌≡◌, ◌≤◌, ◌⊎◌, true, map, Ok, Err, IfOk, IsTrue, MatchResult};
 ghost use Rattle.drafts.specs.Drafts.{IsBlank};
 ghost use Rattle.ice_base.specs.Ends.{InputAt, Rose, TakesAtMost};
 ghost use Rattle.store_api.specs.Journal.{IsGoodJournal};
@@ -11,23 +11,27 @@ ghost use Rattle.top_call.specs.GoesOn.{GoesOn};
 ghost use Rattle.top_call.specs.Run.{most_input, HasScript, HasNone, TellsRefused, IsCalm, IsFaultless};
 ghost use Rattle.command_words.specs.Words.{command_of, IsInRange};
 ghost use Rattle.command_words.specs.declared.reading.UsageFault.{UsageFault};
-ghost use Rattle.top_call.specs.inside.Playing.{PlayEnds, Ends};
+ghost use Rattle.top_call.specs.Check.{Checks, StaysSound};
+ghost use Rattle.top_call.specs.inside.Playing.{PlayEnds, Ends, IsReported};
 
 use crate::ending::Ended;
 use crate::saying::{say, say_help};
 use crate::statuses::Status;
-use crate::telling::{finish, finish_grown, names_of};
-use command_words::{Command, Word, read_words, version};
+use crate::telling::{finish, finish_check, finish_grown, names_of};
+use cells_script::cells_script;
+use command_words::{BoxWords, Command, Word, read_words, version};
 use drafts::Draft;
 use grow_script::grown_script;
 use ice_base::{Sink, Source, read_input};
 use ice_ids::Draw;
+use lone_check::check_store;
 use play_at_once::Gate;
 use play_course::play;
 use play_script::Script;
-use run_histories::nothing_law;
+use run_histories::{nothing_law, run_law};
 use run_promise::promise_law;
 use std::alloc::{AllocError, Global};
+use std::convert::AsStr;
 use std::sync::Wait;
 use std::thread::Threads;
 use store_api::Counting;
@@ -44,7 +48,7 @@ fn prepare<'a>(alloc: Global, script: &'a Script) -> Result<(Draft, Vec<&'a [u8]
     Ok((draft, names))
 }
 
-/// Plays the script of the input and writes the report. What that takes is taken first.
+/// Plays a script and writes the report. What that takes is taken first.
 fn play_and_report<R: Threads + Wait + Sync, S: Counting + Send, K: Sink, G: Gate + Sync>(
     rt: &R,
     alloc: Global,
@@ -56,7 +60,7 @@ fn play_and_report<R: Threads + Wait + Sync, S: Counting + Send, K: Sink, G: Gat
 ) -> Ended<S>
     requires well { IsWell script.now }
     requires good { S.tells ≡ true → IsGoodJournal (S.view store).seen }
-    ensures { (a : InputAt) (b : InputAt) → HasScript Command.Play a b script.now → PlayEnds Command.Play draw a b (S.view store) (S.view result.store) (K.at out.old) (K.at out.new) result.status }
+    ensures { (command : Command) (a : InputAt) (b : InputAt) → IsReported command → HasScript command a b script.now → PlayEnds command draw a b (S.view store) (S.view result.store) (K.at out.old) (K.at out.new) result.status }
 {
     promise_law();
     let (draft, names) = match prepare(alloc, script) {
@@ -131,6 +135,21 @@ fn read_script<I: Source>(alloc: Global, input: &mut I) -> Result<Script, Status
     Ok(Script::read(alloc, text.as_slice())?)
 }
 
+/// Makes the script of `cells` and reads it.
+fn make_cells(alloc: Global, words: &BoxWords) -> Result<Script, Status>
+    ensures reads { (at : InputAt) → MatchResult result (HasScript (Command.Cells words.now) at at) (HasNone (Command.Cells words.now) at at) }
+    ensures well { IfOk result IsWell }
+{
+    let text = cells_script(
+        alloc,
+        words.branch.as_str(),
+        words.path.as_str(),
+        words.from.as_str(),
+        words.to.as_str(),
+    )?;
+    Ok(Script::read(alloc, text.as_bytes())?)
+}
+
 /// Makes the script of `grow` and reads it.
 fn make_script(alloc: Global, tasks: u8) -> Result<Script, Status>
     requires { 1 ≤ tasks }
@@ -161,6 +180,25 @@ fn run_input<R: Threads + Wait + Sync, I: Source, S: Counting + Send, K: Sink, G
     }
 }
 
+/// Makes the script of `cells`, plays it and writes the report.
+fn run_cells<R: Threads + Wait + Sync, S: Counting + Send, K: Sink, G: Gate + Sync>(
+    rt: &R,
+    alloc: Global,
+    words: &BoxWords,
+    draw: Draw,
+    store: S,
+    gate: &G,
+    out: &mut K,
+) -> Ended<S>
+    requires good { S.tells ≡ true → IsGoodJournal (S.view store).seen }
+    ensures { (at : InputAt) → PlayEnds (Command.Cells words.now) draw at at (S.view store) (S.view result.store) (K.at out.old) (K.at out.new) result.status }
+{
+    match make_cells(alloc, words) {
+        Ok(made) => play_and_report(rt, alloc, &made, draw, store, gate, out),
+        Err(status) => Ended { status, store },
+    }
+}
+
 /// Makes the script of `grow`, plays it and writes its line.
 fn run_grown<R: Threads + Wait + Sync, S: Counting + Send, K: Sink, G: Gate + Sync>(
     rt: &R,
@@ -181,6 +219,33 @@ fn run_grown<R: Threads + Wait + Sync, S: Counting + Send, K: Sink, G: Gate + Sy
     }
 }
 
+/// Checks the store, and writes what came of it. What that takes is taken first.
+fn run_check<R: Threads + Wait + Sync, S: Counting + Send, K: Sink, G: Gate + Sync>(
+    rt: &R,
+    alloc: Global,
+    store: S,
+    gate: &G,
+    out: &mut K,
+) -> Ended<S>
+    ensures checks { Checks (S.view store) (S.view result.store) (K.at out.old) (K.at out.new) result.status }
+    ensures sound { (draw : Draw) → IsTrue (S.view store).caller.tells → StaysSound draw (S.view store).seen (S.view result.store).seen }
+{
+    run_law();
+    let draft = match Draft::new(alloc) {
+        Ok(draft) => draft,
+        Err(_) => {
+            return Ended {
+                status: Status::NoMemory,
+                store,
+            };
+        }
+    };
+    let mut store = store;
+    let outcome = check_store(rt, alloc, &mut store, gate);
+    let status = finish_check(draft, &outcome, out);
+    Ended { status, store }
+}
+
 /// Does what a command says.
 fn run_command<R: Threads + Wait + Sync, I: Source, S: Counting + Send, K: Sink, G: Gate + Sync>(
     rt: &R,
@@ -199,7 +264,9 @@ fn run_command<R: Threads + Wait + Sync, I: Source, S: Counting + Send, K: Sink,
 {
     match command {
         Command::Play => run_input(rt, alloc, draw, input, store, gate, out),
+        Command::Cells(words) => run_cells(rt, alloc, &words, draw, store, gate, out),
         Command::Grow(tasks) => run_grown(rt, alloc, tasks, draw, store, gate, out),
+        Command::Check => run_check(rt, alloc, store, gate, out),
         Command::Help(topic) => Ended {
             status: say_help(alloc, topic, out),
             store,
@@ -212,10 +279,11 @@ fn run_command<R: Threads + Wait + Sync, I: Source, S: Counting + Send, K: Sink,
 }
 
 /// Does what the words say: reads a script from the input, plays it over the store, and writes the report; or makes a script
-/// from a number, plays it, and writes one line; or writes help or the version.
+/// that shows the numbers of a box of cells, plays it, and writes the report; or makes a script from a number, plays it, and
+/// writes one line; or checks the store, and writes what came of that; or writes help or the version.
 ///
 /// Where a script has no line of turns, its tasks are played at once, each in a thread of its own where one can be started,
-/// and the gate is called before each step of theirs.
+/// and the gate is called before each step of theirs. It is called before each step of a check, too.
 pub fn run<R: Threads + Wait + Sync, I: Source, S: Counting + Send, K: Sink, G: Gate + Sync>(
     rt: &R,
     alloc: Global,
@@ -251,9 +319,11 @@ pub fn run<R: Threads + Wait + Sync, I: Source, S: Counting + Send, K: Sink, G: 
     // Exactly what was done. The status tells of the input: a fault of the source only where it rose; the first line that is refused, exactly; and
     // then nothing has been done or written. Every other status but want of memory has read a script, played it over the
     // store, and written its report, whole, or less where the sink failed. Of want of memory it tells how far all this came.
-    // `grow` reads no input, and plays the text that is made from its number in its place; of that it writes one line, whose
-    // number of operations is that of the events by which the store's journal grew, where that is told. Help and the version
-    // are written, whole, or less where the sink failed, and nothing else is read or done.
+    // `cells` and `grow` read no input, and play the text that is made from the words in its place; of that `grow` writes one line, whose
+    // number of operations is that of the events by which the store's journal grew, where that is told. `check` reads no input and
+    // begins no repository: as client 1 it reads all that the refs reach, and writes what is wrong, or how much it found; its status
+    // is that of the first cause that holds. Help and the version are written, whole, or less where the sink failed, and nothing
+    // else is read or done.
     ensures exact { (command : Command) → command_of words.now ≡ Ok command → Exact draw command (record { input = I.at input.old; store = S.view store; out = K.at out.old }) (record { input = I.at input.new; store = S.view result.store; out = K.at out.new }) result.status }
 
     // And what the next run may take for granted: over a store that tells a sound journal, to which the clients' ids were new, the
@@ -264,8 +334,8 @@ pub fn run<R: Threads + Wait + Sync, I: Source, S: Counting + Send, K: Sink, G: 
     ensures bound { TakesAtMost most_input (I.at input.old) (I.at input.new) }
 
     // Where the source tells its bytes and the grammar refuses a line of them, the status is the first such line and its kind,
-    // unless the source failed or memory was wanting. Whether the grammar refuses a line of what `grow` makes isn't said; if
-    // so, the status is that line.
+    // unless the source failed or memory was wanting. Where it refuses a line of what `cells` makes from its words, as where
+    // they tell no box, the status is that line. Whether it refuses a line of what `grow` makes isn't said; if so, the same.
     ensures refused { (command : Command) → command_of words.now ≡ Ok command → TellsRefused command (I.at input.old) result.status }
 
     // A fault of the store or of the sink is told only where their counts of faults rose. So where the words are a command and
@@ -275,6 +345,7 @@ pub fn run<R: Threads + Wait + Sync, I: Source, S: Counting + Send, K: Sink, G: 
     ensures calm { (command : Command) → command_of words.now ≡ Ok command → IsCalm (I.at input.old) (I.at input.new) (S.view store) (S.view result.store) (K.at out.old) (K.at out.new) → IsFaultless result.status }
 {
     nothing_law();
+    run_law();
     match read_words(alloc, words) {
         Ok(command) => run_command(rt, alloc, command, draw, input, store, gate, out),
         Err(fault) => Ended {

@@ -4,20 +4,21 @@ ghost use Rattle.std.specs.Prelude.{◌≡◌, ◌∷◌, ◌++◌, map, codes, 
 ghost use Rattle.std.specs.List.{count_by, flat_map};
 ghost use Rattle.drafts.specs.Drafts.{IsBlank, Took};
 ghost use Rattle.grow_script.specs.Summary.{summary_text};
-ghost use Rattle.play_report.specs.Report.{report_of};
+ghost use Rattle.play_report.specs.Report.{outcome_text, report_of};
 ghost use Rattle.play_outcome.specs.Ending.{end_why, why_ended, why_unsettled};
 ghost use Rattle.store_api.specs.declared.machines.Refusal.TheVariants as Doubts;
 ghost use Rattle.top_call.specs.Telling.{why_of, refusals, causes, is_committed, is_refused, line_text, Told};
 ghost use Rattle.top_call.specs.inside.Adding.{added, all_added};
 
 use crate::statuses::{Causes, Status};
+use check_reports::Checked;
 use drafts::Draft;
 use grow_script::Summary;
 use ice_base::Sink;
 use ice_ids::Id12;
 use play_course::Played;
 use play_outcome::{End, How, Outcome, RefLines};
-use play_report::add_report;
+use play_report::{add_outcome, add_report};
 use play_script::Task;
 use std::alloc::{AllocError, Global};
 use store_api::Refusal;
@@ -54,6 +55,15 @@ fn add_result(causes: &mut Causes, ended: &Result<(), Refusal>)
     }
 }
 
+/// Adds what the end of a check causes.
+fn add_checked(causes: &mut Causes, ended: &Result<Checked, Refusal>)
+    ensures { causes.new ≡ all_added causes.old (why_of ended.now) }
+{
+    if let Err(why) = ended {
+        add(causes, why);
+    }
+}
+
 /// Adds what a doubt causes, and what kept it from being settled.
 fn add_doubt(causes: &mut Causes, id: Id12, how: &How)
     ensures { causes.new ≡ all_added causes.old (Doubts.InDoubt id ∷ why_unsettled how.now) }
@@ -72,6 +82,7 @@ fn add_end(causes: &mut Causes, end: &End)
         End::Refused { why, .. } | End::Stopped { why, .. } => add(causes, why),
         End::InDoubt { id, how } => add_doubt(causes, *id, how),
         End::Expired { result, .. } => add_result(causes, result),
+        End::Checked { result, .. } => add_checked(causes, result),
         End::Committed(_) | End::Collected(_) | End::Done => {}
     }
 }
@@ -110,6 +121,31 @@ fn causes_of(played: &Played, unwritten: bool) -> Causes
     causes
 }
 
+/// What kept a check from ending well, where what came of it was written whole or not.
+fn causes_of_check(outcome: &Outcome, unwritten: bool) -> Causes
+    ensures { result ≡ causes unwritten (why_ended outcome.now) }
+{
+    let mut causes = Causes {
+        no_memory: false,
+        store_fault: false,
+        unwritten,
+        refused: false,
+    };
+    add_end(&mut causes, &outcome.end);
+    causes
+}
+
+/// Writes what came of a check, over a blank draft, and tells the status. It takes no memory.
+pub fn finish_check<K: Sink>(draft: Draft, outcome: &Outcome, out: &mut K) -> Status
+    requires { IsBlank draft }
+    ensures { Told (λ text. text ≡ outcome_text (codes "check") outcome.now) (why_ended outcome.now) (K.at out.old) (K.at out.new) result }
+{
+    let mut draft = draft;
+    add_outcome(&mut draft, out, b"check", outcome);
+    let unwritten = draft.finish(out);
+    causes_of_check(outcome, unwritten).status()
+}
+
 /// Writes the report of what was played, over a blank draft, and tells the status. It takes no memory.
 pub fn finish<K: Sink>(draft: Draft, names: &[&[u8]], played: &Played, out: &mut K) -> Status
     requires { IsBlank draft }
@@ -140,7 +176,9 @@ fn numbers(outcomes: &[Outcome]) -> (u64, u64)
             End::Committed(_) => committed += 1,
             End::Refused { .. } | End::Stopped { .. } => refused += 1,
             End::Expired { result: Err(_), .. } => refused += 1,
+            End::Checked { result: Err(_), .. } => refused += 1,
             End::Expired { result: Ok(()), .. }
+            | End::Checked { result: Ok(_), .. }
             | End::Collected(_)
             | End::Done
             | End::InDoubt { .. } => {}

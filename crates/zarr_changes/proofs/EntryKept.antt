@@ -41,10 +41,10 @@ pub keys-arrays : (es : Arrays) → keys_of (array_rows es) ≡ keys_of es
 keys-arrays [] = refl
 keys-arrays (e ∷ es) = ap (λ (x : List Id8). e.0 ∷ x) (keys-arrays es)
 
-arrays-ascend : (es : Arrays) → IdsAscend (keys_of es) → IdsAscend (keys_of (array_rows es))
+pub arrays-ascend : (es : Arrays) → IdsAscend (keys_of es) → IdsAscend (keys_of (array_rows es))
 arrays-ascend es h = subst IdsAscend (sym (keys-arrays es)) h
 
-rows-set : (test : Id8 → Bool) (es : Arrays) (w : Chunks) → array_rows (set_value test es w) ≡ set_value test (array_rows es) w.entries
+pub rows-set : (test : Id8 → Bool) (es : Arrays) (w : Chunks) → array_rows (set_value test es w) ≡ set_value test (array_rows es) w.entries
 rows-set test [] w = refl
 rows-set test (e ∷ es) w = by_test (test e.0) (rows-set test es w)
   where
@@ -91,10 +91,10 @@ module _ (es : Arrays) (id : Id8) (h : IdsAscend (keys_of es)) where
   abbrev the : Id8 → Bool
   the = is_at (id8_cmp id)
 
-  none_there : lookup the es ≡ None → lookup the (array_rows es) ≡ None
+  pub none_there : lookup the es ≡ None → lookup the (array_rows es) ≡ None
   none_there none = rows-lookup the es ∙ ap (option_map (λ (m : Chunks). m.entries)) none
 
-  some_there : (m : Chunks) → lookup the es ≡ Some m → lookup the (array_rows es) ≡ Some m.entries
+  pub some_there : (m : Chunks) → lookup the es ≡ Some m → lookup the (array_rows es) ≡ Some m.entries
   some_there m found = rows-lookup the es ∙ ap (option_map (λ (m : Chunks). m.entries)) found
 
   -- an entry more
@@ -217,7 +217,7 @@ pub indices_some : (es : Arrays) (id : Id8) (m : Chunks) → IdsAscend (keys_of 
     → keys_of m.entries ≡ indices_in_order (indices_of (all_of es) id)
 indices_some es id m h found sorted = sym (in_order (keys_of m.entries) sorted) ∙ ap indices_in_order (ap keys_of (sym (rows_some es id h m found)) ∙ sym (indices-rows (all_of es) id))
 
-none_ascend : IndicesAscend []
+pub none_ascend : IndicesAscend []
 unfolding IsStrictlySortedBy
 none_ascend = tt
 

@@ -59,10 +59,10 @@ module _ {K : Type 0} (R : K → K → Ordering) (o : IsTotalOrder R) where
   turned_up : (x y : K) → R x y ≡ Less → R y x ≡ Greater
   turned_up x y h = o.antisymm y x ∙ ap ordering_reverse h
 
-  turned_down : (x y : K) → R x y ≡ Greater → R y x ≡ Less
+  pub turned_down : (x y : K) → R x y ≡ Greater → R y x ≡ Less
   turned_down x y h = o.antisymm y x ∙ ap ordering_reverse h
 
-  all_above : (k x : K) → R k x ≡ Less → (ks : List K) → AllByRecursion (λ y. R x y ≡ Less) ks → AllByRecursion (λ y. R k y ≡ Less) ks
+  pub all_above : (k x : K) → R k x ≡ Less → (ks : List K) → AllByRecursion (λ y. R x y ≡ Less) ks → AllByRecursion (λ y. R k y ≡ Less) ks
   all_above k x h [] g = tt
   all_above k x h (y ∷ ks) g = (o.trans k x y h g.0, all_above k x h ks g.1)
 
@@ -217,6 +217,24 @@ module _ (id : Id8) (i : List ℕ) (entry : Option Place) where
       ap (λ (x : List (Entry Place)). x ++ entry_rows es) (map-append (λ (row : List ℕ × Option Place). (id, row.0, row.1)) low ((i, entry) ∷ high))
       ∙ append_assoc (tagged id low) (it ∷ tagged id high) (entry_rows es)
       ∙ (λ t. sym first t ++ it ∷ sym second t)
+
+  -- of an array that is put among the others
+  pub insert_more : (es : Kept) (rows : ChunkRows) → IdsAscend (keys_of es) → IndicesAscend (keys_of rows)
+      → entry_rows (insert_entry id8_cmp es id (insert_entry index_cmp rows i entry)) ≡ with_entry (entry_rows (insert_entry id8_cmp es id rows)) id i entry
+  insert_more [] rows h sorted = ap (λ (x : ChunkRows). tagged id x ++ []) (row-inserted rows i entry sorted) ∙ own_step rows [] tt
+  insert_more (e ∷ es) rows h sorted = by_order (insert_more es rows (sorted_tail id8_cmp e.0 (keys_of es) h) sorted) (id8_cmp id e.0) refl
+    where
+      by_order : entry_rows (insert_entry id8_cmp es id (insert_entry index_cmp rows i entry)) ≡ with_entry (entry_rows (insert_entry id8_cmp es id rows)) id i entry
+          → (r : Ordering) → id8_cmp id e.0 ≡ r → entry_rows (insert_entry id8_cmp (e ∷ es) id (insert_entry index_cmp rows i entry)) ≡ with_entry (entry_rows (insert_entry id8_cmp (e ∷ es) id rows)) id i entry
+      by_order rest Less g =
+          let over : AllByRecursion (λ y. id8_cmp id y ≡ Less) (keys_of (e ∷ es)) = (g, all_above id8_cmp id_total id e.0 g (keys_of es) (sorted_head id8_cmp e.0 (keys_of es) h)) in
+          rw g (ap (λ (x : ChunkRows). tagged id x ++ entry_rows (e ∷ es)) (row-inserted rows i entry sorted) ∙ own_step rows (e ∷ es) over)
+      by_order rest Equal g =
+          let same : id ≡ e.0 = id_exact id e.0 g in
+          let over : AllByRecursion (λ y. id8_cmp id y ≡ Less) (keys_of es) = subst (λ (x : Id8). AllByRecursion (λ y. id8_cmp x y ≡ Less) (keys_of es)) (sym same) (sorted_head id8_cmp e.0 (keys_of es) h) in
+          rw g
+          ((λ t. tagged (sym same t) (row-inserted rows i entry sorted t) ++ entry_rows es) ∙ own_step rows es over ∙ (λ t. with_entry (tagged (same t) rows ++ entry_rows es) id i entry))
+      by_order rest Greater g = rw g (ap (λ (x : List (Entry Place)). tagged e.0 e.1 ++ x) rest ∙ step_lower e (insert_entry id8_cmp es id rows) g)
 
   -- of an array that has some
   pub set_old : (es : Kept) (rows after : ChunkRows) → IdsAscend (keys_of es) → lookup (is_at (id8_cmp id)) es ≡ Some rows → after ≡ with_row_at rows i entry

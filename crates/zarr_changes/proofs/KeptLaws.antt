@@ -1,9 +1,10 @@
 -- Added nodes, as the code keeps them.
-use Rattle.std.proofs.Common.{◌≡◌, ℕ, suc, Bool, true, false, cond, T, List, [], ◌∷◌, ◌++◌, append_assoc, append-nil, length, Option, Some, None, String, Global, refl, sym, ap, subst, ◌∙◌}
+use Rattle.std.proofs.Common.{◌≡◌, ℕ, suc, Bool, true, false, cond, T, List, [], ◌∷◌, ◌++◌, append_assoc, append-nil, length, Option, Some, None, is_some, String, Global, refl, sym, ap, subst, ◌∙◌}
 use Rattle.std.specs.declared.cmp.Ordering.{Ordering}
 use Rattle.std.specs.declared.cmp.Ordering.TheVariants.{Less, Equal, Greater}
 use Rattle.std.specs.List.{list_all, filter}
 use Rattle.std.specs.String.{string_bytes, string_cmp}
+use Rattle.std.specs.Prelude.{Result, Ok, Err, IfOk, OnErr}
 use Rattle.std.specs.Map.{lookup}
 use Rattle.std.specs.BTreeMap.{is_at, insert_entry}
 use Rattle.std.specs.Ordering.{nat_cmp, is_eq, is_lt}
@@ -28,6 +29,10 @@ found_row (e ∷ es) q = ap (λ o. cond (is_eq (path_cmp q (string_bytes e.0))) 
 
 pub found_in : (es : Kept) (q : List ℕ) → lookup (is_at (λ (k : String Global). slice_cmp nat_cmp q (string_bytes k))) es ≡ get (from_entries {R = path_cmp} (node_rows es)) q
 found_in es q = found_row es q ∙ sym (get-made (node_rows es) q)
+
+-- whether a node stands there
+pub there_by : (es : Kept) (k : String Global) (m : FinMap path_cmp Node) (o : Option Node) → from_entries (node_rows es) ≡ m → lookup (is_at (string_cmp k)) es ≡ o → is_some (get m (string_bytes k)) ≡ is_some o
+there_by es k m o e f = ap (λ (x : Option Node). is_some x) (ap (λ (x : FinMap path_cmp Node). get x (string_bytes k)) (sym e) ∙ sym (found_in es (string_bytes k)) ∙ f)
 
 length-rows : (es : Kept) → length es ≡ length (node_rows es)
 length-rows [] = refl
@@ -59,6 +64,21 @@ put_paths p n (e ∷ es) is all =
 
 pub inserted_paths : (es : Kept) (k : String Global) (n : Node) → T (is_path (string_bytes k)) → ArePaths (node_rows es) → ArePaths (node_rows (insert_entry string_cmp es k n))
 inserted_paths es k n is all = subst ArePaths (sym (rows-insert es k n)) (put_paths (string_bytes k) n (node_rows es) is all)
+
+-- one more node, if none stands there
+module _ {E : Type 0} (es new : Kept) (k : String Global) (n : Node) where
+  abbrev pub IsKeptOrNew : Result Bool E → Type 0
+  IsKeptOrNew r = IfOk r (λ free. new ≡ cond free (insert_entry string_cmp es k n) es)
+
+  pub kept_or_new : (r : Result Bool E) → IsKeptOrNew r → OnErr r (new ≡ es) → T (is_path (string_bytes k)) → IsInOrder (node_rows es) → ArePaths (node_rows es) → IsInOrder (node_rows new) × ArePaths (node_rows new)
+  kept_or_new (Ok true) e f is h all = (subst (λ (x : Kept). IsInOrder (node_rows x)) (sym e) (inserted_in_order es k n h), subst (λ (x : Kept). ArePaths (node_rows x)) (sym e) (inserted_paths es k n is all))
+  kept_or_new (Ok false) e f is h all = (subst (λ (x : Kept). IsInOrder (node_rows x)) (sym e) h, subst (λ (x : Kept). ArePaths (node_rows x)) (sym e) all)
+  kept_or_new (Err x) e f is h all = (subst (λ (x : Kept). IsInOrder (node_rows x)) (sym f) h, subst (λ (x : Kept). ArePaths (node_rows x)) (sym f) all)
+
+  pub entered_if_new : (m : FinMap path_cmp Node) (r : Result Bool E) → IsInOrder (node_rows es) → from_entries (node_rows es) ≡ m → IsKeptOrNew r → IfOk r (λ free. from_entries {R = path_cmp} (node_rows new) ≡ cond free (insert m (string_bytes k) n) m)
+  entered_if_new m (Ok true) h e t = ap (λ (x : Kept). from_entries {R = path_cmp} (node_rows x)) t ∙ inserted es k n h ∙ ap (λ (x : FinMap path_cmp Node). insert x (string_bytes k) n) e
+  entered_if_new m (Ok false) h e t = ap (λ (x : Kept). from_entries {R = path_cmp} (node_rows x)) t ∙ e
+  entered_if_new m (Err x) h e t = tt
 
 -- ---- a copy, row by row
 pub kept_entries : (es : Kept) (m : FinMap path_cmp Node) → IsInOrder (node_rows es) → from_entries (node_rows es) ≡ m → entries m ≡ node_rows es

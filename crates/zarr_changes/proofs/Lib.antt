@@ -13,3 +13,4 @@ pub mod EntryLaws
 pub mod EntryKept
 pub mod GridParts
 pub mod ChunkLaws
+pub mod PlacedLaws

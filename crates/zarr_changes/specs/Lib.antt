@@ -3,4 +3,5 @@ pub mod Rows
 pub mod Codes
 pub mod Edits
 pub mod Sets
+pub mod Placing
 pub mod Laws

@@ -1,7 +1,8 @@
 //! Added nodes by their paths.
 
-ghost use Rattle.std.specs.Prelude.{◌≡◌, [], ◌∷◌, not, IfOk, OnOk, OnErr, IfSome, MatchOption, IsTrue};
-ghost use Rattle.std.specs.String.{string_bytes};
+ghost use Rattle.std.specs.Prelude.{◌≡◌, [], ◌∷◌, not, is_some, if◌then◌else◌, IfOk, OnOk, OnErr, IfSome, MatchOption, IsTrue};
+ghost use Rattle.std.specs.String.{string_bytes, string_cmp};
+ghost use Rattle.std.specs.BTreeMap as tree;
 ghost use Rattle.zarr_path.specs.Paths.{is_path, is_within};
 ghost use Rattle.zarr_changes.specs.Rows.{row_found, IsInOrder};
 ghost use Rattle.zarr_changes.specs.inside.Touching.{has_metadata};
@@ -12,16 +13,32 @@ use crate::shared::SharedNode;
 use ice_ids::Id8;
 use std::alloc::{AllocError, Global};
 use std::collections::BTreeMap;
-use std::collections::btree_map::Iter;
+use std::collections::btree_map::{Entry, Iter};
 use std::marker::Model;
 use zarr_meta::SharedMeta;
 use zarr_path::{Path, is_within};
 use zarr_tree::Found;
 
+/// Nodes by the texts of their paths.
+type Nodes = BTreeMap<String, SharedNode>;
+
+/// Enters a node at the path of this text, if none stands there, which it tells. The path is searched for once.
+fn enter_new(nodes: &mut Nodes, text: String, node: SharedNode) -> Result<bool, AllocError>
+    ensures free { IfOk result (λ free. free ≡ not (is_some (tree.get string_cmp nodes.old text))) }
+    ensures entries { IfOk result (λ free. nodes.new.entries ≡ (if free then tree.insert_entry string_cmp nodes.old.entries text node else nodes.old.entries)) }
+    ensures err { OnErr result (nodes.new.entries ≡ nodes.old.entries) }
+{
+    let Entry::Vacant(place) = nodes.entry(text)? else {
+        return Ok(false);
+    };
+    place.insert_entry(node);
+    Ok(true)
+}
+
 /// Nodes by their paths. Contracts see a finite map from the bytes of the paths.
 #[derive(Debug, Drop)]
 pub(crate) struct Added {
-    nodes: BTreeMap<String, SharedNode>,
+    nodes: Nodes,
 }
 
 impl Model for Added {
@@ -96,6 +113,33 @@ impl Added {
     {
         self.nodes.insert(text, node)?;
         Ok(())
+    }
+
+    /// Enters a node of this id with this metadata at a path where none stands, which it tells. Else, and where memory runs
+    /// out, all is as before. The path is searched for once.
+    pub(crate) fn insert_new(
+        &mut self,
+        alloc: Global,
+        path: &Path,
+        id: Id8,
+        meta: SharedMeta,
+    ) -> Result<bool, AllocError>
+        ensures free { IfOk result (λ free. free ≡ not (is_some (map.get self.old path.now))) }
+        ensures entered { IfOk result (λ free. self.new ≡ (if free then map.insert self.old path.now (record { id = id; text = meta.text }) else self.old)) }
+        ensures err { OnErr result (self.new ≡ self.old) }
+    {
+        let text = String::from_str(alloc, path.as_str())?;
+        self.enter_new(text, SharedNode::new(id, meta))
+    }
+
+    /// Enters a node at the path of this text, if none stands there.
+    fn enter_new(&mut self, text: String, node: SharedNode) -> Result<bool, AllocError>
+        requires { IsTrue (is_path (string_bytes text)) }
+        ensures free { IfOk result (λ free. free ≡ not (is_some (map.get self.old (string_bytes text)))) }
+        ensures entered { IfOk result (λ free. self.new ≡ (if free then map.insert self.old (string_bytes text) node else self.old)) }
+        ensures err { OnErr result (self.new ≡ self.old) }
+    {
+        enter_new(&mut self.nodes, text, node)
     }
 
     /// Takes away the node at a path, and all beneath it.

@@ -1,11 +1,12 @@
 //! Adding nodes.
 
-ghost use Rattle.std.specs.Prelude.{◌≡◌, nat_le};
+ghost use Rattle.std.specs.Prelude.{◌≡◌, ◌||◌, nat_le, is_some};
 ghost use Rattle.std.specs.FinMap as map;
 ghost use Rattle.zarr_tree.specs.Edits.{is_group_at, most_nodes, unless};
 ghost use Rattle.zarr_tree.specs.Held.{nodes_over};
 ghost use Rattle.zarr_changes.specs.Edits.{with_added};
 ghost use Rattle.zarr_changes.specs.Sets.{add_refusal, Enters};
+ghost use Rattle.zarr_changes.specs.inside.Own.{own_node, place_refusal};
 
 use crate::kinds::is_group;
 use crate::set::ChangeSet;
@@ -37,26 +38,42 @@ impl ChangeSet {
         self.over(base).reaches(MOST_NODES)
     }
 
+    /// Why no node can be added at a path where none stands.
+    fn place_fault<B: TreeLike>(&self, base: &B, path: &Path) -> Option<EditFault>
+        ensures { result ≡ place_refusal (nodes_over self.now (B.nodes base.now)) path.now }
+    {
+        if !path.is_root() && !self.has_group(base, parent_text(path.as_str())) {
+            return Some(EditFault::NoParent);
+        }
+        if self.is_full(base) {
+            return Some(EditFault::Full);
+        }
+        None
+    }
+
+    /// Whether a node at this path is refused even where no added one stands there.
+    fn is_closed<B: TreeLike>(&self, base: &B, path: &Path) -> bool
+        ensures { result ≡ (is_some (own_node self.now (B.nodes base.now) path.now) || is_some (place_refusal (nodes_over self.now (B.nodes base.now)) path.now)) }
+    {
+        self.own(base, path.as_str()).is_some() || self.place_fault(base, path).is_some()
+    }
+
     /// Refuses exactly as adding a node at this path to the overlay would, whatever its id and its metadata. It takes no
     /// memory.
     pub fn may_add<B: TreeLike>(&self, base: &B, path: &Path) -> Result<(), EditFault>
         ensures { result ≡ unless (add_refusal (nodes_over self.now (B.nodes base.now)) path.now) tt }
     {
-        let text = path.as_str();
-        if self.lookup(base, text).is_some() {
+        if self.lookup(base, path.as_str()).is_some() {
             return Err(EditFault::NodeExists);
         }
-        if !path.is_root() && !self.has_group(base, parent_text(text)) {
-            return Err(EditFault::NoParent);
+        match self.place_fault(base, path) {
+            Some(fault) => Err(fault),
+            None => Ok(()),
         }
-        if self.is_full(base) {
-            return Err(EditFault::Full);
-        }
-        Ok(())
     }
 
     /// Adds a node. It doesn't ask whether the id is a new one: where it isn't, the node is entered all the same. After a
-    /// refusal, and where memory runs out, the set is as before.
+    /// refusal, and where memory runs out, the set is as before. Among added nodes its path is searched for once.
     pub fn add<B: TreeLike>(
         &mut self,
         alloc: Global,
@@ -67,8 +84,14 @@ impl ChangeSet {
     ) -> Result<(), EditFault>
         ensures { Enters (add_refusal (nodes_over self.old (B.nodes base.now)) path.now) (with_added self.old path.now (record { id = id; text = meta.text })) self.old result self.new }
     {
-        self.may_add(base, path)?;
-        self.added.insert(alloc, path, id, meta)?;
+        if self.is_closed(base, path) {
+            drop(meta);
+            return self.may_add(base, path);
+        }
+        let free = self.added.insert_new(alloc, path, id, meta)?;
+        if !free {
+            return Err(EditFault::NodeExists);
+        }
         Ok(())
     }
 }

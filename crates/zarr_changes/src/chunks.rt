@@ -1,15 +1,17 @@
 //! Chunks in the changes.
 
-ghost use Rattle.std.specs.Prelude.{◌≡◌, IfOk, option_map};
+ghost use Rattle.std.specs.Prelude.{◌≡◌, IfOk, OnOk, OnErr, option_map};
 ghost use Rattle.std.specs.Option.{option_copied};
 ghost use Rattle.zarr_tree.specs.Nodes.{array_in};
 ghost use Rattle.zarr_tree.specs.Rows.{node_found};
 ghost use Rattle.zarr_tree.specs.Edits.{unless};
 ghost use Rattle.zarr_tree.specs.Held.{entry_in, nodes_over};
 ghost use Rattle.zarr_changes.specs.Edits.{with_chunk_at, without_chunk_at};
+ghost use Rattle.zarr_changes.specs.Placing.{with_placed};
 ghost use Rattle.zarr_changes.specs.Sets.{length_of, chunk_in, chunk_found, set_refusal, unset_refusal, chunks_of, Enters};
 
 use crate::places::length_of;
+use crate::placing::Placed;
 use crate::set::ChangeSet;
 use ice_ids::Id8;
 use manifest_file::Place;
@@ -116,6 +118,20 @@ impl ChangeSet {
         let index = index.copy(alloc)?;
         self.entries.insert(alloc, chunk.node, index, Some(place))?;
         Ok(())
+    }
+
+    /// The chunks of an array have their bytes at these places from now on: all of them, or none where memory runs out. Whether
+    /// the overlay has such an array isn't asked.
+    pub fn enter_chunks(
+        &mut self,
+        alloc: Global,
+        node: Id8,
+        placed: Vec<Placed>,
+    ) -> Result<(), AllocError>
+        ensures ok { OnOk result (self.new ≡ record self.old { chunks = with_placed self.old.chunks node placed.items }) }
+        ensures err { OnErr result (self.new ≡ self.old) }
+    {
+        self.entries.insert_all(alloc, node, placed)
     }
 
     /// The overlay's array at a path has no chunk of this index from now on: of an added array the entry goes, of another one

@@ -11,11 +11,13 @@ ghost use Rattle.zarr_tree.specs.Nodes.{same_numbers};
 ghost use Rattle.zarr_tree.specs.Touched.{lists, IdsAscend, IndicesAscend};
 ghost use Rattle.zarr_tree.specs.Held.{entry_in, indices_of, indices_in_order};
 ghost use Rattle.zarr_changes.specs.Edits.{with_entry, without_entry, lists_key};
+ghost use Rattle.zarr_changes.specs.Placing.{with_placed};
 ghost use Rattle.zarr_changes.specs.Sets.{chunks_of, has_chunks};
 
 use crate::ids::IdSet;
 use crate::keys::ChunkKey;
 use crate::places::copy_entry;
+use crate::placing::{Chunks, Placed, enter_all};
 use ice_ids::Id8;
 use ice_items::Items;
 use manifest_file::Place;
@@ -23,9 +25,6 @@ use std::alloc::{AllocError, Global};
 use std::collections::BTreeMap;
 use std::marker::Model;
 use zarr_path::Index;
-
-/// The entries of one array: where the chunk of an index is, or that none is held.
-type Chunks = BTreeMap<Index, Option<Place>>;
 
 /// The entries of arrays, by the ids of their nodes.
 type Arrays = BTreeMap<Id8, Chunks>;
@@ -191,6 +190,29 @@ impl Entries {
             None => {
                 let mut chunks = BTreeMap::new(alloc);
                 enter(&mut chunks, index, entry)?;
+                enter_array(&mut self.arrays, node, chunks)
+            }
+        }
+    }
+
+    /// Entries for chunks of an array, in place of what there is for them: all of them, or none where memory runs out.
+    pub(crate) fn insert_all(
+        &mut self,
+        alloc: Global,
+        node: Id8,
+        placed: Vec<Placed>,
+    ) -> Result<(), AllocError>
+        ensures ok { OnOk result (self.new ≡ with_placed self.old node placed.items) }
+        ensures err { OnErr result (self.new ≡ self.old) }
+    {
+        if placed.is_empty() {
+            return Ok(());
+        }
+        match self.arrays.get_mut(&node) {
+            Some(chunks) => enter_all(alloc, chunks, placed),
+            None => {
+                let mut chunks = BTreeMap::new(alloc);
+                enter_all(alloc, &mut chunks, placed)?;
                 enter_array(&mut self.arrays, node, chunks)
             }
         }

@@ -20,6 +20,7 @@ mod looking;
 mod net;
 mod overlay;
 mod places;
+mod placing;
 mod set;
 mod shared;
 mod texts;
@@ -37,4 +38,5 @@ pub use laws::{
 pub use listing::path_of;
 pub use looking::before_slash;
 pub use overlay::{Overlay, Row};
+pub use placing::Placed;
 pub use set::ChangeSet;

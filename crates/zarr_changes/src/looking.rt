@@ -79,7 +79,7 @@ impl ChangeSet {
     }
 
     /// The base's node at a path, if it isn't gone.
-    fn own<'a, B: TreeLike>(&'a self, base: &'a B, path: &str) -> Option<Found<'a>>
+    pub(crate) fn own<'a, B: TreeLike>(&'a self, base: &'a B, path: &str) -> Option<Found<'a>>
         ensures { option_map node_found result ≡ own_node self.now (B.nodes base.now) path.now }
     {
         let found = base.find(path)?;

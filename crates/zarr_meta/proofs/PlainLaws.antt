@@ -44,6 +44,9 @@ group_utf8 = IsUtf8-from_ascii group_text (ascii_tested group_text refl)
 pub group_text_read : meta_of group_text ≡ Ok view.Group
 group_text_read = meta_of_read group_text group_data (group_utf8, group_read) ∙ group_viewed
 
+pub plain_group_said : (text : List ℕ) → text ≡ group_text → meta_of text ≡ Ok view.Group
+plain_group_said text e = ap meta_of e ∙ group_text_read
+
 pub group_text_view : (text : List ℕ) → text ≡ group_text → view_in text ≡ Some view.Group
 group_text_view text e = ap view_in e ∙ ap result_ok group_text_read
 

@@ -92,11 +92,14 @@ impl Meta {
     }
 }
 
-/// What a text says.
-#[tactic(auto, using(crate::proofs::TextLaws::meta_of_told))]
+/// What a text says. Of the plain text of a group that is known, and nothing is read as JSON.
+#[tactic(auto, using(crate::proofs::TextLaws::meta_of_told, crate::proofs::PlainLaws::plain_group_said))]
 fn read_view(alloc: Global, text: &[u8]) -> Result<View, MetaFault>
     ensures { Tells (meta_of text.now) result }
 {
+    if text == GROUP_TEXT.as_bytes() {
+        return Ok(View::Group);
+    }
     match read_value(alloc, text) {
         Ok(value) => view_of(alloc, &value),
         Err(JsonFault::Json) => Err(MetaFault::Json),

@@ -9,6 +9,9 @@ use Rattle.store_api.specs.declared.machines.Refusal.TheVariants.{NoMemory, Conf
 use Rattle.store_api.specs.Program.{Done, is_ask, is_fault}
 use Rattle.store_api.specs.Running.{Program}
 use Rattle.store_api.specs.Plays.{Play, Ended, Or, call, Comes}
+use Rattle.array_region.specs.declared.plans.Region.{Region}
+use Rattle.array_region.specs.Getting.{region_rest, region_left, region_session}
+use Rattle.array_region.specs.Filling.{region_set_rest, region_set_left}
 use Rattle.session.specs.declared.chunks.Value.{Value}
 use Rattle.session.specs.Sessions.{SessionState}
 use Rattle.session.specs.Opening.{open_rest, open_left}
@@ -20,6 +23,7 @@ use Rattle.rebase.specs.declared.machine.Rebased.{Rebased}
 use Rattle.rebase.specs.declared.machine.Rebased.TheVariants.{Moved, UpToDate}
 use Rattle.rebase.specs.Rebasing.{rebase_program, rebase_rest, rebase_left}
 use Rattle.play_script.specs.declared.scripts.Access.{Access}
+use Rattle.play_script.specs.declared.scripts.CellBox.{CellBox}
 use Rattle.play_outcome.specs.declared.outcome.Shown.{Shown}
 use Rattle.play_outcome.specs.declared.outcome.Outcome.{Outcome}
 use Rattle.play_outcome.specs.Ending.{is_failed}
@@ -31,7 +35,7 @@ use Rattle.play_tasks.specs.declared.working.AskedFor.{AskedFor}
 use Rattle.play_tasks.specs.declared.working.AskedFor.TheVariants as asked
 use Rattle.play_tasks.specs.declared.working.Step.{Step}
 use Rattle.play_tasks.specs.declared.working.Step.TheVariants as step
-use Rattle.play_tasks.specs.Lines.{Deed, silent, value_shown, chunk_key_shown}
+use Rattle.play_tasks.specs.Lines.{Deed, silent, value_shown, chunk_key_shown, cells_shown}
 use Rattle.play_tasks.specs.Playing.{Rest, after_line, shown_by, after_open, after_settling, doubt_play, after_commit, after_rebase, commit_play, play_deed, play_lines}
 
 -- ---- where a worker stands
@@ -39,7 +43,7 @@ use Rattle.play_tasks.specs.Playing.{Rest, after_line, shown_by, after_open, aft
 abbrev pub lines_from : SessionTask → ℕ → Rest
 lines_from task at = play_lines task.access.now (drop at task.body.now)
 
--- what is played behind the setting of a chunk in a line, and behind the reading of one
+-- what is played behind the setting of a chunk or a box in a line, and behind the reading of one
 abbrev pub after_set : ℕ → List Shown → Rest → Result SessionState Refusal → Play Outcome
 after_set line shown rest answer = after_line line shown (silent answer) rest
 
@@ -48,7 +52,7 @@ abbrev pub shown_for : AskedFor → ℕ → Value → Shown
 shown_for asked.Chunk line = value_shown line
 shown_for asked.Key line = chunk_key_shown line
 
-abbrev pub after_get : (Value → Shown) → ℕ → List Shown → SessionState → Rest → Result Value Refusal → Play Outcome
+abbrev pub after_get : {A : Type 0} → (A → Shown) → ℕ → List Shown → SessionState → Rest → Result A Refusal → Play Outcome
 after_get show line shown s rest answer = after_line line shown (shown_by s show answer) rest
 
 -- A commit of this session was lost, and may be tried again so often: the session is rebased, with the ids that it draws next.
@@ -69,6 +73,8 @@ abbrev pub working_rest : SessionTask → Working → Play Outcome
 working_rest task (w.Opening opener) = call (open_rest opener) (after_open task.access.now task.line task.body.now)
 working_rest task (w.Setting line at shown set) = call (set_rest set) (after_set line shown.items (lines_from task at))
 working_rest task (w.Getting line at for shown get) = call (get_rest get) (after_get (shown_for for line) line shown.items (get_session get) (lines_from task at))
+working_rest task (w.Putting line at shown set) = call (region_set_rest set) (after_set line shown.items (lines_from task at))
+working_rest task (w.Gathering line at shown get) = call (region_rest get) (after_get (cells_shown line) line shown.items (region_session get) (lines_from task at))
 working_rest task (w.Committing line tries shown commit) = call (commit_rest commit) (after_commit line shown (doubt_play shown (session_in commit)) (after_lost tries.left tries.policy line shown (message_in commit) (session_in commit)))
 working_rest task (w.Settling shown id settle) = call (settle_rest settle) (after_settling shown id)
 working_rest task (w.Rebasing line tries shown message rebase) = call (rebase_rest rebase) (after_rebase line shown (commit_play tries.left tries.policy line shown message))
@@ -79,6 +85,8 @@ abbrev pub is_working : Working → Bool
 is_working (w.Opening opener) = is_ask (open_rest opener)
 is_working (w.Setting line at shown set) = is_ask (set_rest set)
 is_working (w.Getting line at for shown get) = is_ask (get_rest get)
+is_working (w.Putting line at shown set) = is_ask (region_set_rest set)
+is_working (w.Gathering line at shown get) = is_ask (region_rest get)
 is_working (w.Committing line tries shown commit) = is_ask (commit_rest commit)
 is_working (w.Settling shown id settle) = is_ask (settle_rest settle)
 is_working (w.Rebasing line tries shown message rebase) = is_ask (rebase_rest rebase)
@@ -104,6 +112,8 @@ abbrev pub machine_left : Working → ℕ
 machine_left (w.Opening opener) = open_left opener
 machine_left (w.Setting line at shown set) = set_left set
 machine_left (w.Getting line at for shown get) = get_left get
+machine_left (w.Putting line at shown set) = region_set_left set
+machine_left (w.Gathering line at shown get) = region_left get
 machine_left (w.Committing line tries shown commit) = tries.left * try_steps + commit_left commit + settle_steps
 machine_left (w.Settling shown id settle) = settle_left settle
 machine_left (w.Rebasing line tries shown message rebase) = tries.left * try_steps + commit_steps + rebase_left rebase
@@ -114,6 +124,8 @@ abbrev pub lines_left : ℕ → Working → ℕ
 lines_left lines (w.Opening opener) = lines
 lines_left lines (w.Setting line at shown set) = lines - at
 lines_left lines (w.Getting line at for shown get) = lines - at
+lines_left lines (w.Putting line at shown set) = lines - at
+lines_left lines (w.Gathering line at shown get) = lines - at
 lines_left lines (w.Committing line tries shown commit) = 0
 lines_left lines (w.Settling shown id settle) = 0
 lines_left lines (w.Rebasing line tries shown message rebase) = 0
@@ -170,6 +182,8 @@ abbrev pub is_well : Working → Bool
 is_well (w.Opening opener) = false
 is_well (w.Setting line at shown set) = is_ask (set_rest set)
 is_well (w.Getting line at for shown get) = is_ask (get_rest get)
+is_well (w.Putting line at shown set) = is_ask (region_set_rest set)
+is_well (w.Gathering line at shown get) = is_ask (region_rest get)
 is_well (w.Committing line tries shown commit) = is_ask (commit_rest commit)
 is_well (w.Settling shown id settle) = false
 is_well (w.Rebasing line tries shown message rebase) = is_ask (rebase_rest rebase)
@@ -183,3 +197,10 @@ is_clean (step.Stop state) = is_well state
 abbrev pub IsBounded : (at : ℕ) → Step → Type 0
 IsBounded at (step.On s shown) = Unit {0}
 IsBounded at (step.Stop state) = (lines : ℕ) → working_left lines state ≤ (lines - at) * most_steps + most_steps
+
+-- ---- boxes
+-- the box that a line names, as a machine takes it
+pub record IsBoxOf (place : CellBox) (region : Region) : Type 0 where
+  pub path : region.path ≡ place.path
+  pub from : region.from.items ≡ place.from
+  pub to : region.to.items ≡ place.to

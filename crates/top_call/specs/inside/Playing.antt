@@ -21,6 +21,7 @@ use Rattle.top_call.specs.declared.statuses.Status.{Status}
 use Rattle.top_call.specs.declared.statuses.Status.TheVariants as S
 use Rattle.top_call.specs.Telling.{IsText, Told, KeepsAll, IsRegular, refusals}
 use Rattle.top_call.specs.Run.{HasScript, HasFailed, HasFault, IsUntouched, Says}
+use Rattle.top_call.specs.Check.{Checks, StaysSound}
 
 -- where the store tells its journal, and that is sound and the clients' ids are new to it, a run keeps the histories, and the
 -- refs that it tells are their ends
@@ -49,6 +50,11 @@ pub record WasPlayed (command : Command) (draw : Draw) (script : Script) (store_
   pub told : Told (IsText command script store_old store_new opening outcomes refs) (refusals opening outcomes refs) out_old out_new status
 
 -- ---- what each status says of a command that plays
+-- it prints the report
+abbrev pub IsReported : Command → Type 0
+IsReported (C.Grow tasks) = ⊥
+IsReported command = Unit {0}
+
 -- the text is that of a script, which was played, and what is written and the status tell of it
 pub record WasRun (command : Command) (draw : Draw) (in_old in_new : InputAt) (s t : View) (out_old out_new : OutputAt) (status : Status) : Type 0 where
   pub script : Script
@@ -72,6 +78,8 @@ PlayEnds command draw in_old in_new s t out_old out_new status = WasRun command 
 -- ---- what each status says where the words are a command
 abbrev pub Ends : Command → Draw → InputAt → InputAt → View → View → OutputAt → OutputAt → Status → Type 0
 Ends C.Play draw in_old in_new s t out_old out_new status = PlayEnds C.Play draw in_old in_new s t out_old out_new status
+Ends (C.Cells box) draw in_old in_new s t out_old out_new status = (in_new ≡ in_old) × PlayEnds (C.Cells box) draw in_old in_new s t out_old out_new status
 Ends (C.Grow tasks) draw in_old in_new s t out_old out_new status = (in_new ≡ in_old) × PlayEnds (C.Grow tasks) draw in_old in_new s t out_old out_new status
+Ends C.Check draw in_old in_new s t out_old out_new status = (in_new ≡ in_old) × (Checks s t out_old out_new status × (IsTrue s.caller.tells → StaysSound draw s.seen t.seen))
 Ends (C.Help topic) draw in_old in_new s t out_old out_new status = Says (help_of topic) in_old in_new s t out_old out_new status
 Ends C.Version draw in_old in_new s t out_old out_new status = Says version_line in_old in_new s t out_old out_new status

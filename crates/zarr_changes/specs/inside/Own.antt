@@ -1,10 +1,13 @@
 -- Nodes of a tree that stay under what is held; no public contract cites this.
-use Rattle.std.specs.Prelude.{List, ℕ, Bool, not, ◌&&◌, if◌then◌else◌, Option, None, option_map}
+use Rattle.std.specs.Prelude.{List, ℕ, Bool, not, ◌&&◌, nat_le, if◌then◌else◌, Option, None, Some, option_map}
 use Rattle.std.specs.List.{list_any, filter}
-use Rattle.std.specs.FinMap.{FinMap, get}
+use Rattle.std.specs.FinMap.{FinMap, get, len}
 use Rattle.ice_ids.specs.declared.Id8.{Id8}
 use Rattle.ice_ids.specs.Text.{same_id8}
-use Rattle.zarr_path.specs.Paths.{path_cmp, is_within}
+use Rattle.zarr_path.specs.Paths.{path_cmp, is_within, same_path, root, parent_of}
+use Rattle.zarr_tree.specs.declared.edit.EditFault.{EditFault}
+use Rattle.zarr_tree.specs.declared.edit.EditFault.TheVariants.{NoParent, Full}
+use Rattle.zarr_tree.specs.Edits.{is_group_at, most_nodes}
 use Rattle.zarr_tree.specs.Nodes.{Node}
 use Rattle.zarr_tree.specs.Changes.{is_gone, patched}
 use Rattle.zarr_tree.specs.Touched.{lists}
@@ -13,6 +16,13 @@ use Rattle.zarr_tree.specs.Held.{Held, Rows, Entry, meta_in}
 -- the tree's node at a path with its other text, if it isn't gone
 abbrev pub own_node : {P : Type 0} → Held P → FinMap path_cmp Node → (path : List ℕ) → Option Node
 own_node h nodes p = if is_gone (lists h.dropped) nodes p then None else option_map (patched (meta_in h.metas)) (get nodes p)
+
+-- why no node can be added at a path where none stands
+abbrev pub place_refusal : FinMap path_cmp Node → (path : List ℕ) → Option EditFault
+place_refusal nodes p =
+    if not (same_path p root) && not (is_group_at (get nodes (parent_of p))) then Some NoParent else
+    (if nat_le most_nodes (len nodes) then Some Full else
+    None)
 
 -- whether one of the rows at or beneath a path has this id
 abbrev pub within_rows : Rows → (path : List ℕ) → Id8 → Bool

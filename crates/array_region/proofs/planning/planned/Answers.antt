@@ -1,6 +1,6 @@
-use Rattle.std.proofs.Common.{sym, ap, ◌∙◌}
+use Rattle.std.proofs.Common.{ap}
 use Rattle.session.specs.Arrays.{array_told}
-use Rattle.array_region.proofs.Planned.{told_refused, count_refused, passes, planned_program}
+use Rattle.array_region.proofs.Planned.{told_refused, count_refused, passes, planned_program, told_unwritten, count_unwritten, planned_write}
 use Rattle.array_region.proofs.planning.planned.Goals as goal
 
 pub invariant_of-result : goal.invariant_of-result
@@ -11,16 +11,35 @@ invariant_of-result c =
           c.in-Ok-copy.array c.in-Ok-copy.ensures c.grid_law.ensures;
     }
 
-pub returns-in-Err : goal.returns-in-Err
-returns-in-Err c = let r = c.args.region in told_refused c.args.session.now r.path r.from.items r.to.items (array_told c.find_array.result) c.find_array.ensures c.in-Err.why (ap array_told c.in-Err.is)
+pub returns-in-Err-clause-reads : goal.returns-in-Err-clause-reads
+returns-in-Err-clause-reads c = let r = c.args.region in told_refused c.args.session.now r.path r.from.items r.to.items (array_told c.find_array.result) c.find_array.ensures c.in-Err.why (ap array_told c.in-Err.is)
 
-pub returns-in-Err-counted : goal.returns-in-Err-counted
-returns-in-Err-counted c =
+pub returns-in-Err-counted-clause-reads : goal.returns-in-Err-counted-clause-reads
+returns-in-Err-counted-clause-reads c =
     let r = c.args.region in
     count_refused c.args.session.now r.path r.from.items r.to.items (array_told c.find_array.result) c.find_array.ensures c.in-Ok.found.node c.in-Ok.found.array.now (ap array_told c.in-Ok.is) c.counted.result c.counted.ensures c.in-Err-counted.why c.in-Err-counted.is
 
-pub returns : goal.returns
-returns c =
+pub returns-clause-reads : goal.returns-clause-reads
+returns-clause-reads c =
     let r = c.args.region in
     planned_program c.args.session.now r.path r.from.items r.to.items (array_told c.find_array.result) c.find_array.ensures c.in-Ok.found.node c.in-Ok.found.array.now (ap array_told c.in-Ok.is) c.counted.result c.counted.ensures c.in-Ok-counted.count c.in-Ok-counted.is
     c.in-Ok-copy.array c.in-Ok-copy.ensures c.grid_law.ensures
+
+pub returns-in-Err-clause-writes : goal.returns-in-Err-clause-writes
+returns-in-Err-clause-writes c =
+    let r = c.args.region in
+    λ numbers w. told_unwritten c.args.session.now r.path r.from.items r.to.items (array_told c.find_array.result) c.find_array.ensures numbers w c.in-Err.why (ap array_told c.in-Err.is)
+
+pub returns-in-Err-counted-clause-writes : goal.returns-in-Err-counted-clause-writes
+returns-in-Err-counted-clause-writes c =
+    let r = c.args.region in
+    λ numbers w.
+    count_unwritten c.args.session.now r.path r.from.items r.to.items (array_told c.find_array.result) c.find_array.ensures numbers w c.in-Ok.found.node c.in-Ok.found.array.now (ap array_told c.in-Ok.is) c.counted.result c.counted.ensures
+    c.in-Err-counted.why c.in-Err-counted.is
+
+pub returns-clause-writes : goal.returns-clause-writes
+returns-clause-writes c =
+    let r = c.args.region in
+    λ numbers w.
+    planned_write c.args.session.now r.path r.from.items r.to.items (array_told c.find_array.result) c.find_array.ensures numbers w c.in-Ok.found.node c.in-Ok.found.array.now (ap array_told c.in-Ok.is) c.counted.result c.counted.ensures
+    c.in-Ok-counted.count c.in-Ok-counted.is c.in-Ok-copy.array c.in-Ok-copy.ensures

@@ -1,7 +1,5 @@
-use Rattle.std.proofs.Common.{◌≡◌, Bool, false, List, ℕ, Option, not, ap, sym, ◌∙◌}
+use Rattle.std.proofs.Common.{◌≡◌, Bool, false, List, ℕ, not, ap, sym, ◌∙◌}
 use Rattle.std.specs.Prelude.{◌||◌}
-use Rattle.snapshot_file.specs.declared.nodes.NodeKind.{NodeKind}
-use Rattle.snapshot_file.specs.declared.nodes.NodeRow.{NodeRow}
 use Rattle.zarr_path.specs.Paths.{same_path, root, parent_of}
 use Rattle.zarr_path.proofs.OrderLaws.{pointwise-same}
 use Rattle.held_snapshot.specs.LookUp.{is_array, row_at}

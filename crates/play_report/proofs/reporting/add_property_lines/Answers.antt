@@ -16,3 +16,6 @@ returns-4 g c = took_as (search rules) (took_none _ _)
 
 pub returns-5 : goal.returns-5
 returns-5 g c = took_as (search rules) (took_none _ _)
+
+pub returns-6 : goal.returns-6
+returns-6 g c = took_as (search rules) (took_none _ _)

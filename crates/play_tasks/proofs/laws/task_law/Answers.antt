@@ -15,8 +15,12 @@ returns c =
       set = c.set_law.ensures;
       get = c.get_law.ensures;
       calls = c.owning_calls_law.ensures;
+      gather = c.region_law.ensures;
+      put = c.region_set_law.ensures;
+      boxes = c.owning_region_law.ensures;
       refs = c.refs_task_law.ensures;
       collect = c.collect_task_law.ensures;
       expire = c.expire_task_law.ensures;
+      check = c.check_task_law.ensures;
     } in
     λ by ids task start well. task-well L by ids task start well

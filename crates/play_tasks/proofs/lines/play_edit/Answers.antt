@@ -1,7 +1,8 @@
-use Rattle.std.proofs.Common.{◌≡◌, ℕ, List, inl, inr, refl, sym, ◌∙◌, ap, subst}
+use Rattle.std.proofs.Common.{◌≡◌, ℕ, ℤ, List, inl, inr, refl, sym, ◌∙◌, ap, subst}
 use Rattle.session.specs.Sessions.{SessionState}
+use Rattle.play_script.specs.declared.scripts.CellBox.{CellBox}
 use Rattle.play_script.specs.declared.scripts.EditCall.{EditCall}
-use Rattle.play_script.specs.declared.scripts.EditCall.TheVariants.{Group, Array, Make, Meta, Drop, Set, Fill, Unset, KeySet, KeyErase}
+use Rattle.play_script.specs.declared.scripts.EditCall.TheVariants.{Group, Array, Make, Meta, Drop, Set, Fill, Unset, Put, KeySet, KeyErase}
 use Rattle.play_tasks.specs.Lines.{Deed, Goes, edit_deed, edited, silent}
 use Rattle.play_tasks.specs.inside.Working.{LineComes, CallComes}
 use Rattle.play_tasks.proofs.lines.play_edit.Goals as goal
@@ -60,3 +61,9 @@ returns-in-KeySet-clause-comes c = λ access.
     let held = sym (c.as_slice-in-KeySet.ensures.value ∙ c.deref-in-KeySet-2.ensures) in
     let is = c.in-KeySet.is ∙ (ap (λ (k : List ℕ). KeySet k c.in-KeySet.bytes) (sym c.deref-in-KeySet.ensures) ∙ ap (λ (b : List ℕ). KeySet key b) held) in
     subst (λ (x : EditCall). LineComes access c.args.line c.args.at c.args.shown.items s (edit_deed x s) c.play_key_set.result) (sym is) (c.play_key_set.ensures.comes access)
+
+pub returns-in-Put-clause-comes : goal.returns-in-Put-clause-comes
+returns-in-Put-clause-comes c =
+    let place = c.deref-in-Put.result.now in
+    let is = c.in-Put.is ∙ (ap (λ (p : CellBox). Put p c.in-Put.numbers) (sym c.deref-in-Put.ensures) ∙ ap (λ (n : List ℤ). Put place n) (sym c.deref-in-Put-2.ensures)) in
+    subst (λ (x : EditCall). CallComes c.args.line c.args.at c.args.shown.items c.args.session (edit_deed x c.args.session) c.play_put.result) (sym is) c.play_put.ensures.comes

@@ -1,7 +1,8 @@
 use Rattle.std.proofs.Common.{◌≡◌, ℕ, List, inl, inr, refl, sym, ◌∙◌, ap, subst}
 use Rattle.session.specs.Sessions.{SessionState}
+use Rattle.play_script.specs.declared.scripts.CellBox.{CellBox}
 use Rattle.play_script.specs.declared.scripts.ReadCall.{ReadCall}
-use Rattle.play_script.specs.declared.scripts.ReadCall.TheVariants.{List as List_call, Get, Chunk}
+use Rattle.play_script.specs.declared.scripts.ReadCall.TheVariants.{List as List_call, Get, Chunk, Cells}
 use Rattle.play_tasks.specs.Lines.{Deed, Goes, read_deed, read_by, still}
 use Rattle.play_tasks.specs.inside.Working.{CallComes}
 use Rattle.play_tasks.proofs.lines.play_read.Goals as goal
@@ -14,6 +15,11 @@ returns-in-Chunk-clause-comes c =
 
 pub returns-in-KeyGet-clause-comes : goal.returns-in-KeyGet-clause-comes
 returns-in-KeyGet-clause-comes c = subst (λ (x : ReadCall). CallComes c.args.line c.args.at c.args.shown.items c.args.session (read_deed c.args.line x c.args.session) c.play_key_get.result) (sym c.in-KeyGet.is) c.play_key_get.ensures.comes
+
+pub returns-in-Cells-clause-comes : goal.returns-in-Cells-clause-comes
+returns-in-Cells-clause-comes c =
+    let is = c.in-Cells.is ∙ ap (λ (p : CellBox). Cells p) (sym c.deref-in-Cells.ensures) in
+    subst (λ (x : ReadCall). CallComes c.args.line c.args.at c.args.shown.items c.args.session (read_deed c.args.line x c.args.session) c.play_cells.result) (sym is) c.play_cells.ensures.comes
 
 -- the read is one that needs no operation
 goes : (line : ℕ) (x y : ReadCall) (s : SessionState) → x ≡ y → read_deed line y s ≡ Goes (still s (read_by line y s)) → read_deed line x s ≡ Goes (still s (read_by line x s))

@@ -8,7 +8,7 @@ use Rattle.top_call.proofs.Commands.{of_said, not_said, usage_told, starved, ref
 use Rattle.top_call.proofs.Endings.{ends_starved, store_faulted, sink_faulted}
 use Rattle.top_call.proofs.Readings.{tells_refused, faultless}
 use Rattle.top_call.specs.Promise.{KeepsSound, KeepsOwn, SparesSound, SparesOwn}
-use Rattle.top_call.proofs.Promises.{keeps-sound, keeps-own, spares-sound, spares-own}
+use Rattle.top_call.proofs.Promises.{keeps-sound, keeps-own, spares-sound, spares-own, unplayed}
 use Rattle.top_call.proofs.Apart.{exactly, goes-on, untouched-on}
 use Rattle.top_call.proofs.running.run.Goals as goal
 
@@ -38,10 +38,10 @@ pub returns-in-Err-clause-usage : goal.returns-in-Err-clause-usage
 returns-in-Err-clause-usage g c = rw c.from.ensures (λ fault k. (usage_told (command_of c.args.words.now) c.in-Err.fault c.in-Err.ensures.says fault k, refl, refl, refl))
 
 pub returns-in-Err-clause-exact : goal.returns-in-Err-clause-exact
-returns-in-Err-clause-exact g c = rw c.from.ensures (λ command k. starved (command_of c.args.words.now) c.in-Err.fault c.in-Err.ensures.says (λ status. Exact c.args.draw command (record { input = g.I.Source.at c.args.input.now; store = g.S.Viewed.view c.args.store; out = g.K.Sink.at c.args.out.now }) (record { input = g.I.Source.at c.args.input.now; store = g.S.Viewed.view c.args.store; out = g.K.Sink.at c.args.out.now }) status) (exactly c.args.draw (record { input = g.I.Source.at c.args.input.now; store = g.S.Viewed.view c.args.store; out = g.K.Sink.at c.args.out.now }) (record { input = g.I.Source.at c.args.input.now; store = g.S.Viewed.view c.args.store; out = g.K.Sink.at c.args.out.now }) command S.NoMemory (ends_starved command c.args.draw (g.I.Source.at c.args.input.now) (g.S.Viewed.view c.args.store) (g.K.Sink.at c.args.out.now))) command k)
+returns-in-Err-clause-exact g c = rw c.from.ensures (λ command k. starved (command_of c.args.words.now) c.in-Err.fault c.in-Err.ensures.says (λ status. Exact c.args.draw command (record { input = g.I.Source.at c.args.input.now; store = g.S.Viewed.view c.args.store; out = g.K.Sink.at c.args.out.now }) (record { input = g.I.Source.at c.args.input.now; store = g.S.Viewed.view c.args.store; out = g.K.Sink.at c.args.out.now }) status) (exactly c.args.draw (record { input = g.I.Source.at c.args.input.now; store = g.S.Viewed.view c.args.store; out = g.K.Sink.at c.args.out.now }) (record { input = g.I.Source.at c.args.input.now; store = g.S.Viewed.view c.args.store; out = g.K.Sink.at c.args.out.now }) command S.NoMemory (ends_starved c.run_law.ensures command c.args.draw (g.I.Source.at c.args.input.now) (g.S.Viewed.view c.args.store) (g.K.Sink.at c.args.out.now))) command k)
 
 pub returns-in-Err-clause-goes_on : goal.returns-in-Err-clause-goes_on
-returns-in-Err-clause-goes_on g c = λ command k. untouched-on c.args.draw command (record { input = g.I.Source.at c.args.input.now; store = g.S.Viewed.view c.args.store; out = g.K.Sink.at c.args.out.now })
+returns-in-Err-clause-goes_on g c = λ command k. untouched-on c.run_law.ensures c.args.draw command (record { input = g.I.Source.at c.args.input.now; store = g.S.Viewed.view c.args.store; out = g.K.Sink.at c.args.out.now })
 
 pub returns-in-Err-clause-refused : goal.returns-in-Err-clause-refused
 returns-in-Err-clause-refused g c = rw c.from.ensures (λ command k. starved (command_of c.args.words.now) c.in-Err.fault c.in-Err.ensures.says (TellsRefused command (g.I.Source.at c.args.input.now)) (refused_starved command (g.I.Source.at c.args.input.now)) command k)
@@ -68,13 +68,13 @@ pub returns-in-Ok-clause-spares_ours : goal.returns-in-Ok-clause-spares_ours
 returns-in-Ok-clause-spares_ours g c = of_said _ _ c.in-Ok.ensures.says (λ command. SparesOwn c.args.draw command (record { input = g.I.Source.at c.args.input.now; store = g.S.Viewed.view c.args.store; out = g.K.Sink.at c.args.out.now }) (record { input = g.I.Source.at c.run_command.new.input; store = g.S.Viewed.view c.run_command.result.store; out = g.K.Sink.at c.run_command.new.out }) c.run_command.result.status) (spares-own c.args.draw (record { input = g.I.Source.at c.args.input.now; store = g.S.Viewed.view c.args.store; out = g.K.Sink.at c.args.out.now }) (record { input = g.I.Source.at c.run_command.new.input; store = g.S.Viewed.view c.run_command.result.store; out = g.K.Sink.at c.run_command.new.out }) c.nothing_law.ensures c.in-Ok.command c.run_command.result.status c.run_command.ensures.ends)
 
 pub returns-in-Err-clause-promise : goal.returns-in-Err-clause-promise
-returns-in-Err-clause-promise g c = rw c.from.ensures (λ command k. starved (command_of c.args.words.now) c.in-Err.fault c.in-Err.ensures.says (λ status. KeepsSound c.args.draw command (record { input = g.I.Source.at c.args.input.now; store = g.S.Viewed.view c.args.store; out = g.K.Sink.at c.args.out.now }) (record { input = g.I.Source.at c.args.input.now; store = g.S.Viewed.view c.args.store; out = g.K.Sink.at c.args.out.now }) status) (inl (record { out = refl; store = inl refl })) command k)
+returns-in-Err-clause-promise g c = rw c.from.ensures (λ command k. starved (command_of c.args.words.now) c.in-Err.fault c.in-Err.ensures.says (λ status. KeepsSound c.args.draw command (record { input = g.I.Source.at c.args.input.now; store = g.S.Viewed.view c.args.store; out = g.K.Sink.at c.args.out.now }) (record { input = g.I.Source.at c.args.input.now; store = g.S.Viewed.view c.args.store; out = g.K.Sink.at c.args.out.now }) status) (unplayed c.args.draw (record { input = g.I.Source.at c.args.input.now; store = g.S.Viewed.view c.args.store; out = g.K.Sink.at c.args.out.now }) (record { input = g.I.Source.at c.args.input.now; store = g.S.Viewed.view c.args.store; out = g.K.Sink.at c.args.out.now }) command _ (record { out = refl; store = inl refl })) command k)
 
 pub returns-in-Err-clause-ours : goal.returns-in-Err-clause-ours
-returns-in-Err-clause-ours g c = rw c.from.ensures (λ command k. starved (command_of c.args.words.now) c.in-Err.fault c.in-Err.ensures.says (λ status. KeepsOwn c.args.draw command (record { input = g.I.Source.at c.args.input.now; store = g.S.Viewed.view c.args.store; out = g.K.Sink.at c.args.out.now }) (record { input = g.I.Source.at c.args.input.now; store = g.S.Viewed.view c.args.store; out = g.K.Sink.at c.args.out.now }) status) (inl (record { out = refl; store = inl refl })) command k)
+returns-in-Err-clause-ours g c = rw c.from.ensures (λ command k. starved (command_of c.args.words.now) c.in-Err.fault c.in-Err.ensures.says (λ status. KeepsOwn c.args.draw command (record { input = g.I.Source.at c.args.input.now; store = g.S.Viewed.view c.args.store; out = g.K.Sink.at c.args.out.now }) (record { input = g.I.Source.at c.args.input.now; store = g.S.Viewed.view c.args.store; out = g.K.Sink.at c.args.out.now }) status) (unplayed c.args.draw (record { input = g.I.Source.at c.args.input.now; store = g.S.Viewed.view c.args.store; out = g.K.Sink.at c.args.out.now }) (record { input = g.I.Source.at c.args.input.now; store = g.S.Viewed.view c.args.store; out = g.K.Sink.at c.args.out.now }) command _ (record { out = refl; store = inl refl })) command k)
 
 pub returns-in-Err-clause-spares : goal.returns-in-Err-clause-spares
-returns-in-Err-clause-spares g c = rw c.from.ensures (λ command k. starved (command_of c.args.words.now) c.in-Err.fault c.in-Err.ensures.says (λ status. SparesSound c.args.draw command (record { input = g.I.Source.at c.args.input.now; store = g.S.Viewed.view c.args.store; out = g.K.Sink.at c.args.out.now }) (record { input = g.I.Source.at c.args.input.now; store = g.S.Viewed.view c.args.store; out = g.K.Sink.at c.args.out.now }) status) (inl (record { out = refl; store = inl refl })) command k)
+returns-in-Err-clause-spares g c = rw c.from.ensures (λ command k. starved (command_of c.args.words.now) c.in-Err.fault c.in-Err.ensures.says (λ status. SparesSound c.args.draw command (record { input = g.I.Source.at c.args.input.now; store = g.S.Viewed.view c.args.store; out = g.K.Sink.at c.args.out.now }) (record { input = g.I.Source.at c.args.input.now; store = g.S.Viewed.view c.args.store; out = g.K.Sink.at c.args.out.now }) status) (unplayed c.args.draw (record { input = g.I.Source.at c.args.input.now; store = g.S.Viewed.view c.args.store; out = g.K.Sink.at c.args.out.now }) (record { input = g.I.Source.at c.args.input.now; store = g.S.Viewed.view c.args.store; out = g.K.Sink.at c.args.out.now }) command _ (record { out = refl; store = inl refl })) command k)
 
 pub returns-in-Err-clause-spares_ours : goal.returns-in-Err-clause-spares_ours
-returns-in-Err-clause-spares_ours g c = rw c.from.ensures (λ command k. starved (command_of c.args.words.now) c.in-Err.fault c.in-Err.ensures.says (λ status. SparesOwn c.args.draw command (record { input = g.I.Source.at c.args.input.now; store = g.S.Viewed.view c.args.store; out = g.K.Sink.at c.args.out.now }) (record { input = g.I.Source.at c.args.input.now; store = g.S.Viewed.view c.args.store; out = g.K.Sink.at c.args.out.now }) status) (inl (record { out = refl; store = inl refl })) command k)
+returns-in-Err-clause-spares_ours g c = rw c.from.ensures (λ command k. starved (command_of c.args.words.now) c.in-Err.fault c.in-Err.ensures.says (λ status. SparesOwn c.args.draw command (record { input = g.I.Source.at c.args.input.now; store = g.S.Viewed.view c.args.store; out = g.K.Sink.at c.args.out.now }) (record { input = g.I.Source.at c.args.input.now; store = g.S.Viewed.view c.args.store; out = g.K.Sink.at c.args.out.now }) status) (unplayed c.args.draw (record { input = g.I.Source.at c.args.input.now; store = g.S.Viewed.view c.args.store; out = g.K.Sink.at c.args.out.now }) (record { input = g.I.Source.at c.args.input.now; store = g.S.Viewed.view c.args.store; out = g.K.Sink.at c.args.out.now }) command _ (record { out = refl; store = inl refl })) command k)

@@ -1,4 +1,4 @@
-use Rattle.std.proofs.Common.{◌≡◌, ◌<◌, ◌≤◌, ◌∙◌, length, refl, sym, ap, arith, drop, Ok}
+use Rattle.std.proofs.Common.{◌<◌, ◌∙◌, length, refl, sym, ap, arith, drop, Ok}
 use Rattle.store_api.specs.Program.{Done}
 use Rattle.array_region.specs.Reading.{with_value}
 use Rattle.array_region.specs.Getting.{reads_of, kept_of, chunks_of}
@@ -9,7 +9,7 @@ use Rattle.array_region.proofs.getting.RegionGet.go_on.Goals.{In-loop-at}
 within : (c : In-loop-at) → c.loop-at.at < length (chunks_of (reads_of c.loop-at.self.plan))
 within c =
     let same = ap (λ p. length (chunks_of (reads_of p))) c.loop-at.invariant.plan in
-    omega (arith, same, c.loop-at-test.true, c.met-at-end.ensures)
+    omega (arith, same, c.loop-at-test.true, c.met-at-end.ensures.value)
 
 pub loop-at-init : goal.loop-at-init
 loop-at-init c = begun c.args.self.now c.requires
@@ -63,7 +63,7 @@ pub returns-clause-took : goal.returns-clause-took
 returns-clause-took c =
     let m = c.loop-at.self in
     let same = ap (λ p. length (chunks_of (reads_of p))) c.loop-at.invariant.plan in
-    ((ready_program c.args.self.now m c.loop-at.at c.loop-at.invariant (omega (arith, same, c.loop-at-test.false, c.met-at-end.ensures)) ∙ ap (λ l. Done (Ok l)) (sym (c.from_vec.ensures ∙ ap (λ (v : _). v.items) c.replace-numbers.ensures.value)), over m.session (reads_of m.plan) (kept_of m.kept) c.replace-numbers.new.dest.items m.stage (drop m.at (chunks_of (reads_of m.plan))) c.loop-at.invariant.stage), tt)
+    ((ready_program c.args.self.now m c.loop-at.at c.loop-at.invariant (omega (arith, same, c.loop-at-test.false, c.met-at-end.ensures.value)) ∙ ap (λ l. Done (Ok l)) (sym (c.from_vec.ensures ∙ ap (λ (v : _). v.items) c.replace-numbers.ensures.value)), over m.session (reads_of m.plan) (kept_of m.kept) c.replace-numbers.new.dest.items m.stage (drop m.at (chunks_of (reads_of m.plan))) c.loop-at.invariant.stage), tt)
 
 pub returns-clause-falls : goal.returns-clause-falls
 returns-clause-falls c = no_more_left c.args.self.now c.loop-at.self c.loop-at.at c.loop-at.invariant

@@ -1,4 +1,4 @@
-use Rattle.std.proofs.Common.{◌≡◌, ◌∙◌, Some, None, sym, ap, arith, drop}
+use Rattle.std.proofs.Common.{◌∙◌, Some, sym, ap, arith, drop}
 use Rattle.std.specs.Prelude.{option_map}
 use Rattle.held_manifest.specs.Places.{place_seen}
 use Rattle.zarr_tree.specs.Nodes.{chunk_length}

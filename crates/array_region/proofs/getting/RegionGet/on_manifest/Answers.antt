@@ -1,4 +1,4 @@
-use Rattle.std.proofs.Common.{◌≡◌, ◌∙◌, ◌+◌, ◌-◌, ℕ, List, Ok, Err, length, drop, refl, sym, ap, subst, arith}
+use Rattle.std.proofs.Common.{◌≡◌, ◌∙◌, ◌+◌, ◌-◌, Ok, length, drop, sym, subst, arith}
 use Rattle.std.specs.Prelude.{Result}
 use Rattle.zarr_tree.specs.Nodes.{chunk_length}
 use Rattle.manifest_file.specs.declared.manifest.ManifestFile.{ManifestFile}

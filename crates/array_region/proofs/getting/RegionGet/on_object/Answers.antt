@@ -1,4 +1,4 @@
-use Rattle.std.proofs.Common.{◌≡◌, ◌∙◌, ℕ, List, Ok, Err, drop, refl, sym, ap, subst, arith}
+use Rattle.std.proofs.Common.{◌∙◌, ℕ, List, Ok, drop, refl, sym, ap, arith}
 use Rattle.std.specs.Prelude.{Result}
 use Rattle.zarr_tree.specs.Nodes.{chunk_length}
 use Rattle.store_api.specs.declared.machines.Refusal.{Refusal}
@@ -6,7 +6,6 @@ use Rattle.store_api.specs.Program.{Done}
 use Rattle.store_api.specs.Running.{Program, ◌>>=◌}
 use Rattle.repo_read.specs.Answers.{object_told}
 use Rattle.session.specs.declared.chunks.Value.TheVariants.{Held}
-use Rattle.session.specs.inside.Working.{LandsCalmly}
 use Rattle.array_region.specs.Reading.{keeping}
 use Rattle.array_region.specs.Getting.{reads_of, kept_of, chunks_of, box_after, region_rest}
 use Rattle.array_region.proofs.Taking.{took_object}

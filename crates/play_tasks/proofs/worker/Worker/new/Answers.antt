@@ -6,6 +6,8 @@ use Rattle.play_collect.proofs.Stepping.{task-begun}
 use Rattle.play_expire.specs.Playing.{terms_of}
 use Rattle.play_expire.specs.Workers.{expiring_rest}
 use Rattle.play_expire.proofs.Stepping.{expiry-begun}
+use Rattle.play_check.specs.Workers.{checking_rest}
+use Rattle.play_check.proofs.Stepping.{check-begun}
 use Rattle.play_tasks.specs.Playing.{session_play, headed_play}
 use Rattle.play_tasks.specs.inside.Sessions.{session_rest}
 use Rattle.play_tasks.proofs.Begun.{session-begun}
@@ -30,3 +32,8 @@ returns-in-Expire c =
     let task = c.args.task.now in
     let terms = terms_of c.in-Expire.cutoff c.in-Expire.drop_branches c.in-Expire.drop_tags in
     subst (λ (head : Head). Comes (headed_play head c.args.ids task) (expiring_rest c.new-in-Expire.result)) (sym c.in-Expire.is) (expiry-begun task.line terms (expiring_rest c.new-in-Expire.result) c.new-in-Expire.ensures)
+
+pub returns-in-Check : goal.returns-in-Check
+returns-in-Check c =
+    let task = c.args.task.now in
+    subst (λ (head : Head). Comes (headed_play head c.args.ids task) (checking_rest c.new-in-Check.result)) (sym c.in-Check.is) (check-begun task.line (checking_rest c.new-in-Check.result) c.new-in-Check.ensures)

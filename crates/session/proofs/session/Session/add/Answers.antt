@@ -1,27 +1,39 @@
-use Rattle.std.proofs.Common.{◌≡◌, sym, ap, subst, ◌∙◌, Ok, Err}
-use Rattle.ice_ids.specs.declared.drawing.AnyIds.{AnyIds}
+use Rattle.std.proofs.Common.{◌≡◌, ◌≤◌, sym, ap, subst, ◌∙◌, Ok, Err, Result}
+use Rattle.std.specs.FinMap.{len}
+use Rattle.ice_ids.specs.Drawing.{drawn8}
+use Rattle.manifest_file.specs.declared.manifest.Place.{Place}
+use Rattle.zarr_tree.specs.declared.edit.EditFault.{EditFault}
+use Rattle.zarr_tree.specs.Edits.{most_nodes}
+use Rattle.zarr_tree.specs.Held.{Held}
+use Rattle.zarr_changes.specs.Edits.{with_added}
+use Rattle.zarr_changes.specs.Sets.{add_refusal, Enters}
 use Rattle.store_api.specs.declared.machines.Refusal.{Refusal}
-use Rattle.store_api.specs.declared.machines.Refusal.TheVariants as R
-use Rattle.session.specs.Sessions.{SessionState}
+use Rattle.session.specs.Sessions.{SessionState, nodes_seen}
 use Rattle.session.specs.Viewed.{viewed}
 use Rattle.session.specs.Editing.{Adds, entered, refusal_of_edit}
-use Rattle.session.proofs.Adding.{refused, spent, same_after, there, few-after}
+use Rattle.session.proofs.Adding.{edit_refused, edit_kept, there, few-after}
 use Rattle.session.proofs.session.Session.add.Goals as goal
+use Rattle.session.proofs.session.Session.add.Goals.{In-Err}
+
+-- the set of changes refused
+fault_told : (c : In-Err) → Enters (add_refusal (nodes_seen (viewed c.self.inside)) c.args.path.now) (with_added c.self.inside.changes c.args.path.now (record { id = c.in-Some.id; text = c.args.meta.text })) c.self.inside.changes (Err c.in-Err.fault) c.add.new.self
+fault_told c = subst (λ (r : Result (Unit {0}) EditFault). Enters (add_refusal (nodes_seen (viewed c.self.inside)) c.args.path.now) (with_added c.self.inside.changes c.args.path.now (record { id = c.in-Some.id; text = c.args.meta.text })) c.self.inside.changes r c.add.new.self) c.in-Err.is c.add.ensures
+
+pub spent-requires : goal.spent-requires
+spent-requires c = ap (λ (s : SessionState). drawn8 s.ids) (sym c.self.view_is) ∙ sym c.next8.ensures.0 ∙ c.in_default.is
+
+pub invariant_of-self : goal.invariant_of-self
+invariant_of-self c =
+    subst (λ (h : Held Place). len (nodes_seen (record (viewed c.self.inside) { held = h })) ≤ most_nodes) (sym (edit_kept (add_refusal (nodes_seen (viewed c.self.inside)) c.args.path.now) (with_added c.self.inside.changes c.args.path.now (record { id = c.in-Some.id; text = c.args.meta.text })) c.self.inside.changes c.add.new.self c.in-Err.fault (fault_told (goal.at.invariant_of-self c).In-Err))) c.self.invariant
 
 pub returns-in-Err : goal.returns-in-Err
 returns-in-Err c =
-    let at_view = refused (viewed c.self.inside) c.args.path.now c.args.meta.text c.in-Err.fault (sym c.in-Err.is ∙ c.may_add.ensures) in
-    let at_now = subst (λ (s : SessionState). Adds (entered s c.args.path.now c.args.meta.text) s (Err (refusal_of_edit c.in-Err.fault)) s) c.self.view_is at_view in
-    subst (λ (r : Refusal). Adds (entered c.args.self.now c.args.path.now c.args.meta.text) c.args.self.now (Err r) c.args.self.now) (sym c.refusal_of_edit.ensures) at_now
-
-pub returns-in_default-next8 : goal.returns-in_default-next8
-returns-in_default-next8 c =
     let v = viewed c.self.inside in
-    let n = sym c.next8.ensures.0 ∙ c.in_default-next8.is in
-    let at_view = spent v c.args.path.now c.args.meta.text c.in_default.field-0 (sym c.in_default.is ∙ c.may_add.ensures) n in (
-      subst (λ (s : SessionState). entered s c.args.path.now c.args.meta.text ≡ Err R.IdsSpent) c.self.view_is at_view,
-      ap (λ (ids : AnyIds). record v { ids = ids }) (c.next8.ensures.1 ∙ same_after c.self.inside.ids n) ∙ c.self.view_is,
-    )
+    let new = viewed (record c.self.inside { changes = c.add.new.self }) in
+    let at_view : Adds (entered v c.args.path.now c.args.meta.text) v (Err (refusal_of_edit c.in-Err.fault)) new =
+    edit_refused v c.args.path.now c.args.meta.text (with_added c.self.inside.changes c.args.path.now (record { id = c.in-Some.id; text = c.args.meta.text })) c.add.new.self c.in-Err.fault (fault_told (goal.at.returns-in-Err c).In-Err) in
+    let at_now = subst (λ (s : SessionState). Adds (entered s c.args.path.now c.args.meta.text) s (Err (refusal_of_edit c.in-Err.fault)) new) c.self.view_is at_view in
+    subst (λ (r : Refusal). Adds (entered c.args.self.now c.args.path.now c.args.meta.text) c.args.self.now (Err r) new) (sym c.refusal_of_edit.ensures) at_now
 
 pub invariant_of-self-2 : goal.invariant_of-self-2
 invariant_of-self-2 c = few-after _ _ _ c.args.path.now _ c.in_default-add.ensures.0 c.in_default-add.ensures.1

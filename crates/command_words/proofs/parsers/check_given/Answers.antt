@@ -1,0 +1,19 @@
+use Rattle.std.proofs.Common.{◌∙◌, ap, subst, sym}
+use Rattle.clap.specs.Words.{is_simple_and_free, fault_of, app_of, HasMatchesOf}
+use Rattle.clap.specs.Kinds.{HasKind}
+use Rattle.command_words.specs.Parsers.{check}
+use Rattle.command_words.proofs.Read.{taken, refused, check_is_simple, check_is_free, check_one, lent}
+use Rattle.command_words.proofs.parsers.check_given.Goals as goal
+
+pub returns-in-Ok : goal.returns-in-Ok
+returns-in-Ok c =
+    let words = c.args.words.now in
+    let matches = subst (λ ws. HasMatchesOf (app_of c.args.command) ws c.in-Ok.matches) (lent words) c.in-Ok.ensures.matches in
+    let takes = ap (fault_of (app_of c.args.command)) (sym (lent words)) ∙ c.in-Ok.ensures.kinds (ap is_simple_and_free c.requires ∙ check_is_free) in
+    taken check words c.in-Ok.matches _ check_is_simple (subst (λ a. HasMatchesOf a words c.in-Ok.matches) c.requires matches) (ap (λ a. fault_of a words) (sym c.requires) ∙ takes) c.get_str.ensures
+
+pub returns-in-Err : goal.returns-in-Err
+returns-in-Err c =
+    let words = c.args.words.now in
+    let kinds = subst (λ ws. HasKind (fault_of (app_of c.args.command) ws) c.in-Err.error) (lent words) (c.in-Err.ensures.kinds (ap is_simple_and_free c.requires ∙ check_is_free)) in
+    refused check words c.in-Err.error _ (check_one words) (subst (λ a. HasKind (fault_of a words) c.in-Err.error) c.requires kinds) c.refusal_of.ensures

@@ -1,0 +1,4 @@
+pub mod Playing
+pub mod Telling
+pub mod Workers
+pub mod Laws
