@@ -1,0 +1,9 @@
+pub mod Parts
+pub mod Sets
+pub mod Fair
+pub mod Answering
+pub mod Stepping
+pub mod Staging
+pub mod Landing
+pub mod Taking
+pub mod Listing

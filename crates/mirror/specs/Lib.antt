@@ -1,0 +1,4 @@
+pub mod Lines
+pub mod Programs
+pub mod Laws
+pub mod inside
