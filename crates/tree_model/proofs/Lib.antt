@@ -1,0 +1,13 @@
+pub mod RowLaws
+pub mod KeptLaws
+pub mod GridParts
+pub mod Writes
+pub mod Walk
+pub mod Refusals
+pub mod Finding
+pub mod Putting
+pub mod Entries
+pub mod Taking
+pub mod OneMore
+pub mod Listed
+pub mod Conflicting

@@ -1,0 +1,7 @@
+use Rattle.std.proofs.Common.{ap, ◌∙◌}
+use Rattle.std.specs.FinMap.{get}
+use Rattle.tree_model.proofs.KeptLaws.{found_in}
+use Rattle.tree_model.proofs.nodes.Nodes.find.Goals as goal
+
+pub returns : goal.returns
+returns c = c.get.ensures.value ∙ found_in c.self.inside.nodes.entries c.args.path.now ∙ ap (λ nodes. get nodes c.args.path.now) c.self.view_is

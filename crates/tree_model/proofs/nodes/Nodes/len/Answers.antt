@@ -1,0 +1,7 @@
+use Rattle.std.proofs.Common.{ap, ◌∙◌}
+use Rattle.std.specs.FinMap.{len}
+use Rattle.tree_model.proofs.KeptLaws.{counted}
+use Rattle.tree_model.proofs.nodes.Nodes.len.Goals as goal
+
+pub returns : goal.returns
+returns c = c.len.ensures.len ∙ counted c.self.inside.nodes.entries c.self.invariant.0 ∙ ap len c.self.view_is

@@ -1,0 +1,7 @@
+pub mod Kept
+pub mod Lengths
+pub mod Refusing
+pub mod Putting
+pub mod Entering
+pub mod Listing
+pub mod Conflicting
