@@ -1,12 +1,12 @@
 -- Why a reply refuses a mirror.
-use Rattle.std.proofs.Common.{◌≡◌, ◌⊎◌, ℕ, inl, inr, Bool, true, false, List, [], ◌∷◌, ◌++◌, refl, sym, ◌∙◌, ap, subst}
+use Rattle.std.proofs.Common.{◌≡◌, ℕ, inl, inr, Bool, true, false, List, refl, ap, subst}
 use Rattle.std.specs.Prelude.{Option, Some, None, Result, Ok, Err}
 use Rattle.ice_ids.specs.declared.Id12.{Id12}
 use Rattle.snapshot_file.specs.declared.snapshot.SnapshotFile.{SnapshotFile}
 use Rattle.repo_objects.specs.declared.bad.Bad.{Bad}
-use Rattle.repo_objects.specs.Readings.{read_snapshot, read_ref, snapshot_by, ref_of}
+use Rattle.repo_objects.specs.Readings.{read_snapshot, read_ref}
 use Rattle.object_store.specs.declared.keys.Key.{Key}
-use Rattle.object_store.specs.declared.keys.Key.TheVariants.{Snapshot, Branch, Tag, TagGone}
+use Rattle.object_store.specs.declared.keys.Key.TheVariants.{Snapshot, Branch, Tag}
 use Rattle.object_store.specs.declared.keys.Part.{Part}
 use Rattle.object_store.specs.declared.keys.Why.{Why}
 use Rattle.object_store.specs.declared.keys.Why.TheVariants.{Reset}
@@ -27,9 +27,9 @@ use Rattle.repo_read.specs.Answers.{at_key, snapshot_told, resolved_at}
 use Rattle.two_stores.specs.declared.side.Side.{Side}
 use Rattle.two_stores.specs.declared.side.Side.TheVariants.{From, To}
 use Rattle.mirror_reports.specs.Told.{fault_of, listed_told, bytes_told, if_there, ref_told, buried_told, put_told, made_told, moved_told}
-use Rattle.mirror_calls.specs.Deeds.{Deed, Did, HasGot, HasMissed, HasRef, HasPut, HasFailed}
+use Rattle.mirror_calls.specs.Deeds.{Deed, Did, HasGot, HasMissed, HasRef, HasPut}
 use Rattle.mirror_calls.specs.Copies.{HasParent}
-use Rattle.mirror_calls.specs.Reports.{IsRef, ReadsBad, HasBad, HasFound, HasMoved, Cause, WasPointed}
+use Rattle.mirror_calls.specs.Reports.{IsRef, ReadsBad, Cause}
 use Rattle.mirror_calls.proofs.Later.{with-deed, did-now}
 
 pub err-is : {A : Type 0} (a b : Refusal) → ◌≡◌ {A = Result A Refusal} (Err a) (Err b) → a ≡ b
@@ -122,7 +122,7 @@ there-bad deeds To key bytes version (Err bad) why is reads g e = by-cause deeds
 reads-ref : (key : Key) (bytes : List ℕ) → IsRef key → (bad : Bad) → read_ref bytes ≡ Err bad → ReadsBad key bytes bad
 reads-ref (Branch name) bytes is bad e = e
 reads-ref (Tag name) bytes is bad e = e
-reads-ref _ bytes is bad e = absurd is
+reads-ref _ bytes is bad e = cc
 
 pub cause-ref : (deeds : List Deed) (side : Side) (key : Key) (reply : Reply) (why : Refusal) → IsRef key → Fits (Get key) reply → ref_told side key reply ≡ Err why → Cause (with-deed deeds side (Get key) reply) why
 cause-ref deeds side key (R.Got (Found bytes version now)) why is f e = there-bad (with-deed deeds side (Get key) (R.Got (Found bytes version now))) side key bytes version (read_ref bytes) why is (reads-ref key bytes is) (got-now deeds side key bytes version now) e

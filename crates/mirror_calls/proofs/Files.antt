@@ -1,11 +1,11 @@
 -- Files of snapshots: what is put of one, and what stands in its place.
-use Rattle.std.proofs.Common.{◌≡◌, ◌⊎◌, ℕ, inl, inr, Bool, true, false, List, [], ◌∷◌, refl, sym, ◌∙◌, ap, subst, arith}
+use Rattle.std.proofs.Common.{◌≡◌, ◌⊎◌, ℕ, inl, inr, Bool, true, false, List, refl, sym, ◌∙◌, ap, subst, arith}
 use Rattle.std.specs.Prelude.{◌≤◌, ◌<◌, nat_lt, bytes_eq, if◌then◌else◌, IfSome, length, Option, Some, None, Result, Ok, Err}
 use Rattle.std.proofs.lemmas.Bool.Decides.{nat_tests}
 use Rattle.flat_tables.specs.declared.header.Kind.TheVariants as kinds
 use Rattle.flat_tables.specs.File.{file_limit}
 use Rattle.ice_ids.specs.declared.Id12.{Id12}
-use Rattle.ice_ids.specs.Text.{IsId12, same_id12}
+use Rattle.ice_ids.specs.Text.{IsId12}
 use Rattle.ice_ids.proofs.TextLaws.{same_id12-true}
 use Rattle.snapshot_file.specs.declared.snapshot.SnapshotFile.{SnapshotFile}
 use Rattle.snapshot_file.specs.Layout.{snapshot_bytes}
@@ -20,8 +20,7 @@ use Rattle.two_stores.specs.declared.side.Side.TheVariants.{From, To}
 use Rattle.mirror_reports.specs.Told.{same_parent, file_of, file_under, if_equal, same_but_parent, is_fine}
 use Rattle.mirror.specs.Programs.{fits_there}
 use Rattle.mirror_calls.specs.Deeds.{Deed, HasGot}
-use Rattle.mirror_calls.specs.Copies.{SaysBut}
-use Rattle.mirror_calls.specs.Reports.{HasLong, DifferInParent, IsFine, Cause}
+use Rattle.mirror_calls.specs.Reports.{DifferInParent, IsFine, Cause}
 use Rattle.mirror_calls.proofs.Causes.{err-is, ok-is, ok-err, err-ok}
 
 abbrev pub under : SnapshotFile → Option Id12 → SnapshotFile

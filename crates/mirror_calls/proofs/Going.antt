@@ -1,5 +1,5 @@
 -- What a mirror does and tells, whatever it is answered: from its program, once and for all.
-use Rattle.std.proofs.Common.{◌≡◌, ◌≢◌, ◌⊎◌, ℕ, zero, suc, inl, inr, Bool, true, false, List, [], ◌∷◌, ◌++◌, refl, sym, ◌∙◌, ap, subst, arith, append_assoc}
+use Rattle.std.proofs.Common.{◌≡◌, ◌≢◌, ◌⊎◌, ℕ, zero, suc, inl, inr, Bool, true, false, List, [], ◌∷◌, refl, sym, ◌∙◌, subst, arith}
 use Rattle.std.specs.Prelude.{◌+◌, ◌≤◌, if◌then◌else◌, IfSome, Option, Some, None, Result, Ok, Err, Contains}
 use Rattle.std.proofs.lemmas.List.Elements.{Contains-append_left, Contains-push, Contains-push_cases}
 use Rattle.ice_ids.specs.declared.Id12.{Id12}
@@ -11,11 +11,11 @@ use Rattle.manifest_file.specs.declared.manifest.ManifestFile.{ManifestFile}
 use Rattle.held_manifest.specs.Objects.{objects_of}
 use Rattle.held_manifest.specs.Laws.{ObjectsLaw}
 use Rattle.ref_file.specs.Refs.{ref_bytes}
-use Rattle.repo_objects.specs.Readings.{read_snapshot, read_manifest, read_log, snapshot_by, manifest_by, ref_of}
-use Rattle.repo_objects.specs.Trees.{NamesManifest, NamesChunk}
+use Rattle.repo_objects.specs.Readings.{read_snapshot, read_manifest, read_log, snapshot_by, manifest_by}
+use Rattle.repo_objects.specs.Trees.{NamesManifest}
 use Rattle.repo_objects.specs.Laws.{SnapshotLaw}
 use Rattle.object_store.specs.declared.keys.Key.{Key}
-use Rattle.object_store.specs.declared.keys.Key.TheVariants.{Snapshot, Manifest, Txn, Chunk, Branch, Tag, TagGone}
+use Rattle.object_store.specs.declared.keys.Key.TheVariants.{Snapshot, Manifest, Txn, Chunk, Tag, TagGone}
 use Rattle.object_store.specs.declared.keys.Part.{Part}
 use Rattle.object_store.specs.declared.keys.Part.TheVariants as part
 use Rattle.object_store.specs.declared.keys.Why.TheVariants.{Reset}
@@ -23,11 +23,10 @@ use Rattle.object_store.specs.declared.events.Version.{Version}
 use Rattle.object_store.specs.declared.events.Op.{Op}
 use Rattle.object_store.specs.declared.events.Op.TheVariants.{Get, PutNew, PutOver, List as ListPart}
 use Rattle.object_store.specs.declared.events.New.TheVariants.{Done as New_done, Present}
-use Rattle.object_store.specs.declared.events.Listed.{Listed}
 use Rattle.object_store.specs.declared.events.Reply.{Reply}
 use Rattle.object_store.specs.declared.events.Reply.TheVariants as R
 use Rattle.store_api.specs.declared.machines.Refusal.{Refusal}
-use Rattle.store_api.specs.declared.machines.Refusal.TheVariants.{NoMemory, TooDeep, Differs}
+use Rattle.store_api.specs.declared.machines.Refusal.TheVariants.{TooDeep, Differs}
 use Rattle.store_api.specs.Callers.{Fits}
 use Rattle.repo_read.specs.declared.answers.Resolved.{Resolved}
 use Rattle.repo_read.specs.Answers.{at_key, snapshot_told}
@@ -35,23 +34,22 @@ use Rattle.repo_read.specs.Chains.{most_snapshots}
 use Rattle.live_refs.specs.Live.{live}
 use Rattle.two_stores.specs.declared.side.Side.{Side}
 use Rattle.two_stores.specs.declared.side.Side.TheVariants.{From, To}
-use Rattle.two_stores.specs.Pairs.{PairProg, Done, Ask, moves_ref}
+use Rattle.two_stores.specs.Pairs.{Done, Ask, moves_ref}
 use Rattle.mirror_reports.specs.declared.outcome.RefId.{RefId}
 use Rattle.mirror_reports.specs.declared.outcome.MirrorRef.{MirrorRef}
 use Rattle.mirror_reports.specs.declared.outcome.Mirrored.{Mirrored}
-use Rattle.mirror_reports.specs.declared.outcome.MirrorEnd.{MirrorEnd}
 use Rattle.mirror_reports.specs.Told.{key_of, listed_told, bytes_told, ref_told, buried_told, put_told, made_told, moved_told, file_under}
 use Rattle.mirror.specs.declared.lines.Link.{Link}
 use Rattle.mirror.specs.Lines.{Line, found, enter_ids, enter_rows}
-use Rattle.mirror.specs.Programs.{Work, Answer, no_work, ends, refused, on_told, asks, counted, with_put, cause_of, fits_there, unless_differs, compare, put_behind, put_object, take_object, copy_chunks, with_chunks, with_manifest, copy_manifest, copy_manifests, copy_log, with_copied, put_snapshot, with_manifests, with_snapshot, copy_snapshot, copy_line, down, down_onto, down_behind, with_ref, make_ref, move_ref, unless_buried, see_tag, see_branch, see_ref, point, behind_ref, copy_ref, copy_refs, ref_ids, copy_part, finish, copy_tags, mirror_program}
+use Rattle.mirror.specs.Programs.{Work, Answer, no_work, refused, on_told, asks, counted, with_put, cause_of, fits_there, unless_differs, compare, put_behind, put_object, take_object, copy_chunks, with_chunks, with_manifest, copy_manifest, copy_manifests, copy_log, with_copied, put_snapshot, with_manifests, with_snapshot, copy_snapshot, copy_line, down, down_onto, down_behind, with_ref, make_ref, move_ref, unless_buried, see_tag, see_branch, see_ref, point, behind_ref, copy_ref, copy_refs, ref_ids, copy_part, finish, copy_tags, mirror_program}
 use Rattle.mirror.proofs.Parts.{log-behind, down-onto}
 use Rattle.mirror.proofs.Sets.{Has, first-or-later, none-in, only-with, enters-ids, enters-rows, Enters}
-use Rattle.mirror_calls.specs.Deeds.{Deed, Did, HasGot, HasMissed, HasRef, HasPut}
+use Rattle.mirror_calls.specs.Deeds.{Deed, HasGot, HasMissed, HasRef}
 use Rattle.mirror_calls.specs.Copies.{IsThere, IsCopied, AreChunksCopied, IsManifestCopied, IsNamedCopied, SaysBut, IsSnapshotCopied, HasParent, IsChainCopied, first, further}
-use Rattle.mirror_calls.specs.Owed.{MayPutManifest, MayPutSnapshot, MayPoint, MayMake, MayMove, MayPut, MayPutOver, MayDo}
-use Rattle.mirror_calls.specs.Reports.{IsRef, IsPointed, NotBuried, ref_id, IsMirrored, IsToldOf, IsPartDone, count_deed, counts_of, IsWhole, snapshot_get, snapshot_gets, IsFine, DifferInParent, HasOther, other_object, other_snapshot, has_tombstone, Cause, EndsSo, Reports}
-use Rattle.mirror_calls.proofs.Later.{Later, later-same, later-both, later-step, with-deed, did-now, did-later, got-later, missed-later, ref-later, there-later, copied-later, chunks-later, manifest-later, named-later, snapshot-later, parent-later, chain-later, before-later, mirrored-later, tally-same, tally-more, gets-append, gets-later}
-use Rattle.mirror_calls.proofs.Causes.{ok-is, ok-err, err-ok, key-ok, cause-bytes, bytes-got, cause-bad, cause-snapshot, parent-told, cause-ref, ref-got, ref-missed, cause-buried, buried-got, buried-missed, cause-listed, listed-now, cause-put, cause-made, made-now, cause-moved, moved-now}
+use Rattle.mirror_calls.specs.Owed.{MayPoint, MayMake, MayMove, MayPut, MayPutOver, MayDo}
+use Rattle.mirror_calls.specs.Reports.{IsRef, IsPointed, NotBuried, IsMirrored, IsToldOf, IsPartDone, count_deed, counts_of, snapshot_gets, IsFine, DifferInParent, HasOther, other_object, other_snapshot, has_tombstone, Cause, Reports}
+use Rattle.mirror_calls.proofs.Later.{Later, later-same, later-both, later-step, with-deed, did-now, did-later, got-later, missed-later, ref-later, copied-later, chunks-later, manifest-later, named-later, parent-later, chain-later, before-later, mirrored-later, tally-same, tally-more, gets-append}
+use Rattle.mirror_calls.proofs.Causes.{ok-err, key-ok, cause-bytes, bytes-got, cause-bad, cause-snapshot, parent-told, cause-ref, ref-got, ref-missed, cause-buried, buried-got, buried-missed, cause-listed, listed-now, cause-put, cause-made, made-now, cause-moved, moved-now}
 use Rattle.mirror_calls.proofs.Files.{Under, file-says, under-long, is-fine, not-fine, fine-self, fine-long}
 
 -- Each operation to come is owed, and what is told at the end is so, by what was done so far.
@@ -446,8 +444,8 @@ module _ (snapshots : SnapshotLaw) (objects : ObjectsLaw) where
 
   -- ---- refs
   key-is-ref : (tag : Bool) (name : List ℕ) → IsRef (key_of (record { tag = tag; name = name }))
-  key-is-ref true name = tt
-  key-is-ref false name = tt
+  key-is-ref true name = refl
+  key-is-ref false name = refl
 
   made-may : (tag : Bool) (name : List ℕ) (deeds : List Deed) (bytes : List ℕ) → MayMake deeds (key_of (record { tag = tag; name = name })) bytes → MayPut deeds bytes (key_of (record { tag = tag; name = name }))
   made-may true name deeds bytes m = m

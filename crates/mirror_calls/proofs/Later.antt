@@ -14,9 +14,9 @@ use Rattle.mirror_reports.specs.declared.outcome.RefId.{RefId}
 use Rattle.mirror_reports.specs.declared.outcome.MirrorRef.{MirrorRef}
 use Rattle.mirror_reports.specs.declared.outcome.Mirrored.{Mirrored}
 use Rattle.mirror.specs.Programs.{no_puts}
-use Rattle.mirror_calls.specs.Deeds.{Deed, Did, HasGot, HasMissed, HasRef, HasPut, HasFailed}
+use Rattle.mirror_calls.specs.Deeds.{Deed, Did, HasGot, HasMissed, HasRef, HasPut}
 use Rattle.mirror_calls.specs.Copies.{IsThere, IsCopied, AreChunksCopied, IsManifestCopied, IsNamedCopied, IsSnapshotCopied, HasParent, IsChainCopied, first, further}
-use Rattle.mirror_calls.specs.Reports.{WasPointed, NotBuried, IsPointed, IsMirrored, count_deed, counts_from, counts_of, snapshot_get, snapshot_gets}
+use Rattle.mirror_calls.specs.Reports.{WasPointed, NotBuried, IsPointed, IsMirrored, count_deed, counts_from, counts_of, snapshot_gets}
 
 pub record Later (old new : List Deed) : Type 0 where
   pub more : List Deed

@@ -1,5 +1,5 @@
 -- A mirror in both journals, whatever others do.
-use Rattle.std.proofs.Common.{◌≡◌, ◌⊎◌, ℕ, inl, inr, Bool, false, List, [], ◌∷◌, ◌++◌, refl, sym, ◌∙◌, ap, subst}
+use Rattle.std.proofs.Common.{◌≡◌, List, [], ◌∷◌, ◌++◌, refl, ap, subst}
 use Rattle.std.specs.Prelude.{IsTrue}
 use Rattle.held_manifest.specs.Laws.{ObjectsLaw}
 use Rattle.repo_objects.specs.Laws.{SnapshotLaw, RefLaw}
@@ -9,8 +9,8 @@ use Rattle.object_store.specs.declared.events.Event.{Event}
 use Rattle.store_api.specs.Callers.{Caller}
 use Rattle.two_stores.specs.declared.side.Side.{Side}
 use Rattle.two_stores.specs.declared.side.Side.TheVariants.{From, To}
-use Rattle.two_stores.specs.Sides.{Both, at_side, other, OthersCame}
-use Rattle.two_stores.specs.Pairs.{PairProg, Done, Ask, StepsOn, KeepsPair, LeadsPair}
+use Rattle.two_stores.specs.Sides.{Both, at_side, OthersCame}
+use Rattle.two_stores.specs.Pairs.{Done, Ask, StepsOn, KeepsPair, LeadsPair}
 use Rattle.two_stores.proofs.PairLaws.{KeepsPair-weaker}
 use Rattle.mirror_reports.specs.declared.outcome.MirrorEnd.{MirrorEnd}
 use Rattle.mirror.specs.Programs.{Answer, mirror_program}

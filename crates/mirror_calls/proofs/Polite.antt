@@ -1,13 +1,9 @@
 -- What a mirror may do next is polite.
-use Rattle.std.proofs.Common.{◌≡◌, ◌⊎◌, ℕ, inl, inr, true, List, [], ◌∷◌, ◌++◌, length, refl, sym, ◌∙◌, ap, subst}
-use Rattle.std.specs.Prelude.{IfSome, Option, Some, None, Contains}
+use Rattle.std.proofs.Common.{◌≡◌, ◌⊎◌, ℕ, inl, inr, true, List, [], ◌∷◌, ◌++◌, refl, sym, ◌∙◌, ap, subst}
+use Rattle.std.specs.Prelude.{IfSome, Option, Some, None}
 use Rattle.ice_ids.specs.declared.Id12.{Id12}
 use Rattle.ice_ids.specs.Text.{IsId12, initial_id}
-use Rattle.snapshot_file.specs.declared.snapshot.SnapshotFile.{SnapshotFile}
-use Rattle.manifest_file.specs.declared.manifest.ManifestFile.{ManifestFile}
-use Rattle.ref_file.specs.Refs.{ref_bytes}
 use Rattle.repo_objects.specs.Readings.{snapshot_by, manifest_by, ref_of}
-use Rattle.repo_objects.specs.Trees.{NamesManifest, NamesChunk}
 use Rattle.repo_objects.specs.Laws.{RefLaw}
 use Rattle.object_store.specs.declared.keys.Key.{Key}
 use Rattle.object_store.specs.declared.keys.Key.TheVariants.{Snapshot, Manifest, Txn, Chunk, Branch, Tag, TagGone, Lease}
@@ -21,18 +17,18 @@ use Rattle.object_store.specs.declared.events.New.TheVariants.{Done as New_done}
 use Rattle.object_store.specs.declared.events.Reply.{Reply}
 use Rattle.object_store.specs.declared.events.Reply.TheVariants as R
 use Rattle.object_store.specs.declared.events.Event.{Event}
-use Rattle.object_store.specs.Machine.{Stored, found, got_of, IsAnswered, UnlessFailed, IsHonest}
+use Rattle.object_store.specs.Machine.{Stored, found, got_of, IsAnswered}
 use Rattle.object_store.proofs.Slots.{WasPut-append, sound}
-use Rattle.store_api.specs.Journal.{IsPolite, WasPut, NamesPut, ParentPut, ManifestsKnown, ChunksKnown, MayPutNew, MayPutOver as PoliteOver}
+use Rattle.store_api.specs.Journal.{IsPolite, WasPut, NamesPut, ParentPut, ManifestsKnown, ChunksKnown}
 use Rattle.store_api.specs.Callers.{only, own_event}
 use Rattle.store_api.proofs.Programs.{Makes-alone}
 use Rattle.store_api.proofs.Puts.{put-told}
 use Rattle.two_stores.specs.declared.side.Side.{Side}
 use Rattle.two_stores.specs.declared.side.Side.TheVariants.{From, To}
 use Rattle.mirror.specs.Programs.{cause_of}
-use Rattle.mirror_calls.specs.Deeds.{Deed, Did, HasGot, HasPut}
+use Rattle.mirror_calls.specs.Deeds.{Deed}
 use Rattle.mirror_calls.specs.Copies.{IsThere, IsCopied, IsChainCopied, first, further}
-use Rattle.mirror_calls.specs.Owed.{MayPutManifest, MayPutSnapshot, MayPoint, MayMake, MayMove, MayPut, MayPutOver, MayDo}
+use Rattle.mirror_calls.specs.Owed.{MayPutManifest, MayPutSnapshot, MayPoint, MayPut, MayPutOver, MayDo}
 use Rattle.mirror_calls.specs.Journals.{GoesOn}
 use Rattle.mirror_calls.proofs.Beside.{Happened, happened}
 

@@ -1,17 +1,16 @@
 -- A copied snapshot has the same tree in both stores, where nothing is put again in the source, nor by others in the target.
-use Rattle.std.proofs.Common.{◌≡◌, ◌≢◌, ◌⊎◌, ℕ, inl, inr, Bool, true, false, cond, List, [], ◌∷◌, ◌++◌, length, drop, refl, sym, ◌∙◌, ap, subst, append_assoc, append-nil, eqb-true, eq-eqb}
+use Rattle.std.proofs.Common.{◌≡◌, ◌≢◌, ℕ, inl, inr, Bool, true, false, cond, List, [], ◌∷◌, ◌++◌, length, drop, refl, sym, ◌∙◌, ap, subst, append_assoc, append-nil, eqb-true, eq-eqb}
 use Rattle.std.proofs.Math.Seq.{drop-append_seam}
-use Rattle.std.specs.Prelude.{◌==◌, IsTrue, Option, Some, None, option_map, option_and_then, bytes_eq, Contains}
+use Rattle.std.specs.Prelude.{◌==◌, Option, Some, None, option_map, option_and_then, bytes_eq, Contains}
 use Rattle.ice_ids.specs.declared.Id12.{Id12}
 use Rattle.ice_ids.specs.Text.{initial_id}
 use Rattle.held_manifest.specs.Laws.{ObjectsLaw}
 use Rattle.snapshot_file.specs.declared.nodes.NodeRow.{NodeRow}
 use Rattle.snapshot_file.specs.declared.snapshot.SnapshotFile.{SnapshotFile}
 use Rattle.manifest_file.specs.declared.manifest.ManifestFile.{ManifestFile}
-use Rattle.ref_file.specs.Refs.{ref_bytes}
 use Rattle.zarr_tree.specs.Trees.{Tree}
 use Rattle.repo_objects.specs.Readings.{snapshot_by, manifest_by, ref_of}
-use Rattle.repo_objects.specs.Trees.{Puts, NamesManifest, NamesChunk, manifest_put, or_empty, tree_under}
+use Rattle.repo_objects.specs.Trees.{NamesManifest, NamesChunk, manifest_put, or_empty, tree_under}
 use Rattle.repo_objects.specs.Laws.{SnapshotLaw, RefLaw, initial_bytes}
 use Rattle.object_store.specs.declared.keys.Key.{Key}
 use Rattle.object_store.specs.declared.keys.Key.TheVariants.{Snapshot, Manifest, Txn, Chunk, Branch, Tag, TagGone, Lease}
@@ -21,13 +20,12 @@ use Rattle.object_store.specs.declared.events.Op.{Op}
 use Rattle.object_store.specs.declared.events.Op.TheVariants.{Get, PutNew, PutOver, Remove, RemoveAt, List as ListPart}
 use Rattle.object_store.specs.declared.events.Got.TheVariants.{Found}
 use Rattle.object_store.specs.declared.events.New.TheVariants.{Done as New_done}
-use Rattle.object_store.specs.declared.events.Reply.{Reply}
 use Rattle.object_store.specs.declared.events.Reply.TheVariants as R
 use Rattle.object_store.specs.declared.events.Event.{Event}
-use Rattle.object_store.specs.Machine.{Stored, Slot, slot_of, effect, found, first_put, last_put, new_of, version_at, leaves, put_at, where_free, is_on, was_done}
+use Rattle.object_store.specs.Machine.{Stored, Slot, slot_of, effect, found, last_put, new_of, leaves, put_at, where_free, is_on, was_done}
 use Rattle.object_store.proofs.Slots.{same_key-refl, same_key-true, bytes-same, id-true, effect-cases, free-cases, old-cases, slot-append_one, sound, found-stood, stood-is, StoodAt-append, WasPut-append}
-use Rattle.object_store.proofs.Journals.{Each-append, Each-back, Each-both, Each-none, Each-two}
-use Rattle.store_api.specs.Journal.{Each, IsGood, IsPolite, IsFirst, IsFirstOp, IsOnce, WasPut, StoodAt, puts_of, snap_in, rows_of, tree_of, PutsFirst, MayPutOver as PoliteOver, IsCut}
+use Rattle.object_store.proofs.Journals.{Each-back, Each-both}
+use Rattle.store_api.specs.Journal.{Each, IsGood, IsPolite, IsFirst, IsFirstOp, IsOnce, WasPut, StoodAt, puts_of, snap_in, rows_of, PutsFirst, MayPutOver as PoliteOver, IsCut}
 use Rattle.store_api.specs.Callers.{Caller, only, own_event}
 use Rattle.store_api.specs.Program.{events_of}
 use Rattle.store_api.proofs.SameTree.{tree-same}
@@ -35,22 +33,20 @@ use Rattle.store_api.proofs.Once.{initial-last}
 use Rattle.store_api.proofs.Standing.{manifest-stays, chunk-stays, rows-stay, by-rows}
 use Rattle.two_stores.specs.declared.side.Side.{Side}
 use Rattle.two_stores.specs.declared.side.Side.TheVariants.{From, To}
-use Rattle.two_stores.specs.Sides.{Both, at_side}
-use Rattle.two_stores.specs.Pairs.{KeepsPair, LeadsPair}
+use Rattle.two_stores.specs.Sides.{Both}
 use Rattle.two_stores.proofs.PairLaws.{KeepsPair-weaker, LeadsPair-weaker}
-use Rattle.mirror_reports.specs.declared.outcome.MirrorRef.{MirrorRef}
 use Rattle.mirror_reports.specs.declared.outcome.MirrorEnd.{MirrorEnd}
 use Rattle.mirror_reports.specs.Told.{key_of}
 use Rattle.mirror.specs.Programs.{mirror_program}
 use Rattle.mirror.proofs.Sets.{first-is, later-is, first-or-later, none-in}
-use Rattle.mirror_calls.specs.Deeds.{Deed, Did, HasGot, HasRef, HasPut}
-use Rattle.mirror_calls.specs.Copies.{IsThere, IsCopied, IsManifestCopied, IsSnapshotCopied, SaysBut, HasParent, IsChainCopied, first, further}
-use Rattle.mirror_calls.specs.Owed.{MayPutManifest, MayPutSnapshot, MayPoint, MayDo}
-use Rattle.mirror_calls.specs.Reports.{IsRef, ref_id, IsMirrored, Reports}
+use Rattle.mirror_calls.specs.Deeds.{Deed, Did, HasGot, HasRef}
+use Rattle.mirror_calls.specs.Copies.{IsThere, IsSnapshotCopied, SaysBut, IsChainCopied, first, further}
+use Rattle.mirror_calls.specs.Owed.{MayPoint, MayDo}
+use Rattle.mirror_calls.specs.Reports.{ref_id}
 use Rattle.mirror_calls.specs.Journals.{deeds_in, on_this, deeds_on, GoesOn, AreOwed, AreDeeds}
-use Rattle.mirror_calls.specs.Laws.{BothTell, IsFirstOrOf, IsOnceBeside, WasNamedIn, IsSameIn, NamesSame, IsOwed, PointsWell, MirrorTells, RefsSame, MirrorsTrees, MirroredTreesLaw}
+use Rattle.mirror_calls.specs.Laws.{BothTell, IsFirstOrOf, IsOnceBeside, WasNamedIn, IsSameIn, NamesSame, IsOwed, PointsWell, MirrorTells, RefsSame, MirroredTreesLaw}
 use Rattle.mirror_calls.proofs.Later.{Later, later-same, got-later, ref-later, chain-later}
-use Rattle.mirror_calls.proofs.Beside.{Happened, happened}
+use Rattle.mirror_calls.proofs.Beside.{happened}
 use Rattle.mirror_calls.proofs.Polite.{got-stored, answered-so}
 use Rattle.mirror_calls.proofs.Leading.{mirrors-exactly}
 
@@ -394,20 +390,20 @@ points-well : (by : Both Caller) (start : Both (List Event)) → BothTell by →
 points-well by start tell From seen op w = tt
 points-well by start tell To seen (PutNew (Branch name) bytes why) (deeds, d, may) = λ is o. names-same by start seen tell deeds d o (Branch name) bytes deeds (later-same deeds) may.0.point
 points-well by start tell To seen (PutNew (Tag name) bytes why) (deeds, d, may) = λ is o. names-same by start seen tell deeds d o (Tag name) bytes deeds (later-same deeds) may.0.point
-points-well by start tell To seen (PutNew (Snapshot id) bytes why) w = λ is o. absurd is
-points-well by start tell To seen (PutNew (Manifest id) bytes why) w = λ is o. absurd is
-points-well by start tell To seen (PutNew (Txn id) bytes why) w = λ is o. absurd is
-points-well by start tell To seen (PutNew (Chunk id) bytes why) w = λ is o. absurd is
-points-well by start tell To seen (PutNew (TagGone name) bytes why) w = λ is o. absurd is
-points-well by start tell To seen (PutNew (Lease id) bytes why) w = λ is o. absurd is
+points-well by start tell To seen (PutNew (Snapshot id) bytes why) w = λ is o. cc
+points-well by start tell To seen (PutNew (Manifest id) bytes why) w = λ is o. cc
+points-well by start tell To seen (PutNew (Txn id) bytes why) w = λ is o. cc
+points-well by start tell To seen (PutNew (Chunk id) bytes why) w = λ is o. cc
+points-well by start tell To seen (PutNew (TagGone name) bytes why) w = λ is o. cc
+points-well by start tell To seen (PutNew (Lease id) bytes why) w = λ is o. cc
 points-well by start tell To seen (PutOver (Branch name) bytes old why) (deeds, d, may) = λ is o. names-same by start seen tell deeds d o (Branch name) bytes deeds (later-same deeds) may.0.point
 points-well by start tell To seen (PutOver (Tag name) bytes old why) (deeds, d, may) = λ is o. absurd may.0
-points-well by start tell To seen (PutOver (Snapshot id) bytes old why) w = λ is o. absurd is
-points-well by start tell To seen (PutOver (Manifest id) bytes old why) w = λ is o. absurd is
-points-well by start tell To seen (PutOver (Txn id) bytes old why) w = λ is o. absurd is
-points-well by start tell To seen (PutOver (Chunk id) bytes old why) w = λ is o. absurd is
-points-well by start tell To seen (PutOver (TagGone name) bytes old why) w = λ is o. absurd is
-points-well by start tell To seen (PutOver (Lease id) bytes old why) w = λ is o. absurd is
+points-well by start tell To seen (PutOver (Snapshot id) bytes old why) w = λ is o. cc
+points-well by start tell To seen (PutOver (Manifest id) bytes old why) w = λ is o. cc
+points-well by start tell To seen (PutOver (Txn id) bytes old why) w = λ is o. cc
+points-well by start tell To seen (PutOver (Chunk id) bytes old why) w = λ is o. cc
+points-well by start tell To seen (PutOver (TagGone name) bytes old why) w = λ is o. cc
+points-well by start tell To seen (PutOver (Lease id) bytes old why) w = λ is o. cc
 points-well by start tell To seen (Get key) w = tt
 points-well by start tell To seen (Remove key why) w = tt
 points-well by start tell To seen (RemoveAt key old why) w = tt

@@ -1,5 +1,5 @@
 -- What a mirror tells at its end, by what it did and was told.
-use Rattle.std.specs.Prelude.{◌≡◌, ◌≢◌, ◌⊎◌, ◌<◌, ◌≤◌, ◌+◌, ℕ, Bool, true, false, List, [], ◌∷◌, length, Contains, Option, None, Some, Result, Ok, Err}
+use Rattle.std.specs.Prelude.{◌≡◌, ◌≢◌, ◌⊎◌, ◌<◌, ◌≤◌, ◌+◌, ℕ, Bool, true, false, List, [], ◌∷◌, length, Contains, Option, Some, Result, Ok, Err, IsTrue}
 use Rattle.flat_tables.specs.declared.header.Kind.{Kind}
 use Rattle.flat_tables.specs.declared.header.Kind.TheVariants as kinds
 use Rattle.flat_tables.specs.File.{file_limit}
@@ -17,18 +17,19 @@ use Rattle.object_store.specs.declared.keys.Why.{Why}
 use Rattle.object_store.specs.declared.keys.Why.TheVariants.{Reset}
 use Rattle.object_store.specs.declared.events.Version.{Version}
 use Rattle.object_store.specs.declared.events.Op.{Op}
-use Rattle.object_store.specs.declared.events.Op.TheVariants.{Get, PutNew, PutOver, Remove, RemoveAt, List as ListPart}
+use Rattle.object_store.specs.declared.events.Op.TheVariants.{Get, PutNew, PutOver, List as ListPart}
 use Rattle.object_store.specs.declared.events.New.TheVariants.{Done as New_done, Present}
 use Rattle.object_store.specs.declared.events.Over.TheVariants.{Done as Over_done, Moved as Over_moved}
 use Rattle.object_store.specs.declared.events.Listed.{Listed}
 use Rattle.object_store.specs.declared.events.Reply.{Reply}
-use Rattle.object_store.specs.declared.events.Reply.TheVariants.{Got, New, Over, Gone, GoneAt, Listed as Is_listed, Failed}
+use Rattle.object_store.specs.declared.events.Reply.TheVariants.{New, Over, Listed as Is_listed}
 use Rattle.store_api.specs.declared.machines.Refusal.{Refusal}
 use Rattle.store_api.specs.declared.machines.Refusal.TheVariants as R
 use Rattle.repo_read.specs.Chains.{most_snapshots}
 use Rattle.live_refs.specs.Live.{live}
 use Rattle.two_stores.specs.declared.side.Side.{Side}
 use Rattle.two_stores.specs.declared.side.Side.TheVariants.{From, To}
+use Rattle.two_stores.specs.Pairs.{is_ref}
 use Rattle.mirror_reports.specs.declared.outcome.RefId.{RefId}
 use Rattle.mirror_reports.specs.declared.outcome.MirrorRef.{MirrorRef}
 use Rattle.mirror_reports.specs.declared.outcome.Mirrored.{Mirrored}
@@ -99,14 +100,7 @@ pub record IsWhole (deeds : List Deed) (refs : List MirrorRef) (counts : Mirrore
 
 -- ---- where it is refused
 abbrev pub IsRef : Key → Type 0
-IsRef (Branch name) = Unit {0}
-IsRef (Tag name) = Unit {0}
-IsRef (Snapshot id) = ⊥
-IsRef (Manifest id) = ⊥
-IsRef (Txn id) = ⊥
-IsRef (Chunk id) = ⊥
-IsRef (TagGone name) = ⊥
-IsRef (Lease id) = ⊥
+IsRef key = IsTrue (is_ref key)
 
 -- the bytes aren't what the key asks for, for this cause; of chunks nothing is asked
 abbrev pub ReadsBad : Key → List ℕ → Bad → Type 0
