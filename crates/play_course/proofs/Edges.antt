@@ -14,22 +14,25 @@ use Rattle.object_store.specs.declared.keys.Part.TheVariants.{Branches, Tags}
 use Rattle.object_store.specs.declared.events.Op.{Op}
 use Rattle.object_store.specs.declared.events.Op.TheVariants.{Get, PutNew, PutOver, Remove, RemoveAt, List as ListPart}
 use Rattle.object_store.specs.declared.events.Entry.{Entry}
+use Rattle.object_store.specs.declared.events.New.TheVariants.{Done as New_done, Present}
 use Rattle.object_store.specs.declared.events.Reply.{Reply}
 use Rattle.object_store.specs.declared.events.Reply.TheVariants.{Got as Is_got, New as Is_new, Over as Is_over, Gone as Is_gone, GoneAt as Is_gone_at, Listed as Is_listed, Failed}
 use Rattle.object_store.specs.declared.events.Event.{Event}
 use Rattle.store_api.specs.declared.machines.Refusal.{Refusal}
-use Rattle.store_api.specs.declared.machines.Refusal.TheVariants.{StoreFault}
+use Rattle.store_api.specs.declared.machines.Refusal.TheVariants.{StoreFault, RefExists}
 use Rattle.object_store.specs.Machine.{Stored, found, part_of}
 use Rattle.store_api.specs.Journal.{Each, IsGood, NamesPut}
 use Rattle.store_api.specs.Program.{Done}
 use Rattle.object_store.proofs.Journals.{Each-append, Each-one, Each-both}
 use Rattle.play_outcome.specs.declared.outcome.RefLine.{RefLine}
-use Rattle.repository.specs.Beginning.{begin_program, put_main, after_put}
+use Rattle.refs_admin.specs.Branches.{created}
+use Rattle.refs_admin.specs.Beginning.{init_program, put_main, placed}
+use Rattle.repository.specs.Beginning.{begin_program, begun}
 use Rattle.repository.specs.Refs.{list_part, on_listed, read_ref, on_got, on_id, read_each, read_tags, read_branches, refs_program, with_line, live, is_gone}
 use Rattle.run_histories.proofs.Programs.{IsPlain}
 use Rattle.play_course.specs.Refusing.{is_strange, strange_answer}
 use Rattle.play_course.proofs.Tidy.{tidy-more, IsTidy, IsAny, Puts, all-named}
-use Rattle.play_course.proofs.Meeting.{Watch, drawing, was-read, Plain, Meets, done-meets, ask-meets, then-meets, meets-weaker, got-meets, replied}
+use Rattle.play_course.proofs.Meeting.{Watch, drawing, was-read, Plain, Meets, done-meets, ask-meets, bind-meets, then-meets, meets-weaker, got-meets, replied}
 
 -- ---- the events of the opening, of tasks on refs and of the closing reading
 pub plain-puts : InitialLaw → (op : Op) → IsPlain op → Puts (λ id. ⊥) op
@@ -52,27 +55,46 @@ pub plain-tidy : InitialLaw → (old own : List Event) → Each IsGood old own �
 plain-tidy initial old own good plain = Each-both IsGood (λ journal event. IsPlain event.op) (IsTidy (λ id. ⊥)) (λ journal event g p. record { good = g; puts = plain-puts initial event.op p }) old own good plain
 
 -- ---- answers
+placed-plain : (reply : Reply) → strange_answer (placed reply) ≡ false
+placed-plain (Is_new x) = refl
+placed-plain (Is_got x) = refl
+placed-plain (Is_over x) = refl
+placed-plain (Is_gone x) = refl
+placed-plain (Is_gone_at x) = refl
+placed-plain (Is_listed x) = refl
+placed-plain (Failed done) = refl
+
+created-plain : (reply : Reply) → strange_answer (created reply) ≡ false
+created-plain (Is_new (New_done version now)) = refl
+created-plain (Is_new (Present version now)) = refl
+created-plain (Is_got x) = refl
+created-plain (Is_over x) = refl
+created-plain (Is_gone x) = refl
+created-plain (Is_gone_at x) = refl
+created-plain (Is_listed x) = refl
+created-plain (Failed done) = refl
+
+begun-plain : (made : Result (Unit {0}) Refusal) → strange_answer made ≡ false → strange_answer (begun made) ≡ false
+begun-plain (Ok done) p = refl
+begun-plain (Err (RefExists version)) p = refl
+begun-plain (Err refusal) p = p
+
 module _ (who : Id12 → Type 0) where
   abbrev watch : Watch
   watch = drawing who
 
   -- the opening
-  after_put-meets : (reply : Reply) (journal : List Event) → Meets Plain watch (after_put reply) journal
-  after_put-meets (Is_new x) journal = done-meets Plain watch (Ok tt) journal refl
-  after_put-meets (Is_got x) journal = done-meets Plain watch (Err StoreFault) journal refl
-  after_put-meets (Is_over x) journal = done-meets Plain watch (Err StoreFault) journal refl
-  after_put-meets (Is_gone x) journal = done-meets Plain watch (Err StoreFault) journal refl
-  after_put-meets (Is_gone_at x) journal = done-meets Plain watch (Err StoreFault) journal refl
-  after_put-meets (Is_listed x) journal = done-meets Plain watch (Err StoreFault) journal refl
-  after_put-meets (Failed done) journal = done-meets Plain watch (Err StoreFault) journal refl
-
   main-meets : (journal : List Event) → Meets Plain watch put_main journal
-  main-meets journal = ask-meets Plain watch _ after_put journal (λ more event others any is. after_put-meets event.reply ((journal ++ more) ++ event ∷ []))
+  main-meets journal = ask-meets Plain watch _ (λ reply. Done (created reply)) journal (λ more event others any is. done-meets Plain watch (created event.reply) ((journal ++ more) ++ event ∷ []) (created-plain event.reply))
+
+  init-meets : (journal : List Event) → Meets Plain watch init_program journal
+  init-meets journal = ask-meets Plain watch _ _ journal (λ more event others any is.
+      let h = (journal ++ more) ++ event ∷ [] in
+      then-meets Plain Plain watch (Done (placed event.reply)) (λ done. put_main) h (done-meets Plain watch (placed event.reply) h (placed-plain event.reply))
+      (λ done g p. main-meets g) (λ why g p. p))
 
   pub begin-meets : (journal : List Event) → Meets (λ (r : Result (Unit {0}) Refusal) (h : List Event). strange_answer r ≡ false) (drawing who) begin_program journal
-  begin-meets journal = ask-meets Plain watch _ _ journal (λ more event others any is.
-      then-meets Plain Plain watch (after_put event.reply) (λ done. put_main) ((journal ++ more) ++ event ∷ []) (after_put-meets event.reply ((journal ++ more) ++ event ∷ []))
-      (λ done h p. main-meets h) (λ why h p. p))
+  begin-meets journal = bind-meets Plain Plain watch init_program (λ made. Done (begun made)) journal (init-meets journal) (λ made h p. done-meets Plain watch (begun made) h (begun-plain made p))
 
 -- ---- the closing reading
 -- a branch, a tag or a tombstone

@@ -1,4 +1,4 @@
-pub mod Puts
+pub mod Begun
 pub mod Listed
 pub mod Goings
 pub mod Answered

@@ -1,13 +1,13 @@
 //! What is done with a repository as a whole, in one call.
 
-ghost use Rattle.std.specs.Prelude.{IfErr};
+ghost use Rattle.std.specs.Prelude.{◌≡◌, IfErr};
 ghost use Rattle.store_api.specs.Running.{Runs};
-ghost use Rattle.repository.specs.Beginning.{begin_program, MayRefuseBegin};
+ghost use Rattle.repository.specs.Beginning.{begun, begin_program, MayRefuseBegin};
 ghost use Rattle.repository.specs.Refs.{refs_program, MayRefuseRefs};
 
-use crate::{Begin, ReadRefs};
+use crate::ReadRefs;
 use play_outcome::RefLines;
-use repo_objects::{initial_law, ref_law};
+use refs_admin::make_repository;
 use std::alloc::Global;
 use store_api::{Refusal, Store, run_machine};
 
@@ -21,9 +21,17 @@ pub fn begin<S: Store>(alloc: Global, store: &mut S) -> Result<(), Refusal>
     ensures runs { Runs (S.view store.old) (S.view store.new) begin_program result }
     ensures listed { IfErr result MayRefuseBegin }
 {
-    initial_law();
-    ref_law();
-    run_machine(&mut Begin::new(alloc), store)
+    begun(make_repository(alloc, store))
+}
+
+/// What a beginning answers where making a repository was answered so: one that was there stays.
+fn begun(made: Result<(), Refusal>) -> Result<(), Refusal>
+    ensures { result ≡ begun made }
+{
+    match made {
+        Err(Refusal::RefExists(_)) => Ok(()),
+        made => made,
+    }
 }
 
 /// Reads all refs: the branches, and then the tags that have no tombstone, each in the order of

@@ -1,12 +1,10 @@
 //! What is done with a repository as a whole: it is begun where there is none, and its refs are read.
 #![tactic(auto)]
 
-mod beginning;
 mod calls;
 mod laws;
 mod refs;
 
-pub use beginning::Begin;
 pub use calls::{begin, read_refs};
 pub use laws::refs_law;
 pub use refs::ReadRefs;

@@ -21,7 +21,8 @@ use Rattle.store_api.specs.Program.{Prog, Done, Ask, bind, Path}
 use Rattle.play_outcome.specs.declared.outcome.RefLine.{RefLine}
 use Rattle.store_api.specs.Running.{Program, ◌>>=◌, on_answer}
 use Rattle.commit_path.specs.Single.{IsOfSnapshot}
-use Rattle.repository.specs.Beginning.{begin_program, put_main, after_put}
+use Rattle.refs_admin.specs.Beginning.{init_program, put_main, placed}
+use Rattle.repository.specs.Beginning.{begin_program, begun}
 use Rattle.repository.specs.Refs.{list_part, on_listed, read_ref, on_got, read_each, read_tags, read_branches, refs_program, with_line, live}
 
 abbrev pub IsBranch : Key → Type 0
@@ -80,23 +81,17 @@ path-plain (Done a) old (x ∷ xs) q k path = absurd path
 path-plain (Ask op next) old (x ∷ xs) q k path = (subst IsPlain (sym path.0) k.0, path-plain (next x.reply) (old ++ x ∷ []) xs q (k.1 x.reply) path.1)
 
 -- ---- the opening
-after_put-plain : (reply : Reply) → AllPlain (after_put reply)
-unfolding AllPlain
-after_put-plain (Is_got x) = tt
-after_put-plain (Is_new x) = tt
-after_put-plain (Is_over x) = tt
-after_put-plain (Is_gone x) = tt
-after_put-plain (Is_gone_at x) = tt
-after_put-plain (Is_listed x) = tt
-after_put-plain (Failed d) = tt
-
 main-plain : AllPlain put_main
 unfolding AllPlain
-main-plain = (tt, after_put-plain)
+main-plain = (tt, λ reply. tt)
+
+init-plain : AllPlain init_program
+unfolding AllPlain
+init-plain = ((refl, refl), λ reply. then-plain (Done (placed reply)) (λ done. put_main) tt (λ done. main-plain))
 
 pub begin-plain : AllPlain begin_program
 unfolding AllPlain
-begin-plain = ((refl, refl), λ reply. then-plain (after_put reply) (λ done. put_main) (after_put-plain reply) (λ done. main-plain))
+begin-plain = bind-plain init_program (λ made. Done (begun made)) init-plain (λ made. tt)
 
 -- ---- the closing reading
 on_listed-plain : (reply : Reply) → AllPlain (on_listed reply)
