@@ -1,5 +1,5 @@
 -- What lines do is determined, and what is left of changes, in words of trees.
-use Rattle.std.proofs.Common.{◌≡◌, ℕ, List, [], ◌∷◌, ◌++◌, Option, Some, None, Result, Ok, inl, inr, ℤ, Bool, true, false, refl, sym, ◌∙◌, ap, subst}
+use Rattle.std.proofs.Common.{◌≡◌, ◌⊎◌, ℕ, List, [], ◌∷◌, ◌++◌, Option, Some, None, Result, Ok, inl, inr, ℤ, Bool, true, false, refl, sym, ◌∙◌, ap, subst}
 use Rattle.std.specs.Cmp.{both_ways}
 use Rattle.std.proofs.lemmas.Bool.{false≢true}
 use Rattle.ice_ids.specs.declared.Id8.{Id8}
@@ -14,7 +14,7 @@ use Rattle.zarr_tree.specs.Nodes.{Node}
 use Rattle.zarr_tree.specs.Trees.{Tree, node_at}
 use Rattle.zarr_tree.specs.Changes.{Changes}
 use Rattle.zarr_tree.specs.Conflicts.{without}
-use Rattle.zarr_tree.specs.Edits.{Edit, Add, SetMeta, Drop, Set, Unset, change}
+use Rattle.zarr_tree.specs.Edits.{Edit, Add, change}
 use Rattle.zarr_meta.specs.Plain.{group_text}
 use Rattle.zarr_meta.specs.declared.views.ArrayView.{ArrayView}
 use Rattle.region_cells.specs.Walks.{chunks_met}
@@ -29,7 +29,7 @@ use Rattle.play_script.specs.declared.scripts.EditCall.TheVariants as E
 use Rattle.play_script.specs.declared.scripts.Call.{Call}
 use Rattle.play_script.specs.declared.scripts.Call.TheVariants as C
 use Rattle.play_outcome.specs.declared.outcome.Shown.{Shown}
-use Rattle.run_promise.specs.Lines.{text_put, key_put, key_erase, edit_of, Edits, PutsBox, Changed, Does, Plays}
+use Rattle.run_promise.specs.Lines.{text_put, key_put, edit_of, Edits, PutsBox, Changed, Does, Plays}
 use Rattle.run_promise.specs.Ways.{Carried, stays, over}
 use Rattle.determined_sessions.specs.Trees.{id_added, edit_ids, id_given, ids_given, PlaysLaw, links_of, CarriedLaw}
 
@@ -56,39 +56,48 @@ adds-same path text id other m n xs ys e f h =
     let more : xs ≡ ys = cc in
     (sym first ∙ ap (λ (k : Id8). Add path k text) one ∙ second, more)
 
--- an edit that adds no node
-plain-same : (o : Edit) → id_added o ≡ [] → (m n : Edit) (xs ys : List Id8) → Some o ≡ Some m → Some o ≡ Some n → id_added m ++ xs ≡ id_added n ++ ys → Same m n xs ys
-plain-same o none m n xs ys e f h =
-    let first : o ≡ m = some-same o m e in
-    let second : o ≡ n = some-same o n f in
-    (sym first ∙ second, sym (ap (λ (ids : List Id8). ids ++ xs) none) ∙ ap (λ (k : Edit). id_added k ++ xs) first ∙ h ∙ sym (ap (λ (k : Edit). id_added k ++ ys) second) ∙ ap (λ (ids : List Id8). ids ++ ys) none)
+rest-same : (zs xs ys : List Id8) → zs ++ xs ≡ zs ++ ys → xs ≡ ys
+rest-same [] xs ys h = h
+rest-same (z ∷ zs) xs ys h =
+    let whole : z ∷ (zs ++ xs) ≡ z ∷ (zs ++ ys) = h in
+    let rest : zs ++ xs ≡ zs ++ ys = cc in
+    rest-same zs xs ys rest
 
-text-put-same : (there : Option Node) (path text : List ℕ) (id other : Id8) (m n : Edit) (xs ys : List Id8) → Some (text_put there id path text) ≡ Some m → Some (text_put there other path text) ≡ Some n → id_added m ++ xs ≡ id_added n ++ ys → Same m n xs ys
-text-put-same None path text id other m n xs ys e f h = adds-same path text id other m n xs ys e f h
-text-put-same (Some node) path text id other m n xs ys e f h = plain-same (SetMeta path text) refl m n xs ys e f h
+-- they add one node, but for its id
+record AddsOne (id other : Id8) (o p : Option Edit) : Type 0 where
+  path : List ℕ
+  text : List ℕ
+  first : o ≡ Some (Add path id text)
+  second : p ≡ Some (Add path other text)
 
-key-put-same : (key : Option ZarrKey) (bytes : List ℕ) (t : Tree) (id other : Id8) (m n : Edit) (xs ys : List Id8) → key_put key id bytes t ≡ Some m → key_put key other bytes t ≡ Some n → id_added m ++ xs ≡ id_added n ++ ys → Same m n xs ys
-key-put-same None bytes t id other m n xs ys e f h = absurd cc
-key-put-same (Some (K.Meta path)) bytes t id other m n xs ys e f h = text-put-same (node_at t path) path bytes id other m n xs ys e f h
-key-put-same (Some (K.Chunk path index)) bytes t id other m n xs ys e f h = plain-same (Set path index bytes) refl m n xs ys e f h
+-- whatever id it gives a node, a line asks for one edit
+abbrev AsksOne : (id other : Id8) (o p : Option Edit) → Type 0
+AsksOne id other o p = (o ≡ p) ⊎ AddsOne id other o p
 
-key-erase-same : (key : Option ZarrKey) (m n : Edit) (xs ys : List Id8) → key_erase key ≡ Some m → key_erase key ≡ Some n → id_added m ++ xs ≡ id_added n ++ ys → Same m n xs ys
-key-erase-same None m n xs ys e f h = absurd cc
-key-erase-same (Some (K.Meta path)) m n xs ys e f h = plain-same (Drop path) refl m n xs ys e f h
-key-erase-same (Some (K.Chunk path index)) m n xs ys e f h = plain-same (Unset path index) refl m n xs ys e f h
+adds-one : (path text : List ℕ) (id other : Id8) → AsksOne id other (Some (Add path id text)) (Some (Add path other text))
+adds-one path text id other = inr (record { path = path; text = text; first = refl; second = refl })
 
-edit-same : (edit : EditCall) (t : Tree) (id other : Id8) (m n : Edit) (xs ys : List Id8) → edit_of edit id t ≡ Some m → edit_of edit other t ≡ Some n → id_added m ++ xs ≡ id_added n ++ ys → Same m n xs ys
-edit-same (E.Group path) t id other m n xs ys e f h = adds-same path group_text id other m n xs ys e f h
-edit-same (E.Array path text) t id other m n xs ys e f h = adds-same path text id other m n xs ys e f h
-edit-same (E.Make path text) t id other m n xs ys e f h = adds-same path text id other m n xs ys e f h
-edit-same (E.Meta path text) t id other m n xs ys e f h = plain-same (SetMeta path text) refl m n xs ys e f h
-edit-same (E.Drop path) t id other m n xs ys e f h = plain-same (Drop path) refl m n xs ys e f h
-edit-same (E.Set path index bytes) t id other m n xs ys e f h = plain-same (Set path index bytes) refl m n xs ys e f h
-edit-same (E.Fill path index byte) t id other m n xs ys e f h = plain-same (Set path index _) refl m n xs ys e f h
-edit-same (E.Unset path index) t id other m n xs ys e f h = plain-same (Unset path index) refl m n xs ys e f h
-edit-same (E.Put place numbers) t id other m n xs ys e f h = absurd cc
-edit-same (E.KeySet key bytes) t id other m n xs ys e f h = key-put-same (key_of key) bytes t id other m n xs ys e f h
-edit-same (E.KeyErase key) t id other m n xs ys e f h = key-erase-same (key_of key) m n xs ys e f h
+text-put-one : (there : Option Node) (path text : List ℕ) (id other : Id8) → AsksOne id other (Some (text_put there id path text)) (Some (text_put there other path text))
+text-put-one None path text id other = adds-one path text id other
+text-put-one (Some node) path text id other = inl refl
+
+key-put-one : (key : Option ZarrKey) (bytes : List ℕ) (t : Tree) (id other : Id8) → AsksOne id other (key_put key id bytes t) (key_put key other bytes t)
+key-put-one (Some (K.Meta path)) bytes t id other = text-put-one (node_at t path) path bytes id other
+key-put-one (Some (K.Chunk path index)) bytes t id other = inl refl
+key-put-one None bytes t id other = inl refl
+
+edit-asks : (edit : EditCall) (t : Tree) (id other : Id8) → AsksOne id other (edit_of edit id t) (edit_of edit other t)
+edit-asks (E.Group path) t id other = adds-one path group_text id other
+edit-asks (E.Array path text) t id other = adds-one path text id other
+edit-asks (E.Make path text) t id other = adds-one path text id other
+edit-asks (E.KeySet key bytes) t id other = key-put-one (key_of key) bytes t id other
+edit-asks edit t id other = inl refl
+
+edit-same : (id other : Id8) (o p : Option Edit) (m n : Edit) (xs ys : List Id8) → AsksOne id other o p → o ≡ Some m → p ≡ Some n → id_added m ++ xs ≡ id_added n ++ ys → Same m n xs ys
+edit-same id other o p m n xs ys (inl same) e f h =
+    let one : m ≡ n = some-same m n (sym e ∙ (same ∙ f)) in
+    (one, rest-same (id_added n) xs ys (ap (λ (k : Edit). id_added k ++ xs) (sym one) ∙ h))
+edit-same id other o p m n xs ys (inr a) e f h = adds-same a.path a.text id other m n xs ys (sym a.first ∙ e) (sym a.second ∙ f) h
 
 -- what one line shows, the tree behind it, and the ids behind its own
 abbrev Alike : (shown told : List Shown) (u v : Tree) (xs ys : List Id8) → Type 0
@@ -96,7 +105,7 @@ Alike shown told u v xs ys = (shown ≡ told) × (u ≡ v) × (xs ≡ ys)
 
 edits-same : (edit : EditCall) (t : Tree) (shown told : List Shown) (u v : Tree) (p : Edits edit t shown u) (q : Edits edit t told v) (xs ys : List Id8) → id_added p.made ++ xs ≡ id_added q.made ++ ys → Alike shown told u v xs ys
 edits-same edit t shown told u v p q xs ys h =
-    let one = edit-same edit t p.id q.id p.made q.made xs ys p.asked q.asked h in
+    let one = edit-same p.id q.id (edit_of edit p.id t) (edit_of edit q.id t) p.made q.made xs ys (edit-asks edit t p.id q.id) p.asked q.asked h in
     (p.silent ∙ sym q.silent, tree-same (change t q.made) u v (ap (change t) (sym one.0) ∙ p.changed) q.changed, one.1)
 
 -- a tree with these numbers in a box is one tree
@@ -121,17 +130,8 @@ puts-same place numbers t shown told u v p q =
     with-one place.path q.array place.from place.to numbers t u v (subst (λ (x : ArrayView). IsTreeWith place.path x place.from place.to numbers t u) array p.box) q.box
 
 changed-same : (edit : EditCall) (t : Tree) (shown told : List Shown) (u v : Tree) (p : Changed edit t shown u) (q : Changed edit t told v) (xs ys : List Id8) → edit_ids edit t shown u p ++ xs ≡ edit_ids edit t told v q ++ ys → Alike shown told u v xs ys
-changed-same (E.Group path) t shown told u v p q xs ys h = edits-same (E.Group path) t shown told u v p q xs ys h
-changed-same (E.Array path text) t shown told u v p q xs ys h = edits-same (E.Array path text) t shown told u v p q xs ys h
-changed-same (E.Make path text) t shown told u v p q xs ys h = edits-same (E.Make path text) t shown told u v p q xs ys h
-changed-same (E.Meta path text) t shown told u v p q xs ys h = edits-same (E.Meta path text) t shown told u v p q xs ys h
-changed-same (E.Drop path) t shown told u v p q xs ys h = edits-same (E.Drop path) t shown told u v p q xs ys h
-changed-same (E.Set path index bytes) t shown told u v p q xs ys h = edits-same (E.Set path index bytes) t shown told u v p q xs ys h
-changed-same (E.Fill path index byte) t shown told u v p q xs ys h = edits-same (E.Fill path index byte) t shown told u v p q xs ys h
-changed-same (E.Unset path index) t shown told u v p q xs ys h = edits-same (E.Unset path index) t shown told u v p q xs ys h
 changed-same (E.Put place numbers) t shown told u v p q xs ys h = (p.silent ∙ sym q.silent, puts-same place numbers t shown told u v p q, h)
-changed-same (E.KeySet key bytes) t shown told u v p q xs ys h = edits-same (E.KeySet key bytes) t shown told u v p q xs ys h
-changed-same (E.KeyErase key) t shown told u v p q xs ys h = edits-same (E.KeyErase key) t shown told u v p q xs ys h
+changed-same edit t shown told u v p q xs ys h = edits-same edit t shown told u v p q xs ys h
 
 does-same : (line : ℕ) (call : Call) (t : Tree) (shown told : List Shown) (u v : Tree) (p : Does line call t shown u) (q : Does line call t told v) (xs ys : List Id8)
     → id_given line call t shown u p ++ xs ≡ id_given line call t told v q ++ ys → Alike shown told u v xs ys

@@ -26,17 +26,8 @@ id_added (Set path index bytes) = []
 id_added (Unset path index) = []
 
 abbrev pub edit_ids : (edit : EditCall) (t : Tree) (shown : List Shown) (u : Tree) → Changed edit t shown u → List Id8
-edit_ids (E.Group path) t shown u did = id_added did.made
-edit_ids (E.Array path text) t shown u did = id_added did.made
-edit_ids (E.Make path text) t shown u did = id_added did.made
-edit_ids (E.Meta path text) t shown u did = id_added did.made
-edit_ids (E.Drop path) t shown u did = id_added did.made
-edit_ids (E.Set path index bytes) t shown u did = id_added did.made
-edit_ids (E.Fill path index byte) t shown u did = id_added did.made
-edit_ids (E.Unset path index) t shown u did = id_added did.made
 edit_ids (E.Put place numbers) t shown u did = []
-edit_ids (E.KeySet key bytes) t shown u did = id_added did.made
-edit_ids (E.KeyErase key) t shown u did = id_added did.made
+edit_ids edit t shown u did = id_added did.made
 
 abbrev pub id_given : (line : ℕ) (call : Call) (t : Tree) (shown : List Shown) (u : Tree) → Does line call t shown u → List Id8
 id_given line (C.Edit edit) t shown u did = edit_ids edit t shown u did

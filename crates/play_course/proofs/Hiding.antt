@@ -33,7 +33,7 @@ use Rattle.chunk_calls.specs.Told.{SetTells, GetTells}
 use Rattle.play_script.specs.declared.scripts.Call.{Call}
 use Rattle.play_script.specs.declared.scripts.Call.TheVariants.{Edit, Read, Commit, Ref, Prop}
 use Rattle.play_script.specs.declared.scripts.EditCall.{EditCall}
-use Rattle.play_script.specs.declared.scripts.EditCall.TheVariants.{Group, Array, Make, Meta, Drop, Set as Set_call, Fill, Unset, Put, KeySet, KeyErase}
+use Rattle.play_script.specs.declared.scripts.EditCall.TheVariants.{Set as Set_call, Fill, Put, KeySet}
 use Rattle.play_script.specs.declared.scripts.ReadCall.{ReadCall}
 use Rattle.play_script.specs.declared.scripts.ReadCall.TheVariants.{List as List_call, Get as Get_call, Chunk as Chunk_call, Cells, KeyGet}
 use Rattle.play_script.specs.declared.scripts.Access.{Access}
@@ -83,17 +83,11 @@ key-get-plain line (Some (zarr.Meta path)) s = λ why e. cc
 key-get-plain line (Some (zarr.Chunk path index)) s = tt
 
 edit-deed-plain : (edit : EditCall) (s : SessionState) → DeedIsPlain (edit_deed edit s)
-edit-deed-plain (Group path) s = silent-plain (edited (Group path) s) (edited-plain (Group path) s)
-edit-deed-plain (Array path text) s = silent-plain (edited (Array path text) s) (edited-plain (Array path text) s)
-edit-deed-plain (Make path text) s = silent-plain (edited (Make path text) s) (edited-plain (Make path text) s)
-edit-deed-plain (Meta path text) s = silent-plain (edited (Meta path text) s) (edited-plain (Meta path text) s)
-edit-deed-plain (Drop path) s = silent-plain (edited (Drop path) s) (edited-plain (Drop path) s)
-edit-deed-plain (Unset path index) s = silent-plain (edited (Unset path index) s) (edited-plain (Unset path index) s)
-edit-deed-plain (KeyErase key) s = silent-plain (edited (KeyErase key) s) (edited-plain (KeyErase key) s)
 edit-deed-plain (Put place numbers) s = tt
 edit-deed-plain (KeySet key bytes) s = key-set-plain bytes (key_of key) s
 edit-deed-plain (Set_call path index bytes) s = tt
 edit-deed-plain (Fill path index byte) s = tt
+edit-deed-plain edit s = silent-plain (edited edit s) (edited-plain edit s)
 
 read-deed-plain : (line : ℕ) (look : ReadCall) (s : SessionState) → DeedIsPlain (read_deed line look s)
 read-deed-plain line (List_call path) s = still-plain s (read_by line (List_call path) s) (read-plain line (List_call path) s)

@@ -12,7 +12,6 @@ use Rattle.zarr_path.specs.Keys.{key_of}
 use Rattle.zarr_meta.specs.declared.faults.MetaFault.{MetaFault}
 use Rattle.zarr_meta.specs.declared.views.View.{View}
 use Rattle.zarr_meta.specs.Meta.{meta_of}
-use Rattle.zarr_meta.specs.Plain.{group_text}
 use Rattle.zarr_tree.specs.Nodes.{Node}
 use Rattle.zarr_tree.specs.declared.edit.EditFault.{EditFault}
 use Rattle.repo_objects.specs.Laws.{SnapshotLaw}
@@ -43,7 +42,7 @@ use Rattle.std.specs.Prelude.{All}
 use Rattle.std.proofs.lemmas.List.Elements.{All-head, All-tail}
 use Rattle.zarr_changes.specs.Sets.{add_refusal, text_refusal, drop_refusal, unset_refusal}
 use Rattle.session.specs.declared.chunks.Value.{Value}
-use Rattle.session.specs.Editing.{group_fault, array_fault, node_fault, added, entered, group_added, array_added, node_added, meta_set, node_dropped, if_writes, unless_bad, unless_refused, unless_unfit, refusal_of_edit, drawn_node, with_prop, prop_added, if_there, listed}
+use Rattle.session.specs.Editing.{node_fault, added, entered, meta_set, node_dropped, if_writes, unless_bad, unless_refused, unless_unfit, refusal_of_edit, drawn_node, with_prop, prop_added, if_there, listed}
 use Rattle.session.specs.Chunks.{set_program, get_program, chunk_unset, without_chunk}
 use Rattle.array_region.specs.Reading.{region_program}
 use Rattle.array_region.specs.Writing.{region_set_program}
@@ -58,15 +57,16 @@ use Rattle.rebase.specs.declared.machine.Rebased.TheVariants.{Moved, UpToDate}
 use Rattle.rebase.specs.Rebasing.{rebase_program}
 use Rattle.commit_path.proofs.Editing.{node-added, text-set, node-dropped, added-opened, set-opened, dropped-opened}
 use Rattle.commit_path.proofs.Setting.{chunk-unset, without-opened}
-use Rattle.play_script.specs.declared.scripts.EditCall.TheVariants.{Group, Array, Make, Meta, Drop, Set as Set_call, Fill, Unset, Put, KeySet, KeyErase}
+use Rattle.play_script.specs.declared.scripts.EditCall.TheVariants.{Set as Set_call, Fill, Put, KeySet}
 use Rattle.play_script.specs.declared.scripts.ReadCall.TheVariants.{List as List_call, Get as Get_call, Chunk as Chunk_call, Cells, KeyGet}
-use Rattle.play_script.specs.Well.{IsWellLine}
-use Rattle.zarr_keys.specs.Keys.{session_of, meta_value, put_over, erased_at, key_erased}
+use Rattle.play_script.specs.Well.{IsWellPath, IsWellEdit, IsWellLine}
+use Rattle.zarr_keys.specs.Keys.{session_of, meta_value, put_over}
 use Rattle.play_tasks.specs.Lines.{deed, edit_deed, read_deed, edited, read_by, silent, still, nodes_shown, meta_shown, value_shown, cells_shown, key_shown, chunk_key_shown, key_set_deed, key_get_deed, filled, Goes}
 use Rattle.play_tasks.specs.Playing.{Rest, after_line, how_of, after_settling, doubt_of, doubt_play, after_commit, after_rebase, after_open, shown_by, commit_play, tries_of, policy_of, play_deed, play_lines, asked_by, session_play}
+use Rattle.play_tasks.proofs.Ways.{Way, adds, texts, drops, unsets, no_key, stays, put-way, edited-way}
 use Rattle.run_histories.specs.Sources.{NodesAreNew}
 use Rattle.commit_path.proofs.Adding.{prop-added, prop-opened}
-use Rattle.run_histories.proofs.Drawing.{edited-draws, prop-draws, text-draws, taken-draws, access-ids}
+use Rattle.run_histories.proofs.Drawing.{way-draws, prop-draws, access-ids}
 use Rattle.run_histories.proofs.Edits.{Edits, edit-later, edit-goes, edit-base, own-stay}
 use Rattle.run_histories.proofs.Editing.{Leads, call-leads}
 use Rattle.play_course.specs.Refusing.{is_strange, strange_end}
@@ -149,31 +149,20 @@ prop-plain s name value =
     let r : Result SessionState Refusal = unless_unfit (prop_fault s.props name value) (Ok (with_prop s name value)) in
     writes-plain (writes s) r (fit-plain (prop_fault s.props name value) (Ok (with_prop s name value)) (done-plain (with_prop s name value)))
 
+-- nor of an edit, whichever way it goes
+way-plain : (Well : Type 0) (s : SessionState) {r : Result SessionState Refusal} → Way Well s r → IsPlain r
+way-plain Well s (adds fault tells path text at) = added-plain fault s path text
+way-plain Well s (texts path text) = set-plain s path text
+way-plain Well s (drops path) = drop-plain s path
+way-plain Well s (unsets path index) = unset-plain s path index
+way-plain Well s no_key = λ why e. refused_as why R.BadKey refl e
+way-plain Well s stays = done-plain s
+
 pub put-plain : (o : Option Node) (s : SessionState) (path text : List ℕ) → IsPlain (put_over o s path text)
-put-plain (Some node) s path text = set-plain s path text
-put-plain None s path text = added-plain node_fault s path text
-
-erased-plain : (o : Option ZarrKey) (s : SessionState) → IsPlain (erased_at s o)
-erased-plain None s = λ why e. refused_as why R.BadKey refl e
-erased-plain (Some (zarr.Meta path)) s = drop-plain s path
-erased-plain (Some (zarr.Chunk path index)) s = unset-plain s path index
-
-key-plain : (s : SessionState) (key : List ℕ) → IsPlain (key_erased s key)
-unfolding key_erased
-key-plain s key = erased-plain (key_of key) s
+put-plain o s path text = way-plain (IsWellPath path) s (put-way s o path text)
 
 pub edited-plain : (edit : EditCall) (s : SessionState) → IsPlain (edited edit s)
-edited-plain (Group path) s = added-plain group_fault s path group_text
-edited-plain (Array path text) s = added-plain array_fault s path text
-edited-plain (Make path text) s = added-plain node_fault s path text
-edited-plain (Meta path text) s = set-plain s path text
-edited-plain (Drop path) s = drop-plain s path
-edited-plain (Set_call path index bytes) s = done-plain s
-edited-plain (Fill path index byte) s = done-plain s
-edited-plain (Unset path index) s = unset-plain s path index
-edited-plain (Put place numbers) s = done-plain s
-edited-plain (KeySet key bytes) s = done-plain s
-edited-plain (KeyErase key) s = key-plain s key
+edited-plain edit s = way-plain (IsWellEdit edit) s (edited-way edit s)
 
 there-plain : {A B : Type 0} (o : Option A) (b : B) → IsPlain (if_there o b)
 there-plain None b why e = refused_as why (R.Edit Fault.NoNode) refl e
@@ -206,31 +195,13 @@ added-known fault s t path text journal tells (Ok new) e d o = let same : new.1 
 same-known : (s t : SessionState) (journal : List Event) → ◌≡◌ {A = Result SessionState Refusal} (Ok s) (Ok t) → IsOpened s journal → IsOpened t journal
 same-known s t journal e o = let same : s ≡ t = cc in subst (λ (x : SessionState). IsOpened x journal) same o
 
-put-known : (o : Option Node) (s t : SessionState) (path text : List ℕ) (journal : List Event) → put_over o s path text ≡ Ok t → IsOpened s journal → IsOpened t journal
-put-known (Some node) s t path text journal e o = set-opened s t path text journal (text-set s t path text e) o
-put-known None s t path text journal e o = added-known node_fault s t path text journal (λ bad. refl) (node_added s path text) refl e o
-
-erased-known : (key : Option ZarrKey) (s t : SessionState) (journal : List Event) → erased_at s key ≡ Ok t → IsOpened s journal → IsOpened t journal
-erased-known None s t journal e o = absurd cc
-erased-known (Some (zarr.Meta path)) s t journal e o = dropped-opened s t path journal (node-dropped s t path e) o
-erased-known (Some (zarr.Chunk path index)) s t journal e o = without-opened s t path index journal (chunk-unset s t path index e) o
-
-key-known : (key : List ℕ) (s t : SessionState) (journal : List Event) → key_erased s key ≡ Ok t → IsOpened s journal → IsOpened t journal
-unfolding key_erased
-key-known key s t journal e o = erased-known (key_of key) s t journal e o
-
-edited-known : (edit : EditCall) (s t : SessionState) (journal : List Event) → edited edit s ≡ Ok t → IsOpened s journal → IsOpened t journal
-edited-known (Group path) s t journal e o = added-known group_fault s t path group_text journal (λ bad. refl) (group_added s path group_text) refl e o
-edited-known (Array path text) s t journal e o = added-known array_fault s t path text journal (λ bad. refl) (array_added s path text) refl e o
-edited-known (Make path text) s t journal e o = added-known node_fault s t path text journal (λ bad. refl) (node_added s path text) refl e o
-edited-known (Meta path text) s t journal e o = set-opened s t path text journal (text-set s t path text e) o
-edited-known (Drop path) s t journal e o = dropped-opened s t path journal (node-dropped s t path e) o
-edited-known (Set_call path index bytes) s t journal e o = same-known s t journal e o
-edited-known (Fill path index byte) s t journal e o = same-known s t journal e o
-edited-known (Unset path index) s t journal e o = without-opened s t path index journal (chunk-unset s t path index e) o
-edited-known (Put place numbers) s t journal e o = same-known s t journal e o
-edited-known (KeySet key bytes) s t journal e o = same-known s t journal e o
-edited-known (KeyErase key) s t journal e o = key-known key s t journal e o
+way-known : (Well : Type 0) (s t : SessionState) (journal : List Event) {r : Result SessionState Refusal} → Way Well s r → r ≡ Ok t → IsOpened s journal → IsOpened t journal
+way-known Well s t journal (adds fault tells path text at) e o = added-known fault s t path text journal tells (added fault s path text) refl e o
+way-known Well s t journal (texts path text) e o = set-opened s t path text journal (text-set s t path text e) o
+way-known Well s t journal (drops path) e o = dropped-opened s t path journal (node-dropped s t path e) o
+way-known Well s t journal (unsets path index) e o = without-opened s t path index journal (chunk-unset s t path index e) o
+way-known Well s t journal no_key e o = absurd cc
+way-known Well s t journal stays e o = same-known s t journal e o
 
 -- a task ends by no strange refusal but one that says that a log hides a node
 abbrev pub EndsFine : (collects : Bool) → End → Type 0
@@ -275,11 +246,12 @@ module _ (client : Client) (ids : AnyIds) where
   refused-plain : (line : ℕ) (shown : List Shown) (why : Refusal) (journal : List Event) → is_strange false why ≡ false → PlayMeets Ends (beside client ids) (refused line shown why) journal
   refused-plain line shown why journal p = refused-meets line shown why journal (plain-beside client.collects why p)
 
-  edit-meets : (line : ℕ) (shown : List Shown) (edit : EditCall) (s : SessionState) (rest : Rest) (journal : List Event) → Held client ids s journal → GoesOn rest → Leads (Goes (silent (edited edit s))) s → (r : Result SessionState Refusal) → edited edit s ≡ r
+  -- an edit, by whichever way
+  way-meets : (line : ℕ) (shown : List Shown) (Well : Type 0) (s : SessionState) (rest : Rest) (journal : List Event) → Held client ids s journal → GoesOn rest → (expected : Result SessionState Refusal) → Way Well s expected → Leads (Goes (silent expected)) s → (r : Result SessionState Refusal) → expected ≡ r
       → PlayMeets Ends (beside client ids) (after_line line shown (silent r) rest) journal
-  edit-meets line shown edit s rest journal h go leads (Ok t) e =
-      go t (shown ++ []) journal (held-led s t journal (leads [] t (ap (λ (x : Result SessionState Refusal). silent x) e)) (edited-draws client.draw client.number edit s t h.known e) (edited-known edit s t journal e h.opened) h)
-  edit-meets line shown edit s rest journal h go leads (Err why) e = refused-plain line shown why journal (edited-plain edit s why e)
+  way-meets line shown Well s rest journal h go expected w leads (Ok t) e =
+      go t (shown ++ []) journal (held-led s t journal (leads [] t (ap (λ (x : Result SessionState Refusal). silent x) e)) (way-draws client.draw client.number Well s t w h.known e) (way-known Well s t journal w e h.opened) h)
+  way-meets line shown Well s rest journal h go expected w leads (Err why) e = refused-plain line shown why journal (way-plain Well s w why e)
 
   -- a property is added
   prop-meets : (line : ℕ) (shown : List Shown) (name value : List ℕ) (s : SessionState) (rest : Rest) (journal : List Event) → Held client ids s journal → GoesOn rest → Leads (Goes (silent (prop_added s name value))) s → (r : Result SessionState Refusal) → prop_added s name value ≡ r
@@ -287,17 +259,6 @@ module _ (client : Client) (ids : AnyIds) where
   prop-meets line shown name value s rest journal h go leads (Ok t) e =
       go t (shown ++ []) journal (held-led s t journal (leads [] t (ap (λ (x : Result SessionState Refusal). silent x) e)) (prop-draws client.draw client.number s t name value h.known e) (prop-opened s t name value journal (prop-added s t name value e) h.opened) h)
   prop-meets line shown name value s rest journal h go leads (Err why) e = refused-plain line shown why journal (prop-plain s name value why e)
-
-  -- a key's metadata is put
-  put-draws : (o : Option Node) (s t : SessionState) (path text : List ℕ) → AreIts client s.ids → put_over o s path text ≡ Ok t → AreIts client t.ids
-  put-draws (Some node) s t path text known e = text-draws client.draw client.number s t path text known e
-  put-draws None s t path text known e = taken-draws client.draw client.number node_fault s t path text (λ bad. refl) known (node_added s path text) refl e
-
-  put-meets : (line : ℕ) (shown : List Shown) (o : Option Node) (path text : List ℕ) (s : SessionState) (rest : Rest) (journal : List Event) → Held client ids s journal → GoesOn rest → Leads (Goes (silent (put_over o s path text))) s → (r : Result SessionState Refusal) → put_over o s path text ≡ r
-      → PlayMeets Ends (beside client ids) (after_line line shown (silent r) rest) journal
-  put-meets line shown o path text s rest journal h go leads (Ok t) e =
-      go t (shown ++ []) journal (held-led s t journal (leads [] t (ap (λ (x : Result SessionState Refusal). silent x) e)) (put-draws o s t path text h.known e) (put-known o s t path text journal e h.opened) h)
-  put-meets line shown o path text s rest journal h go leads (Err why) e = refused-plain line shown why journal (put-plain o s path text why e)
 
   look-meets : (line : ℕ) (shown : List Shown) (s : SessionState) (rest : Rest) (journal : List Event) → Held client ids s journal → GoesOn rest → (r : Result (List Shown) Refusal) → IsPlain r → PlayMeets Ends (beside client ids) (after_line line shown (still s r) rest) journal
   look-meets line shown s rest journal h go (Ok more) p = go s _ journal h
@@ -373,23 +334,19 @@ module _ (client : Client) (ids : AnyIds) where
 
   key-set-meets : (access : Access) (line : ℕ) (bytes : List ℕ) (o : Option ZarrKey) (shown : List Shown) (s : SessionState) (rest : Rest) (journal : List Event) → Held client ids s journal → GoesOn rest → Leads (key_set_deed bytes o s) s → PlayMeets Ends (beside client ids) (play_deed access line shown s (key_set_deed bytes o s) rest) journal
   key-set-meets access line bytes None shown s rest journal h go leads = refused-meets line shown R.BadKey journal refl
-  key-set-meets access line bytes (Some (zarr.Meta path)) shown s rest journal h go leads = put-meets line shown (get (nodes_seen s) path) path bytes s rest journal h go leads (put_over (get (nodes_seen s) path) s path bytes) refl
+  key-set-meets access line bytes (Some (zarr.Meta path)) shown s rest journal h go leads =
+      let r = put_over (get (nodes_seen s) path) s path bytes in
+      way-meets line shown (IsWellPath path) s rest journal h go r (put-way s (get (nodes_seen s) path) path bytes) leads r refl
   key-set-meets access line bytes (Some (zarr.Chunk path index)) shown s rest journal h go leads = sets-meets line shown s path index bytes rest journal h go
 
   edit-deed-meets : (access : Access) (line : ℕ) (edit : EditCall) (shown : List Shown) (s : SessionState) (rest : Rest) (journal : List Event) → Held client ids s journal → GoesOn rest → Leads (edit_deed edit s) s → PlayMeets Ends (beside client ids) (play_deed access line shown s (edit_deed edit s) rest) journal
-  edit-deed-meets access line (Group path) shown s rest journal h go leads = edit-meets line shown (Group path) s rest journal h go leads (edited (Group path) s) refl
-  edit-deed-meets access line (Array path text) shown s rest journal h go leads = edit-meets line shown (Array path text) s rest journal h go leads (edited (Array path text) s) refl
-  edit-deed-meets access line (Make path text) shown s rest journal h go leads = edit-meets line shown (Make path text) s rest journal h go leads (edited (Make path text) s) refl
-  edit-deed-meets access line (Meta path text) shown s rest journal h go leads = edit-meets line shown (Meta path text) s rest journal h go leads (edited (Meta path text) s) refl
-  edit-deed-meets access line (Drop path) shown s rest journal h go leads = edit-meets line shown (Drop path) s rest journal h go leads (edited (Drop path) s) refl
-  edit-deed-meets access line (Unset path index) shown s rest journal h go leads = edit-meets line shown (Unset path index) s rest journal h go leads (edited (Unset path index) s) refl
-  edit-deed-meets access line (KeyErase key) shown s rest journal h go leads = edit-meets line shown (KeyErase key) s rest journal h go leads (edited (KeyErase key) s) refl
   edit-deed-meets access line (KeySet key bytes) shown s rest journal h go leads = key-set-meets access line bytes (key_of key) shown s rest journal h go leads
   edit-deed-meets access line (Set_call path index bytes) shown s rest journal h go leads = sets-meets line shown s path index bytes rest journal h go
   edit-deed-meets access line (Put place numbers) shown s rest journal h go leads =
       call-meets Ends (beside client ids) (WriteWell client ids) (region_set_program s place.path place.from place.to numbers) (λ answer. after_line line shown (silent answer) rest) journal (put-box-meets client ids s place.path place.from place.to numbers journal h)
       (λ r j w. put-box-goes line shown rest go r j w) (λ j. refused-meets line shown R.NoMemory j refl)
   edit-deed-meets access line (Fill path index byte) shown s rest journal h go leads = sets-meets line shown s path index (filled s path byte) rest journal h go
+  edit-deed-meets access line edit shown s rest journal h go leads = way-meets line shown (IsWellEdit edit) s rest journal h go (edited edit s) (edited-way edit s) leads (edited edit s) refl
 
   reads-meets : (line : ℕ) (show : Value → Shown) (path index : List ℕ) (shown : List Shown) (s : SessionState) (rest : Rest) (journal : List Event) → Held client ids s journal → GoesOn rest → PlayMeets Ends (beside client ids) (call (get_program s path index) (λ answer. after_line line shown (shown_by s show answer) rest)) journal
   reads-meets line show path index shown s rest journal h go =

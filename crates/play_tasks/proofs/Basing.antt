@@ -13,8 +13,6 @@ use Rattle.zarr_path.specs.Keys.{key_of}
 use Rattle.zarr_meta.specs.declared.faults.MetaFault.{MetaFault}
 use Rattle.zarr_meta.specs.declared.views.View.{View}
 use Rattle.zarr_meta.specs.Meta.{meta_of}
-use Rattle.zarr_meta.specs.Plain.{group_text}
-use Rattle.zarr_tree.specs.Nodes.{Node}
 use Rattle.zarr_changes.specs.Sets.{add_refusal, text_refusal, drop_refusal, unset_refusal}
 use Rattle.snapshot_file.specs.declared.properties.PropFault.{PropFault}
 use Rattle.snapshot_file.specs.Props.{prop_fault}
@@ -53,8 +51,8 @@ use Rattle.session.specs.Opening.{Asked, of_branch, origin_for, begun, base_prog
 use Rattle.array_region.specs.Reading.{region_program}
 use Rattle.array_region.specs.Writing.{region_set_program}
 use Rattle.session.specs.Chunks.{set_program, get_program, chunk_unset}
-use Rattle.session.specs.Editing.{group_fault, array_fault, node_fault, added, group_added, array_added, node_added, meta_set, node_dropped, drawn_node, unless_unfit, with_prop, prop_added}
-use Rattle.zarr_keys.specs.Keys.{meta_put, put_over, erased_at, key_erased, session_of}
+use Rattle.session.specs.Editing.{node_fault, added, meta_set, node_dropped, drawn_node, unless_unfit, with_prop, prop_added}
+use Rattle.zarr_keys.specs.Keys.{meta_put, session_of}
 use Rattle.commit_path.specs.declared.commit.Tried.{Tried}
 use Rattle.commit_path.specs.declared.commit.Tried.TheVariants.{Done as Was_done, Lost}
 use Rattle.commit_path.specs.Committing.{commit_program}
@@ -67,16 +65,18 @@ use Rattle.play_script.specs.declared.scripts.Call.TheVariants as call
 use Rattle.play_script.specs.declared.scripts.EditCall.{EditCall}
 use Rattle.play_script.specs.declared.scripts.EditCall.TheVariants as edit
 use Rattle.play_script.specs.declared.scripts.Line.{Line}
+use Rattle.play_script.specs.Well.{IsWellPath, IsWellEdit}
 use Rattle.play_script.specs.declared.scripts.ReadCall.{ReadCall}
 use Rattle.play_script.specs.declared.scripts.ReadCall.TheVariants as read
 use Rattle.play_outcome.specs.declared.outcome.Outcome.{Outcome}
 use Rattle.play_outcome.specs.declared.outcome.Shown.{Shown}
 use Rattle.play_outcome.specs.Playing.{refused}
-use Rattle.play_tasks.specs.Lines.{Deed, Goes, Sets, Reads, Puts, Gathers, Commits, deed, edit_deed, read_deed, key_set_deed, key_get_deed, read_by, silent, still}
+use Rattle.play_tasks.specs.Lines.{Deed, Goes, Sets, Reads, Puts, Gathers, Commits, deed, edited, edit_deed, read_deed, key_set_deed, key_get_deed, read_by, silent, still}
 use Rattle.settle.specs.declared.settle.Settled.{Settled as TheSettled}
 use Rattle.settle.specs.Settling.{settle_program}
 use Rattle.play_tasks.specs.Playing.{after_settling, doubt_of, doubt_play, after_commit, after_line, after_open, after_rebase, asked_by, commit_play, play_deed, play_lines, policy_of, session_play, shown_by, tries_of}
 use Rattle.play_tasks.specs.Bases.{HasAsked, IsAskedFor, NamesBase, naming_key}
+use Rattle.play_tasks.proofs.Ways.{Way, adds, texts, drops, unsets, no_key, stays, put-way, edited-way}
 use Rattle.play_tasks.proofs.Ready.{by_writes, by_text, by_edit}
 use Rattle.play_tasks.proofs.Doubting.{which, no-doubt, settle-within}
 use Rattle.play_tasks.proofs.Boxing.{AnyNumbers, gather-within, put-box-within}
@@ -122,18 +122,14 @@ node-leaves : (s : SessionState) (r : Result (Id8 × SessionState) Refusal) → 
 node-leaves s (Ok a) l = l
 node-leaves s (Err why) l = tt
 
-put-leaves : (o : Option Node) (s : SessionState) (path text : List ℕ) → Leaves s (put_over o s path text)
-put-leaves (Some node) s path text = text-leaves s path text
-put-leaves None s path text = node-leaves s (node_added s path text) (added-leaves node_fault s path text)
-
-erase-leaves : (o : Option ZarrKey) (s : SessionState) → Leaves s (erased_at s o)
-erase-leaves None s = tt
-erase-leaves (Some (zarr.Meta path)) s = drop-leaves s path
-erase-leaves (Some (zarr.Chunk path index)) s = unset-leaves s path index
-
-key-erase-leaves : (key : List ℕ) (s : SessionState) → Leaves s (key_erased s key)
-unfolding key_erased
-key-erase-leaves key s = erase-leaves (key_of key) s
+-- so does an edit, by whichever way
+way-leaves : (Well : Type 0) (s : SessionState) {r : Result SessionState Refusal} → Way Well s r → Leaves s r
+way-leaves Well s (adds fault tells path text at) = node-leaves s (added fault s path text) (added-leaves fault s path text)
+way-leaves Well s (texts path text) = text-leaves s path text
+way-leaves Well s (drops path) = drop-leaves s path
+way-leaves Well s (unsets path index) = unset-leaves s path index
+way-leaves Well s no_key = tt
+way-leaves Well s stays = same s
 
 -- what a deed goes to
 abbrev GoesSame : SessionState → Deed → Type 0
@@ -154,7 +150,7 @@ still-same s (Err why) = tt
 
 key-set-same : (s : SessionState) (bytes : List ℕ) (o : Option ZarrKey) → GoesSame s (key_set_deed bytes o s)
 key-set-same s bytes None = tt
-key-set-same s bytes (Some (zarr.Meta path)) = silent-same s (meta_put s path bytes) (put-leaves (get (nodes_seen s) path) s path bytes)
+key-set-same s bytes (Some (zarr.Meta path)) = silent-same s (meta_put s path bytes) (way-leaves (IsWellPath path) s (put-way s (get (nodes_seen s) path) path bytes))
 key-set-same s bytes (Some (zarr.Chunk path index)) = tt
 
 key-get-same : (line : ℕ) (s : SessionState) (o : Option ZarrKey) → GoesSame s (key_get_deed line o s)
@@ -163,17 +159,11 @@ key-get-same line s (Some (zarr.Meta path)) = same s
 key-get-same line s (Some (zarr.Chunk path index)) = tt
 
 edit-same : (s : SessionState) (x : EditCall) → GoesSame s (edit_deed x s)
-edit-same s (edit.Group path) = silent-same s (session_of (group_added s path group_text)) (node-leaves s (group_added s path group_text) (added-leaves group_fault s path group_text))
-edit-same s (edit.Array path text) = silent-same s (session_of (array_added s path text)) (node-leaves s (array_added s path text) (added-leaves array_fault s path text))
-edit-same s (edit.Make path text) = silent-same s (session_of (node_added s path text)) (node-leaves s (node_added s path text) (added-leaves node_fault s path text))
-edit-same s (edit.Meta path text) = silent-same s (meta_set s path text) (text-leaves s path text)
-edit-same s (edit.Drop path) = silent-same s (node_dropped s path) (drop-leaves s path)
-edit-same s (edit.Unset path index) = silent-same s (chunk_unset s path index) (unset-leaves s path index)
-edit-same s (edit.KeyErase key) = silent-same s (key_erased s key) (key-erase-leaves key s)
 edit-same s (edit.Set path index bytes) = tt
 edit-same s (edit.Fill path index byte) = tt
 edit-same s (edit.Put place numbers) = tt
 edit-same s (edit.KeySet key bytes) = key-set-same s bytes (key_of key)
+edit-same s x = silent-same s (edited x s) (way-leaves (IsWellEdit x) s (edited-way x s))
 
 read-same : (line : ℕ) (s : SessionState) (x : ReadCall) → GoesSame s (read_deed line x s)
 read-same line s (read.List path) = still-same s (read_by line (read.List path) s)

@@ -1,4 +1,5 @@
 pub mod Calm
+pub mod Ways
 pub mod Within
 pub mod Based
 pub mod Basing

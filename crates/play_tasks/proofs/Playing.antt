@@ -96,15 +96,8 @@ edit-bytes : (x : EditCall) (s : SessionState) (path index bytes : List ℕ) →
 edit-bytes (edit.Set own place held) s path index bytes well d = let is : held ≡ bytes = cc in subst (λ (x : List ℕ). list_all (λ n. nat_lt n 256) x ≡ true) is (bytes_pass held well.2)
 edit-bytes (edit.Fill own place byte) s path index bytes well d =
     let is : filled s own byte ≡ bytes = cc in subst (λ (x : List ℕ). list_all (λ n. nat_lt n 256) x ≡ true) is (bytes_pass (filled s own byte) (All-replicate (λ b. b < 256) _ byte well.2))
-edit-bytes (edit.Group own) s path index bytes well d = absurd cc
-edit-bytes (edit.Array own text) s path index bytes well d = absurd cc
-edit-bytes (edit.Make own text) s path index bytes well d = absurd cc
-edit-bytes (edit.Meta own text) s path index bytes well d = absurd cc
-edit-bytes (edit.Drop own) s path index bytes well d = absurd cc
-edit-bytes (edit.Unset own place) s path index bytes well d = absurd cc
-edit-bytes (edit.Put place numbers) s path index bytes well d = absurd cc
 edit-bytes (edit.KeySet key held) s path index bytes well d = key_bytes held (key_of key) s path index bytes well.1 d
-edit-bytes (edit.KeyErase key) s path index bytes well d = absurd cc
+edit-bytes x s path index bytes well d = absurd cc
 
 key-no-bytes : (line : ℕ) (o : Option ZarrKey) (s : SessionState) (path index bytes : List ℕ) → key_get_deed line o s ≡ Sets path index bytes → ⊥
 key-no-bytes line None s path index bytes d = cc
@@ -131,17 +124,8 @@ key-set-no-message held (Some (zarr.Meta own)) s message d = cc
 key-set-no-message held (Some (zarr.Chunk own place)) s message d = cc
 
 edits-no-message : (x : EditCall) (s : SessionState) (message : List ℕ) → edit_deed x s ≡ Commits message → ⊥
-edits-no-message (edit.Set own place held) s message d = cc
-edits-no-message (edit.Fill own place byte) s message d = cc
-edits-no-message (edit.Group own) s message d = cc
-edits-no-message (edit.Array own text) s message d = cc
-edits-no-message (edit.Make own text) s message d = cc
-edits-no-message (edit.Meta own text) s message d = cc
-edits-no-message (edit.Drop own) s message d = cc
-edits-no-message (edit.Unset own place) s message d = cc
-edits-no-message (edit.Put place numbers) s message d = cc
 edits-no-message (edit.KeySet key held) s message d = key-set-no-message held (key_of key) s message d
-edits-no-message (edit.KeyErase key) s message d = cc
+edits-no-message x s message d = cc
 
 key-get-no-message : (line : ℕ) (o : Option ZarrKey) (s : SessionState) (message : List ℕ) → key_get_deed line o s ≡ Commits message → ⊥
 key-get-no-message line None s message d = cc

@@ -14,9 +14,7 @@ use Rattle.zarr_path.specs.Keys.{key_of}
 use Rattle.zarr_meta.specs.declared.faults.MetaFault.{MetaFault}
 use Rattle.zarr_meta.specs.declared.views.View.{View}
 use Rattle.zarr_meta.specs.Meta.{meta_of}
-use Rattle.zarr_meta.specs.Plain.{group_text}
 use Rattle.zarr_tree.specs.declared.edit.EditFault.{EditFault}
-use Rattle.zarr_tree.specs.Nodes.{Node}
 use Rattle.zarr_changes.specs.Sets.{add_refusal, text_refusal, drop_refusal, unset_refusal}
 use Rattle.object_store.specs.declared.events.Event.{Event}
 use Rattle.store_api.specs.declared.machines.Refusal.{Refusal}
@@ -27,13 +25,13 @@ use Rattle.session.specs.Sessions.{SessionState, writes, nodes_seen}
 use Rattle.session.specs.Sources.{IsLater}
 use Rattle.commit_path.proofs.Adding.{prop-added, prop-owned}
 use Rattle.session.specs.Chunks.{chunk_unset}
-use Rattle.session.specs.Editing.{group_fault, array_fault, node_fault, added, group_added, array_added, node_added, meta_set, node_dropped, if_writes, unless_bad, unless_refused, unless_unfit, drawn_node, with_prop, prop_added}
+use Rattle.session.specs.Editing.{node_fault, added, meta_set, node_dropped, if_writes, unless_bad, unless_refused, unless_unfit, drawn_node, with_prop, prop_added}
 use Rattle.commit_path.specs.Own.{Owns, OwningLaw}
 use Rattle.commit_path.specs.Opened.{IsOpened}
 use Rattle.commit_path.specs.Spelled.{IsSpelled}
 use Rattle.commit_path.specs.Laws.{TellsFaults, SessionLaw}
 use Rattle.commit_path.proofs.Sources.{later-same, later-later}
-use Rattle.zarr_keys.specs.Keys.{session_of, put_over, erased_at, key_erased, meta_value}
+use Rattle.zarr_keys.specs.Keys.{session_of, meta_value}
 use Rattle.play_script.specs.declared.scripts.Call.{Call}
 use Rattle.play_script.specs.declared.scripts.Call.TheVariants as call
 use Rattle.play_script.specs.declared.scripts.EditCall.{EditCall}
@@ -43,6 +41,7 @@ use Rattle.play_script.specs.declared.scripts.ReadCall.TheVariants as read
 use Rattle.play_script.specs.Well.{IsWellPath, IsWellEdit, IsWellCall}
 use Rattle.play_outcome.specs.declared.outcome.Shown.{Shown}
 use Rattle.play_tasks.specs.Lines.{Goes, deed, edit_deed, read_deed, read_by, key_shown, key_set_deed, key_get_deed, silent, still}
+use Rattle.play_tasks.proofs.Ways.{Way, adds, texts, drops, unsets, no_key, stays, put-way, edited-way}
 use Rattle.play_tasks.proofs.Keys.{key-path}
 
 -- ---- the ids behind an edit
@@ -94,19 +93,6 @@ prop-later : (s : SessionState) (name value : List ℕ) → DrawsOn s.ids (prop_
 unfolding prop_added
 prop-later s name value = by_writes _ (writes s) _ (by_prop s (prop_fault s.props name value) (Ok (with_prop s name value)) (later-same s.ids))
 
-put-later : (o : Option Node) (s : SessionState) (path text : List ℕ) → DrawsOn s.ids (put_over o s path text)
-put-later (Some node) s path text = text-later s path text
-put-later None s path text = spared (node_added s path text) (added-later node_fault s path text)
-  where
-    spared : (r : Result (Id8 × SessionState) Refusal) → IfOk r (λ a. IsLater s.ids a.1.ids) → DrawsOn s.ids (session_of r)
-    spared (Ok a) later = later
-    spared (Err why) later = tt
-
-erase-later : (o : Option ZarrKey) (s : SessionState) → DrawsOn s.ids (erased_at s o)
-erase-later None s = tt
-erase-later (Some (zarr.Meta path)) s = drop-later s path
-erase-later (Some (zarr.Chunk path index)) s = unset-later s path index
-
 -- ---- sessions that are ready
 -- what a session knows of the journal, and that it can be written; it draws on these ids; and what its client owns with it
 pub record IsReady (ids : AnyIds) (client : ℕ) (start : List Event) (s : SessionState) (journal : List Event) : Type 0 where
@@ -133,38 +119,26 @@ module _ (L : SessionLaw) (O : OwningLaw) (ids : AnyIds) (client : ℕ) (start :
   change-ready s went journal ready expected (Err why) later keeps e d = absurd cc
   change-ready s went journal ready expected (Ok t) later keeps e d = edit-ready s t went journal ready (subst (DrawsOn s.ids) e later) (keeps t e) (cc)
 
-  -- a key's metadata is put
-  put-ready : (o : Option Node) (s : SessionState) (path text : List ℕ) (went : List Shown × SessionState) (journal : List Event) → IsWellPath path → IsReady ids client start s journal → silent (put_over o s path text) ≡ Ok went → IsReady ids client start went.1 journal
-  put-ready (Some node) s path text went journal well ready d = change-ready s went journal ready (meta_set s path text) (meta_set s path text) (text-later s path text) (λ t e. (L.texts s t path text journal e ready.spelled ready.opened, O.texts ids client s t path text start journal e ready.owned)) refl d
-  put-ready None s path text went journal well ready d = add-ready node_fault (λ bad. refl) s path text went journal well ready (node_added s path text) refl d
+  -- one that an edit leads to, by whichever way
+  way-ready : (Well : Type 0) (s : SessionState) (went : List Shown × SessionState) (journal : List Event) → Well → IsReady ids client start s journal → {r : Result SessionState Refusal} → Way Well s r → silent r ≡ Ok went → IsReady ids client start went.1 journal
+  way-ready Well s went journal well ready (adds fault tells path text at) d = add-ready fault tells s path text went journal (at well) ready (added fault s path text) refl d
+  way-ready Well s went journal well ready (texts path text) d = change-ready s went journal ready (meta_set s path text) (meta_set s path text) (text-later s path text) (λ t e. (L.texts s t path text journal e ready.spelled ready.opened, O.texts ids client s t path text start journal e ready.owned)) refl d
+  way-ready Well s went journal well ready (drops path) d = change-ready s went journal ready (node_dropped s path) (node_dropped s path) (drop-later s path) (λ t e. (L.drops s t path journal e ready.spelled ready.opened, O.drops ids client s t path start journal e ready.owned)) refl d
+  way-ready Well s went journal well ready (unsets path index) d = change-ready s went journal ready (chunk_unset s path index) (chunk_unset s path index) (unset-later s path index) (λ t e. (L.unsets s t path index journal e ready.spelled ready.opened, O.unsets ids client s t path index start journal e ready.owned)) refl d
+  way-ready Well s went journal well ready no_key d = absurd cc
+  way-ready Well s went journal well ready stays d = let is : ([], s) ≡ went = cc in subst (λ (x : List Shown × SessionState). IsReady ids client start x.1 journal) is ready
 
   key-set-ready : (key bytes : List ℕ) (o : Option ZarrKey) (s : SessionState) (went : List Shown × SessionState) (journal : List Event) → is_utf8 key ≡ true → key_of key ≡ o → IsReady ids client start s journal → key_set_deed bytes o s ≡ Goes (Ok went) → IsReady ids client start went.1 journal
   key-set-ready key bytes None s went journal utf8 is ready d = absurd cc
-  key-set-ready key bytes (Some (zarr.Meta path)) s went journal utf8 is ready d = put-ready (get (nodes_seen s) path) s path bytes went journal (key-path key path utf8 is) ready (cc)
+  key-set-ready key bytes (Some (zarr.Meta path)) s went journal utf8 is ready d = way-ready (IsWellPath path) s went journal (key-path key path utf8 is) ready (put-way s (get (nodes_seen s) path) path bytes) (cc)
   key-set-ready key bytes (Some (zarr.Chunk path index)) s went journal utf8 is ready d = absurd cc
 
-  -- a key is erased
-  erase-ready : (o : Option ZarrKey) (s : SessionState) (went : List Shown × SessionState) (journal : List Event) → IsReady ids client start s journal → silent (erased_at s o) ≡ Ok went → IsReady ids client start went.1 journal
-  erase-ready None s went journal ready d = absurd cc
-  erase-ready (Some (zarr.Meta path)) s went journal ready d = change-ready s went journal ready (node_dropped s path) (node_dropped s path) (drop-later s path) (λ t e. (L.drops s t path journal e ready.spelled ready.opened, O.drops ids client s t path start journal e ready.owned)) refl d
-  erase-ready (Some (zarr.Chunk path index)) s went journal ready d = change-ready s went journal ready (chunk_unset s path index) (chunk_unset s path index) (unset-later s path index) (λ t e. (L.unsets s t path index journal e ready.spelled ready.opened, O.unsets ids client s t path index start journal e ready.owned)) refl d
-
-  key-erase-ready : (key : List ℕ) (s : SessionState) (went : List Shown × SessionState) (journal : List Event) → IsReady ids client start s journal → silent (key_erased s key) ≡ Ok went → IsReady ids client start went.1 journal
-  unfolding key_erased
-  key-erase-ready key s went journal ready d = erase-ready (key_of key) s went journal ready d
-
   edits-ready : (x : EditCall) (s : SessionState) (went : List Shown × SessionState) (journal : List Event) → IsWellEdit x → IsReady ids client start s journal → edit_deed x s ≡ Goes (Ok went) → IsReady ids client start went.1 journal
-  edits-ready (edit.Group path) s went journal well ready d = add-ready group_fault (λ bad. refl) s path group_text went journal well ready (group_added s path group_text) refl (cc)
-  edits-ready (edit.Array path text) s went journal well ready d = add-ready array_fault (λ bad. refl) s path text went journal well.0 ready (array_added s path text) refl (cc)
-  edits-ready (edit.Make path text) s went journal well ready d = add-ready node_fault (λ bad. refl) s path text went journal well.0 ready (node_added s path text) refl (cc)
-  edits-ready (edit.Meta path text) s went journal well ready d = change-ready s went journal ready (meta_set s path text) (meta_set s path text) (text-later s path text) (λ t e. (L.texts s t path text journal e ready.spelled ready.opened, O.texts ids client s t path text start journal e ready.owned)) refl (cc)
-  edits-ready (edit.Drop path) s went journal well ready d = change-ready s went journal ready (node_dropped s path) (node_dropped s path) (drop-later s path) (λ t e. (L.drops s t path journal e ready.spelled ready.opened, O.drops ids client s t path start journal e ready.owned)) refl (cc)
-  edits-ready (edit.Unset path index) s went journal well ready d = change-ready s went journal ready (chunk_unset s path index) (chunk_unset s path index) (unset-later s path index) (λ t e. (L.unsets s t path index journal e ready.spelled ready.opened, O.unsets ids client s t path index start journal e ready.owned)) refl (cc)
   edits-ready (edit.Set path index bytes) s went journal well ready d = absurd cc
   edits-ready (edit.Fill path index byte) s went journal well ready d = absurd cc
   edits-ready (edit.Put place numbers) s went journal well ready d = absurd cc
   edits-ready (edit.KeySet key bytes) s went journal well ready d = key-set-ready key bytes (key_of key) s went journal well.0 refl ready d
-  edits-ready (edit.KeyErase key) s went journal well ready d = key-erase-ready key s went journal ready (cc)
+  edits-ready x s went journal well ready d = way-ready (IsWellEdit x) s went journal well ready (edited-way x s) (cc)
 
   look-ready : (s : SessionState) (went : List Shown × SessionState) (journal : List Event) → IsReady ids client start s journal → (r : Result (List Shown) Refusal) → still s r ≡ Ok went → IsReady ids client start went.1 journal
   look-ready s went journal ready (Err why) d = absurd cc

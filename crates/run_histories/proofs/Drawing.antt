@@ -1,6 +1,6 @@
 -- The ids that tasks' sessions draw.
 use Rattle.std.proofs.Common.{◌≡◌, ◌≢◌, inl, inr, ℕ, ◌+◌, ◌≤◌, List, refl, sym, ◌∙◌, ap, subst}
-use Rattle.std.specs.Prelude.{Option, Some, None, Result, Ok, Err}
+use Rattle.std.specs.Prelude.{Option, Some, Result, Ok, Err}
 use Rattle.ice_ids.specs.declared.Id8.{Id8}
 use Rattle.ice_ids.specs.declared.Id12.{Id12}
 use Rattle.ice_ids.specs.declared.drawing.AnyIds.{AnyIds}
@@ -9,29 +9,23 @@ use Rattle.ice_ids.specs.Text.{initial_id}
 use Rattle.ice_ids.specs.Drawing.{draw_of, client_of, drawn12, after12, after8, IsAmong, DrawsOnce}
 use Rattle.ice_ids.specs.Sources.{any_source12, any_source8}
 use Rattle.ice_ids.proofs.Drawn.{after8-draw, after12-draw, ids_of-draw, ids_of-client}
-use Rattle.zarr_path.specs.declared.keys.ZarrKey.{ZarrKey}
-use Rattle.zarr_path.specs.declared.keys.ZarrKey.TheVariants as zarr
-use Rattle.zarr_path.specs.Keys.{key_of}
 use Rattle.zarr_meta.specs.declared.faults.MetaFault.{MetaFault}
 use Rattle.zarr_meta.specs.declared.views.View.{View}
-use Rattle.zarr_meta.specs.Plain.{group_text}
 use Rattle.store_api.specs.declared.machines.Refusal.{Refusal}
 use Rattle.session.specs.Sessions.{SessionState}
-use Rattle.session.specs.Editing.{group_fault, array_fault, node_fault, added, group_added, array_added, node_added, meta_set, node_dropped, prop_added}
+use Rattle.session.specs.Editing.{added, meta_set, node_dropped, prop_added}
 use Rattle.commit_path.proofs.Adding.{prop-added}
 use Rattle.session.specs.Chunks.{chunk_unset}
 use Rattle.session.specs.Sources.{MayDrawObject}
 use Rattle.commit_path.specs.Laws.{TellsFaults}
 use Rattle.commit_path.proofs.Editing.{Added, node-added, text-set, node-dropped}
 use Rattle.commit_path.proofs.Setting.{chunk-unset}
-use Rattle.play_script.specs.declared.scripts.EditCall.{EditCall}
-use Rattle.play_script.specs.declared.scripts.EditCall.TheVariants.{Group, Array, Make, Meta, Drop, Set, Fill, Unset, Put, KeySet, KeyErase}
 use Rattle.play_script.specs.declared.scripts.Access.{Access}
 use Rattle.play_script.specs.declared.scripts.Access.TheVariants.{Write, Read}
-use Rattle.zarr_keys.specs.Keys.{session_of, erased_at, key_erased}
-use Rattle.play_tasks.specs.Lines.{edited}
+use Rattle.zarr_keys.specs.Keys.{session_of}
 use Rattle.play_tasks.specs.Playing.{asked_by}
 use Rattle.play_tasks.specs.Tasks.{ids_at}
+use Rattle.play_tasks.proofs.Ways.{Way, adds, texts, drops, unsets, no_key, stays}
 use Rattle.run_histories.proofs.Edits.{SetsChunk}
 
 -- an id that a client may draw in this way
@@ -64,14 +58,14 @@ module _ (draw : Draw) (client : ℕ) where
       let ids : t.ids ≡ after8 s.ids = ap (λ (x : SessionState). x.ids) a.is in
       subst (AreOf draw client) (sym ids) (drawn8-of draw client s.ids known)
 
-  pub taken-draws : (fault : Result View MetaFault → Option MetaFault) (s t : SessionState) (path text : List ℕ) → TellsFaults fault → AreOf draw client s.ids → (r : Result (Id8 × SessionState) Refusal) → added fault s path text ≡ r → session_of r ≡ Ok t → AreOf draw client t.ids
+  taken-draws : (fault : Result View MetaFault → Option MetaFault) (s t : SessionState) (path text : List ℕ) → TellsFaults fault → AreOf draw client s.ids → (r : Result (Id8 × SessionState) Refusal) → added fault s path text ≡ r → session_of r ≡ Ok t → AreOf draw client t.ids
   taken-draws fault s t path text tells known (Err why) e d = absurd cc
   taken-draws fault s t path text tells known (Ok new) e d = let same : new.1 ≡ t = cc in subst (λ (x : SessionState). AreOf draw client x.ids) same (added-draws fault s new.1 path text new.0 tells known e)
 
   stays-draws : (s t : SessionState) → AreOf draw client s.ids → ◌≡◌ {A = Result SessionState Refusal} (Ok s) (Ok t) → AreOf draw client t.ids
   stays-draws s t known e = let same : s ≡ t = cc in subst (λ (x : SessionState). AreOf draw client x.ids) same known
 
-  pub text-draws : (s t : SessionState) (path text : List ℕ) → AreOf draw client s.ids → meta_set s path text ≡ Ok t → AreOf draw client t.ids
+  text-draws : (s t : SessionState) (path text : List ℕ) → AreOf draw client s.ids → meta_set s path text ≡ Ok t → AreOf draw client t.ids
   text-draws s t path text known e = subst (λ (x : SessionState). AreOf draw client x.ids) (sym (text-set s t path text e).is) known
 
   drop-draws : (s t : SessionState) (path : List ℕ) → AreOf draw client s.ids → node_dropped s path ≡ Ok t → AreOf draw client t.ids
@@ -80,28 +74,14 @@ module _ (draw : Draw) (client : ℕ) where
   unset-draws : (s t : SessionState) (path index : List ℕ) → AreOf draw client s.ids → chunk_unset s path index ≡ Ok t → AreOf draw client t.ids
   unset-draws s t path index known e = subst (λ (x : SessionState). AreOf draw client x.ids) (sym (chunk-unset s t path index e).is) known
 
-  erased-draws : (o : Option ZarrKey) (s t : SessionState) → AreOf draw client s.ids → erased_at s o ≡ Ok t → AreOf draw client t.ids
-  erased-draws None s t known e = absurd cc
-  erased-draws (Some (zarr.Meta path)) s t known e = drop-draws s t path known e
-  erased-draws (Some (zarr.Chunk path index)) s t known e = unset-draws s t path index known e
-
-  key-draws : (s t : SessionState) (key : List ℕ) → AreOf draw client s.ids → key_erased s key ≡ Ok t → AreOf draw client t.ids
-  unfolding key_erased
-  key-draws s t key known e = erased-draws (key_of key) s t known e
-
-  -- and so does one behind any edit
-  pub edited-draws : (edit : EditCall) (s t : SessionState) → AreOf draw client s.ids → edited edit s ≡ Ok t → AreOf draw client t.ids
-  edited-draws (Group path) s t known e = taken-draws group_fault s t path group_text (λ bad. refl) known (group_added s path group_text) refl e
-  edited-draws (Array path text) s t known e = taken-draws array_fault s t path text (λ bad. refl) known (array_added s path text) refl e
-  edited-draws (Make path text) s t known e = taken-draws node_fault s t path text (λ bad. refl) known (node_added s path text) refl e
-  edited-draws (Meta path text) s t known e = text-draws s t path text known e
-  edited-draws (Drop path) s t known e = drop-draws s t path known e
-  edited-draws (Set path index bytes) s t known e = stays-draws s t known e
-  edited-draws (Fill path index byte) s t known e = stays-draws s t known e
-  edited-draws (Unset path index) s t known e = unset-draws s t path index known e
-  edited-draws (Put place numbers) s t known e = stays-draws s t known e
-  edited-draws (KeySet key bytes) s t known e = stays-draws s t known e
-  edited-draws (KeyErase key) s t known e = key-draws s t key known e
+  -- and so does one behind any edit, by whichever way
+  pub way-draws : (Well : Type 0) (s t : SessionState) {r : Result SessionState Refusal} → Way Well s r → AreOf draw client s.ids → r ≡ Ok t → AreOf draw client t.ids
+  way-draws Well s t (adds fault tells path text at) known e = taken-draws fault s t path text tells known (added fault s path text) refl e
+  way-draws Well s t (texts path text) known e = text-draws s t path text known e
+  way-draws Well s t (drops path) known e = drop-draws s t path known e
+  way-draws Well s t (unsets path index) known e = unset-draws s t path index known e
+  way-draws Well s t no_key known e = absurd cc
+  way-draws Well s t stays known e = stays-draws s t known e
 
   -- and behind a property
   pub prop-draws : (s t : SessionState) (name value : List ℕ) → AreOf draw client s.ids → prop_added s name value ≡ Ok t → AreOf draw client t.ids

@@ -12,7 +12,6 @@ use Rattle.zarr_path.specs.Keys.{key_of}
 use Rattle.zarr_path.proofs.KeyLaws.{key_law}
 use Rattle.zarr_meta.specs.declared.faults.MetaFault.{MetaFault}
 use Rattle.zarr_meta.specs.declared.views.View.{View}
-use Rattle.zarr_meta.specs.Plain.{group_text}
 use Rattle.zarr_tree.specs.Nodes.{Node}
 use Rattle.zarr_tree.specs.Changes.{IsNormal}
 use Rattle.zarr_tree.specs.Touched.{lists}
@@ -24,7 +23,7 @@ use Rattle.object_store.specs.declared.events.Event.{Event}
 use Rattle.store_api.specs.declared.machines.Refusal.{Refusal}
 use Rattle.session.specs.Sessions.{SessionState, base_tree, nodes_seen}
 use Rattle.session.specs.Sources.{IsLater}
-use Rattle.session.specs.Editing.{group_fault, array_fault, node_fault, added, group_added, array_added, node_added, meta_set, node_dropped, prop_added}
+use Rattle.session.specs.Editing.{node_fault, added, node_added, meta_set, node_dropped, prop_added}
 use Rattle.commit_path.proofs.Adding.{prop-added}
 use Rattle.std.specs.BTreeMap.{insert_entry}
 use Rattle.snapshot_file.specs.Props.{name_cmp}
@@ -32,19 +31,20 @@ use Rattle.session.specs.Chunks.{chunk_unset}
 use Rattle.commit_path.specs.Laws.{TellsFaults}
 use Rattle.commit_path.proofs.Editing.{Added, node-added, text-set, node-dropped}
 use Rattle.commit_path.proofs.Sources.{later-same}
-use Rattle.zarr_keys.specs.Keys.{session_of, meta_value, put_over, erased_at, key_erased}
+use Rattle.zarr_keys.specs.Keys.{session_of, meta_value, put_over}
 use Rattle.play_script.specs.declared.scripts.Call.{Call}
 use Rattle.play_script.specs.declared.scripts.Call.TheVariants.{Edit, Read as Read_call, Commit, Ref, Prop}
 use Rattle.play_script.specs.declared.scripts.EditCall.{EditCall}
-use Rattle.play_script.specs.declared.scripts.EditCall.TheVariants.{Group, Array, Make, Meta, Drop, Set, Fill, Unset, Put, KeySet, KeyErase}
+use Rattle.play_script.specs.declared.scripts.EditCall.TheVariants.{Set, Fill, Put, KeySet}
 use Rattle.play_script.specs.declared.scripts.ReadCall.{ReadCall}
 use Rattle.play_script.specs.declared.scripts.ReadCall.TheVariants.{List as List_call, Get, Chunk, Cells, KeyGet}
 use Rattle.play_script.specs.declared.scripts.Line.{Line}
 use Rattle.play_script.specs.Well.{IsWellEdit, IsWellCall, IsWellLine}
 use Rattle.play_outcome.specs.declared.outcome.Shown.{Shown}
-use Rattle.play_tasks.specs.Lines.{Deed, Goes, Sets, Reads, Puts, Gathers, Commits, deed, edit_deed, read_deed, edited, read_by, key_shown, key_set_deed, key_get_deed, silent, still}
+use Rattle.play_tasks.specs.Lines.{Deed, Goes, Sets, Reads, Puts, Gathers, Commits, deed, edit_deed, read_deed, read_by, key_shown, key_set_deed, key_get_deed, silent, still}
 use Rattle.play_tasks.specs.Solving.{DidPlay, PlaysAll}
 use Rattle.region_calls.specs.Written.{AreSet}
+use Rattle.play_tasks.proofs.Ways.{Way, adds, texts, drops, unsets, no_key, stays, edited-way}
 use Rattle.run_histories.proofs.Sized.{sized}
 use Rattle.run_histories.proofs.Texts.{same-texts}
 use Rattle.run_histories.proofs.Setting.{set-told, unset-edits}
@@ -96,15 +96,14 @@ key-set-leads key bytes None s is = λ shown t e. cc
 key-set-leads key bytes (Some (zarr.Meta path)) s is = silent-leads s (put_over (get (nodes_seen s) path) s path bytes) (λ t e. put-edits (get (nodes_seen s) path) path bytes s t ((key_law key (zarr.Meta path)).0 is).0 e)
 key-set-leads key bytes (Some (zarr.Chunk path index)) s is = tt
 
--- a key is erased
-erased-edits : (o : Option ZarrKey) (s t : SessionState) → erased_at s o ≡ Ok t → Edits s t
-erased-edits None s t e = absurd cc
-erased-edits (Some (zarr.Meta path)) s t e = drop-edits path s t e
-erased-edits (Some (zarr.Chunk path index)) s t e = unset-leads path index s t e
-
-key-erased-edits : (key : List ℕ) (s t : SessionState) → key_erased s key ≡ Ok t → Edits s t
-unfolding key_erased
-key-erased-edits key s t e = erased-edits (key_of key) s t e
+-- an edit, by whichever way
+way-leads : (Well : Type 0) (s : SessionState) {r : Result SessionState Refusal} → Way Well s r → Well → Leads (Goes (silent r)) s
+way-leads Well s (adds fault tells path text at) well = silent-leads s (session_of (added fault s path text)) (λ t e. added-edits fault tells path text s t (at well).0 (added fault s path text) refl e)
+way-leads Well s (texts path text) well = silent-leads s (meta_set s path text) (λ t e. text-edits path text s t e)
+way-leads Well s (drops path) well = silent-leads s (node_dropped s path) (λ t e. drop-edits path s t e)
+way-leads Well s (unsets path index) well = silent-leads s (chunk_unset s path index) (λ t e. unset-leads path index s t e)
+way-leads Well s no_key well = λ shown t e. cc
+way-leads Well s stays well = still-leads s (Ok [])
 
 key-get-leads : (line : ℕ) (o : Option ZarrKey) (s : SessionState) → Leads (key_get_deed line o s) s
 key-get-leads line None s = λ shown t e. cc
@@ -112,17 +111,11 @@ key-get-leads line (Some (zarr.Meta path)) s = still-leads s (Ok (key_shown line
 key-get-leads line (Some (zarr.Chunk path index)) s = tt
 
 edit-leads : (edit : EditCall) (s : SessionState) → IsWellEdit edit → Leads (edit_deed edit s) s
-edit-leads (Group path) s well = silent-leads s (edited (Group path) s) (λ t e. added-edits group_fault (λ bad. refl) path group_text s t well.0 (group_added s path group_text) refl e)
-edit-leads (Array path text) s well = silent-leads s (edited (Array path text) s) (λ t e. added-edits array_fault (λ bad. refl) path text s t well.0.0 (array_added s path text) refl e)
-edit-leads (Make path text) s well = silent-leads s (edited (Make path text) s) (λ t e. added-edits node_fault (λ bad. refl) path text s t well.0.0 (node_added s path text) refl e)
-edit-leads (Meta path text) s well = silent-leads s (meta_set s path text) (λ t e. text-edits path text s t e)
-edit-leads (Drop path) s well = silent-leads s (node_dropped s path) (λ t e. drop-edits path s t e)
 edit-leads (Set path index bytes) s well = tt
 edit-leads (Fill path index byte) s well = tt
-edit-leads (Unset path index) s well = silent-leads s (chunk_unset s path index) (λ t e. unset-leads path index s t e)
 edit-leads (Put place numbers) s well = tt
 edit-leads (KeySet key bytes) s well = key-set-leads key bytes (key_of key) s refl
-edit-leads (KeyErase key) s well = silent-leads s (key_erased s key) (λ t e. key-erased-edits key s t e)
+edit-leads edit s well = way-leads (IsWellEdit edit) s (edited-way edit s) well
 
 read-leads : (line : ℕ) (look : ReadCall) (s : SessionState) → Leads (read_deed line look s) s
 read-leads line (List_call path) s = still-leads s (read_by line (List_call path) s)

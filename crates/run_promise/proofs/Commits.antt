@@ -65,17 +65,8 @@ key-set-commits bytes (Some (K.Meta path)) s message e = cc
 key-set-commits bytes (Some (K.Chunk path index)) s message e = cc
 
 edit-commits : (edit : EditCall) (s : SessionState) (message : List ℕ) → line.edit_deed edit s ≡ line.Commits message → ⊥
-edit-commits (E.Set path index bytes) s message e = cc
-edit-commits (E.Fill path index byte) s message e = cc
-edit-commits (E.Group path) s message e = cc
-edit-commits (E.Array path text) s message e = cc
-edit-commits (E.Make path text) s message e = cc
-edit-commits (E.Meta path text) s message e = cc
-edit-commits (E.Drop path) s message e = cc
-edit-commits (E.Unset path index) s message e = cc
-edit-commits (E.Put place numbers) s message e = cc
 edit-commits (E.KeySet key bytes) s message e = key-set-commits bytes (key_of key) s message e
-edit-commits (E.KeyErase key) s message e = cc
+edit-commits edit s message e = cc
 
 key-get-commits : (number : ℕ) (o : Option ZarrKey) (s : SessionState) (message : List ℕ) → line.key_get_deed number o s ≡ line.Commits message → ⊥
 key-get-commits number None s message e = cc

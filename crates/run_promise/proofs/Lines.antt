@@ -292,16 +292,6 @@ module _ (client : ℕ) (start journal : List Event) (good : IsGoodJournal journ
   made-edits edit s t shown d n = record { id = d.took.id; made = d.took.made; asked = d.took.asked; changed = d.took.takes n; silent = d.silent }
 
   pub did-edits : (edit : EditCall) (s t : SessionState) (shown : List Shown) → DidOne edit s t shown → KeepsFrozen s.held s.rows → AreNormal put s t → Changed edit (overlay put s) shown (overlay put t)
-  did-edits (E.Group path) s t shown d frozen n = made-edits (E.Group path) s t shown d n
-  did-edits (E.Array path text) s t shown d frozen n = made-edits (E.Array path text) s t shown d n
-  did-edits (E.Make path text) s t shown d frozen n = made-edits (E.Make path text) s t shown d n
-  did-edits (E.Meta path text) s t shown d frozen n = made-edits (E.Meta path text) s t shown d n
-  did-edits (E.Drop path) s t shown d frozen n = made-edits (E.Drop path) s t shown d n
-  did-edits (E.Set path index bytes) s t shown d frozen n = made-edits (E.Set path index bytes) s t shown d n
-  did-edits (E.Fill path index byte) s t shown d frozen n = made-edits (E.Fill path index byte) s t shown d n
-  did-edits (E.Unset path index) s t shown d frozen n = made-edits (E.Unset path index) s t shown d n
-  did-edits (E.KeySet key bytes) s t shown d frozen n = made-edits (E.KeySet key bytes) s t shown d n
-  did-edits (E.KeyErase key) s t shown d frozen n = made-edits (E.KeyErase key) s t shown d n
   did-edits (E.Put place numbers) s t shown d frozen n =
       let w = d.1 in
       let at = at_array s place.path w.node w.array w.found in
@@ -314,6 +304,7 @@ module _ (client : ℕ) (start journal : List Event) (good : IsGoodJournal journ
         box = w.tree once put (extends-same put) frozen n.before.well_formed;
         silent = d.0;
       }
+  did-edits edit s t shown d frozen n = made-edits edit s t shown d n
 
   -- ---- what a read shows
   nodes-shown : (number : ℕ) (rows : List (List ℕ × Node)) → map (line.node_shown number) (map listing rows) ≡ map (λ row. S.Node number (is_array row.1.text) row.0) rows
@@ -432,17 +423,8 @@ module _ (client : ℕ) (start journal : List Event) (good : IsGoodJournal journ
       record { opened = rest.opened; rows = rest.rows ∙ one.rows; at = rest.at ∙ one.at }
 
   edit-goes : (edit : EditCall) (s t : SessionState) (shown : List Shown) → DidOne edit s t shown → IsOpened s journal → GoesOn s t
-  edit-goes (E.Group path) s t shown d o = did-goes (E.Group path) s t shown d o
-  edit-goes (E.Array path text) s t shown d o = did-goes (E.Array path text) s t shown d o
-  edit-goes (E.Make path text) s t shown d o = did-goes (E.Make path text) s t shown d o
-  edit-goes (E.Meta path text) s t shown d o = did-goes (E.Meta path text) s t shown d o
-  edit-goes (E.Drop path) s t shown d o = did-goes (E.Drop path) s t shown d o
-  edit-goes (E.Set path index bytes) s t shown d o = did-goes (E.Set path index bytes) s t shown d o
-  edit-goes (E.Fill path index byte) s t shown d o = did-goes (E.Fill path index byte) s t shown d o
-  edit-goes (E.Unset path index) s t shown d o = did-goes (E.Unset path index) s t shown d o
-  edit-goes (E.KeySet key bytes) s t shown d o = did-goes (E.KeySet key bytes) s t shown d o
-  edit-goes (E.KeyErase key) s t shown d o = did-goes (E.KeyErase key) s t shown d o
   edit-goes (E.Put place numbers) s t shown d o = sets-go place.path d.1.chunks s t d.1.set o
+  edit-goes edit s t shown d o = did-goes edit s t shown d o
 
   pub line-goes : (number : ℕ) (call : Call) (s t : SessionState) (shown : List Shown) → DidPlay client (line.deed number call s) s start shown t journal → IsOpened s journal → GoesOn s t
   line-goes number (C.Edit edit) s t shown d o = edit-goes edit s t shown (edit-did edit s t shown d) o
