@@ -106,11 +106,19 @@ fn chunk_len(session: &Session, path: &Path) -> u64
     chunk_bytes(array.kind.size(), array.chunks.as_slice())
 }
 
-/// So many of one byte.
+/// How many bytes are written at once where all are the same.
+const PIECE: usize = 64;
+
+/// So many of one byte. They are copied by pieces, since a chunk may have many.
 fn repeated(alloc: Global, byte: u8, len: usize) -> Result<Vec<u8>, AllocError>
     ensures { IfOk result (λ bytes. bytes.items ≡ replicate len byte) }
 {
-    let bytes = vec![in alloc; byte; len]?;
+    let piece = [byte; PIECE];
+    let mut bytes = Vec::with_capacity(alloc, len)?;
+    while bytes.len() < len {
+        let more = (len - bytes.len()).min(PIECE);
+        bytes.extend_from_slice(&piece[..more])?;
+    }
     Ok(bytes)
 }
 
