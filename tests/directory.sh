@@ -80,7 +80,15 @@ for path in missing file file/beneath '' missing/beneath; do
     same "the path '$path'" "icerepo: no store: \"$path\": $why|8|" "$(call play --dir "$path")"
 done
 same 'nothing is made' 'd file given other printed said ' "$(rm came; ls | tr '\n' ' ')"
-same 'wrong words come first' 'icerepo: usage|2|' "$(call play --dir)"
+help="For more information, try 'icerepo --help'."
+same 'wrong words come first, and are named' \
+    "icerepo: usage|error: a value is required for '--dir <dir>' but none was supplied||For more information, try '--help'.|2|" \
+    "$(call play --dir)"
+same 'an unknown command' "icerepo: usage|error: unknown command \"plya\"||$help|2|" "$(call plya --dir d)"
+same 'no command' "icerepo: usage|error: a command is missing||$help|2|" "$(call)"
+same 'words that are no text' "icerepo: usage|error: the words aren't UTF-8 text||$help|2|" "$(call play "$(printf '\377')")"
+same 'short for help' "$(call --help)" "$(call -h)"
+same 'short for the version' "$(call --version)" "$(call -V)"
 same 'grow, too' 'icerepo: no store: "missing": nothing is there|8|' "$(call grow 1 --dir missing)"
 same 'a refused script' 'icerepo: script line 1: word|3|' "$(call play --dir d)"
 
@@ -173,6 +181,84 @@ while read -r key; do
         break
     done
 done <objects
+
+# A mirror of a directory is the same files, and puts none of them a second time; a run over it commits.
+mkdir copy
+head=$(sed 's/.*:"\(.*\)"}/\1/' whole/refs/branch.main/ref.json)
+objects() {
+    (cd "$1" && contents .)
+}
+same 'a mirror' "branch main $head put|tag v1 $head put|mirrored 3 2 5 3|0|" "$(call mirror whole copy)"
+same 'it has the same files' "$(objects whole)" "$(objects copy)"
+same 'nothing is wrong with it' 'check checked 3 3|0|' "$(call check --dir copy)"
+same 'a second mirror' "branch main $head kept|tag v1 $head kept|mirrored 0 0 0 0|0|" "$(call mirror whole copy)"
+printf 'task a write main 0 fail\nset /y 0 0506\ncommit over\n' >given
+call play --dir copy >/dev/null
+same 'a run over it' 0 "$(cat said)"
+call play --dir whole >/dev/null
+head=$(sed -n 's/^a committed //p' printed)
+same 'the source went on' "branch main $head put|mirrored 1 1 1 0|0|" "$(call mirror whole copy | sed 's/tag[^|]*|//')"
+same 'nothing is wrong then' 'check checked 4 3|0|' "$(call check --dir copy)"
+
+# What a mirror is refused by.
+: >given
+same 'one directory twice' 'icerepo: no store: "whole": another program uses it|8|' "$(call mirror whole whole)"
+same 'no source' 'icerepo: no store: "missing": nothing is there|8|' "$(call mirror missing copy)"
+same 'no target' 'icerepo: no store: "missing": nothing is there|8|' "$(call mirror whole missing)"
+same 'one word' 2 "$(call mirror whole >/dev/null; tail -n 1 said)"
+same 'three words' 2 "$(call mirror whole copy copy >/dev/null; tail -n 1 said)"
+key=$(cd copy && find chunks -type f | head -n 1)
+cp -r copy changed
+head -c -1 "copy/$key" >"changed/$key"
+before=$(contents changed)
+same 'another object' "mirror refused differs $key|1|" "$(call mirror whole changed)"
+same 'it stands as it did' "$before" "$(contents changed)"
+cp -r whole harmed
+rm "harmed/$key"
+mkdir gap
+same 'an object is missing' "mirror refused missing $key|1|" "$(call mirror harmed gap)"
+same 'no ref was put' 'check checked 0 0' "$(call check --dir gap >/dev/null; cat printed)"
+mkdir full
+(
+    ulimit -f 0
+    trap '' XFSZ
+    exec "$program" mirror whole full 2>&1
+) | sed 's|"full/[^"]*"|"full/$KEY"|' >printed
+same 'a full target' 'mirror refused targetfault|icerepo: write "full/$KEY": File too large (os error 27)|icerepo: store fault|' "$(tr '\n' '|' <printed)"
+
+# Wherever a mirror is killed, what refs of the target name is whole, and the next one ends as if it had been the first.
+{
+    printf 'task a write main 0 fail\ngroup /\narray /x uint8 36000 600 0\n'
+    chunk=0
+    while [ "$chunk" -lt 60 ]; do
+        echo "fill /x $chunk 07"
+        chunk=$((chunk + 1))
+    done
+    printf 'commit many\ntask t refs\ntag v1 branch main\nturns\n'
+} >given
+mkdir many whole_copy
+call play --dir many >/dev/null
+: >given
+begun=$(date +%s%N)
+call mirror many whole_copy >/dev/null
+took=$((($(date +%s%N) - begun) / 1000))
+killed=0
+round=0
+while [ "$round" -lt 16 ]; do
+    rm -rf part
+    mkdir part
+    "$program" mirror many part >/dev/null 2>&1 &
+    moment=$((took * round / 16))
+    sleep "$(printf '%d.%06d' $((moment / 1000000)) $((moment % 1000000)))"
+    kill -9 $! 2>/dev/null
+    { wait $!; } 2>/dev/null
+    [ $? != 137 ] || killed=$((killed + 1))
+    same "what was killed after $moment us is whole" 0 "$(call check --dir part >/dev/null; tail -n 1 said)"
+    same "the next one after $moment us ends well" 0 "$(call mirror many part >/dev/null; tail -n 1 said)"
+    same "the files after $moment us" "$(objects many)" "$(objects part)"
+    round=$((round + 1))
+done
+same 'some were killed' yes "$([ "$killed" -gt 0 ] && echo yes || echo no)"
 
 # A script that is made from a number.
 mkdir grown

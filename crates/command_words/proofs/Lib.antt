@@ -1,3 +1,4 @@
 pub mod Read
 pub mod OneKind
 pub mod OneRefusal
+pub mod Behind

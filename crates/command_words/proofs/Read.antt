@@ -27,9 +27,9 @@ use Rattle.clap.proofs.CallerLemmas.{added_plain}
 use Rattle.clap.specs.declared.builder.action.ArgAction.TheVariants.{Set}
 use Rattle.clap.specs.declared.builder.command.Command.TheViews.{out-Command}
 use Rattle.command_words.specs.Parsers.{count_rule, dir_rule}
-use Rattle.command_words.specs.Parsers.{count_parser, count_in, dir_in, kinds_of, word_in, cells, check, grow, play}
+use Rattle.command_words.specs.Parsers.{count_parser, count_in, dir_in, kinds_of, word_in, path_in, cells, check, grow, mirror, play}
 use Rattle.command_words.specs.declared.reading.BoxWords.{BoxWords}
-use Rattle.command_words.specs.Words.{box_in}
+use Rattle.command_words.specs.Words.{box_in, pair_in}
 use Rattle.command_words.specs.inside.Parsing.{IsGrow, IsGrown, IsTaken, IsRefused, IsRefusalFor}
 use Rattle.command_words.specs.declared.parsers.Refusal.{Refusal}
 use Rattle.command_words.specs.declared.parsers.Refusal.TheVariants as R
@@ -144,8 +144,8 @@ pub refused : (a : App) (words : List Text) (e : Error) (refusal : Refusal) → 
 unfolding kinds_of
 refused a words e R.Help one (inl memory) is = absurd (clash_kinds (sym memory ∙ is))
 refused a words e R.Help one (inr among) is = one (kind_of e) among ∙ ap (λ k. k ∷ []) is
-refused a words e R.Words one (inl memory) is = absurd (is.0 memory)
-refused a words e R.Words one (inr among) is = (kind_of e, one (kind_of e) among, is.1)
+refused a words e (R.Words error) one (inl memory) is = absurd (is.0 memory)
+refused a words e (R.Words error) one (inr among) is = (kind_of e, one (kind_of e) among, is.1)
 refused a words e R.NoMemory one has is = tt
 
 pub play_is_simple : is_simple play ≡ true
@@ -197,6 +197,34 @@ pub boxed : (words : List Text) (m : ArgMatches) (b p f t : Text) → HasMatches
     → ◌≡◌ {A = BoxWords} (record { branch = b; path = p; from = f; to = t }) (box_in words)
 boxed words m b p f t matches is_b is_p is_f is_t =
     rw (word_given words m (codes "branch") b matches is_b, word_given words m (codes "path") p matches is_p, word_given words m (codes "from") f matches is_f, word_given words m (codes "to") t matches is_t) refl
+
+pub mirror_is_simple : is_simple mirror ≡ true
+unfolding mirror clap_on_literals
+mirror_is_simple = refl
+
+pub mirror_is_free : is_simple_and_free mirror ≡ true
+unfolding mirror clap_on_literals
+mirror_is_free = refl
+
+pub mirror_one : (words : List Text) → IsOne (fault_of mirror words)
+unfolding mirror
+mirror_one words = one_kind mirror words refl refl refl
+
+-- a word of `mirror` that clap gives
+path_given : (words : List Text) (m : ArgMatches) (id word : Text) → HasMatchesOf mirror words m → word ≡ unwrap_or (first_value (found_of m) id) [] → word ≡ path_in id words
+unfolding path_in
+path_given words m id word matches is =
+    is ∙ ap (λ o. unwrap_or o []) (first_value-rows (found_of m) id ∙ ap (first_of id) (matches mirror_is_simple).0)
+
+-- clap takes the words of it, and these are the two
+pub paired : (words : List Text) (m : ArgMatches) (f t : Text) → HasMatchesOf mirror words m → fault_of mirror words ≡ []
+    → f ≡ unwrap_or (first_value (found_of m) (codes "from")) [] → t ≡ unwrap_or (first_value (found_of m) (codes "to")) []
+    → (kinds_of mirror words ≡ []) × (◌≡◌ {A = Text × Text} (f, t) (pair_in words))
+unfolding kinds_of
+paired words m f t matches none is_f is_t = (
+  none,
+  rw (path_given words m (codes "from") f matches is_f, path_given words m (codes "to") t matches is_t) refl,
+)
 
 pub grow_one : (words : List Text) → IsOne (fault_of grow words)
 unfolding grow

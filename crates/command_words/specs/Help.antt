@@ -16,8 +16,9 @@ program_text =
     ++ codes "icerepo cells BRANCH PATH FROM TO [--dir PATH]   prints the numbers of a box of cells of an array\n"
     ++ codes "icerepo grow N [--dir PATH]                      plays a script that is made from N, and prints one line\n"
     ++ codes "icerepo check [--dir PATH] [--progress]          checks all that the refs of a repository reach\n"
+    ++ codes "icerepo mirror FROM TO                           copies a repository into a second directory\n"
     ++ codes "icerepo COMMAND --help                           says more of a command\n"
-    ++ codes "icerepo --version                                prints the version\n"
+    ++ codes "icerepo --version                                prints the version; -V is short for it, -h for --help\n"
     ++ codes "\n"
     ++ codes "Without --dir the repository is in memory, and is gone at the end. With it, it stays in that directory.\n"
     ++ codes "\n"
@@ -70,13 +71,26 @@ check_text =
     ++ codes "With --progress it says on standard error how many operations it has made, at each thousand.\n"
     ++ codes "\n"
 
+-- what `mirror` does and prints
+abbrev pub mirror_text : List ℕ
+mirror_text =
+    codes "icerepo mirror FROM TO\n"
+    ++ codes "\n"
+    ++ codes "Reads nothing. Copies the repository in the directory FROM into the directory TO, which must be there: all that its\n"
+    ++ codes "branches and tags reach, and then the refs, so that each ref in TO names a whole tree at each moment. A mirror that was\n"
+    ++ codes "cut off, or whose source has gone on, is run again. Nothing in FROM is changed, and nothing in TO removed: refs that\n"
+    ++ codes "FROM lacks stay, a branch that names another snapshot is put anew, and any other difference is refused. Prints a line\n"
+    ++ codes "for each ref, `branch NAME ID put` or `kept`, and then `mirrored` with the numbers of snapshots, logs, manifests and\n"
+    ++ codes "objects with chunks that were put, or `mirror refused` and why.\n"
+    ++ codes "\n"
+
 -- what the exit statuses mean
 abbrev pub statuses_text : List ℕ
 statuses_text =
     codes "Exit status:\n"
     ++ codes "0  all went well, and all was written\n"
     ++ codes "1  a task was refused; the report says which, at which line, and why\n"
-    ++ codes "2  wrong words; nothing was done\n"
+    ++ codes "2  wrong words; standard error names them, and nothing was done\n"
     ++ codes "3  a line of the script was refused; standard error names it, and nothing was done\n"
     ++ codes "4  standard input failed; nothing was done\n"
     ++ codes "5  standard output failed\n"
@@ -85,13 +99,17 @@ statuses_text =
     ++ codes "8  the directory can't be used\n"
     ++ codes "\n"
 
--- a call of `play`
+-- two calls of `play`
 abbrev pub play_example : List ℕ
 play_example =
     codes "Example:\n"
     ++ codes "$ printf 'task a write main 0 fail\\ngroup /\\ncommit first\\n' | icerepo play\n"
     ++ codes "a committed 0000008000000000000G\n"
     ++ codes "branch main 0000008000000000000G\n"
+    ++ codes "Without a line `commit` the changes are dropped, and the status is 0 all the same:\n"
+    ++ codes "$ printf 'task a write main 0 fail\\ngroup /\\n' | icerepo play\n"
+    ++ codes "a done\n"
+    ++ codes "branch main 1CECHNKREP0F1RSTCMT0\n"
 
 -- a call of `cells`
 abbrev pub cells_example : List ℕ
@@ -116,6 +134,14 @@ check_example =
     ++ codes "$ icerepo check\n"
     ++ codes "check checked 0 0\n"
 
+-- a call of `mirror`
+abbrev pub mirror_example : List ℕ
+mirror_example =
+    codes "Example, over a directory in which `play` wrote four numbers, and an empty one:\n"
+    ++ codes "$ icerepo mirror repo copy\n"
+    ++ codes "branch main C6MK83Z0XBWTSG5RXQK0 put\n"
+    ++ codes "mirrored 2 1 1 0\n"
+
 -- the help on a topic
 abbrev pub help_of : Topic → List ℕ
 help_of T.Program = program_text ++ statuses_text ++ play_example
@@ -123,3 +149,4 @@ help_of T.Play = play_text ++ statuses_text ++ play_example
 help_of T.Cells = cells_text ++ statuses_text ++ cells_example
 help_of T.Grow = grow_text ++ statuses_text ++ grow_example
 help_of T.Check = check_text ++ statuses_text ++ check_example
+help_of T.Mirror = mirror_text ++ statuses_text ++ mirror_example

@@ -1,4 +1,5 @@
 pub mod Parsers
 pub mod Words
+pub mod Complaints
 pub mod Help
 pub mod inside

@@ -42,6 +42,10 @@ progress_rule = record (new_rule (codes "progress")) { long = Some (codes "progr
 unfoldable pub check : App
 check = with_rule (with_rule (new_app (codes "check")) dir_rule) progress_rule
 
+-- `mirror FROM TO`, and clap's own `--help`
+unfoldable pub mirror : App
+mirror = with_rule (with_rule (new_app (codes "mirror")) (word_rule (codes "from"))) (word_rule (codes "to"))
+
 -- why clap refuses the words; empty where it takes them
 unfoldable pub kinds_of : App → List Text → Kinds
 kinds_of a words = fault_of a words
@@ -53,6 +57,10 @@ dir_in a words = first_of (codes "dir") (matches_of a words)
 -- what the words of `cells` give for a word of it, by its id
 unfoldable pub word_in : Text → List Text → Text
 word_in id words = unwrap_or (first_of id (matches_of cells words)) []
+
+-- what the words of `mirror` give for a word of it, by its id
+unfoldable pub path_in : Text → List Text → Text
+path_in id words = unwrap_or (first_of id (matches_of mirror words)) []
 
 -- the number that the words of `grow` give
 unfoldable pub count_in : List Text → Option ℕ

@@ -1,5 +1,5 @@
 -- What the words of the command line say (own).
-use Rattle.std.specs.Prelude.{◌≡◌, ◌≤◌, ◌==◌, ◌&&◌, not, ℕ, Bool, List, [], ◌∷◌, drop, Option, Some, None, unwrap_or, Result, Ok, Err, MatchResult, false, bytes_eq, codes, if◌then◌else◌}
+use Rattle.std.specs.Prelude.{◌≡◌, ◌≤◌, ◌==◌, ◌&&◌, ◌||◌, not, ℕ, Bool, List, [], ◌∷◌, drop, Option, Some, None, unwrap_or, Result, Ok, Err, MatchResult, false, bytes_eq, codes, if◌then◌else◌}
 use Rattle.std.specs.List.{list_all, list_any}
 use Rattle.clap.specs.Words.{Text, Kinds}
 use Rattle.clap.specs.declared.error.kind.ErrorKind.TheVariants.{DisplayHelp}
@@ -16,7 +16,14 @@ use Rattle.command_words.specs.declared.reading.WordsFault.{WordsFault}
 use Rattle.command_words.specs.declared.reading.WordsFault.TheVariants as F
 use Rattle.command_words.specs.declared.reading.Place.{Place}
 use Rattle.command_words.specs.declared.reading.Place.TheVariants as P
-use Rattle.command_words.specs.Parsers.{play, cells, grow, check, kinds_of, dir_in, word_in, count_in}
+use Rattle.command_words.specs.Parsers.{play, cells, grow, check, mirror, kinds_of, dir_in, word_in, path_in, count_in}
+
+-- a word that asks for help; for the version
+abbrev pub asks_help : Text → Bool
+asks_help word = bytes_eq word (codes "--help") || bytes_eq word (codes "-h")
+
+abbrev pub asks_version : Text → Bool
+asks_version word = bytes_eq word (codes "--version") || bytes_eq word (codes "-V")
 
 -- what the first word names
 abbrev pub name_of : Text → Option Name
@@ -25,8 +32,9 @@ name_of word =
     (if bytes_eq word (codes "cells") then Some N.Cells else
     (if bytes_eq word (codes "grow") then Some N.Grow else
     (if bytes_eq word (codes "check") then Some N.Check else
-    (if bytes_eq word (codes "--help") then Some N.Help else
-    (if bytes_eq word (codes "--version") then Some N.Version else None)))))
+    (if bytes_eq word (codes "mirror") then Some N.Mirror else
+    (if asks_help word then Some N.Help else
+    (if asks_version word then Some N.Version else None))))))
 
 -- clap takes the words, and this is what they say; they ask for help; or clap refuses them otherwise
 abbrev pub answer_of : Kinds → Result Command UsageFault → Topic → Result Command UsageFault
@@ -62,10 +70,11 @@ command_named (Some N.Play) words = answer_of (kinds_of play words) (Ok C.Play) 
 command_named (Some N.Cells) words = answer_of (kinds_of cells words) (box_said (box_in words)) T.Cells
 command_named (Some N.Grow) words = answer_of (kinds_of grow words) (Ok (C.Grow (count_of words))) T.Grow
 command_named (Some N.Check) words = answer_of (kinds_of check words) (Ok C.Check) T.Check
+command_named (Some N.Mirror) words = answer_of (kinds_of mirror words) (Err Unknown) T.Mirror
 command_named (Some N.Help) words = alone (drop 1 words) (C.Help T.Program)
 command_named (Some N.Version) words = alone (drop 1 words) C.Version
 
--- the command that the words after the program's name say
+-- The command that the words after the program's name say. `mirror FROM TO` is none: it is for two directories, and no command over one.
 abbrev pub command_of : List Text → Result Command UsageFault
 command_of [] = Err NoCommand
 command_of (first ∷ others) = command_named (name_of first) (first ∷ others)
@@ -112,6 +121,30 @@ dir_of (first ∷ others) = dir_named (name_of first) (first ∷ others)
 abbrev pub path_of : Place → Option Text
 path_of P.Memory = None
 path_of (P.Dir path) = Some path.now
+path_of (P.Pair from to) = None
+
+-- the two words of `mirror`
+abbrev pub pair_in : List Text → Text × Text
+pair_in words = (path_in (codes "from") words, path_in (codes "to") words)
+
+-- these, where clap takes the words
+abbrev pub pair_where : Kinds → Text × Text → Option (Text × Text)
+pair_where [] pair = Some pair
+pair_where (kind ∷ kinds) pair = None
+
+abbrev pub pair_named : Option Name → List Text → Option (Text × Text)
+pair_named (Some N.Mirror) words = pair_where (kinds_of mirror words) (pair_in words)
+pair_named _ words = None
+
+-- the paths of two directories: they are told exactly where the first word is `mirror` and clap takes the words
+abbrev pub pair_of : List Text → Option (Text × Text)
+pair_of [] = None
+pair_of (first ∷ others) = pair_named (name_of first) (first ∷ others)
+
+abbrev pub paths_of : Place → Option (Text × Text)
+paths_of P.Memory = None
+paths_of (P.Dir path) = None
+paths_of (P.Pair from to) = Some (from.now, to.now)
 
 -- ---- how far a check is
 -- whether one of the words is `--progress`

@@ -27,6 +27,7 @@ impl fmt::Display for Topic {
             Topic::Cells => write!(f, "{CELLS}{STATUSES}{CELLS_EXAMPLE}"),
             Topic::Grow => write!(f, "{GROW}{STATUSES}{GROW_EXAMPLE}"),
             Topic::Check => write!(f, "{CHECK}{STATUSES}{CHECK_EXAMPLE}"),
+            Topic::Mirror => write!(f, "{MIRROR}{STATUSES}{MIRROR_EXAMPLE}"),
         }
     }
 }
@@ -39,8 +40,9 @@ icerepo play [--dir PATH]                        plays the script of standard in
 icerepo cells BRANCH PATH FROM TO [--dir PATH]   prints the numbers of a box of cells of an array\n\
 icerepo grow N [--dir PATH]                      plays a script that is made from N, and prints one line\n\
 icerepo check [--dir PATH] [--progress]          checks all that the refs of a repository reach\n\
+icerepo mirror FROM TO                           copies a repository into a second directory\n\
 icerepo COMMAND --help                           says more of a command\n\
-icerepo --version                                prints the version\n\
+icerepo --version                                prints the version; -V is short for it, -h for --help\n\
 \n\
 Without --dir the repository is in memory, and is gone at the end. With it, it stays in that directory.\n\
 \n";
@@ -89,12 +91,24 @@ bytes as it should is tested; what they are isn't, as no digest of them is kept:
 With --progress it says on standard error how many operations it has made, at each thousand.\n\
 \n";
 
+/// What `mirror` does and prints.
+const MIRROR: &str = "\
+icerepo mirror FROM TO\n\
+\n\
+Reads nothing. Copies the repository in the directory FROM into the directory TO, which must be there: all that its\n\
+branches and tags reach, and then the refs, so that each ref in TO names a whole tree at each moment. A mirror that was\n\
+cut off, or whose source has gone on, is run again. Nothing in FROM is changed, and nothing in TO removed: refs that\n\
+FROM lacks stay, a branch that names another snapshot is put anew, and any other difference is refused. Prints a line\n\
+for each ref, `branch NAME ID put` or `kept`, and then `mirrored` with the numbers of snapshots, logs, manifests and\n\
+objects with chunks that were put, or `mirror refused` and why.\n\
+\n";
+
 /// What the exit statuses mean.
 const STATUSES: &str = "\
 Exit status:\n\
 0  all went well, and all was written\n\
 1  a task was refused; the report says which, at which line, and why\n\
-2  wrong words; nothing was done\n\
+2  wrong words; standard error names them, and nothing was done\n\
 3  a line of the script was refused; standard error names it, and nothing was done\n\
 4  standard input failed; nothing was done\n\
 5  standard output failed\n\
@@ -103,12 +117,16 @@ Exit status:\n\
 8  the directory can't be used\n\
 \n";
 
-/// A call of `play`.
+/// Two calls of `play`.
 const PLAY_EXAMPLE: &str = "\
 Example:\n\
 $ printf 'task a write main 0 fail\\ngroup /\\ncommit first\\n' | icerepo play\n\
 a committed 0000008000000000000G\n\
-branch main 0000008000000000000G\n";
+branch main 0000008000000000000G\n\
+Without a line `commit` the changes are dropped, and the status is 0 all the same:\n\
+$ printf 'task a write main 0 fail\\ngroup /\\n' | icerepo play\n\
+a done\n\
+branch main 1CECHNKREP0F1RSTCMT0\n";
 
 /// A call of `cells`.
 const CELLS_EXAMPLE: &str = "\
@@ -129,3 +147,10 @@ const CHECK_EXAMPLE: &str = "\
 Example:\n\
 $ icerepo check\n\
 check checked 0 0\n";
+
+/// A call of `mirror`.
+const MIRROR_EXAMPLE: &str = "\
+Example, over a directory in which `play` wrote four numbers, and an empty one:\n\
+$ icerepo mirror repo copy\n\
+branch main C6MK83Z0XBWTSG5RXQK0 put\n\
+mirrored 2 1 1 0\n";

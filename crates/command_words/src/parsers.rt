@@ -2,8 +2,8 @@
 
 ghost use Rattle.std.specs.Prelude.{◌≡◌, [], IfOk, MatchResult, option_map, unwrap_or};
 ghost use Rattle.clap.specs.Words.{app_of, kind_of, found_of, first_value, with_rule};
-ghost use Rattle.command_words.specs.Parsers.{cells, check, grow, play, dir_rule, progress_rule, word_rule};
-ghost use Rattle.command_words.specs.inside.Parsing.{IsGrow, IsTaken, IsGrown, IsBox, IsRefusalFor, IsRefused};
+ghost use Rattle.command_words.specs.Parsers.{cells, check, grow, mirror, play, dir_rule, progress_rule, word_rule};
+ghost use Rattle.command_words.specs.inside.Parsing.{IsGrow, IsTaken, IsGrown, IsBox, IsPair, IsRefusalFor, IsRefused};
 
 use crate::words::Word;
 use clap::error::ErrorKind;
@@ -11,12 +11,12 @@ use clap::{Arg, ArgAction, ArgMatches, Command, Error};
 use std::alloc::{AllocError, Global};
 
 /// Why clap gives nothing.
-#[derive(Clone, Copy, Debug, PartialEq, Eq)]
+#[derive(Debug, Drop)]
 pub(crate) enum Refusal {
     /// The words ask for help.
     Help,
-    /// The words are none that the command takes.
-    Words,
+    /// The words are none that the command takes, and clap says why.
+    Words(Error),
     /// There was no memory.
     NoMemory,
 }
@@ -43,6 +43,15 @@ pub(crate) struct CellsGiven<'a> {
     pub(crate) to: &'a str,
     /// The path of the directory.
     pub(crate) dir: Option<&'a str>,
+}
+
+/// What the words of `mirror` give.
+#[derive(Clone, Copy, Debug, PartialEq, Eq)]
+pub(crate) struct MirrorWords<'a> {
+    /// The path of the directory that is copied.
+    pub(crate) from: &'a str,
+    /// The path of the directory that it is copied into.
+    pub(crate) to: &'a str,
 }
 
 fn play_command<'a>(alloc: Global) -> Result<Command<'a>, AllocError>
@@ -102,6 +111,14 @@ fn check_command<'a>(alloc: Global) -> Result<Command<'a>, AllocError>
     with_progress(alloc, command)
 }
 
+#[tactic(auto, unfolding(crate::specs::Parsers::mirror))]
+fn mirror_command<'a>(alloc: Global) -> Result<Command<'a>, AllocError>
+    ensures { IfOk result (λ c. app_of c ≡ mirror) }
+{
+    let command = with_word(alloc, Command::new(alloc, "mirror"), "from")?;
+    with_word(alloc, command, "to")
+}
+
 fn grow_command<'a>(alloc: Global) -> Result<Command<'a>, AllocError>
     ensures { IfOk result IsGrow }
 {
@@ -122,7 +139,7 @@ fn refusal_of(error: Error) -> Refusal
     } else if kind == ErrorKind::DisplayHelp {
         Refusal::Help
     } else {
-        Refusal::Words
+        Refusal::Words(error)
     }
 }
 
@@ -179,6 +196,20 @@ fn cells_given<'a>(command: Command<'a>, words: &'a [Word]) -> Result<CellsGiven
     }
 }
 
+fn mirror_given<'a>(command: Command<'a>, words: &'a [Word]) -> Result<MirrorWords<'a>, Refusal>
+    requires { app_of command ≡ mirror }
+    ensures { MatchResult result (IsPair words.entry.now) (IsRefused mirror words.entry.now) }
+{
+    match command.try_get_matches_from(words) {
+        Ok(matches) => {
+            let from = text_given(&matches, "from");
+            let to = text_given(&matches, "to");
+            Ok(MirrorWords { from, to })
+        }
+        Err(error) => Err(refusal_of(error)),
+    }
+}
+
 fn grow_given<'a>(command: Command<'a>, words: &'a [Word]) -> Result<GrowWords<'a>, Refusal>
     requires { IsGrow command }
     ensures { MatchResult result (λ g. IsGrown words.entry.now g.count (option_map (λ s. s.now) g.dir)) (IsRefused grow words.entry.now) }
@@ -229,6 +260,16 @@ pub(crate) fn read_grow<'a>(alloc: Global, words: &'a [Word]) -> Result<GrowWord
 {
     match grow_command(alloc) {
         Ok(command) => grow_given(command, words),
+        Err(_) => Err(Refusal::NoMemory),
+    }
+}
+
+/// The two paths that the words of `mirror` give.
+pub(crate) fn read_mirror<'a>(alloc: Global, words: &'a [Word]) -> Result<MirrorWords<'a>, Refusal>
+    ensures { MatchResult result (IsPair words.entry.now) (IsRefused mirror words.entry.now) }
+{
+    match mirror_command(alloc) {
+        Ok(command) => mirror_given(command, words),
         Err(_) => Err(Refusal::NoMemory),
     }
 }

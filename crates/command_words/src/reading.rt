@@ -1,12 +1,14 @@
 //! What the words say.
 
-ghost use Rattle.std.specs.Prelude.{◌≡◌, List, Ok, Option, Result as TheResult, IfOk, option_map};
-ghost use Rattle.command_words.specs.Parsers.{cells, check, grow, kinds_of, play};
+ghost use Rattle.std.specs.Prelude.{◌≡◌, List, Ok, Err, Option, None, Result as TheResult, IfOk, option_map};
+ghost use Rattle.command_words.specs.Parsers.{cells, check, grow, kinds_of, mirror, play};
 ghost use Rattle.clap.specs.Words.{App, Text};
-ghost use Rattle.command_words.specs.Words.{IsInRange, has_progress, shows_progress, IsSaid, alone, answer_of, are_ones, box_dir, box_in, box_said, command_of, dir_beside, count_of, dir_of, is_one, name_of, path_of};
+ghost use Rattle.command_words.specs.Words.{IsInRange, has_progress, shows_progress, IsSaid, alone, answer_of, are_ones, asks_help, asks_version, box_dir, box_in, box_said, command_of, dir_beside, count_of, dir_of, is_one, name_of, pair_in, pair_of, pair_where, path_of, paths_of};
 ghost use Rattle.command_words.specs.inside.Parsing.{IsRefused, IsDir, IsDirOf, box_seen};
 
-use crate::parsers::{CellsGiven, Refusal, read_cells, read_check, read_grow, read_play};
+use crate::parsers::{
+    CellsGiven, Refusal, read_cells, read_check, read_grow, read_mirror, read_play,
+};
 use crate::words::Word;
 use std::alloc::{AllocError, Global};
 use std::convert::AsStr;
@@ -54,6 +56,8 @@ pub enum Topic {
     Grow,
     /// The command `check`.
     Check,
+    /// The command `mirror`.
+    Mirror,
 }
 
 /// How the words are wrong.
@@ -83,20 +87,37 @@ pub enum Place<'a> {
     Memory,
     /// In the directory at this path.
     Dir(&'a str),
+    /// In the directory at the first path, from which it is copied into the one at the second.
+    Pair(&'a str, &'a str),
 }
 
 /// What the first word names.
 #[derive(Clone, Copy, Debug, PartialEq, Eq)]
-enum Name {
+pub(crate) enum Name {
     Play,
     Cells,
     Grow,
     Check,
+    Mirror,
     Help,
     Version,
 }
 
-fn name_of(word: &str) -> Option<Name>
+/// Whether a word asks for help.
+fn asks_help(word: &str) -> bool
+    ensures { result ≡ asks_help word.now }
+{
+    word == "--help" || word == "-h"
+}
+
+/// Whether a word asks for the version.
+fn asks_version(word: &str) -> bool
+    ensures { result ≡ asks_version word.now }
+{
+    word == "--version" || word == "-V"
+}
+
+pub(crate) fn name_of(word: &str) -> Option<Name>
     ensures { result ≡ name_of word.now }
 {
     if word == "play" {
@@ -107,9 +128,11 @@ fn name_of(word: &str) -> Option<Name>
         Some(Name::Grow)
     } else if word == "check" {
         Some(Name::Check)
-    } else if word == "--help" {
+    } else if word == "mirror" {
+        Some(Name::Mirror)
+    } else if asks_help(word) {
         Some(Name::Help)
-    } else if word == "--version" {
+    } else if asks_version(word) {
         Some(Name::Version)
     } else {
         None
@@ -123,7 +146,7 @@ fn refused(refusal: Refusal, topic: Topic) -> Result<Command, WordsFault>
 {
     match refusal {
         Refusal::Help => Ok(Command::Help(topic)),
-        Refusal::Words => Err(WordsFault::Usage(UsageFault::Words)),
+        Refusal::Words(_) => Err(WordsFault::Usage(UsageFault::Words)),
         Refusal::NoMemory => Err(WordsFault::NoMemory),
     }
 }
@@ -138,7 +161,7 @@ fn play_said(alloc: Global, words: &[Word]) -> Result<Command, WordsFault>
 }
 
 /// Whether a word is one word of a script.
-fn is_one(word: &str) -> bool
+pub(crate) fn is_one(word: &str) -> bool
     ensures { result ≡ is_one word.now }
 {
     word.bytes().all(|b| b != b' ' && b != b'\n')
@@ -215,6 +238,17 @@ fn check_said(alloc: Global, words: &[Word]) -> Result<Command, WordsFault>
     }
 }
 
+/// A mirror is none of the commands over one store; help on it is said.
+fn mirror_said(alloc: Global, words: &[Word]) -> Result<Command, WordsFault>
+    ensures says { IsSaid (answer_of (kinds_of mirror words.now) (Err UsageFault.Unknown) Topic.Mirror) result }
+    ensures range { IfOk result IsInRange }
+{
+    match read_mirror(alloc, words) {
+        Ok(_) => Err(WordsFault::Usage(UsageFault::Unknown)),
+        Err(refusal) => refused(refusal, Topic::Mirror),
+    }
+}
+
 /// A command behind which no word stands.
 fn alone(others: &[Word], command: Command) -> Result<Command, WordsFault>
     ensures { IsSaid (alone others.now command) result }
@@ -227,12 +261,13 @@ fn alone(others: &[Word], command: Command) -> Result<Command, WordsFault>
 }
 
 /// The command that the words after the program's name say. The first one names it, and clap reads
-/// the words of `play`, `cells`, `grow` and `check`.
+/// the words of `play`, `cells`, `grow`, `check` and `mirror`.
 ///
 /// The fault is `NoCommand` where there is no word, `Unknown` where the first one names no command,
 /// and `Words` exactly where clap refuses the others for another cause than memory, where one of the
 /// four words of `cells` holds a space or a line feed, or where a word stands behind `--help` or
-/// `--version`. A command's own `--help` asks for help on it.
+/// `--version`. A command's own `--help` asks for help on it. `-h` and `-V` are short for those. `mirror
+/// FROM TO` is `Unknown`, since it is done over two directories, which `place_of` tells.
 pub fn read_words(alloc: Global, words: &[Word]) -> Result<Command, WordsFault>
     ensures says { IsSaid (command_of words.now) result }
     ensures range { IfOk result IsInRange }
@@ -245,6 +280,7 @@ pub fn read_words(alloc: Global, words: &[Word]) -> Result<Command, WordsFault>
         Some(Name::Cells) => cells_said(alloc, words),
         Some(Name::Grow) => grow_said(alloc, words),
         Some(Name::Check) => check_said(alloc, words),
+        Some(Name::Mirror) => mirror_said(alloc, words),
         Some(Name::Help) => alone(others, Command::Help(Topic::Program)),
         Some(Name::Version) => alone(others, Command::Version),
         None => Err(WordsFault::Usage(UsageFault::Unknown)),
@@ -257,7 +293,7 @@ fn no_dir<'a>(refusal: Refusal) -> Result<Option<&'a str>, AllocError>
 {
     match refusal {
         Refusal::NoMemory => Err(AllocError),
-        Refusal::Help | Refusal::Words => Ok(None),
+        Refusal::Help | Refusal::Words(_) => Ok(None),
     }
 }
 
@@ -297,31 +333,59 @@ fn check_dir<'a>(alloc: Global, words: &'a [Word]) -> Result<Option<&'a str>, Al
     }
 }
 
-fn named_dir<'a>(alloc: Global, words: &'a [Word]) -> Result<Option<&'a str>, AllocError>
-    ensures { IfOk result (λ dir. option_map (λ s. s.now) dir ≡ dir_of words.entry.now) }
+/// The place at this path, or in memory where there is none.
+fn in_dir<'a>(dir: Result<Option<&'a str>, AllocError>) -> Result<Place<'a>, AllocError>
+    ensures path { (said : Option Text) → IfOk dir.entry (λ path. option_map (λ s. s.now) path ≡ said) → IfOk result (λ place. path_of place ≡ said) }
+    ensures pair { IfOk result (λ place. paths_of place ≡ None) }
 {
-    let [first, ..] = words else {
-        return Ok(None);
-    };
-    match name_of(first.as_str()) {
-        Some(Name::Play) => play_dir(alloc, words),
-        Some(Name::Cells) => cells_dir(alloc, words),
-        Some(Name::Grow) => grow_dir(alloc, words),
-        Some(Name::Check) => check_dir(alloc, words),
-        _ => Ok(None),
+    match dir {
+        Ok(Some(path)) => Ok(Place::Dir(path)),
+        Ok(None) => Ok(Place::Memory),
+        Err(error) => Err(error),
+    }
+}
+
+/// No two directories are told where clap refuses the words.
+fn no_pair<'a>(refusal: Refusal) -> Result<Place<'a>, AllocError>
+    ensures dir { IfOk result (λ place. path_of place ≡ None) }
+    ensures pair { (a : App) (words : List Text) (pair : Text × Text) → IsRefused a words refusal → IfOk result (λ place. paths_of place ≡ pair_where (kinds_of a words) pair) }
+{
+    match refusal {
+        Refusal::NoMemory => Err(AllocError),
+        Refusal::Help | Refusal::Words(_) => Ok(Place::Memory),
+    }
+}
+
+/// The two directories of a mirror.
+fn mirror_pair<'a>(alloc: Global, words: &'a [Word]) -> Result<Place<'a>, AllocError>
+    ensures dir { IfOk result (λ place. path_of place ≡ None) }
+    ensures pair { IfOk result (λ place. paths_of place ≡ pair_where (kinds_of mirror words.entry.now) (pair_in words.entry.now)) }
+{
+    match read_mirror(alloc, words) {
+        Ok(pair) => Ok(Place::Pair(pair.from, pair.to)),
+        Err(refusal) => no_pair(refusal),
     }
 }
 
 /// Where the words say that the repository lies: in a directory exactly where the first word names a
 /// command, clap takes the others, the four words of `cells` hold neither a space nor a line feed, and
-/// `--dir` is among them; else in memory.
+/// `--dir` is among them; in two directories exactly where the first word is `mirror` and clap takes
+/// the others; else in memory.
 pub fn place_of<'a>(alloc: Global, words: &'a [Word]) -> Result<Place<'a>, AllocError>
-    ensures { IfOk result (λ place. path_of place ≡ dir_of words.entry.now) }
+    ensures dir { IfOk result (λ place. path_of place ≡ dir_of words.entry.now) }
+    ensures pair { IfOk result (λ place. paths_of place ≡ pair_of words.entry.now) }
 {
-    Ok(match named_dir(alloc, words)? {
-        Some(path) => Place::Dir(path),
-        None => Place::Memory,
-    })
+    let [first, ..] = words else {
+        return Ok(Place::Memory);
+    };
+    match name_of(first.as_str()) {
+        Some(Name::Play) => in_dir(play_dir(alloc, words)),
+        Some(Name::Cells) => in_dir(cells_dir(alloc, words)),
+        Some(Name::Grow) => in_dir(grow_dir(alloc, words)),
+        Some(Name::Check) => in_dir(check_dir(alloc, words)),
+        Some(Name::Mirror) => mirror_pair(alloc, words),
+        _ => Ok(Place::Memory),
+    }
 }
 
 /// Whether one of the words is `--progress`.

@@ -23,7 +23,7 @@ pub fn end_without_store<R: Eprint>(rt: &R, path: &str, fault: OpenFault) -> Exi
 }
 
 /// Says on standard error that the branch `main` isn't there, where that is so of a used repository.
-fn tell_loss<R: Eprint>(rt: &R, main_is_lost: bool) {
+pub fn tell_loss<R: Eprint>(rt: &R, main_is_lost: bool) {
     if main_is_lost {
         let _ = eprintln!(rt;
             "icerepo: the branch main isn't there, but other refs or snapshots are"
@@ -32,14 +32,14 @@ fn tell_loss<R: Eprint>(rt: &R, main_is_lost: bool) {
 }
 
 /// Says on standard error which call on files failed first, if one did.
-fn tell_fault<R: Eprint>(rt: &R, store: &SystemStore) {
+pub fn tell_fault<R: Eprint>(rt: &R, store: &SystemStore) {
     if let Some(first) = store.first_fault() {
         let _ = eprintln!(rt; "icerepo: {first}");
     }
 }
 
 /// A directory of the system that is opened.
-type Directory = Opened<HostRuntime, WallClock<HostRuntime>>;
+pub type Directory = Opened<HostRuntime, WallClock<HostRuntime>>;
 
 /// Does what the words say over an opened directory.
 fn over_opened<R: Input + Print + Eprint + AllocGlobal + Threads + Wait + Sync + Copy + Drop>(

@@ -4,6 +4,7 @@ ghost use Rattle.std.specs.Prelude.{◌≡◌, true};
 ghost use Rattle.store_api.specs.Journal.{IsGoodJournal};
 
 use crate::progress::Progress;
+use crate::telling::end_with_words;
 use command_words::{Word, shows_progress};
 use ice_base::{StdSink, StdSource, TickClock};
 use ice_ids::Draw;
@@ -12,7 +13,7 @@ use std::process::ExitCode;
 use std::sync::Wait;
 use std::thread::Threads;
 use store_api::Counting;
-use top_call::{Ended, end, run};
+use top_call::{Ended, run};
 
 /// Does what the words say over this store, with the system's input and output.
 pub fn run_over<
@@ -43,5 +44,5 @@ pub fn in_memory<R: Input + Print + Eprint + AllocGlobal + Threads + Wait + Sync
 ) -> ExitCode {
     let store = MemStore::new(rt.alloc(), TickClock::new());
     let ended = run_over(rt, words, Draw::Count, store);
-    end(rt, &ended.status)
+    end_with_words(rt, words, &ended.status)
 }

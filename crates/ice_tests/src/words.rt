@@ -1,6 +1,7 @@
-use crate::checking::holds;
+use crate::checking::{holds, says as wants};
 use command_words::{
-    BoxWords, Command, Place, Topic, UsageFault, Word, WordsFault, place_of, read_words,
+    BoxWords, Command, Place, Topic, UsageFault, Word, WordsFault, complaint_of, place_of,
+    read_words,
 };
 use std::alloc::{AllocError, Global};
 use std::test::Fail;
@@ -42,10 +43,11 @@ const WRONG: Result<Command, WordsFault> = Err(WordsFault::Usage(UsageFault::Wor
 
 const UNKNOWN: Result<Command, WordsFault> = Err(WordsFault::Usage(UsageFault::Unknown));
 
-const LINES: [(&str, Result<Command, WordsFault>); 32] = [
+const LINES: [(&str, Result<Command, WordsFault>); 42] = [
     ("", Err(WordsFault::Usage(UsageFault::NoCommand))),
     ("run", UNKNOWN),
-    ("-h", UNKNOWN),
+    ("-x", UNKNOWN),
+    ("-H", UNKNOWN),
     ("play", Ok(Command::Play)),
     ("play --dir d", Ok(Command::Play)),
     ("play --dir=", Ok(Command::Play)),
@@ -72,9 +74,18 @@ const LINES: [(&str, Result<Command, WordsFault>); 32] = [
     ("check --progress --dir d", Ok(Command::Check)),
     ("check --help", Ok(Command::Help(Topic::Check))),
     ("check x", WRONG),
+    ("mirror a b", UNKNOWN),
+    ("mirror a", WRONG),
+    ("mirror a b c", WRONG),
+    ("mirror a b --dir c", WRONG),
+    ("mirror --help", Ok(Command::Help(Topic::Mirror))),
     ("--help", Ok(Command::Help(Topic::Program))),
+    ("-h", Ok(Command::Help(Topic::Program))),
     ("--help play", WRONG),
+    ("-h play", WRONG),
     ("--version", Ok(Command::Version)),
+    ("-V", Ok(Command::Version)),
+    ("-V -h", WRONG),
 ];
 
 #[test]
@@ -120,7 +131,7 @@ fn boxes_are_told(rt: HostRuntime) -> Result<(), Fail> {
     Ok(())
 }
 
-const PLACES: [(&str, Place<'static>); 11] = [
+const PLACES: [(&str, Place<'static>); 15] = [
     ("", Place::Memory),
     ("play", Place::Memory),
     ("play --dir d", Place::Dir("d")),
@@ -131,6 +142,10 @@ const PLACES: [(&str, Place<'static>); 11] = [
     ("cells main /x 0 --dir d", Place::Memory),
     ("grow 5 --dir d", Place::Dir("d")),
     ("grow 0 --dir d", Place::Memory),
+    ("mirror a b", Place::Pair("a", "b")),
+    ("mirror -- a -b", Place::Pair("a", "-b")),
+    ("mirror a", Place::Memory),
+    ("mirror a b --help", Place::Memory),
     ("--version --dir d", Place::Memory),
 ];
 
@@ -138,6 +153,83 @@ const PLACES: [(&str, Place<'static>); 11] = [
 fn places_are_told(rt: HostRuntime) -> Result<(), Fail> {
     for (line, place) in &PLACES {
         holds(is_at(rt.alloc(), line, *place), line)?;
+    }
+    Ok(())
+}
+
+/// Words with what is wrong with them. Of those behind a command clap says it.
+const COMPLAINTS: [(&[&str], &str); 10] = [
+    (
+        &[],
+        "error: a command is missing\n\nFor more information, try 'icerepo --help'.\n",
+    ),
+    (
+        &["plya"],
+        "error: unknown command \"plya\"\n\nFor more information, try 'icerepo --help'.\n",
+    ),
+    (
+        &["a\nb"],
+        "error: unknown command \"a\\nb\"\n\nFor more information, try 'icerepo --help'.\n",
+    ),
+    (
+        &["-V", "-h"],
+        "error: unexpected word \"-h\"\n\nFor more information, try 'icerepo --help'.\n",
+    ),
+    (
+        &["cells", "main", "/a b", "0", "1\n"],
+        "error: \"/a b\" holds a space or a line feed\n\nFor more information, try 'icerepo --help'.\n",
+    ),
+    (
+        &["play", "x"],
+        "error: unexpected argument 'x' found\n\nUsage: play [OPTIONS]\n\nFor more information, try '--help'.\n",
+    ),
+    (
+        &["play", "--dir"],
+        "error: a value is required for '--dir <dir>' but none was supplied\n\nFor more information, try '--help'.\n",
+    ),
+    (
+        &["check", "--progess"],
+        "error: unexpected argument '--progess' found\n\n  tip: a similar argument exists: '--progress'\n\nUsage: check --progress\n\nFor more information, try '--help'.\n",
+    ),
+    (
+        &["grow"],
+        "error: the following required arguments were not provided:\n  <n>\n\nUsage: grow <n>\n\nFor more information, try '--help'.\n",
+    ),
+    (
+        &["grow", "61"],
+        "error: invalid value '61' for '<n>': 61 is not in 1..=60\n\nFor more information, try '--help'.\n",
+    ),
+];
+
+/// These words.
+fn listed(alloc: Global, said: &[&str]) -> Result<Vec<Word>, AllocError> {
+    let mut list = Vec::new(alloc);
+    for text in said {
+        list.push(word(alloc, text)?)?;
+    }
+    Ok(list)
+}
+
+/// What is told of words that are no command.
+fn told(alloc: Global, words: &[Word]) -> Option<String> {
+    match complaint_of(alloc, words) {
+        Ok(Some(complaint)) => format!(in alloc; "{complaint}").ok(),
+        _ => None,
+    }
+}
+
+/// What is told of these words, if they are no command.
+fn complaint(alloc: Global, said: &[&str]) -> Option<String> {
+    let list = listed(alloc, said).ok()?;
+    let text = told(alloc, list.as_slice());
+    drop(list);
+    text
+}
+
+#[test]
+fn complaints_name_words(rt: HostRuntime) -> Result<(), Fail> {
+    for (said, text) in &COMPLAINTS {
+        wants(complaint(rt.alloc(), said), text)?;
     }
     Ok(())
 }

@@ -8,12 +8,13 @@ use Rattle.clap.specs.declared.builder.command.Command.{Command}
 use Rattle.clap.specs.declared.builder.action.ArgAction.TheVariants.{Set}
 use Rattle.clap.specs.declared.error.kind.ErrorKind.{ErrorKind}
 use Rattle.clap.specs.declared.error.kind.ErrorKind.TheVariants.{DisplayHelp, OutOfMemory}
-use Rattle.command_words.specs.Parsers.{cells, grow, kinds_of, dir_in, count_in, count_parser}
+use Rattle.command_words.specs.Parsers.{cells, grow, mirror, kinds_of, dir_in, count_in, count_parser}
 use Rattle.std.specs.Borrow.{Bor}
 use Rattle.std.specs.declared.alloc.AllocError.{AllocError}
-use Rattle.command_words.specs.Words.{box_in, dir_where}
+use Rattle.command_words.specs.Words.{box_in, dir_where, pair_in}
 use Rattle.command_words.specs.declared.reading.BoxWords.{BoxWords}
 use Rattle.command_words.specs.declared.parsers.CellsGiven.{CellsGiven}
+use Rattle.command_words.specs.declared.parsers.MirrorWords.{MirrorWords}
 use Rattle.command_words.specs.declared.parsers.Refusal.{Refusal}
 use Rattle.command_words.specs.declared.parsers.Refusal.TheVariants as R
 
@@ -32,16 +33,23 @@ box_seen g = record { branch = g.branch.now; path = g.path.now; from = g.from.no
 abbrev pub IsBox : List Text → CellsGiven → Type 0
 IsBox words g = IsTaken cells words (option_map (λ s. s.now) g.dir) × (box_seen g ≡ box_in words)
 
+-- clap takes the words, and these are the two paths
+abbrev pub pair_seen : MirrorWords → Text × Text
+pair_seen g = (g.from.now, g.to.now)
+
+abbrev pub IsPair : List Text → MirrorWords → Type 0
+IsPair words g = (kinds_of mirror words ≡ []) × (pair_seen g ≡ pair_in words)
+
 -- what the kind of an error of clap's says
 abbrev pub IsRefusalFor : ErrorKind → Refusal → Type 0
 IsRefusalFor kind R.Help = kind ≡ DisplayHelp
-IsRefusalFor kind R.Words = (kind ≢ OutOfMemory) × (kind ≢ DisplayHelp)
+IsRefusalFor kind (R.Words error) = (kind ≢ OutOfMemory) × (kind ≢ DisplayHelp)
 IsRefusalFor kind R.NoMemory = Unit {0}
 
 -- clap refuses the words, and one kind says why
 abbrev pub IsRefused : App → List Text → Refusal → Type 0
 IsRefused a words R.Help = kinds_of a words ≡ DisplayHelp ∷ []
-IsRefused a words R.Words = (kind : ErrorKind) × (kinds_of a words ≡ kind ∷ []) × (kind ≢ DisplayHelp)
+IsRefused a words (R.Words error) = (kind : ErrorKind) × (kinds_of a words ≡ kind ∷ []) × (kind ≢ DisplayHelp)
 IsRefused a words R.NoMemory = Unit {0}
 
 -- a command of clap with the arguments of `grow`

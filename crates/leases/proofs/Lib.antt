@@ -1,0 +1,7 @@
+pub mod Acting
+pub mod Replying
+pub mod Polite
+pub mod Leading
+pub mod Kept
+pub mod Confirming
+pub mod Lawful

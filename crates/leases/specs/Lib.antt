@@ -1,0 +1,6 @@
+pub mod Plays
+pub mod Resting
+pub mod Starting
+pub mod Telling
+pub mod Laws
+pub mod inside

@@ -1,0 +1,4 @@
+pub mod Texts
+pub mod Running
+pub mod Ending
+pub mod inside
