@@ -62,7 +62,8 @@ impl RegionGet {
         session: Session,
         region: Region,
     ) -> Result<Getting, (Session, Refusal)>
-        ensures begins { Begins (region_program session region.path region.from.items region.to.items) session result }
+        ensures begins { Begins (region_program session region.path region.from.items
+            region.to.items) session result }
         ensures few { IfOk result IsFew }
         ensures calm { IfErr result (λ refused. is_fault refused.1 ≡ false) }
     {
@@ -112,7 +113,8 @@ impl RegionGet {
     /// One operation of the store.
     pub fn step<S: Store>(&mut self, store: &mut S) -> Result<Next<Numbers>, Refusal>
         requires { IsAsk (region_rest self.old) }
-        ensures step { Steps (S.view store.old) (S.view store.new) (region_rest self.old) (region_rest self.new) result }
+        ensures step { Steps (S.view store.old) (S.view store.new) (region_rest self.old)
+            (region_rest self.new) result }
         ensures falls { region_left self.new < region_left self.old }
         ensures session { region_session self.new ≡ region_session self.old }
         ensures listed { IfErr result MayRefuseObject }
@@ -125,7 +127,11 @@ impl RegionGet {
     /// Looks for the chunk of a number.
     fn look(&self, at: usize) -> Result<Found, Refusal>
         requires { at < length (chunks_of (reads_of self.now.plan)) }
-        ensures { Looks (reads_of self.now.plan) (kept_of self.now.kept) (get_or (chunks_of (reads_of self.now.plan)) at []) (2 ^ 64 - 1) (chunk_kept self.now.session self.now.plan.region.path (chunk_length self.now.plan.array) self.now.plan.node (get_or (chunks_of (reads_of self.now.plan)) at []) (kept_of self.now.kept)) result }
+        ensures { Looks (reads_of self.now.plan) (kept_of self.now.kept)
+            (get_or (chunks_of (reads_of self.now.plan)) at []) (2 ^ 64 - 1)
+            (chunk_kept self.now.session self.now.plan.region.path
+            (chunk_length self.now.plan.array) self.now.plan.node
+            (get_or (chunks_of (reads_of self.now.plan)) at []) (kept_of self.now.kept)) result }
     {
         let Ok(index) = self.plan.index_of(self.alloc, at) else {
             return Err(Refusal::NoMemory);
@@ -136,7 +142,9 @@ impl RegionGet {
     /// Reads the chunks from the next one on: up to one for which something is to be got, or to the end.
     fn go_on(&mut self) -> Result<Next<Numbers>, Refusal>
         requires { self.old.stage ≡ Stage.Ended }
-        ensures took { LandsCalmly (read_chunks self.old.session (reads_of self.old.plan) (kept_of self.old.kept) self.old.numbers.items (drop self.old.at (chunks_of (reads_of self.old.plan)))) (region_rest self.new) result }
+        ensures took { LandsCalmly (read_chunks self.old.session (reads_of self.old.plan)
+            (kept_of self.old.kept) self.old.numbers.items
+            (drop self.old.at (chunks_of (reads_of self.old.plan)))) (region_rest self.new) result }
         ensures falls { region_left self.new ≤ left_behind (reads_of self.old.plan) self.old.at }
         ensures few { left_behind (reads_of self.old.plan) self.old.at ≤ 2 ^ 128 }
         ensures kept { region_session self.new ≡ region_session self.old }
@@ -165,8 +173,14 @@ impl RegionGet {
     /// A chunk was found, or something is to be got for it.
     fn on_found(&mut self, found: Found) -> Result<Next<Numbers>, Refusal>
         requires { self.old.stage ≡ Stage.Ended }
-        ensures took { (index : List ℕ) (most : ℕ) (p : TheProgram Chunk) → Finds (reads_of self.old.plan) (kept_of self.old.kept) index most p found → LandsCalmly (box_after p self.old.session (reads_of self.old.plan) self.old.numbers.items index (drop self.old.at (chunks_of (reads_of self.old.plan)))) (region_rest self.new) result }
-        ensures falls { (index : List ℕ) (most : ℕ) (p : TheProgram Chunk) → Finds (reads_of self.old.plan) (kept_of self.old.kept) index most p found → region_left self.new ≤ left_behind (reads_of self.old.plan) self.old.at + most }
+        ensures took { (index : List ℕ) (most : ℕ) (p : TheProgram Chunk)
+            → Finds (reads_of self.old.plan) (kept_of self.old.kept) index most p found
+            → LandsCalmly (box_after p self.old.session (reads_of self.old.plan)
+            self.old.numbers.items index (drop self.old.at (chunks_of (reads_of self.old.plan))))
+            (region_rest self.new) result }
+        ensures falls { (index : List ℕ) (most : ℕ) (p : TheProgram Chunk)
+            → Finds (reads_of self.old.plan) (kept_of self.old.kept) index most p found
+            → region_left self.new ≤ left_behind (reads_of self.old.plan) self.old.at + most }
         ensures kept { region_session self.new ≡ region_session self.old }
         ensures listed { IfErr result MayRefuseObject }
     {
@@ -191,7 +205,10 @@ impl RegionGet {
         at: usize,
         held: Held,
     ) -> Result<Found, Refusal>
-        ensures found { Looks (reads_of self.old.plan) (kept_of self.new.kept) index (length ids - at + 1) (in_file (chunk_length self.old.plan.array) self.old.plan.node index id (listed_kept (chunk_length self.old.plan.array) self.old.plan.node index (drop at ids)) held) result }
+        ensures found { Looks (reads_of self.old.plan) (kept_of self.new.kept) index
+            (length ids - at + 1) (in_file (chunk_length self.old.plan.array) self.old.plan.node
+            index id (listed_kept (chunk_length self.old.plan.array) self.old.plan.node index
+            (drop at ids)) held) result }
         ensures plan { self.new.plan ≡ self.old.plan }
         ensures session { self.new.session ≡ self.old.session }
         ensures numbers { self.new.numbers ≡ self.old.numbers }
@@ -221,9 +238,17 @@ impl RegionGet {
         reply: Reply,
     ) -> Result<Next<Numbers>, Refusal>
         requires ended { self.old.stage ≡ Stage.Ended }
-        requires awaited { Awaits (got_kept (chunk_length self.old.plan.array) self.old.plan.node index id (listed_kept (chunk_length self.old.plan.array) self.old.plan.node index (drop at ids))) reply }
-        ensures took { Took (box_after (got_kept (chunk_length self.old.plan.array) self.old.plan.node index id (listed_kept (chunk_length self.old.plan.array) self.old.plan.node index (drop at ids))) self.old.session (reads_of self.old.plan) self.old.numbers.items index (drop self.old.at (chunks_of (reads_of self.old.plan)))) reply (region_rest self.new) result }
-        ensures falls { region_left self.new < left_behind (reads_of self.old.plan) self.old.at + (length ids - at + 2) }
+        requires awaited { Awaits (got_kept (chunk_length self.old.plan.array) self.old.plan.node index
+            id (listed_kept (chunk_length self.old.plan.array) self.old.plan.node index
+            (drop at ids))) reply }
+        ensures took { Took
+            (box_after (got_kept (chunk_length self.old.plan.array) self.old.plan.node index id
+            (listed_kept (chunk_length self.old.plan.array) self.old.plan.node index (drop at ids)))
+            self.old.session (reads_of self.old.plan) self.old.numbers.items index
+            (drop self.old.at (chunks_of (reads_of self.old.plan)))) reply (region_rest self.new)
+            result }
+        ensures falls { region_left self.new < left_behind (reads_of self.old.plan) self.old.at
+            + (length ids - at + 2) }
         ensures kept { region_session self.new ≡ region_session self.old }
         ensures listed { IfErr result MayRefuseObject }
     {
@@ -247,9 +272,15 @@ impl RegionGet {
         reply: Reply,
     ) -> Result<Next<Numbers>, Refusal>
         requires ended { self.old.stage ≡ Stage.Ended }
-        requires awaited { Awaits (read_object (chunk_length self.old.plan.array) id offset length) reply }
-        ensures took { Took (box_after (object_kept (chunk_length self.old.plan.array) (kept_of self.old.kept) id offset length) self.old.session (reads_of self.old.plan) self.old.numbers.items index (drop self.old.at (chunks_of (reads_of self.old.plan)))) reply (region_rest self.new) result }
-        ensures falls { region_left self.new < left_behind (reads_of self.old.plan) self.old.at + 1 }
+        requires awaited { Awaits (read_object (chunk_length self.old.plan.array) id offset length)
+            reply }
+        ensures took { Took
+            (box_after (object_kept (chunk_length self.old.plan.array) (kept_of self.old.kept) id
+            offset length) self.old.session (reads_of self.old.plan) self.old.numbers.items index
+            (drop self.old.at (chunks_of (reads_of self.old.plan)))) reply (region_rest self.new)
+            result }
+        ensures falls { region_left self.new < left_behind (reads_of self.old.plan) self.old.at
+            + 1 }
         ensures kept { region_session self.new ≡ region_session self.old }
         ensures listed { IfErr result MayRefuseObject }
     {

@@ -25,7 +25,8 @@ use zarr_path::Index;
 impl Plan {
     /// What a place of the session's own comes to.
     fn at_own(&self, alloc: Global, index: Index, place: &Place) -> Result<Found, Refusal>
-        ensures { (kept : Kept) → Looks (reads_of self.now) kept index 1 (own_kept (chunk_length self.now.array) kept place.now) result }
+        ensures { (kept : Kept) → Looks (reads_of self.now) kept index 1
+            (own_kept (chunk_length self.now.array) kept place.now) result }
     {
         match place {
             Place::Inline(bytes) => match bytes.copy(alloc) {
@@ -49,7 +50,9 @@ impl Plan {
         manifest: Id12,
         place: PlaceView<'_>,
     ) -> Result<Found, Refusal>
-        ensures { (kept : Kept) → Looks (reads_of self.now) kept index 1 (place_kept (chunk_length self.now.array) manifest kept (place_seen place.entry)) result }
+        ensures { (kept : Kept) → Looks (reads_of self.now) kept index 1
+            (place_kept (chunk_length self.now.array) manifest kept (place_seen place.entry))
+            result }
     {
         match place {
             PlaceView::Inline(bytes) => match inline_read(alloc, self.want(), bytes) {
@@ -76,7 +79,9 @@ impl Plan {
         ids: Items<Id12>,
         at: usize,
     ) -> Result<Found, Refusal>
-        ensures { Looks (reads_of self.now) (kept_of kept.now) index (length ids - at + 1) (listed_kept (chunk_length self.now.array) self.now.node index (drop at ids) (kept_of kept.now)) result }
+        ensures { Looks (reads_of self.now) (kept_of kept.now) index (length ids - at + 1)
+            (listed_kept (chunk_length self.now.array) self.now.node index (drop at ids)
+            (kept_of kept.now)) result }
     {
         for next in at..ids.len() {
             let id = ids.as_slice()[next];
@@ -101,7 +106,10 @@ impl Plan {
         at: usize,
         got: KeptManifest,
     ) -> Result<Found, Refusal>
-        ensures { Looks (reads_of self.now) (kept_of kept.new) index (length ids - at + 1) (in_file (chunk_length self.now.array) self.now.node index got.id (listed_kept (chunk_length self.now.array) self.now.node index (drop at ids)) got.held) result }
+        ensures { Looks (reads_of self.now) (kept_of kept.new) index (length ids - at + 1)
+            (in_file (chunk_length self.now.array) self.now.node index got.id
+            (listed_kept (chunk_length self.now.array) self.now.node index (drop at ids)) got.held)
+            result }
     {
         match got.held.seek(self.node, &index) {
             Some(place) => {
@@ -124,7 +132,9 @@ impl Plan {
         kept: &Option<KeptManifest>,
         index: Index,
     ) -> Result<Found, Refusal>
-        ensures { Looks (reads_of self.now) (kept_of kept.now) index (2 ^ 64 - 1) (chunk_kept session.now self.now.region.path (chunk_length self.now.array) self.now.node index (kept_of kept.now)) result }
+        ensures { Looks (reads_of self.now) (kept_of kept.now) index (2 ^ 64 - 1)
+            (chunk_kept session.now self.now.region.path (chunk_length self.now.array) self.now.node
+            index (kept_of kept.now)) result }
     {
         match session.chunk_entry(self.node, &index) {
             Some(Some(place)) => self.at_own(alloc, index, place),

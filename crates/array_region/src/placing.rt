@@ -21,7 +21,10 @@ impl Run {
     /// Looks for the chunk of a number, unless the box covers it.
     pub(crate) fn look(&self, at: usize) -> Result<Found, Refusal>
         requires { at < length (chunks_of (run_reads self.now)) }
-        ensures { Looks (run_reads self.now) (kept_of self.now.kept) (get_or (chunks_of (run_reads self.now)) at []) (2 ^ 64 - 1) (old_chunk self.now.session (run_reads self.now) (get_or (chunks_of (run_reads self.now)) at []) (kept_of self.now.kept)) result }
+        ensures { Looks (run_reads self.now) (kept_of self.now.kept)
+            (get_or (chunks_of (run_reads self.now)) at []) (2 ^ 64 - 1)
+            (old_chunk self.now.session (run_reads self.now)
+            (get_or (chunks_of (run_reads self.now)) at []) (kept_of self.now.kept)) result }
     {
         let plan = &self.given.plan;
         let Ok(index) = plan.index_of(self.alloc, at) else {
@@ -37,7 +40,8 @@ impl Run {
     /// to be put.
     fn place_bytes(&mut self, index: Index, bytes: Bytes) -> Result<bool, Refusal>
         requires { self.old.stage ≡ WriteStage.Ended }
-        ensures places { Places (put_chunk (run_entered self.old) (run_reads self.old).path index bytes) self.old self.new result }
+        ensures places { Places (put_chunk (run_entered self.old) (run_reads self.old).path index
+            bytes) self.old self.new result }
         ensures stays { Stays self.old self.new }
         ensures tree { SameTree self.old.session self.new.session }
         ensures listed { IfErr result MayRefuseWrite }
@@ -59,7 +63,9 @@ impl Run {
     /// Sets a chunk that was read. Whether an object is to be put for it.
     pub(crate) fn place(&mut self, index: Index, value: Value) -> Result<bool, Refusal>
         requires { self.old.stage ≡ WriteStage.Ended }
-        ensures places { Places (set_program (run_entered self.old) (run_reads self.old).path index (bytes_put (run_reads self.old) index self.old.given.numbers.items value)) self.old self.new result }
+        ensures places { Places (set_program (run_entered self.old) (run_reads self.old).path index
+            (bytes_put (run_reads self.old) index self.old.given.numbers.items value)) self.old
+            self.new result }
         ensures stays { Stays self.old self.new }
         ensures tree { SameTree self.old.session self.new.session }
         ensures listed { IfErr result MayRefuseWrite }

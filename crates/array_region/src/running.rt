@@ -44,7 +44,10 @@ impl Run {
     /// A chunk was read, and is set, or something is to be got for it. Whether an operation comes next.
     fn take(&mut self, found: Found) -> Result<bool, Refusal>
         requires { self.old.stage ≡ WriteStage.Ended }
-        ensures takes { (index : List ℕ) (most : ℕ) (p : TheProgram Chunk) → Finds (run_reads self.old) (kept_of self.old.kept) index most p found → Takes (box_written p (run_old self.old) (run_entered self.old) (run_reads self.old) self.old.given.numbers.items index (run_met self.old)) (most + 1) self.new result }
+        ensures takes { (index : List ℕ) (most : ℕ) (p : TheProgram Chunk)
+            → Finds (run_reads self.old) (kept_of self.old.kept) index most p found
+            → Takes (box_written p (run_old self.old) (run_entered self.old) (run_reads self.old)
+            self.old.given.numbers.items index (run_met self.old)) (most + 1) self.new result }
         ensures rests { Rests result self.new.stage }
         ensures stays { Stays self.old self.new }
         ensures tree { SameTree self.old.session self.new.session }
@@ -86,8 +89,13 @@ impl Run {
     /// A chunk was read, or something is to be got for it.
     fn on_found(&mut self, found: Found) -> Result<Next<()>, Refusal>
         requires { self.old.stage ≡ WriteStage.Ended }
-        ensures lands { (index : List ℕ) (most : ℕ) (p : TheProgram Chunk) → Finds (run_reads self.old) (kept_of self.old.kept) index most p found → RunLands (box_written p (run_old self.old) (run_entered self.old) (run_reads self.old) self.old.given.numbers.items index (run_met self.old)) self.new result }
-        ensures falls { (index : List ℕ) (most : ℕ) (p : TheProgram Chunk) → Finds (run_reads self.old) (kept_of self.old.kept) index most p found → run_left self.new ≤ chunks_left (run_reads self.old) self.old.at + (most + 1) }
+        ensures lands { (index : List ℕ) (most : ℕ) (p : TheProgram Chunk)
+            → Finds (run_reads self.old) (kept_of self.old.kept) index most p found
+            → RunLands (box_written p (run_old self.old) (run_entered self.old) (run_reads self.old)
+            self.old.given.numbers.items index (run_met self.old)) self.new result }
+        ensures falls { (index : List ℕ) (most : ℕ) (p : TheProgram Chunk)
+            → Finds (run_reads self.old) (kept_of self.old.kept) index most p found
+            → run_left self.new ≤ chunks_left (run_reads self.old) self.old.at + (most + 1) }
         ensures tree { UnlessReady result (SameTree self.old.session self.new.session) }
         ensures listed { IfErr result MayRefuseWrite }
     {
@@ -108,9 +116,18 @@ impl Run {
         reply: Reply,
     ) -> Result<Next<()>, Refusal>
         requires ended { self.old.stage ≡ WriteStage.Ended }
-        requires awaited { Awaits (got_kept (chunk_length (run_reads self.old).array) (run_reads self.old).node index id (listed_kept (chunk_length (run_reads self.old).array) (run_reads self.old).node index (drop at ids))) reply }
-        ensures took { RunTook (box_written (got_kept (chunk_length (run_reads self.old).array) (run_reads self.old).node index id (listed_kept (chunk_length (run_reads self.old).array) (run_reads self.old).node index (drop at ids))) (run_old self.old) (run_entered self.old) (run_reads self.old) self.old.given.numbers.items index (run_met self.old)) reply self.new result }
-        ensures falls { run_left self.new < chunks_left (run_reads self.old) self.old.at + (length ids - at + 3) }
+        requires awaited { Awaits (got_kept (chunk_length (run_reads self.old).array)
+            (run_reads self.old).node index id
+            (listed_kept (chunk_length (run_reads self.old).array) (run_reads self.old).node index
+            (drop at ids))) reply }
+        ensures took { RunTook
+            (box_written (got_kept (chunk_length (run_reads self.old).array)
+            (run_reads self.old).node index id
+            (listed_kept (chunk_length (run_reads self.old).array) (run_reads self.old).node index
+            (drop at ids))) (run_old self.old) (run_entered self.old) (run_reads self.old)
+            self.old.given.numbers.items index (run_met self.old)) reply self.new result }
+        ensures falls { run_left self.new < chunks_left (run_reads self.old) self.old.at
+            + (length ids - at + 3) }
         ensures tree { UnlessReady result (SameTree self.old.session self.new.session) }
         ensures listed { IfErr result MayRefuseWrite }
     {
@@ -139,8 +156,13 @@ impl Run {
         reply: Reply,
     ) -> Result<Next<()>, Refusal>
         requires ended { self.old.stage ≡ WriteStage.Ended }
-        requires awaited { Awaits (object_kept (chunk_length (run_reads self.old).array) (kept_of self.old.kept) id offset length) reply }
-        ensures took { RunTook (box_written (object_kept (chunk_length (run_reads self.old).array) (kept_of self.old.kept) id offset length) (run_old self.old) (run_entered self.old) (run_reads self.old) self.old.given.numbers.items index (run_met self.old)) reply self.new result }
+        requires awaited { Awaits (object_kept (chunk_length (run_reads self.old).array)
+            (kept_of self.old.kept) id offset length) reply }
+        ensures took { RunTook
+            (box_written (object_kept (chunk_length (run_reads self.old).array)
+            (kept_of self.old.kept) id offset length) (run_old self.old) (run_entered self.old)
+            (run_reads self.old) self.old.given.numbers.items index (run_met self.old)) reply
+            self.new result }
         ensures falls { run_left self.new < chunks_left (run_reads self.old) self.old.at + 2 }
         ensures tree { UnlessReady result (SameTree self.old.session self.new.session) }
         ensures listed { IfErr result MayRefuseWrite }
@@ -160,8 +182,12 @@ impl Run {
         reply: Reply,
     ) -> Result<Next<()>, Refusal>
         requires ended { self.old.stage ≡ WriteStage.Ended }
-        requires awaited { Awaits (object_put (run_entered self.old) (run_reads self.old).path index bytes id) reply }
-        ensures took { RunTook (set_after (object_put (run_entered self.old) (run_reads self.old).path index bytes id) (run_old self.old) (run_reads self.old) self.old.given.numbers.items (kept_of self.old.kept) (run_met self.old)) reply self.new result }
+        requires awaited { Awaits (object_put (run_entered self.old) (run_reads self.old).path index
+            bytes id) reply }
+        ensures took { RunTook
+            (set_after (object_put (run_entered self.old) (run_reads self.old).path index bytes id)
+            (run_old self.old) (run_reads self.old) self.old.given.numbers.items
+            (kept_of self.old.kept) (run_met self.old)) reply self.new result }
         ensures falls { run_left self.new < chunks_left (run_reads self.old) self.old.at + 1 }
         ensures tree { UnlessReady result (SameTree self.old.session self.new.session) }
         ensures listed { IfErr result MayRefuseWrite }

@@ -55,7 +55,8 @@ impl RegionSet {
         region: Region,
         numbers: Vec<i128>,
     ) -> Result<Setting, (Session, Refusal)>
-        ensures begins { BeginsSet (region_set_program session region.path region.from.items region.to.items numbers.items) session result }
+        ensures begins { BeginsSet (region_set_program session region.path region.from.items
+            region.to.items numbers.items) session result }
         ensures few { IfOk result IsFewSet }
         ensures calm { IfErr result (λ refused. is_fault refused.1 ≡ false) }
     {
@@ -108,10 +109,13 @@ impl RegionSet {
     /// One operation of the store.
     pub fn step<S: Store>(&mut self, store: &mut S) -> Result<Next<Session>, Refusal>
         requires live { IsAsk (region_set_rest self.old) }
-        requires polite { IsTrue (S.view store.old).caller.tells → NextIsPolite (region_set_rest self.old) (S.view store.old).seen }
-        ensures step { Steps (S.view store.old) (S.view store.new) (region_set_rest self.old) (region_set_rest self.new) result }
+        requires polite { IsTrue (S.view store.old).caller.tells
+            → NextIsPolite (region_set_rest self.old) (S.view store.old).seen }
+        ensures step { Steps (S.view store.old) (S.view store.new) (region_set_rest self.old)
+            (region_set_rest self.new) result }
         ensures falls { region_set_left self.new < region_set_left self.old }
-        ensures tree { UnlessReady result (KeepsTree (region_set_session self.old) (region_set_session self.new)) }
+        ensures tree { UnlessReady result
+            (KeepsTree (region_set_session self.old) (region_set_session self.new)) }
         ensures listed { IfErr result MayRefuseWrite }
     {
         drive(self, store)

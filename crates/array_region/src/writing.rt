@@ -17,7 +17,8 @@ use zarr_path::Index;
 /// Whether all cells of a chunk lie in a box.
 fn covered(sides: Sides<'_>) -> bool
     requires { AreOver sides }
-    ensures { result ≡ is_covered sides.entry.from.now sides.entry.to.now sides.entry.chunks.now sides.entry.index.now }
+    ensures { result ≡ is_covered sides.entry.from.now sides.entry.to.now sides.entry.chunks.now
+        sides.entry.index.now }
 {
     let Some((side, rest)) = sides.split() else {
         return true;
@@ -29,7 +30,8 @@ fn covered(sides: Sides<'_>) -> bool
 impl Plan {
     /// Whether all cells of a chunk lie in the box.
     pub(crate) fn covers(&self, index: &Index) -> bool
-        ensures { result ≡ is_covered self.now.region.from.items self.now.region.to.items self.now.array.chunks index.now }
+        ensures { result ≡ is_covered self.now.region.from.items self.now.region.to.items
+            self.now.array.chunks index.now }
     {
         index.parts().len() == self.array.chunks.as_slice().len() && covered(self.sides(index))
     }
@@ -70,7 +72,8 @@ impl Plan {
 impl Given {
     /// Writes the numbers into the bytes of a chunk.
     fn write(&self, index: &Index, bytes: &mut [u8])
-        ensures { bytes.new ≡ with_numbers (reads_of self.now.plan) index.now self.now.numbers.items bytes.old }
+        ensures { bytes.new ≡ with_numbers (reads_of self.now.plan) index.now self.now.numbers.items
+            bytes.old }
     {
         if self.plan.fits(index, bytes, self.numbers.as_slice()) {
             write_part(
@@ -89,7 +92,8 @@ impl Given {
         index: &Index,
         value: Value,
     ) -> Result<Bytes, AllocError>
-        ensures { IfOk result (λ bytes. bytes ≡ bytes_put (reads_of self.now.plan) index.now self.now.numbers.items value) }
+        ensures { IfOk result (λ bytes. bytes ≡ bytes_put (reads_of self.now.plan) index.now
+            self.now.numbers.items value) }
     {
         let mut bytes = self.plan.bytes_read(alloc, value)?;
         self.write(index, bytes.as_mut_slice());

@@ -14,7 +14,8 @@ pub fn cells_script(
     from: &str,
     to: &str,
 ) -> Result<String, AllocError>
-    ensures { IfOk result (λ text. string_bytes text ≡ cells_text branch.now path.now from.now to.now) }
+    ensures { IfOk result (λ text. string_bytes text ≡ cells_text branch.now path.now from.now
+        to.now) }
 {
     let mut text = String::from_str(alloc, "task cells read branch ")?;
     text.push_str(branch)?;

@@ -70,7 +70,8 @@ pub(crate) fn files_with(
 
 /// Enters the ids of manifests.
 fn enter(ids: &mut BTreeSet<Id12>, manifests: &[ManifestRef]) -> Result<(), AllocError>
-    ensures { OnOk result ((id : TheId) → has_id ids.new.keys id ≡ (has_id ids.old.keys id || have_id manifests.now id)) }
+    ensures { OnOk result ((id : TheId)
+        → has_id ids.new.keys id ≡ (has_id ids.old.keys id || have_id manifests.now id)) }
 {
     for manifest in manifests {
         ids.insert(manifest.id)?;

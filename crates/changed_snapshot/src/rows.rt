@@ -171,7 +171,8 @@ fn row_over(
 ) -> Result<NodeRow, AllocError>
     requires lists { Ascends list_key None news.now }
     requires path { IsTrue (is_path path.now) }
-    ensures { IfOk result (λ row. row ≡ row_over path.now (node_found found.now) (row_at old.now path.now) (new_list news.now path.now)) }
+    ensures { IfOk result (λ row. row ≡ row_over path.now (node_found found.now)
+        (row_at old.now path.now) (new_list news.now path.now)) }
 {
     match list_at(news, path) {
         Some(list) => row_of(alloc, path, found, refs_of(alloc, &list.manifest)?),

@@ -77,7 +77,9 @@ pub fn write_over(
 ) -> Result<Bytes, WriteFault>
     requires few { len (nodes_over changes.now (nodes_in base.now.nodes)) ≤ most_nodes }
     requires lists { Ascends list_key None news.now }
-    ensures { Writes result (snapshot_bytes (snapshot_over changes.now news.now base.now.nodes base.now.manifest_files stamp message.now props.now)) }
+    ensures { Writes result
+        (snapshot_bytes (snapshot_over changes.now news.now base.now.nodes base.now.manifest_files
+        stamp message.now props.now)) }
 {
     let rows = rows_over(alloc, base, changes, news)?;
     let files = files_with(alloc, &base.file().manifest_files(), news)?;

@@ -63,8 +63,10 @@ impl Collect {
     /// One operation of the store.
     pub fn step<S: Store>(&mut self, store: &mut S)
         requires live { IsLive (collect_rest self.old) }
-        requires polite { IsTrue (S.view store.old).caller.tells → PlayIsPolite (collect_rest self.old) (S.view store.old).seen }
-        ensures acts { Acts tells_failure (S.view store.old) (S.view store.new) (collect_rest self.old) (collect_rest self.new) }
+        requires polite { IsTrue (S.view store.old).caller.tells
+            → PlayIsPolite (collect_rest self.old) (S.view store.old).seen }
+        ensures acts { Acts tells_failure (S.view store.old) (S.view store.new)
+            (collect_rest self.old) (collect_rest self.new) }
         ensures falls { collect_left self.new < collect_left self.old }
     {
         // The old state is taken out.

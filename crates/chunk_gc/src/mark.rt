@@ -153,7 +153,8 @@ impl Mark {
     /// One operation of the store.
     pub fn step<S: Store>(&mut self, store: &mut S) -> Result<Next<Keys>, Refusal>
         requires { IsAsk (mark_rest self.old) }
-        ensures step { Steps (S.view store.old) (S.view store.new) (mark_rest self.old) (mark_rest self.new) result }
+        ensures step { Steps (S.view store.old) (S.view store.new) (mark_rest self.old)
+            (mark_rest self.new) result }
         ensures falls { mark_left self.new < mark_left self.old }
         ensures listed { IfErr result MayRefuseMark }
     {
@@ -163,8 +164,10 @@ impl Mark {
     /// Goes on with the next branch, and behind the last one with the tags.
     fn next_branch(&mut self) -> Next<Keys>
         requires { self.old.state ≡ Marking.Ended }
-        ensures lands { Lands (get_refs self.old.names (work_of self.old) (list_tags self.old.left)) (mark_rest self.new) (Ok result) }
-        ensures falls { mark_left self.new ≤ tags_left self.old.left + many + 1 + length self.old.names }
+        ensures lands { Lands (get_refs self.old.names (work_of self.old) (list_tags self.old.left))
+            (mark_rest self.new) (Ok result) }
+        ensures falls { mark_left self.new ≤ tags_left self.old.left + many + 1 + length
+            self.old.names }
     {
         match self.names.take() {
             None => self.go_to(Marking::Tags),
@@ -175,7 +178,8 @@ impl Mark {
     /// Goes on with the next tag, and behind the last one with the snapshots.
     fn next_tag(&mut self) -> Result<Next<Keys>, Refusal>
         requires { self.old.state ≡ Marking.Ended }
-        ensures lands { Lands (get_refs self.old.names (work_of self.old) (marking self.old.left)) (mark_rest self.new) result }
+        ensures lands { Lands (get_refs self.old.names (work_of self.old) (marking self.old.left))
+            (mark_rest self.new) result }
         ensures falls { mark_left self.new ≤ tags_left self.old.left + length self.old.names }
         ensures calm { IfErr result (λ why. is_fault why ≡ false) }
         ensures listed { IfErr result MayRefuseMark }
@@ -189,7 +193,8 @@ impl Mark {
     /// Goes on with the next snapshot, and behind the last one with the listings of objects.
     fn next_snapshot(&mut self) -> Result<Next<Keys>, Refusal>
         requires { self.old.state ≡ Marking.Ended }
-        ensures lands { Lands (marking self.old.left (work_of self.old)) (mark_rest self.new) result }
+        ensures lands { Lands (marking self.old.left (work_of self.old)) (mark_rest self.new)
+            result }
         ensures falls { mark_left self.new ≤ marks_left self.old.left }
         ensures calm { IfErr result (λ why. is_fault why ≡ false) }
         ensures listed { IfErr result MayRefuseMark }
@@ -209,7 +214,8 @@ impl Mark {
     /// Goes on with the next manifest, and behind the last one with the next snapshot.
     fn next_manifest(&mut self) -> Result<Next<Keys>, Refusal>
         requires { self.old.state ≡ Marking.Ended }
-        ensures lands { Lands (mark_files (work_of self.old) (marking self.old.left)) (mark_rest self.new) result }
+        ensures lands { Lands (mark_files (work_of self.old) (marking self.old.left))
+            (mark_rest self.new) result }
         ensures falls { mark_left self.new ≤ marks_left self.old.left + length self.old.files.todo }
         ensures calm { IfErr result (λ why. is_fault why ≡ false) }
         ensures listed { IfErr result MayRefuseMark }
@@ -235,7 +241,8 @@ impl Mark {
     fn on_branches(&mut self, reply: Reply) -> Result<Next<Keys>, Refusal>
         requires ended { self.old.state ≡ Marking.Ended }
         requires fits { Fits (Op.List Part.Branches) reply }
-        ensures took { Took (list_branches self.old.left (work_of self.old)) reply (mark_rest self.new) result }
+        ensures took { Took (list_branches self.old.left (work_of self.old)) reply
+            (mark_rest self.new) result }
         ensures falls { mark_left self.new < tags_left self.old.left + many + many + 3 }
         ensures listed { IfErr result MayRefuseMark }
     {
@@ -247,7 +254,8 @@ impl Mark {
 
     fn after_branches(&mut self, entries: &[Entry]) -> Result<Next<Keys>, Refusal>
         requires { self.old.state ≡ Marking.Ended }
-        ensures lands { Lands (get_refs (live entries.now) (work_of self.old) (list_tags self.old.left)) (mark_rest self.new) result }
+        ensures lands { Lands (get_refs (live entries.now) (work_of self.old)
+            (list_tags self.old.left)) (mark_rest self.new) result }
         ensures falls { mark_left self.new < tags_left self.old.left + many + many + 3 }
         ensures calm { IfErr result (λ why. is_fault why ≡ false) }
         ensures listed { IfErr result MayRefuseMark }
@@ -273,8 +281,10 @@ impl Mark {
     fn on_branch(&mut self, key: &Key, reply: Reply) -> Result<Next<Keys>, Refusal>
         requires ended { self.old.state ≡ Marking.Ended }
         requires fits { Fits (Op.Get key.now) reply }
-        ensures took { Took (branch_rest key.now self.old.left self.old.names (work_of self.old)) reply (mark_rest self.new) result }
-        ensures falls { mark_left self.new < tags_left self.old.left + many + 2 + length self.old.names }
+        ensures took { Took (branch_rest key.now self.old.left self.old.names (work_of self.old))
+            reply (mark_rest self.new) result }
+        ensures falls { mark_left self.new < tags_left self.old.left + many + 2 + length
+            self.old.names }
         ensures listed { IfErr result MayRefuseMark }
     {
         match ref_got(self.alloc, key, reply) {
@@ -285,8 +295,10 @@ impl Mark {
 
     fn after_branch(&mut self, id: Option<Id12>) -> Result<Next<Keys>, Refusal>
         requires { self.old.state ≡ Marking.Ended }
-        ensures lands { Lands (get_refs self.old.names (with_ref id (work_of self.old)) (list_tags self.old.left)) (mark_rest self.new) result }
-        ensures falls { mark_left self.new < tags_left self.old.left + many + 2 + length self.old.names }
+        ensures lands { Lands (get_refs self.old.names (with_ref id (work_of self.old))
+            (list_tags self.old.left)) (mark_rest self.new) result }
+        ensures falls { mark_left self.new < tags_left self.old.left + many + 2 + length
+            self.old.names }
         ensures calm { IfErr result (λ why. is_fault why ≡ false) }
         ensures listed { IfErr result MayRefuseMark }
     {
@@ -299,7 +311,8 @@ impl Mark {
     fn on_tags(&mut self, reply: Reply) -> Result<Next<Keys>, Refusal>
         requires ended { self.old.state ≡ Marking.Ended }
         requires fits { Fits (Op.List Part.Tags) reply }
-        ensures took { Took (list_tags self.old.left (work_of self.old)) reply (mark_rest self.new) result }
+        ensures took { Took (list_tags self.old.left (work_of self.old)) reply (mark_rest self.new)
+            result }
         ensures falls { mark_left self.new < tags_left self.old.left + many + 1 }
         ensures listed { IfErr result MayRefuseMark }
     {
@@ -311,7 +324,8 @@ impl Mark {
 
     fn after_tags(&mut self, entries: &[Entry]) -> Result<Next<Keys>, Refusal>
         requires { self.old.state ≡ Marking.Ended }
-        ensures lands { Lands (get_refs (live entries.now) (work_of self.old) (marking self.old.left)) (mark_rest self.new) result }
+        ensures lands { Lands (get_refs (live entries.now) (work_of self.old)
+            (marking self.old.left)) (mark_rest self.new) result }
         ensures falls { mark_left self.new < tags_left self.old.left + many + 1 }
         ensures calm { IfErr result (λ why. is_fault why ≡ false) }
         ensures listed { IfErr result MayRefuseMark }
@@ -325,7 +339,8 @@ impl Mark {
     fn on_tag(&mut self, key: &Key, reply: Reply) -> Result<Next<Keys>, Refusal>
         requires ended { self.old.state ≡ Marking.Ended }
         requires fits { Fits (Op.Get key.now) reply }
-        ensures took { Took (tag_rest key.now self.old.left self.old.names (work_of self.old)) reply (mark_rest self.new) result }
+        ensures took { Took (tag_rest key.now self.old.left self.old.names (work_of self.old)) reply
+            (mark_rest self.new) result }
         ensures falls { mark_left self.new < tags_left self.old.left + 1 + length self.old.names }
         ensures listed { IfErr result MayRefuseMark }
     {
@@ -337,7 +352,8 @@ impl Mark {
 
     fn after_tag(&mut self, id: Option<Id12>) -> Result<Next<Keys>, Refusal>
         requires { self.old.state ≡ Marking.Ended }
-        ensures lands { Lands (get_refs self.old.names (with_ref id (work_of self.old)) (marking self.old.left)) (mark_rest self.new) result }
+        ensures lands { Lands (get_refs self.old.names (with_ref id (work_of self.old))
+            (marking self.old.left)) (mark_rest self.new) result }
         ensures falls { mark_left self.new < tags_left self.old.left + 1 + length self.old.names }
         ensures calm { IfErr result (λ why. is_fault why ≡ false) }
         ensures listed { IfErr result MayRefuseMark }
@@ -351,7 +367,8 @@ impl Mark {
     fn on_snapshot(&mut self, id: Id12, reply: Reply) -> Result<Next<Keys>, Refusal>
         requires ended { self.old.state ≡ Marking.Ended }
         requires fits { Fits (Op.Get (Key.Snapshot id)) reply }
-        ensures took { Took (marking_rest (Marking.Snapshot id) self.old.left self.old.names (work_of self.old)) reply (mark_rest self.new) result }
+        ensures took { Took (marking_rest (Marking.Snapshot id) self.old.left self.old.names
+            (work_of self.old)) reply (mark_rest self.new) result }
         ensures falls { mark_left self.new < tags_left self.old.left }
         ensures listed { IfErr result MayRefuseMark }
     {
@@ -363,7 +380,8 @@ impl Mark {
 
     fn after_loaded(&mut self, loaded: Loaded) -> Result<Next<Keys>, Refusal>
         requires { self.old.state ≡ Marking.Ended }
-        ensures lands { Lands (mark_files (with_snapshot loaded (work_of self.old)) (marking self.old.left)) (mark_rest self.new) result }
+        ensures lands { Lands (mark_files (with_snapshot loaded (work_of self.old))
+            (marking self.old.left)) (mark_rest self.new) result }
         ensures falls { mark_left self.new < tags_left self.old.left }
         ensures calm { IfErr result (λ why. is_fault why ≡ false) }
         ensures listed { IfErr result MayRefuseMark }
@@ -378,7 +396,8 @@ impl Mark {
 
     /// What a snapshot names is found.
     fn enter_snapshot(&mut self, loaded: &Loaded) -> Result<(), AllocError>
-        ensures work { OnOk result (work_of self.new ≡ with_snapshot loaded.now (work_of self.old)) }
+        ensures work { OnOk result
+            (work_of self.new ≡ with_snapshot loaded.now (work_of self.old)) }
         ensures few { OnOk result (length self.new.files.todo < many) }
         ensures state { self.new.state ≡ self.old.state }
         ensures names { self.new.names ≡ self.old.names }
@@ -394,8 +413,10 @@ impl Mark {
     fn on_manifest(&mut self, id: Id12, reply: Reply) -> Result<Next<Keys>, Refusal>
         requires ended { self.old.state ≡ Marking.Ended }
         requires fits { Fits (Op.Get (Key.Manifest id)) reply }
-        ensures took { Took (marking_rest (Marking.Manifest id) self.old.left self.old.names (work_of self.old)) reply (mark_rest self.new) result }
-        ensures falls { mark_left self.new < marks_left self.old.left + 1 + length self.old.files.todo }
+        ensures took { Took (marking_rest (Marking.Manifest id) self.old.left self.old.names
+            (work_of self.old)) reply (mark_rest self.new) result }
+        ensures falls { mark_left self.new < marks_left self.old.left + 1 + length
+            self.old.files.todo }
         ensures listed { IfErr result MayRefuseMark }
     {
         match manifest_told(id, reply) {
@@ -406,8 +427,10 @@ impl Mark {
 
     fn after_held(&mut self, held: Held) -> Result<Next<Keys>, Refusal>
         requires { self.old.state ≡ Marking.Ended }
-        ensures lands { Lands (get_files self.old.files.todo (with_file held (work_of self.old)) (marking self.old.left)) (mark_rest self.new) result }
-        ensures falls { mark_left self.new < marks_left self.old.left + 1 + length self.old.files.todo }
+        ensures lands { Lands (get_files self.old.files.todo (with_file held (work_of self.old))
+            (marking self.old.left)) (mark_rest self.new) result }
+        ensures falls { mark_left self.new < marks_left self.old.left + 1 + length
+            self.old.files.todo }
         ensures calm { IfErr result (λ why. is_fault why ≡ false) }
         ensures listed { IfErr result MayRefuseMark }
     {
@@ -454,9 +477,12 @@ impl Mark {
     /// Goes on with this state behind a listing of objects.
     fn after_objects(&mut self, entries: &[Entry], then: Marking) -> Result<Next<Keys>, Refusal>
         requires ended { self.old.state ≡ Marking.Ended }
-        requires live { IsAsk (marking_rest then self.old.left self.old.names (sweeping entries.now (work_of self.old))) }
-        ensures lands { Lands (marking_rest then self.old.left self.old.names (sweeping entries.now (work_of self.old))) (mark_rest self.new) result }
-        ensures falls { mark_left self.new ≤ marking_left then self.old.left (length self.old.names) (length self.old.files.todo) }
+        requires live { IsAsk (marking_rest then self.old.left self.old.names
+            (sweeping entries.now (work_of self.old))) }
+        ensures lands { Lands (marking_rest then self.old.left self.old.names
+            (sweeping entries.now (work_of self.old))) (mark_rest self.new) result }
+        ensures falls { mark_left self.new ≤ marking_left then self.old.left (length self.old.names)
+            (length self.old.files.todo) }
         ensures calm { IfErr result (λ why. is_fault why ≡ false) }
         ensures listed { IfErr result MayRefuseMark }
     {
@@ -521,7 +547,8 @@ impl Mark {
     /// Ends with the keys of what is doomed.
     fn after_chunks(&mut self, entries: &[Entry]) -> Result<Next<Keys>, Refusal>
         requires { self.old.state ≡ Marking.Ended }
-        ensures lands { Lands (told_doomed (sweeping entries.now (work_of self.old))) (mark_rest self.new) result }
+        ensures lands { Lands (told_doomed (sweeping entries.now (work_of self.old)))
+            (mark_rest self.new) result }
         ensures falls { mark_left self.new < many + 1 }
         ensures calm { IfErr result (λ why. is_fault why ≡ false) }
         ensures listed { IfErr result MayRefuseMark }

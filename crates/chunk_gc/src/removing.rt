@@ -28,8 +28,10 @@ pub(crate) const NOTHING: Removed = Removed {
 pub(crate) fn step_on<S: Store>(state: Collecting, store: &mut S) -> Collecting
     requires live { IsLive (collecting_rest state) }
     requires stands { is_standing state ≡ true }
-    requires polite { IsTrue (S.view store.old).caller.tells → PlayIsPolite (collecting_rest state) (S.view store.old).seen }
-    ensures acts { Acts tells_failure (S.view store.old) (S.view store.new) (collecting_rest state) (collecting_rest result) }
+    requires polite { IsTrue (S.view store.old).caller.tells
+        → PlayIsPolite (collecting_rest state) (S.view store.old).seen }
+    ensures acts { Acts tells_failure (S.view store.old) (S.view store.new) (collecting_rest state)
+        (collecting_rest result) }
     ensures stands { is_standing result ≡ true }
     ensures falls { collecting_left result < collecting_left state }
 {
@@ -43,7 +45,8 @@ pub(crate) fn step_on<S: Store>(state: Collecting, store: &mut S) -> Collecting
 /// One step of the marking.
 fn step_marking<S: Store>(mut mark: Mark, store: &mut S) -> Collecting
     requires { is_ask (mark_rest mark) ≡ true }
-    ensures acts { Acts tells_failure (S.view store.old) (S.view store.new) (call (mark_rest mark) (after_marking nothing)) (collecting_rest result) }
+    ensures acts { Acts tells_failure (S.view store.old) (S.view store.new)
+        (call (mark_rest mark) (after_marking nothing)) (collecting_rest result) }
     ensures stands { is_standing result ≡ true }
     ensures falls { collecting_left result < many + mark_left mark }
 {
@@ -54,7 +57,8 @@ fn step_marking<S: Store>(mut mark: Mark, store: &mut S) -> Collecting
 /// Where a collection stands behind a step of the marking.
 fn after_step(mark: Mark, answer: Result<Next<Keys>, Refusal>) -> Collecting
     requires { answers_well (is_ask (mark_rest mark)) answer ≡ true }
-    ensures comes { Comes (settled (after_marking nothing) (mark_rest mark) answer) (collecting_rest result) }
+    ensures comes { Comes (settled (after_marking nothing) (mark_rest mark) answer)
+        (collecting_rest result) }
     ensures blames { Blamed (faults answer) (collecting_rest result) }
     ensures stands { is_standing result ≡ true }
     ensures falls { collecting_left result ≤ many + mark_left mark }
@@ -101,7 +105,8 @@ fn next_removal(mut keys: Keys, removed: Removed) -> Collecting
 fn step_removing<S: Store>(key: &Key, keys: Keys, removed: Removed, store: &mut S) -> Collecting
     requires fits { total removed + length keys + 1 < 2 ^ 64 }
     requires polite { MayCall (S.view store.old) (Op.Remove key.now Why.Collect) }
-    ensures acts { Acts tells_failure (S.view store.old) (S.view store.new) (removing_rest key.now keys removed) (collecting_rest result) }
+    ensures acts { Acts tells_failure (S.view store.old) (S.view store.new)
+        (removing_rest key.now keys removed) (collecting_rest result) }
     ensures stands { is_standing result ≡ true }
     ensures falls { collecting_left result < length keys + 1 }
 {

@@ -56,7 +56,9 @@ const HELP: &str = "\n\nFor more information, try 'icerepo --help'.\n";
 
 /// What clap's refusal of a command's words comes to.
 fn complaint_for<'a>(alloc: Global, refusal: Refusal) -> Result<Option<Complaint<'a>>, AllocError>
-    ensures { (a : App) (words : List Text) (said : TheResult Command UsageFault) (topic : Topic) → IsRefused a words refusal → IfOk result (Complains words (answer_of (kinds_of a words) said topic)) }
+    ensures { (a : App) (words : List Text) (said : TheResult Command UsageFault) (topic : Topic)
+        → IsRefused a words refusal
+        → IfOk result (Complains words (answer_of (kinds_of a words) said topic)) }
 {
     match refusal {
         Refusal::Help => Ok(None),
@@ -69,7 +71,8 @@ fn complaint_for<'a>(alloc: Global, refusal: Refusal) -> Result<Option<Complaint
 }
 
 fn play_complaint<'a>(alloc: Global, words: &'a [Word]) -> Result<Option<Complaint<'a>>, AllocError>
-    ensures { IfOk result (Complains words.entry.now (answer_of (kinds_of play words.entry.now) (Ok C.Play) T.Play)) }
+    ensures { IfOk result
+        (Complains words.entry.now (answer_of (kinds_of play words.entry.now) (Ok C.Play) T.Play)) }
 {
     match read_play(alloc, words) {
         Ok(_) => Ok(None),
@@ -100,7 +103,9 @@ fn cells_complaint<'a>(
     alloc: Global,
     words: &'a [Word],
 ) -> Result<Option<Complaint<'a>>, AllocError>
-    ensures { IfOk result (Complains words.entry.now (answer_of (kinds_of cells words.entry.now) (box_said (box_in words.entry.now)) T.Cells)) }
+    ensures { IfOk result
+        (Complains words.entry.now
+        (answer_of (kinds_of cells words.entry.now) (box_said (box_in words.entry.now)) T.Cells)) }
 {
     match read_cells(alloc, words) {
         Ok(given) => Ok(given.complaint()),
@@ -109,7 +114,10 @@ fn cells_complaint<'a>(
 }
 
 fn grow_complaint<'a>(alloc: Global, words: &'a [Word]) -> Result<Option<Complaint<'a>>, AllocError>
-    ensures { IfOk result (Complains words.entry.now (answer_of (kinds_of grow words.entry.now) (Ok (C.Grow (count_of words.entry.now))) T.Grow)) }
+    ensures { IfOk result
+        (Complains words.entry.now
+        (answer_of (kinds_of grow words.entry.now) (Ok (C.Grow (count_of words.entry.now)))
+        T.Grow)) }
 {
     match read_grow(alloc, words) {
         Ok(_) => Ok(None),
@@ -121,7 +129,9 @@ fn check_complaint<'a>(
     alloc: Global,
     words: &'a [Word],
 ) -> Result<Option<Complaint<'a>>, AllocError>
-    ensures { IfOk result (Complains words.entry.now (answer_of (kinds_of check words.entry.now) (Ok C.Check) T.Check)) }
+    ensures { IfOk result
+        (Complains words.entry.now (answer_of (kinds_of check words.entry.now) (Ok C.Check)
+        T.Check)) }
 {
     match read_check(alloc, words) {
         Ok(_) => Ok(None),
@@ -136,7 +146,9 @@ fn mirror_complaint<'a>(
     words: &'a [Word],
 ) -> Result<Option<Complaint<'a>>, AllocError>
     requires { slice_get words.now 0 ≡ Some first.now }
-    ensures { IfOk result (Complains words.entry.now (answer_of (kinds_of mirror words.entry.now) (Err U.Unknown) T.Mirror)) }
+    ensures { IfOk result
+        (Complains words.entry.now (answer_of (kinds_of mirror words.entry.now) (Err U.Unknown)
+        T.Mirror)) }
 {
     match read_mirror(alloc, words) {
         Ok(_) => Ok(Some(Complaint::Unknown(first.as_str()))),
@@ -146,7 +158,8 @@ fn mirror_complaint<'a>(
 
 /// What is wrong where words stand behind one that asks for help or the version.
 fn word_behind<'a>(others: &'a [Word]) -> Option<Complaint<'a>>
-    ensures { (first : Text) (command : Command) → Complains (first ∷ others.entry.now) (alone others.entry.now command) result }
+    ensures { (first : Text) (command : Command)
+        → Complains (first ∷ others.entry.now) (alone others.entry.now command) result }
 {
     match others.first() {
         Some(word) => Some(Complaint::Behind(word.as_str())),

@@ -67,7 +67,8 @@ fn with_word<'a>(
     command: Command<'a>,
     id: &'a str,
 ) -> Result<Command<'a>, AllocError>
-    ensures { IfOk result (λ c. app_of c ≡ with_rule (app_of command.entry) (word_rule id.entry.now)) }
+    ensures { IfOk result (λ c. app_of c ≡ with_rule (app_of command.entry)
+        (word_rule id.entry.now)) }
 {
     let word = Arg::new(alloc, id).required(true).action(ArgAction::Set);
     command.arg(word)
@@ -145,7 +146,8 @@ fn refusal_of(error: Error) -> Refusal
 
 fn play_given<'a>(command: Command<'a>, words: &'a [Word]) -> Result<Option<&'a str>, Refusal>
     requires { app_of command ≡ play }
-    ensures { MatchResult result (λ dir. IsTaken play words.entry.now (option_map (λ s. s.now) dir)) (IsRefused play words.entry.now) }
+    ensures { MatchResult result (λ dir. IsTaken play words.entry.now (option_map (λ s. s.now) dir))
+        (IsRefused play words.entry.now) }
 {
     match command.try_get_matches_from(words) {
         Ok(matches) => Ok(matches.get_str("dir")),
@@ -155,7 +157,9 @@ fn play_given<'a>(command: Command<'a>, words: &'a [Word]) -> Result<Option<&'a 
 
 fn check_given<'a>(command: Command<'a>, words: &'a [Word]) -> Result<Option<&'a str>, Refusal>
     requires { app_of command ≡ check }
-    ensures { MatchResult result (λ dir. IsTaken check words.entry.now (option_map (λ s. s.now) dir)) (IsRefused check words.entry.now) }
+    ensures { MatchResult result
+        (λ dir. IsTaken check words.entry.now (option_map (λ s. s.now) dir))
+        (IsRefused check words.entry.now) }
 {
     match command.try_get_matches_from(words) {
         Ok(matches) => Ok(matches.get_str("dir")),
@@ -212,7 +216,9 @@ fn mirror_given<'a>(command: Command<'a>, words: &'a [Word]) -> Result<MirrorWor
 
 fn grow_given<'a>(command: Command<'a>, words: &'a [Word]) -> Result<GrowWords<'a>, Refusal>
     requires { IsGrow command }
-    ensures { MatchResult result (λ g. IsGrown words.entry.now g.count (option_map (λ s. s.now) g.dir)) (IsRefused grow words.entry.now) }
+    ensures { MatchResult result
+        (λ g. IsGrown words.entry.now g.count (option_map (λ s. s.now) g.dir))
+        (IsRefused grow words.entry.now) }
 {
     match command.try_get_matches_from(words) {
         Ok(matches) => {
@@ -226,7 +232,8 @@ fn grow_given<'a>(command: Command<'a>, words: &'a [Word]) -> Result<GrowWords<'
 
 /// The path that the words of `play` give.
 pub(crate) fn read_play<'a>(alloc: Global, words: &'a [Word]) -> Result<Option<&'a str>, Refusal>
-    ensures { MatchResult result (λ dir. IsTaken play words.entry.now (option_map (λ s. s.now) dir)) (IsRefused play words.entry.now) }
+    ensures { MatchResult result (λ dir. IsTaken play words.entry.now (option_map (λ s. s.now) dir))
+        (IsRefused play words.entry.now) }
 {
     match play_command(alloc) {
         Ok(command) => play_given(command, words),
@@ -236,7 +243,9 @@ pub(crate) fn read_play<'a>(alloc: Global, words: &'a [Word]) -> Result<Option<&
 
 /// The path that the words of `check` give.
 pub(crate) fn read_check<'a>(alloc: Global, words: &'a [Word]) -> Result<Option<&'a str>, Refusal>
-    ensures { MatchResult result (λ dir. IsTaken check words.entry.now (option_map (λ s. s.now) dir)) (IsRefused check words.entry.now) }
+    ensures { MatchResult result
+        (λ dir. IsTaken check words.entry.now (option_map (λ s. s.now) dir))
+        (IsRefused check words.entry.now) }
 {
     match check_command(alloc) {
         Ok(command) => check_given(command, words),
@@ -256,7 +265,9 @@ pub(crate) fn read_cells<'a>(alloc: Global, words: &'a [Word]) -> Result<CellsGi
 
 /// The number and the path that the words of `grow` give.
 pub(crate) fn read_grow<'a>(alloc: Global, words: &'a [Word]) -> Result<GrowWords<'a>, Refusal>
-    ensures { MatchResult result (λ g. IsGrown words.entry.now g.count (option_map (λ s. s.now) g.dir)) (IsRefused grow words.entry.now) }
+    ensures { MatchResult result
+        (λ g. IsGrown words.entry.now g.count (option_map (λ s. s.now) g.dir))
+        (IsRefused grow words.entry.now) }
 {
     match grow_command(alloc) {
         Ok(command) => grow_given(command, words),

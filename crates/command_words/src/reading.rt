@@ -141,7 +141,8 @@ pub(crate) fn name_of(word: &str) -> Option<Name>
 
 /// What clap's refusal of a command's words comes to.
 fn refused(refusal: Refusal, topic: Topic) -> Result<Command, WordsFault>
-    ensures says { (a : App) (words : List Text) (said : TheResult Command UsageFault) → IsRefused a words refusal → IsSaid (answer_of (kinds_of a words) said topic) result }
+    ensures says { (a : App) (words : List Text) (said : TheResult Command UsageFault)
+        → IsRefused a words refusal → IsSaid (answer_of (kinds_of a words) said topic) result }
     ensures range { IfOk result IsInRange }
 {
     match refusal {
@@ -203,14 +204,16 @@ impl<'a> CellsGiven<'a> {
 
     /// The path of the directory, where the four words are words of a script.
     fn dir(self) -> Option<&'a str>
-        ensures { option_map (λ s. s.now) result ≡ dir_beside (box_seen self.entry) (option_map (λ s. s.now) self.entry.dir) }
+        ensures { option_map (λ s. s.now) result ≡ dir_beside (box_seen self.entry)
+            (option_map (λ s. s.now) self.entry.dir) }
     {
         if self.are_ones() { self.dir } else { None }
     }
 }
 
 fn cells_said(alloc: Global, words: &[Word]) -> Result<Command, WordsFault>
-    ensures says { IsSaid (answer_of (kinds_of cells words.now) (box_said (box_in words.now)) Topic.Cells) result }
+    ensures says { IsSaid (answer_of (kinds_of cells words.now) (box_said (box_in words.now))
+        Topic.Cells) result }
     ensures range { IfOk result IsInRange }
 {
     match read_cells(alloc, words) {
@@ -220,7 +223,9 @@ fn cells_said(alloc: Global, words: &[Word]) -> Result<Command, WordsFault>
 }
 
 fn grow_said(alloc: Global, words: &[Word]) -> Result<Command, WordsFault>
-    ensures says { IsSaid (answer_of (kinds_of grow words.now) (Ok (Command.Grow (count_of words.now))) Topic.Grow) result }
+    ensures says { IsSaid
+        (answer_of (kinds_of grow words.now) (Ok (Command.Grow (count_of words.now))) Topic.Grow)
+        result }
     ensures range { IfOk result IsInRange }
 {
     match read_grow(alloc, words) {
@@ -240,7 +245,8 @@ fn check_said(alloc: Global, words: &[Word]) -> Result<Command, WordsFault>
 
 /// A mirror is none of the commands over one store; help on it is said.
 fn mirror_said(alloc: Global, words: &[Word]) -> Result<Command, WordsFault>
-    ensures says { IsSaid (answer_of (kinds_of mirror words.now) (Err UsageFault.Unknown) Topic.Mirror) result }
+    ensures says { IsSaid (answer_of (kinds_of mirror words.now) (Err UsageFault.Unknown)
+        Topic.Mirror) result }
     ensures range { IfOk result IsInRange }
 {
     match read_mirror(alloc, words) {
@@ -289,7 +295,8 @@ pub fn read_words(alloc: Global, words: &[Word]) -> Result<Command, WordsFault>
 
 /// No directory is told where clap refuses the words.
 fn no_dir<'a>(refusal: Refusal) -> Result<Option<&'a str>, AllocError>
-    ensures { (a : App) (words : List Text) (dir : Option Text) → IsRefused a words refusal → IsDirOf a words dir result }
+    ensures { (a : App) (words : List Text) (dir : Option Text) → IsRefused a words refusal
+        → IsDirOf a words dir result }
 {
     match refusal {
         Refusal::NoMemory => Err(AllocError),
@@ -335,7 +342,9 @@ fn check_dir<'a>(alloc: Global, words: &'a [Word]) -> Result<Option<&'a str>, Al
 
 /// The place at this path, or in memory where there is none.
 fn in_dir<'a>(dir: Result<Option<&'a str>, AllocError>) -> Result<Place<'a>, AllocError>
-    ensures path { (said : Option Text) → IfOk dir.entry (λ path. option_map (λ s. s.now) path ≡ said) → IfOk result (λ place. path_of place ≡ said) }
+    ensures path { (said : Option Text)
+        → IfOk dir.entry (λ path. option_map (λ s. s.now) path ≡ said)
+        → IfOk result (λ place. path_of place ≡ said) }
     ensures pair { IfOk result (λ place. paths_of place ≡ None) }
 {
     match dir {
@@ -348,7 +357,8 @@ fn in_dir<'a>(dir: Result<Option<&'a str>, AllocError>) -> Result<Place<'a>, All
 /// No two directories are told where clap refuses the words.
 fn no_pair<'a>(refusal: Refusal) -> Result<Place<'a>, AllocError>
     ensures dir { IfOk result (λ place. path_of place ≡ None) }
-    ensures pair { (a : App) (words : List Text) (pair : Text × Text) → IsRefused a words refusal → IfOk result (λ place. paths_of place ≡ pair_where (kinds_of a words) pair) }
+    ensures pair { (a : App) (words : List Text) (pair : Text × Text) → IsRefused a words refusal
+        → IfOk result (λ place. paths_of place ≡ pair_where (kinds_of a words) pair) }
 {
     match refusal {
         Refusal::NoMemory => Err(AllocError),
@@ -359,7 +369,9 @@ fn no_pair<'a>(refusal: Refusal) -> Result<Place<'a>, AllocError>
 /// The two directories of a mirror.
 fn mirror_pair<'a>(alloc: Global, words: &'a [Word]) -> Result<Place<'a>, AllocError>
     ensures dir { IfOk result (λ place. path_of place ≡ None) }
-    ensures pair { IfOk result (λ place. paths_of place ≡ pair_where (kinds_of mirror words.entry.now) (pair_in words.entry.now)) }
+    ensures pair { IfOk result
+        (λ place. paths_of place ≡ pair_where (kinds_of mirror words.entry.now)
+        (pair_in words.entry.now)) }
 {
     match read_mirror(alloc, words) {
         Ok(pair) => Ok(Place::Pair(pair.from, pair.to)),

@@ -82,7 +82,8 @@ fn as_words(alloc: Global, texts: Args) -> Result<Vec<Word>, AllocError>
 
 /// The words after the program's name, of a program's arguments.
 pub fn words_of(alloc: Global, args: Args) -> Result<Vec<Word>, AllocError>
-    ensures { IfOk result (λ words. words.items ≡ map string_bytes (drop 1 (into_iter_items args))) }
+    ensures { IfOk result
+        (λ words. words.items ≡ map string_bytes (drop 1 (into_iter_items args))) }
 {
     let mut args = args;
     let _name = args.next();

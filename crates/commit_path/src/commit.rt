@@ -109,7 +109,8 @@ fn write_snapshot(
     message: &Text,
 ) -> Result<Bytes, Refusal>
     requires { Ascends (λ (l : TheList). l.path) None news.now }
-    ensures { WritesFile Kind.Snapshot (snapshot_bytes (snap_for session.now message.now news.now id flushed_at)) result }
+    ensures { WritesFile Kind.Snapshot
+        (snapshot_bytes (snap_for session.now message.now news.now id flushed_at)) result }
 {
     match session.as_session().write(id, flushed_at, news, message) {
         Ok(file) => Ok(file),
@@ -205,7 +206,8 @@ impl Commit {
     /// The log comes next, under an id that is drawn.
     fn begin_log(&mut self) -> Result<(), Refusal>
         requires { self.old.state ≡ Committing.Ended }
-        ensures reaches { Reaches (after_arrays self.old.session self.old.message (written_in self.old)) (commit_rest self.new) result }
+        ensures reaches { Reaches (after_arrays self.old.session self.old.message
+            (written_in self.old)) (commit_rest self.new) result }
         ensures falls { commit_left self.new ≤ length self.old.arrays.left * 2 ^ 65 + 3 }
         ensures kept { IsDrawn (session_in self.old) (session_in self.new) }
         ensures drew { DrewOwn result self.new.state self.old.session.ids self.new.session.ids }
@@ -228,7 +230,8 @@ impl Commit {
         requires order { Ascends ref_key None array.refs }
         requires ranks { All (λ r. length r.index ≡ rank) array.refs }
         requires low { All (λ r. IsTrue (are_low r.index)) array.refs }
-        ensures reaches { Reaches (merged_behind self.old.session self.old.message (written_in self.old) self.old.arrays.left (Some array)) (commit_rest self.new) result }
+        ensures reaches { Reaches (merged_behind self.old.session self.old.message
+            (written_in self.old) self.old.arrays.left (Some array)) (commit_rest self.new) result }
         ensures falls { commit_left self.new ≤ length self.old.arrays.left * 2 ^ 65 + 4 }
         ensures kept { IsDrawn (session_in self.old) (session_in self.new) }
         ensures drew { DrewOwn result self.new.state self.old.session.ids self.new.session.ids }
@@ -250,7 +253,9 @@ impl Commit {
     /// none, and the array is done with.
     fn write_array(&mut self, got: &Got) -> Result<bool, Refusal>
         requires ended { self.old.state ≡ Committing.Ended }
-        ensures turns { Turns (got_behind self.old.session self.old.message (written_in self.old) self.old.arrays.left got.now.items) (arrays_behind self.new.session self.new.message (written_in self.new) self.new.arrays.left []) (commit_rest self.new) result }
+        ensures turns { Turns (got_behind self.old.session self.old.message (written_in self.old)
+            self.old.arrays.left got.now.items) (arrays_behind self.new.session self.new.message
+            (written_in self.new) self.new.arrays.left []) (commit_rest self.new) result }
         ensures passes { PassesUnless result self.old self.new }
         ensures falls { commit_left self.new ≤ length self.old.arrays.left * 2 ^ 65 + 4 }
         ensures kept { IsDrawn (session_in self.old) (session_in self.new) }
@@ -279,10 +284,14 @@ impl Commit {
     /// written. Answers whether an operation comes next.
     fn turn(&mut self, got: Got) -> Result<bool, Refusal>
         requires ended { self.old.state ≡ Committing.Ended }
-        ensures turns { Turns (arrays_behind self.old.session self.old.message (written_in self.old) self.old.arrays.left got.items) (arrays_behind self.new.session self.new.message (written_in self.new) self.new.arrays.left []) (commit_rest self.new) result }
+        ensures turns { Turns (arrays_behind self.old.session self.old.message (written_in self.old)
+            self.old.arrays.left got.items) (arrays_behind self.new.session self.new.message
+            (written_in self.new) self.new.arrays.left []) (commit_rest self.new) result }
         ensures passes { PassesUnless result self.old self.new }
-        ensures falls { commit_left self.new ≤ length self.old.arrays.left * 2 ^ 65 + manifests_left self.old.session.rows self.old.arrays.left (length got.items) + 4 }
-        ensures few { manifests_left self.old.session.rows self.old.arrays.left (length got.items) < 2 ^ 64 }
+        ensures falls { commit_left self.new ≤ length self.old.arrays.left * 2 ^ 65 + manifests_left
+            self.old.session.rows self.old.arrays.left (length got.items) + 4 }
+        ensures few { manifests_left self.old.session.rows self.old.arrays.left (length got.items)
+            < 2 ^ 64 }
         ensures kept { IsDrawn (session_in self.old) (session_in self.new) }
         ensures drew { DrewOwn result self.new.state self.old.session.ids self.new.session.ids }
         ensures message { message_in self.new ≡ message_in self.old }
@@ -306,7 +315,8 @@ impl Commit {
     /// Goes on with the arrays that are left, up to the next operation.
     fn go_on(&mut self) -> Result<(), Refusal>
         requires { self.old.state ≡ Committing.Ended }
-        ensures reaches { Reaches (arrays_behind self.old.session self.old.message (written_in self.old) self.old.arrays.left []) (commit_rest self.new) result }
+        ensures reaches { Reaches (arrays_behind self.old.session self.old.message
+            (written_in self.old) self.old.arrays.left []) (commit_rest self.new) result }
         ensures falls { commit_left self.new ≤ length self.old.arrays.left * 2 ^ 65 + 2 ^ 64 + 4 }
         ensures kept { IsDrawn (session_in self.old) (session_in self.new) }
         ensures drew { DrewOwn result self.new.state self.old.session.ids self.new.session.ids }
@@ -330,9 +340,12 @@ impl Commit {
         reply: Reply,
     ) -> Result<Next<Tried>, Refusal>
         requires ended { self.old.state ≡ Committing.Ended }
-        requires awaited { Awaits (old_rest self.old.session self.old.message (written_in self.old) self.old.arrays.left manifest got.items) reply }
-        ensures took { Took (old_rest self.old.session self.old.message (written_in self.old) self.old.arrays.left manifest got.items) reply (commit_rest self.new) result }
-        ensures falls { commit_left self.new < length self.old.arrays.left * 2 ^ 65 + manifests_left self.old.session.rows self.old.arrays.left (length got.items + 1) + 5 }
+        requires awaited { Awaits (old_rest self.old.session self.old.message (written_in self.old)
+            self.old.arrays.left manifest got.items) reply }
+        ensures took { Took (old_rest self.old.session self.old.message (written_in self.old)
+            self.old.arrays.left manifest got.items) reply (commit_rest self.new) result }
+        ensures falls { commit_left self.new < length self.old.arrays.left * 2 ^ 65 + manifests_left
+            self.old.session.rows self.old.arrays.left (length got.items + 1) + 5 }
         ensures kept { IsDrawn (session_in self.old) (session_in self.new) }
         ensures message { message_in self.new ≡ message_in self.old }
         ensures drew { DrewFor result self.new.state self.old.session.ids self.new.session.ids }
@@ -363,7 +376,9 @@ impl Commit {
     #[tactic(auto, using(crate::proofs::Walking::own_commit))]
     fn on_manifest(&mut self, manifest: NewManifest, new: New) -> Result<Next<Tried>, Refusal>
         requires ended { self.old.state ≡ Committing.Ended }
-        ensures took { LandsCalmly (new_behind self.old.session self.old.message (written_in self.old) self.old.arrays.left manifest (Reply.New new)) (commit_rest self.new) result }
+        ensures took { LandsCalmly (new_behind self.old.session self.old.message
+            (written_in self.old) self.old.arrays.left manifest (Reply.New new))
+            (commit_rest self.new) result }
         ensures falls { commit_left self.new < length self.old.arrays.left * 2 ^ 65 + 4 }
         ensures kept { IsDrawn (session_in self.old) (session_in self.new) }
         ensures message { message_in self.new ≡ message_in self.old }
@@ -386,7 +401,8 @@ impl Commit {
     /// The log was put: the snapshot is flushed at the time that the reply tells.
     fn on_log(&mut self, id: Id12, new: New) -> Result<Next<Tried>, Refusal>
         requires { self.old.state ≡ Committing.Ended }
-        ensures took { LandsCalmly (after_log self.old.session self.old.message self.old.arrays.news id self.old.session.ids (Reply.New new)) (commit_rest self.new) result }
+        ensures took { LandsCalmly (after_log self.old.session self.old.message self.old.arrays.news
+            id self.old.session.ids (Reply.New new)) (commit_rest self.new) result }
         ensures falls { commit_left self.new < length self.old.arrays.left * 2 ^ 65 + 3 }
         ensures kept { IsDrawn (session_in self.old) (session_in self.new) }
         ensures message { message_in self.new ≡ message_in self.old }
@@ -412,7 +428,8 @@ impl Commit {
     /// The snapshot was put: the reference's bytes are made, so that nothing behind its put takes memory.
     fn on_snapshot(&mut self, id: Id12, new: New) -> Result<Next<Tried>, Refusal>
         requires { self.old.state ≡ Committing.Ended }
-        ensures took { LandsCalmly (after_snapshot self.old.session id self.old.session.ids (Reply.New new)) (commit_rest self.new) result }
+        ensures took { LandsCalmly (after_snapshot self.old.session id self.old.session.ids
+            (Reply.New new)) (commit_rest self.new) result }
         ensures falls { commit_left self.new < length self.old.arrays.left * 2 ^ 65 + 2 }
         ensures kept { IsDrawn (session_in self.old) (session_in self.new) }
         ensures message { message_in self.new ≡ message_in self.old }
@@ -435,7 +452,8 @@ impl Commit {
     /// The branch was put over, or not.
     fn on_branch(&mut self, id: Id12, over: Over) -> Result<Next<Tried>, Refusal>
         requires { self.old.state ≡ Committing.Ended }
-        ensures took { LandsSurely (after_branch self.old.session id self.old.session.ids (Reply.Over over)) (commit_rest self.new) result }
+        ensures took { LandsSurely (after_branch self.old.session id self.old.session.ids
+            (Reply.Over over)) (commit_rest self.new) result }
         ensures falls { commit_left self.new < length self.old.arrays.left * 2 ^ 65 + 1 }
         ensures kept { IsDrawn (session_in self.old) (session_in self.new) }
         ensures message { message_in self.new ≡ message_in self.old }
@@ -541,8 +559,10 @@ impl Commit {
     /// One operation of the store. Where the put over of the branch fails, the commit is in doubt: it may have been done.
     pub fn step<S: Store>(&mut self, store: &mut S) -> Result<Next<Tried>, Refusal>
         requires live { IsAsk (commit_rest self.old) }
-        requires polite { IsTrue (S.view store.old).caller.tells → NextIsPolite (commit_rest self.old) (S.view store.old).seen }
-        ensures step { Steps (S.view store.old) (S.view store.new) (commit_rest self.old) (commit_rest self.new) result }
+        requires polite { IsTrue (S.view store.old).caller.tells
+            → NextIsPolite (commit_rest self.old) (S.view store.old).seen }
+        ensures step { Steps (S.view store.old) (S.view store.new) (commit_rest self.old)
+            (commit_rest self.new) result }
         ensures falls { commit_left self.new < commit_left self.old }
         ensures session { IsDrawn (session_in self.old) (session_in self.new) }
         ensures message { message_in self.new ≡ message_in self.old }

@@ -46,10 +46,14 @@ pub fn merged(
     array: &ChangedArray,
     got: &Got,
 ) -> Result<Option<ArrayRefs>, AllocError>
-    ensures is { IfOk result (λ refs. refs ≡ merged_array array.now.rank array.now.node got.now.items (chunks_of session.now.held.chunks array.now.node)) }
-    ensures merged { IfOk result (IsMerged array.now.rank array.now.node got.now.items (chunks_of session.now.held.chunks array.now.node)) }
-    ensures ranks { IfOk result (λ refs. IfSome refs (λ a. All (λ r. length r.index ≡ array.now.rank) a.refs)) }
-    ensures low { IfOk result (λ refs. IfSome refs (λ a. All (λ r. IsTrue (are_low r.index)) a.refs)) }
+    ensures is { IfOk result (λ refs. refs ≡ merged_array array.now.rank array.now.node
+        got.now.items (chunks_of session.now.held.chunks array.now.node)) }
+    ensures merged { IfOk result (IsMerged array.now.rank array.now.node got.now.items
+        (chunks_of session.now.held.chunks array.now.node)) }
+    ensures ranks { IfOk result
+        (λ refs. IfSome refs (λ a. All (λ r. length r.index ≡ array.now.rank) a.refs)) }
+    ensures low { IfOk result
+        (λ refs. IfSome refs (λ a. All (λ r. IsTrue (are_low r.index)) a.refs)) }
 {
     let change = session.as_session().chunk_changes(array.node)?;
     // A session's entries lie in grids, so this never comes.

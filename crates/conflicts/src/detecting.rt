@@ -108,7 +108,8 @@ impl<'a, B: TreeLike, U: TreeLike> Sides<'a, B, U> {
         node: Found<'_>,
     ) -> Result<(), AllocError>
         requires { IsTrue (is_path path.now) }
-        ensures { OnOk result (found.new ≡ found.old ++ of_case self.now path.now (node_found node.entry) ChunkDoubleUpdate) }
+        ensures { OnOk result (found.new ≡ found.old ++ of_case self.now path.now
+            (node_found node.entry) ChunkDoubleUpdate) }
     {
         if !is_array(node.meta) {
             return Ok(());
@@ -133,7 +134,8 @@ impl<'a, B: TreeLike, U: TreeLike> Sides<'a, B, U> {
         node: Found<'_>,
     ) -> Result<(), AllocError>
         requires { IsTrue (is_path path.now) }
-        ensures { OnOk result (found.new ≡ found.old ++ of_case self.now path.now (node_found node.entry) case) }
+        ensures { OnOk result (found.new ≡ found.old ++ of_case self.now path.now
+            (node_found node.entry) case) }
     {
         match case {
             Case::ChunkDoubleUpdate => self.push_twice(alloc, found, path, node),
@@ -154,7 +156,9 @@ impl<'a, B: TreeLike, U: TreeLike> Sides<'a, B, U> {
         node: Found<'_>,
     ) -> Result<(), AllocError>
         requires { IsTrue (is_path path.now) }
-        ensures { OnOk result (found.new ≡ found.old ++ flat_map (λ k. of_case self.now path.now (node_found node.entry) k) cases.now) }
+        ensures { OnOk result
+            (found.new ≡ found.old ++ flat_map
+            (λ k. of_case self.now path.now (node_found node.entry) k) cases.now) }
     {
         for case in cases {
             self.push_case(alloc, found, *case, path, node)?;
@@ -171,7 +175,8 @@ impl<'a, B: TreeLike, U: TreeLike> Sides<'a, B, U> {
         node: Found<'_>,
     ) -> Result<(), AllocError>
         requires { IsTrue (is_path path.now) }
-        ensures { OnOk result (found.new ≡ found.old ++ of_row self.now (path.now, node_found node.entry)) }
+        ensures { OnOk result
+            (found.new ≡ found.old ++ of_row self.now (path.now, node_found node.entry)) }
     {
         let cases = [
             Case::ZarrMetadataDoubleUpdate,
@@ -195,8 +200,10 @@ impl<'a, B: TreeLike, U: TreeLike> Sides<'a, B, U> {
         from: usize,
         path: &Path,
     ) -> Result<usize, AllocError>
-        ensures found { OnOk result (found.new ≡ found.old ++ flat_map (of_row self.now) (rows_before path.now (drop from (finmap.entries self.now.before)))) }
-        ensures next { IfOk result (λ next. drop next (finmap.entries self.now.before) ≡ rows_from path.now (drop from (finmap.entries self.now.before))) }
+        ensures found { OnOk result (found.new ≡ found.old ++ flat_map (of_row self.now)
+            (rows_before path.now (drop from (finmap.entries self.now.before)))) }
+        ensures next { IfOk result (λ next. drop next (finmap.entries self.now.before)
+            ≡ rows_from path.now (drop from (finmap.entries self.now.before))) }
     {
         for at in from..self.before.len() {
             let (text, node) = self.before.row(at);
@@ -210,7 +217,8 @@ impl<'a, B: TreeLike, U: TreeLike> Sides<'a, B, U> {
 
     /// Pushes the conflicts of the nodes of the tree before from row number `from` on.
     fn push_rest(&self, alloc: Global, found: &mut Conflicts, from: usize) -> Result<(), AllocError>
-        ensures { OnOk result (found.new ≡ found.old ++ flat_map (of_row self.now) (drop from (finmap.entries self.now.before))) }
+        ensures { OnOk result (found.new ≡ found.old ++ flat_map (of_row self.now)
+            (drop from (finmap.entries self.now.before))) }
     {
         for at in from..self.before.len() {
             let (text, node) = self.before.row(at);
@@ -245,9 +253,18 @@ pub fn detect<B: TreeLike, U: TreeLike>(
     after: &U,
 ) -> Result<Items<Conflict>, AllocError>
     requires { IsOrdered theirs.now }
-    ensures found { IfOk result (λ conflicts. conflicts ≡ found (record { held = mine.now; theirs = theirs.now; before = B.nodes before.now; after = U.nodes after.now })) }
+    ensures found { IfOk result
+        (λ conflicts. conflicts
+        ≡ found (record {
+          held = mine.now;
+          theirs = theirs.now;
+          before = B.nodes before.now;
+          after =
+              U.nodes after.now;
+        })) }
     ensures order { IfOk result Ascend }
-    ensures exactly { IfOk result (λ conflicts. (bytes_at : Place → Option (List ℕ)) (t u : Tree) (x : TheConflict) → t.nodes ≡ B.nodes before.now → u.nodes ≡ U.nodes after.now
+    ensures exactly { IfOk result (λ conflicts. (bytes_at : Place → Option (List ℕ)) (t u : Tree)
+        (x : TheConflict) → t.nodes ≡ B.nodes before.now → u.nodes ≡ U.nodes after.now
         → Contains conflicts x ↔ IsConflict (changes_of bytes_at mine.now) theirs.now t u x.case x.path x.index) }
 {
     Sides::new(alloc, mine, theirs, before, after)?.found(alloc)

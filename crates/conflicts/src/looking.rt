@@ -44,7 +44,8 @@ fn has_id(id: Id8, found: Option<Found<'_>>) -> bool
 
 /// Whether two nodes were found, and both have one id.
 fn same_node(found: Option<Found<'_>>, other: Option<Found<'_>>) -> bool
-    ensures { result ≡ same_node (option_map node_found found.entry) (option_map node_found other.entry) }
+    ensures { result ≡ same_node (option_map node_found found.entry)
+        (option_map node_found other.entry) }
 {
     match found {
         Some(found) => has_id(found.id, other),
@@ -106,7 +107,8 @@ fn any_begins(texts: &[&str], folder: &str) -> bool
 impl<'a, B: TreeLike, U: TreeLike> Sides<'a, B, U> {
     /// Whether the later tree has a node at the path of this text that we dropped.
     fn is_dropped(&self, path: &str) -> bool
-        ensures { result ≡ is_dropped (lists self.now.held.dropped) (finmap.get self.now.after path.now) }
+        ensures { result ≡ is_dropped (lists self.now.held.dropped)
+            (finmap.get self.now.after path.now) }
     {
         match self.after.find(path) {
             Some(found) => self.dropped.contains(&found.id),
@@ -194,7 +196,8 @@ impl<'a, B: TreeLike, U: TreeLike> Sides<'a, B, U> {
         path: &str,
         node: Found<'_>,
     ) -> Result<bool, AllocError>
-        ensures { IfOk result (λ answer. answer ≡ holds DeleteOfUpdatedGroup self.now path.now (node_found node.entry)) }
+        ensures { IfOk result (λ answer. answer ≡ holds DeleteOfUpdatedGroup self.now path.now
+            (node_found node.entry)) }
     {
         if !is_group(node.meta) || !self.takes_away(path, node.id) {
             return Ok(false);
@@ -213,7 +216,8 @@ impl<'a, B: TreeLike, U: TreeLike> Sides<'a, B, U> {
         path: &str,
         node: Found<'_>,
     ) -> Result<bool, AllocError>
-        ensures { IfOk result (λ answer. answer ≡ holds case self.now path.now (node_found node.entry)) }
+        ensures { IfOk result (λ answer. answer ≡ holds case self.now path.now
+            (node_found node.entry)) }
     {
         let id = &node.id;
         match case {

@@ -48,7 +48,8 @@ impl<'a, B: TreeLike, U: TreeLike> Model for Sides<'a, B, U> {
 
 /// The ids of the arrays of chunks.
 fn arrays_of(alloc: Global, chunks: &[ChunkKey]) -> Result<IdSet, AllocError>
-    ensures { IfOk result (λ set. (id : TheId) → lists set id ≡ list_any (λ key. same_id8 key.0 id) chunks.now) }
+    ensures { IfOk result (λ set. (id : TheId) → lists set id ≡ list_any (λ key. same_id8 key.0 id)
+        chunks.now) }
 {
     let mut set = IdSet::new(alloc);
     for (id, _) in chunks {
@@ -67,9 +68,12 @@ struct OwnSets {
 
 /// The nodes of keys that are dropped, those with other metadata, and the arrays of chunks.
 fn sets_of(alloc: Global, keys: &ChangeKeys) -> Result<OwnSets, AllocError>
-    ensures dropped { IfOk result (λ sets. (id : TheId) → lists sets.dropped id ≡ lists keys.now.dropped id) }
-    ensures metas { IfOk result (λ sets. (id : TheId) → lists sets.metas id ≡ lists keys.now.metas id) }
-    ensures arrays { IfOk result (λ sets. (id : TheId) → lists sets.arrays id ≡ list_any (λ key. same_id8 key.0 id) keys.now.chunks) }
+    ensures dropped { IfOk result (λ sets. (id : TheId)
+        → lists sets.dropped id ≡ lists keys.now.dropped id) }
+    ensures metas { IfOk result (λ sets. (id : TheId) → lists sets.metas id ≡ lists keys.now.metas
+        id) }
+    ensures arrays { IfOk result (λ sets. (id : TheId)
+        → lists sets.arrays id ≡ list_any (λ key. same_id8 key.0 id) keys.now.chunks) }
 {
     let dropped = set_of(alloc, keys.dropped.as_slice())?;
     let metas = set_of(alloc, keys.metas.as_slice())?;
@@ -88,7 +92,8 @@ fn push_new<'a>(
     path: &'a str,
     id: &Id8,
 ) -> Result<(), AllocError>
-    ensures { OnOk result (map (λ text. text.now) news.new.items ≡ map (λ text. text.now) news.old.items ++ (if lists_new theirs.now id.now then path.entry.now ∷ [] else [])) }
+    ensures { OnOk result (map (λ text. text.now) news.new.items ≡ map (λ text. text.now)
+        news.old.items ++ (if lists_new theirs.now id.now then path.entry.now ∷ [] else [])) }
 {
     if theirs.is_new(id) {
         news.push(path)?;
@@ -102,7 +107,8 @@ fn new_paths<'a, U: TreeLike>(
     theirs: &HeldLists,
     after: &'a U,
 ) -> Result<Vec<&'a str>, AllocError>
-    ensures { IfOk result (λ news. map (λ text. text.now) news.items ≡ map (λ row. row.0) (new_rows theirs.now (U.nodes after.now))) }
+    ensures { IfOk result (λ news. map (λ text. text.now) news.items ≡ map (λ row. row.0)
+        (new_rows theirs.now (U.nodes after.now))) }
 {
     let mut news = Vec::new(alloc);
     for at in 0..after.len() {
@@ -122,7 +128,13 @@ impl<'a, B: TreeLike, U: TreeLike> Sides<'a, B, U> {
         after: &'a U,
     ) -> Result<Sides<'a, B, U>, AllocError>
         requires { IsOrdered theirs.now }
-        ensures { IfOk result (λ s. s ≡ record { held = mine.now; theirs = theirs.now; before = B.nodes before.now; after = U.nodes after.now }) }
+        ensures { IfOk result
+            (λ s. s ≡ record {
+              held = mine.now;
+              theirs = theirs.now;
+              before = B.nodes before.now;
+              after = U.nodes after.now;
+            }) }
     {
         let news = new_paths(alloc, theirs, after)?;
         let keys = mine.keys(alloc)?;

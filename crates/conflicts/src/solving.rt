@@ -98,7 +98,8 @@ fn push_given(
     pick: Pick,
     conflict: &Conflict,
 ) -> Result<(), AllocError>
-    ensures { OnOk result (given.new ≡ given.old ++ given_by pick conflict.now.case conflict.now.path conflict.now.index) }
+    ensures { OnOk result (given.new ≡ given.old ++ given_by pick conflict.now.case
+        conflict.now.path conflict.now.index) }
 {
     match (pick, conflict.case, &conflict.index) {
         (Pick::Theirs, Case::ChunkDoubleUpdate, Some(index)) => {
@@ -130,7 +131,8 @@ fn push_key<T: TreeLike>(
     tree: &T,
     place: &ChunkPlace,
 ) -> Result<(), AllocError>
-    ensures { OnOk result (keys.new ≡ keys.old ++ key_at (finmap.get (T.nodes tree.now) place.now.0) place.now.1) }
+    ensures { OnOk result (keys.new ≡ keys.old ++ key_at (finmap.get (T.nodes tree.now) place.now.0)
+        place.now.1) }
 {
     match tree.find(place.0.as_str()) {
         Some(found) => keys.push((found.id, place.1.copy(alloc)?)),

@@ -82,7 +82,8 @@ fn flush_part<F: Folder>(
 ) -> Result<(), FileFault>
     ensures files { IsTrue F.tells → SameFiles (F.files tree.old) (F.files tree.new) }
     ensures loose { IsTrue F.tells → NoLooser (F.loose tree.old) (F.loose tree.new) }
-    ensures left { IsTrue F.tells → Leaves (IsKept (F.files tree.old)) (F.left tree.old) (F.left tree.new) }
+    ensures left { IsTrue F.tells → Leaves (IsKept (F.files tree.old)) (F.left tree.old)
+        (F.left tree.new) }
 {
     let path = path_in(alloc, folder, name)?;
     if let Some(seen) = folder_at(tree, path.as_str())? {
@@ -95,7 +96,8 @@ fn flush_part<F: Folder>(
 fn flush_folders<F: Folder>(tree: &mut F, alloc: Global, folder: &str) -> Result<(), FileFault>
     ensures files { IsTrue F.tells → SameFiles (F.files tree.old) (F.files tree.new) }
     ensures loose { IsTrue F.tells → NoLooser (F.loose tree.old) (F.loose tree.new) }
-    ensures left { IsTrue F.tells → Leaves (IsKept (F.files tree.old)) (F.left tree.old) (F.left tree.new) }
+    ensures left { IsTrue F.tells → Leaves (IsKept (F.files tree.old)) (F.left tree.old)
+        (F.left tree.new) }
 {
     let Some(names) = names_in(tree, alloc, folder)? else {
         return Ok(());
@@ -111,7 +113,8 @@ fn flush_folders<F: Folder>(tree: &mut F, alloc: Global, folder: &str) -> Result
 pub(crate) fn flush_all<F: Folder>(tree: &mut F, alloc: Global, root: &str) -> Result<(), FileFault>
     ensures files { IsTrue F.tells → SameFiles (F.files tree.old) (F.files tree.new) }
     ensures loose { IsTrue F.tells → NoLooser (F.loose tree.old) (F.loose tree.new) }
-    ensures left { IsTrue F.tells → Leaves (IsKept (F.files tree.old)) (F.left tree.old) (F.left tree.new) }
+    ensures left { IsTrue F.tells → Leaves (IsKept (F.files tree.old)) (F.left tree.old)
+        (F.left tree.new) }
 {
     let refs = path_in(alloc, root, "refs")?;
     flush_folders(tree, alloc, refs.as_str())?;

@@ -101,8 +101,11 @@ impl<F: Folder> Directory<F> {
 
     /// The path of an object.
     pub(crate) fn path(&self, key: &Key) -> Result<String, StoreFault>
-        ensures path { MatchResult result (λ path. string_bytes path ≡ path_in (root_of self.now.places) key.now) (λ fault. fault ≡ StoreFault.NoMemory) }
-        ensures outside { IfOk result (λ path. IsOutside (asides_of self.now.places) (string_bytes path)) }
+        ensures path { MatchResult result
+            (λ path. string_bytes path ≡ path_in (root_of self.now.places) key.now)
+            (λ fault. fault ≡ StoreFault.NoMemory) }
+        ensures outside { IfOk result (λ path. IsOutside (asides_of self.now.places)
+            (string_bytes path)) }
     {
         or_no_memory(path_of(self.alloc, self.places.root(), key))
     }
@@ -146,7 +149,8 @@ impl<F: Folder> Directory<F> {
         ensures files { IsTrue F.tells → SameFiles (F.files self.old.tree) (F.files self.new.tree) }
         ensures loose { IsTrue F.tells → NoLooser (F.loose self.old.tree) (F.loose self.new.tree) }
         ensures places { self.new.places ≡ self.old.places }
-        ensures left { IsTrue F.tells → Leaves (IsKept (F.files self.old.tree)) (F.left self.old.tree) (F.left self.new.tree) }
+        ensures left { IsTrue F.tells → Leaves (IsKept (F.files self.old.tree))
+            (F.left self.old.tree) (F.left self.new.tree) }
     {
         if !self.settled {
             flush_all(&mut self.tree, self.alloc, self.places.root())?;
@@ -162,11 +166,18 @@ impl<F: Folder> Directory<F> {
         bytes: &[u8],
     ) -> Result<Option<u64>, FileFault>
         requires { IsOutside (asides_of self.old.places) path.now }
-        ensures made { IsTrue F.tells → Makes putting bytes.now (F.files self.old.tree path.now) (F.files self.new.tree path.now) result }
-        ensures files { IsTrue F.tells → OnlyAt (asides_of self.old.places) path.now (F.files self.old.tree) (F.files self.new.tree) }
-        ensures firm { IsTrue F.tells → OnOk result (LooserAside (asides_of self.old.places) (F.loose self.old.tree) (F.loose self.new.tree)) }
+        ensures made { IsTrue F.tells → Makes putting bytes.now (F.files self.old.tree path.now)
+            (F.files self.new.tree path.now) result }
+        ensures files { IsTrue F.tells → OnlyAt (asides_of self.old.places) path.now
+            (F.files self.old.tree) (F.files self.new.tree) }
+        ensures firm { IsTrue F.tells
+            → OnOk result (LooserAside (asides_of self.old.places) (F.loose self.old.tree)
+            (F.loose self.new.tree)) }
         ensures places { self.new.places ≡ self.old.places }
-        ensures left { IsTrue F.tells → Leaves (IsLeft (asides_of self.old.places) path.now (IsNew bytes.now (F.files self.old.tree path.now)) (F.files self.old.tree)) (F.left self.old.tree) (F.left self.new.tree) }
+        ensures left { IsTrue F.tells
+            → Leaves (IsLeft (asides_of self.old.places) path.now
+            (IsNew bytes.now (F.files self.old.tree path.now)) (F.files self.old.tree))
+            (F.left self.old.tree) (F.left self.new.tree) }
     {
         self.settle()?;
         make_file(
@@ -187,12 +198,20 @@ impl<F: Folder> Directory<F> {
         old: u64,
     ) -> Result<Change, FileFault>
         requires { IsOutside (asides_of self.old.places) path.now }
-        ensures replaced { IsTrue F.tells → Replaces putting bytes.now old (F.files self.old.tree path.now) (F.files self.new.tree path.now) result }
+        ensures replaced { IsTrue F.tells
+            → Replaces putting bytes.now old (F.files self.old.tree path.now)
+            (F.files self.new.tree path.now) result }
         ensures moved { IfOk result (IsMoved old) }
-        ensures files { IsTrue F.tells → OnlyAt (asides_of self.old.places) path.now (F.files self.old.tree) (F.files self.new.tree) }
-        ensures firm { IsTrue F.tells → OnOk result (LooserAside (asides_of self.old.places) (F.loose self.old.tree) (F.loose self.new.tree)) }
+        ensures files { IsTrue F.tells → OnlyAt (asides_of self.old.places) path.now
+            (F.files self.old.tree) (F.files self.new.tree) }
+        ensures firm { IsTrue F.tells
+            → OnOk result (LooserAside (asides_of self.old.places) (F.loose self.old.tree)
+            (F.loose self.new.tree)) }
         ensures places { self.new.places ≡ self.old.places }
-        ensures left { IsTrue F.tells → Leaves (IsLeft (asides_of self.old.places) path.now (IsOver putting bytes.now old (F.files self.old.tree path.now)) (F.files self.old.tree)) (F.left self.old.tree) (F.left self.new.tree) }
+        ensures left { IsTrue F.tells
+            → Leaves (IsLeft (asides_of self.old.places) path.now
+            (IsOver putting bytes.now old (F.files self.old.tree path.now)) (F.files self.old.tree))
+            (F.left self.old.tree) (F.left self.new.tree) }
     {
         self.settle()?;
         replace_file(
@@ -207,11 +226,16 @@ impl<F: Folder> Directory<F> {
     }
 
     fn try_remove(&mut self, path: &str) -> Result<bool, FileFault>
-        ensures removed { IsTrue F.tells → Removed (F.files self.old.tree path.now) (F.files self.new.tree path.now) result }
-        ensures files { IsTrue F.tells → SameBut path.now (F.files self.old.tree) (F.files self.new.tree) }
-        ensures firm { IsTrue F.tells → OnOk result (NoLooser (F.loose self.old.tree) (F.loose self.new.tree)) }
+        ensures removed { IsTrue F.tells → Removed (F.files self.old.tree path.now)
+            (F.files self.new.tree path.now) result }
+        ensures files { IsTrue F.tells → SameBut path.now (F.files self.old.tree)
+            (F.files self.new.tree) }
+        ensures firm { IsTrue F.tells
+            → OnOk result (NoLooser (F.loose self.old.tree) (F.loose self.new.tree)) }
         ensures places { self.new.places ≡ self.old.places }
-        ensures left { IsTrue F.tells → Leaves (IsChanged path.now (λ f. f ≡ None) (F.files self.old.tree)) (F.left self.old.tree) (F.left self.new.tree) }
+        ensures left { IsTrue F.tells
+            → Leaves (IsChanged path.now (λ f. f ≡ None) (F.files self.old.tree))
+            (F.left self.old.tree) (F.left self.new.tree) }
     {
         self.settle()?;
         Ok(remove_file(&mut self.tree, self.places.root(), path)?)
@@ -223,12 +247,18 @@ impl<F: Folder> Directory<F> {
         path: &str,
         old: u64,
     ) -> Result<Change, FileFault>
-        ensures removed { IsTrue F.tells → RemovedVersion putting old (F.files self.old.tree path.now) (F.files self.new.tree path.now) result }
+        ensures removed { IsTrue F.tells
+            → RemovedVersion putting old (F.files self.old.tree path.now)
+            (F.files self.new.tree path.now) result }
         ensures moved { IfOk result (IsMoved old) }
-        ensures files { IsTrue F.tells → SameBut path.now (F.files self.old.tree) (F.files self.new.tree) }
-        ensures firm { IsTrue F.tells → OnOk result (NoLooser (F.loose self.old.tree) (F.loose self.new.tree)) }
+        ensures files { IsTrue F.tells → SameBut path.now (F.files self.old.tree)
+            (F.files self.new.tree) }
+        ensures firm { IsTrue F.tells
+            → OnOk result (NoLooser (F.loose self.old.tree) (F.loose self.new.tree)) }
         ensures places { self.new.places ≡ self.old.places }
-        ensures left { IsTrue F.tells → Leaves (IsChanged path.now (IsGone putting old (F.files self.old.tree path.now)) (F.files self.old.tree)) (F.left self.old.tree) (F.left self.new.tree) }
+        ensures left { IsTrue F.tells
+            → Leaves (IsChanged path.now (IsGone putting old (F.files self.old.tree path.now))
+            (F.files self.old.tree)) (F.left self.old.tree) (F.left self.new.tree) }
     {
         self.settle()?;
         Ok(remove_version(&mut self.tree, self.places.root(), putting, path, old)?)
@@ -236,7 +266,8 @@ impl<F: Folder> Directory<F> {
 
     /// The bytes of the file at this path, if one is there.
     pub(crate) fn read(&mut self, path: String) -> Result<Option<Bytes>, StoreFault>
-        ensures read { IsTrue F.tells → IfOk result (λ found. found ≡ bytes_at (F.files self.old.tree (string_bytes path))) }
+        ensures read { IsTrue F.tells
+            → IfOk result (λ found. found ≡ bytes_at (F.files self.old.tree (string_bytes path))) }
         ensures tree { self.new.tree ≡ self.old.tree }
         ensures places { self.new.places ≡ self.old.places }
     {
@@ -252,11 +283,20 @@ impl<F: Folder> Directory<F> {
         bytes: &[u8],
     ) -> Result<Option<u64>, StoreFault>
         requires { IsOutside (asides_of self.old.places) (string_bytes path) }
-        ensures made { IsTrue F.tells → Through (Makes (putting_of key.now) bytes.now (F.files self.old.tree (string_bytes path)) (F.files self.new.tree (string_bytes path))) result }
-        ensures files { IsTrue F.tells → OnlyAt (asides_of self.old.places) (string_bytes path) (F.files self.old.tree) (F.files self.new.tree) }
-        ensures firm { IsTrue F.tells → OnOk result (LooserAside (asides_of self.old.places) (F.loose self.old.tree) (F.loose self.new.tree)) }
+        ensures made { IsTrue F.tells
+            → Through
+            (Makes (putting_of key.now) bytes.now (F.files self.old.tree (string_bytes path))
+            (F.files self.new.tree (string_bytes path))) result }
+        ensures files { IsTrue F.tells → OnlyAt (asides_of self.old.places) (string_bytes path)
+            (F.files self.old.tree) (F.files self.new.tree) }
+        ensures firm { IsTrue F.tells
+            → OnOk result (LooserAside (asides_of self.old.places) (F.loose self.old.tree)
+            (F.loose self.new.tree)) }
         ensures places { self.new.places ≡ self.old.places }
-        ensures left { IsTrue F.tells → Leaves (IsLeft (asides_of self.old.places) (string_bytes path) (IsNew bytes.now (F.files self.old.tree (string_bytes path))) (F.files self.old.tree)) (F.left self.old.tree) (F.left self.new.tree) }
+        ensures left { IsTrue F.tells
+            → Leaves (IsLeft (asides_of self.old.places) (string_bytes path)
+            (IsNew bytes.now (F.files self.old.tree (string_bytes path))) (F.files self.old.tree))
+            (F.left self.old.tree) (F.left self.new.tree) }
     {
         let made = self.try_make(putting_of(key), path.as_str(), bytes);
         self.noted(path, made)
@@ -272,11 +312,20 @@ impl<F: Folder> Directory<F> {
     ) -> Result<Change, StoreFault>
         requires { IsOutside (asides_of self.old.places) (string_bytes path) }
         ensures moved { IfOk result (IsMoved old) }
-        ensures replaced { IsTrue F.tells → Through (Replaces (putting_of key.now) bytes.now old (F.files self.old.tree (string_bytes path)) (F.files self.new.tree (string_bytes path))) result }
-        ensures files { IsTrue F.tells → OnlyAt (asides_of self.old.places) (string_bytes path) (F.files self.old.tree) (F.files self.new.tree) }
-        ensures firm { IsTrue F.tells → OnOk result (LooserAside (asides_of self.old.places) (F.loose self.old.tree) (F.loose self.new.tree)) }
+        ensures replaced { IsTrue F.tells
+            → Through (Replaces (putting_of key.now) bytes.now old
+            (F.files self.old.tree (string_bytes path)) (F.files self.new.tree (string_bytes path)))
+            result }
+        ensures files { IsTrue F.tells → OnlyAt (asides_of self.old.places) (string_bytes path)
+            (F.files self.old.tree) (F.files self.new.tree) }
+        ensures firm { IsTrue F.tells
+            → OnOk result (LooserAside (asides_of self.old.places) (F.loose self.old.tree)
+            (F.loose self.new.tree)) }
         ensures places { self.new.places ≡ self.old.places }
-        ensures left { IsTrue F.tells → Leaves (IsLeft (asides_of self.old.places) (string_bytes path) (IsOver (putting_of key.now) bytes.now old (F.files self.old.tree (string_bytes path))) (F.files self.old.tree)) (F.left self.old.tree) (F.left self.new.tree) }
+        ensures left { IsTrue F.tells
+            → Leaves (IsLeft (asides_of self.old.places) (string_bytes path)
+            (IsOver (putting_of key.now) bytes.now old (F.files self.old.tree (string_bytes path)))
+            (F.files self.old.tree)) (F.left self.old.tree) (F.left self.new.tree) }
     {
         let replaced = self.try_replace(putting_of(key), path.as_str(), bytes, old);
         self.noted(path, replaced)
@@ -284,11 +333,17 @@ impl<F: Folder> Directory<F> {
 
     /// Removes a file, and tells whether one was there.
     pub(crate) fn remove(&mut self, path: String) -> Result<bool, StoreFault>
-        ensures removed { IsTrue F.tells → Through (Removed (F.files self.old.tree (string_bytes path)) (F.files self.new.tree (string_bytes path))) result }
-        ensures files { IsTrue F.tells → SameBut (string_bytes path) (F.files self.old.tree) (F.files self.new.tree) }
-        ensures firm { IsTrue F.tells → OnOk result (NoLooser (F.loose self.old.tree) (F.loose self.new.tree)) }
+        ensures removed { IsTrue F.tells
+            → Through (Removed (F.files self.old.tree (string_bytes path))
+            (F.files self.new.tree (string_bytes path))) result }
+        ensures files { IsTrue F.tells → SameBut (string_bytes path) (F.files self.old.tree)
+            (F.files self.new.tree) }
+        ensures firm { IsTrue F.tells
+            → OnOk result (NoLooser (F.loose self.old.tree) (F.loose self.new.tree)) }
         ensures places { self.new.places ≡ self.old.places }
-        ensures left { IsTrue F.tells → Leaves (IsChanged (string_bytes path) (λ f. f ≡ None) (F.files self.old.tree)) (F.left self.old.tree) (F.left self.new.tree) }
+        ensures left { IsTrue F.tells
+            → Leaves (IsChanged (string_bytes path) (λ f. f ≡ None) (F.files self.old.tree))
+            (F.left self.old.tree) (F.left self.new.tree) }
     {
         let removed = self.try_remove(path.as_str());
         self.noted(path, removed)
@@ -302,11 +357,20 @@ impl<F: Folder> Directory<F> {
         old: u64,
     ) -> Result<Change, StoreFault>
         ensures moved { IfOk result (IsMoved old) }
-        ensures removed { IsTrue F.tells → Through (RemovedVersion (putting_of key.now) old (F.files self.old.tree (string_bytes path)) (F.files self.new.tree (string_bytes path))) result }
-        ensures files { IsTrue F.tells → SameBut (string_bytes path) (F.files self.old.tree) (F.files self.new.tree) }
-        ensures firm { IsTrue F.tells → OnOk result (NoLooser (F.loose self.old.tree) (F.loose self.new.tree)) }
+        ensures removed { IsTrue F.tells
+            → Through
+            (RemovedVersion (putting_of key.now) old (F.files self.old.tree (string_bytes path))
+            (F.files self.new.tree (string_bytes path))) result }
+        ensures files { IsTrue F.tells → SameBut (string_bytes path) (F.files self.old.tree)
+            (F.files self.new.tree) }
+        ensures firm { IsTrue F.tells
+            → OnOk result (NoLooser (F.loose self.old.tree) (F.loose self.new.tree)) }
         ensures places { self.new.places ≡ self.old.places }
-        ensures left { IsTrue F.tells → Leaves (IsChanged (string_bytes path) (IsGone (putting_of key.now) old (F.files self.old.tree (string_bytes path))) (F.files self.old.tree)) (F.left self.old.tree) (F.left self.new.tree) }
+        ensures left { IsTrue F.tells
+            → Leaves
+            (IsChanged (string_bytes path)
+            (IsGone (putting_of key.now) old (F.files self.old.tree (string_bytes path)))
+            (F.files self.old.tree)) (F.left self.old.tree) (F.left self.new.tree) }
     {
         let removed = self.try_remove_version(putting_of(key), path.as_str(), old);
         self.noted(path, removed)
@@ -315,7 +379,9 @@ impl<F: Folder> Directory<F> {
     /// The objects of a part, in the order of listings.
     pub(crate) fn list(&mut self, part: Part) -> Result<Entries, StoreFault>
         ensures listed { IfOk result (IsListed part) }
-        ensures all { IsTrue F.tells → IfOk result (ListsAll (object_at (F.files self.old.tree) (root_of self.old.places)) part) }
+        ensures all { IsTrue F.tells
+            → IfOk result (ListsAll (object_at (F.files self.old.tree) (root_of self.old.places))
+            part) }
         ensures tree { self.new.tree ≡ self.old.tree }
         ensures places { self.new.places ≡ self.old.places }
     {

@@ -54,7 +54,8 @@ impl From<FileFault> for OpenFault {
 
 /// Want of memory.
 pub(crate) fn in_memory<T>(made: Result<T, AllocError>) -> Result<T, FileFault>
-    ensures value { MatchResult result (λ value. made ≡ Ok value) (λ fault. fault ≡ FileFault.NoMemory) }
+    ensures value { MatchResult result (λ value. made ≡ Ok value)
+        (λ fault. fault ≡ FileFault.NoMemory) }
 {
     match made {
         Ok(value) => Ok(value),

@@ -77,7 +77,8 @@ fn joined(alloc: Global, folder: &str, name: &str) -> Result<String, AllocError>
 
 /// What was seen of a file, as its measures.
 fn measures_of(seen: Option<Seen>) -> Option<Measures>
-    ensures { (file : Option Stored) → IsFileSeen file seen → MatchOption result (file ≡ None) (λ measures. IsMeasuredBy measures file) }
+    ensures { (file : Option Stored) → IsFileSeen file seen
+        → MatchOption result (file ≡ None) (λ measures. IsMeasuredBy measures file) }
 {
     match seen {
         Some(seen) => Some(Measures {
@@ -95,7 +96,8 @@ fn seen_at<F: Folder>(
     root: &str,
     key: &Key,
 ) -> Result<Option<Seen>, ListFault>
-    ensures { IsTrue F.tells → IfOk result (IsFileSeen (F.files tree.now (path_in root.now key.now))) }
+    ensures { IsTrue F.tells
+        → IfOk result (IsFileSeen (F.files tree.now (path_in root.now key.now))) }
 {
     let path = in_memory(path_of(alloc, root, key))?;
     let found = tree.file(path.as_str());
@@ -111,7 +113,10 @@ fn measures_at<F: Folder>(
     key: &Key,
 ) -> Result<Option<Measures>, ListFault>
     ensures of { IfOk result (λ found. IfSome found (λ measures. part_of key.now ≡ part)) }
-    ensures right { IsTrue F.tells → IfOk result (λ found. MatchOption found (part_of key.now ≡ part → F.files tree.now (path_in root.now key.now) ≡ None) (λ measures. IsMeasuredBy measures (F.files tree.now (path_in root.now key.now)))) }
+    ensures right { IsTrue F.tells
+        → IfOk result (λ found. MatchOption found (part_of key.now ≡ part
+        → F.files tree.now (path_in root.now key.now) ≡ None)
+        (λ measures. IsMeasuredBy measures (F.files tree.now (path_in root.now key.now)))) }
 {
     if key.part() != part {
         return Ok(None);
@@ -132,7 +137,8 @@ fn add_key<F: Folder>(
     requires right { IsTrue F.tells → AllRight (F.files tree.now) root.now found.old }
     ensures of { IsOfPart part found.new }
     ensures right { IsTrue F.tells → AllRight (F.files tree.now) root.now found.new }
-    ensures adds { IsTrue F.tells → OnOk result (AddsKey (F.files tree.now) root.now part key found.old found.new) }
+    ensures adds { IsTrue F.tells
+        → OnOk result (AddsKey (F.files tree.now) root.now part key found.old found.new) }
 {
     let Some(measures) = measures_at(tree, alloc, root, part, &key)? else {
         return Ok(());
@@ -156,7 +162,8 @@ fn add_file<F: Folder>(
     requires right { IsTrue F.tells → AllRight (F.files tree.now) root.now found.old }
     ensures of { IsOfPart part found.new }
     ensures right { IsTrue F.tells → AllRight (F.files tree.now) root.now found.new }
-    ensures adds { IsTrue F.tells → OnOk result (AddsName (F.files tree.now) root.now part name.now found.old found.new) }
+    ensures adds { IsTrue F.tells
+        → OnOk result (AddsName (F.files tree.now) root.now part name.now found.old found.new) }
 {
     match in_memory(key_of(alloc, name))? {
         Some(key) => add_key(tree, alloc, root, part, key, found),
@@ -178,7 +185,10 @@ fn add_in<F: Folder>(
     requires right { IsTrue F.tells → AllRight (F.files tree.now) root.now found.old }
     ensures of { IsOfPart part found.new }
     ensures right { IsTrue F.tells → AllRight (F.files tree.now) root.now found.new }
-    ensures adds { IsTrue F.tells → OnOk result (AddsName (F.files tree.now) root.now part (folder.now ++ codes "/" ++ name.now) found.old found.new) }
+    ensures adds { IsTrue F.tells
+        → OnOk result
+        (AddsName (F.files tree.now) root.now part (folder.now ++ codes "/" ++ name.now) found.old
+        found.new) }
 {
     let path = in_memory(joined(alloc, folder, name))?;
     add_file(tree, alloc, root, part, path.as_str(), found)
@@ -197,7 +207,9 @@ fn add_refs<F: Folder>(
     requires right { IsTrue F.tells → AllRight (F.files tree.now) root.now found.old }
     ensures of { IsOfPart part found.new }
     ensures right { IsTrue F.tells → AllRight (F.files tree.now) root.now found.new }
-    ensures adds { IsTrue F.tells → OnOk result (AddsTwo (F.files tree.now) root.now part (folder.now ++ codes "/ref.json") (folder.now ++ codes "/ref.json.deleted") found.old found.new) }
+    ensures adds { IsTrue F.tells
+        → OnOk result (AddsTwo (F.files tree.now) root.now part (folder.now ++ codes "/ref.json")
+        (folder.now ++ codes "/ref.json.deleted") found.old found.new) }
 {
     add_in(tree, alloc, root, part, folder, "ref.json", found)?;
     add_in(tree, alloc, root, part, folder, "ref.json.deleted", found)
@@ -216,7 +228,9 @@ fn add_found<F: Folder>(
     requires right { IsTrue F.tells → AllRight (F.files tree.now) root.now found.old }
     ensures of { IsOfPart part found.new }
     ensures right { IsTrue F.tells → AllRight (F.files tree.now) root.now found.new }
-    ensures adds { IsTrue F.tells → OnOk result (AddsEntry (F.files tree.now) root.now part file_name.now found.old found.new) }
+    ensures adds { IsTrue F.tells
+        → OnOk result (AddsEntry (F.files tree.now) root.now part file_name.now found.old
+        found.new) }
 {
     let path = in_memory(joined(alloc, folder_of(part), file_name))?;
     match part {
@@ -235,7 +249,8 @@ fn found_in<F: Folder>(
 ) -> Result<Found, ListFault>
     ensures of { IfOk result (IsOfPart part) }
     ensures right { IsTrue F.tells → IfOk result (AllRight (F.files tree.now) root.now) }
-    ensures all { IsTrue F.tells → IfOk result (AllFound (F.files tree.now) root.now part (map string_bytes names.now)) }
+    ensures all { IsTrue F.tells
+        → IfOk result (AllFound (F.files tree.now) root.now part (map string_bytes names.now)) }
 {
     let mut found = Found::new(alloc);
     for name in names {
@@ -266,7 +281,12 @@ fn names_in<F: Folder>(
     root: &str,
     part: Part,
 ) -> Result<Option<Vec<String>>, FileFault>
-    ensures { IsTrue F.tells → IfOk result (λ found. MatchOption found (HoldsNone (F.files tree.now) (root.now ++ codes "/" ++ folder_name part)) (λ names. TellsNames (F.files tree.now) (root.now ++ codes "/" ++ folder_name part) (map string_bytes names.items))) }
+    ensures { IsTrue F.tells
+        → IfOk result
+        (λ found. MatchOption found
+        (HoldsNone (F.files tree.now) (root.now ++ codes "/" ++ folder_name part))
+        (λ names. TellsNames (F.files tree.now) (root.now ++ codes "/" ++ folder_name part)
+        (map string_bytes names.items))) }
 {
     let path = in_memory(joined(alloc, root, folder_of(part)))?;
     tree.list(alloc, path.as_str())
@@ -281,7 +301,8 @@ pub(crate) fn list_files<F: Folder>(
     part: Part,
 ) -> Result<Entries, ListFault>
     ensures listed { IfOk result (IsListed part) }
-    ensures all { IsTrue F.tells → IfOk result (ListsAll (object_at (F.files tree.now) root.now) part) }
+    ensures all { IsTrue F.tells
+        → IfOk result (ListsAll (object_at (F.files tree.now) root.now) part) }
 {
     let Some(names) = names_in(tree, alloc, root, part)? else {
         return Ok(Entries::new(alloc));

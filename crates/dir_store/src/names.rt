@@ -16,21 +16,24 @@ const ASIDE: &str = "/icerepo.new";
 
 /// What stands behind this start of a text.
 fn after<'a>(text: &'a str, start: &str) -> Option<&'a str>
-    ensures { MatchOption result ((rest : List ℕ) → text.now ≢ start.now ++ rest) (λ rest. text.now ≡ start.now ++ rest.now) }
+    ensures { MatchOption result ((rest : List ℕ) → text.now ≢ start.now ++ rest)
+        (λ rest. text.now ≡ start.now ++ rest.now) }
 {
     text.strip_prefix(start)
 }
 
 /// What stands before this end of a text.
 fn before<'a>(text: &'a str, end: &str) -> Option<&'a str>
-    ensures { MatchOption result ((front : List ℕ) → text.now ≢ front ++ end.now) (λ front. text.now ≡ front.now ++ end.now) }
+    ensures { MatchOption result ((front : List ℕ) → text.now ≢ front ++ end.now)
+        (λ front. text.now ≡ front.now ++ end.now) }
 {
     text.strip_suffix(end)
 }
 
 /// The id whose text stands behind this start.
 fn id_after(text: &str, start: &str) -> Option<Id12>
-    ensures { MatchOption result ((id : Id12) → IsId12 id → text.now ≢ start.now ++ id12_text id) (λ id. IsId12 id × (text.now ≡ start.now ++ id12_text id)) }
+    ensures { MatchOption result ((id : Id12) → IsId12 id → text.now ≢ start.now ++ id12_text id)
+        (λ id. IsId12 id × (text.now ≡ start.now ++ id12_text id)) }
 {
     let rest = after(text, start)?;
     match Id12::read(rest.as_bytes()) {
@@ -41,14 +44,16 @@ fn id_after(text: &str, start: &str) -> Option<Id12>
 
 /// The text between this start and this end.
 fn between<'a>(text: &'a str, start: &str, end: &str) -> Option<&'a str>
-    ensures { MatchOption result ((middle : List ℕ) → text.now ≢ start.now ++ middle ++ end.now) (λ middle. text.now ≡ start.now ++ middle.now ++ end.now) }
+    ensures { MatchOption result ((middle : List ℕ) → text.now ≢ start.now ++ middle ++ end.now)
+        (λ middle. text.now ≡ start.now ++ middle.now ++ end.now) }
 {
     before(after(text, start)?, end)
 }
 
 /// The name of a ref, if the text is one.
 fn name_in(alloc: Global, text: &str) -> Result<Option<RefName>, AllocError>
-    ensures { IfOk result (λ found. MatchOption found (¬ IsRefName text.now) (λ name. (name ≡ text.now) × IsRefName text.now)) }
+    ensures { IfOk result (λ found. MatchOption found (¬ IsRefName text.now)
+        (λ name. (name ≡ text.now) × IsRefName text.now)) }
 {
     match RefName::read(alloc, text) {
         Ok(name) => Ok(Some(name)),
@@ -64,7 +69,9 @@ fn name_between(
     start: &str,
     end: &str,
 ) -> Result<Option<RefName>, AllocError>
-    ensures { IfOk result (λ found. MatchOption found ((name : List ℕ) → IsRefName name → text.now ≢ start.now ++ name ++ end.now) (λ name. IsRefName name × (text.now ≡ start.now ++ name ++ end.now))) }
+    ensures { IfOk result (λ found. MatchOption found ((name : List ℕ) → IsRefName name
+        → text.now ≢ start.now ++ name ++ end.now) (λ name. IsRefName name
+        × (text.now ≡ start.now ++ name ++ end.now))) }
 {
     match between(text, start, end) {
         Some(name) => name_in(alloc, name),

@@ -149,12 +149,16 @@ impl<F: Folder, C: Clock> Viewed for FolderStore<F, C> {
 
 impl<L: Rule, F: Folder, C: Clock> ObjectStore<L> for FolderStore<F, C> {
     fn get(&mut self, key: &Key) -> Result<Got, StoreFault>
-        ensures call { Called L.may (λ got. Reply.Got got) (Op.Get key.now) result (view_of self.old) (view_of self.new) }
+        ensures call { Called L.may (λ got. Reply.Got got) (Op.Get key.now) result
+            (view_of self.old) (view_of self.new) }
         ensures content { IfOk result (IsRightGot key.now) }
-        ensures machine { IsTrue F.tells → Answers (λ got. Reply.Got got) time_of_got (root_of self.old) key.now (Op.Get key.now) result (F.files (tree_of self.old)) (F.files (tree_of self.new)) }
+        ensures machine { IsTrue F.tells → Answers (λ got. Reply.Got got) time_of_got
+            (root_of self.old) key.now (Op.Get key.now) result (F.files (tree_of self.old))
+            (F.files (tree_of self.new)) }
         ensures tree { tree_of self.new ≡ tree_of self.old }
         ensures made { IsMade result (operations_of self.old) (operations_of self.new) }
-        ensures time { IfOk result (λ got. C.gives (clock_of self.old) (time_of_got got) (clock_of self.new)) }
+        ensures time { IfOk result (λ got. C.gives (clock_of self.old) (time_of_got got)
+            (clock_of self.new)) }
     {
         let path = self.directory.path(key)?;
         let read = self.directory.read(path);
@@ -164,14 +168,25 @@ impl<L: Rule, F: Folder, C: Clock> ObjectStore<L> for FolderStore<F, C> {
     }
 
     fn put_new(&mut self, key: &Key, bytes: &[u8], why: Why) -> Result<New, StoreFault>
-        ensures call { Called L.may (λ new. Reply.New new) (Op.PutNew key.now bytes.now why) result (view_of self.old) (view_of self.new) }
+        ensures call { Called L.may (λ new. Reply.New new) (Op.PutNew key.now bytes.now why) result
+            (view_of self.old) (view_of self.new) }
         ensures content { IfOk result (IsRightNew key.now bytes.now) }
-        ensures machine { IsTrue F.tells → Answers (λ new. Reply.New new) time_of_new (root_of self.old) key.now (Op.PutNew key.now bytes.now why) result (F.files (tree_of self.old)) (F.files (tree_of self.new)) }
-        ensures firm { IsTrue F.tells → OnOk result (LooserAside (asides_of self.old) (F.loose (tree_of self.old)) (F.loose (tree_of self.new))) }
+        ensures machine { IsTrue F.tells → Answers (λ new. Reply.New new) time_of_new
+            (root_of self.old) key.now (Op.PutNew key.now bytes.now why) result
+            (F.files (tree_of self.old)) (F.files (tree_of self.new)) }
+        ensures firm { IsTrue F.tells
+            → OnOk result (LooserAside (asides_of self.old) (F.loose (tree_of self.old))
+            (F.loose (tree_of self.new))) }
         ensures made { IsMade result (operations_of self.old) (operations_of self.new) }
-        ensures time { IfOk result (λ new. C.gives (clock_of self.old) (time_of_new new) (clock_of self.new)) }
-        ensures left { IsTrue F.tells → Leaves (IsLeftBy (root_of self.old) key.now (Op.PutNew key.now bytes.now why) (F.files (tree_of self.old))) (F.left (tree_of self.old)) (F.left (tree_of self.new)) }
-        ensures lasts { IsTrue F.tells → OnOk result (Lasts (asides_of self.old) (F.loose (tree_of self.old)) (F.left (tree_of self.new) (F.moment (tree_of self.new))) (F.files (tree_of self.new))) }
+        ensures time { IfOk result (λ new. C.gives (clock_of self.old) (time_of_new new)
+            (clock_of self.new)) }
+        ensures left { IsTrue F.tells
+            → Leaves (IsLeftBy (root_of self.old) key.now (Op.PutNew key.now bytes.now why)
+            (F.files (tree_of self.old))) (F.left (tree_of self.old)) (F.left (tree_of self.new)) }
+        ensures lasts { IsTrue F.tells
+            → OnOk result (Lasts (asides_of self.old) (F.loose (tree_of self.old))
+            (F.left (tree_of self.new) (F.moment (tree_of self.new)))
+            (F.files (tree_of self.new))) }
     {
         let path = self.directory.path(key)?;
         let made = self.directory.make(key, path, bytes);
@@ -187,14 +202,25 @@ impl<L: Rule, F: Folder, C: Clock> ObjectStore<L> for FolderStore<F, C> {
         old: Version,
         why: Why,
     ) -> Result<Over, StoreFault>
-        ensures call { Called L.may (λ over. Reply.Over over) (Op.PutOver key.now bytes.now old why) result (view_of self.old) (view_of self.new) }
+        ensures call { Called L.may (λ over. Reply.Over over) (Op.PutOver key.now bytes.now old why)
+            result (view_of self.old) (view_of self.new) }
         ensures content { IfOk result (IsRightOver key.now bytes.now old) }
-        ensures machine { IsTrue F.tells → Answers (λ over. Reply.Over over) time_of_over (root_of self.old) key.now (Op.PutOver key.now bytes.now old why) result (F.files (tree_of self.old)) (F.files (tree_of self.new)) }
-        ensures firm { IsTrue F.tells → OnOk result (LooserAside (asides_of self.old) (F.loose (tree_of self.old)) (F.loose (tree_of self.new))) }
+        ensures machine { IsTrue F.tells → Answers (λ over. Reply.Over over) time_of_over
+            (root_of self.old) key.now (Op.PutOver key.now bytes.now old why) result
+            (F.files (tree_of self.old)) (F.files (tree_of self.new)) }
+        ensures firm { IsTrue F.tells
+            → OnOk result (LooserAside (asides_of self.old) (F.loose (tree_of self.old))
+            (F.loose (tree_of self.new))) }
         ensures made { IsMade result (operations_of self.old) (operations_of self.new) }
-        ensures time { IfOk result (λ over. C.gives (clock_of self.old) (time_of_over over) (clock_of self.new)) }
-        ensures left { IsTrue F.tells → Leaves (IsLeftBy (root_of self.old) key.now (Op.PutOver key.now bytes.now old why) (F.files (tree_of self.old))) (F.left (tree_of self.old)) (F.left (tree_of self.new)) }
-        ensures lasts { IsTrue F.tells → OnOk result (Lasts (asides_of self.old) (F.loose (tree_of self.old)) (F.left (tree_of self.new) (F.moment (tree_of self.new))) (F.files (tree_of self.new))) }
+        ensures time { IfOk result (λ over. C.gives (clock_of self.old) (time_of_over over)
+            (clock_of self.new)) }
+        ensures left { IsTrue F.tells
+            → Leaves (IsLeftBy (root_of self.old) key.now (Op.PutOver key.now bytes.now old why)
+            (F.files (tree_of self.old))) (F.left (tree_of self.old)) (F.left (tree_of self.new)) }
+        ensures lasts { IsTrue F.tells
+            → OnOk result (Lasts (asides_of self.old) (F.loose (tree_of self.old))
+            (F.left (tree_of self.new) (F.moment (tree_of self.new)))
+            (F.files (tree_of self.new))) }
     {
         let path = self.directory.path(key)?;
         let replaced = self.directory.replace(key, path, bytes, old.0);
@@ -204,13 +230,23 @@ impl<L: Rule, F: Folder, C: Clock> ObjectStore<L> for FolderStore<F, C> {
     }
 
     fn remove(&mut self, key: &Key, why: Why) -> Result<Gone, StoreFault>
-        ensures call { Called L.may (λ gone. Reply.Gone gone) (Op.Remove key.now why) result (view_of self.old) (view_of self.new) }
-        ensures machine { IsTrue F.tells → Answers (λ gone. Reply.Gone gone) time_of_gone (root_of self.old) key.now (Op.Remove key.now why) result (F.files (tree_of self.old)) (F.files (tree_of self.new)) }
-        ensures firm { IsTrue F.tells → OnOk result (NoLooser (F.loose (tree_of self.old)) (F.loose (tree_of self.new))) }
+        ensures call { Called L.may (λ gone. Reply.Gone gone) (Op.Remove key.now why) result
+            (view_of self.old) (view_of self.new) }
+        ensures machine { IsTrue F.tells → Answers (λ gone. Reply.Gone gone) time_of_gone
+            (root_of self.old) key.now (Op.Remove key.now why) result (F.files (tree_of self.old))
+            (F.files (tree_of self.new)) }
+        ensures firm { IsTrue F.tells
+            → OnOk result (NoLooser (F.loose (tree_of self.old)) (F.loose (tree_of self.new))) }
         ensures made { IsMade result (operations_of self.old) (operations_of self.new) }
-        ensures time { IfOk result (λ gone. C.gives (clock_of self.old) (time_of_gone gone) (clock_of self.new)) }
-        ensures left { IsTrue F.tells → Leaves (IsLeftBy (root_of self.old) key.now (Op.Remove key.now why) (F.files (tree_of self.old))) (F.left (tree_of self.old)) (F.left (tree_of self.new)) }
-        ensures lasts { IsTrue F.tells → OnOk result (Lasts (asides_of self.old) (F.loose (tree_of self.old)) (F.left (tree_of self.new) (F.moment (tree_of self.new))) (F.files (tree_of self.new))) }
+        ensures time { IfOk result (λ gone. C.gives (clock_of self.old) (time_of_gone gone)
+            (clock_of self.new)) }
+        ensures left { IsTrue F.tells
+            → Leaves (IsLeftBy (root_of self.old) key.now (Op.Remove key.now why)
+            (F.files (tree_of self.old))) (F.left (tree_of self.old)) (F.left (tree_of self.new)) }
+        ensures lasts { IsTrue F.tells
+            → OnOk result (Lasts (asides_of self.old) (F.loose (tree_of self.old))
+            (F.left (tree_of self.new) (F.moment (tree_of self.new)))
+            (F.files (tree_of self.new))) }
     {
         let path = self.directory.path(key)?;
         let removed = self.directory.remove(path);
@@ -220,14 +256,24 @@ impl<L: Rule, F: Folder, C: Clock> ObjectStore<L> for FolderStore<F, C> {
     }
 
     fn remove_at(&mut self, key: &Key, old: Version, why: Why) -> Result<GoneAt, StoreFault>
-        ensures call { Called L.may (λ gone. Reply.GoneAt gone) (Op.RemoveAt key.now old why) result (view_of self.old) (view_of self.new) }
+        ensures call { Called L.may (λ gone. Reply.GoneAt gone) (Op.RemoveAt key.now old why) result
+            (view_of self.old) (view_of self.new) }
         ensures content { IfOk result (IsRightGoneAt old) }
-        ensures machine { IsTrue F.tells → Answers (λ gone. Reply.GoneAt gone) time_of_gone_at (root_of self.old) key.now (Op.RemoveAt key.now old why) result (F.files (tree_of self.old)) (F.files (tree_of self.new)) }
-        ensures firm { IsTrue F.tells → OnOk result (NoLooser (F.loose (tree_of self.old)) (F.loose (tree_of self.new))) }
+        ensures machine { IsTrue F.tells → Answers (λ gone. Reply.GoneAt gone) time_of_gone_at
+            (root_of self.old) key.now (Op.RemoveAt key.now old why) result
+            (F.files (tree_of self.old)) (F.files (tree_of self.new)) }
+        ensures firm { IsTrue F.tells
+            → OnOk result (NoLooser (F.loose (tree_of self.old)) (F.loose (tree_of self.new))) }
         ensures made { IsMade result (operations_of self.old) (operations_of self.new) }
-        ensures time { IfOk result (λ gone. C.gives (clock_of self.old) (time_of_gone_at gone) (clock_of self.new)) }
-        ensures left { IsTrue F.tells → Leaves (IsLeftBy (root_of self.old) key.now (Op.RemoveAt key.now old why) (F.files (tree_of self.old))) (F.left (tree_of self.old)) (F.left (tree_of self.new)) }
-        ensures lasts { IsTrue F.tells → OnOk result (Lasts (asides_of self.old) (F.loose (tree_of self.old)) (F.left (tree_of self.new) (F.moment (tree_of self.new))) (F.files (tree_of self.new))) }
+        ensures time { IfOk result (λ gone. C.gives (clock_of self.old) (time_of_gone_at gone)
+            (clock_of self.new)) }
+        ensures left { IsTrue F.tells
+            → Leaves (IsLeftBy (root_of self.old) key.now (Op.RemoveAt key.now old why)
+            (F.files (tree_of self.old))) (F.left (tree_of self.old)) (F.left (tree_of self.new)) }
+        ensures lasts { IsTrue F.tells
+            → OnOk result (Lasts (asides_of self.old) (F.loose (tree_of self.old))
+            (F.left (tree_of self.new) (F.moment (tree_of self.new)))
+            (F.files (tree_of self.new))) }
     {
         let path = self.directory.path(key)?;
         let removed = self.directory.remove_version(key, path, old.0);
@@ -237,12 +283,17 @@ impl<L: Rule, F: Folder, C: Clock> ObjectStore<L> for FolderStore<F, C> {
     }
 
     fn list(&mut self, part: Part) -> Result<Listed, StoreFault>
-        ensures call { Called L.may (λ listed. Reply.Listed listed) (Op.List part) result (view_of self.old) (view_of self.new) }
+        ensures call { Called L.may (λ listed. Reply.Listed listed) (Op.List part) result
+            (view_of self.old) (view_of self.new) }
         ensures content { IfOk result (λ listed. IsListed part listed.entries) }
-        ensures machine { IsTrue F.tells → IfOk result (λ listed. ListsAll (object_at (F.files (tree_of self.old)) (root_of self.old)) part listed.entries) }
+        ensures machine { IsTrue F.tells
+            → IfOk result
+            (λ listed. ListsAll (object_at (F.files (tree_of self.old)) (root_of self.old)) part
+            listed.entries) }
         ensures tree { tree_of self.new ≡ tree_of self.old }
         ensures made { IsMade result (operations_of self.old) (operations_of self.new) }
-        ensures time { IfOk result (λ listed. C.gives (clock_of self.old) listed.now (clock_of self.new)) }
+        ensures time { IfOk result (λ listed. C.gives (clock_of self.old) listed.now
+            (clock_of self.new)) }
     {
         let listing = self.directory.list(part);
         let entries = self.counted(listing)?;

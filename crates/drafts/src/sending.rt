@@ -97,7 +97,8 @@ impl Draft {
     /// Has as many of these bytes wait as there is room for, and says how many.
     fn keep(&mut self, bytes: &[u8]) -> usize
         ensures count { result ≡ min (self.old.room - length self.old.waiting) (length bytes.now) }
-        ensures kept { self.new ≡ record self.old { waiting = self.old.waiting ++ take result bytes.now } }
+        ensures kept { self.new ≡ record self.old
+            { waiting = self.old.waiting ++ take result bytes.now } }
     {
         let count = copy_front(&mut self.buffer[self.filled..], bytes);
         self.filled += count;
@@ -143,7 +144,8 @@ impl Draft {
 
     /// Writes what waits. So all that was added to a blank draft is written, or a write has failed; it says whether one has.
     pub fn finish<K: Sink>(self, to: &mut K) -> bool
-        ensures { (begun : DraftAt) (at : OutputAt) (text : List ℕ) → IsBlank begun → Took begun at text self (K.at to.old) → Wrote at (K.at to.new) text result }
+        ensures { (begun : DraftAt) (at : OutputAt) (text : List ℕ) → IsBlank begun
+            → Took begun at text self (K.at to.old) → Wrote at (K.at to.new) text result }
     {
         let mut draft = self;
         draft.send(to);

@@ -72,8 +72,10 @@ impl Expire {
     /// One operation of the store.
     pub fn step<S: Store>(&mut self, store: &mut S)
         requires live { IsLive (expire_rest self.old) }
-        requires polite { IsTrue (S.view store.old).caller.tells → PlayIsPolite (expire_rest self.old) (S.view store.old).seen }
-        ensures acts { Acts tells_failure (S.view store.old) (S.view store.new) (expire_rest self.old) (expire_rest self.new) }
+        requires polite { IsTrue (S.view store.old).caller.tells
+            → PlayIsPolite (expire_rest self.old) (S.view store.old).seen }
+        ensures acts { Acts tells_failure (S.view store.old) (S.view store.new)
+            (expire_rest self.old) (expire_rest self.new) }
         ensures falls { expire_left self.new < expire_left self.old }
     {
         // The old state is taken out.

@@ -33,8 +33,10 @@ pub(crate) fn step_on<S: Store>(
 ) -> Expiring
     requires live { IsLive (expiring_rest terms state) }
     requires stands { is_standing state ≡ true }
-    requires polite { IsTrue (S.view store.old).caller.tells → PlayIsPolite (expiring_rest terms state) (S.view store.old).seen }
-    ensures acts { Acts tells_failure (S.view store.old) (S.view store.new) (expiring_rest terms state) (expiring_rest terms result) }
+    requires polite { IsTrue (S.view store.old).caller.tells
+        → PlayIsPolite (expiring_rest terms state) (S.view store.old).seen }
+    ensures acts { Acts tells_failure (S.view store.old) (S.view store.new)
+        (expiring_rest terms state) (expiring_rest terms result) }
     ensures stands { is_standing result ≡ true }
     ensures falls { expiring_left result < expiring_left state }
 {
@@ -51,7 +53,8 @@ pub(crate) fn step_on<S: Store>(
 
 /// Lists a part.
 fn step_listing<S: Store>(alloc: Global, terms: Terms, refs: Register, store: &mut S) -> Expiring
-    ensures acts { Acts tells_failure (S.view store.old) (S.view store.new) (listing_rest terms refs) (expiring_rest terms result) }
+    ensures acts { Acts tells_failure (S.view store.old) (S.view store.new)
+        (listing_rest terms refs) (expiring_rest terms result) }
     ensures stands { is_standing result ≡ true }
     ensures falls { expiring_left result < listing_left refs }
 {
@@ -82,7 +85,8 @@ fn after_listing(
 
 /// Takes the room for the cases of the refs of a listing, and goes on with the first.
 fn enter_refs(alloc: Global, terms: Terms, mut refs: Register, listed: &Listed) -> Expiring
-    ensures comes { Comes (listed_rest terms refs (Ok listed.entry.now)) (expiring_rest terms result) }
+    ensures comes { Comes (listed_rest terms refs (Ok listed.entry.now))
+        (expiring_rest terms result) }
     ensures blames { Blamed false (expiring_rest terms result) }
     ensures stands { is_standing result ≡ true }
     ensures falls { expiring_left result < listing_left refs }
@@ -127,7 +131,9 @@ fn step_looking<S: Store>(
     store: &mut S,
 ) -> Expiring
     requires { is_ask (look_rest look) ≡ true }
-    ensures acts { Acts tells_failure (S.view store.old) (S.view store.new) (call (look_rest look) (after_look look.key (case_rest terms look.key turn))) (expiring_rest terms result) }
+    ensures acts { Acts tells_failure (S.view store.old) (S.view store.new)
+        (call (look_rest look) (after_look look.key (case_rest terms look.key turn)))
+        (expiring_rest terms result) }
     ensures stands { is_standing result ≡ true }
     ensures falls { expiring_left result < look_left look + 2 + refs_left turn }
 {
@@ -145,7 +151,8 @@ fn after_step(
 ) -> Expiring
     requires live { answers_well (is_ask (look_rest look)) answer ≡ true }
     requires drops { DropsRef look.key answer }
-    ensures comes { Comes (settled (after_look look.key (case_rest terms look.key turn)) (look_rest look) answer) (expiring_rest terms result) }
+    ensures comes { Comes (settled (after_look look.key (case_rest terms look.key turn))
+        (look_rest look) answer) (expiring_rest terms result) }
     ensures blames { Blamed (faults answer) (expiring_rest terms result) }
     ensures stands { is_standing result ≡ true }
     ensures falls { expiring_left result ≤ look_left look + 2 + refs_left turn }
@@ -163,7 +170,8 @@ fn after_step(
 /// Goes on by what is to be done with a ref.
 fn decide(alloc: Global, terms: Terms, key: Key, turn: Turn, decision: Decision) -> Expiring
     requires { may_decide key decision ≡ true }
-    ensures comes { Comes (decide key (case_rest terms key turn) decision) (expiring_rest terms result) }
+    ensures comes { Comes (decide key (case_rest terms key turn) decision)
+        (expiring_rest terms result) }
     ensures blames { Blamed false (expiring_rest terms result) }
     ensures stands { is_standing result ≡ true }
     ensures falls { expiring_left result ≤ 1 + refs_left turn }
@@ -195,7 +203,9 @@ fn step_dropping<S: Store>(
 ) -> Expiring
     requires drops { is_ref key ≡ true }
     requires polite { MayCall (S.view store.old) (drop_op key version) }
-    ensures acts { Acts tells_failure (S.view store.old) (S.view store.new) (decide key (case_rest terms key turn) (decision.Drops version)) (expiring_rest terms result) }
+    ensures acts { Acts tells_failure (S.view store.old) (S.view store.new)
+        (decide key (case_rest terms key turn) (decision.Drops version))
+        (expiring_rest terms result) }
     ensures stands { is_standing result ≡ true }
     ensures falls { expiring_left result < 1 + refs_left turn }
 {
@@ -212,7 +222,8 @@ fn drop_ref<S: Store>(
 ) -> Result<Reply, StoreFault>
     requires drops { is_ref key.now ≡ true }
     requires polite { MayCall (S.view store.old) (drop_op key.now version) }
-    ensures called { Called (λ reply. reply) (drop_op key.now version) result (S.view store.old) (S.view store.new) }
+    ensures called { Called (λ reply. reply) (drop_op key.now version) result (S.view store.old)
+        (S.view store.new) }
     ensures fits { IfOk result (Fits (drop_op key.now version)) }
     ensures answered { IfOk result (λ reply. has_failed reply ≡ false) }
 {
@@ -235,8 +246,11 @@ fn step_cutting<S: Store>(
     turn: Turn,
     store: &mut S,
 ) -> Expiring
-    requires { MayCall (S.view store.old) (Op.PutOver (Key.Snapshot cut.id) cut.bytes cut.version Why.Expire) }
-    ensures acts { Acts tells_failure (S.view store.old) (S.view store.new) (decide cut.key (case_rest terms cut.key turn) (decision.Cuts cut.id cut.version cut.bytes)) (expiring_rest terms result) }
+    requires { MayCall (S.view store.old) (Op.PutOver (Key.Snapshot cut.id) cut.bytes cut.version
+        Why.Expire) }
+    ensures acts { Acts tells_failure (S.view store.old) (S.view store.new)
+        (decide cut.key (case_rest terms cut.key turn) (decision.Cuts cut.id cut.version cut.bytes))
+        (expiring_rest terms result) }
     ensures stands { is_standing result ≡ true }
     ensures falls { expiring_left result < 1 + refs_left turn }
 {

@@ -153,7 +153,8 @@ impl Look {
     /// One operation of the store.
     pub fn step<S: Store>(&mut self, store: &mut S) -> Result<Next<Decision>, Refusal>
         requires { IsAsk (look_rest self.old) }
-        ensures step { Steps (S.view store.old) (S.view store.new) (look_rest self.old) (look_rest self.new) result }
+        ensures step { Steps (S.view store.old) (S.view store.new) (look_rest self.old)
+            (look_rest self.new) result }
         ensures falls { look_left self.new < look_left self.old }
         ensures kept { LookKeeps result self.old self.new }
         ensures listed { IfErr result MayRefuseLook }
@@ -176,7 +177,8 @@ impl Look {
     fn on_ref(&mut self, reply: Reply) -> Result<Next<Decision>, Refusal>
         requires ended { self.old.state ≡ Looking.Ended }
         requires fits { Fits (Op.Get self.old.key) reply }
-        ensures took { Took (look_program self.old.terms self.old.key) reply (look_rest self.new) result }
+        ensures took { Took (look_program self.old.terms self.old.key) reply (look_rest self.new)
+            result }
         ensures falls { look_left self.new < look_most }
         ensures kept { LookKeeps result self.old self.new }
         ensures listed { IfErr result MayRefuseLook }
@@ -190,7 +192,8 @@ impl Look {
     /// Goes on with the snapshot that the ref names, if the ref is there.
     fn after_ref(&mut self, named: Option<Resolved>) -> Next<Decision>
         requires { self.old.state ≡ Looking.Ended }
-        ensures lands { Lands (look_named self.old.terms self.old.key named) (look_rest self.new) (Ok result) }
+        ensures lands { Lands (look_named self.old.terms self.old.key named) (look_rest self.new)
+            (Ok result) }
         ensures falls { look_left self.new < look_most }
         ensures kept { LookKeeps (Ok result) self.old self.new }
     {
@@ -203,7 +206,8 @@ impl Look {
     fn on_head(&mut self, named: Resolved, reply: Reply) -> Result<Next<Decision>, Refusal>
         requires ended { self.old.state ≡ Looking.Ended }
         requires fits { Fits (Op.Get (Key.Snapshot named.id)) reply }
-        ensures took { Took (head_rest self.old.terms self.old.key named) reply (look_rest self.new) result }
+        ensures took { Took (head_rest self.old.terms self.old.key named) reply (look_rest self.new)
+            result }
         ensures falls { look_left self.new < most_below + 1 }
         ensures kept { LookKeeps result self.old self.new }
         ensures listed { IfErr result MayRefuseLook }
@@ -217,7 +221,8 @@ impl Look {
     /// A ref that names an old snapshot is dropped, where it may be. Otherwise the walk goes on.
     fn after_head(&mut self, version: Version, head: Seen) -> Result<Next<Decision>, Refusal>
         requires { self.old.state ≡ Looking.Ended }
-        ensures lands { Lands (look_head self.old.terms self.old.key version head) (look_rest self.new) result }
+        ensures lands { Lands (look_head self.old.terms self.old.key version head)
+            (look_rest self.new) result }
         ensures falls { look_left self.new < most_below + 1 }
         ensures kept { LookKeeps result self.old self.new }
         ensures calm { IfErr result (λ why. is_fault why ≡ false) }
@@ -232,7 +237,8 @@ impl Look {
     /// Goes on with the parent of the last snapshot that was read, if there is one and it may be read.
     fn walk_on(&mut self, last: Seen, left: u32) -> Result<Next<Decision>, Refusal>
         requires { self.old.state ≡ Looking.Ended }
-        ensures lands { Lands (look_below left self.old.terms.cutoff last (next_of last.file)) (look_rest self.new) result }
+        ensures lands { Lands (look_below left self.old.terms.cutoff last (next_of last.file))
+            (look_rest self.new) result }
         ensures falls { look_left self.new ≤ left }
         ensures kept { LookKeeps result self.old self.new }
         ensures calm { IfErr result (λ why. is_fault why ≡ false) }
@@ -267,7 +273,9 @@ impl Look {
     fn after_below(&mut self, walk: Walk, seen: Seen) -> Result<Next<Decision>, Refusal>
         requires ended { self.old.state ≡ Looking.Ended }
         requires left { 0 < walk.left }
-        ensures lands { Lands (if is_older self.old.terms.cutoff seen.file then Done (cuts walk.last) else look_below (walk.left - 1) self.old.terms.cutoff seen (next_of seen.file)) (look_rest self.new) result }
+        ensures lands { Lands (if is_older self.old.terms.cutoff seen.file then Done
+            (cuts walk.last) else look_below (walk.left - 1) self.old.terms.cutoff seen
+            (next_of seen.file)) (look_rest self.new) result }
         ensures falls { look_left self.new < walk.left }
         ensures kept { LookKeeps result self.old self.new }
         ensures calm { IfErr result (λ why. is_fault why ≡ false) }

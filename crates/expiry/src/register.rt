@@ -150,7 +150,10 @@ impl Register {
 impl Turn {
     /// Tells what became of the ref that was taken. It takes no memory.
     pub fn tell(self, key: Key, what: What) -> Register
-        ensures { result ≡ record self { cases = self.cases ++ record { key = key; what = what } ∷ [] } }
+        ensures { result ≡ record self {
+          cases = self.cases ++ record { key = key; what = what }
+              ∷ [];
+        } }
     {
         let Turn {
             phase,
@@ -189,7 +192,8 @@ fn enter_live(
     entry: &Entry,
     behind: &[Entry],
 ) -> Result<(), AllocError>
-    ensures { OnOk result (keys.new.items ++ live behind.now ≡ keys.old.items ++ live (entry.now ∷ behind.now)) }
+    ensures { OnOk result (keys.new.items ++ live behind.now ≡ keys.old.items ++ live
+        (entry.now ∷ behind.now)) }
 {
     if is_gone(&entry.key, behind) {
         return Ok(());

@@ -112,7 +112,8 @@ pub fn id_follows(last: Option<&Id8>, id: &Id8) -> bool
 
 /// Whether an index may stand behind the last one, if there is one.
 pub fn index_follows(last: Option<&Index>, index: &Index) -> bool
-    ensures { result ≡ follows (option_map index_key (option_copied last.entry)) (index_key index.now) }
+    ensures { result ≡ follows (option_map index_key (option_copied last.entry))
+        (index_key index.now) }
 {
     match last {
         None => true,

@@ -19,7 +19,8 @@ fn frame_end(before: &[Slot], after: &[Slot]) -> usize
     requires before { All (λ s. IsTrue (is_writable_slot s)) before.now }
     requires after { All (λ s. IsTrue (is_writable_slot s)) after.now }
     requires few { length before.now + 1 + length after.now ≤ 64 }
-    ensures end { result ≡ fields_end (framed (map part_of before.now) [] (map part_of after.now)) 4 }
+    ensures end { result ≡ fields_end (framed (map part_of before.now) [] (map part_of after.now))
+        4 }
     ensures small { result < 20000 }
 {
     let end = slots_end(before, 4);
@@ -31,7 +32,9 @@ fn put_frame_entries(out: &mut Vec<u8>, before: &[Slot], after: &[Slot]) -> Resu
     requires before { All (λ s. IsTrue (is_writable_slot s)) before.now }
     requires after { All (λ s. IsTrue (is_writable_slot s)) after.now }
     requires few { length before.now + 1 + length after.now ≤ 64 }
-    ensures { OnOk result (out.new.items ≡ out.old.items ++ entries (framed (map part_of before.now) [] (map part_of after.now)) 4) }
+    ensures { OnOk result
+        (out.new.items ≡ out.old.items ++ entries
+        (framed (map part_of before.now) [] (map part_of after.now)) 4) }
 {
     let end = slots_end(before, 4);
     let at = end + gap_to(4, end);
@@ -52,10 +55,14 @@ fn put_frame_fields(
     requires before { All (λ s. IsTrue (is_writable_slot s)) before.now }
     requires after { All (λ s. IsTrue (is_writable_slot s)) after.now }
     requires few { length before.now + 1 + length after.now ≤ 64 }
-    requires behind { place + fields_end (framed (map part_of before.now) [] (map part_of after.now)) 4 ≤ below }
+    requires behind { place + fields_end (framed (map part_of before.now) [] (map part_of after.now)) 4
+        ≤ below }
     requires vector { below + length (all_beneath (map part_of before.now) below) ≤ next }
     requires fits { next + length (all_beneath (map part_of after.now) next) ≤ 268435417 }
-    ensures { OnOk result ((bs : List Block) → let vector = below + length (all_beneath (map part_of before.now) below) in next ≡ vector + length ((tables_block bs).bytes vector) → out.new.items ≡ out.old.items ++ fields (framed (map part_of before.now) bs (map part_of after.now)) 4 place below) }
+    ensures { OnOk result ((bs : List Block)
+        → let vector = below + length (all_beneath (map part_of before.now) below) in next
+        ≡ vector + length ((tables_block bs).bytes vector) → out.new.items ≡ out.old.items ++ fields
+        (framed (map part_of before.now) bs (map part_of after.now)) 4 place below) }
 {
     let end = slots_end(before, 4);
     let at = end + gap_to(4, end);
@@ -76,9 +83,13 @@ fn put_frame_head(
     requires before { All (λ s. IsTrue (is_writable_slot s)) before.now }
     requires after { All (λ s. IsTrue (is_writable_slot s)) after.now }
     requires few { length before.now + 1 + length after.now ≤ 64 }
-    requires vector { vector_begin (map part_of before.now) (map part_of after.now) (length out.old.items) ≤ next }
+    requires vector { vector_begin (map part_of before.now) (map part_of after.now)
+        (length out.old.items) ≤ next }
     requires fits { next + length (all_beneath (map part_of after.now) next) ≤ 268435417 }
-    ensures { OnOk result ((bs : List Block) → let vector = vector_begin (map part_of before.now) (map part_of after.now) (length out.old.items) in next ≡ vector + length ((tables_block bs).bytes vector) → out.new.items ≡ out.old.items ++ table_head (framed (map part_of before.now) bs (map part_of after.now)) (length out.old.items)) }
+    ensures { OnOk result ((bs : List Block) → let vector = vector_begin (map part_of before.now)
+        (map part_of after.now) (length out.old.items) in next ≡ vector + length
+        ((tables_block bs).bytes vector) → out.new.items ≡ out.old.items ++ table_head
+        (framed (map part_of before.now) bs (map part_of after.now)) (length out.old.items)) }
 {
     let from = out.len();
     let head = 4 + 2 * (before.len() + 1 + after.len());
@@ -95,7 +106,8 @@ fn put_frame_head(
 
 /// The offsets from `first` on to tables at these places.
 fn put_offsets_to(out: &mut Vec<u8>, places: &[usize], first: usize) -> Result<(), AllocError>
-    requires { All (λ place. (first + 4 * length places.now ≤ place) × (place ≤ 268435417)) places.now }
+    requires { All (λ place. (first + 4 * length places.now ≤ place) × (place ≤ 268435417))
+        places.now }
     ensures { OnOk result (out.new.items ≡ out.old.items ++ offsets_to places.now first) }
 {
     let mut at = first;
@@ -112,10 +124,14 @@ fn put_vector_head<S: TableSource>(
     tables: &S,
     each: &[usize],
 ) -> Result<(), AllocError>
-    requires places { each.now ≡ places (S.layouts tables.now) (first_table (length (S.layouts tables.now)) (length out.old.items)) }
-    requires within { All (λ place. (first_table (length (S.layouts tables.now)) (length out.old.items) ≤ place) × (place ≤ 268435417)) each.now }
+    requires places { each.now ≡ places (S.layouts tables.now)
+        (first_table (length (S.layouts tables.now)) (length out.old.items)) }
+    requires within { All
+        (λ place. (first_table (length (S.layouts tables.now)) (length out.old.items) ≤ place)
+        × (place ≤ 268435417)) each.now }
     requires fits { first_table (length (S.layouts tables.now)) (length out.old.items) ≤ 268435417 }
-    ensures { OnOk result (out.new.items ≡ out.old.items ++ tables_head (S.layouts tables.now) (length out.old.items)) }
+    ensures { OnOk result (out.new.items ≡ out.old.items ++ tables_head (S.layouts tables.now)
+        (length out.old.items)) }
 {
     let gap = gap_to(4, out.len() + 4);
     push_zeros(out, gap)?;
@@ -131,10 +147,16 @@ fn put_vector_of<S: TableSource>(
     tables: &S,
     each: &[usize],
 ) -> Result<(), AllocError>
-    requires places { each.now ≡ places (S.layouts tables.now) (first_table (length (S.layouts tables.now)) (length out.old.items)) }
-    requires within { All (λ place. (first_table (length (S.layouts tables.now)) (length out.old.items) ≤ place) × (place ≤ 268435417)) each.now }
-    requires fits { length out.old.items + length ((tables_block (S.layouts tables.now)).bytes (length out.old.items)) ≤ 268435417 }
-    ensures { OnOk result (out.new.items ≡ out.old.items ++ (tables_block (S.layouts tables.now)).bytes (length out.old.items)) }
+    requires places { each.now ≡ places (S.layouts tables.now)
+        (first_table (length (S.layouts tables.now)) (length out.old.items)) }
+    requires within { All
+        (λ place. (first_table (length (S.layouts tables.now)) (length out.old.items) ≤ place)
+        × (place ≤ 268435417)) each.now }
+    requires fits { length out.old.items + length
+        ((tables_block (S.layouts tables.now)).bytes (length out.old.items)) ≤ 268435417 }
+    ensures { OnOk result
+        (out.new.items ≡ out.old.items ++ (tables_block (S.layouts tables.now)).bytes
+        (length out.old.items)) }
 {
     put_vector_head(out, tables, each)?;
     put_each(alloc, out, tables)
@@ -152,9 +174,16 @@ fn put_frame<S: TableSource>(
     requires before { All (λ s. IsTrue (is_writable_slot s)) before.now }
     requires after { All (λ s. IsTrue (is_writable_slot s)) after.now }
     requires few { length before.now + 1 + length after.now ≤ 64 }
-    requires ends { AreEnds (map part_of before.now) (S.layouts tables.now) (map part_of after.now) (length out.old.items) places.now.each.items places.now.end }
-    requires fits { length out.old.items + length ((table_block (framed (map part_of before.now) (S.layouts tables.now) (map part_of after.now))).bytes (length out.old.items)) ≤ 268435417 }
-    ensures { OnOk result (out.new.items ≡ out.old.items ++ (table_block (framed (map part_of before.now) (S.layouts tables.now) (map part_of after.now))).bytes (length out.old.items)) }
+    requires ends { AreEnds (map part_of before.now) (S.layouts tables.now) (map part_of after.now)
+        (length out.old.items) places.now.each.items places.now.end }
+    requires fits { length out.old.items + length
+        ((table_block (framed (map part_of before.now) (S.layouts tables.now)
+        (map part_of after.now))).bytes (length out.old.items)) ≤ 268435417 }
+    ensures { OnOk result
+        (out.new.items
+        ≡ out.old.items
+        ++ (table_block (framed (map part_of before.now) (S.layouts tables.now)
+        (map part_of after.now))).bytes (length out.old.items)) }
 {
     put_frame_head(out, before, after, places.end)?;
     put_all(out, before)?;
@@ -189,9 +218,17 @@ fn frame_ends<S: TableSource>(
     requires before { All (λ s. IsTrue (is_writable_slot s)) before.now }
     requires after { All (λ s. IsTrue (is_writable_slot s)) after.now }
     requires few { length before.now + 1 + length after.now ≤ 64 }
-    ensures whole { IfOk result (λ ends. ends.whole ≡ capped (4 + length ((table_block (framed (map part_of before.now) (S.layouts tables.now) (map part_of after.now))).bytes 4))) }
-    ensures ends { IfOk result (λ ends. ends.whole ≤ 268435417 → AreEnds (map part_of before.now) (S.layouts tables.now) (map part_of after.now) 4 ends.places.each.items ends.places.end) }
-    ensures told { OnOk result ((at : ℕ) → at < length (S.layouts tables.now) → S.tells tables.now at) }
+    ensures whole { IfOk result
+        (λ ends. ends.whole
+        ≡ capped
+        (4 + length
+        ((table_block (framed (map part_of before.now) (S.layouts tables.now)
+        (map part_of after.now))).bytes 4))) }
+    ensures ends { IfOk result (λ ends. ends.whole ≤ 268435417
+        → AreEnds (map part_of before.now) (S.layouts tables.now) (map part_of after.now) 4
+        ends.places.each.items ends.places.end) }
+    ensures told { OnOk result ((at : ℕ) → at < length (S.layouts tables.now)
+        → S.tells tables.now at) }
 {
     let place = root_place(before.len() + 1 + after.len());
     let vector = all_end(before, place + frame_end(before, after));
@@ -213,8 +250,11 @@ pub fn framed_write<S: TableSource>(
     requires before { All (λ s. IsTrue (is_writable_slot s)) before.now }
     requires after { All (λ s. IsTrue (is_writable_slot s)) after.now }
     requires few { length before.now + 1 + length after.now ≤ 64 }
-    ensures written { let bytes = payload (table_block (framed (map part_of before.now) (S.layouts tables.now) (map part_of after.now))) in Writes result bytes (39 + length bytes) }
-    ensures told { OnOk result ((at : ℕ) → at < length (S.layouts tables.now) → S.tells tables.now at) }
+    ensures written { let bytes = payload
+        (table_block (framed (map part_of before.now) (S.layouts tables.now)
+        (map part_of after.now))) in Writes result bytes (39 + length bytes) }
+    ensures told { OnOk result ((at : ℕ) → at < length (S.layouts tables.now)
+        → S.tells tables.now at) }
 {
     let ends = frame_ends(alloc, before, tables, after)?;
     let len = ends.whole.saturating_add(HEADER);

@@ -25,7 +25,8 @@ pub trait TableSource {
     /// Table number `at`, which can be written.
     fn table(&self, alloc: Global, at: usize) -> Result<Flat, AllocError>
         requires { at < length (layouts self.now) }
-        ensures layout { IfOk result (λ flat. slice_get (layouts self.now) at ≡ Some (layout flat)) }
+        ensures layout { IfOk result (λ flat. slice_get (layouts self.now) at
+            ≡ Some (layout flat)) }
         ensures writable { IfOk result (λ flat. IsTrue (is_writable flat)) }
         ensures told { OnOk result (tells self.now at) };
 }
@@ -45,10 +46,14 @@ pub fn places_of<S: TableSource>(
     tables: &S,
     from: usize,
 ) -> Result<Places, AllocError>
-    ensures places { IfOk result (λ p. p.end ≤ 268435417 → p.each.items ≡ places (S.layouts tables.now) from) }
-    ensures end { IfOk result (λ p. p.end ≡ capped (from + length (blocks (S.layouts tables.now) from))) }
-    ensures within { IfOk result (λ p. All (λ place. (from ≤ place) × (place ≤ p.end)) p.each.items) }
-    ensures told { OnOk result ((at : ℕ) → at < length (S.layouts tables.now) → S.tells tables.now at) }
+    ensures places { IfOk result (λ p. p.end ≤ 268435417
+        → p.each.items ≡ places (S.layouts tables.now) from) }
+    ensures end { IfOk result
+        (λ p. p.end ≡ capped (from + length (blocks (S.layouts tables.now) from))) }
+    ensures within { IfOk result (λ p. All (λ place. (from ≤ place) × (place ≤ p.end))
+        p.each.items) }
+    ensures told { OnOk result ((at : ℕ) → at < length (S.layouts tables.now)
+        → S.tells tables.now at) }
 {
     let mut each = Vec::with_capacity(alloc, tables.len())?;
     let mut end = from;
@@ -66,8 +71,10 @@ pub fn put_each<S: TableSource>(
     out: &mut Vec<u8>,
     tables: &S,
 ) -> Result<(), AllocError>
-    requires { length out.old.items + length (blocks (S.layouts tables.now) (length out.old.items)) ≤ 268435417 }
-    ensures { OnOk result (out.new.items ≡ out.old.items ++ blocks (S.layouts tables.now) (length out.old.items)) }
+    requires { length out.old.items + length (blocks (S.layouts tables.now) (length out.old.items))
+        ≤ 268435417 }
+    ensures { OnOk result (out.new.items ≡ out.old.items ++ blocks (S.layouts tables.now)
+        (length out.old.items)) }
 {
     for at in 0..tables.len() {
         let table = tables.table(alloc, at)?;

@@ -101,8 +101,11 @@ fn put_part(
     requires small { end < 20000 }
     requires before { place + fields_end (part_of slot.now ∷ []) end ≤ below }
     requires fits { below + length ((part_of slot.now).beneath below) ≤ 268435417 }
-    ensures bytes { IfOk result (λ next. (ps : List Part) → out.new.items ++ fields ps next place (below + length ((part_of slot.now).beneath below)) ≡ out.old.items ++ fields (part_of slot.now ∷ ps) end place below) }
-    ensures end { IfOk result (λ next. (ps : List Part) → fields_end ps next ≡ fields_end (part_of slot.now ∷ ps) end) }
+    ensures bytes { IfOk result (λ next. (ps : List Part)
+        → out.new.items ++ fields ps next place (below + length ((part_of slot.now).beneath below))
+        ≡ out.old.items ++ fields (part_of slot.now ∷ ps) end place below) }
+    ensures end { IfOk result (λ next. (ps : List Part)
+        → fields_end ps next ≡ fields_end (part_of slot.now ∷ ps) end) }
     ensures bounded { IfOk result (λ next. next ≤ end + 262) }
 {
     match shape(slot) {
@@ -128,7 +131,8 @@ pub fn put_fields(
     requires few { from + 262 * length slots.now < 20000 }
     requires before { place + fields_end (map part_of slots.now) from ≤ below }
     requires fits { below + length (all_beneath (map part_of slots.now) below) ≤ 268435417 }
-    ensures { OnOk result (out.new.items ≡ out.old.items ++ fields (map part_of slots.now) from place below) }
+    ensures { OnOk result (out.new.items ≡ out.old.items ++ fields (map part_of slots.now) from
+        place below) }
 {
     let mut end = from;
     let mut next = below;
@@ -143,8 +147,11 @@ pub fn put_fields(
 fn put_head(out: &mut Vec<u8>, slots: &[Slot]) -> Result<(), AllocError>
     requires writable { All (λ s. IsTrue (is_writable_slot s)) slots.now }
     requires few { length slots.now ≤ 64 }
-    requires fits { let end = table_place (length slots.now) (length out.old.items) + fields_end (map part_of slots.now) 4 in end + length (all_beneath (map part_of slots.now) end) ≤ 268435417 }
-    ensures { OnOk result (out.new.items ≡ out.old.items ++ table_head (map part_of slots.now) (length out.old.items)) }
+    requires fits { let end = table_place (length slots.now) (length out.old.items) + fields_end
+        (map part_of slots.now) 4 in end + length (all_beneath (map part_of slots.now) end)
+        ≤ 268435417 }
+    ensures { OnOk result (out.new.items ≡ out.old.items ++ table_head (map part_of slots.now)
+        (length out.old.items)) }
 {
     let from = out.len();
     let head = 4 + 2 * slots.len();
@@ -163,8 +170,10 @@ fn put_head(out: &mut Vec<u8>, slots: &[Slot]) -> Result<(), AllocError>
 #[cycle(put)]
 pub fn put_table(out: &mut Vec<u8>, flat: &Flat) -> Result<(), AllocError>
     requires writable { IsTrue (is_writable flat.now) }
-    requires fits { length out.old.items + length ((layout flat.now).bytes (length out.old.items)) ≤ 268435417 }
-    ensures { OnOk result (out.new.items ≡ out.old.items ++ (layout flat.now).bytes (length out.old.items)) }
+    requires fits { length out.old.items + length ((layout flat.now).bytes (length out.old.items))
+        ≤ 268435417 }
+    ensures { OnOk result (out.new.items ≡ out.old.items ++ (layout flat.now).bytes
+        (length out.old.items)) }
 {
     put_head(out, &flat.slots)?;
     for slot in &flat.slots {
@@ -177,8 +186,10 @@ pub fn put_table(out: &mut Vec<u8>, flat: &Flat) -> Result<(), AllocError>
 #[cycle(put)]
 fn put_beneath(out: &mut Vec<u8>, slot: &Slot) -> Result<(), AllocError>
     requires writable { IsTrue (is_writable_slot slot.now) }
-    requires fits { length out.old.items + length ((part_of slot.now).beneath (length out.old.items)) ≤ 268435417 }
-    ensures { OnOk result (out.new.items ≡ out.old.items ++ (part_of slot.now).beneath (length out.old.items)) }
+    requires fits { length out.old.items + length ((part_of slot.now).beneath (length out.old.items))
+        ≤ 268435417 }
+    ensures { OnOk result (out.new.items ≡ out.old.items ++ (part_of slot.now).beneath
+        (length out.old.items)) }
 {
     match slot {
         Slot::Absent => Ok(()),
@@ -200,8 +211,10 @@ fn put_beneath(out: &mut Vec<u8>, slot: &Slot) -> Result<(), AllocError>
 /// All that is beneath fields.
 pub fn put_all(out: &mut Vec<u8>, slots: &[Slot]) -> Result<(), AllocError>
     requires writable { All (λ s. IsTrue (is_writable_slot s)) slots.now }
-    requires fits { length out.old.items + length (all_beneath (map part_of slots.now) (length out.old.items)) ≤ 268435417 }
-    ensures { OnOk result (out.new.items ≡ out.old.items ++ all_beneath (map part_of slots.now) (length out.old.items)) }
+    requires fits { length out.old.items + length
+        (all_beneath (map part_of slots.now) (length out.old.items)) ≤ 268435417 }
+    ensures { OnOk result (out.new.items ≡ out.old.items ++ all_beneath (map part_of slots.now)
+        (length out.old.items)) }
 {
     for slot in slots {
         put_beneath(out, slot)?;
@@ -213,7 +226,8 @@ pub fn put_all(out: &mut Vec<u8>, slots: &[Slot]) -> Result<(), AllocError>
 #[tactic(auto, unfolding(crate::specs::Layout::text_block))]
 fn put_text(out: &mut Vec<u8>, text: &[u8]) -> Result<(), AllocError>
     requires { length out.old.items + length text.now ≤ 268435417 }
-    ensures { OnOk result (out.new.items ≡ out.old.items ++ (text_block text.now).bytes (length out.old.items)) }
+    ensures { OnOk result (out.new.items ≡ out.old.items ++ (text_block text.now).bytes
+        (length out.old.items)) }
 {
     push_zeros(out, gap_to(4, out.len()))?;
     push_u32(out, text.len())?;
@@ -226,7 +240,9 @@ fn put_text(out: &mut Vec<u8>, text: &[u8]) -> Result<(), AllocError>
 fn put_vector(out: &mut Vec<u8>, align: u8, size: u8, bytes: &[u8]) -> Result<(), AllocError>
     requires sized { 0 < size }
     requires fits { length out.old.items + length bytes.now ≤ 268435417 }
-    ensures { OnOk result (out.new.items ≡ out.old.items ++ (vector_block align (length bytes.now / size) bytes.now).bytes (length out.old.items)) }
+    ensures { OnOk result
+        (out.new.items ≡ out.old.items ++ (vector_block align (length bytes.now / size)
+        bytes.now).bytes (length out.old.items)) }
 {
     push_zeros(out, gap_to(vector_align(align), out.len() + 4))?;
     push_u32(out, bytes.len() / size as usize)?;
@@ -236,8 +252,10 @@ fn put_vector(out: &mut Vec<u8>, align: u8, size: u8, bytes: &[u8]) -> Result<()
 /// A vector of tables without these.
 fn put_offsets(out: &mut Vec<u8>, flats: &[Flat]) -> Result<(), AllocError>
     requires writable { All (λ f. IsTrue (is_writable f)) flats.now }
-    requires fits { length out.old.items + length ((tables_block (map layout flats.now)).bytes (length out.old.items)) ≤ 268435417 }
-    ensures { OnOk result (out.new.items ≡ out.old.items ++ tables_head (map layout flats.now) (length out.old.items)) }
+    requires fits { length out.old.items + length
+        ((tables_block (map layout flats.now)).bytes (length out.old.items)) ≤ 268435417 }
+    ensures { OnOk result (out.new.items ≡ out.old.items ++ tables_head (map layout flats.now)
+        (length out.old.items)) }
 {
     let gap = gap_to(4, out.len() + 4);
     push_zeros(out, gap)?;
@@ -256,7 +274,8 @@ fn put_offsets_from(
     requires writable { All (λ f. IsTrue (is_writable f)) flats.now }
     requires before { first + 4 * length flats.now ≤ below }
     requires fits { below + length (blocks (map layout flats.now) below) ≤ 268435417 }
-    ensures { OnOk result (out.new.items ≡ out.old.items ++ offsets (map layout flats.now) first below) }
+    ensures { OnOk result (out.new.items ≡ out.old.items ++ offsets (map layout flats.now) first
+        below) }
 {
     let mut at = first;
     let mut next = below;

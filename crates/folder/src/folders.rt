@@ -58,31 +58,43 @@ pub trait Folder {
 
     /// Opens the plain file that was seen at a path, to be read.
     fn open(&self, path: &str, seen: &Seen) -> Result<Self::Reading, Trouble>
-        ensures { IsTrue tells → IfOk result (λ file. HasBytes (rest file) (files self.now path.now)) };
+        ensures { IsTrue tells
+            → IfOk result (λ file. HasBytes (rest file) (files self.now path.now)) };
 
     /// Reads on in a file: some bytes, and none only at its end.
     fn read(&self, file: &mut Self::Reading, piece: &mut [u8]) -> Result<usize, Trouble>
         ensures within { IfOk result (λ count. count ≤ length piece.old) }
-        ensures read { IsTrue tells → IfOk result (λ count. ReadsOn (length piece.old) count piece.new (rest file.old) (rest file.new)) };
+        ensures read { IsTrue tells
+            → IfOk result (λ count. ReadsOn (length piece.old) count piece.new (rest file.old)
+            (rest file.new)) };
 
     /// The names in a folder, or none where no folder is. Some may be told that are no longer there.
     fn list(&self, alloc: Global, path: &str) -> Result<Option<Vec<String>>, FileFault>
-        ensures { IsTrue tells → IfOk result (λ found. MatchOption found (HoldsNone (files self.now) path.now) (λ names. TellsNames (files self.now) path.now (map string_bytes names.items))) };
+        ensures { IsTrue tells
+            → IfOk result (λ found. MatchOption found (HoldsNone (files self.now) path.now)
+            (λ names. TellsNames (files self.now) path.now (map string_bytes names.items))) };
 
     /// Makes an empty draft at a path, where nothing is.
     fn create(&mut self, path: String) -> Result<Option<Self::Draft>, Trouble>
-        ensures draft { IsTrue tells → IfOk result (λ made. IfSome made (λ draft. (aside draft ≡ string_bytes path) × (written draft ≡ []))) }
-        ensures files { IsTrue tells → SameBut (string_bytes path) (files self.old) (files self.new) }
-        ensures loose { IsTrue tells → LooserAt (string_bytes path) (loose self.old) (loose self.new) }
-        ensures left { IsTrue tells → Leaves (IsKeptBut (string_bytes path) (files self.old)) (left self.old) (left self.new) };
+        ensures draft { IsTrue tells
+            → IfOk result (λ made. IfSome made (λ draft. (aside draft ≡ string_bytes path)
+            × (written draft ≡ []))) }
+        ensures files { IsTrue tells → SameBut (string_bytes path) (files self.old)
+            (files self.new) }
+        ensures loose { IsTrue tells → LooserAt (string_bytes path) (loose self.old)
+            (loose self.new) }
+        ensures left { IsTrue tells → Leaves (IsKeptBut (string_bytes path) (files self.old))
+            (left self.old) (left self.new) };
 
     /// Writes on in a draft.
     fn write(&mut self, draft: &mut Self::Draft, bytes: &[u8]) -> Result<(), Trouble>
-        ensures written { IsTrue tells → OnOk result (written draft.new ≡ written draft.old ++ bytes.now) }
+        ensures written { IsTrue tells
+            → OnOk result (written draft.new ≡ written draft.old ++ bytes.now) }
         ensures aside { IsTrue tells → aside draft.new ≡ aside draft.old }
         ensures files { IsTrue tells → SameBut (aside draft.old) (files self.old) (files self.new) }
         ensures loose { IsTrue tells → NoLooser (loose self.old) (loose self.new) }
-        ensures left { IsTrue tells → Leaves (IsKeptBut (aside draft.old) (files self.old)) (left self.old) (left self.new) };
+        ensures left { IsTrue tells → Leaves (IsKeptBut (aside draft.old) (files self.old))
+            (left self.old) (left self.new) };
 
     /// Flushes a draft to disk.
     fn flush(&mut self, draft: &mut Self::Draft) -> Result<(), Trouble>
@@ -91,56 +103,77 @@ pub trait Folder {
         ensures aside { IsTrue tells → aside draft.new ≡ aside draft.old }
         ensures files { IsTrue tells → SameBut (aside draft.old) (files self.old) (files self.new) }
         ensures loose { IsTrue tells → NoLooser (loose self.old) (loose self.new) }
-        ensures left { IsTrue tells → Leaves (IsKeptBut (aside draft.old) (files self.old)) (left self.old) (left self.new) };
+        ensures left { IsTrue tells → Leaves (IsKeptBut (aside draft.old) (files self.old))
+            (left self.old) (left self.new) };
 
     /// Moves a draft to a path where nothing is, and tells whether it did. The draft is gone then.
     fn place_new(&mut self, draft: Self::Draft, path: &str) -> Result<bool, Trouble>
         requires { IsTrue tells → IsTrue (flushed draft) }
-        ensures loose { IsTrue tells → LoosensNew path.now (aside draft) (loose self.old) (loose self.new) result }
-        ensures placed { IsTrue tells → PlacesNew (written draft) (files self.old path.now) (files self.new path.now) result }
-        ensures files { IsTrue tells → SameButTwo path.now (aside draft) (files self.old) (files self.new) }
-        ensures left { IsTrue tells → Leaves (IsPlaced path.now (aside draft) (IsNew (written draft) (files self.old path.now)) (files self.old)) (left self.old) (left self.new) };
+        ensures loose { IsTrue tells → LoosensNew path.now (aside draft) (loose self.old)
+            (loose self.new) result }
+        ensures placed { IsTrue tells → PlacesNew (written draft) (files self.old path.now)
+            (files self.new path.now) result }
+        ensures files { IsTrue tells → SameButTwo path.now (aside draft) (files self.old)
+            (files self.new) }
+        ensures left { IsTrue tells
+            → Leaves
+            (IsPlaced path.now (aside draft) (IsNew (written draft) (files self.old path.now))
+            (files self.old)) (left self.old) (left self.new) };
 
     /// Moves a draft to a path, over the plain file there. The draft is gone then.
     fn place_over(&mut self, draft: Self::Draft, path: &str) -> Result<(), Trouble>
         requires { IsTrue tells → IsTrue (flushed draft) }
-        ensures loose { IsTrue tells → LooserAtTwo path.now (aside draft) (loose self.old) (loose self.new) }
-        ensures placed { IsTrue tells → PlacesOver (written draft) (files self.old path.now) (files self.new path.now) result }
-        ensures files { IsTrue tells → SameButTwo path.now (aside draft) (files self.old) (files self.new) }
-        ensures left { IsTrue tells → Leaves (IsPlaced path.now (aside draft) (HasBytes (written draft)) (files self.old)) (left self.old) (left self.new) };
+        ensures loose { IsTrue tells → LooserAtTwo path.now (aside draft) (loose self.old)
+            (loose self.new) }
+        ensures placed { IsTrue tells → PlacesOver (written draft) (files self.old path.now)
+            (files self.new path.now) result }
+        ensures files { IsTrue tells → SameButTwo path.now (aside draft) (files self.old)
+            (files self.new) }
+        ensures left { IsTrue tells
+            → Leaves (IsPlaced path.now (aside draft) (HasBytes (written draft)) (files self.old))
+            (left self.old) (left self.new) };
 
     /// Removes a draft, if that can be done.
     fn discard(&mut self, draft: Self::Draft)
         ensures files { IsTrue tells → SameBut (aside draft) (files self.old) (files self.new) }
         ensures loose { IsTrue tells → LooserAt (aside draft) (loose self.old) (loose self.new) }
-        ensures left { IsTrue tells → Leaves (IsKeptBut (aside draft) (files self.old)) (left self.old) (left self.new) };
+        ensures left { IsTrue tells → Leaves (IsKeptBut (aside draft) (files self.old))
+            (left self.old) (left self.new) };
 
     /// Removes the plain file at a path, and tells whether one was there.
     fn remove(&mut self, path: &str) -> Result<bool, Trouble>
-        ensures removed { IsTrue tells → Removes (files self.old path.now) (files self.new path.now) result }
+        ensures removed { IsTrue tells → Removes (files self.old path.now) (files self.new path.now)
+            result }
         ensures files { IsTrue tells → SameBut path.now (files self.old) (files self.new) }
-        ensures loose { IsTrue tells → LoosensGone path.now (loose self.old) (loose self.new) result }
-        ensures left { IsTrue tells → Leaves (IsChanged path.now (λ f. f ≡ None) (files self.old)) (left self.old) (left self.new) };
+        ensures loose { IsTrue tells → LoosensGone path.now (loose self.old) (loose self.new)
+            result }
+        ensures left { IsTrue tells → Leaves (IsChanged path.now (λ f. f ≡ None) (files self.old))
+            (left self.old) (left self.new) };
 
     /// Makes a folder where nothing is.
     fn make_folder(&mut self, path: &str) -> Result<(), Trouble>
         ensures files { IsTrue tells → (p : List ℕ) → files self.new p ≡ files self.old p }
         ensures loose { IsTrue tells → LooserAt path.now (loose self.old) (loose self.new) }
-        ensures left { IsTrue tells → Leaves (IsKept (files self.old)) (left self.old) (left self.new) };
+        ensures left { IsTrue tells → Leaves (IsKept (files self.old)) (left self.old)
+            (left self.new) };
 
     /// Flushes to disk which files a folder holds that was seen at a path.
     fn flush_folder(&mut self, path: &str, seen: &Seen) -> Result<(), Trouble>
         ensures files { IsTrue tells → (p : List ℕ) → files self.new p ≡ files self.old p }
         ensures loose { IsTrue tells → NoLooser (loose self.old) (loose self.new) }
-        ensures firm { IsTrue tells → OnOk result (Firms path.now (loose self.old) (loose self.new)) }
-        ensures left { IsTrue tells → Leaves (IsKept (files self.old)) (left self.old) (left self.new) };
+        ensures firm { IsTrue tells
+            → OnOk result (Firms path.now (loose self.old) (loose self.new)) }
+        ensures left { IsTrue tells → Leaves (IsKept (files self.old)) (left self.old)
+            (left self.new) };
 
     /// Flushes to disk which files and folders the folder at a path holds, wherever the path leads.
     fn flush_root(&mut self, path: &str) -> Result<(), Trouble>
         ensures files { IsTrue tells → (p : List ℕ) → files self.new p ≡ files self.old p }
         ensures loose { IsTrue tells → NoLooser (loose self.old) (loose self.new) }
-        ensures firm { IsTrue tells → OnOk result (Firms path.now (loose self.old) (loose self.new)) }
-        ensures left { IsTrue tells → Leaves (IsKept (files self.old)) (left self.old) (left self.new) };
+        ensures firm { IsTrue tells
+            → OnOk result (Firms path.now (loose self.old) (loose self.new)) }
+        ensures left { IsTrue tells → Leaves (IsKept (files self.old)) (left self.old)
+            (left self.new) };
 
     /// A loss of power now leaves what lies there, but for loose names.
     ghost keeps: { (s : Self) (p : List ℕ) (f : Option Stored) → IsTrue Self.tells → (Self.loose s p → ⊥) → Self.left s (Self.moment s) p f → f ≡ Self.files s p };

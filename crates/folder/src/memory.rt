@@ -125,9 +125,11 @@ impl MemoryFolder {
     /// Moves a draft to a path.
     fn place(&mut self, call: Call, draft: MemoryDraft, path: &str) -> Result<(), Trouble>
         ensures ok { OnOk result (HasBytes draft.bytes (file_at self.new.changes.items path.now)) }
-        ensures others { SameBut path.now (file_at self.old.changes.items) (file_at self.new.changes.items) }
+        ensures others { SameBut path.now (file_at self.old.changes.items)
+            (file_at self.new.changes.items) }
         ensures err { OnErr result (self.new.changes.items ≡ self.old.changes.items) }
-        ensures left { Leaves (IsKept (file_at self.new.changes.items)) (Lay self.old.changes.items) (Lay self.new.changes.items) }
+        ensures left { Leaves (IsKept (file_at self.new.changes.items)) (Lay self.old.changes.items)
+            (Lay self.new.changes.items) }
     {
         let content = Content::File {
             bytes: draft.bytes,
@@ -141,9 +143,11 @@ impl MemoryFolder {
 
     /// Changes what lies at a path.
     fn change(&mut self, path: &str, content: Content) -> Result<(), ()>
-        ensures ok { OnOk result (ChangedTo self.old.changes.items self.new.changes.items path.now content) }
+        ensures ok { OnOk result (ChangedTo self.old.changes.items self.new.changes.items path.now
+            content) }
         ensures err { OnErr result (self.new.changes.items ≡ self.old.changes.items) }
-        ensures left { Leaves (IsKept (file_at self.new.changes.items)) (Lay self.old.changes.items) (Lay self.new.changes.items) }
+        ensures left { Leaves (IsKept (file_at self.new.changes.items)) (Lay self.old.changes.items)
+            (Lay self.new.changes.items) }
     {
         let Ok(path) = String::from_str(self.alloc, path) else {
             return Err(());
@@ -157,7 +161,8 @@ impl MemoryFolder {
 
 /// What stands behind this start of a path.
 fn after<'a>(path: &'a str, start: &str) -> Option<&'a str>
-    ensures { MatchOption result ((rest : List ℕ) → path.now ≢ start.now ++ rest) (λ rest. path.now ≡ start.now ++ rest.now) }
+    ensures { MatchOption result ((rest : List ℕ) → path.now ≢ start.now ++ rest)
+        (λ rest. path.now ≡ start.now ++ rest.now) }
 {
     path.strip_prefix(start)
 }
@@ -174,7 +179,8 @@ fn first_name(inside: &str) -> &str
 
 /// The name in a folder at which or beneath which a path leads, if one is.
 fn name_in<'a>(path: &'a str, folder: &str) -> Option<&'a str>
-    ensures { (name rest : List ℕ) → IsName name → IsBehind rest → path.now ≡ folder.now ++ codes "/" ++ name ++ rest → option_copied result ≡ Some name }
+    ensures { (name rest : List ℕ) → IsName name → IsBehind rest
+        → path.now ≡ folder.now ++ codes "/" ++ name ++ rest → option_copied result ≡ Some name }
 {
     Some(first_name(after(after(path, folder)?, "/")?))
 }
@@ -186,7 +192,8 @@ fn add_name(
     folder: &str,
     names: &mut Vec<String>,
 ) -> Result<(), AllocError>
-    ensures { OnOk result (AddsName path.now folder.now (map string_bytes names.old.items) (map string_bytes names.new.items)) }
+    ensures { OnOk result (AddsName path.now folder.now (map string_bytes names.old.items)
+        (map string_bytes names.new.items)) }
 {
     if let Some(name) = name_in(path, folder) {
         names.push(String::from_str(alloc, name)?)?;

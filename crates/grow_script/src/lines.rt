@@ -24,7 +24,8 @@ fn push_byte(text: &mut String, byte: u64) -> Result<(), AllocError>
 
 fn push_chunk(text: &mut String, row: u64, column: u64, byte: u64) -> Result<(), AllocError>
     requires { byte < 256 }
-    ensures { OnOk result (string_bytes text.new ≡ string_bytes text.old ++ fill_text row column byte) }
+    ensures { OnOk result (string_bytes text.new ≡ string_bytes text.old ++ fill_text row column
+        byte) }
 {
     write!(text, "fill /x {row},{column} ")?;
     push_byte(text, byte)?;
@@ -32,7 +33,8 @@ fn push_chunk(text: &mut String, row: u64, column: u64, byte: u64) -> Result<(),
 }
 
 fn push_fill(text: &mut String, draws: &mut Draws) -> Result<(), AllocError>
-    ensures text { OnOk result (string_bytes text.new ≡ string_bytes text.old ++ fill_line draws.old.state) }
+    ensures text { OnOk result (string_bytes text.new ≡ string_bytes text.old ++ fill_line
+        draws.old.state) }
     ensures state { draws.new.state ≡ after 3 draws.old.state }
 {
     let row = draws.below(64);
@@ -42,7 +44,8 @@ fn push_fill(text: &mut String, draws: &mut Draws) -> Result<(), AllocError>
 }
 
 fn push_fills(text: &mut String, draws: &mut Draws) -> Result<(), AllocError>
-    ensures text { OnOk result (string_bytes text.new ≡ string_bytes text.old ++ fill_lines 50 draws.old.state) }
+    ensures text { OnOk result (string_bytes text.new ≡ string_bytes text.old ++ fill_lines 50
+        draws.old.state) }
     ensures state { OnOk result (draws.new.state ≡ after 150 draws.old.state) }
 {
     for _ in 0..FILLS {
@@ -52,7 +55,8 @@ fn push_fills(text: &mut String, draws: &mut Draws) -> Result<(), AllocError>
 }
 
 fn push_task(text: &mut String, draws: &mut Draws, number: u64) -> Result<(), AllocError>
-    ensures text { OnOk result (string_bytes text.new ≡ string_bytes text.old ++ grow_task number draws.old.state) }
+    ensures text { OnOk result (string_bytes text.new ≡ string_bytes text.old ++ grow_task number
+        draws.old.state) }
     ensures state { OnOk result (draws.new.state ≡ after 150 draws.old.state) }
 {
     write!(text, "task t{number} write main 9 ours\n")?;
@@ -62,7 +66,8 @@ fn push_task(text: &mut String, draws: &mut Draws, number: u64) -> Result<(), Al
 
 fn push_tasks(text: &mut String, draws: &mut Draws, count: u64) -> Result<(), AllocError>
     requires { count < 2 ^ 32 }
-    ensures text { OnOk result (string_bytes text.new ≡ string_bytes text.old ++ grow_tasks count draws.old.state) }
+    ensures text { OnOk result (string_bytes text.new ≡ string_bytes text.old ++ grow_tasks count
+        draws.old.state) }
     ensures state { OnOk result (draws.new.state ≡ after (150 * count) draws.old.state) }
 {
     for before in 0..count {
@@ -73,7 +78,8 @@ fn push_tasks(text: &mut String, draws: &mut Draws, count: u64) -> Result<(), Al
 
 fn push_turns(text: &mut String, draws: &mut Draws, tasks: u64) -> Result<(), AllocError>
     requires { (0 < tasks) × (tasks < 2 ^ 32) }
-    ensures { OnOk result (string_bytes text.new ≡ string_bytes text.old ++ drawn_turns tasks (20 * tasks) draws.old.state) }
+    ensures { OnOk result (string_bytes text.new ≡ string_bytes text.old ++ drawn_turns tasks
+        (20 * tasks) draws.old.state) }
 {
     for _ in 0..20 * tasks {
         let task = 1 + draws.below(tasks);

@@ -21,7 +21,8 @@ fn index_at<'a>(vector: &Vector<'a>, at: usize) -> Result<IndexView<'a>, FileFau
 
 /// Whether an index may stand behind the last one.
 fn index_follows(last: Option<&IndexView>, index: &IndexView) -> bool
-    ensures { result ≡ follows (option_map index_key (option_copied last.entry)) (index_key index.now) }
+    ensures { result ≡ follows (option_map index_key (option_copied last.entry))
+        (index_key index.now) }
 {
     match last {
         None => true,

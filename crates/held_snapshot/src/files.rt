@@ -33,7 +33,8 @@ impl<'a> Model for FileVector<'a> {
 
 /// Whether a manifest may stand behind the one with the last id, if there is one.
 fn file_follows(last: Option<&Id12>, file: &ManifestInfo) -> bool
-    ensures { result ≡ follows (option_map (λ id. id.0) (option_copied last.entry)) (file_key file.now) }
+    ensures { result ≡ follows (option_map (λ id. id.0) (option_copied last.entry))
+        (file_key file.now) }
 {
     match last {
         None => true,

@@ -39,7 +39,9 @@ impl<'a> Model for HeldNode<'a> {
 /// The path of node number `at`, which a table has; else the node's first fault.
 #[tactic(auto, unfolding(snapshot_file::specs::Nodes::node_of))]
 fn check_node<'a>(at: usize, table: &Table<'a>) -> Result<&'a str, FileFault>
-    ensures { MatchResult result (λ path. IsOkAnd (node_of at table.now) (λ row. row.path ≡ path.now)) (λ fault. node_of at table.now ≡ Err fault) }
+    ensures { MatchResult result
+        (λ path. IsOkAnd (node_of at table.now) (λ row. row.path ≡ path.now))
+        (λ fault. node_of at table.now ≡ Err fault) }
 {
     let _id = id8_of(table, 0)?;
     let path = text_in(table, 1)?;
@@ -61,7 +63,9 @@ fn check_node<'a>(at: usize, table: &Table<'a>) -> Result<&'a str, FileFault>
 pub(crate) fn path_at<'a>(vector: &Vector<'a>, at: usize) -> Result<&'a str, FileFault>
     requires below { at < vector.now.count }
     requires offsets { vector.now.size ≡ 4 }
-    ensures { MatchResult result (λ path. IsOkAnd (node_at vector.now at) (λ row. row.path ≡ path.now)) (λ fault. node_at vector.now at ≡ Err fault) }
+    ensures { MatchResult result
+        (λ path. IsOkAnd (node_at vector.now at) (λ row. row.path ≡ path.now))
+        (λ fault. node_at vector.now at ≡ Err fault) }
 {
     let table = vector.table_at(at)?;
     check_node(at, &table)

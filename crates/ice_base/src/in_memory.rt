@@ -112,7 +112,15 @@ impl ByteSink {
     /// Room for so many bytes. The writes whose numbers, counted from 0, stand in `fail` fail, and so
     /// does one when no room is left.
     pub fn new(alloc: Global, room: usize, fail: Vec<u64>) -> Result<ByteSink, AllocError>
-        ensures { IfOk result (λ sink. sink ≡ record { written = []; room = room; fail = fail.items; calls = 0; faults = 0 }) }
+        ensures { IfOk result
+            (λ sink. sink ≡ record {
+              written = [];
+              room = room;
+              fail = fail.items;
+              calls = 0;
+              faults
+                  = 0;
+            }) }
     {
         Ok(ByteSink {
             buffer: vec![in alloc; 0u8; room]?,

@@ -73,7 +73,8 @@ fn fault_of(text: &str) -> Option<NameFault>
 impl RefName {
     /// Reads a name. The faults come in the order in which `NameFault` lists them.
     pub fn read(alloc: Global, text: &str) -> Result<RefName, NameFault>
-        ensures { MatchResult result (λ name. (name ≡ text.now) × IsRefName text.now) (RefusesName text.now) }
+        ensures { MatchResult result (λ name. (name ≡ text.now) × IsRefName text.now)
+            (RefusesName text.now) }
     {
         if let Some(fault) = fault_of(text) {
             return Err(fault);

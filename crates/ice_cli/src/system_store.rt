@@ -42,7 +42,8 @@ impl Viewed for SystemStore {
 
 impl<L: Rule> ObjectStore<L> for SystemStore {
     fn get(&mut self, key: &Key) -> Result<Got, StoreFault>
-        ensures call { Called L.may (λ a. Reply.Got a) (Op.Get key.now) result (view_of self.old.store) (view_of self.new.store) }
+        ensures call { Called L.may (λ a. Reply.Got a) (Op.Get key.now) result
+            (view_of self.old.store) (view_of self.new.store) }
         ensures content { IfOk result (IsRightGot key.now) }
         ensures made { IsMade result (operations_of self.old.store) (operations_of self.new.store) }
     {
@@ -50,7 +51,8 @@ impl<L: Rule> ObjectStore<L> for SystemStore {
     }
 
     fn put_new(&mut self, key: &Key, bytes: &[u8], why: Why) -> Result<New, StoreFault>
-        ensures call { Called L.may (λ a. Reply.New a) (Op.PutNew key.now bytes.now why) result (view_of self.old.store) (view_of self.new.store) }
+        ensures call { Called L.may (λ a. Reply.New a) (Op.PutNew key.now bytes.now why) result
+            (view_of self.old.store) (view_of self.new.store) }
         ensures content { IfOk result (IsRightNew key.now bytes.now) }
         ensures made { IsMade result (operations_of self.old.store) (operations_of self.new.store) }
     {
@@ -64,7 +66,8 @@ impl<L: Rule> ObjectStore<L> for SystemStore {
         old: Version,
         why: Why,
     ) -> Result<Over, StoreFault>
-        ensures call { Called L.may (λ a. Reply.Over a) (Op.PutOver key.now bytes.now old why) result (view_of self.old.store) (view_of self.new.store) }
+        ensures call { Called L.may (λ a. Reply.Over a) (Op.PutOver key.now bytes.now old why)
+            result (view_of self.old.store) (view_of self.new.store) }
         ensures content { IfOk result (IsRightOver key.now bytes.now old) }
         ensures made { IsMade result (operations_of self.old.store) (operations_of self.new.store) }
     {
@@ -72,14 +75,16 @@ impl<L: Rule> ObjectStore<L> for SystemStore {
     }
 
     fn remove(&mut self, key: &Key, why: Why) -> Result<Gone, StoreFault>
-        ensures call { Called L.may (λ a. Reply.Gone a) (Op.Remove key.now why) result (view_of self.old.store) (view_of self.new.store) }
+        ensures call { Called L.may (λ a. Reply.Gone a) (Op.Remove key.now why) result
+            (view_of self.old.store) (view_of self.new.store) }
         ensures made { IsMade result (operations_of self.old.store) (operations_of self.new.store) }
     {
         ObjectStore::<L>::remove(&mut self.store, key, why)
     }
 
     fn remove_at(&mut self, key: &Key, old: Version, why: Why) -> Result<GoneAt, StoreFault>
-        ensures call { Called L.may (λ a. Reply.GoneAt a) (Op.RemoveAt key.now old why) result (view_of self.old.store) (view_of self.new.store) }
+        ensures call { Called L.may (λ a. Reply.GoneAt a) (Op.RemoveAt key.now old why) result
+            (view_of self.old.store) (view_of self.new.store) }
         ensures content { IfOk result (IsRightGoneAt old) }
         ensures made { IsMade result (operations_of self.old.store) (operations_of self.new.store) }
     {
@@ -87,7 +92,8 @@ impl<L: Rule> ObjectStore<L> for SystemStore {
     }
 
     fn list(&mut self, part: Part) -> Result<Listed, StoreFault>
-        ensures call { Called L.may (λ a. Reply.Listed a) (Op.List part) result (view_of self.old.store) (view_of self.new.store) }
+        ensures call { Called L.may (λ a. Reply.Listed a) (Op.List part) result
+            (view_of self.old.store) (view_of self.new.store) }
         ensures content { IfOk result (λ listed. IsListed part listed.entries) }
         ensures made { IsMade result (operations_of self.old.store) (operations_of self.new.store) }
     {

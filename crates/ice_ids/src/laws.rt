@@ -15,7 +15,8 @@ use crate::{Id8, Id12, Ids};
 /// the id that it is read as. A text has 20 letters, and no space, quote or line feed.
 pub fn texts_of_object_ids()
     ensures read { (id : Id12) → IsId12 id → id12_of_text (id12_text id) ≡ Ok id }
-    ensures written { (text : List ℕ) (id : Id12) → id12_of_text text ≡ Ok id → (text ≡ id12_text id) × IsId12 id }
+    ensures written { (text : List ℕ) (id : Id12) → id12_of_text text ≡ Ok id
+        → (text ≡ id12_text id) × IsId12 id }
     ensures long { (id : Id12) → length (id12_text id) ≡ 20 }
     ensures plain { (id : Id12) → All (λ letter. (47 < letter) × (letter < 91)) (id12_text id) }
 {}
@@ -24,7 +25,8 @@ pub fn texts_of_object_ids()
 /// id that it is read as. A text has 13 letters, and no space, quote or line feed.
 pub fn texts_of_node_ids()
     ensures read { (id : Id8) → IsId8 id → id8_of_text (id8_text id) ≡ Ok id }
-    ensures written { (text : List ℕ) (id : Id8) → id8_of_text text ≡ Ok id → (text ≡ id8_text id) × IsId8 id }
+    ensures written { (text : List ℕ) (id : Id8) → id8_of_text text ≡ Ok id → (text ≡ id8_text id)
+        × IsId8 id }
     ensures long { (id : Id8) → length (id8_text id) ≡ 13 }
     ensures plain { (id : Id8) → All (λ letter. (47 < letter) × (letter < 91)) (id8_text id) }
 {}
@@ -41,8 +43,10 @@ pub fn compared_by_bytes()
 /// whichever way ids are drawn, a draw leaves one fewer to draw.
 pub fn drawn_ids()
     ensures once { (most : ℕ) → most < 2 ^ 32 → DrawsOnce Draw.Count most }
-    ensures lowered { (ids : AnyIds) (id : Id12) → drawn12 ids ≡ Some id → left_of ids ≡ left_of (after12 ids) + 1 }
-    ensures lowered_too { (ids : AnyIds) (id : Id8) → drawn8 ids ≡ Some id → left_of ids ≡ left_of (after8 ids) + 1 }
+    ensures lowered { (ids : AnyIds) (id : Id12) → drawn12 ids ≡ Some id
+        → left_of ids ≡ left_of (after12 ids) + 1 }
+    ensures lowered_too { (ids : AnyIds) (id : Id8) → drawn8 ids ≡ Some id
+        → left_of ids ≡ left_of (after8 ids) + 1 }
     ensures spelled { Id12.INITIAL ≡ initial_id }
 {}
 

@@ -64,7 +64,8 @@ impl ObjectIds {
     pub fn insert(&mut self, id: Id12) -> Result<bool, AllocError>
         ensures ok { OnOk result (self.new ≡ with_object self.old id) }
         ensures added { IfOk result (λ added. added ≡ not (has_object self.old id)) }
-        ensures members { OnOk result ((other : TheId) → has_object self.new other ≡ has_object (id ∷ self.old) other) }
+        ensures members { OnOk result ((other : TheId) → has_object self.new other
+            ≡ has_object (id ∷ self.old) other) }
         ensures err { OnErr result (self.new ≡ self.old) }
     {
         let added = self.ids.insert(id)?;

@@ -56,7 +56,8 @@ fn want_in(found: &Found<'_>) -> u64
 /// How many bytes a chunk of row number `row` has.
 fn want_at(loaded: &Loaded, row: usize) -> u64
     requires { row < length loaded.now.nodes }
-    ensures { (node : NodeRow) → slice_get loaded.now.nodes row ≡ Some node → result ≡ want_of node }
+    ensures { (node : NodeRow) → slice_get loaded.now.nodes row ≡ Some node
+        → result ≡ want_of node }
 {
     let _rows = loaded.file().nodes().len();
     let (_, found) = loaded.row(row);
@@ -66,7 +67,9 @@ fn want_at(loaded: &Loaded, row: usize) -> u64
 /// Manifest number `at` of row number `row`.
 fn file_at(loaded: &Loaded, row: usize, at: usize) -> FileVisit
     requires { IsFileAt loaded.now.nodes row at }
-    ensures { (node : NodeRow) (manifest : ManifestRef) → slice_get loaded.now.nodes row ≡ Some node → slice_get (manifests_named node.kind) at ≡ Some manifest → result ≡ file_for node manifest }
+    ensures { (node : NodeRow) (manifest : ManifestRef) → slice_get loaded.now.nodes row ≡ Some node
+        → slice_get (manifests_named node.kind) at ≡ Some manifest
+        → result ≡ file_for node manifest }
 {
     let rows = loaded.file().nodes();
     let node = rows.at(row);

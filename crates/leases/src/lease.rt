@@ -87,8 +87,10 @@ impl Lease {
     /// One operation of the store.
     pub fn step<S: Store>(&mut self, store: &mut S)
         requires live { IsLive (lease_rest self.old) }
-        requires polite { IsTrue (S.view store.old).caller.tells → PlayIsPolite (lease_rest self.old) (S.view store.old).seen }
-        ensures acts { Acts tells_fault (S.view store.old) (S.view store.new) (lease_rest self.old) (lease_rest self.new) }
+        requires polite { IsTrue (S.view store.old).caller.tells
+            → PlayIsPolite (lease_rest self.old) (S.view store.old).seen }
+        ensures acts { Acts tells_fault (S.view store.old) (S.view store.new) (lease_rest self.old)
+            (lease_rest self.new) }
         ensures falls { lease_left self.new < lease_left self.old }
     {
         // The old state is taken out.

@@ -33,8 +33,10 @@ pub enum Leasing {
 /// One step of a lease that stands here.
 pub(crate) fn step_on<S: Store>(id: Id12, state: Leasing, store: &mut S) -> Leasing
     requires live { IsLive (leasing_rest id state) }
-    requires polite { IsTrue (S.view store.old).caller.tells → PlayIsPolite (leasing_rest id state) (S.view store.old).seen }
-    ensures acts { Acts tells_fault (S.view store.old) (S.view store.new) (leasing_rest id state) (leasing_rest id result) }
+    requires polite { IsTrue (S.view store.old).caller.tells
+        → PlayIsPolite (leasing_rest id state) (S.view store.old).seen }
+    ensures acts { Acts tells_fault (S.view store.old) (S.view store.new) (leasing_rest id state)
+        (leasing_rest id result) }
     ensures falls { leasing_left result < leasing_left state }
 {
     match state {
@@ -47,7 +49,8 @@ pub(crate) fn step_on<S: Store>(id: Id12, state: Leasing, store: &mut S) -> Leas
 /// Puts the lease.
 fn step_put<S: Store>(id: Id12, base: Id12, witness: Witness, store: &mut S) -> Leasing
     requires { MayCall (S.view store.old) (Op.PutNew (Key.Lease id) (ref_bytes base) Why.Lease) }
-    ensures acts { Acts tells_fault (S.view store.old) (S.view store.new) (lease_play id base witness) (leasing_rest id result) }
+    ensures acts { Acts tells_fault (S.view store.old) (S.view store.new)
+        (lease_play id base witness) (leasing_rest id result) }
     ensures falls { leasing_left result < 2 }
 {
     let file = ref_write(base);
@@ -57,7 +60,8 @@ fn step_put<S: Store>(id: Id12, base: Id12, witness: Witness, store: &mut S) -> 
 
 /// Where a lease stands behind the answer to its put. A put that failed may have been done.
 fn after_put(id: Id12, witness: Witness, answer: Result<New, StoreFault>) -> Leasing
-    ensures follows { Follows (λ new. Reply.New new) (ends_with None (Err Refusal.NoMemory)) (after_put id witness) answer (leasing_rest id result) }
+    ensures follows { Follows (λ new. Reply.New new) (ends_with None (Err Refusal.NoMemory))
+        (after_put id witness) answer (leasing_rest id result) }
     ensures calm { CalmAfter tells_fault answer (leasing_rest id result) }
     ensures falls { leasing_left result < 2 }
 {
@@ -72,7 +76,8 @@ fn after_put(id: Id12, witness: Witness, answer: Result<New, StoreFault>) -> Lea
 
 /// Gets what has to confirm the lease.
 fn step_confirm<S: Store>(id: Id12, witness: Witness, store: &mut S) -> Leasing
-    ensures acts { Acts tells_fault (S.view store.old) (S.view store.new) (confirm_play id witness) (leasing_rest id result) }
+    ensures acts { Acts tells_fault (S.view store.old) (S.view store.new) (confirm_play id witness)
+        (leasing_rest id result) }
     ensures falls { leasing_left result < 1 }
 {
     match witness {
@@ -89,7 +94,8 @@ fn step_confirm<S: Store>(id: Id12, witness: Witness, store: &mut S) -> Leasing
 
 /// Where a lease ends behind the get of the session's branch, which has to stand at this version.
 fn after_branch(id: Id12, version: Version, answer: Result<Got, StoreFault>) -> Leasing
-    ensures follows { Follows (λ got. Reply.Got got) (ends_with (Some id) (Err Refusal.NoMemory)) (after_confirm id (stands_at version)) answer (leasing_rest id result) }
+    ensures follows { Follows (λ got. Reply.Got got) (ends_with (Some id) (Err Refusal.NoMemory))
+        (after_confirm id (stands_at version)) answer (leasing_rest id result) }
     ensures calm { CalmAfter tells_fault answer (leasing_rest id result) }
     ensures falls { leasing_left result < 1 }
 {
@@ -102,7 +108,8 @@ fn after_branch(id: Id12, version: Version, answer: Result<Got, StoreFault>) -> 
 
 /// Where a lease ends behind the get of the tombstone of the session's tag, which has to be absent.
 fn after_tombstone(id: Id12, answer: Result<Got, StoreFault>) -> Leasing
-    ensures follows { Follows (λ got. Reply.Got got) (ends_with (Some id) (Err Refusal.NoMemory)) (after_confirm id has_none) answer (leasing_rest id result) }
+    ensures follows { Follows (λ got. Reply.Got got) (ends_with (Some id) (Err Refusal.NoMemory))
+        (after_confirm id has_none) answer (leasing_rest id result) }
     ensures calm { CalmAfter tells_fault answer (leasing_rest id result) }
     ensures falls { leasing_left result < 1 }
 {

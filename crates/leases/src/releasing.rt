@@ -13,7 +13,8 @@ use store_api::{Gone, Key, Refusal, Store, StoreFault, Why};
 /// Releases a lease, by one operation of the store: it removes the lease, and an absent one is fine. Refusals: `StoreFault`, and
 /// then it was removed or not; `NoMemory`, and then nothing was done.
 pub fn release<S: Store>(id: Id12, store: &mut S) -> Result<(), Refusal>
-    ensures acts { Acts fails (S.view store.old) (S.view store.new) (release_play id) (Ended result) }
+    ensures acts { Acts fails (S.view store.old) (S.view store.new) (release_play id)
+        (Ended result) }
     ensures listed { IfErr result MayRefuseRelease }
 {
     let answer = store.remove(&Key::Lease(id), Why::Lease);
@@ -22,7 +23,8 @@ pub fn release<S: Store>(id: Id12, store: &mut S) -> Result<(), Refusal>
 
 /// What the answer to the removal of a lease tells.
 fn released(answer: Result<Gone, StoreFault>) -> Result<(), Refusal>
-    ensures follows { Follows (λ gone. Reply.Gone gone) (Ended (Err Refusal.NoMemory)) after_release answer (Ended result) }
+    ensures follows { Follows (λ gone. Reply.Gone gone) (Ended (Err Refusal.NoMemory)) after_release
+        answer (Ended result) }
     ensures calm { CalmAfter fails answer (Ended result) }
     ensures listed { IfErr result MayRefuseRelease }
 {

@@ -126,7 +126,8 @@ fn array_at(
 
 /// Whether an array may stand behind the last one.
 fn array_follows(last: Option<&ArrayRefs>, array: &ArrayRefs) -> bool
-    ensures { result ≡ follows (option_map array_key (option_copied last.entry)) (array_key array.now) }
+    ensures { result ≡ follows (option_map array_key (option_copied last.entry))
+        (array_key array.now) }
 {
     match last {
         None => true,

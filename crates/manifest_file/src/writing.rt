@@ -19,7 +19,8 @@ use std::alloc::{AllocError, Global};
 /// The table of a chunk whose bytes stand in the manifest.
 fn inline_table(alloc: Global, index: Slot, bytes: &Bytes) -> Result<Flat, AllocError>
     requires { IsTrue (is_writable_slot index) }
-    ensures block { IfOk result (λ f. layout f ≡ table_block (part_of index ∷ place_parts (Place.Inline bytes.now))) }
+    ensures block { IfOk result
+        (λ f. layout f ≡ table_block (part_of index ∷ place_parts (Place.Inline bytes.now))) }
     ensures writable { IfOk result (λ f. IsTrue (is_writable f)) }
     ensures sized { OnOk result (IsBytes bytes.now) }
 {
@@ -47,7 +48,9 @@ fn object_table(
     length: u64,
 ) -> Result<Flat, AllocError>
     requires { IsTrue (is_writable_slot index) }
-    ensures block { IfOk result (λ f. layout f ≡ table_block (part_of index ∷ place_parts (Place.Object id.now offset length))) }
+    ensures block { IfOk result
+        (λ f. layout f
+        ≡ table_block (part_of index ∷ place_parts (Place.Object id.now offset length))) }
     ensures writable { IfOk result (λ f. IsTrue (is_writable f)) }
     ensures sized { OnOk result (IsId12 id.now) }
 {
@@ -134,7 +137,8 @@ fn manifest_table(alloc: Global, manifest: &ManifestFile) -> Result<Flat, AllocE
 
 /// The payload of a manifest's file.
 fn manifest_payload(alloc: Global, manifest: &ManifestFile) -> Result<Vec<u8>, WriteFault>
-    ensures written { let bytes = payload (manifest_block manifest.now) in Writes result bytes (39 + length bytes) }
+    ensures written { let bytes = payload (manifest_block manifest.now) in Writes result bytes
+        (39 + length bytes) }
     ensures sized { OnOk result (IsManifest manifest.now) }
 {
     let table = manifest_table(alloc, manifest)?;

@@ -14,7 +14,8 @@ pub(crate) type Chunks = BTreeMap<Index, Place>;
 
 /// The chunk at an index is here from now on, and nowhere where there is no place.
 pub(crate) fn set(chunks: &mut Chunks, index: Index, place: Option<Place>) -> Result<(), AllocError>
-    ensures { OnOk result ((q : List ℕ) → chunk_at q chunks.new ≡ (if bytes_eq index q then place else chunk_at q chunks.old)) }
+    ensures { OnOk result ((q : List ℕ)
+        → chunk_at q chunks.new ≡ (if bytes_eq index q then place else chunk_at q chunks.old)) }
 {
     match place {
         Some(place) => {

@@ -25,7 +25,11 @@ fn enter_ref(
     extents: &[(u32, u32)],
     chunk: &RefView<'_>,
 ) -> Result<(), AllocError>
-    ensures { OnOk result ((q : List ℕ) → chunk_at q chunks.new ≡ option_or (ranked rank q (if within extents.now q && bytes_eq chunk.now.index q then Some chunk.now.place else None)) (chunk_at q chunks.old)) }
+    ensures { OnOk result ((q : List ℕ)
+        → chunk_at q chunks.new
+        ≡ option_or
+        (ranked rank q (if within extents.now q && bytes_eq chunk.now.index q then Some
+        chunk.now.place else None)) (chunk_at q chunks.old)) }
 {
     let index = own_index(alloc, chunk)?;
     if index.parts().len() != rank {
@@ -46,7 +50,10 @@ fn enter_refs(
     extents: &[(u32, u32)],
     refs: &Refs<'_>,
 ) -> Result<(), AllocError>
-    ensures { OnOk result ((q : List ℕ) → chunk_at q chunks.new ≡ option_or (ranked rank q (if within extents.now q then place_of q refs.now else None)) (chunk_at q chunks.old)) }
+    ensures { OnOk result ((q : List ℕ)
+        → chunk_at q chunks.new
+        ≡ option_or (ranked rank q (if within extents.now q then place_of q refs.now else None))
+        (chunk_at q chunks.old)) }
 {
     for k in (0..refs.len()).rev() {
         enter_ref(alloc, chunks, rank, extents, &refs.at(k))?;
@@ -78,7 +85,9 @@ fn enter_manifest(
     node: Id8,
     manifest: &(Items<(u32, u32)>, Held),
 ) -> Result<(), AllocError>
-    ensures entered { OnOk result ((q : List ℕ) → chunk_at q chunks.new ≡ option_or (ranked rank q (entry_seen node q manifest.now)) (chunk_at q chunks.old)) }
+    ensures entered { OnOk result ((q : List ℕ)
+        → chunk_at q chunks.new ≡ option_or (ranked rank q (entry_seen node q manifest.now))
+        (chunk_at q chunks.old)) }
     ensures sized { All IsSized manifest.now.0 }
 {
     let (extents, held) = manifest;
@@ -97,7 +106,8 @@ fn old_chunks(
     node: Id8,
     manifests: &[(Items<(u32, u32)>, Held)],
 ) -> Result<Chunks, AllocError>
-    ensures found { IfOk result (λ chunks. (q : List ℕ) → chunk_at q chunks ≡ ranked rank q (look_up node q manifests.now)) }
+    ensures found { IfOk result (λ chunks. (q : List ℕ)
+        → chunk_at q chunks ≡ ranked rank q (look_up node q manifests.now)) }
     ensures sized { OnOk result (All (λ m. All IsSized m.0) manifests.now) }
 {
     let mut chunks = BTreeMap::new(alloc);
@@ -114,7 +124,10 @@ fn enter_change(
     rank: usize,
     change: &(Index, Option<Place>),
 ) -> Result<(), AllocError>
-    ensures { OnOk result ((q : List ℕ) → chunk_at q chunks.new ≡ (if (length q == rank) && bytes_eq change.now.0 q then change.now.1 else chunk_at q chunks.old)) }
+    ensures { OnOk result ((q : List ℕ)
+        → chunk_at q chunks.new
+        ≡ (if (length q == rank) && bytes_eq change.now.0 q then change.now.1 else chunk_at q
+        chunks.old)) }
 {
     let (index, place) = change;
     if index.parts().len() != rank {
@@ -130,7 +143,9 @@ fn enter_changes(
     rank: usize,
     change: &[(Index, Option<Place>)],
 ) -> Result<(), AllocError>
-    ensures { OnOk result ((q : List ℕ) → chunk_at q chunks.new ≡ (if length q == rank then unwrap_or (changed_at q change.now) (chunk_at q chunks.old) else chunk_at q chunks.old)) }
+    ensures { OnOk result ((q : List ℕ)
+        → chunk_at q chunks.new ≡ (if length q == rank then unwrap_or (changed_at q change.now)
+        (chunk_at q chunks.old) else chunk_at q chunks.old)) }
 {
     for k in (0..change.len()).rev() {
         enter_change(alloc, chunks, rank, &change[k])?;
@@ -158,8 +173,10 @@ pub fn merge(
     requires { All (λ c. IsTrue (are_low c.0)) change.now }
     ensures is { IfOk result (λ found. found ≡ merged_array rank node old.now change.now) }
     ensures merged { IfOk result (IsMerged rank node old.now change.now) }
-    ensures ranks { IfOk result (λ merged. IfSome merged (λ array. All (λ r. length r.index ≡ rank) array.refs)) }
-    ensures low { IfOk result (λ merged. IfSome merged (λ array. All (λ r. IsTrue (are_low r.index)) array.refs)) }
+    ensures ranks { IfOk result
+        (λ merged. IfSome merged (λ array. All (λ r. length r.index ≡ rank) array.refs)) }
+    ensures low { IfOk result
+        (λ merged. IfSome merged (λ array. All (λ r. IsTrue (are_low r.index)) array.refs)) }
 {
     let mut chunks = old_chunks(alloc, rank, node, old)?;
     enter_changes(alloc, &mut chunks, rank, change)?;

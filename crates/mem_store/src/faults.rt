@@ -76,8 +76,10 @@ fn attempt<R: Rule, S: Failing<R>>(
     store: &mut FaultStore<S>,
     op: &OpRef<'_>,
 ) -> Result<Reply, StoreFault>
-    ensures call { Called R.may (λ reply. reply) (op_lent op.now) result (faulty_view S.view store.old) (faulty_view S.view store.new) }
-    ensures plan { GoesByPlan R.may S.view S.does S.fails (op_lent op.now) result store.old store.new }
+    ensures call { Called R.may (λ reply. reply) (op_lent op.now) result
+        (faulty_view S.view store.old) (faulty_view S.view store.new) }
+    ensures plan { GoesByPlan R.may S.view S.does S.fails (op_lent op.now) result store.old
+        store.new }
     ensures fits { IfOk result (Fits (op_lent op.now)) }
     ensures answered { IfOk result (λ reply. has_failed reply ≡ false) }
 {
@@ -98,8 +100,10 @@ impl<R: Rule, S: Failing<R>> ObjectStore<R> for FaultStore<S> {
     ghost use Rattle.mem_store.specs.Failing.{faulty_view, as_reply, GoesByPlan};
 
     fn get(&mut self, key: &Key) -> Result<Got, StoreFault>
-        ensures call { Called R.may (λ got. Reply.Got got) (Op.Get key.now) result (faulty_view S.view self.old) (faulty_view S.view self.new) }
-        ensures plan { GoesByPlan R.may S.view S.does S.fails (Op.Get key.now) (as_reply (λ got. Reply.Got got) result) self.old self.new }
+        ensures call { Called R.may (λ got. Reply.Got got) (Op.Get key.now) result
+            (faulty_view S.view self.old) (faulty_view S.view self.new) }
+        ensures plan { GoesByPlan R.may S.view S.does S.fails (Op.Get key.now)
+            (as_reply (λ got. Reply.Got got) result) self.old self.new }
     {
         match attempt::<R, S>(self, &OpRef::Get { key })? {
             Reply::Got(got) => Ok(got),
@@ -108,8 +112,10 @@ impl<R: Rule, S: Failing<R>> ObjectStore<R> for FaultStore<S> {
     }
 
     fn put_new(&mut self, key: &Key, bytes: &[u8], why: Why) -> Result<New, StoreFault>
-        ensures call { Called R.may (λ new. Reply.New new) (Op.PutNew key.now bytes.now why) result (faulty_view S.view self.old) (faulty_view S.view self.new) }
-        ensures plan { GoesByPlan R.may S.view S.does S.fails (Op.PutNew key.now bytes.now why) (as_reply (λ new. Reply.New new) result) self.old self.new }
+        ensures call { Called R.may (λ new. Reply.New new) (Op.PutNew key.now bytes.now why) result
+            (faulty_view S.view self.old) (faulty_view S.view self.new) }
+        ensures plan { GoesByPlan R.may S.view S.does S.fails (Op.PutNew key.now bytes.now why)
+            (as_reply (λ new. Reply.New new) result) self.old self.new }
     {
         match attempt::<R, S>(self, &OpRef::PutNew { key, bytes, why })? {
             Reply::New(new) => Ok(new),
@@ -124,8 +130,10 @@ impl<R: Rule, S: Failing<R>> ObjectStore<R> for FaultStore<S> {
         old: Version,
         why: Why,
     ) -> Result<Over, StoreFault>
-        ensures call { Called R.may (λ over. Reply.Over over) (Op.PutOver key.now bytes.now old why) result (faulty_view S.view self.old) (faulty_view S.view self.new) }
-        ensures plan { GoesByPlan R.may S.view S.does S.fails (Op.PutOver key.now bytes.now old why) (as_reply (λ over. Reply.Over over) result) self.old self.new }
+        ensures call { Called R.may (λ over. Reply.Over over) (Op.PutOver key.now bytes.now old why)
+            result (faulty_view S.view self.old) (faulty_view S.view self.new) }
+        ensures plan { GoesByPlan R.may S.view S.does S.fails (Op.PutOver key.now bytes.now old why)
+            (as_reply (λ over. Reply.Over over) result) self.old self.new }
     {
         let op = OpRef::PutOver {
             key,
@@ -140,8 +148,10 @@ impl<R: Rule, S: Failing<R>> ObjectStore<R> for FaultStore<S> {
     }
 
     fn remove(&mut self, key: &Key, why: Why) -> Result<Gone, StoreFault>
-        ensures call { Called R.may (λ gone. Reply.Gone gone) (Op.Remove key.now why) result (faulty_view S.view self.old) (faulty_view S.view self.new) }
-        ensures plan { GoesByPlan R.may S.view S.does S.fails (Op.Remove key.now why) (as_reply (λ gone. Reply.Gone gone) result) self.old self.new }
+        ensures call { Called R.may (λ gone. Reply.Gone gone) (Op.Remove key.now why) result
+            (faulty_view S.view self.old) (faulty_view S.view self.new) }
+        ensures plan { GoesByPlan R.may S.view S.does S.fails (Op.Remove key.now why)
+            (as_reply (λ gone. Reply.Gone gone) result) self.old self.new }
     {
         match attempt::<R, S>(self, &OpRef::Remove { key, why })? {
             Reply::Gone(gone) => Ok(gone),
@@ -150,8 +160,10 @@ impl<R: Rule, S: Failing<R>> ObjectStore<R> for FaultStore<S> {
     }
 
     fn remove_at(&mut self, key: &Key, old: Version, why: Why) -> Result<GoneAt, StoreFault>
-        ensures call { Called R.may (λ gone. Reply.GoneAt gone) (Op.RemoveAt key.now old why) result (faulty_view S.view self.old) (faulty_view S.view self.new) }
-        ensures plan { GoesByPlan R.may S.view S.does S.fails (Op.RemoveAt key.now old why) (as_reply (λ gone. Reply.GoneAt gone) result) self.old self.new }
+        ensures call { Called R.may (λ gone. Reply.GoneAt gone) (Op.RemoveAt key.now old why) result
+            (faulty_view S.view self.old) (faulty_view S.view self.new) }
+        ensures plan { GoesByPlan R.may S.view S.does S.fails (Op.RemoveAt key.now old why)
+            (as_reply (λ gone. Reply.GoneAt gone) result) self.old self.new }
     {
         match attempt::<R, S>(self, &OpRef::RemoveAt { key, old, why })? {
             Reply::GoneAt(gone) => Ok(gone),
@@ -160,8 +172,10 @@ impl<R: Rule, S: Failing<R>> ObjectStore<R> for FaultStore<S> {
     }
 
     fn list(&mut self, part: Part) -> Result<Listed, StoreFault>
-        ensures call { Called R.may (λ listed. Reply.Listed listed) (Op.List part) result (faulty_view S.view self.old) (faulty_view S.view self.new) }
-        ensures plan { GoesByPlan R.may S.view S.does S.fails (Op.List part) (as_reply (λ listed. Reply.Listed listed) result) self.old self.new }
+        ensures call { Called R.may (λ listed. Reply.Listed listed) (Op.List part) result
+            (faulty_view S.view self.old) (faulty_view S.view self.new) }
+        ensures plan { GoesByPlan R.may S.view S.does S.fails (Op.List part)
+            (as_reply (λ listed. Reply.Listed listed) result) self.old self.new }
     {
         match attempt::<R, S>(self, &OpRef::List { part })? {
             Reply::Listed(listed) => Ok(listed),
@@ -178,7 +192,8 @@ impl<S: Telling> WholeStore for FaultStore<S> {
     ghost tells = { S.tells };
 
     fn set_client(&mut self, client: u32)
-        ensures view { faulty_view S.view self.new ≡ as_client client (faulty_view S.view self.old) }
+        ensures view { faulty_view S.view self.new ≡ as_client client
+            (faulty_view S.view self.old) }
         ensures exact { ServesBeneath S.serves client self.old self.new }
         ensures since { since_making S.view self.new ≡ since_making S.view self.old }
     {

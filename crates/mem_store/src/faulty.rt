@@ -41,13 +41,15 @@ pub trait Failing<R: Rule>: ObjectStore<R> + Telling {
 
     /// Makes an operation.
     fn make(&mut self, op: &OpRef<'_>) -> Result<Reply, StoreFault>
-        ensures called { Called R.may (λ reply. reply) (op_lent op.now) result (Self.view self.old) (Self.view self.new) }
+        ensures called { Called R.may (λ reply. reply) (op_lent op.now) result (Self.view self.old)
+            (Self.view self.new) }
         ensures exact { does (op_lent op.now) result self.old self.new }
         ensures fits { IfOk result (Fits (op_lent op.now)) }
         ensures answered { IfOk result (λ reply. has_failed reply ≡ false) };
 
     /// Makes an operation fail. The failure is one event, and the operation was done first or not.
     fn fail(&mut self, op: &OpRef<'_>, done: bool) -> StoreFault
-        ensures failed { MadeFail R.may done (op_lent op.now) result (Self.view self.old) (Self.view self.new) }
+        ensures failed { MadeFail R.may done (op_lent op.now) result (Self.view self.old)
+            (Self.view self.new) }
         ensures exact { fails done (op_lent op.now) result self.old self.new };
 }

@@ -53,7 +53,8 @@ impl Index {
 
     /// A put stands at its key.
     fn enter(&mut self, key: Key, place: u64) -> Result<(), AllocError>
-        ensures ok { OnOk result ((q : Name) → place_in self.new q ≡ (if same_key key q then Some place else place_in self.old q)) }
+        ensures ok { OnOk result ((q : Name)
+            → place_in self.new q ≡ (if same_key key q then Some place else place_in self.old q)) }
         ensures err { OnErr result ((q : Name) → place_in self.new q ≡ place_in self.old q) }
     {
         self.shelves[key.part().place()].insert(key, place)?;
@@ -62,7 +63,8 @@ impl Index {
 
     /// Nothing stands at the key any more.
     fn leave(&mut self, key: &Key)
-        ensures { (q : Name) → place_in self.new q ≡ (if same_key key.now q then None else place_in self.old q) }
+        ensures { (q : Name)
+            → place_in self.new q ≡ (if same_key key.now q then None else place_in self.old q) }
     {
         self.shelves[key.part().place()].remove(key);
     }
@@ -75,7 +77,8 @@ impl Index {
         done: bool,
         place: u64,
     ) -> Result<(), AllocError>
-        ensures ok { OnOk result ((q : Name) → place_in self.new q ≡ place_after place op.now done q (place_in self.old q)) }
+        ensures ok { OnOk result ((q : Name) → place_in self.new q ≡ place_after place op.now done q
+            (place_in self.old q)) }
         ensures err { OnErr result ((q : Name) → place_in self.new q ≡ place_in self.old q) }
     {
         let Some(key) = changed_key(op) else {

@@ -114,8 +114,10 @@ impl Journal {
         op: Op,
         answer: Answer,
     ) -> Result<u64, AllocError>
-        ensures added { IfOk result (λ time. self.new ≡ self.old ++ event_in self.old (record { client = client; op = op; answer = answer; time = time }) ∷ []) }
-        ensures timely { IfOk result (λ time. IsTime C.gives clock.old clock.new (last_time self.old) time) }
+        ensures added { IfOk result (λ time. self.new ≡ self.old ++ event_in self.old
+            (record { client = client; op = op; answer = answer; time = time }) ∷ []) }
+        ensures timely { IfOk result
+            (λ time. IsTime C.gives clock.old clock.new (last_time self.old) time) }
         ensures fits { IfOk result (λ time. time < 2 ^ 64) }
         ensures err { OnErr result (self.new ≡ self.old) }
         ensures clock { OnErr result (clock.new ≡ clock.old) }
@@ -150,7 +152,9 @@ fn make_room(
 ) -> Result<(), AllocError>
     ensures room { OnOk result (vec_len logs.new < vec_capacity logs.new) }
     ensures logs { logs.new.items ≡ logs.old.items }
-    ensures ok { OnOk result ((q : Name) → place_in index.new q ≡ place_after (length logs.old.items) op.now done q (place_in index.old q)) }
+    ensures ok { OnOk result ((q : Name)
+        → place_in index.new q ≡ place_after (length logs.old.items) op.now done q
+        (place_in index.old q)) }
     ensures err { OnErr result ((q : Name) → place_in index.new q ≡ place_in index.old q) }
 {
     logs.reserve(1)?;

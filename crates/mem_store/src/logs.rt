@@ -128,7 +128,8 @@ pub(crate) fn put_in(logs: &[Logged], place: u64) -> Held<'_>
 
 /// What an operation after these events answers, where the put `at` stands at its key.
 fn answered<'a>(before: &'a [Logged], op: &Op, at: Option<u64>, now: u64) -> ReplyRef<'a>
-    ensures { reply_lent result ≡ answered_by (length (told before.now)) now op.now (puts_in (told before.now) at) }
+    ensures { reply_lent result ≡ answered_by (length (told before.now)) now op.now
+        (puts_in (told before.now) at) }
 {
     let place = before.len() as u64;
     match op {
@@ -158,7 +159,8 @@ fn found(before: &[Logged], at: Option<u64>, now: u64) -> ReplyRef<'_>
 
 /// The reply of an event after these.
 fn reply_in<'a>(before: &'a [Logged], log: &'a Logged) -> ReplyRef<'a>
-    ensures { reply_lent result ≡ reply_in (told before.now) log.now.time log.now.op log.now.answer }
+    ensures { reply_lent result ≡ reply_in (told before.now) log.now.time log.now.op
+        log.now.answer }
 {
     match &log.answer {
         Answer::Stood(at) => answered(before, &log.op, *at, log.time),

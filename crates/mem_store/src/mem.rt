@@ -62,7 +62,8 @@ impl<C: Clock> MemStore<C> {
 
     /// The version that stands at a key.
     pub fn standing(&self, key: &Key) -> Option<Version>
-        ensures { result ≡ option_map (λ s. version_at s.version) (found (journal_of self.now) key.now) }
+        ensures { result ≡ option_map (λ s. version_at s.version)
+            (found (journal_of self.now) key.now) }
     {
         self.journal.place(key).map(Version)
     }
@@ -79,7 +80,8 @@ impl<C: Clock> MemStore<C> {
         op: Result<Op, AllocError>,
         answer: Answer,
     ) -> Result<u64, StoreFault>
-        ensures logged { IfOk result (λ time. IfOk op (λ op. IsLogged C.gives op answer time self.old self.new)) }
+        ensures logged { IfOk result
+            (λ time. IfOk op (λ op. IsLogged C.gives op answer time self.old self.new)) }
         ensures made { OnOk result (IsOk op) }
         ensures fault { IfErr result (λ fault. fault ≡ StoreFault.NoMemory) }
         ensures unchanged { OnErr result (IsUnchanged self.old self.new) }
@@ -98,7 +100,8 @@ impl<C: Clock> MemStore<C> {
 
     /// A copy of what a put put.
     fn copied(&self, at: Option<u64>) -> Result<Option<Content>, AllocError>
-        ensures { IfOk result (λ copied. copied ≡ option_map copy_of (puts_in (journal_of self.now) at)) }
+        ensures { IfOk result
+            (λ copied. copied ≡ option_map copy_of (puts_in (journal_of self.now) at)) }
     {
         let Some(place) = at else {
             return Ok(None);
@@ -113,7 +116,8 @@ impl<C: Clock> MemStore<C> {
 
     /// A listing, for the caller and for the journal.
     fn listed_twice(&self, part: Part) -> Result<(Entries, Entries), AllocError>
-        ensures listing { IfOk result (λ pair. IsListing (found (journal_of self.now)) part pair.0) }
+        ensures listing { IfOk result (λ pair. IsListing (found (journal_of self.now)) part
+            pair.0) }
         ensures same { IfOk result (λ pair. pair.1 ≡ pair.0) }
     {
         let entries = self.journal.listing(self.alloc, part)?;
@@ -128,8 +132,10 @@ impl<C: Clock> Viewed for MemStore<C> {
 
 impl<C: Clock, R: Rule> ObjectStore<R> for MemStore<C> {
     fn get(&mut self, key: &Key) -> Result<Got, StoreFault>
-        ensures call { Called R.may (λ got. Reply.Got got) (Op.Get key.now) result (view_of self.old) (view_of self.new) }
-        ensures exact { Exactly C.gives (λ got. Reply.Got got) (Op.Get key.now) result self.old self.new }
+        ensures call { Called R.may (λ got. Reply.Got got) (Op.Get key.now) result
+            (view_of self.old) (view_of self.new) }
+        ensures exact { Exactly C.gives (λ got. Reply.Got got) (Op.Get key.now) result self.old
+            self.new }
     {
         let at = self.journal.place(key);
         let Ok(content) = self.copied(at) else {
@@ -141,8 +147,10 @@ impl<C: Clock, R: Rule> ObjectStore<R> for MemStore<C> {
     }
 
     fn put_new(&mut self, key: &Key, bytes: &[u8], why: Why) -> Result<New, StoreFault>
-        ensures call { Called R.may (λ new. Reply.New new) (Op.PutNew key.now bytes.now why) result (view_of self.old) (view_of self.new) }
-        ensures exact { Exactly C.gives (λ new. Reply.New new) (Op.PutNew key.now bytes.now why) result self.old self.new }
+        ensures call { Called R.may (λ new. Reply.New new) (Op.PutNew key.now bytes.now why) result
+            (view_of self.old) (view_of self.new) }
+        ensures exact { Exactly C.gives (λ new. Reply.New new) (Op.PutNew key.now bytes.now why)
+            result self.old self.new }
     {
         let at = self.journal.place(key);
         let place = self.journal.len() as u64;
@@ -158,8 +166,10 @@ impl<C: Clock, R: Rule> ObjectStore<R> for MemStore<C> {
         old: Version,
         why: Why,
     ) -> Result<Over, StoreFault>
-        ensures call { Called R.may (λ over. Reply.Over over) (Op.PutOver key.now bytes.now old why) result (view_of self.old) (view_of self.new) }
-        ensures exact { Exactly C.gives (λ over. Reply.Over over) (Op.PutOver key.now bytes.now old why) result self.old self.new }
+        ensures call { Called R.may (λ over. Reply.Over over) (Op.PutOver key.now bytes.now old why)
+            result (view_of self.old) (view_of self.new) }
+        ensures exact { Exactly C.gives (λ over. Reply.Over over)
+            (Op.PutOver key.now bytes.now old why) result self.old self.new }
     {
         let at = self.journal.place(key);
         let place = self.journal.len() as u64;
@@ -169,8 +179,10 @@ impl<C: Clock, R: Rule> ObjectStore<R> for MemStore<C> {
     }
 
     fn remove(&mut self, key: &Key, why: Why) -> Result<Gone, StoreFault>
-        ensures call { Called R.may (λ gone. Reply.Gone gone) (Op.Remove key.now why) result (view_of self.old) (view_of self.new) }
-        ensures exact { Exactly C.gives (λ gone. Reply.Gone gone) (Op.Remove key.now why) result self.old self.new }
+        ensures call { Called R.may (λ gone. Reply.Gone gone) (Op.Remove key.now why) result
+            (view_of self.old) (view_of self.new) }
+        ensures exact { Exactly C.gives (λ gone. Reply.Gone gone) (Op.Remove key.now why) result
+            self.old self.new }
     {
         let at = self.journal.place(key);
         let op = requests::remove(self.alloc, key, why);
@@ -179,8 +191,10 @@ impl<C: Clock, R: Rule> ObjectStore<R> for MemStore<C> {
     }
 
     fn remove_at(&mut self, key: &Key, old: Version, why: Why) -> Result<GoneAt, StoreFault>
-        ensures call { Called R.may (λ gone. Reply.GoneAt gone) (Op.RemoveAt key.now old why) result (view_of self.old) (view_of self.new) }
-        ensures exact { Exactly C.gives (λ gone. Reply.GoneAt gone) (Op.RemoveAt key.now old why) result self.old self.new }
+        ensures call { Called R.may (λ gone. Reply.GoneAt gone) (Op.RemoveAt key.now old why) result
+            (view_of self.old) (view_of self.new) }
+        ensures exact { Exactly C.gives (λ gone. Reply.GoneAt gone) (Op.RemoveAt key.now old why)
+            result self.old self.new }
     {
         let at = self.journal.place(key);
         let op = requests::remove_at(self.alloc, key, old, why);
@@ -189,8 +203,10 @@ impl<C: Clock, R: Rule> ObjectStore<R> for MemStore<C> {
     }
 
     fn list(&mut self, part: Part) -> Result<Listed, StoreFault>
-        ensures call { Called R.may (λ listed. Reply.Listed listed) (Op.List part) result (view_of self.old) (view_of self.new) }
-        ensures exact { Exactly C.gives (λ listed. Reply.Listed listed) (Op.List part) result self.old self.new }
+        ensures call { Called R.may (λ listed. Reply.Listed listed) (Op.List part) result
+            (view_of self.old) (view_of self.new) }
+        ensures exact { Exactly C.gives (λ listed. Reply.Listed listed) (Op.List part) result
+            self.old self.new }
     {
         let Ok((entries, kept)) = self.listed_twice(part) else {
             return Err(StoreFault::NoMemory);

@@ -257,7 +257,9 @@ impl Mirror {
     pub fn step<S: Store, T: Store>(&mut self, from: &mut S, to: &mut T)
         requires live { IsAsk (mirror_rest self.old) }
         requires polite { MayAsk (mirror_rest self.old) (pair_of (S.view from.old) (T.view to.old)) }
-        ensures step { PairSteps (pair_of (S.view from.old) (T.view to.old)) (pair_of (S.view from.new) (T.view to.new)) (mirror_rest self.old) (mirror_rest self.new) }
+        ensures step { PairSteps (pair_of (S.view from.old) (T.view to.old))
+            (pair_of (S.view from.new) (T.view to.new)) (mirror_rest self.old)
+            (mirror_rest self.new) }
         ensures falls { mirror_left self.new < mirror_left self.old }
     {
         drive_pair(self, from, to)
@@ -300,7 +302,8 @@ impl Mirror {
     /// The put of an object.
     fn put_of(&self, object: Object) -> Asked<'_>
         ensures side { result.side ≡ Side.To }
-        ensures request { op_of result.request ≡ Op.PutNew (object_key object self.now) (object_bytes object self.now) (cause_of (object_key object self.now)) }
+        ensures request { op_of result.request ≡ Op.PutNew (object_key object self.now)
+            (object_bytes object self.now) (cause_of (object_key object self.now)) }
     {
         let key = self.key_of(object);
         let why = cause_of(&key);
@@ -317,7 +320,8 @@ impl Mirror {
     /// The put of the ref in work, where it was absent.
     fn make_ref(&self) -> Result<Asked<'_>, AllocError>
         requires { HasFirst self.now }
-        ensures { IfOk result (λ asked. Asks (stage_rest Stage.NewRef self.now (work_of self.now)) asked.side (op_of asked.request)) }
+        ensures { IfOk result (λ asked. Asks (stage_rest Stage.NewRef self.now (work_of self.now))
+            asked.side (op_of asked.request)) }
     {
         let key = self.first().key(self.alloc)?;
         let why = cause_of(&key);
@@ -334,7 +338,9 @@ impl Mirror {
     /// The put of the ref in work over this version.
     fn move_ref(&self, old: Version) -> Result<Asked<'_>, AllocError>
         requires { HasFirst self.now }
-        ensures { IfOk result (λ asked. Asks (stage_rest (Stage.OverRef old) self.now (work_of self.now)) asked.side (op_of asked.request)) }
+        ensures { IfOk result
+            (λ asked. Asks (stage_rest (Stage.OverRef old) self.now (work_of self.now)) asked.side
+            (op_of asked.request)) }
     {
         Ok(Asked {
             side: Side::To,
@@ -358,7 +364,8 @@ impl Mirror {
     fn on_list(&mut self, reply: Reply)
         requires starved { self.old.stage ≡ Stage.Starved }
         requires awaited { Awaits (stage_rest Stage.List self.old (work_of self.old)) reply }
-        ensures took { Took (stage_rest Stage.List self.old (work_of self.old)) reply (mirror_rest self.new) }
+        ensures took { Took (stage_rest Stage.List self.old (work_of self.old)) reply
+            (mirror_rest self.new) }
         ensures falls { mirror_left self.new < stage_left Stage.List self.old }
     {
         match listed_told(reply) {
@@ -369,7 +376,9 @@ impl Mirror {
 
     fn after_list(&mut self, entries: &[Entry])
         requires starved { self.old.stage ≡ Stage.Starved }
-        ensures lands { Lands self.old.register.refs (copy_refs (ref_ids (live entries.now)) (work_of self.old) (behind_refs self.old.register.phase)) (mirror_rest self.new) }
+        ensures lands { Lands self.old.register.refs
+            (copy_refs (ref_ids (live entries.now)) (work_of self.old)
+            (behind_refs self.old.register.phase)) (mirror_rest self.new) }
         ensures falls { mirror_left self.new < stage_left Stage.List self.old }
     {
         if let Ok(()) = self.register.enter(self.alloc, entries) {
@@ -379,7 +388,8 @@ impl Mirror {
 
     /// Goes on with the next ref, and behind the last one with the tags, or to the end.
     fn next_ref(&mut self)
-        ensures lands { mirror_rest self.new ≡ copy_refs self.old.register.names (work_of self.old) (behind_refs self.old.register.phase) }
+        ensures lands { mirror_rest self.new ≡ copy_refs self.old.register.names (work_of self.old)
+            (behind_refs self.old.register.phase) }
         ensures falls { mirror_left self.new ≤ refs_left self.old }
     {
         match (self.register.first(), self.register.phase()) {
@@ -403,7 +413,8 @@ impl Mirror {
     fn on_ref(&mut self, reply: Reply)
         requires starved { self.old.stage ≡ Stage.Starved }
         requires awaited { Awaits (stage_rest Stage.Ref self.old (work_of self.old)) reply }
-        ensures took { Took (stage_rest Stage.Ref self.old (work_of self.old)) reply (mirror_rest self.new) }
+        ensures took { Took (stage_rest Stage.Ref self.old (work_of self.old)) reply
+            (mirror_rest self.new) }
         ensures falls { mirror_left self.new < stage_left Stage.Ref self.old }
     {
         match ref_told(self.alloc, Side::From, self.first(), reply) {
@@ -416,7 +427,8 @@ impl Mirror {
     fn after_ref(&mut self, named: Option<Resolved>)
         requires starved { self.old.stage ≡ Stage.Starved }
         requires first { HasFirst self.old }
-        ensures lands { mirror_rest self.new ≡ on_first self.old.register.names (work_of self.old) (λ r next. behind_ref r (work_of self.old) next named) self.old.register.phase }
+        ensures lands { mirror_rest self.new ≡ on_first self.old.register.names (work_of self.old)
+            (λ r next. behind_ref r (work_of self.old) next named) self.old.register.phase }
         ensures falls { mirror_left self.new < refs_left self.old }
     {
         match named {
@@ -437,8 +449,10 @@ impl Mirror {
     fn down(&mut self, id: Id12)
         requires starved { self.old.stage ≡ Stage.Starved }
         requires few { length self.old.line < many }
-        ensures lands { mirror_rest self.new ≡ down self.old.left self.old.line (work_of self.old) (behind_line self.old) id }
-        ensures falls { mirror_left self.new < self.old.left + each_snapshot * many + 4 + others_left self.old }
+        ensures lands { mirror_rest self.new ≡ down self.old.left self.old.line (work_of self.old)
+            (behind_line self.old) id }
+        ensures falls { mirror_left self.new < self.old.left + each_snapshot * many + 4
+            + others_left self.old }
     {
         if self.copied.contains(&id) {
             self.next_link();
@@ -453,7 +467,8 @@ impl Mirror {
     fn on_down(&mut self, id: Id12, reply: Reply)
         requires starved { self.old.stage ≡ Stage.Starved }
         requires awaited { Awaits (stage_rest (Stage.Down id) self.old (work_of self.old)) reply }
-        ensures took { Took (stage_rest (Stage.Down id) self.old (work_of self.old)) reply (mirror_rest self.new) }
+        ensures took { Took (stage_rest (Stage.Down id) self.old (work_of self.old)) reply
+            (mirror_rest self.new) }
         ensures falls { mirror_left self.new < stage_left (Stage.Down id) self.old }
     {
         match snapshot_told(self.alloc, id, reply) {
@@ -465,7 +480,10 @@ impl Mirror {
     /// Goes on with the parent of a snapshot, and behind the oldest one with the way up.
     fn after_down(&mut self, id: Id12, parent: Option<Id12>)
         requires starved { self.old.stage ≡ Stage.Starved }
-        ensures lands { Lands self.old.register.refs (down_onto (λ more next. down self.old.left more (work_of self.old) (behind_line self.old) next) self.old.line (work_of self.old) (behind_line self.old) id parent) (mirror_rest self.new) }
+        ensures lands { Lands self.old.register.refs
+            (down_onto (λ more next. down self.old.left more (work_of self.old)
+            (behind_line self.old) next) self.old.line (work_of self.old) (behind_line self.old) id
+            parent) (mirror_rest self.new) }
         ensures falls { mirror_left self.new < stage_left (Stage.Down id) self.old }
     {
         let Ok(()) = self.line.push(Link { id, parent }) else {
@@ -481,7 +499,8 @@ impl Mirror {
     /// Goes on with the next snapshot of the way up, and behind the last one with the target's ref.
     fn next_link(&mut self)
         requires starved { self.old.stage ≡ Stage.Starved }
-        ensures lands { mirror_rest self.new ≡ copy_line self.old.line (work_of self.old) (behind_line self.old) }
+        ensures lands { mirror_rest self.new ≡ copy_line self.old.line (work_of self.old)
+            (behind_line self.old) }
         ensures falls { mirror_left self.new ≤ line_left self.old }
     {
         match self.line.take() {
@@ -495,8 +514,10 @@ impl Mirror {
 
     fn on_take(&mut self, object: Object, reply: Reply)
         requires starved { self.old.stage ≡ Stage.Starved }
-        requires awaited { Awaits (stage_rest (Stage.Take object) self.old (work_of self.old)) reply }
-        ensures took { Took (stage_rest (Stage.Take object) self.old (work_of self.old)) reply (mirror_rest self.new) }
+        requires awaited { Awaits (stage_rest (Stage.Take object) self.old (work_of self.old))
+            reply }
+        ensures took { Took (stage_rest (Stage.Take object) self.old (work_of self.old)) reply
+            (mirror_rest self.new) }
         ensures falls { mirror_left self.new < stage_left (Stage.Take object) self.old }
     {
         match bytes_told(Side::From, self.key_of(object), reply) {
@@ -507,7 +528,8 @@ impl Mirror {
 
     fn after_take(&mut self, object: Object, bytes: Bytes)
         requires starved { self.old.stage ≡ Stage.Starved }
-        ensures lands { Lands self.old.register.refs (taken object self.old (work_of self.old) bytes) (mirror_rest self.new) }
+        ensures lands { Lands self.old.register.refs
+            (taken object self.old (work_of self.old) bytes) (mirror_rest self.new) }
         ensures falls { mirror_left self.new ≤ taken_left object self.old }
     {
         match object {
@@ -520,7 +542,8 @@ impl Mirror {
 
     fn take_chunk(&mut self, id: Id12, bytes: Bytes)
         requires starved { self.old.stage ≡ Stage.Starved }
-        ensures lands { mirror_rest self.new ≡ taken (Object.Chunk id) self.old (work_of self.old) bytes }
+        ensures lands { mirror_rest self.new ≡ taken (Object.Chunk id) self.old (work_of self.old)
+            bytes }
         ensures falls { mirror_left self.new ≤ taken_left (Object.Chunk id) self.old }
     {
         self.object = bytes;
@@ -529,7 +552,8 @@ impl Mirror {
 
     fn take_manifest(&mut self, id: Id12, bytes: Bytes)
         requires starved { self.old.stage ≡ Stage.Starved }
-        ensures lands { Lands self.old.register.refs (taken (Object.Manifest id) self.old (work_of self.old) bytes) (mirror_rest self.new) }
+        ensures lands { Lands self.old.register.refs
+            (taken (Object.Manifest id) self.old (work_of self.old) bytes) (mirror_rest self.new) }
         ensures falls { mirror_left self.new ≤ taken_left (Object.Manifest id) self.old }
     {
         match self.enter_manifest(id, &bytes) {
@@ -544,9 +568,13 @@ impl Mirror {
 
     /// The objects in which a manifest has chunks are found.
     fn enter_manifest(&mut self, id: Id12, bytes: &Bytes) -> Result<(), Refusal>
-        ensures ok { OnOk result (Entered (read_manifest id bytes.now) (λ m. self.new ≡ record self.old { chunks = enter_ids (objects_of m) (found self.old.chunks.all) })) }
+        ensures ok { OnOk result
+            (Entered (read_manifest id bytes.now)
+            (λ m. self.new ≡ record self.old
+            { chunks = enter_ids (objects_of m) (found self.old.chunks.all) })) }
         ensures few { OnOk result (length self.new.chunks.todo < many) }
-        ensures err { IfErr result (λ why. is_no_memory why ≡ false → at_key (Key.Manifest id) (read_manifest id bytes.now) ≡ Err why) }
+        ensures err { IfErr result (λ why. is_no_memory why ≡ false
+            → at_key (Key.Manifest id) (read_manifest id bytes.now) ≡ Err why) }
         ensures refs { self.new.register ≡ self.old.register }
     {
         let Ok(copy) = bytes.copy(self.alloc) else {
@@ -580,7 +608,8 @@ impl Mirror {
 
     fn take_log(&mut self, bytes: Bytes)
         requires starved { self.old.stage ≡ Stage.Starved }
-        ensures lands { Lands self.old.register.refs (taken Object.Log self.old (work_of self.old) bytes) (mirror_rest self.new) }
+        ensures lands { Lands self.old.register.refs (taken Object.Log self.old (work_of self.old)
+            bytes) (mirror_rest self.new) }
         ensures falls { mirror_left self.new ≤ taken_left Object.Log self.old }
     {
         match self.check_log(&bytes) {
@@ -595,7 +624,8 @@ impl Mirror {
     /// Whether the bytes are the log of the snapshot in work.
     fn check_log(&self, bytes: &Bytes) -> Result<(), Refusal>
         ensures ok { OnOk result (Entered (read_log self.now.link.id bytes.now) (λ log. Unit {0})) }
-        ensures err { IfErr result (λ why. is_no_memory why ≡ false → at_key (Key.Txn self.now.link.id) (read_log self.now.link.id bytes.now) ≡ Err why) }
+        ensures err { IfErr result (λ why. is_no_memory why ≡ false
+            → at_key (Key.Txn self.now.link.id) (read_log self.now.link.id bytes.now) ≡ Err why) }
     {
         let id = self.link.id;
         let Ok(copy) = bytes.copy(self.alloc) else {
@@ -609,7 +639,8 @@ impl Mirror {
 
     fn take_snapshot(&mut self, bytes: Bytes)
         requires starved { self.old.stage ≡ Stage.Starved }
-        ensures lands { Lands self.old.register.refs (taken Object.Snapshot self.old (work_of self.old) bytes) (mirror_rest self.new) }
+        ensures lands { Lands self.old.register.refs
+            (taken Object.Snapshot self.old (work_of self.old) bytes) (mirror_rest self.new) }
         ensures falls { mirror_left self.new ≤ taken_left Object.Snapshot self.old }
     {
         match self.enter_snapshot(bytes) {
@@ -623,9 +654,13 @@ impl Mirror {
 
     /// The manifests that the snapshot in work names are found. The file that is put of it.
     fn enter_snapshot(&mut self, bytes: Bytes) -> Result<Bytes, Refusal>
-        ensures ok { IfOk result (λ file. Entered (read_snapshot self.old.link.id bytes) (λ s. (self.new ≡ record self.old { files = enter_rows s.nodes (found self.old.files.all) }) × (file_under self.old.link.parent bytes s ≡ Ok file))) }
+        ensures ok { IfOk result (λ file. Entered (read_snapshot self.old.link.id bytes)
+            (λ s. (self.new ≡ record self.old
+            { files = enter_rows s.nodes (found self.old.files.all) })
+            × (file_under self.old.link.parent bytes s ≡ Ok file))) }
         ensures few { OnOk result (length self.new.files.todo < many) }
-        ensures err { IfErr result (λ why. is_no_memory why ≡ false → Refuses self.old.link bytes why) }
+        ensures err { IfErr result (λ why. is_no_memory why ≡ false
+            → Refuses self.old.link bytes why) }
         ensures refs { self.new.register ≡ self.old.register }
     {
         let id = self.link.id;
@@ -668,8 +703,10 @@ impl Mirror {
 
     fn on_put(&mut self, object: Object, reply: Reply)
         requires starved { self.old.stage ≡ Stage.Starved }
-        requires awaited { Awaits (stage_rest (Stage.Put object) self.old (work_of self.old)) reply }
-        ensures took { Took (stage_rest (Stage.Put object) self.old (work_of self.old)) reply (mirror_rest self.new) }
+        requires awaited { Awaits (stage_rest (Stage.Put object) self.old (work_of self.old))
+            reply }
+        ensures took { Took (stage_rest (Stage.Put object) self.old (work_of self.old)) reply
+            (mirror_rest self.new) }
         ensures falls { mirror_left self.new < stage_left (Stage.Put object) self.old }
     {
         match put_told(reply) {
@@ -682,7 +719,9 @@ impl Mirror {
     /// Counts an object that was put.
     fn after_put(&mut self, object: Object)
         requires starved { self.old.stage ≡ Stage.Starved }
-        ensures lands { Lands self.old.register.refs (behind_object object self.old (with_put (object_key object self.old) (work_of self.old))) (mirror_rest self.new) }
+        ensures lands { Lands self.old.register.refs
+            (behind_object object self.old
+            (with_put (object_key object self.old) (work_of self.old))) (mirror_rest self.new) }
         ensures falls { mirror_left self.new ≤ object_left object self.old }
     {
         if let Some(counts) = with_one_more(self.counts, object) {
@@ -693,8 +732,10 @@ impl Mirror {
 
     fn on_same(&mut self, object: Object, reply: Reply)
         requires starved { self.old.stage ≡ Stage.Starved }
-        requires awaited { Awaits (stage_rest (Stage.Same object) self.old (work_of self.old)) reply }
-        ensures took { Took (stage_rest (Stage.Same object) self.old (work_of self.old)) reply (mirror_rest self.new) }
+        requires awaited { Awaits (stage_rest (Stage.Same object) self.old (work_of self.old))
+            reply }
+        ensures took { Took (stage_rest (Stage.Same object) self.old (work_of self.old)) reply
+            (mirror_rest self.new) }
         ensures falls { mirror_left self.new < stage_left (Stage.Same object) self.old }
     {
         match bytes_told(Side::To, self.key_of(object), reply) {
@@ -706,7 +747,11 @@ impl Mirror {
     /// Goes on where what stands in the target is fine.
     fn after_same(&mut self, object: Object, there: &Bytes)
         requires starved { self.old.stage ≡ Stage.Starved }
-        ensures lands { Lands self.old.register.refs (on_told (work_of self.old) (unless_differs (object_key object self.old) (work_of self.old) (behind_object object self.old)) (fits_there (object_key object self.old) (object_bytes object self.old) there.now)) (mirror_rest self.new) }
+        ensures lands { Lands self.old.register.refs
+            (on_told (work_of self.old) (unless_differs (object_key object self.old)
+            (work_of self.old) (behind_object object self.old))
+            (fits_there (object_key object self.old) (object_bytes object self.old) there.now))
+            (mirror_rest self.new) }
         ensures falls { mirror_left self.new ≤ object_left object self.old }
     {
         match self.is_fine(object, there) {
@@ -718,7 +763,8 @@ impl Mirror {
 
     /// Whether what stands in the target is fine.
     fn is_fine(&self, object: Object, there: &Bytes) -> Result<bool, Refusal>
-        ensures { Answers (fits_there (object_key object self.now) (object_bytes object self.now) there.now) result }
+        ensures { Answers (fits_there (object_key object self.now) (object_bytes object self.now)
+            there.now) result }
     {
         match object {
             Object::Snapshot => is_fine(self.alloc, self.link.id, &self.snapshot, there),
@@ -730,7 +776,8 @@ impl Mirror {
     /// Goes on behind an object that stands in the target.
     fn after_object(&mut self, object: Object)
         requires starved { self.old.stage ≡ Stage.Starved }
-        ensures lands { Lands self.old.register.refs (behind_object object self.old (work_of self.old)) (mirror_rest self.new) }
+        ensures lands { Lands self.old.register.refs
+            (behind_object object self.old (work_of self.old)) (mirror_rest self.new) }
         ensures falls { mirror_left self.new ≤ object_left object self.old }
     {
         match object {
@@ -744,7 +791,9 @@ impl Mirror {
     /// The snapshot in work is copied.
     fn after_snapshot(&mut self)
         requires starved { self.old.stage ≡ Stage.Starved }
-        ensures lands { Lands self.old.register.refs (behind_snapshot self.old (with_copied self.old.link.id (work_of self.old))) (mirror_rest self.new) }
+        ensures lands { Lands self.old.register.refs
+            (behind_snapshot self.old (with_copied self.old.link.id (work_of self.old)))
+            (mirror_rest self.new) }
         ensures falls { mirror_left self.new ≤ line_left self.old }
     {
         if let Ok(_) = self.copied.insert(self.link.id) {
@@ -755,7 +804,8 @@ impl Mirror {
     fn on_target(&mut self, reply: Reply)
         requires starved { self.old.stage ≡ Stage.Starved }
         requires awaited { Awaits (stage_rest Stage.Target self.old (work_of self.old)) reply }
-        ensures took { Took (stage_rest Stage.Target self.old (work_of self.old)) reply (mirror_rest self.new) }
+        ensures took { Took (stage_rest Stage.Target self.old (work_of self.old)) reply
+            (mirror_rest self.new) }
         ensures falls { mirror_left self.new < stage_left Stage.Target self.old }
     {
         match ref_told(self.alloc, Side::To, self.first(), reply) {
@@ -768,7 +818,9 @@ impl Mirror {
     fn after_target(&mut self, there: Option<Resolved>)
         requires starved { self.old.stage ≡ Stage.Starved }
         requires first { HasFirst self.old }
-        ensures lands { mirror_rest self.new ≡ on_first self.old.register.names (work_of self.old) (λ r next. see_ref r self.old.target (work_of self.old) next there) self.old.register.phase }
+        ensures lands { mirror_rest self.new ≡ on_first self.old.register.names (work_of self.old)
+            (λ r next. see_ref r self.old.target (work_of self.old) next there)
+            self.old.register.phase }
         ensures falls { mirror_left self.new < stage_left Stage.Target self.old }
     {
         match there {
@@ -787,8 +839,10 @@ impl Mirror {
 
     fn on_tombstone(&mut self, there: Id12, reply: Reply)
         requires starved { self.old.stage ≡ Stage.Starved }
-        requires awaited { Awaits (stage_rest (Stage.Tombstone there) self.old (work_of self.old)) reply }
-        ensures took { Took (stage_rest (Stage.Tombstone there) self.old (work_of self.old)) reply (mirror_rest self.new) }
+        requires awaited { Awaits (stage_rest (Stage.Tombstone there) self.old (work_of self.old))
+            reply }
+        ensures took { Took (stage_rest (Stage.Tombstone there) self.old (work_of self.old)) reply
+            (mirror_rest self.new) }
         ensures falls { mirror_left self.new < stage_left (Stage.Tombstone there) self.old }
     {
         match buried_told(reply) {
@@ -801,7 +855,10 @@ impl Mirror {
     fn after_tombstone(&mut self, there: Id12, buried: bool)
         requires starved { self.old.stage ≡ Stage.Starved }
         requires first { HasFirst self.old }
-        ensures lands { Lands self.old.register.refs (on_first self.old.register.names (work_of self.old) (λ r next. unless_buried r self.old.target (work_of self.old) next there buried) self.old.register.phase) (mirror_rest self.new) }
+        ensures lands { Lands self.old.register.refs
+            (on_first self.old.register.names (work_of self.old)
+            (λ r next. unless_buried r self.old.target (work_of self.old) next there buried)
+            self.old.register.phase) (mirror_rest self.new) }
         ensures falls { mirror_left self.new < stage_left (Stage.Tombstone there) self.old }
     {
         if buried {
@@ -817,7 +874,10 @@ impl Mirror {
     fn refuse_ref(&mut self)
         requires starved { self.old.stage ≡ Stage.Starved }
         requires first { HasFirst self.old }
-        ensures lands { Lands self.old.register.refs (on_first self.old.register.names (work_of self.old) (λ r next. differs r (work_of self.old)) self.old.register.phase) (mirror_rest self.new) }
+        ensures lands { Lands self.old.register.refs
+            (on_first self.old.register.names (work_of self.old)
+            (λ r next. differs r (work_of self.old)) self.old.register.phase)
+            (mirror_rest self.new) }
         ensures falls { mirror_left self.new < 1 }
     {
         if let Ok(key) = self.first().key(self.alloc) {
@@ -828,7 +888,8 @@ impl Mirror {
     fn on_new_ref(&mut self, reply: Reply)
         requires starved { self.old.stage ≡ Stage.Starved }
         requires awaited { Awaits (stage_rest Stage.NewRef self.old (work_of self.old)) reply }
-        ensures took { Took (stage_rest Stage.NewRef self.old (work_of self.old)) reply (mirror_rest self.new) }
+        ensures took { Took (stage_rest Stage.NewRef self.old (work_of self.old)) reply
+            (mirror_rest self.new) }
         ensures falls { mirror_left self.new < stage_left Stage.NewRef self.old }
     {
         match made_told(reply) {
@@ -839,8 +900,11 @@ impl Mirror {
 
     fn on_over_ref(&mut self, reply: Reply)
         requires starved { self.old.stage ≡ Stage.Starved }
-        requires awaited { (old : Version) → Awaits (stage_rest (Stage.OverRef old) self.old (work_of self.old)) reply }
-        ensures took { (old : Version) → Took (stage_rest (Stage.OverRef old) self.old (work_of self.old)) reply (mirror_rest self.new) }
+        requires awaited { (old : Version)
+            → Awaits (stage_rest (Stage.OverRef old) self.old (work_of self.old)) reply }
+        ensures took { (old : Version)
+            → Took (stage_rest (Stage.OverRef old) self.old (work_of self.old)) reply
+            (mirror_rest self.new) }
         ensures falls { mirror_left self.new < 1 + others_left self.old }
     {
         match moved_told(reply) {
@@ -852,7 +916,9 @@ impl Mirror {
     /// Tells what became of the ref in work, and goes on with the next one. It takes no memory.
     fn told_ref(&mut self, put: bool)
         requires first { HasFirst self.old }
-        ensures lands { mirror_rest self.new ≡ on_first self.old.register.names (work_of self.old) (λ r next. next (with_ref r self.old.target put (work_of self.old))) self.old.register.phase }
+        ensures lands { mirror_rest self.new ≡ on_first self.old.register.names (work_of self.old)
+            (λ r next. next (with_ref r self.old.target put (work_of self.old)))
+            self.old.register.phase }
         ensures falls { mirror_left self.new ≤ others_left self.old }
     {
         self.register.tell(self.target, put);

@@ -73,7 +73,8 @@ impl Register {
 
     /// The refs of a listing are left now. Without memory for them, what became of others stays.
     pub fn enter(&mut self, alloc: Global, entries: &[Entry]) -> Result<(), AllocError>
-        ensures ok { OnOk result (self.new ≡ record self.old { names = ref_ids (live entries.now) }) }
+        ensures ok { OnOk result
+            (self.new ≡ record self.old { names = ref_ids (live entries.now) }) }
         ensures few { OnOk result (length self.new.names < many) }
         ensures err { OnErr result (self.new.refs ≡ self.old.refs) }
     {
@@ -85,21 +86,35 @@ impl Register {
 
     /// The ref that is in work, if one is left.
     pub fn first(&self) -> Option<&RefId>
-        ensures { MatchOption result (self.now.names ≡ []) (λ r. (rs : List RefId) × (self.now.names ≡ r.now ∷ rs)) }
+        ensures { MatchOption result (self.now.names ≡ []) (λ r. (rs : List RefId)
+            × (self.now.names ≡ r.now ∷ rs)) }
     {
         self.names.front()
     }
 
     /// Passes over the ref that is in work.
     pub fn pass(&mut self)
-        ensures { (r : RefId) (rs : List RefId) → self.old.names ≡ r ∷ rs → self.new ≡ record self.old { names = rs } }
+        ensures { (r : RefId) (rs : List RefId) → self.old.names ≡ r ∷ rs
+            → self.new ≡ record self.old { names = rs } }
     {
         drop(self.names.pop_front());
     }
 
     /// Tells what became of the ref that is in work. It takes no memory.
     pub fn tell(&mut self, id: Id12, put: bool)
-        ensures { (r : RefId) (rs : List RefId) → self.old.names ≡ r ∷ rs → self.new ≡ record self.old { refs = self.old.refs ++ record { tag = r.tag; name = r.name; id = id; put = put } ∷ []; names = rs } }
+        ensures { (r : RefId) (rs : List RefId) → self.old.names ≡ r ∷ rs
+            → self.new
+            ≡ record
+            self.old {
+              refs = self.old.refs ++ record {
+                tag = r.tag;
+                name = r.name;
+                id = id;
+                put =
+                    put;
+              } ∷ [];
+              names = rs;
+            } }
     {
         if let Some(RefId { tag, name }) = self.names.pop_front() {
             match self.refs.push(MirrorRef { tag, name, id, put }) {
@@ -149,7 +164,8 @@ fn enter_live(
     entry: &Entry,
     behind: &[Entry],
 ) -> Result<(), AllocError>
-    ensures { OnOk result (names.new.items ++ ref_ids (live behind.now) ≡ names.old.items ++ ref_ids (live (entry.now ∷ behind.now))) }
+    ensures { OnOk result (names.new.items ++ ref_ids (live behind.now) ≡ names.old.items ++ ref_ids
+        (live (entry.now ∷ behind.now))) }
 {
     if is_gone(&entry.key, behind) {
         return Ok(());

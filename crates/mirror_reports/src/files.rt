@@ -17,7 +17,8 @@ use store_api::Refusal;
 
 /// The file of a snapshot that names this parent, and says all else as another one.
 fn write_under(alloc: Global, parent: Option<Id12>, loaded: &Loaded) -> Result<Vec<u8>, WriteFault>
-    ensures { let file = snapshot_bytes (record (loaded.now) { parent = parent }) in Writes result file (length file) }
+    ensures { let file = snapshot_bytes (record (loaded.now) { parent = parent }) in Writes result
+        file (length file) }
 {
     let file = loaded.file();
     let head = SnapshotHead {

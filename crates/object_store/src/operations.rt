@@ -20,12 +20,14 @@ pub trait Viewed {
 pub trait ObjectStore<R: Rule>: Viewed {
     /// Reads an object.
     fn get(&mut self, key: &Key) -> Result<Got, StoreFault>
-        ensures { Called R.may (λ got. Reply.Got got) (Op.Get key.now) result (Self.view self.old) (Self.view self.new) };
+        ensures { Called R.may (λ got. Reply.Got got) (Op.Get key.now) result (Self.view self.old)
+            (Self.view self.new) };
 
     /// Puts an object where its key is free.
     fn put_new(&mut self, key: &Key, bytes: &[u8], why: Why) -> Result<New, StoreFault>
         requires { MayCall R.may (Self.view self.old) (Op.PutNew key.now bytes.now why) }
-        ensures { Called R.may (λ new. Reply.New new) (Op.PutNew key.now bytes.now why) result (Self.view self.old) (Self.view self.new) };
+        ensures { Called R.may (λ new. Reply.New new) (Op.PutNew key.now bytes.now why) result
+            (Self.view self.old) (Self.view self.new) };
 
     /// Puts an object over the version that stands there.
     fn put_over(
@@ -36,21 +38,25 @@ pub trait ObjectStore<R: Rule>: Viewed {
         why: Why,
     ) -> Result<Over, StoreFault>
         requires { MayCall R.may (Self.view self.old) (Op.PutOver key.now bytes.now old why) }
-        ensures { Called R.may (λ over. Reply.Over over) (Op.PutOver key.now bytes.now old why) result (Self.view self.old) (Self.view self.new) };
+        ensures { Called R.may (λ over. Reply.Over over) (Op.PutOver key.now bytes.now old why)
+            result (Self.view self.old) (Self.view self.new) };
 
     /// Removes an object.
     fn remove(&mut self, key: &Key, why: Why) -> Result<Gone, StoreFault>
         requires { MayCall R.may (Self.view self.old) (Op.Remove key.now why) }
-        ensures { Called R.may (λ gone. Reply.Gone gone) (Op.Remove key.now why) result (Self.view self.old) (Self.view self.new) };
+        ensures { Called R.may (λ gone. Reply.Gone gone) (Op.Remove key.now why) result
+            (Self.view self.old) (Self.view self.new) };
 
     /// Removes the version that stands there.
     fn remove_at(&mut self, key: &Key, old: Version, why: Why) -> Result<GoneAt, StoreFault>
         requires { MayCall R.may (Self.view self.old) (Op.RemoveAt key.now old why) }
-        ensures { Called R.may (λ gone. Reply.GoneAt gone) (Op.RemoveAt key.now old why) result (Self.view self.old) (Self.view self.new) };
+        ensures { Called R.may (λ gone. Reply.GoneAt gone) (Op.RemoveAt key.now old why) result
+            (Self.view self.old) (Self.view self.new) };
 
     /// Lists a part, in the order of ids or names, a tag before its tombstone.
     fn list(&mut self, part: Part) -> Result<Listed, StoreFault>
-        ensures { Called R.may (λ listed. Reply.Listed listed) (Op.List part) result (Self.view self.old) (Self.view self.new) };
+        ensures { Called R.may (λ listed. Reply.Listed listed) (Op.List part) result
+            (Self.view self.old) (Self.view self.new) };
 }
 
 /// A whole store: nobody else has part in its journal.
@@ -73,5 +79,6 @@ pub trait WholeStore: Viewed {
 pub trait CountingStore: WholeStore {
     /// How many operations were made on it. Where the store tells its journal, they are its events.
     fn operations(&self) -> u64
-        ensures { IsTrue (Self.view self.now).caller.tells → result ≡ length (Self.view self.now).seen };
+        ensures { IsTrue (Self.view self.now).caller.tells
+            → result ≡ length (Self.view self.now).seen };
 }

@@ -36,7 +36,8 @@ pub(crate) fn run_crew<S: Base + Send, R: Threads + Wait + Sync, G: Gate + Sync>
     requires stand { CanGo S.tells (map worker_rest workers.items) (known pass).log }
     ensures cell { IsPassOf shared.now.cell result.0 }
     ensures room { vec_capacity result.1 ≡ vec_capacity outcomes }
-    ensures ran { RanAll S.tells (known pass) (known result.0) (map worker_rest workers.entry.items) result.1.items }
+    ensures ran { RanAll S.tells (known pass) (known result.0) (map worker_rest workers.entry.items)
+        result.1.items }
 {
     outcome_law();
     let mut pass = pass;
@@ -49,14 +50,17 @@ pub(crate) fn run_crew<S: Base + Send, R: Threads + Wait + Sync, G: Gate + Sync>
     let ((mut pass, mut outcomes), (own, outcome)) = join(
         rt,
         move || -> (Pass<Held<S>>, Vec<Outcome>)
-            requires { IsSync R.row × IsSync G.row × IsPassOf shared.now.cell pass × ((known pass).has_turn ≡ false)
+            requires { IsSync R.row × IsSync G.row × IsPassOf shared.now.cell pass
+                × ((known pass).has_turn ≡ false)
                 × HasPlaces (known pass).owners (vec_len workers) × (vec_len workers < 2 ^ 32 - 1) × (outcomes.items ≡ [])
                 × (vec_len workers ≤ vec_capacity outcomes) × CanGo S.tells (map worker_rest workers.items) (known pass).log }
-            ensures { IsPassOf shared.entry.now.cell result.0 × (vec_capacity result.1 ≡ vec_capacity outcomes)
+            ensures { IsPassOf shared.entry.now.cell result.0
+                × (vec_capacity result.1 ≡ vec_capacity outcomes)
                 × RanAll S.tells (known pass) (known result.0) (map worker_rest workers.entry.items) result.1.items }
         { run_crew(rt, gate, shared, pass, workers, outcomes) },
         move || -> (Pass<Held<S>>, Outcome)
-            requires { IsSync R.row × IsSync G.row × IsPassOf shared.now.cell own × ((known own).has_turn ≡ false)
+            requires { IsSync R.row × IsSync G.row × IsPassOf shared.now.cell own
+                × ((known own).has_turn ≡ false)
                 × IsOwner (known own).owners (place + 1) × (place < 2 ^ 32 - 1)
                 × CanGoAt S.tells place (worker_rest last) (known own).log }
             ensures { IsPassOf shared.entry.now.cell result.0

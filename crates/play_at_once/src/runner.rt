@@ -27,7 +27,8 @@ fn run_to_end<S: Store, R: Wait, G: Gate>(
     requires small { place < 2 ^ 32 - 1 }
     requires client { IsClientAt place (S.view store.old).caller }
     requires stand { CanStep place (S.view store.old) (worker_rest worker.old) }
-    ensures went { Went place (S.view store.old) (S.view store.new) (worker_rest worker.old) (worker_rest worker.new) }
+    ensures went { Went place (S.view store.old) (S.view store.new) (worker_rest worker.old)
+        (worker_rest worker.new) }
     ensures ended { HasEnded (worker_rest worker.new) }
 {
     outcome_law();
@@ -54,7 +55,8 @@ pub(crate) fn run_one<S: Base, R: Wait, G: Gate>(
     requires own { IsOwner (known pass).owners (place + 1) }
     requires stand { CanGoAt S.tells place (worker_rest worker) (known pass).log }
     ensures cell { IsPassOf shared.now.cell result.0 }
-    ensures ran { RanOne S.tells place (known pass) (known result.0) (worker_rest worker.entry) result.1 }
+    ensures ran { RanOne S.tells place (known pass) (known result.0) (worker_rest worker.entry)
+        result.1 }
 {
     let mut worker = worker;
     let mut port = shared.port(rt, pass, place + 1);

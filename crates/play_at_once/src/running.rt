@@ -39,14 +39,18 @@ pub fn run_at_once<S: Base + Send, R: Threads + Wait + Sync, G: Gate + Sync>(
 
     // Whatever the store tells: which operations were made, which answers follow them, and how the tasks ended, in whatever
     // order. Where it tells its journal, that goes on by these operations, each polite and owed.
-    ensures ran { IfOk result.1 (λ outcomes. RanAtOnce draw tasks.now (S.view store).caller.tells outcomes.items (S.view store).seen (S.view result.0).seen) }
+    ensures ran { IfOk result.1 (λ outcomes. RanAtOnce draw tasks.now (S.view store).caller.tells
+        outcomes.items (S.view store).seen (S.view result.0).seen) }
 
     // What each outcome says of the journal: what was opened and shown, and what became of the commit.
-    ensures told { IsTrue (S.view store).caller.tells → IfOk result.1 (λ outcomes. AllTold draw tasks.now outcomes.items (S.view store).seen (S.view result.0).seen) }
+    ensures told { IsTrue (S.view store).caller.tells
+        → IfOk result.1 (λ outcomes. AllTold draw tasks.now outcomes.items (S.view store).seen
+        (S.view result.0).seen) }
     ensures size { IfOk result.1 (λ outcomes. length outcomes.items ≡ length tasks.now) }
 
     // An outcome tells a fault of the store only where it rose.
-    ensures blames { IfOk result.1 (λ outcomes. AllBlame outcomes.items (S.view store).faults (S.view result.0).faults) }
+    ensures blames { IfOk result.1 (λ outcomes. AllBlame outcomes.items (S.view store).faults
+        (S.view result.0).faults) }
     ensures counted { (S.view store).faults ≤ (S.view result.0).faults }
     ensures tells { (S.view result.0).caller.tells ≡ (S.view store).caller.tells }
     ensures nothing { IfErr result.1 (λ error. result.0 ≡ store) }

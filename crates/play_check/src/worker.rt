@@ -80,7 +80,8 @@ impl CheckWorker {
     /// One operation of the store.
     pub fn step<S: Store>(&mut self, store: &mut S)
         requires { IsLive (checking_rest self.old) }
-        ensures acts { Acts is_failed (S.view store.old) (S.view store.new) (checking_rest self.old) (checking_rest self.new) }
+        ensures acts { Acts is_failed (S.view store.old) (S.view store.new) (checking_rest self.old)
+            (checking_rest self.new) }
         ensures falls { checking_left self.new < checking_left self.old }
     {
         self.check.step(store);

@@ -83,8 +83,10 @@ impl CollectWorker {
     /// One operation of the store.
     pub fn step<S: Store>(&mut self, store: &mut S)
         requires live { IsLive (collecting_rest self.old) }
-        requires polite { IsTrue (S.view store.old).caller.tells → PlayIsPolite (collecting_rest self.old) (S.view store.old).seen }
-        ensures acts { Acts is_failed (S.view store.old) (S.view store.new) (collecting_rest self.old) (collecting_rest self.new) }
+        requires polite { IsTrue (S.view store.old).caller.tells
+            → PlayIsPolite (collecting_rest self.old) (S.view store.old).seen }
+        ensures acts { Acts is_failed (S.view store.old) (S.view store.new)
+            (collecting_rest self.old) (collecting_rest self.new) }
         ensures falls { collecting_left self.new < collecting_left self.old }
     {
         self.collect.step(store);

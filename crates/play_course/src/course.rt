@@ -50,7 +50,8 @@ fn play_through<R: Threads + Wait + Sync, S: Base + Send, G: Gate + Sync>(
     requires well { IsWell script.now }
     requires good { S.tells ≡ true → IsGoodJournal (S.view store).seen }
     ensures began { IfErr result.1 (λ error. OnlyBegan (S.view store) (S.view result.0)) }
-    ensures course { IfOk result.1 (λ played. Course draw script.now (S.view store) (S.view result.0) played.opening played.outcomes.items played.refs) }
+    ensures course { IfOk result.1 (λ played. Course draw script.now (S.view store)
+        (S.view result.0) played.opening played.outcomes.items played.refs) }
 {
     outcome_law();
     let mut store = store;
@@ -87,18 +88,28 @@ pub fn play<R: Threads + Wait + Sync, S: Base + Send, G: Gate + Sync>(
 ) -> (S, Result<Played, AllocError>)
     requires well { IsWell script.now }
     requires good { S.tells ≡ true → IsGoodJournal (S.view store).seen }
-    ensures course { IfOk result.1 (λ played. Course draw script.now (S.view store) (S.view result.0) played.opening played.outcomes.items played.refs) }
+    ensures course { IfOk result.1 (λ played. Course draw script.now (S.view store)
+        (S.view result.0) played.opening played.outcomes.items played.refs) }
 
     // Without memory for the workers the repository may have been begun, and nothing else has been done; the histories are
     // kept then, too.
     ensures began { IfErr result.1 (λ error. OnlyBegan (S.view store) (S.view result.0)) }
-    ensures kept { IsTrue (S.view store).caller.tells → (before : ℕ → Changes) → IsSound (S.view store).seen before → IsNewRun draw script.now.tasks (S.view store).seen → IfErr result.1 (λ error. HasHistories draw script.now.tasks before (S.view store).seen (S.view result.0).seen (S.view result.0).seen) }
+    ensures kept { IsTrue (S.view store).caller.tells → (before : ℕ → Changes)
+        → IsSound (S.view store).seen before → IsNewRun draw script.now.tasks (S.view store).seen
+        → IfErr result.1 (λ error. HasHistories draw script.now.tasks before (S.view store).seen
+        (S.view result.0).seen (S.view result.0).seen) }
     // Over a store that tells its journal, where that is sound and the clients' ids are new to it, the branches' histories
     // are kept, and the refs that were read are their ends.
-    ensures leaves { IsTrue (S.view store).caller.tells → (before : ℕ → Changes) → IsSound (S.view store).seen before → IsNewRun draw script.now.tasks (S.view store).seen → IfOk result.1 (λ played. LeavesBranches draw script.now.tasks before (S.view store).seen (S.view result.0).seen played.refs) }
+    ensures leaves { IsTrue (S.view store).caller.tells → (before : ℕ → Changes)
+        → IsSound (S.view store).seen before → IsNewRun draw script.now.tasks (S.view store).seen
+        → IfOk result.1 (λ played. LeavesBranches draw script.now.tasks before (S.view store).seen
+        (S.view result.0).seen played.refs) }
     // Over one on which nothing was done before, where the clients draw no id twice, as it always is by counting, no drawn id is
     // taken, and every file can be read; and where no task collects, no object is missing.
-    ensures regular { IsTrue (S.view store).caller.tells → (S.view store).seen ≡ [] → DrawsOnce draw (length script.now.tasks) → IfOk result.1 (λ played. NothingStrange (has_collection script.now.tasks) played.opening played.outcomes.items played.refs) }
+    ensures regular { IsTrue (S.view store).caller.tells → (S.view store).seen ≡ []
+        → DrawsOnce draw (length script.now.tasks)
+        → IfOk result.1 (λ played. NothingStrange (has_collection script.now.tasks) played.opening
+        played.outcomes.items played.refs) }
 {
     initial_law();
     snapshot_law();

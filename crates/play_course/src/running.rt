@@ -27,8 +27,11 @@ fn run_by_turns<S: Base>(
     requires well { IsWell script.now }
     requires turns { script.now.turns ≡ Some turns.now }
     ensures nothing { IfErr result.1 (λ error. S.view result.0 ≡ S.view store) }
-    ensures plays { IfOk result.1 (λ outcomes. PlaysTasks draw script.now (S.view store) (S.view result.0) outcomes.items) }
-    ensures told { IsTrue (S.view store).caller.tells → IfOk result.1 (λ outcomes. AllTold draw script.now.tasks outcomes.items (S.view store).seen (S.view result.0).seen) }
+    ensures plays { IfOk result.1 (λ outcomes. PlaysTasks draw script.now (S.view store)
+        (S.view result.0) outcomes.items) }
+    ensures told { IsTrue (S.view store).caller.tells
+        → IfOk result.1 (λ outcomes. AllTold draw script.now.tasks outcomes.items
+        (S.view store).seen (S.view result.0).seen) }
 {
     let mut store = store;
     let outcomes = run_tasks(alloc, script.tasks.as_slice(), draw, turns, &mut store);
@@ -47,8 +50,11 @@ fn run_script<R: Threads + Wait + Sync, S: Base + Send, G: Gate + Sync>(
     requires well { IsWell script.now }
     requires good { S.tells ≡ true → IsGoodJournal (S.view store).seen }
     ensures nothing { IfErr result.1 (λ error. S.view result.0 ≡ S.view store) }
-    ensures plays { IfOk result.1 (λ outcomes. PlaysTasks draw script.now (S.view store) (S.view result.0) outcomes.items) }
-    ensures told { IsTrue (S.view store).caller.tells → IfOk result.1 (λ outcomes. AllTold draw script.now.tasks outcomes.items (S.view store).seen (S.view result.0).seen) }
+    ensures plays { IfOk result.1 (λ outcomes. PlaysTasks draw script.now (S.view store)
+        (S.view result.0) outcomes.items) }
+    ensures told { IsTrue (S.view store).caller.tells
+        → IfOk result.1 (λ outcomes. AllTold draw script.now.tasks outcomes.items
+        (S.view store).seen (S.view result.0).seen) }
 {
     match &script.turns {
         Some(turns) => run_by_turns(alloc, script, turns.as_slice(), draw, store),
@@ -69,8 +75,11 @@ pub(crate) fn play_tasks<R: Threads + Wait + Sync, S: Base + Send, G: Gate + Syn
     requires well { IsWell script.now }
     requires good { S.tells ≡ true → IsGoodJournal (S.view store).seen }
     ensures nothing { IfErr result.1 (λ error. S.view result.0 ≡ S.view store) }
-    ensures plays { IfOk result.1 (λ outcomes. Plays draw script.now (S.view store) (S.view result.0) opening.now outcomes.items) }
-    ensures told { IsTrue (S.view store).caller.tells → IfOk result.1 (λ outcomes. AllTold draw script.now.tasks outcomes.items (S.view store).seen (S.view result.0).seen) }
+    ensures plays { IfOk result.1 (λ outcomes. Plays draw script.now (S.view store)
+        (S.view result.0) opening.now outcomes.items) }
+    ensures told { IsTrue (S.view store).caller.tells
+        → IfOk result.1 (λ outcomes. AllTold draw script.now.tasks outcomes.items
+        (S.view store).seen (S.view result.0).seen) }
 {
     match opening {
         Ok(()) => run_script(rt, alloc, script, draw, store, gate),

@@ -84,8 +84,10 @@ impl ExpireWorker {
     /// One operation of the store.
     pub fn step<S: Store>(&mut self, store: &mut S)
         requires live { IsLive (expiring_rest self.old) }
-        requires polite { IsTrue (S.view store.old).caller.tells → PlayIsPolite (expiring_rest self.old) (S.view store.old).seen }
-        ensures acts { Acts is_failed (S.view store.old) (S.view store.new) (expiring_rest self.old) (expiring_rest self.new) }
+        requires polite { IsTrue (S.view store.old).caller.tells
+            → PlayIsPolite (expiring_rest self.old) (S.view store.old).seen }
+        ensures acts { Acts is_failed (S.view store.old) (S.view store.new) (expiring_rest self.old)
+            (expiring_rest self.new) }
         ensures falls { expiring_left self.new < expiring_left self.old }
     {
         self.expire.step(store);

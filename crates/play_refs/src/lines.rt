@@ -31,7 +31,8 @@ pub(crate) fn show_log(
     lines: Vec<LogLine>,
     shown: &mut Vec<Shown>,
 ) -> Result<(), AllocError>
-    ensures ok { IfOk result (λ done. shown.new.items ≡ shown.old.items ++ map (log_shown line) lines.items) }
+    ensures ok { IfOk result (λ done. shown.new.items ≡ shown.old.items ++ map (log_shown line)
+        lines.items) }
     ensures err { OnErr result (shown.new.items ≡ shown.old.items) }
 {
     let before = shown.len();
@@ -89,9 +90,12 @@ fn machine_of(alloc: Global, call: &RefCall) -> Result<RefMachine, AllocError>
 /// Begins a call by this line of the script; the line behind it has the number `at`. Where there is no memory for that, the
 /// task ends.
 fn begin_call(alloc: Global, line: u32, at: usize, call: &RefCall, shown: Vec<Shown>) -> Working
-    ensures comes { (body : List Line) → Comes (Or (ref_play line call.now (after_ref line shown.items (lines_from body at))) (refused line shown.items Refusal.NoMemory)) (working_rest body result) }
+    ensures comes { (body : List Line)
+        → Comes (Or (ref_play line call.now (after_ref line shown.items (lines_from body at)))
+        (refused line shown.items Refusal.NoMemory)) (working_rest body result) }
     ensures clean { is_well result ≡ true }
-    ensures bounded { (lines : ℕ) → working_left lines result ≤ (lines - at) * most_steps + most_steps }
+    ensures bounded { (lines : ℕ) → working_left lines result ≤ (lines - at) * most_steps
+        + most_steps }
 {
     match machine_of(alloc, call) {
         Ok(machine) => Working::Calling {
@@ -108,7 +112,8 @@ fn begin_call(alloc: Global, line: u32, at: usize, call: &RefCall, shown: Vec<Sh
 pub(crate) fn play_lines(alloc: Global, body: &[Line], from: usize, shown: Vec<Shown>) -> Working
     ensures leaves { Comes (lines_from body.now from shown.items) (working_rest body.now result) }
     ensures clean { is_well result ≡ true }
-    ensures bounded { working_left (length body.now) result ≤ (length body.now - from) * most_steps }
+    ensures bounded { working_left (length body.now) result ≤ (length body.now - from)
+        * most_steps }
 {
     for at in from..body.len() {
         let line = &body[at];

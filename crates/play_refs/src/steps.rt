@@ -20,8 +20,10 @@ impl RefMaker {
     /// One operation of the store.
     fn step<S: Store>(&mut self, store: &mut S) -> Result<Next<()>, Refusal>
         requires live { IsAsk (maker_rest self.old) }
-        requires polite { IsTrue (S.view store.old).caller.tells → NextIsPolite (maker_rest self.old) (S.view store.old).seen }
-        ensures step { Steps (S.view store.old) (S.view store.new) (maker_rest self.old) (maker_rest self.new) result }
+        requires polite { IsTrue (S.view store.old).caller.tells
+            → NextIsPolite (maker_rest self.old) (S.view store.old).seen }
+        ensures step { Steps (S.view store.old) (S.view store.new) (maker_rest self.old)
+            (maker_rest self.new) result }
         ensures falls { maker_left self.new < maker_left self.old }
     {
         match self {
@@ -45,9 +47,11 @@ fn after_making(
     answer: Result<Next<()>, Refusal>,
 ) -> Working
     requires { answers_well (is_ask (maker_rest maker)) answer ≡ true }
-    ensures comes { Comes (settled (after_making line shown.items (lines_from body.now at)) (maker_rest maker) answer) (working_rest body.now result) }
+    ensures comes { Comes (settled (after_making line shown.items (lines_from body.now at))
+        (maker_rest maker) answer) (working_rest body.now result) }
     ensures works { is_working result ≡ true }
-    ensures falls { working_left (length body.now) result ≤ (length body.now - at) * most_steps + maker_left maker }
+    ensures falls { working_left (length body.now) result ≤ (length body.now - at) * most_steps
+        + maker_left maker }
     ensures blames { Faults answer (working_rest body.now result) }
 {
     match answer {
@@ -74,9 +78,11 @@ fn after_reading(
     answer: Result<Next<LogLines>, Refusal>,
 ) -> Working
     requires { answers_well (is_ask (log_rest log)) answer ≡ true }
-    ensures comes { ComesOrStarves (after_reading line shown.items (lines_from body.now at)) (log_rest log) answer (working_rest body.now result) }
+    ensures comes { ComesOrStarves (after_reading line shown.items (lines_from body.now at))
+        (log_rest log) answer (working_rest body.now result) }
     ensures works { is_working result ≡ true }
-    ensures falls { working_left (length body.now) result ≤ (length body.now - at) * most_steps + log_left log }
+    ensures falls { working_left (length body.now) result ≤ (length body.now - at) * most_steps
+        + log_left log }
     ensures blames { Faults answer (working_rest body.now result) }
 {
     let lines = match answer {
@@ -108,10 +114,14 @@ fn step_making<S: Store>(
     store: &mut S,
 ) -> Working
     requires live { is_ask (maker_rest maker) ≡ true }
-    requires polite { IsTrue (S.view store.old).caller.tells → NextIsPolite (maker_rest maker) (S.view store.old).seen }
-    ensures acts { Acts is_failed (S.view store.old) (S.view store.new) (call (maker_rest maker) (after_making line shown.items (lines_from body.now at))) (working_rest body.now result) }
+    requires polite { IsTrue (S.view store.old).caller.tells
+        → NextIsPolite (maker_rest maker) (S.view store.old).seen }
+    ensures acts { Acts is_failed (S.view store.old) (S.view store.new)
+        (call (maker_rest maker) (after_making line shown.items (lines_from body.now at)))
+        (working_rest body.now result) }
     ensures works { is_working result ≡ true }
-    ensures falls { working_left (length body.now) result < (length body.now - at) * most_steps + maker_left maker }
+    ensures falls { working_left (length body.now) result < (length body.now - at) * most_steps
+        + maker_left maker }
 {
     let answer = maker.step(store);
     after_making(alloc, body, line, at, shown, maker, answer)
@@ -128,9 +138,12 @@ fn step_reading<S: Store>(
     store: &mut S,
 ) -> Working
     requires live { is_ask (log_rest log) ≡ true }
-    ensures acts { Acts is_failed (S.view store.old) (S.view store.new) (call (log_rest log) (after_reading line shown.items (lines_from body.now at))) (working_rest body.now result) }
+    ensures acts { Acts is_failed (S.view store.old) (S.view store.new)
+        (call (log_rest log) (after_reading line shown.items (lines_from body.now at)))
+        (working_rest body.now result) }
     ensures works { is_working result ≡ true }
-    ensures falls { working_left (length body.now) result < (length body.now - at) * most_steps + log_left log }
+    ensures falls { working_left (length body.now) result < (length body.now - at) * most_steps
+        + log_left log }
 {
     let answer = log.step(store);
     after_reading(alloc, body, line, at, shown, log, answer)
@@ -145,8 +158,10 @@ pub(crate) fn step_on<S: Store>(
 ) -> Working
     requires live { IsLive (working_rest body.now state) }
     requires works { is_working state ≡ true }
-    requires polite { IsTrue (S.view store.old).caller.tells → PlayIsPolite (working_rest body.now state) (S.view store.old).seen }
-    ensures acts { Acts is_failed (S.view store.old) (S.view store.new) (working_rest body.now state) (working_rest body.now result) }
+    requires polite { IsTrue (S.view store.old).caller.tells
+        → PlayIsPolite (working_rest body.now state) (S.view store.old).seen }
+    ensures acts { Acts is_failed (S.view store.old) (S.view store.new)
+        (working_rest body.now state) (working_rest body.now result) }
     ensures works { is_working result ≡ true }
     ensures falls { working_left (length body.now) result < working_left (length body.now) state }
 {

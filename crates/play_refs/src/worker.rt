@@ -66,8 +66,10 @@ impl<'a> RefsWorker<'a> {
     /// One operation of the store.
     pub fn step<S: Store>(&mut self, store: &mut S)
         requires live { IsLive (refs_rest self.old) }
-        requires polite { IsTrue (S.view store.old).caller.tells → PlayIsPolite (refs_rest self.old) (S.view store.old).seen }
-        ensures acts { Acts is_failed (S.view store.old) (S.view store.new) (refs_rest self.old) (refs_rest self.new) }
+        requires polite { IsTrue (S.view store.old).caller.tells
+            → PlayIsPolite (refs_rest self.old) (S.view store.old).seen }
+        ensures acts { Acts is_failed (S.view store.old) (S.view store.new) (refs_rest self.old)
+            (refs_rest self.new) }
         ensures falls { refs_left self.new < refs_left self.old }
     {
         // The old state is taken out.

@@ -49,7 +49,8 @@ fn add_case_line<K: Sink>(
     name: &RefName,
     what: What,
 )
-    ensures { Took out.old (K.at to.old) (line_of task.now (case_text line tag name.now what)) out.new (K.at to.new) }
+    ensures { Took out.old (K.at to.old) (line_of task.now (case_text line tag name.now what))
+        out.new (K.at to.new) }
 {
     out.add(to, task);
     out.add(to, b" ");
@@ -75,7 +76,8 @@ fn add_case_lines<K: Sink>(out: &mut Draft, to: &mut K, task: &[u8], line: u32, 
 
 /// A line for each ref that an expiry came to.
 pub fn add_cases<K: Sink>(out: &mut Draft, to: &mut K, task: &[u8], line: u32, cases: &[RefCase])
-    ensures { Took out.old (K.at to.old) (flat_map (case_lines task.now line) cases.now) out.new (K.at to.new) }
+    ensures { Took out.old (K.at to.old) (flat_map (case_lines task.now line) cases.now) out.new
+        (K.at to.new) }
 {
     for case in cases {
         add_case_lines(out, to, task, line, case);

@@ -29,7 +29,8 @@ fn add_more_cells<K: Sink>(out: &mut Draft, to: &mut K, numbers: &[i128])
 
 /// A number, and others, each behind a comma.
 fn add_some_cells<K: Sink>(out: &mut Draft, to: &mut K, first: i128, more: &[i128])
-    ensures { Took out.old (K.at to.old) (signed_decimal first ++ flat_map next_cell more.now) out.new (K.at to.new) }
+    ensures { Took out.old (K.at to.old) (signed_decimal first ++ flat_map next_cell more.now)
+        out.new (K.at to.new) }
 {
     out.add_signed(to, first);
     add_more_cells(out, to, more);

@@ -44,7 +44,8 @@ fn add_fault_line<K: Sink>(out: &mut Draft, to: &mut K, task: &[u8], fault: &Che
 
 /// A line for each fault that a check found.
 pub fn add_faults<K: Sink>(out: &mut Draft, to: &mut K, task: &[u8], faults: &[CheckFault])
-    ensures { Took out.old (K.at to.old) (flat_map (fault_line task.now) faults.now) out.new (K.at to.new) }
+    ensures { Took out.old (K.at to.old) (flat_map (fault_line task.now) faults.now) out.new
+        (K.at to.new) }
 {
     for fault in faults {
         add_fault_line(out, to, task, fault);

@@ -21,7 +21,8 @@ fn add_property_line<K: Sink>(
     key: &str,
     value: &str,
 )
-    ensures { Took out.old (K.at to.old) (property_line name.now line (key.now, value.now)) out.new (K.at to.new) }
+    ensures { Took out.old (K.at to.old) (property_line name.now line (key.now, value.now)) out.new
+        (K.at to.new) }
 {
     out.add(to, name);
     out.add(to, b" ");
@@ -35,7 +36,8 @@ fn add_property_line<K: Sink>(
 
 /// The properties of a snapshot of a log that was asked for in this line of the script, each as a line, in their order.
 pub fn add_properties<K: Sink>(out: &mut Draft, to: &mut K, name: &[u8], line: u32, props: &Props)
-    ensures { Took out.old (K.at to.old) (flat_map (property_line name.now line) props.now) out.new (K.at to.new) }
+    ensures { Took out.old (K.at to.old) (flat_map (property_line name.now line) props.now) out.new
+        (K.at to.new) }
 {
     for at in 0..props.len() {
         let (key, value) = props.row(at);

@@ -111,7 +111,8 @@ fn add_more_numbers<K: Sink>(out: &mut Draft, to: &mut K, numbers: &[u32])
 
 /// A number, and others, each behind a comma.
 fn add_numbers<K: Sink>(out: &mut Draft, to: &mut K, first: u32, more: &[u32])
-    ensures { Took out.old (K.at to.old) (decimal first ++ more_numbers more.now) out.new (K.at to.new) }
+    ensures { Took out.old (K.at to.old) (decimal first ++ more_numbers more.now) out.new
+        (K.at to.new) }
 {
     add_small(out, to, first);
     add_more_numbers(out, to, more);
@@ -154,7 +155,8 @@ fn add_case<K: Sink>(out: &mut Draft, to: &mut K, case: Case)
 
 /// A conflict, behind a space.
 fn add_conflict<K: Sink>(out: &mut Draft, to: &mut K, conflict: &Conflict)
-    ensures { Took out.old (K.at to.old) (codes " " ++ conflict_text conflict.now) out.new (K.at to.new) }
+    ensures { Took out.old (K.at to.old) (codes " " ++ conflict_text conflict.now) out.new
+        (K.at to.new) }
 {
     out.add(to, b" ");
     add_case(out, to, conflict.case);
@@ -174,7 +176,8 @@ fn add_conflicts<K: Sink>(out: &mut Draft, to: &mut K, conflicts: &[Conflict])
 
 /// The snapshot of a commit, and its conflicts that stay.
 fn add_left<K: Sink>(out: &mut Draft, to: &mut K, at: Id12, conflicts: &[Conflict])
-    ensures { Took out.old (K.at to.old) (refusal_text (Left at conflicts.now)) out.new (K.at to.new) }
+    ensures { Took out.old (K.at to.old) (refusal_text (Left at conflicts.now)) out.new
+        (K.at to.new) }
 {
     out.add(to, b"left ");
     add_id(out, to, at);

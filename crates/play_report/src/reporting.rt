@@ -52,7 +52,8 @@ fn add_shown_lines<K: Sink>(out: &mut Draft, to: &mut K, name: &[u8], shown: &Sh
 
 /// The lines that a task showed.
 fn add_all_shown<K: Sink>(out: &mut Draft, to: &mut K, name: &[u8], all: &[Shown])
-    ensures { Took out.old (K.at to.old) (flat_map (shown_lines name.now) all.now) out.new (K.at to.new) }
+    ensures { Took out.old (K.at to.old) (flat_map (shown_lines name.now) all.now) out.new
+        (K.at to.new) }
 {
     for shown in all {
         add_shown_lines(out, to, name, shown);
@@ -67,7 +68,8 @@ fn is_nothing(removed: Removed) -> bool
 
 /// What a collection removed, as a line.
 fn add_removed_line<K: Sink>(out: &mut Draft, to: &mut K, name: &[u8], removed: Removed)
-    ensures { Took out.old (K.at to.old) (line_of name.now (removed_text removed)) out.new (K.at to.new) }
+    ensures { Took out.old (K.at to.old) (line_of name.now (removed_text removed)) out.new
+        (K.at to.new) }
 {
     out.add(to, name);
     out.add(to, b" ");
@@ -103,7 +105,8 @@ fn add_done_lines<K: Sink>(out: &mut Draft, to: &mut K, name: &[u8], end: &End)
 
 /// How a task ended, as a line.
 fn add_end_line<K: Sink>(out: &mut Draft, to: &mut K, name: &[u8], end: &End)
-    ensures { Took out.old (K.at to.old) (line_of name.now (end_text end.now)) out.new (K.at to.new) }
+    ensures { Took out.old (K.at to.old) (line_of name.now (end_text end.now)) out.new
+        (K.at to.new) }
 {
     out.add(to, name);
     out.add(to, b" ");
@@ -161,7 +164,8 @@ fn add_refs<K: Sink>(out: &mut Draft, to: &mut K, refs: &Result<RefLines, Refusa
 
 /// Each task in order, under its name.
 fn add_tasks<K: Sink>(out: &mut Draft, to: &mut K, names: &[&[u8]], outcomes: &[Outcome])
-    ensures { Took out.old (K.at to.old) (tasks_text (map (λ n. n.now) names.now) outcomes.now) out.new (K.at to.new) }
+    ensures { Took out.old (K.at to.old) (tasks_text (map (λ n. n.now) names.now) outcomes.now)
+        out.new (K.at to.new) }
 {
     for place in 0..names.len().min(outcomes.len()) {
         add_outcome(out, to, names[place], &outcomes[place]);
@@ -176,7 +180,8 @@ fn add_played<K: Sink>(
     opening: &Result<(), Refusal>,
     outcomes: &[Outcome],
 )
-    ensures { Took out.old (K.at to.old) (played_text (map (λ n. n.now) names.now) opening.now outcomes.now) out.new (K.at to.new) }
+    ensures { Took out.old (K.at to.old) (played_text (map (λ n. n.now) names.now) opening.now
+        outcomes.now) out.new (K.at to.new) }
 {
     match opening {
         Ok(()) => add_tasks(out, to, names, outcomes),
@@ -196,7 +201,8 @@ pub fn add_report<K: Sink>(
     outcomes: &[Outcome],
     refs: &Result<RefLines, Refusal>,
 )
-    ensures { Took out.old (K.at to.old) (report_of (map (λ n. n.now) names.now) opening.now outcomes.now refs.now) out.new (K.at to.new) }
+    ensures { Took out.old (K.at to.old) (report_of (map (λ n. n.now) names.now) opening.now
+        outcomes.now refs.now) out.new (K.at to.new) }
 {
     add_played(out, to, names, opening, outcomes);
     add_refs(out, to, refs);

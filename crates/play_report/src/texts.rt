@@ -125,7 +125,8 @@ fn add_value<K: Sink>(out: &mut Draft, to: &mut K, value: &Option<Bytes>)
 
 /// The line of a task, and a word, with a space behind each.
 fn add_head<K: Sink>(out: &mut Draft, to: &mut K, line: u32, word: &str)
-    ensures { Took out.old (K.at to.old) (decimal line space word.now ++ codes " ") out.new (K.at to.new) }
+    ensures { Took out.old (K.at to.old) (decimal line space word.now ++ codes " ") out.new
+        (K.at to.new) }
 {
     add_small(out, to, line);
     out.add(to, b" ");
@@ -135,7 +136,8 @@ fn add_head<K: Sink>(out: &mut Draft, to: &mut K, line: u32, word: &str)
 
 /// A node of a listing.
 fn add_node<K: Sink>(out: &mut Draft, to: &mut K, line: u32, array: bool, path: &Path)
-    ensures { Took out.old (K.at to.old) (decimal line space codes "list" space node_kind array space path.now) out.new (K.at to.new) }
+    ensures { Took out.old (K.at to.old) (decimal line space codes "list" space node_kind array
+        space path.now) out.new (K.at to.new) }
 {
     add_head(out, to, line, "list");
     add_node_kind(out, to, array);
@@ -145,7 +147,8 @@ fn add_node<K: Sink>(out: &mut Draft, to: &mut K, line: u32, array: bool, path: 
 
 /// The metadata of a node.
 fn add_meta<K: Sink>(out: &mut Draft, to: &mut K, line: u32, text: &Bytes)
-    ensures { Took out.old (K.at to.old) (decimal line space codes "meta" space map printed text.now) out.new (K.at to.new) }
+    ensures { Took out.old (K.at to.old) (decimal line space codes "meta" space map printed
+        text.now) out.new (K.at to.new) }
 {
     add_head(out, to, line, "meta");
     add_printed(out, to, text.as_slice());
@@ -153,7 +156,8 @@ fn add_meta<K: Sink>(out: &mut Draft, to: &mut K, line: u32, text: &Bytes)
 
 /// The bytes of a chunk.
 fn add_chunk<K: Sink>(out: &mut Draft, to: &mut K, line: u32, bytes: &Bytes)
-    ensures { Took out.old (K.at to.old) (decimal line space codes "chunk" space bytes_text bytes.now) out.new (K.at to.new) }
+    ensures { Took out.old (K.at to.old) (decimal line space codes "chunk" space bytes_text
+        bytes.now) out.new (K.at to.new) }
 {
     add_head(out, to, line, "chunk");
     add_bytes(out, to, bytes.as_slice());
@@ -169,7 +173,8 @@ fn add_fill<K: Sink>(out: &mut Draft, to: &mut K, line: u32)
 
 /// The numbers of a box of cells.
 fn add_box<K: Sink>(out: &mut Draft, to: &mut K, line: u32, numbers: &[i128])
-    ensures { Took out.old (K.at to.old) (decimal line space codes "cells" space cells_text numbers.now) out.new (K.at to.new) }
+    ensures { Took out.old (K.at to.old) (decimal line space codes "cells" space cells_text
+        numbers.now) out.new (K.at to.new) }
 {
     add_head(out, to, line, "cells");
     add_cells(out, to, numbers);
@@ -177,7 +182,8 @@ fn add_box<K: Sink>(out: &mut Draft, to: &mut K, line: u32, numbers: &[i128])
 
 /// The value of a key of the Zarr store.
 fn add_key_value<K: Sink>(out: &mut Draft, to: &mut K, line: u32, value: &Option<Bytes>)
-    ensures { Took out.old (K.at to.old) (decimal line space codes "zget" space value_text value.now) out.new (K.at to.new) }
+    ensures { Took out.old (K.at to.old) (decimal line space codes "zget" space value_text
+        value.now) out.new (K.at to.new) }
 {
     add_head(out, to, line, "zget");
     add_value(out, to, value);
@@ -192,7 +198,8 @@ fn add_log<K: Sink>(
     flushed_at: u64,
     message: &str,
 )
-    ensures { Took out.old (K.at to.old) (decimal line space codes "log" space id12_text id space decimal flushed_at space map printed message.now) out.new (K.at to.new) }
+    ensures { Took out.old (K.at to.old) (decimal line space codes "log" space id12_text id space
+        decimal flushed_at space map printed message.now) out.new (K.at to.new) }
 {
     add_head(out, to, line, "log");
     add_id(out, to, id);
@@ -259,7 +266,8 @@ fn add_result<K: Sink>(out: &mut Draft, to: &mut K, line: u32, outcome: &Result<
 
 /// That a doubt couldn't be settled, and why.
 fn add_unsettled<K: Sink>(out: &mut Draft, to: &mut K, why: &Refusal)
-    ensures { Took out.old (K.at to.old) (codes "unsettled" space refusal_text why.now) out.new (K.at to.new) }
+    ensures { Took out.old (K.at to.old) (codes "unsettled" space refusal_text why.now) out.new
+        (K.at to.new) }
 {
     out.add(to, b"unsettled ");
     add_refusal(out, to, why);
@@ -280,7 +288,8 @@ fn add_how<K: Sink>(out: &mut Draft, to: &mut K, how: &How)
 
 /// The snapshot of a commit in doubt, and what its branch told of it.
 fn add_doubt<K: Sink>(out: &mut Draft, to: &mut K, id: Id12, how: &How)
-    ensures { Took out.old (K.at to.old) (codes "indoubt" space id12_text id space how_text how.now) out.new (K.at to.new) }
+    ensures { Took out.old (K.at to.old) (codes "indoubt" space id12_text id space how_text how.now)
+        out.new (K.at to.new) }
 {
     out.add(to, b"indoubt ");
     add_id(out, to, id);

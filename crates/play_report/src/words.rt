@@ -58,7 +58,8 @@ fn add_object<K: Sink>(out: &mut Draft, to: &mut K, folder: &str, id: Id12)
 
 /// The name of an object that is called by a ref's name, between these texts.
 fn add_ref_object<K: Sink>(out: &mut Draft, to: &mut K, before: &str, name: &RefName, behind: &str)
-    ensures { Took out.old (K.at to.old) (before.now ++ (name.now ++ behind.now)) out.new (K.at to.new) }
+    ensures { Took out.old (K.at to.old) (before.now ++ (name.now ++ behind.now)) out.new
+        (K.at to.new) }
 {
     add_text(out, to, before);
     add_name(out, to, name);
@@ -101,7 +102,8 @@ pub fn add_told_number<K: Sink>(out: &mut Draft, to: &mut K, word: &str, number:
 
 /// A word, and two numbers, each behind a space.
 pub fn add_told_numbers<K: Sink>(out: &mut Draft, to: &mut K, word: &str, first: u64, second: u64)
-    ensures { Took out.old (K.at to.old) (word.now space decimal first space decimal second) out.new (K.at to.new) }
+    ensures { Took out.old (K.at to.old) (word.now space decimal first space decimal second) out.new
+        (K.at to.new) }
 {
     add_text(out, to, word);
     out.add(to, b" ");

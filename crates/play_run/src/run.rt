@@ -22,7 +22,8 @@ fn take_turn<S: Base>(workers: &mut [Worker<'_>], t: usize, store: &mut S) -> bo
     requires within { t < length workers.old }
     requires small { length workers.old < 2 ^ 32 - 1 }
     requires stand { CanGo (S.view store.old) (map worker_rest workers.old) }
-    ensures took { TookTurn t (S.view store.old) (S.view store.new) (map worker_rest workers.old) (map worker_rest workers.new) result }
+    ensures took { TookTurn t (S.view store.old) (S.view store.new) (map worker_rest workers.old)
+        (map worker_rest workers.new) result }
     ensures falls { IsTrue result → left_at workers.new t < left_at workers.old t }
 {
     if workers[t].has_ended() {
@@ -39,7 +40,8 @@ fn take_turns<S: Base>(workers: &mut [Worker<'_>], t: usize, count: u32, store: 
     requires within { t < length workers.old }
     requires small { length workers.old < 2 ^ 32 - 1 }
     requires stand { CanGo (S.view store.old) (map worker_rest workers.old) }
-    ensures went { Went (replicate count t) (S.view store.old) (S.view store.new) (map worker_rest workers.old) (map worker_rest workers.new) }
+    ensures went { Went (replicate count t) (S.view store.old) (S.view store.new)
+        (map worker_rest workers.old) (map worker_rest workers.new) }
 {
     for _ in 0..count {
         take_turn(workers, t, store);
@@ -51,7 +53,8 @@ fn run_turns<S: Base>(workers: &mut [Worker<'_>], turns: &[Turn], store: &mut S)
     requires within { All (IsWellTurn (length workers.old)) turns.now }
     requires small { length workers.old < 2 ^ 32 - 1 }
     requires stand { CanGo (S.view store.old) (map worker_rest workers.old) }
-    ensures went { Went (places_of turns.now) (S.view store.old) (S.view store.new) (map worker_rest workers.old) (map worker_rest workers.new) }
+    ensures went { Went (places_of turns.now) (S.view store.old) (S.view store.new)
+        (map worker_rest workers.old) (map worker_rest workers.new) }
 {
     for turn in turns {
         take_turns(workers, turn.client as usize - 1, turn.count, store);
@@ -63,7 +66,8 @@ fn run_to_end<S: Base>(workers: &mut [Worker<'_>], t: usize, store: &mut S)
     requires within { t < length workers.old }
     requires small { length workers.old < 2 ^ 32 - 1 }
     requires stand { CanGo (S.view store.old) (map worker_rest workers.old) }
-    ensures went { (n : ℕ) × Went (replicate n t) (S.view store.old) (S.view store.new) (map worker_rest workers.old) (map worker_rest workers.new) }
+    ensures went { (n : ℕ) × Went (replicate n t) (S.view store.old) (S.view store.new)
+        (map worker_rest workers.old) (map worker_rest workers.new) }
     ensures ended { HasEndedAt t (map worker_rest workers.new) }
 {
     loop {
@@ -77,7 +81,8 @@ fn run_to_end<S: Base>(workers: &mut [Worker<'_>], t: usize, store: &mut S)
 fn run_to_ends<S: Base>(workers: &mut [Worker<'_>], store: &mut S)
     requires small { length workers.old < 2 ^ 32 - 1 }
     requires stand { CanGo (S.view store.old) (map worker_rest workers.old) }
-    ensures went { (counts : List ℕ) × Went (turns_of 0 counts) (S.view store.old) (S.view store.new) (map worker_rest workers.old) (map worker_rest workers.new) }
+    ensures went { (counts : List ℕ) × Went (turns_of 0 counts) (S.view store.old)
+        (S.view store.new) (map worker_rest workers.old) (map worker_rest workers.new) }
     ensures ended { (k : ℕ) → k < length workers.new → HasEndedAt k (map worker_rest workers.new) }
 {
     for t in 0..workers.len() {
@@ -90,7 +95,9 @@ fn run_workers<S: Base>(workers: &mut [Worker<'_>], turns: &[Turn], store: &mut 
     requires within { All (IsWellTurn (length workers.old)) turns.now }
     requires small { length workers.old < 2 ^ 32 - 1 }
     requires stand { CanGo (S.view store.old) (map worker_rest workers.old) }
-    ensures went { (counts : List ℕ) × Went (places_of turns.now ++ turns_of 0 counts) (S.view store.old) (S.view store.new) (map worker_rest workers.old) (map worker_rest workers.new) }
+    ensures went { (counts : List ℕ) × Went (places_of turns.now ++ turns_of 0 counts)
+        (S.view store.old) (S.view store.new) (map worker_rest workers.old)
+        (map worker_rest workers.new) }
     ensures ended { (k : ℕ) → k < length workers.new → HasEndedAt k (map worker_rest workers.new) }
 {
     run_turns(workers, turns, store);
@@ -114,14 +121,18 @@ pub fn run_tasks<S: Base>(
 
     // Whatever the store tells: which operations were made, which answers follow them, and how the tasks ended, by the list
     // of turns and then task by task. Where it tells its journal, that goes on by these operations, each polite and owed.
-    ensures ran { IfOk result (λ outcomes. RanTasks draw tasks.now (S.view store.old).caller.tells (places_of turns.now) outcomes.items (S.view store.old).seen (S.view store.new).seen) }
+    ensures ran { IfOk result (λ outcomes. RanTasks draw tasks.now (S.view store.old).caller.tells
+        (places_of turns.now) outcomes.items (S.view store.old).seen (S.view store.new).seen) }
 
     // What each outcome says of the journal: what was opened and shown, and what became of the commit.
-    ensures told { IsTrue (S.view store.old).caller.tells → IfOk result (λ outcomes. AllTold draw tasks.now outcomes.items (S.view store.old).seen (S.view store.new).seen) }
+    ensures told { IsTrue (S.view store.old).caller.tells
+        → IfOk result (λ outcomes. AllTold draw tasks.now outcomes.items (S.view store.old).seen
+        (S.view store.new).seen) }
     ensures size { IfOk result (λ outcomes. length outcomes.items ≡ length tasks.now) }
 
     // An outcome tells a fault of the store only where it rose.
-    ensures blames { IfOk result (λ outcomes. AllBlame outcomes.items (S.view store.old).faults (S.view store.new).faults) }
+    ensures blames { IfOk result (λ outcomes. AllBlame outcomes.items (S.view store.old).faults
+        (S.view store.new).faults) }
     ensures counted { (S.view store.old).faults ≤ (S.view store.new).faults }
     ensures tells { (S.view store.new).caller.tells ≡ (S.view store.old).caller.tells }
     ensures nothing { IfErr result (λ error. S.view store.new ≡ S.view store.old) }

@@ -359,7 +359,8 @@ fn edit_call(
 
 /// A line that changes the tree.
 fn edit_in(alloc: Global, first: &str, rest: Option<&str>) -> Result<Option<Form>, AllocError>
-    ensures { IfOk result (λ f. f ≡ form Class.Edit Call.Edit (edit_of first.now (seen rest.entry))) }
+    ensures { IfOk result
+        (λ f. f ≡ form Class.Edit Call.Edit (edit_of first.now (seen rest.entry))) }
 {
     match edit_call(alloc, first, rest)? {
         Some(call) => Ok(Some(Form {
@@ -393,7 +394,8 @@ fn read_call(
 
 /// A line that looks at the tree.
 fn read_in(alloc: Global, first: &str, rest: Option<&str>) -> Result<Option<Form>, AllocError>
-    ensures { IfOk result (λ f. f ≡ form Class.Read Call.Read (read_of first.now (seen rest.entry))) }
+    ensures { IfOk result
+        (λ f. f ≡ form Class.Read Call.Read (read_of first.now (seen rest.entry))) }
 {
     match read_call(alloc, first, rest)? {
         Some(call) => Ok(Some(Form {
@@ -407,7 +409,8 @@ fn read_in(alloc: Global, first: &str, rest: Option<&str>) -> Result<Option<Form
 /// A line that commits.
 #[tactic(auto, unfolding(crate::specs::Forms::commit_of))]
 fn commit_in(alloc: Global, first: &str, rest: Option<&str>) -> Result<Option<Form>, AllocError>
-    ensures { IfOk result (λ f. f ≡ form Class.Commit Call.Commit (commit_of first.now (seen rest.entry))) }
+    ensures { IfOk result
+        (λ f. f ≡ form Class.Commit Call.Commit (commit_of first.now (seen rest.entry))) }
 {
     let call = match first {
         "commit" => rest_text(alloc, rest)?.map(|message| Call::Commit { message }),
@@ -435,7 +438,8 @@ fn refs_in(alloc: Global, first: &str, rest: Option<&str>) -> Result<Option<Form
 /// A line that adds a property to the commit.
 #[tactic(auto, unfolding(crate::specs::Forms::prop_of))]
 fn prop_in(alloc: Global, first: &str, rest: Option<&str>) -> Result<Option<Form>, AllocError>
-    ensures { IfOk result (λ f. f ≡ form Class.Edit (λ v. Call.Prop v.0 v.1) (prop_of first.now (seen rest.entry))) }
+    ensures { IfOk result (λ f. f ≡ form Class.Edit (λ v. Call.Prop v.0 v.1)
+        (prop_of first.now (seen rest.entry))) }
 {
     let call = match first {
         "prop" => name_and_value(alloc, rest)?.map(|(name, value)| Call::Prop { name, value }),

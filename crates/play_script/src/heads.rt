@@ -128,7 +128,8 @@ fn task_line(
 ) -> Result<Result<Script, ScriptKind>, AllocError>
     requires { names.old ≡ task_names script.tasks }
     ensures named { IfOk result (λ r. IfOk r (λ s. names.new ≡ task_names s.tasks)) }
-    ensures value { IfOk result (λ r. r ≡ task_line script number (lines_of after.now) name.now word.now (seen rest.entry)) }
+    ensures value { IfOk result (λ r. r ≡ task_line script number (lines_of after.now) name.now
+        word.now (seen rest.entry)) }
     ensures few { IfOk result (λ r. IfOk r (λ s. length s.tasks ≤ most_tasks)) }
 {
     let before = may_begin(&script, names, after, name, word);
@@ -159,7 +160,8 @@ pub fn head_line(
 ) -> Result<Result<Script, ScriptKind>, AllocError>
     requires { names.old ≡ task_names script.tasks }
     ensures named { IfOk result (λ r. IfOk r (λ s. names.new ≡ task_names s.tasks)) }
-    ensures value { IfOk result (λ r. r ≡ head_line script number (lines_of after.now) (seen rest.entry)) }
+    ensures value { IfOk result (λ r. r ≡ head_line script number (lines_of after.now)
+        (seen rest.entry)) }
     ensures few { IfOk result (λ r. IfOk r (λ s. length s.tasks ≤ most_tasks)) }
 {
     let Some((name, rest)) = next(rest) else {

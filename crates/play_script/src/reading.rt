@@ -33,7 +33,8 @@ fn words_line(
 ) -> Result<Result<Script, ScriptKind>, AllocError>
     requires few { length script.tasks ≤ most_tasks }
     requires named { names.old ≡ task_names script.tasks }
-    ensures value { IfOk result (λ r. r ≡ words_line script number (lines_of after.now) first.now (seen rest.entry)) }
+    ensures value { IfOk result (λ r. r ≡ words_line script number (lines_of after.now) first.now
+        (seen rest.entry)) }
     ensures few { IfOk result (λ r. IfOk r (λ s. length s.tasks ≤ most_tasks)) }
     ensures named { IfOk result (λ r. IfOk r (λ s. names.new ≡ task_names s.tasks)) }
 {
@@ -49,7 +50,8 @@ fn words_line(
 /// The line as text.
 #[tactic(auto, using(crate::proofs::Utf8::not_text, crate::proofs::Utf8::is_text))]
 fn text_of(line: &[u8]) -> Option<&str>
-    ensures { MatchOption result (is_utf8 line.now ≡ false) (λ t. (is_utf8 line.now ≡ true) × (t.now ≡ line.now)) }
+    ensures { MatchOption result (is_utf8 line.now ≡ false) (λ t. (is_utf8 line.now ≡ true)
+        × (t.now ≡ line.now)) }
 {
     match str::from_utf8(line) {
         Ok(text) => Some(text),

@@ -51,7 +51,8 @@ fn turns_in(
     rest: Option<&str>,
 ) -> Result<Result<Vec<Turn>, ScriptKind>, AllocError>
     requires { length tasks.now ≤ most_tasks }
-    ensures { IfOk result (λ r. parts_seen r ≡ each (turn_of tasks.now) (pieces 32 (seen rest.entry))) }
+    ensures { IfOk result
+        (λ r. parts_seen r ≡ each (turn_of tasks.now) (pieces 32 (seen rest.entry))) }
 {
     let mut turns = Ok(Vec::new(alloc));
     let mut left = rest;

@@ -75,7 +75,8 @@ pub fn two<'a>(rest: Option<&'a str>) -> Option<(&'a str, &'a str)>
 
 /// The three words that are left.
 pub fn three<'a>(rest: Option<&'a str>) -> Option<(&'a str, &'a str, &'a str)>
-    ensures { option_map (λ words. (words.0.now, words.1.now, words.2.now)) result ≡ three (seen rest.entry) }
+    ensures { option_map (λ words. (words.0.now, words.1.now, words.2.now)) result
+        ≡ three (seen rest.entry) }
 {
     let (first, rest) = next(rest)?;
     let (second, third) = two(rest)?;
@@ -84,7 +85,8 @@ pub fn three<'a>(rest: Option<&'a str>) -> Option<(&'a str, &'a str, &'a str)>
 
 /// The four words that are left.
 pub fn four<'a>(rest: Option<&'a str>) -> Option<(&'a str, &'a str, &'a str, &'a str)>
-    ensures { option_map (λ words. (words.0.now, words.1.now, words.2.now, words.3.now)) result ≡ four (seen rest.entry) }
+    ensures { option_map (λ words. (words.0.now, words.1.now, words.2.now, words.3.now)) result
+        ≡ four (seen rest.entry) }
 {
     let (first, rest) = next(rest)?;
     let (second, third, fourth) = three(rest)?;
@@ -93,7 +95,9 @@ pub fn four<'a>(rest: Option<&'a str>) -> Option<(&'a str, &'a str, &'a str, &'a
 
 /// The five words that are left.
 pub fn five<'a>(rest: Option<&'a str>) -> Option<(&'a str, &'a str, &'a str, &'a str, &'a str)>
-    ensures { option_map (λ words. (words.0.now, words.1.now, words.2.now, words.3.now, words.4.now)) result ≡ five (seen rest.entry) }
+    ensures { option_map
+        (λ words. (words.0.now, words.1.now, words.2.now, words.3.now, words.4.now)) result
+        ≡ five (seen rest.entry) }
 {
     let (first, rest) = next(rest)?;
     let (second, third, fourth, fifth) = four(rest)?;

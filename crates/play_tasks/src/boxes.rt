@@ -69,8 +69,11 @@ fn after_begun(
 ) -> Step
     requires few { IfOk came IsFew }
     requires calm { IfErr came (λ refused. is_fault refused.1 ≡ false) }
-    ensures comes { (s : SessionState) (p : Program (List ℤ)) → Begins p s came → PlayComes line at shown.items (λ rest. call p (after_get (cells_shown line) line shown.items s rest)) result }
-    ensures clean { (s : SessionState) (p : Program (List ℤ)) → Begins p s came → is_clean result ≡ true }
+    ensures comes { (s : SessionState) (p : Program (List ℤ)) → Begins p s came
+        → PlayComes line at shown.items
+        (λ rest. call p (after_get (cells_shown line) line shown.items s rest)) result }
+    ensures clean { (s : SessionState) (p : Program (List ℤ)) → Begins p s came
+        → is_clean result ≡ true }
     ensures bounded { IsBounded at result }
 {
     match came {
@@ -103,7 +106,8 @@ pub(crate) fn play_cells(
     session: Session,
     shown: Vec<Shown>,
 ) -> Step
-    ensures comes { CallComes line at shown.items session (Gathers place.now.path place.now.from place.now.to (cells_shown line)) result }
+    ensures comes { CallComes line at shown.items session
+        (Gathers place.now.path place.now.from place.now.to (cells_shown line)) result }
     ensures clean { is_clean result ≡ true }
     ensures bounded { IsBounded at result }
 {
@@ -123,8 +127,10 @@ fn after_put(
 ) -> Step
     requires few { IfOk came IsFewSet }
     requires calm { IfErr came (λ refused. is_fault refused.1 ≡ false) }
-    ensures comes { (s : SessionState) (p : Program SessionState) → BeginsSet p s came → PlayComes line at shown.items (λ rest. call p (after_set line shown.items rest)) result }
-    ensures clean { (s : SessionState) (p : Program SessionState) → BeginsSet p s came → is_clean result ≡ true }
+    ensures comes { (s : SessionState) (p : Program SessionState) → BeginsSet p s came
+        → PlayComes line at shown.items (λ rest. call p (after_set line shown.items rest)) result }
+    ensures clean { (s : SessionState) (p : Program SessionState) → BeginsSet p s came
+        → is_clean result ≡ true }
     ensures bounded { IsBounded at result }
 {
     match came {
@@ -152,7 +158,8 @@ pub(crate) fn play_put(
     session: Session,
     shown: Vec<Shown>,
 ) -> Step
-    ensures comes { CallComes line at shown.items session (Puts place.now.path place.now.from place.now.to numbers.now) result }
+    ensures comes { CallComes line at shown.items session
+        (Puts place.now.path place.now.from place.now.to numbers.now) result }
     ensures clean { is_clean result ≡ true }
     ensures bounded { IsBounded at result }
 {

@@ -30,8 +30,10 @@ fn after_call(
     came: Result<Setting, (Session, Refusal)>,
     shown: Vec<Shown>,
 ) -> Step
-    ensures comes { (s : SessionState) (p : Program SessionState) → CameTo p s came → PlayComes line at shown.items (λ rest. call p (after_set line shown.items rest)) result }
-    ensures clean { (s : SessionState) (p : Program SessionState) → CameTo p s came → EndsCalmly p → is_clean result ≡ true }
+    ensures comes { (s : SessionState) (p : Program SessionState) → CameTo p s came
+        → PlayComes line at shown.items (λ rest. call p (after_set line shown.items rest)) result }
+    ensures clean { (s : SessionState) (p : Program SessionState) → CameTo p s came → EndsCalmly p
+        → is_clean result ≡ true }
     ensures bounded { IsBounded at result }
 {
     match came {
@@ -59,7 +61,8 @@ pub(crate) fn play_set(
     session: Session,
     shown: Vec<Shown>,
 ) -> Step
-    ensures comes { CallComes line at shown.items session (Sets path.now index.now bytes.now) result }
+    ensures comes { CallComes line at shown.items session (Sets path.now index.now bytes.now)
+        result }
     ensures clean { is_clean result ≡ true }
     ensures bounded { IsBounded at result }
 {
@@ -76,7 +79,8 @@ pub(crate) fn play_key_set(
     session: Session,
     shown: Vec<Shown>,
 ) -> Step
-    ensures comes { CallComes line at shown.items session (key_set_deed bytes.now (key_of key.now) session) result }
+    ensures comes { CallComes line at shown.items session
+        (key_set_deed bytes.now (key_of key.now) session) result }
     ensures clean { is_clean result ≡ true }
     ensures bounded { IsBounded at result }
 {
@@ -133,7 +137,8 @@ pub(crate) fn play_fill(
     session: Session,
     shown: Vec<Shown>,
 ) -> Step
-    ensures comes { CallComes line at shown.items session (Sets path.now index.now (filled session path.now byte)) result }
+    ensures comes { CallComes line at shown.items session
+        (Sets path.now index.now (filled session path.now byte)) result }
     ensures clean { is_clean result ≡ true }
     ensures bounded { IsBounded at result }
 {
@@ -189,7 +194,8 @@ pub(crate) fn show_value(
     value: Value,
     shown: &mut Vec<Shown>,
 ) -> Result<(), AllocError>
-    ensures ok { OnOk result (shown.new.items ≡ shown.old.items ++ shown_for asked line value ∷ []) }
+    ensures ok { OnOk result (shown.new.items ≡ shown.old.items ++ shown_for asked line value
+        ∷ []) }
     ensures err { OnErr result (shown.new.items ≡ shown.old.items) }
 {
     match asked {
@@ -207,7 +213,8 @@ pub(crate) fn play_get(
     session: Session,
     mut shown: Vec<Shown>,
 ) -> Step
-    ensures comes { CallComes line at shown.items session (Reads path.now index.now (value_shown line)) result }
+    ensures comes { CallComes line at shown.items session
+        (Reads path.now index.now (value_shown line)) result }
     ensures clean { is_clean result ≡ true }
     ensures bounded { IsBounded at result }
 {
@@ -244,7 +251,8 @@ pub(crate) fn play_key_get(
     session: Session,
     mut shown: Vec<Shown>,
 ) -> Step
-    ensures comes { CallComes line at shown.items session (key_get_deed line (key_of key.now) session) result }
+    ensures comes { CallComes line at shown.items session
+        (key_get_deed line (key_of key.now) session) result }
     ensures clean { is_clean result ≡ true }
     ensures bounded { IsBounded at result }
 {

@@ -67,9 +67,12 @@ pub(crate) fn begin_commit(
     message: Text,
     session: Session,
 ) -> Working
-    ensures comes { (task : TheTask) → Comes (Or (commit_play tries.left tries.policy line shown message session) (refused line shown NoMemory)) (working_rest task result) }
+    ensures comes { (task : TheTask)
+        → Comes (Or (commit_play tries.left tries.policy line shown message session)
+        (refused line shown NoMemory)) (working_rest task result) }
     ensures clean { is_well result ≡ true }
-    ensures bounded { (lines : ℕ) → working_left lines result ≤ tries.left * try_steps + commit_steps }
+    ensures bounded { (lines : ℕ) → working_left lines result ≤ tries.left * try_steps
+        + commit_steps }
 {
     match Commit::start(alloc, session, message) {
         Ok(commit) => Working::Committing {
@@ -95,7 +98,9 @@ fn after_loss(
     old: Version,
     found: Option<Version>,
 ) -> Working
-    ensures comes { (task : TheTask) → Comes (after_lost tries.left tries.policy line shown (message_in commit) (session_in commit) old found (session_in commit).ids) (working_rest task result) }
+    ensures comes { (task : TheTask)
+        → Comes (after_lost tries.left tries.policy line shown (message_in commit)
+        (session_in commit) old found (session_in commit).ids) (working_rest task result) }
     ensures clean { is_well result ≡ true }
     ensures falls { (lines : ℕ) → working_left lines result ≤ tries.left * try_steps }
 {
@@ -126,10 +131,12 @@ fn after_loss(
 
 /// Where a worker stands whose commit was refused, or is in doubt: a doubt is settled.
 fn after_refusal(alloc: Global, line: u32, shown: Shows, commit: Commit, why: Refusal) -> Working
-    ensures goes { (task : TheTask) → RefusedSo line shown (session_in commit) why (working_rest task result) }
+    ensures goes { (task : TheTask) → RefusedSo line shown (session_in commit) why
+        (working_rest task result) }
     ensures works { is_working result ≡ true }
     ensures few { (lines : ℕ) → working_left lines result ≤ settle_steps }
-    ensures blames { (task : TheTask) → dooms is_failed (working_rest task result) ≡ true → is_fault why ≡ true }
+    ensures blames { (task : TheTask) → dooms is_failed (working_rest task result) ≡ true
+        → is_fault why ≡ true }
 {
     match why {
         Refusal::InDoubt { snapshot } => begin_settling(alloc, shown, commit, snapshot),
@@ -151,9 +158,13 @@ fn after_committing(
 ) -> Working
     requires live { answers_well (is_ask (commit_rest commit)) answer ≡ true }
     requires left { IsLeft answer (session_in commit) }
-    ensures goes { (task : TheTask) → Comes (settled (after_commit line shown (doubt_play shown (session_in commit)) (after_lost tries.left tries.policy line shown (message_in commit) (session_in commit))) (commit_rest commit) answer) (working_rest task result) }
+    ensures goes { (task : TheTask)
+        → Comes (settled (after_commit line shown (doubt_play shown (session_in commit))
+        (after_lost tries.left tries.policy line shown (message_in commit) (session_in commit)))
+        (commit_rest commit) answer) (working_rest task result) }
     ensures works { is_working result ≡ true }
-    ensures falls { (lines : ℕ) → working_left lines result ≤ tries.left * try_steps + commit_left commit + settle_steps }
+    ensures falls { (lines : ℕ) → working_left lines result ≤ tries.left * try_steps + commit_left
+        commit + settle_steps }
     ensures blames { (task : TheTask) → Faults answer (working_rest task result) }
 {
     match answer {
@@ -200,9 +211,13 @@ fn after_rebasing(
     answer: Result<Next<Rebased>, Refusal>,
 ) -> Working
     requires { answers_well (is_ask (rebase_rest rebase)) answer ≡ true }
-    ensures goes { (task : TheTask) → Comes (settled (after_rebase line shown (commit_play tries.left tries.policy line shown message)) (rebase_rest rebase) answer) (working_rest task result) }
+    ensures goes { (task : TheTask)
+        → Comes (settled
+        (after_rebase line shown (commit_play tries.left tries.policy line shown message))
+        (rebase_rest rebase) answer) (working_rest task result) }
     ensures works { is_working result ≡ true }
-    ensures falls { (lines : ℕ) → working_left lines result ≤ tries.left * try_steps + commit_steps + rebase_left rebase }
+    ensures falls { (lines : ℕ) → working_left lines result ≤ tries.left * try_steps + commit_steps
+        + rebase_left rebase }
     ensures blames { (task : TheTask) → Faults answer (working_rest task result) }
 {
     match answer {
@@ -237,10 +252,15 @@ pub(crate) fn step_committing<S: Store>(
     store: &mut S,
 ) -> Working
     requires live { is_ask (commit_rest commit) ≡ true }
-    requires polite { IsTrue (S.view store.old).caller.tells → NextIsPolite (commit_rest commit) (S.view store.old).seen }
-    ensures acts { Acts is_failed (S.view store.old) (S.view store.new) (call (commit_rest commit) (after_commit line shown (doubt_play shown (session_in commit)) (after_lost tries.left tries.policy line shown (message_in commit) (session_in commit)))) (working_rest task.now result) }
+    requires polite { IsTrue (S.view store.old).caller.tells
+        → NextIsPolite (commit_rest commit) (S.view store.old).seen }
+    ensures acts { Acts is_failed (S.view store.old) (S.view store.new)
+        (call (commit_rest commit) (after_commit line shown (doubt_play shown (session_in commit))
+        (after_lost tries.left tries.policy line shown (message_in commit) (session_in commit))))
+        (working_rest task.now result) }
     ensures works { is_working result ≡ true }
-    ensures falls { working_left (length task.now.body.now) result < tries.left * try_steps + commit_left commit + settle_steps }
+    ensures falls { working_left (length task.now.body.now) result < tries.left * try_steps
+        + commit_left commit + settle_steps }
 {
     let answer = commit.step(store);
     after_committing(alloc, line, tries, shown, commit, answer)
@@ -258,9 +278,13 @@ pub(crate) fn step_rebasing<S: Store>(
     store: &mut S,
 ) -> Working
     requires { is_ask (rebase_rest rebase) ≡ true }
-    ensures acts { Acts is_failed (S.view store.old) (S.view store.new) (call (rebase_rest rebase) (after_rebase line shown (commit_play tries.left tries.policy line shown message))) (working_rest task.now result) }
+    ensures acts { Acts is_failed (S.view store.old) (S.view store.new)
+        (call (rebase_rest rebase)
+        (after_rebase line shown (commit_play tries.left tries.policy line shown message)))
+        (working_rest task.now result) }
     ensures works { is_working result ≡ true }
-    ensures falls { working_left (length task.now.body.now) result < tries.left * try_steps + commit_steps + rebase_left rebase }
+    ensures falls { working_left (length task.now.body.now) result < tries.left * try_steps
+        + commit_steps + rebase_left rebase }
 {
     let answer = rebase.step(store);
     after_rebasing(alloc, line, tries, shown, message, rebase, answer)

@@ -21,7 +21,8 @@ use store_api::{Next, Refusal, Store};
 
 /// Begins the settling of a commit in doubt, which takes no memory.
 pub(crate) fn begin_settling(alloc: Global, shown: Shows, commit: Commit, snapshot: Id12) -> Working
-    ensures rest { (task : TheTask) → working_rest task result ≡ doubt_play shown (session_in commit) snapshot }
+    ensures rest { (task : TheTask) → working_rest task result ≡ doubt_play shown
+        (session_in commit) snapshot }
     ensures works { is_working result ≡ true }
     ensures few { (lines : ℕ) → working_left lines result ≤ settle_steps }
 {
@@ -58,7 +59,8 @@ fn how_unsettled(why: Refusal) -> How
 
 /// The task has ended, with its commit in doubt.
 fn in_doubt(shown: Shows, id: Id12, answer: Result<Settled, Refusal>) -> Working
-    ensures { result ≡ Working.Ended (record { shown = shown; end = End.InDoubt id (how_of answer) }) }
+    ensures { result
+        ≡ Working.Ended (record { shown = shown; end = End.InDoubt id (how_of answer) }) }
 {
     Working::Ended {
         outcome: Outcome {
@@ -79,7 +81,9 @@ fn after_step(
     answer: Result<Next<Settled>, Refusal>,
 ) -> Working
     requires { answers_well (is_ask (settle_rest settle)) answer ≡ true }
-    ensures comes { (task : TheTask) → Comes (settled (after_settling shown id) (settle_rest settle) answer) (working_rest task result) }
+    ensures comes { (task : TheTask)
+        → Comes (settled (after_settling shown id) (settle_rest settle) answer)
+        (working_rest task result) }
     ensures works { is_working result ≡ true }
     ensures falls { (lines : ℕ) → working_left lines result ≤ settle_left settle }
 {
@@ -105,7 +109,8 @@ pub(crate) fn step_settling<S: Store>(
     store: &mut S,
 ) -> Working
     requires { is_ask (settle_rest settle) ≡ true }
-    ensures acts { Acts is_failed (S.view store.old) (S.view store.new) (call (settle_rest settle) (after_settling shown id)) (working_rest task.now result) }
+    ensures acts { Acts is_failed (S.view store.old) (S.view store.new)
+        (call (settle_rest settle) (after_settling shown id)) (working_rest task.now result) }
     ensures works { is_working result ≡ true }
     ensures falls { working_left (length task.now.body.now) result < settle_left settle }
 {

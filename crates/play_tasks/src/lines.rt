@@ -37,7 +37,8 @@ pub(crate) fn refuse(line: u32, shown: Vec<Shown>, why: Refusal) -> Working
 
 /// Shows the nodes of a listing that this line of the script asked for.
 fn show_nodes(line: u32, nodes: Vec<Listing>, shown: &mut Vec<Shown>) -> Result<(), AllocError>
-    ensures ok { IfOk result (λ done. shown.new.items ≡ shown.old.items ++ map (node_shown line) nodes.items) }
+    ensures ok { IfOk result (λ done. shown.new.items ≡ shown.old.items ++ map (node_shown line)
+        nodes.items) }
     ensures err { OnErr result (shown.new.items ≡ shown.old.items) }
 {
     let before = shown.len();
@@ -58,7 +59,8 @@ fn show_list(
     path: &Path,
     shown: &mut Vec<Shown>,
 ) -> Result<(), Refusal>
-    ensures looks { Looks (nodes_shown line (listed session.now path.now)) shown.old.items result shown.new.items }
+    ensures looks { Looks (nodes_shown line (listed session.now path.now)) shown.old.items result
+        shown.new.items }
     ensures local { is_local result ≡ true }
 {
     let nodes = session.list_beneath(path)?;
@@ -76,7 +78,8 @@ fn show_meta(
     path: &Path,
     shown: &mut Vec<Shown>,
 ) -> Result<(), Refusal>
-    ensures looks { Looks (meta_shown line (text_at session.now path.now)) shown.old.items result shown.new.items }
+    ensures looks { Looks (meta_shown line (text_at session.now path.now)) shown.old.items result
+        shown.new.items }
     ensures local { is_local result ≡ true }
 {
     let meta = session.get_meta(path)?;
@@ -130,7 +133,8 @@ fn play_change(
     mut session: Session,
     shown: Vec<Shown>,
 ) -> Step
-    ensures comes { (at : ℕ) → CallComes line at shown.items session (Goes (silent (edited edit.now session))) result }
+    ensures comes { (at : ℕ)
+        → CallComes line at shown.items session (Goes (silent (edited edit.now session))) result }
     ensures clean { is_clean result ≡ true }
     ensures bounded { (at : ℕ) → IsBounded at result }
 {
@@ -186,7 +190,8 @@ fn look(
     session: &Session,
     shown: &mut Vec<Shown>,
 ) -> Result<(), Refusal>
-    ensures looks { Looks (read_by line read.now session.now) shown.old.items result shown.new.items }
+    ensures looks { Looks (read_by line read.now session.now) shown.old.items result
+        shown.new.items }
     ensures local { is_local result ≡ true }
 {
     match read {
@@ -203,7 +208,9 @@ fn play_look(
     session: Session,
     mut shown: Vec<Shown>,
 ) -> Step
-    ensures comes { (at : ℕ) → CallComes line at shown.items session (Goes (still session (read_by line read.now session))) result }
+    ensures comes { (at : ℕ)
+        → CallComes line at shown.items session
+        (Goes (still session (read_by line read.now session))) result }
     ensures clean { is_clean result ≡ true }
     ensures bounded { (at : ℕ) → IsBounded at result }
 {
@@ -246,7 +253,8 @@ fn play_commit(
     session: Session,
     shown: Vec<Shown>,
 ) -> Step
-    ensures comes { (at : ℕ) → LineComes access.now line at shown.items session (Commits message.now) result }
+    ensures comes { (at : ℕ) → LineComes access.now line at shown.items session
+        (Commits message.now) result }
     ensures clean { is_clean result ≡ true }
     ensures bounded { (at : ℕ) → IsBounded at result }
 {
@@ -268,7 +276,9 @@ fn add_prop(name: &Text, value: &Text, session: &mut Session) -> Result<(), Refu
 }
 
 fn play_prop(line: u32, name: &Text, value: &Text, mut session: Session, shown: Vec<Shown>) -> Step
-    ensures comes { (at : ℕ) → CallComes line at shown.items session (Goes (silent (prop_added session name.now value.now))) result }
+    ensures comes { (at : ℕ)
+        → CallComes line at shown.items session
+        (Goes (silent (prop_added session name.now value.now))) result }
     ensures clean { is_clean result ≡ true }
     ensures bounded { (at : ℕ) → IsBounded at result }
 {
@@ -290,7 +300,8 @@ fn play_line(
     session: Session,
     shown: Vec<Shown>,
 ) -> Step
-    ensures comes { LineComes access.now line.now.number at shown.items session (deed line.now.number line.now.call session) result }
+    ensures comes { LineComes access.now line.now.number at shown.items session
+        (deed line.now.number line.now.call session) result }
     ensures clean { is_clean result ≡ true }
     ensures bounded { IsBounded at result }
 {
@@ -319,9 +330,11 @@ pub(crate) fn play_lines(
     session: Session,
     shown: Vec<Shown>,
 ) -> Working
-    ensures leaves { Comes (lines_from task.now from session shown.items) (working_rest task.now result) }
+    ensures leaves { Comes (lines_from task.now from session shown.items)
+        (working_rest task.now result) }
     ensures clean { is_well result ≡ true }
-    ensures bounded { working_left (length task.now.body.now) result ≤ (length task.now.body.now - from) * most_steps }
+    ensures bounded { working_left (length task.now.body.now) result
+        ≤ (length task.now.body.now - from) * most_steps }
 {
     let mut session = session;
     let mut shown = shown;

@@ -47,7 +47,8 @@ impl<'a> SessionWorker<'a> {
         task: SessionTask<'a>,
         ids: AnyIds,
     ) -> Result<SessionWorker<'a>, AllocError>
-        ensures { IfOk result (λ worker. session_rest worker ≡ session_play ids task.entry.access.now task.entry.line task.entry.body.now) }
+        ensures { IfOk result (λ worker. session_rest worker ≡ session_play ids
+            task.entry.access.now task.entry.line task.entry.body.now) }
     {
         let opener = begin(alloc, task.access, ids)?;
         Ok(SessionWorker {
@@ -83,8 +84,10 @@ impl<'a> SessionWorker<'a> {
     /// One operation of the store.
     pub fn step<S: Store>(&mut self, store: &mut S)
         requires live { IsLive (session_rest self.old) }
-        requires polite { IsTrue (S.view store.old).caller.tells → PlayIsPolite (session_rest self.old) (S.view store.old).seen }
-        ensures acts { Acts is_failed (S.view store.old) (S.view store.new) (session_rest self.old) (session_rest self.new) }
+        requires polite { IsTrue (S.view store.old).caller.tells
+            → PlayIsPolite (session_rest self.old) (S.view store.old).seen }
+        ensures acts { Acts is_failed (S.view store.old) (S.view store.new) (session_rest self.old)
+            (session_rest self.new) }
         ensures falls { session_left self.new < session_left self.old }
     {
         // The old state is taken out.

@@ -34,9 +34,11 @@ fn after_opening(
     answer: Result<Next<Session>, Refusal>,
 ) -> Working
     requires { answers_well (is_ask (open_rest opener)) answer ≡ true }
-    ensures comes { Comes (settled (after_open task.now.access.now task.now.line task.now.body.now) (open_rest opener) answer) (working_rest task.now result) }
+    ensures comes { Comes (settled (after_open task.now.access.now task.now.line task.now.body.now)
+        (open_rest opener) answer) (working_rest task.now result) }
     ensures works { is_working result ≡ true }
-    ensures falls { working_left (length task.now.body.now) result ≤ length task.now.body.now * most_steps + open_left opener }
+    ensures falls { working_left (length task.now.body.now) result ≤ length task.now.body.now
+        * most_steps + open_left opener }
     ensures blames { Faults answer (working_rest task.now result) }
 {
     match answer {
@@ -63,9 +65,11 @@ fn after_setting(
     answer: Result<Next<Session>, Refusal>,
 ) -> Working
     requires { answers_well (is_ask (set_rest set)) answer ≡ true }
-    ensures comes { Comes (settled (after_set line shown.items (lines_from task.now at)) (set_rest set) answer) (working_rest task.now result) }
+    ensures comes { Comes (settled (after_set line shown.items (lines_from task.now at))
+        (set_rest set) answer) (working_rest task.now result) }
     ensures works { is_working result ≡ true }
-    ensures falls { working_left (length task.now.body.now) result ≤ (length task.now.body.now - at) * most_steps + set_left set }
+    ensures falls { working_left (length task.now.body.now) result ≤ (length task.now.body.now - at)
+        * most_steps + set_left set }
     ensures blames { Faults answer (working_rest task.now result) }
 {
     match answer {
@@ -99,9 +103,12 @@ fn after_getting(
     answer: Result<Next<Value>, Refusal>,
 ) -> Working
     requires { answers_well (is_ask (get_rest get)) answer ≡ true }
-    ensures comes { ComesOrStarves (after_get (shown_for asked line) line shown.items (get_session get) (lines_from task.now at)) (get_rest get) answer (working_rest task.now result) }
+    ensures comes { ComesOrStarves (after_get (shown_for asked line) line shown.items
+        (get_session get) (lines_from task.now at)) (get_rest get) answer
+        (working_rest task.now result) }
     ensures works { is_working result ≡ true }
-    ensures falls { working_left (length task.now.body.now) result ≤ (length task.now.body.now - at) * most_steps + get_left get }
+    ensures falls { working_left (length task.now.body.now) result ≤ (length task.now.body.now - at)
+        * most_steps + get_left get }
     ensures blames { Faults answer (working_rest task.now result) }
 {
     let value = match answer {
@@ -140,9 +147,11 @@ fn after_putting(
     answer: Result<Next<Session>, Refusal>,
 ) -> Working
     requires { answers_well (is_ask (region_set_rest set)) answer ≡ true }
-    ensures comes { Comes (settled (after_set line shown.items (lines_from task.now at)) (region_set_rest set) answer) (working_rest task.now result) }
+    ensures comes { Comes (settled (after_set line shown.items (lines_from task.now at))
+        (region_set_rest set) answer) (working_rest task.now result) }
     ensures works { is_working result ≡ true }
-    ensures falls { working_left (length task.now.body.now) result ≤ (length task.now.body.now - at) * most_steps + region_set_left set }
+    ensures falls { working_left (length task.now.body.now) result ≤ (length task.now.body.now - at)
+        * most_steps + region_set_left set }
     ensures blames { Faults answer (working_rest task.now result) }
 {
     match answer {
@@ -175,9 +184,12 @@ fn after_gathering(
     answer: Result<Next<Numbers>, Refusal>,
 ) -> Working
     requires { answers_well (is_ask (region_rest get)) answer ≡ true }
-    ensures comes { ComesOrStarves (after_get (cells_shown line) line shown.items (region_session get) (lines_from task.now at)) (region_rest get) answer (working_rest task.now result) }
+    ensures comes { ComesOrStarves
+        (after_get (cells_shown line) line shown.items (region_session get)
+        (lines_from task.now at)) (region_rest get) answer (working_rest task.now result) }
     ensures works { is_working result ≡ true }
-    ensures falls { working_left (length task.now.body.now) result ≤ (length task.now.body.now - at) * most_steps + region_left get }
+    ensures falls { working_left (length task.now.body.now) result ≤ (length task.now.body.now - at)
+        * most_steps + region_left get }
     ensures blames { Faults answer (working_rest task.now result) }
 {
     let numbers = match answer {
@@ -212,9 +224,12 @@ fn step_opening<S: Store>(
     store: &mut S,
 ) -> Working
     requires live { is_ask (open_rest opener) ≡ true }
-    ensures acts { Acts is_failed (S.view store.old) (S.view store.new) (call (open_rest opener) (after_open task.now.access.now task.now.line task.now.body.now)) (working_rest task.now result) }
+    ensures acts { Acts is_failed (S.view store.old) (S.view store.new)
+        (call (open_rest opener) (after_open task.now.access.now task.now.line task.now.body.now))
+        (working_rest task.now result) }
     ensures works { is_working result ≡ true }
-    ensures falls { working_left (length task.now.body.now) result < length task.now.body.now * most_steps + open_left opener }
+    ensures falls { working_left (length task.now.body.now) result < length task.now.body.now
+        * most_steps + open_left opener }
 {
     let answer = opener.step(store);
     after_opening(alloc, task, opener, answer)
@@ -231,10 +246,14 @@ fn step_setting<S: Store>(
     store: &mut S,
 ) -> Working
     requires live { is_ask (set_rest set) ≡ true }
-    requires polite { IsTrue (S.view store.old).caller.tells → NextIsPolite (set_rest set) (S.view store.old).seen }
-    ensures acts { Acts is_failed (S.view store.old) (S.view store.new) (call (set_rest set) (after_set line shown.items (lines_from task.now at))) (working_rest task.now result) }
+    requires polite { IsTrue (S.view store.old).caller.tells
+        → NextIsPolite (set_rest set) (S.view store.old).seen }
+    ensures acts { Acts is_failed (S.view store.old) (S.view store.new)
+        (call (set_rest set) (after_set line shown.items (lines_from task.now at)))
+        (working_rest task.now result) }
     ensures works { is_working result ≡ true }
-    ensures falls { working_left (length task.now.body.now) result < (length task.now.body.now - at) * most_steps + set_left set }
+    ensures falls { working_left (length task.now.body.now) result < (length task.now.body.now - at)
+        * most_steps + set_left set }
 {
     let answer = set.step(store);
     after_setting(alloc, task, line, at, shown, set, answer)
@@ -252,9 +271,12 @@ fn step_getting<S: Store>(
     store: &mut S,
 ) -> Working
     requires live { is_ask (get_rest get) ≡ true }
-    ensures acts { Acts is_failed (S.view store.old) (S.view store.new) (call (get_rest get) (after_get (shown_for asked line) line shown.items (get_session get) (lines_from task.now at))) (working_rest task.now result) }
+    ensures acts { Acts is_failed (S.view store.old) (S.view store.new)
+        (call (get_rest get) (after_get (shown_for asked line) line shown.items (get_session get)
+        (lines_from task.now at))) (working_rest task.now result) }
     ensures works { is_working result ≡ true }
-    ensures falls { working_left (length task.now.body.now) result < (length task.now.body.now - at) * most_steps + get_left get }
+    ensures falls { working_left (length task.now.body.now) result < (length task.now.body.now - at)
+        * most_steps + get_left get }
 {
     let answer = get.step(store);
     after_getting(alloc, task, line, at, asked, shown, get, answer)
@@ -271,10 +293,14 @@ fn step_putting<S: Store>(
     store: &mut S,
 ) -> Working
     requires live { is_ask (region_set_rest set) ≡ true }
-    requires polite { IsTrue (S.view store.old).caller.tells → NextIsPolite (region_set_rest set) (S.view store.old).seen }
-    ensures acts { Acts is_failed (S.view store.old) (S.view store.new) (call (region_set_rest set) (after_set line shown.items (lines_from task.now at))) (working_rest task.now result) }
+    requires polite { IsTrue (S.view store.old).caller.tells
+        → NextIsPolite (region_set_rest set) (S.view store.old).seen }
+    ensures acts { Acts is_failed (S.view store.old) (S.view store.new)
+        (call (region_set_rest set) (after_set line shown.items (lines_from task.now at)))
+        (working_rest task.now result) }
     ensures works { is_working result ≡ true }
-    ensures falls { working_left (length task.now.body.now) result < (length task.now.body.now - at) * most_steps + region_set_left set }
+    ensures falls { working_left (length task.now.body.now) result < (length task.now.body.now - at)
+        * most_steps + region_set_left set }
 {
     let answer = set.step(store);
     after_putting(alloc, task, line, at, shown, set, answer)
@@ -291,9 +317,12 @@ fn step_gathering<S: Store>(
     store: &mut S,
 ) -> Working
     requires live { is_ask (region_rest get) ≡ true }
-    ensures acts { Acts is_failed (S.view store.old) (S.view store.new) (call (region_rest get) (after_get (cells_shown line) line shown.items (region_session get) (lines_from task.now at))) (working_rest task.now result) }
+    ensures acts { Acts is_failed (S.view store.old) (S.view store.new)
+        (call (region_rest get) (after_get (cells_shown line) line shown.items (region_session get)
+        (lines_from task.now at))) (working_rest task.now result) }
     ensures works { is_working result ≡ true }
-    ensures falls { working_left (length task.now.body.now) result < (length task.now.body.now - at) * most_steps + region_left get }
+    ensures falls { working_left (length task.now.body.now) result < (length task.now.body.now - at)
+        * most_steps + region_left get }
 {
     let answer = get.step(store);
     after_gathering(alloc, task, line, at, shown, get, answer)
@@ -308,10 +337,13 @@ pub(crate) fn step_on<S: Store>(
 ) -> Working
     requires live { IsLive (working_rest task.now state) }
     requires works { is_working state ≡ true }
-    requires polite { IsTrue (S.view store.old).caller.tells → PlayIsPolite (working_rest task.now state) (S.view store.old).seen }
-    ensures acts { Acts is_failed (S.view store.old) (S.view store.new) (working_rest task.now state) (working_rest task.now result) }
+    requires polite { IsTrue (S.view store.old).caller.tells
+        → PlayIsPolite (working_rest task.now state) (S.view store.old).seen }
+    ensures acts { Acts is_failed (S.view store.old) (S.view store.new)
+        (working_rest task.now state) (working_rest task.now result) }
     ensures works { is_working result ≡ true }
-    ensures falls { working_left (length task.now.body.now) result < working_left (length task.now.body.now) state }
+    ensures falls { working_left (length task.now.body.now) result < working_left
+        (length task.now.body.now) state }
 {
     match state {
         Working::Opening { opener } => step_opening(alloc, task, opener, store),

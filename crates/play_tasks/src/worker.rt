@@ -119,8 +119,10 @@ impl<'a> Worker<'a> {
     /// One operation of the store.
     pub fn step<S: Store>(&mut self, store: &mut S)
         requires live { IsLive (worker_rest self.old) }
-        requires polite { IsTrue (S.view store.old).caller.tells → PlayIsPolite (worker_rest self.old) (S.view store.old).seen }
-        ensures acts { Acts is_failed (S.view store.old) (S.view store.new) (worker_rest self.old) (worker_rest self.new) }
+        requires polite { IsTrue (S.view store.old).caller.tells
+            → PlayIsPolite (worker_rest self.old) (S.view store.old).seen }
+        ensures acts { Acts is_failed (S.view store.old) (S.view store.new) (worker_rest self.old)
+            (worker_rest self.new) }
         ensures falls { worker_left self.new < worker_left self.old }
     {
         match &mut self.player {

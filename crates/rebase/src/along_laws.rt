@@ -25,7 +25,8 @@ pub fn means_law()
 
 /// Of what becomes of changes one thing alone can be said.
 pub fn only_law()
-    ensures { (policy : Policy) (c : Changes) (t : Tree) (links : List Link) → OnlyLaw policy c t links }
+    ensures { (policy : Policy) (c : Changes) (t : Tree) (links : List Link)
+        → OnlyLaw policy c t links }
 {}
 
 /// A commit of the session itself stops it; and up to such a one, or from a base without nodes on, what is still held stays normal.

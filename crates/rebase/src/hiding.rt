@@ -28,7 +28,10 @@ fn keeps_other(held: &ChangeSet, node: Found<'_>) -> bool
 
 /// Enters a node's id where it keeps what stays of its metadata so.
 fn enter_kept(kept: &mut IdSet, held: &ChangeSet, node: Found<'_>) -> Result<(), AllocError>
-    ensures { OnOk result ((id : TheId) → lists kept.new id ≡ (lists kept.old id || (same_id8 node.entry.id id && keeps_other held.now.metas (node_found node.entry)))) }
+    ensures { OnOk result ((id : TheId)
+        → lists kept.new id
+        ≡ (lists kept.old id || (same_id8 node.entry.id id && keeps_other held.now.metas
+        (node_found node.entry)))) }
 {
     if keeps_other(held, node) {
         kept.insert(node.id)?;
@@ -38,7 +41,8 @@ fn enter_kept(kept: &mut IdSet, held: &ChangeSet, node: Found<'_>) -> Result<(),
 
 /// The ids of a snapshot's nodes that keep what stays of their metadata in the other texts that are held.
 fn kept_ids(alloc: Global, held: &ChangeSet, tree: &Loaded) -> Result<IdSet, AllocError>
-    ensures { IfOk result (λ kept. (id : TheId) → lists kept id ≡ kept_among held.now.metas (entries (nodes_in tree.now.nodes)) id) }
+    ensures { IfOk result (λ kept. (id : TheId) → lists kept id ≡ kept_among held.now.metas
+        (entries (nodes_in tree.now.nodes)) id) }
 {
     let mut kept = IdSet::new(alloc);
     for at in 0..tree.len() {
@@ -67,7 +71,8 @@ pub(crate) fn first_hidden(
     held: &ChangeSet,
     tree: &Loaded,
 ) -> Result<Option<Id8>, AllocError>
-    ensures { IfOk result (λ hidden. hidden ≡ first_hidden (nodes_in tree.now.nodes) held.now.metas) }
+    ensures { IfOk result (λ hidden. hidden ≡ first_hidden (nodes_in tree.now.nodes)
+        held.now.metas) }
 {
     let ids = held.other_ids(alloc)?;
     if ids.is_empty() {

@@ -126,7 +126,8 @@ impl Rebase {
     /// One operation of the store.
     pub fn step<S: Store>(&mut self, store: &mut S) -> Result<Next<Rebased>, Refusal>
         requires { IsAsk (rebase_rest self.old) }
-        ensures step { Steps (S.view store.old) (S.view store.new) (rebase_rest self.old) (rebase_rest self.new) result }
+        ensures step { Steps (S.view store.old) (S.view store.new) (rebase_rest self.old)
+            (rebase_rest self.new) result }
         ensures falls { rebase_left self.new < rebase_left self.old }
         ensures session { KeepsSession result (rebase_session self.old) (rebase_session self.new) }
         ensures listed { IfErr result MayRefuseRebase }
@@ -156,8 +157,12 @@ impl Rebase {
     /// The branch was got.
     fn on_ref(&mut self, reply: Reply) -> Result<Next<Rebased>, Refusal>
         requires ended { self.old.state ≡ Rebasing.Ended }
-        requires awaited { Awaits (with_session self.old.session (λ s. rebasing_rest self.old.policy s Rebasing.Ref)) reply }
-        ensures took { Took (with_session self.old.session (λ s. rebasing_rest self.old.policy s Rebasing.Ref)) reply (rebase_rest self.new) result }
+        requires awaited { Awaits
+            (with_session self.old.session (λ s. rebasing_rest self.old.policy s Rebasing.Ref))
+            reply }
+        ensures took { Took
+            (with_session self.old.session (λ s. rebasing_rest self.old.policy s Rebasing.Ref))
+            reply (rebase_rest self.new) result }
         ensures falls { rebase_left self.new < most_snapshots + most_snapshots + 1 }
         ensures session { KeepsSession result (rebase_session self.old) (rebase_session self.new) }
         ensures listed { IfErr result MayRefuseRebase }
@@ -172,7 +177,9 @@ impl Rebase {
     fn on_named(&mut self, named: Resolved) -> Result<Next<Rebased>, Refusal>
         requires live { IsSome self.old.session }
         requires ended { self.old.state ≡ Rebasing.Ended }
-        ensures lands { Lands (with_session self.old.session (λ s. after_ref self.old.policy s named)) (rebase_rest self.new) result }
+        ensures lands { Lands
+            (with_session self.old.session (λ s. after_ref self.old.policy s named))
+            (rebase_rest self.new) result }
         ensures falls { rebase_left self.new < most_snapshots + most_snapshots + 1 }
         ensures session { KeepsSession result (rebase_session self.old) (rebase_session self.new) }
         ensures faultless { IfErr result (λ refusal. is_fault refusal ≡ false) }
@@ -197,8 +204,13 @@ impl Rebase {
     /// A snapshot was got.
     fn on_snapshot(&mut self, walk: Walk, reply: Reply) -> Result<Next<Rebased>, Refusal>
         requires ended { self.old.state ≡ Rebasing.Ended }
-        requires awaited { Awaits (with_session self.old.session (λ s. rebasing_rest self.old.policy s (Rebasing.Snapshot walk))) reply }
-        ensures took { Took (with_session self.old.session (λ s. rebasing_rest self.old.policy s (Rebasing.Snapshot walk))) reply (rebase_rest self.new) result }
+        requires awaited { Awaits
+            (with_session self.old.session
+            (λ s. rebasing_rest self.old.policy s (Rebasing.Snapshot walk))) reply }
+        ensures took { Took
+            (with_session self.old.session
+            (λ s. rebasing_rest self.old.policy s (Rebasing.Snapshot walk))) reply
+            (rebase_rest self.new) result }
         ensures falls { rebase_left self.new < walk_left walk }
         ensures session { KeepsSession result (rebase_session self.old) (rebase_session self.new) }
         ensures listed { IfErr result MayRefuseRebase }
@@ -217,7 +229,9 @@ impl Rebase {
         requires live { IsSome self.old.session }
         requires ended { self.old.state ≡ Rebasing.Ended }
         requires left { length walk.above < most_snapshots }
-        ensures lands { Lands (with_session self.old.session (λ s. walk_behind self.old.policy s walk loaded)) (rebase_rest self.new) result }
+        ensures lands { Lands
+            (with_session self.old.session (λ s. walk_behind self.old.policy s walk loaded))
+            (rebase_rest self.new) result }
         ensures falls { rebase_left self.new < walk_left walk }
         ensures session { KeepsSession result (rebase_session self.old) (rebase_session self.new) }
         ensures faultless { IfErr result (λ refusal. is_fault refusal ≡ false) }
@@ -250,8 +264,13 @@ impl Rebase {
     /// A log was got.
     fn on_log(&mut self, solving: Solving, reply: Reply) -> Result<Next<Rebased>, Refusal>
         requires ended { self.old.state ≡ Rebasing.Ended }
-        requires awaited { Awaits (with_session self.old.session (λ s. rebasing_rest self.old.policy s (Rebasing.Log solving))) reply }
-        ensures took { Took (with_session self.old.session (λ s. rebasing_rest self.old.policy s (Rebasing.Log solving))) reply (rebase_rest self.new) result }
+        requires awaited { Awaits
+            (with_session self.old.session
+            (λ s. rebasing_rest self.old.policy s (Rebasing.Log solving))) reply }
+        ensures took { Took
+            (with_session self.old.session
+            (λ s. rebasing_rest self.old.policy s (Rebasing.Log solving))) reply
+            (rebase_rest self.new) result }
         ensures falls { rebase_left self.new < length solving.later + 1 }
         ensures session { KeepsSession result (rebase_session self.old) (rebase_session self.new) }
         ensures listed { IfErr result MayRefuseRebase }
@@ -274,7 +293,9 @@ impl Rebase {
         requires live { IsSome self.old.session }
         requires ended { self.old.state ≡ Rebasing.Ended }
         requires order { IsOrdered lists.now }
-        ensures lands { Lands (with_session self.old.session (λ s. lists_behind self.old.policy s solving lists.now)) (rebase_rest self.new) result }
+        ensures lands { Lands
+            (with_session self.old.session (λ s. lists_behind self.old.policy s solving lists.now))
+            (rebase_rest self.new) result }
         ensures falls { rebase_left self.new < length solving.later + 1 }
         ensures session { KeepsSession result (rebase_session self.old) (rebase_session self.new) }
         ensures faultless { IfErr result (λ refusal. is_fault refusal ≡ false) }
@@ -327,7 +348,9 @@ impl Rebase {
     ) -> Result<Next<Rebased>, Refusal>
         requires live { IsSome self.old.session }
         requires ended { self.old.state ≡ Rebasing.Ended }
-        ensures lands { Lands (with_session self.old.session (λ s. commits_behind self.old.policy s named count commit later (unwrap_or held s.held))) (rebase_rest self.new) result }
+        ensures lands { Lands
+            (with_session self.old.session (λ s. commits_behind self.old.policy s named count commit
+            later (unwrap_or held s.held))) (rebase_rest self.new) result }
         ensures falls { rebase_left self.new < length later + 1 }
         ensures session { KeepsSession result (rebase_session self.old) (rebase_session self.new) }
         ensures faultless { IfErr result (λ refusal. is_fault refusal ≡ false) }
@@ -358,7 +381,10 @@ impl Rebase {
     ) -> Result<Next<Rebased>, Refusal>
         requires live { IsSome self.old.session }
         requires ended { self.old.state ≡ Rebasing.Ended }
-        ensures lands { Lands (with_session self.old.session (λ s. on_head s named count head (unwrap_or held s.held))) (rebase_rest self.new) result }
+        ensures lands { Lands
+            (with_session self.old.session
+            (λ s. on_head s named count head (unwrap_or held s.held))) (rebase_rest self.new)
+            result }
         ensures falls { rebase_left self.new < 1 }
         ensures session { KeepsSession result (rebase_session self.old) (rebase_session self.new) }
         ensures faultless { IfErr result (λ refusal. is_fault refusal ≡ false) }
@@ -381,7 +407,15 @@ impl Rebase {
 /// The commits of a walk that has come to its end, the oldest one.
 fn first_solving(walk: Walk, oldest: Loaded) -> Solving
     requires { length walk.above < most_snapshots }
-    ensures { result ≡ record { named = walk.named; oldest = oldest; later = walk.above; before = None; held = None; count = length walk.above + 1 } }
+    ensures { result ≡ record {
+      named = walk.named;
+      oldest = oldest;
+      later = walk.above;
+      before =
+          None;
+      held = None;
+      count = length walk.above + 1;
+    } }
 {
     let count = walk.above.len() as u32 + 1;
     Solving {

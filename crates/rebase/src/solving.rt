@@ -52,7 +52,8 @@ fn given_up(
     lists: &HeldLists,
 ) -> Result<Items<ChunkPlace>, Refusal>
     requires { IsOrdered lists.now }
-    ensures given { GivesUp policy held.now (nodes_in before.now.nodes) (record { file = commit.now; lists = lists.now }) result }
+    ensures given { GivesUp policy held.now (nodes_in before.now.nodes)
+        (record { file = commit.now; lists = lists.now }) result }
     ensures listed { IfErr result MayRefuseCommit }
 {
     let Ok(found) = detect(alloc, held, lists, before, commit) else {
@@ -91,7 +92,8 @@ pub(crate) fn taken_out(
     lists: &HeldLists,
 ) -> Result<Items<ChunkKey>, Refusal>
     requires { IsOrdered lists.now }
-    ensures clears { Clears policy held.now (nodes_in before.now.nodes) (record { file = commit.now; lists = lists.now }) result }
+    ensures clears { Clears policy held.now (nodes_in before.now.nodes)
+        (record { file = commit.now; lists = lists.now }) result }
     ensures listed { IfErr result MayRefuseCommit }
 {
     let given = match given_up(alloc, policy, held, before, commit, lists) {
@@ -124,7 +126,8 @@ pub(crate) fn without(
     held: Option<ChangeSet>,
     out: &[ChunkKey],
 ) -> Result<Option<ChangeSet>, AllocError>
-    ensures { IfOk result (λ left. unwrap_or left own.now ≡ without_chunks (unwrap_or held own.now) out.now) }
+    ensures { IfOk result (λ left. unwrap_or left own.now ≡ without_chunks (unwrap_or held own.now)
+        out.now) }
 {
     if out.is_empty() {
         return Ok(held);

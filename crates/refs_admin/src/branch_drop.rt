@@ -97,8 +97,10 @@ impl BranchDrop {
     /// One operation of the store.
     pub fn step<S: Store>(&mut self, store: &mut S) -> Result<Next<()>, Refusal>
         requires live { IsAsk (branch_drop_rest self.old) }
-        requires polite { IsTrue (S.view store.old).caller.tells → NextIsPolite (branch_drop_rest self.old) (S.view store.old).seen }
-        ensures step { Steps (S.view store.old) (S.view store.new) (branch_drop_rest self.old) (branch_drop_rest self.new) result }
+        requires polite { IsTrue (S.view store.old).caller.tells
+            → NextIsPolite (branch_drop_rest self.old) (S.view store.old).seen }
+        ensures step { Steps (S.view store.old) (S.view store.new) (branch_drop_rest self.old)
+            (branch_drop_rest self.new) result }
         ensures falls { branch_drop_left self.new < branch_drop_left self.old }
         ensures listed { IfErr result MayRefuseDrop }
     {
@@ -108,7 +110,8 @@ impl BranchDrop {
     fn on_branch(&mut self, reply: Reply) -> Result<Next<()>, Refusal>
         requires ended { self.old.state ≡ Dropping.Ended }
         requires awaited { Awaits (branch_drop_program self.old.name) reply }
-        ensures took { Took (branch_drop_program self.old.name) reply (branch_drop_rest self.new) result }
+        ensures took { Took (branch_drop_program self.old.name) reply (branch_drop_rest self.new)
+            result }
         ensures falls { branch_drop_left self.new < 2 }
         ensures listed { IfErr result MayRefuseDrop }
     {

@@ -96,8 +96,10 @@ impl BranchNew {
     /// One operation of the store.
     pub fn step<S: Store>(&mut self, store: &mut S) -> Result<Next<()>, Refusal>
         requires live { IsAsk (branch_new_rest self.old) }
-        requires polite { IsTrue (S.view store.old).caller.tells → NextIsPolite (branch_new_rest self.old) (S.view store.old).seen }
-        ensures step { Steps (S.view store.old) (S.view store.new) (branch_new_rest self.old) (branch_new_rest self.new) result }
+        requires polite { IsTrue (S.view store.old).caller.tells
+            → NextIsPolite (branch_new_rest self.old) (S.view store.old).seen }
+        ensures step { Steps (S.view store.old) (S.view store.new) (branch_new_rest self.old)
+            (branch_new_rest self.new) result }
         ensures falls { branch_new_left self.new < branch_new_left self.old }
         ensures listed { IfErr result MayRefuseNew }
     {
@@ -106,8 +108,10 @@ impl BranchNew {
 
     fn on_resolving(&mut self, resolving: Resolving, reply: Reply) -> Result<Next<()>, Refusal>
         requires ended { self.old.state ≡ Creating.Ended }
-        requires awaited { Awaits (creating_rest self.old.name (Creating.Resolving resolving)) reply }
-        ensures took { Took (creating_rest self.old.name (Creating.Resolving resolving)) reply (branch_new_rest self.new) result }
+        requires awaited { Awaits (creating_rest self.old.name (Creating.Resolving resolving))
+            reply }
+        ensures took { Took (creating_rest self.old.name (Creating.Resolving resolving)) reply
+            (branch_new_rest self.new) result }
         ensures falls { branch_new_left self.new < resolving_left resolving + 2 }
         ensures listed { IfErr result MayRefuseNew }
     {
@@ -122,7 +126,8 @@ impl BranchNew {
     fn on_target(&mut self, id: Id12, reply: Reply) -> Result<Next<()>, Refusal>
         requires ended { self.old.state ≡ Creating.Ended }
         requires awaited { Awaits (create_program self.old.name id) reply }
-        ensures took { Took (create_program self.old.name id) reply (branch_new_rest self.new) result }
+        ensures took { Took (create_program self.old.name id) reply (branch_new_rest self.new)
+            result }
         ensures falls { branch_new_left self.new < 2 }
         ensures listed { IfErr result MayRefuseNew }
     {

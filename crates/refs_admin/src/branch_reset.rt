@@ -104,8 +104,10 @@ impl BranchReset {
     /// One operation of the store.
     pub fn step<S: Store>(&mut self, store: &mut S) -> Result<Next<()>, Refusal>
         requires live { IsAsk (branch_reset_rest self.old) }
-        requires polite { IsTrue (S.view store.old).caller.tells → NextIsPolite (branch_reset_rest self.old) (S.view store.old).seen }
-        ensures step { Steps (S.view store.old) (S.view store.new) (branch_reset_rest self.old) (branch_reset_rest self.new) result }
+        requires polite { IsTrue (S.view store.old).caller.tells
+            → NextIsPolite (branch_reset_rest self.old) (S.view store.old).seen }
+        ensures step { Steps (S.view store.old) (S.view store.new) (branch_reset_rest self.old)
+            (branch_reset_rest self.new) result }
         ensures falls { branch_reset_left self.new < branch_reset_left self.old }
         ensures listed { IfErr result MayRefuseReset }
     {
@@ -115,7 +117,8 @@ impl BranchReset {
     fn on_resolving(&mut self, resolving: Resolving, reply: Reply) -> Result<Next<()>, Refusal>
         requires ended { self.old.state ≡ Moving.Ended }
         requires awaited { Awaits (moving_rest self.old.name (Moving.Resolving resolving)) reply }
-        ensures took { Took (moving_rest self.old.name (Moving.Resolving resolving)) reply (branch_reset_rest self.new) result }
+        ensures took { Took (moving_rest self.old.name (Moving.Resolving resolving)) reply
+            (branch_reset_rest self.new) result }
         ensures falls { branch_reset_left self.new < resolving_left resolving + 3 }
         ensures listed { IfErr result MayRefuseReset }
     {
@@ -130,7 +133,8 @@ impl BranchReset {
     fn on_branch(&mut self, id: Id12, reply: Reply) -> Result<Next<()>, Refusal>
         requires ended { self.old.state ≡ Moving.Ended }
         requires awaited { Awaits (reset_program self.old.name id) reply }
-        ensures took { Took (reset_program self.old.name id) reply (branch_reset_rest self.new) result }
+        ensures took { Took (reset_program self.old.name id) reply (branch_reset_rest self.new)
+            result }
         ensures falls { branch_reset_left self.new < 3 }
         ensures listed { IfErr result MayRefuseReset }
     {
@@ -142,7 +146,8 @@ impl BranchReset {
     fn on_target(&mut self, id: Id12, version: Version, reply: Reply) -> Result<Next<()>, Refusal>
         requires ended { self.old.state ≡ Moving.Ended }
         requires awaited { Awaits (move_program self.old.name id version) reply }
-        ensures took { Took (move_program self.old.name id version) reply (branch_reset_rest self.new) result }
+        ensures took { Took (move_program self.old.name id version) reply
+            (branch_reset_rest self.new) result }
         ensures falls { branch_reset_left self.new < 2 }
         ensures listed { IfErr result MayRefuseReset }
     {

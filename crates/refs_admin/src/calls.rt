@@ -44,7 +44,8 @@ pub fn set_branch<S: Store>(
     at: At,
     store: &mut S,
 ) -> Result<(), Refusal>
-    ensures runs { Runs (S.view store.old) (S.view store.new) (branch_reset_program name at) result }
+    ensures runs { Runs (S.view store.old) (S.view store.new) (branch_reset_program name at)
+        result }
     ensures listed { IfErr result MayRefuseReset }
 {
     refs_law();

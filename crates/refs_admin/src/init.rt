@@ -103,8 +103,10 @@ impl Init {
     /// One operation of the store.
     pub fn step<S: Store>(&mut self, store: &mut S) -> Result<Next<()>, Refusal>
         requires live { IsAsk (init_rest self.old) }
-        requires polite { IsTrue (S.view store.old).caller.tells → NextIsPolite (init_rest self.old) (S.view store.old).seen }
-        ensures step { Steps (S.view store.old) (S.view store.new) (init_rest self.old) (init_rest self.new) result }
+        requires polite { IsTrue (S.view store.old).caller.tells
+            → NextIsPolite (init_rest self.old) (S.view store.old).seen }
+        ensures step { Steps (S.view store.old) (S.view store.new) (init_rest self.old)
+            (init_rest self.new) result }
         ensures falls { init_left self.new < init_left self.old }
         ensures listed { IfErr result MayRefuseInit }
     {

@@ -156,7 +156,8 @@ impl Log {
     /// One operation of the store.
     pub fn step<S: Store>(&mut self, store: &mut S) -> Result<Next<LogLines>, Refusal>
         requires { IsAsk (log_rest self.old) }
-        ensures step { Steps (S.view store.old) (S.view store.new) (log_rest self.old) (log_rest self.new) result }
+        ensures step { Steps (S.view store.old) (S.view store.new) (log_rest self.old)
+            (log_rest self.new) result }
         ensures falls { log_left self.new < log_left self.old }
         ensures listed { IfErr result MayRefuseLog }
     {
@@ -170,7 +171,8 @@ impl Log {
     ) -> Result<Next<LogLines>, Refusal>
         requires ended { self.old.state ≡ Logging.Ended }
         requires awaited { Awaits (logging_rest (Logging.Resolving resolving)) reply }
-        ensures took { Took (logging_rest (Logging.Resolving resolving)) reply (log_rest self.new) result }
+        ensures took { Took (logging_rest (Logging.Resolving resolving)) reply (log_rest self.new)
+            result }
         ensures falls { log_left self.new < resolving_left resolving + most_snapshots }
         ensures listed { IfErr result MayRefuseLog }
     {
@@ -210,7 +212,8 @@ impl Log {
     fn on_snapshot(&mut self, walk: Walk, loaded: &Loaded) -> Result<Next<LogLines>, Refusal>
         requires left { 0 < walk.left }
         requires ended { self.old.state ≡ Logging.Ended }
-        ensures lands { Lands (walk_behind (walk.left - 1) (walk.lines ++ line_of loaded.now ∷ []) loaded.now.parent) (log_rest self.new) result }
+        ensures lands { Lands (walk_behind (walk.left - 1) (walk.lines ++ line_of loaded.now ∷ [])
+            loaded.now.parent) (log_rest self.new) result }
         ensures falls { log_left self.new < walk.left }
         ensures faultless { IfErr result (λ refusal. is_fault refusal ≡ false) }
         ensures listed { IfErr result MayRefuseLog }

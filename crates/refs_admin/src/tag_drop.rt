@@ -92,8 +92,10 @@ impl TagDrop {
     /// One operation of the store.
     pub fn step<S: Store>(&mut self, store: &mut S) -> Result<Next<()>, Refusal>
         requires live { IsAsk (tag_drop_rest self.old) }
-        requires polite { IsTrue (S.view store.old).caller.tells → NextIsPolite (tag_drop_rest self.old) (S.view store.old).seen }
-        ensures step { Steps (S.view store.old) (S.view store.new) (tag_drop_rest self.old) (tag_drop_rest self.new) result }
+        requires polite { IsTrue (S.view store.old).caller.tells
+            → NextIsPolite (tag_drop_rest self.old) (S.view store.old).seen }
+        ensures step { Steps (S.view store.old) (S.view store.new) (tag_drop_rest self.old)
+            (tag_drop_rest self.new) result }
         ensures falls { tag_drop_left self.new < tag_drop_left self.old }
         ensures listed { IfErr result MayRefuseRef }
     {

@@ -110,8 +110,10 @@ impl TagNew {
     /// One operation of the store.
     pub fn step<S: Store>(&mut self, store: &mut S) -> Result<Next<()>, Refusal>
         requires live { IsAsk (tag_new_rest self.old) }
-        requires polite { IsTrue (S.view store.old).caller.tells → NextIsPolite (tag_new_rest self.old) (S.view store.old).seen }
-        ensures step { Steps (S.view store.old) (S.view store.new) (tag_new_rest self.old) (tag_new_rest self.new) result }
+        requires polite { IsTrue (S.view store.old).caller.tells
+            → NextIsPolite (tag_new_rest self.old) (S.view store.old).seen }
+        ensures step { Steps (S.view store.old) (S.view store.new) (tag_new_rest self.old)
+            (tag_new_rest self.new) result }
         ensures falls { tag_new_left self.new < tag_new_left self.old }
         ensures listed { IfErr result MayRefuseTag }
     {
@@ -121,7 +123,8 @@ impl TagNew {
     fn on_resolving(&mut self, resolving: Resolving, reply: Reply) -> Result<Next<()>, Refusal>
         requires ended { self.old.state ≡ Tagging.Ended }
         requires awaited { Awaits (tagging_rest self.old.name (Tagging.Resolving resolving)) reply }
-        ensures took { Took (tagging_rest self.old.name (Tagging.Resolving resolving)) reply (tag_new_rest self.new) result }
+        ensures took { Took (tagging_rest self.old.name (Tagging.Resolving resolving)) reply
+            (tag_new_rest self.new) result }
         ensures falls { tag_new_left self.new < resolving_left resolving + 3 }
         ensures listed { IfErr result MayRefuseTag }
     {
@@ -136,7 +139,8 @@ impl TagNew {
     fn on_target(&mut self, id: Id12, reply: Reply) -> Result<Next<()>, Refusal>
         requires ended { self.old.state ≡ Tagging.Ended }
         requires awaited { Awaits (tag_target_program self.old.name id) reply }
-        ensures took { Took (tag_target_program self.old.name id) reply (tag_new_rest self.new) result }
+        ensures took { Took (tag_target_program self.old.name id) reply (tag_new_rest self.new)
+            result }
         ensures falls { tag_new_left self.new < 3 }
         ensures listed { IfErr result MayRefuseTag }
     {

@@ -126,7 +126,8 @@ impl Element {
     pub fn write(self, number: i128, bytes: &mut [u8])
         requires room { size_of self.kind ≤ length bytes.old }
         requires range { IsTrue (is_in_range self.kind number) }
-        ensures { bytes.new ≡ bytes_of self.kind self.big number ++ drop (size_of self.kind) bytes.old }
+        ensures { bytes.new ≡ bytes_of self.kind self.big number ++ drop (size_of self.kind)
+            bytes.old }
     {
         let bits = bits_of_number(self.kind, number);
         if self.big {

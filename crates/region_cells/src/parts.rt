@@ -41,7 +41,8 @@ fn read_last(element: Element, side: Side, bytes: &[u8], cells: &mut [i128])
     requires short { side.chunk < 2 ^ 32 }
     requires whole { length bytes.now ≡ size_of element.kind * side.chunk }
     requires count { length cells.old ≡ side.to - side.from }
-    ensures { ReadsPart element.kind element.big (side.from ∷ []) (side.to ∷ []) (side.chunk ∷ []) (side.number ∷ []) bytes.now cells.old cells.new }
+    ensures { ReadsPart element.kind element.big (side.from ∷ []) (side.to ∷ []) (side.chunk ∷ [])
+        (side.number ∷ []) bytes.now cells.old cells.new }
 {
     let first = side.first();
     let end = side.end();
@@ -59,7 +60,8 @@ pub fn read_part(element: Element, sides: Sides<'_>, bytes: &[u8], cells: &mut [
     requires over { AreOver sides }
     requires whole { length bytes.now ≡ chunk_bytes (size_of element.kind) sides.chunks.now }
     requires count { length cells.old ≡ count_of sides.from.now sides.to.now }
-    ensures { ReadsPart element.kind element.big sides.entry.from.now sides.entry.to.now sides.entry.chunks.now sides.entry.index.now bytes.now cells.old cells.new }
+    ensures { ReadsPart element.kind element.big sides.entry.from.now sides.entry.to.now
+        sides.entry.chunks.now sides.entry.index.now bytes.now cells.old cells.new }
 {
     let Some((side, rest)) = sides.split() else {
         read_row(element, bytes, cells);
@@ -93,7 +95,8 @@ fn write_last(element: Element, side: Side, cells: &[i128], bytes: &mut [u8])
     requires whole { length bytes.old ≡ size_of element.kind * side.chunk }
     requires count { length cells.now ≡ side.to - side.from }
     requires range { AreInRange element.kind cells.now }
-    ensures { WritesPart element.kind element.big (side.from ∷ []) (side.to ∷ []) (side.chunk ∷ []) (side.number ∷ []) cells.now bytes.old bytes.new }
+    ensures { WritesPart element.kind element.big (side.from ∷ []) (side.to ∷ []) (side.chunk ∷ [])
+        (side.number ∷ []) cells.now bytes.old bytes.new }
 {
     let first = side.first();
     let end = side.end();
@@ -112,7 +115,8 @@ pub fn write_part(element: Element, sides: Sides<'_>, cells: &[i128], bytes: &mu
     requires whole { length bytes.old ≡ chunk_bytes (size_of element.kind) sides.chunks.now }
     requires count { length cells.now ≡ count_of sides.from.now sides.to.now }
     requires range { AreInRange element.kind cells.now }
-    ensures { WritesPart element.kind element.big sides.entry.from.now sides.entry.to.now sides.entry.chunks.now sides.entry.index.now cells.now bytes.old bytes.new }
+    ensures { WritesPart element.kind element.big sides.entry.from.now sides.entry.to.now
+        sides.entry.chunks.now sides.entry.index.now cells.now bytes.old bytes.new }
 {
     let Some((side, rest)) = sides.split() else {
         write_row(element, cells, bytes);

@@ -59,7 +59,8 @@ impl<'a> Sides<'a> {
     /// The first dimension, and those behind it.
     pub fn split(self) -> Option<(Side, Sides<'a>)>
         requires { AreOver self }
-        ensures { MatchOption result (length self.entry.chunks.now ≡ 0) (λ found. Splits self.entry found.0 found.1) }
+        ensures { MatchOption result (length self.entry.chunks.now ≡ 0)
+            (λ found. Splits self.entry found.0 found.1) }
     {
         let (from, from_rest) = self.from.split_first()?;
         let (to, to_rest) = self.to.split_first()?;

@@ -43,7 +43,8 @@ pub(crate) fn ask<S: Store>(
     store: &mut S,
 ) -> Result<Reply, StoreFault>
     requires { is_live state.now ≡ true }
-    ensures called { Called (λ reply. reply) (checking_op state.now) result (S.view store.old) (S.view store.new) }
+    ensures called { Called (λ reply. reply) (checking_op state.now) result (S.view store.old)
+        (S.view store.new) }
     ensures fits { IfOk result (Fits (checking_op state.now)) }
     ensures answered { IfOk result (λ reply. has_failed reply ≡ false) }
 {

@@ -69,7 +69,8 @@ impl Check {
     /// One operation of the store.
     pub fn step<S: Store>(&mut self, store: &mut S)
         requires { IsLive (check_rest self.old) }
-        ensures acts { Acts tells_failure (S.view store.old) (S.view store.new) (check_rest self.old) (check_rest self.new) }
+        ensures acts { Acts tells_failure (S.view store.old) (S.view store.new)
+            (check_rest self.old) (check_rest self.new) }
         ensures falls { check_left self.new < check_left self.old }
     {
         // The old state is taken out.

@@ -65,7 +65,8 @@ impl Course {
     /// One step of a check that stands here.
     pub fn step_on<S: Store>(&mut self, state: Checking, store: &mut S) -> Checking
         requires { is_live state ≡ true }
-        ensures acts { Acts tells_failure (S.view store.old) (S.view store.new) (checking_rest state self.old) (checking_rest result self.new) }
+        ensures acts { Acts tells_failure (S.view store.old) (S.view store.new)
+            (checking_rest state self.old) (checking_rest result self.new) }
         ensures falls { checking_left result self.new < checking_left state self.old }
     {
         let answer = ask(self.alloc, &state, store);
@@ -77,7 +78,8 @@ impl Course {
         requires live { is_live state ≡ true }
         requires fits { IfOk answer (Fits (checking_op state)) }
         requires answered { IfOk answer (λ reply. has_failed reply ≡ false) }
-        ensures comes { Comes (answered_rest state self.old answer) (checking_rest result self.new) }
+        ensures comes { Comes (answered_rest state self.old answer)
+            (checking_rest result self.new) }
         ensures calm { IfOk answer (λ _. is_calm result ≡ true) }
         ensures falls { checking_left result self.new < checking_left state self.old }
     {
@@ -97,7 +99,8 @@ impl Course {
     /// Goes on behind a reply.
     fn on_reply(&mut self, state: Checking, reply: Reply) -> Checking
         requires { is_answer state reply ≡ true }
-        ensures comes { Comes (Or (heard_in state self.old reply) (starved self.old.work)) (checking_rest result self.new) }
+        ensures comes { Comes (Or (heard_in state self.old reply) (starved self.old.work))
+            (checking_rest result self.new) }
         ensures calm { is_calm result ≡ true }
         ensures falls { checking_left result self.new < checking_left state self.old }
     {
@@ -111,7 +114,8 @@ impl Course {
     /// Goes on behind a listing.
     fn on_listed(&mut self, state: Checking, listed: Listed) -> Checking
         requires { asks_list state ≡ true }
-        ensures comes { Comes (Or (heard_in state self.old (Reply.Listed listed)) (starved self.old.work)) (checking_rest result self.new) }
+        ensures comes { Comes (Or (heard_in state self.old (Reply.Listed listed))
+            (starved self.old.work)) (checking_rest result self.new) }
         ensures calm { is_calm result ≡ true }
         ensures falls { checking_left result self.new < checking_left state self.old }
     {
@@ -125,7 +129,8 @@ impl Course {
     /// Goes on behind the get of an object.
     fn on_got(&mut self, state: Checking, got: Got) -> Checking
         requires { asks_get state ≡ true }
-        ensures comes { Comes (Or (heard_in state self.old (Reply.Got got)) (starved self.old.work)) (checking_rest result self.new) }
+        ensures comes { Comes (Or (heard_in state self.old (Reply.Got got)) (starved self.old.work))
+            (checking_rest result self.new) }
         ensures calm { is_calm result ≡ true }
         ensures falls { checking_left result self.new < checking_left state self.old }
     {
@@ -154,9 +159,12 @@ impl Course {
 
     /// Goes on behind the listing of the branches.
     fn on_branches(&mut self, listed: &Listed) -> Checking
-        ensures comes { Comes (Or (get_refs (live listed.entry.now.entries) self.old.roots self.old.work then_tags) (starved self.old.work)) (checking_rest result self.new) }
+        ensures comes { Comes
+            (Or (get_refs (live listed.entry.now.entries) self.old.roots self.old.work then_tags)
+            (starved self.old.work)) (checking_rest result self.new) }
         ensures calm { is_calm result ≡ true }
-        ensures falls { checking_left result self.new < 1 + many * name_cost + all_tags_left self.old }
+        ensures falls { checking_left result self.new < 1 + many * name_cost + all_tags_left
+            self.old }
     {
         match self.take_names(listed.entries.as_slice()) {
             Ok(()) => self.next_branch(),
@@ -166,7 +174,9 @@ impl Course {
 
     /// Goes on behind the listing of the tags.
     fn on_tags(&mut self, listed: &Listed) -> Checking
-        ensures comes { Comes (Or (get_refs (live listed.entry.now.entries) self.old.roots self.old.work walks) (starved self.old.work)) (checking_rest result self.new) }
+        ensures comes { Comes
+            (Or (get_refs (live listed.entry.now.entries) self.old.roots self.old.work walks)
+            (starved self.old.work)) (checking_rest result self.new) }
         ensures calm { is_calm result ≡ true }
         ensures falls { checking_left result self.new < all_tags_left self.old }
     {
@@ -178,7 +188,8 @@ impl Course {
 
     /// Goes on with the next branch, and behind the last one with the tags.
     fn next_branch(&mut self) -> Checking
-        ensures comes { Comes (get_refs self.old.names self.old.roots self.old.work then_tags) (checking_rest result self.new) }
+        ensures comes { Comes (get_refs self.old.names self.old.roots self.old.work then_tags)
+            (checking_rest result self.new) }
         ensures calm { is_calm result ≡ true }
         ensures falls { checking_left result self.new ≤ branches_left self.old }
     {
@@ -190,7 +201,8 @@ impl Course {
 
     /// Goes on with the next tag, and behind the last one with the walks.
     fn next_tag(&mut self) -> Checking
-        ensures comes { Comes (get_refs self.old.names self.old.roots self.old.work walks) (checking_rest result self.new) }
+        ensures comes { Comes (get_refs self.old.names self.old.roots self.old.work walks)
+            (checking_rest result self.new) }
         ensures calm { is_calm result ≡ true }
         ensures falls { checking_left result self.new ≤ tags_left self.old }
     {
@@ -202,7 +214,12 @@ impl Course {
 
     /// Takes what the get of a ref found.
     fn take_ref(&mut self, key: Key, got: Got) -> Result<(), AllocError>
-        ensures ok { OnOk result (self.new ≡ record self.old { roots = roots_with self.old.roots (found_ref got); work = told_ref key (found_ref got) self.old.work }) }
+        ensures ok { OnOk result
+            (self.new ≡ record self.old {
+              roots = roots_with self.old.roots (found_ref got);
+              work =
+                  told_ref key (found_ref got) self.old.work;
+            }) }
         ensures err { OnErr result (self.new.work.faults ≡ self.old.work.faults) }
     {
         let seen = ref_seen(self.alloc, &got);
@@ -222,7 +239,12 @@ impl Course {
         key: Key,
         seen: Result<Option<Id12>, FaultKind>,
     ) -> Result<(), AllocError>
-        ensures ok { OnOk result (self.new ≡ record self.old { roots = roots_with self.old.roots seen; work = told_ref key seen self.old.work }) }
+        ensures ok { OnOk result
+            (self.new ≡ record self.old {
+              roots = roots_with self.old.roots seen;
+              work = told_ref
+                  key seen self.old.work;
+            }) }
         ensures err { OnErr result (self.new.work.faults ≡ self.old.work.faults) }
     {
         match seen {
@@ -236,7 +258,8 @@ impl Course {
 
     /// Takes a snapshot, if there is one.
     fn enter_root(&mut self, id: Option<Id12>) -> Result<(), AllocError>
-        ensures ok { OnOk result (self.new ≡ record self.old { roots = roots_with self.old.roots (Ok id) }) }
+        ensures ok { OnOk result
+            (self.new ≡ record self.old { roots = roots_with self.old.roots (Ok id) }) }
         ensures err { OnErr result (self.new.work ≡ self.old.work) }
     {
         match id {
@@ -247,7 +270,10 @@ impl Course {
 
     /// Goes on behind the get of a branch.
     fn on_branch(&mut self, key: Key, got: Got) -> Checking
-        ensures comes { Comes (Or (get_refs self.old.names (roots_with self.old.roots (found_ref got)) (told_ref key (found_ref got) self.old.work) then_tags) (starved self.old.work)) (checking_rest result self.new) }
+        ensures comes { Comes
+            (Or (get_refs self.old.names (roots_with self.old.roots (found_ref got))
+            (told_ref key (found_ref got) self.old.work) then_tags) (starved self.old.work))
+            (checking_rest result self.new) }
         ensures calm { is_calm result ≡ true }
         ensures falls { checking_left result self.new < 1 + root_cost + branches_left self.old }
     {
@@ -259,7 +285,10 @@ impl Course {
 
     /// Goes on behind the get of a tag.
     fn on_tag(&mut self, key: Key, got: Got) -> Checking
-        ensures comes { Comes (Or (get_refs self.old.names (roots_with self.old.roots (found_ref got)) (told_ref key (found_ref got) self.old.work) walks) (starved self.old.work)) (checking_rest result self.new) }
+        ensures comes { Comes
+            (Or (get_refs self.old.names (roots_with self.old.roots (found_ref got))
+            (told_ref key (found_ref got) self.old.work) walks) (starved self.old.work))
+            (checking_rest result self.new) }
         ensures calm { is_calm result ≡ true }
         ensures falls { checking_left result self.new < 1 + root_cost + tags_left self.old }
     {
@@ -287,7 +316,8 @@ impl Course {
 
     /// Ends this walk with a fault of a snapshot.
     fn end_walk(&mut self, id: Id12, kind: FaultKind) -> Checking
-        ensures comes { Comes (Or (walks self.old.roots (tell (Key.Snapshot id) kind self.old.work)) (starved self.old.work)) (checking_rest result self.new) }
+        ensures comes { Comes (Or (walks self.old.roots (tell (Key.Snapshot id) kind self.old.work))
+            (starved self.old.work)) (checking_rest result self.new) }
         ensures calm { is_calm result ≡ true }
         ensures falls { checking_left result self.new ≤ roots_left self.old }
     {
@@ -299,7 +329,8 @@ impl Course {
 
     /// Goes on with a parent.
     fn walk_to(&mut self, id: Id12) -> Checking
-        ensures comes { Comes (walk self.old.left (walks self.old.roots) id self.old.work) (checking_rest result self.new) }
+        ensures comes { Comes (walk self.old.left (walks self.old.roots) id self.old.work)
+            (checking_rest result self.new) }
         ensures calm { is_calm result ≡ true }
         ensures falls { checking_left result self.new ≤ walk_left self.old }
     {
@@ -318,7 +349,8 @@ impl Course {
 
     /// Goes on with the parent of a snapshot, if it has one.
     fn next_parent(&mut self, parent: Option<Id12>) -> Checking
-        ensures comes { Comes (parent_rest self.old.left self.old.roots parent self.old.work) (checking_rest result self.new) }
+        ensures comes { Comes (parent_rest self.old.left self.old.roots parent self.old.work)
+            (checking_rest result self.new) }
         ensures calm { is_calm result ≡ true }
         ensures falls { checking_left result self.new ≤ walk_left self.old }
     {
@@ -330,7 +362,8 @@ impl Course {
 
     /// Goes on with the next manifest that wasn't got for its node, and behind the last one with the parent.
     fn next_file(&mut self, mut place: SnapshotPlace) -> Checking
-        ensures comes { Comes (files_rest self.old.left self.old.roots place self.old.work) (checking_rest result self.new) }
+        ensures comes { Comes (files_rest self.old.left self.old.roots place self.old.work)
+            (checking_rest result self.new) }
         ensures calm { is_calm result ≡ true }
         ensures falls { checking_left result self.new ≤ files_left place self.old }
     {
@@ -346,7 +379,8 @@ impl Course {
 
     /// Goes on with the next part that wasn't got, and behind the last one with the next manifest.
     fn next_part(&mut self, mut parts: ManifestPlace, place: SnapshotPlace) -> Checking
-        ensures comes { Comes (parts_rest self.old.left self.old.roots parts place self.old.work) (checking_rest result self.new) }
+        ensures comes { Comes (parts_rest self.old.left self.old.roots parts place self.old.work)
+            (checking_rest result self.new) }
         ensures calm { is_calm result ≡ true }
         ensures falls { checking_left result self.new ≤ parts_left parts place self.old }
     {
@@ -361,7 +395,10 @@ impl Course {
 
     /// Goes on behind the get of a snapshot.
     fn on_snapshot(&mut self, id: Id12, got: Got) -> Checking
-        ensures comes { Comes (Or (after_snapshot (walk self.old.left (walks self.old.roots)) id self.old.work (walks self.old.roots) (found_snapshot id got)) (starved self.old.work)) (checking_rest result self.new) }
+        ensures comes { Comes
+            (Or (after_snapshot (walk self.old.left (walks self.old.roots)) id self.old.work
+            (walks self.old.roots) (found_snapshot id got)) (starved self.old.work))
+            (checking_rest result self.new) }
         ensures calm { is_calm result ≡ true }
         ensures falls { checking_left result self.new < snapshot_cost + walk_left self.old }
     {
@@ -373,7 +410,9 @@ impl Course {
 
     /// Goes on with what a snapshot tells, or with what is wrong with it.
     fn enter_snapshot(&mut self, id: Id12, seen: Result<Loaded, FaultKind>) -> Checking
-        ensures comes { Comes (Or (after_snapshot (walk self.old.left (walks self.old.roots)) id self.old.work (walks self.old.roots) seen) (starved self.old.work)) (checking_rest result self.new) }
+        ensures comes { Comes
+            (Or (after_snapshot (walk self.old.left (walks self.old.roots)) id self.old.work
+            (walks self.old.roots) seen) (starved self.old.work)) (checking_rest result self.new) }
         ensures calm { is_calm result ≡ true }
         ensures falls { checking_left result self.new < snapshot_cost + walk_left self.old }
     {
@@ -385,7 +424,10 @@ impl Course {
 
     /// Goes on with a snapshot that was read.
     fn enter_rows(&mut self, id: Id12, loaded: Loaded) -> Checking
-        ensures comes { Comes (Or (read_on (walk self.old.left (walks self.old.roots)) id loaded (meet_snapshot id self.old.work) (walks self.old.roots)) (starved self.old.work)) (checking_rest result self.new) }
+        ensures comes { Comes
+            (Or (read_on (walk self.old.left (walks self.old.roots)) id loaded
+            (meet_snapshot id self.old.work) (walks self.old.roots)) (starved self.old.work))
+            (checking_rest result self.new) }
         ensures calm { is_calm result ≡ true }
         ensures falls { checking_left result self.new < snapshot_cost + walk_left self.old }
     {
@@ -400,7 +442,10 @@ impl Course {
 
     /// Goes on behind a snapshot with a fault.
     fn miss_snapshot(&mut self, id: Id12, kind: FaultKind) -> Checking
-        ensures comes { Comes (Or (walks self.old.roots (tell (Key.Snapshot id) kind (meet_snapshot id self.old.work))) (starved self.old.work)) (checking_rest result self.new) }
+        ensures comes { Comes
+            (Or (walks self.old.roots
+            (tell (Key.Snapshot id) kind (meet_snapshot id self.old.work))) (starved self.old.work))
+            (checking_rest result self.new) }
         ensures calm { is_calm result ≡ true }
         ensures falls { checking_left result self.new ≤ roots_left self.old }
     {
@@ -415,7 +460,8 @@ impl Course {
 
     /// Goes on with the log of a snapshot that was read; the initial one has none.
     fn read_on(&mut self, id: Id12, loaded: Loaded) -> Checking
-        ensures comes { Comes (read_on (walk self.old.left (walks self.old.roots)) id loaded self.old.work (walks self.old.roots)) (checking_rest result self.new) }
+        ensures comes { Comes (read_on (walk self.old.left (walks self.old.roots)) id loaded
+            self.old.work (walks self.old.roots)) (checking_rest result self.new) }
         ensures calm { is_calm result ≡ true }
         ensures falls { checking_left result self.new < snapshot_cost + walk_left self.old }
     {
@@ -428,7 +474,10 @@ impl Course {
 
     /// Goes on behind the get of a log.
     fn on_log(&mut self, id: Id12, place: SnapshotPlace, got: Got) -> Checking
-        ensures comes { Comes (Or (files_rest self.old.left self.old.roots place (told_log id (found_log id got) self.old.work)) (starved self.old.work)) (checking_rest result self.new) }
+        ensures comes { Comes
+            (Or (files_rest self.old.left self.old.roots place
+            (told_log id (found_log id got) self.old.work)) (starved self.old.work))
+            (checking_rest result self.new) }
         ensures calm { is_calm result ≡ true }
         ensures falls { checking_left result self.new < 1 + files_left place self.old }
     {
@@ -443,7 +492,9 @@ impl Course {
 
     /// Goes on behind the get of a manifest.
     fn on_file(&mut self, visit: FileVisit, place: SnapshotPlace, got: Got) -> Checking
-        ensures comes { Comes (Or (after_file visit self.old.work (files_rest self.old.left self.old.roots place) (found_manifest visit got)) (starved self.old.work)) (checking_rest result self.new) }
+        ensures comes { Comes
+            (Or (after_file visit self.old.work (files_rest self.old.left self.old.roots place)
+            (found_manifest visit got)) (starved self.old.work)) (checking_rest result self.new) }
         ensures calm { is_calm result ≡ true }
         ensures falls { checking_left result self.new < many + 1 + files_left place self.old }
     {
@@ -460,7 +511,10 @@ impl Course {
         parts: ManifestPlace,
         place: SnapshotPlace,
     ) -> Checking
-        ensures comes { Comes (Or (parts_rest self.old.left self.old.roots parts place (meet_file visit self.old.work)) (starved self.old.work)) (checking_rest result self.new) }
+        ensures comes { Comes
+            (Or (parts_rest self.old.left self.old.roots parts place
+            (meet_file visit self.old.work)) (starved self.old.work))
+            (checking_rest result self.new) }
         ensures calm { is_calm result ≡ true }
         ensures falls { checking_left result self.new ≤ parts_left parts place self.old }
     {
@@ -476,7 +530,10 @@ impl Course {
 
     /// Goes on behind a manifest with a fault.
     fn miss_file(&mut self, visit: FileVisit, kind: FaultKind, place: SnapshotPlace) -> Checking
-        ensures comes { Comes (Or (files_rest self.old.left self.old.roots place (tell (Key.Manifest visit.manifest) kind (meet_file visit self.old.work))) (starved self.old.work)) (checking_rest result self.new) }
+        ensures comes { Comes
+            (Or (files_rest self.old.left self.old.roots place
+            (tell (Key.Manifest visit.manifest) kind (meet_file visit self.old.work)))
+            (starved self.old.work)) (checking_rest result self.new) }
         ensures calm { is_calm result ≡ true }
         ensures falls { checking_left result self.new ≤ files_left place self.old }
     {
@@ -497,7 +554,10 @@ impl Course {
         place: SnapshotPlace,
         got: Got,
     ) -> Checking
-        ensures comes { Comes (Or (parts_rest self.old.left self.old.roots parts place (told_part visit (found_part visit got) self.old.work)) (starved self.old.work)) (checking_rest result self.new) }
+        ensures comes { Comes
+            (Or (parts_rest self.old.left self.old.roots parts place
+            (told_part visit (found_part visit got) self.old.work)) (starved self.old.work))
+            (checking_rest result self.new) }
         ensures calm { is_calm result ≡ true }
         ensures falls { checking_left result self.new < 1 + parts_left parts place self.old }
     {

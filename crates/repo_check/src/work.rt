@@ -149,7 +149,8 @@ impl Work {
 
     /// A manifest was got for this, and this is wrong with it.
     pub fn miss_file(&mut self, visit: FileVisit, kind: FaultKind) -> Result<(), AllocError>
-        ensures ok { OnOk result (self.new ≡ tell (Key.Manifest visit.manifest) kind (meet_file visit self.old)) }
+        ensures ok { OnOk result (self.new ≡ tell (Key.Manifest visit.manifest) kind
+            (meet_file visit self.old)) }
         ensures err { OnErr result (self.new.faults ≡ self.old.faults) }
     {
         match self.meet_file(visit) {
@@ -163,7 +164,8 @@ impl Work {
 
     /// An object was got for this, and this is wrong with it.
     fn miss_part(&mut self, visit: PartVisit, kind: FaultKind) -> Result<(), AllocError>
-        ensures ok { OnOk result (self.new ≡ tell (Key.Chunk visit.object) kind (meet_part visit self.old)) }
+        ensures ok { OnOk result (self.new ≡ tell (Key.Chunk visit.object) kind
+            (meet_part visit self.old)) }
         ensures err { OnErr result (self.new.faults ≡ self.old.faults) }
     {
         match self.meet_part(visit) {
@@ -225,7 +227,8 @@ fn make_room(
     objects: &mut ObjectIds,
     key: &Key,
 ) -> Result<bool, AllocError>
-    ensures ok { IfOk result (λ new. Notes key.now files.old objects.old new files.new objects.new) }
+    ensures ok { IfOk result (λ new. Notes key.now files.old objects.old new files.new
+        objects.new) }
     ensures room { OnOk result (vec_len faults.new < vec_capacity faults.new) }
     ensures faults { faults.new.items ≡ faults.old.items }
     ensures files { OnErr result (files.new ≡ files.old) }
@@ -237,7 +240,8 @@ fn make_room(
 
 /// Notes a fault of this object; whether it is to be told.
 fn note(files: &mut ObjectIds, objects: &mut ObjectIds, key: &Key) -> Result<bool, AllocError>
-    ensures ok { IfOk result (λ new. Notes key.now files.old objects.old new files.new objects.new) }
+    ensures ok { IfOk result (λ new. Notes key.now files.old objects.old new files.new
+        objects.new) }
     ensures files { OnErr result (files.new ≡ files.old) }
     ensures objects { OnErr result (objects.new ≡ objects.old) }
 {
@@ -252,7 +256,8 @@ fn note(files: &mut ObjectIds, objects: &mut ObjectIds, key: &Key) -> Result<boo
 /// One more fault, where it is new.
 fn push_new(faults: &mut Vec<CheckFault>, fault: CheckFault, new: bool)
     requires { vec_len faults.old < vec_capacity faults.old }
-    ensures { faults.new.items ≡ (if new then faults.old.items ++ fault ∷ [] else faults.old.items) }
+    ensures { faults.new.items
+        ≡ (if new then faults.old.items ++ fault ∷ [] else faults.old.items) }
 {
     if !new {
         drop(fault);

@@ -76,7 +76,8 @@ impl Chain {
     /// One operation of the store.
     pub fn step<S: Store>(&mut self, store: &mut S) -> Result<Next<Items<Loaded>>, Refusal>
         requires { IsAsk (chain_rest self.old) }
-        ensures step { Steps (S.view store.old) (S.view store.new) (chain_rest self.old) (chain_rest self.new) result }
+        ensures step { Steps (S.view store.old) (S.view store.new) (chain_rest self.old)
+            (chain_rest self.new) result }
         ensures falls { chain_left self.new < chain_left self.old }
         ensures listed { IfErr result MayRefuseChain }
     {
@@ -87,7 +88,8 @@ impl Chain {
     fn on_snapshot(&mut self, loaded: Loaded) -> Result<Next<Items<Loaded>>, Refusal>
         requires left { 0 < self.old.left }
         requires ended { self.old.next ≡ None }
-        ensures lands { Lands (walk_behind (self.old.left - 1) (self.old.seen ++ loaded ∷ []) loaded.parent) (chain_rest self.new) result }
+        ensures lands { Lands (walk_behind (self.old.left - 1) (self.old.seen ++ loaded ∷ [])
+            loaded.parent) (chain_rest self.new) result }
         ensures falls { chain_left self.new < self.old.left }
         ensures faultless { IfErr result (λ refusal. is_fault refusal ≡ false) }
         ensures listed { IfErr result MayRefuseChain }

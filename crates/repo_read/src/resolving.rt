@@ -244,7 +244,8 @@ impl Resolve {
     /// One operation of the store.
     pub fn step<S: Store>(&mut self, store: &mut S) -> Result<Next<Named>, Refusal>
         requires { IsAsk (resolve_rest self.old) }
-        ensures step { Steps (S.view store.old) (S.view store.new) (resolve_rest self.old) (resolve_rest self.new) result }
+        ensures step { Steps (S.view store.old) (S.view store.new) (resolve_rest self.old)
+            (resolve_rest self.new) result }
         ensures falls { resolve_left self.new < resolve_left self.old }
         ensures listed { IfErr result MayRefuseRef }
     {

@@ -63,7 +63,8 @@ impl ReadSnapshot {
     /// One operation of the store.
     pub fn step<S: Store>(&mut self, store: &mut S) -> Result<Next<Loaded>, Refusal>
         requires { IsAsk (reading_rest self.old) }
-        ensures step { Steps (S.view store.old) (S.view store.new) (reading_rest self.old) (reading_rest self.new) result }
+        ensures step { Steps (S.view store.old) (S.view store.new) (reading_rest self.old)
+            (reading_rest self.new) result }
         ensures falls { reading_left self.new < reading_left self.old }
         ensures listed { IfErr result MayRefuseObject }
     {

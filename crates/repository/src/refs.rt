@@ -102,7 +102,8 @@ impl ReadRefs {
     /// One operation of the store.
     pub fn step<S: Store>(&mut self, store: &mut S) -> Result<Next<RefLines>, Refusal>
         requires { IsAsk (refs_rest self.old) }
-        ensures step { Steps (S.view store.old) (S.view store.new) (refs_rest self.old) (refs_rest self.new) result }
+        ensures step { Steps (S.view store.old) (S.view store.new) (refs_rest self.old)
+            (refs_rest self.new) result }
         ensures falls { refs_left self.new < refs_left self.old }
         ensures listed { IfErr result MayRefuseRefs }
     {
@@ -116,8 +117,10 @@ impl ReadRefs {
         got: Got,
     ) -> Result<Next<RefLines>, Refusal>
         requires ended { self.old.state ≡ Reading.Ended }
-        requires awaited { Awaits (reading_rest self.old.lines (Reading.Branch entries place)) (Reply.Got got) }
-        ensures took { Took (reading_rest self.old.lines (Reading.Branch entries place)) (Reply.Got got) (refs_rest self.new) result }
+        requires awaited { Awaits (reading_rest self.old.lines (Reading.Branch entries place))
+            (Reply.Got got) }
+        ensures took { Took (reading_rest self.old.lines (Reading.Branch entries place))
+            (Reply.Got got) (refs_rest self.new) result }
         ensures falls { refs_left self.new < reading_left (Reading.Branch entries place) }
         ensures listed { IfErr result MayRefuseRefs }
     {
@@ -133,8 +136,10 @@ impl ReadRefs {
         got: Got,
     ) -> Result<Next<RefLines>, Refusal>
         requires ended { self.old.state ≡ Reading.Ended }
-        requires awaited { Awaits (reading_rest self.old.lines (Reading.Tag entries place)) (Reply.Got got) }
-        ensures took { Took (reading_rest self.old.lines (Reading.Tag entries place)) (Reply.Got got) (refs_rest self.new) result }
+        requires awaited { Awaits (reading_rest self.old.lines (Reading.Tag entries place))
+            (Reply.Got got) }
+        ensures took { Took (reading_rest self.old.lines (Reading.Tag entries place))
+            (Reply.Got got) (refs_rest self.new) result }
         ensures falls { refs_left self.new < reading_left (Reading.Tag entries place) }
         ensures listed { IfErr result MayRefuseRefs }
     {
@@ -146,7 +151,8 @@ impl ReadRefs {
     /// Goes on with the branches from this place of the listing, and behind them with the tags.
     fn on_branches(&mut self, entries: Entries, from: usize) -> Next<RefLines>
         requires { from ≤ length entries }
-        ensures lands { Lands (read_branches self.old.lines (drop from entries)) (refs_rest self.new) (Ok result) }
+        ensures lands { Lands (read_branches self.old.lines (drop from entries))
+            (refs_rest self.new) (Ok result) }
         ensures falls { refs_left self.new < (length entries - from) + no_length + 3 }
         ensures short { length entries < no_length }
     {
@@ -163,7 +169,8 @@ impl ReadRefs {
     fn on_tags(&mut self, entries: Entries, from: usize) -> Next<RefLines>
         requires within { from ≤ length entries }
         requires ended { self.old.state ≡ Reading.Ended }
-        ensures lands { Lands (read_each self.old.lines (live (drop from entries))) (refs_rest self.new) (Ok result) }
+        ensures lands { Lands (read_each self.old.lines (live (drop from entries)))
+            (refs_rest self.new) (Ok result) }
         ensures falls { refs_left self.new < (length entries - from) + 1 }
         ensures short { length entries < no_length }
     {

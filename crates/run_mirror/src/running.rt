@@ -20,8 +20,10 @@ use store_api::Base;
 
 /// Steps a mirror until it has ended.
 fn run_to_end<S: Base, T: Base>(mirror: &mut Mirror, from: &mut S, to: &mut T)
-    requires { HasCome (pair_of (S.view from.old) (T.view to.old)) (pair_of (S.view from.old) (T.view to.old)) mirror.old }
-    ensures came { HasCome (pair_of (S.view from.old) (T.view to.old)) (pair_of (S.view from.new) (T.view to.new)) mirror.new }
+    requires { HasCome (pair_of (S.view from.old) (T.view to.old))
+        (pair_of (S.view from.old) (T.view to.old)) mirror.old }
+    ensures came { HasCome (pair_of (S.view from.old) (T.view to.old))
+        (pair_of (S.view from.new) (T.view to.new)) mirror.new }
     ensures ended { IsDone (mirror_rest mirror.new) }
 {
     mirror_law();
@@ -32,7 +34,8 @@ fn run_to_end<S: Base, T: Base>(mirror: &mut Mirror, from: &mut S, to: &mut T)
 
 /// Copies a repository into another store, where nobody else acts on either.
 pub fn mirror_store<S: Base, T: Base>(alloc: Global, from: &mut S, to: &mut T) -> MirrorEnd
-    ensures { WasMirrored (pair_of (S.view from.old) (T.view to.old)) (pair_of (S.view from.new) (T.view to.new)) result }
+    ensures { WasMirrored (pair_of (S.view from.old) (T.view to.old))
+        (pair_of (S.view from.new) (T.view to.new)) result }
 {
     mirror_law();
     mirrored_trees_law();
@@ -61,7 +64,9 @@ pub fn run_mirror<S: Base, T: Base, K: Sink>(
     to: T,
     out: &mut K,
 ) -> MirrorEnded<S, T>
-    ensures { MirrorEnds (pair_of (S.view from) (T.view to)) (pair_of (S.view result.from) (T.view result.to)) (K.at out.old) (K.at out.new) result.status }
+    ensures { MirrorEnds (pair_of (S.view from) (T.view to))
+        (pair_of (S.view result.from) (T.view result.to)) (K.at out.old) (K.at out.new)
+        result.status }
 {
     let draft = match Draft::new(alloc) {
         Ok(draft) => draft,

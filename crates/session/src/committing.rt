@@ -40,7 +40,8 @@ impl Session {
 
     /// The arrays of the session's tree that have changed chunks, in the order of their paths' bytes.
     pub fn changed_arrays(&self) -> Result<Items<ChangedArray>, AllocError>
-        ensures { IfOk result (λ arrays. arrays ≡ changed_arrays self.now.held (base_nodes self.now)) }
+        ensures { IfOk result (λ arrays. arrays ≡ changed_arrays self.now.held
+            (base_nodes self.now)) }
     {
         self.changes.changed_arrays(self.alloc, &self.loaded)
     }
@@ -63,7 +64,10 @@ impl Session {
         message: &Text,
     ) -> Result<Bytes, WriteFault>
         requires { Ascends list_key None news.now }
-        ensures { Writes result (snapshot_bytes (snapshot_over self.now.held news.now self.now.rows self.now.files (record { id = id; parent = self.now.base; flushed_at = flushed_at }) message.now self.now.props)) }
+        ensures { Writes result
+            (snapshot_bytes (snapshot_over self.now.held news.now self.now.rows self.now.files
+            (record { id = id; parent = self.now.base; flushed_at = flushed_at }) message.now
+            self.now.props)) }
     {
         let stamp = Stamp {
             id,

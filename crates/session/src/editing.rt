@@ -75,7 +75,8 @@ impl Session {
     /// Why no node is added at a path where no id is left.
     fn spent(&self, path: &Path) -> Refusal
         requires { drawn8 self.now.ids ≡ None }
-        ensures { (text : List ℕ) → Adds (entered self.now path.now text) self.now (Err result) self.now }
+        ensures { (text : List ℕ) → Adds (entered self.now path.now text) self.now (Err result)
+            self.now }
     {
         match self.changes.may_add(&self.loaded, path) {
             Ok(()) => Refusal::IdsSpent,

@@ -51,7 +51,8 @@ pub struct GetChunk {
 
 /// How the chunk at a place of the session's own is read.
 fn first_own(alloc: Global, place: &Place) -> Result<First, AllocError>
-    ensures { IfOk result (λ first. (want : ℕ) (node : TheNode) (index : List ℕ) → Begins (read_own want place.now) want node index first) }
+    ensures { IfOk result (λ first. (want : ℕ) (node : TheNode) (index : List ℕ)
+        → Begins (read_own want place.now) want node index first) }
 {
     match place {
         Place::Inline(bytes) => Ok(First::Told(Value::Held(bytes.copy(alloc)?))),
@@ -74,7 +75,8 @@ fn id_at(ids: &Items<Id12>, at: usize) -> Option<Id12>
 
 /// How a chunk's manifests are read.
 fn first_listed(ids: Items<Id12>) -> First
-    ensures { (want : ℕ) (node : TheNode) (index : List ℕ) → Begins (read_listed want node index ids) want node index result }
+    ensures { (want : ℕ) (node : TheNode) (index : List ℕ)
+        → Begins (read_listed want node index ids) want node index result }
 {
     match id_at(&ids, 0) {
         Some(id) => First::Reads(Reading::Manifest { id, ids, at: 1 }),
@@ -88,7 +90,9 @@ fn first_listed(ids: Items<Id12>) -> First
 impl Session {
     /// How a chunk's reading begins.
     fn first_read(&self, path: &Path, index: &Index, at: ChunkAt) -> Result<First, AllocError>
-        ensures { IfOk result (Begins (read_at self.now path.now index.now at (entry_in self.now.held.chunks at.node index.now)) at.bytes at.node index.now) }
+        ensures { IfOk result
+            (Begins (read_at self.now path.now index.now at
+            (entry_in self.now.held.chunks at.node index.now)) at.bytes at.node index.now) }
     {
         match self.changes.chunk(at.node, index) {
             Some(Some(place)) => first_own(self.alloc, place),
@@ -107,7 +111,9 @@ impl Session {
         index: &Index,
         at: ChunkAt,
     ) -> Result<Getting, (Session, Refusal)>
-        ensures read { Gets (read_at self path.now index.now at (entry_in self.held.chunks at.node index.now)) self result }
+        ensures read { Gets
+            (read_at self path.now index.now at (entry_in self.held.chunks at.node index.now)) self
+            result }
         ensures few { IfOk result IsShort }
     {
         let Ok(first) = self.first_read(path, index, at) else {
@@ -203,7 +209,8 @@ impl GetChunk {
     /// One operation of the store.
     pub fn step<S: Store>(&mut self, store: &mut S) -> Result<Next<Value>, Refusal>
         requires { IsAsk (get_rest self.old) }
-        ensures step { Steps (S.view store.old) (S.view store.new) (get_rest self.old) (get_rest self.new) result }
+        ensures step { Steps (S.view store.old) (S.view store.new) (get_rest self.old)
+            (get_rest self.new) result }
         ensures falls { get_left self.new < get_left self.old }
         ensures session { get_session self.new ≡ get_session self.old }
         ensures listed { IfErr result MayRefuseObject }
@@ -221,8 +228,10 @@ impl GetChunk {
         reply: Reply,
     ) -> Result<Next<Value>, Refusal>
         requires ended { self.old.state ≡ Reading.Ended }
-        requires awaited { Awaits (read_listed self.old.want self.old.node self.old.index (id ∷ drop at ids)) reply }
-        ensures took { Took (read_listed self.old.want self.old.node self.old.index (id ∷ drop at ids)) reply (get_rest self.new) result }
+        requires awaited { Awaits (read_listed self.old.want self.old.node self.old.index
+            (id ∷ drop at ids)) reply }
+        ensures took { Took (read_listed self.old.want self.old.node self.old.index
+            (id ∷ drop at ids)) reply (get_rest self.new) result }
         ensures falls { get_left self.new < length ids - at + 2 }
         ensures kept { get_session self.new ≡ get_session self.old }
         ensures listed { IfErr result MayRefuseObject }
@@ -251,7 +260,8 @@ impl GetChunk {
     /// A manifest has the chunk here.
     fn on_place(&mut self, manifest: Id12, place: PlaceView<'_>) -> Result<Next<Value>, Refusal>
         requires { self.old.state ≡ Reading.Ended }
-        ensures took { LandsCalmly (read_place self.old.want manifest (place_seen place.entry)) (get_rest self.new) result }
+        ensures took { LandsCalmly (read_place self.old.want manifest (place_seen place.entry))
+            (get_rest self.new) result }
         ensures falls { get_left self.new < 2 }
         ensures kept { get_session self.new ≡ get_session self.old }
         ensures listed { IfErr result MayRefuseObject }
@@ -273,7 +283,8 @@ impl GetChunk {
     /// A manifest doesn't have the chunk: the next one is got, if there is one.
     fn on_none(&mut self, ids: Items<Id12>, at: usize) -> Result<Next<Value>, Refusal>
         requires { self.old.state ≡ Reading.Ended }
-        ensures took { LandsCalmly (read_listed self.old.want self.old.node self.old.index (drop at ids)) (get_rest self.new) result }
+        ensures took { LandsCalmly (read_listed self.old.want self.old.node self.old.index
+            (drop at ids)) (get_rest self.new) result }
         ensures falls { get_left self.new < length ids - at + 2 }
         ensures kept { get_session self.new ≡ get_session self.old }
         ensures listed { IfErr result MayRefuseObject }
@@ -297,7 +308,8 @@ impl GetChunk {
     ) -> Result<Next<Value>, Refusal>
         requires ended { self.old.state ≡ Reading.Ended }
         requires awaited { Awaits (read_object self.old.want id offset length) reply }
-        ensures took { Took (read_object self.old.want id offset length) reply (get_rest self.new) result }
+        ensures took { Took (read_object self.old.want id offset length) reply (get_rest self.new)
+            result }
         ensures falls { get_left self.new < 1 }
         ensures kept { get_session self.new ≡ get_session self.old }
         ensures listed { IfErr result MayRefuseObject }

@@ -39,8 +39,10 @@ impl Session {
         loaded: Loaded,
         changes: Option<ChangeSet>,
     )
-        requires few { len (nodes_over (unwrap_or changes self.old.held) (nodes_in loaded.nodes)) ≤ most_nodes }
-        ensures { self.new ≡ moved_to self.old id version.0 loaded (unwrap_or changes self.old.held) }
+        requires few { len (nodes_over (unwrap_or changes self.old.held) (nodes_in loaded.nodes))
+            ≤ most_nodes }
+        ensures { self.new ≡ moved_to self.old id version.0 loaded
+            (unwrap_or changes self.old.held) }
     {
         self.renew(version);
         self.base = id;

@@ -68,7 +68,8 @@ impl Machine for Open {
 impl Open {
     /// Opens a session to write to a branch, which draws these ids.
     pub fn write(alloc: Global, branch: RefName, ids: AnyIds) -> Result<Open, AllocError>
-        ensures program { IfOk result (λ machine. open_rest machine ≡ open_program (record { at = At.Branch branch; writes = true; ids = ids })) }
+        ensures program { IfOk result (λ machine. open_rest machine
+            ≡ open_program (record { at = At.Branch branch; writes = true; ids = ids })) }
         ensures few { IfOk result (λ machine. open_left machine ≤ 3) }
     {
         Open::begin(alloc, At::Branch(branch), true, ids)
@@ -76,7 +77,8 @@ impl Open {
 
     /// Opens a session to read what a branch, a tag or an id names.
     pub fn read(alloc: Global, at: At, ids: AnyIds) -> Result<Open, AllocError>
-        ensures program { IfOk result (λ machine. open_rest machine ≡ open_program (record { at = at; writes = false; ids = ids })) }
+        ensures program { IfOk result (λ machine. open_rest machine
+            ≡ open_program (record { at = at; writes = false; ids = ids })) }
         ensures few { IfOk result (λ machine. open_left machine ≤ 3) }
     {
         Open::begin(alloc, at, false, ids)
@@ -84,7 +86,8 @@ impl Open {
 
     /// Before the first operation: an id is known at once.
     fn begin(alloc: Global, at: At, writes: bool, ids: AnyIds) -> Result<Open, AllocError>
-        ensures program { IfOk result (λ machine. open_rest machine ≡ open_program (record { at = at; writes = writes; ids = ids })) }
+        ensures program { IfOk result (λ machine. open_rest machine
+            ≡ open_program (record { at = at; writes = writes; ids = ids })) }
         ensures few { IfOk result (λ machine. open_left machine ≤ 3) }
     {
         let state = match Resolution::begin(at.copy(alloc)?) {
@@ -103,7 +106,8 @@ impl Open {
     /// One operation of the store.
     pub fn step<S: Store>(&mut self, store: &mut S) -> Result<Next<Session>, Refusal>
         requires { IsAsk (open_rest self.old) }
-        ensures step { Steps (S.view store.old) (S.view store.new) (open_rest self.old) (open_rest self.new) result }
+        ensures step { Steps (S.view store.old) (S.view store.new) (open_rest self.old)
+            (open_rest self.new) result }
         ensures falls { open_left self.new < open_left self.old }
         ensures listed { IfErr result MayRefuseBase }
     {
@@ -113,7 +117,8 @@ impl Open {
     fn on_naming(&mut self, resolving: Resolving, reply: Reply) -> Result<Next<Session>, Refusal>
         requires ended { self.old.state ≡ Opening.Ended }
         requires awaited { Awaits (opening_rest (asked self.old) (Opening.Naming resolving)) reply }
-        ensures took { Took (opening_rest (asked self.old) (Opening.Naming resolving)) reply (open_rest self.new) result }
+        ensures took { Took (opening_rest (asked self.old) (Opening.Naming resolving)) reply
+            (open_rest self.new) result }
         ensures falls { open_left self.new < resolving_left resolving + 1 }
         ensures listed { IfErr result MayRefuseBase }
     {
@@ -128,7 +133,8 @@ impl Open {
     fn on_base(&mut self, named: Named, reply: Reply) -> Result<Next<Session>, Refusal>
         requires ended { self.old.state ≡ Opening.Ended }
         requires awaited { Awaits (base_program (asked self.old) named) reply }
-        ensures took { Took (base_program (asked self.old) named) reply (open_rest self.new) result }
+        ensures took { Took (base_program (asked self.old) named) reply (open_rest self.new)
+            result }
         ensures falls { open_left self.new < 1 }
         ensures listed { IfErr result MayRefuseBase }
     {

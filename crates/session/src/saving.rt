@@ -24,7 +24,8 @@ pub struct Saved {
 impl Session {
     /// The changes as they are, to go back to. It is refused by `NoMemory` alone.
     pub fn saved(&self) -> Result<Saved, Refusal>
-        ensures saved { IfOk result (λ saved. saved ≡ record { base = self.now.base; changes = self.now.held }) }
+        ensures saved { IfOk result
+            (λ saved. saved ≡ record { base = self.now.base; changes = self.now.held }) }
         ensures listed { IfErr result (λ why. why ≡ Refusal.NoMemory) }
     {
         match self.changes.copy(self.alloc) {

@@ -26,7 +26,8 @@ pub struct ArrayAt<'a> {
 
 /// The nodes as a listing.
 fn as_listings(alloc: Global, rows: Vec<(Path, bool)>) -> Result<Listings, AllocError>
-    ensures { IfOk result (λ l. l ≡ map (λ row. record { path = row.0; array = row.1 }) rows.items) }
+    ensures { IfOk result (λ l. l ≡ map (λ row. record { path = row.0; array = row.1 })
+        rows.items) }
 {
     let list = rows
         .into_iter()

@@ -71,7 +71,16 @@ impl Session {
         base: Id12,
         loaded: Loaded,
     ) -> Session
-        ensures { result ≡ record { origin = origin; base = base; rows = loaded.nodes; files = loaded.manifest_files; held = nothing; props = []; ids = ids } }
+        ensures { result ≡ record {
+          origin = origin;
+          base = base;
+          rows = loaded.nodes;
+          files =
+              loaded.manifest_files;
+          held = nothing;
+          props = [];
+          ids = ids;
+        } }
     {
         // What was loaded has no more nodes than a tree may have.
         let _ = loaded.file();

@@ -65,7 +65,8 @@ fn copies(
 impl Session {
     /// Enters where a chunk is.
     fn enter(&mut self, path: &Path, index: &Index, place: Place) -> Result<(), EditFault>
-        ensures { Edits (set_refusal (nodes_seen self.old) path.now index.now (length_of place)) (with_chunk self.old path.now index.now place) self.old result self.new }
+        ensures { Edits (set_refusal (nodes_seen self.old) path.now index.now (length_of place))
+            (with_chunk self.old path.now index.now place) self.old result self.new }
     {
         self.changes
             .set_chunk(self.alloc, &self.loaded, path, index, place)
@@ -79,7 +80,8 @@ impl Session {
         bytes: &[u8],
     ) -> Result<Setting, (Session, Refusal)>
         requires short { nat_le (length bytes.now) most_inline ≡ true }
-        requires allowed { set_refusal (nodes_seen self) path.now index.now (length bytes.now) ≡ None }
+        requires allowed { set_refusal (nodes_seen self) path.now index.now (length bytes.now)
+            ≡ None }
         ensures { Sets (put_chunk self path.now index.now bytes.now) self result }
     {
         let Ok(held) = Bytes::of(self.alloc, bytes) else {
@@ -98,7 +100,8 @@ impl Session {
         index: &Index,
         bytes: &[u8],
     ) -> Result<Setting, (Session, Refusal)>
-        ensures { Sets (put_object self path.now index.now bytes.now (drawn12 self.ids)) self result }
+        ensures { Sets (put_object self path.now index.now bytes.now (drawn12 self.ids)) self
+            result }
     {
         let Some(id) = self.ids.next12() else {
             return Err((self, Refusal::IdsSpent));
@@ -203,7 +206,10 @@ impl SetChunk {
     /// The object was put: the chunk is entered.
     fn on_put(&mut self, mut session: Session, new: New) -> Result<Next<Session>, Refusal>
         requires { self.old.state ≡ Putting.Ended }
-        ensures took { LandsCalmly (after_object (with_chunk session self.old.path self.old.index (Is_object self.old.id 0 (length self.old.bytes))) self.old.id (Reply.New new)) (set_rest self.new) result }
+        ensures took { LandsCalmly
+            (after_object (with_chunk session self.old.path self.old.index
+            (Is_object self.old.id 0 (length self.old.bytes))) self.old.id (Reply.New new))
+            (set_rest self.new) result }
         ensures falls { set_left self.new < 1 }
         ensures listed { IfErr result MayRefuseSet }
         ensures held { OnErr result (set_session self.new ≡ Some session) }
@@ -242,8 +248,10 @@ impl SetChunk {
     /// One operation of the store.
     pub fn step<S: Store>(&mut self, store: &mut S) -> Result<Next<Session>, Refusal>
         requires live { IsAsk (set_rest self.old) }
-        requires polite { IsTrue (S.view store.old).caller.tells → NextIsPolite (set_rest self.old) (S.view store.old).seen }
-        ensures step { Steps (S.view store.old) (S.view store.new) (set_rest self.old) (set_rest self.new) result }
+        requires polite { IsTrue (S.view store.old).caller.tells
+            → NextIsPolite (set_rest self.old) (S.view store.old).seen }
+        ensures step { Steps (S.view store.old) (S.view store.new) (set_rest self.old)
+            (set_rest self.new) result }
         ensures falls { set_left self.new < set_left self.old }
         ensures session { OnErr result (set_session self.new ≡ set_session self.old) }
         ensures listed { IfErr result MayRefuseSet }

@@ -150,7 +150,8 @@ impl Settle {
     /// One operation of the store.
     pub fn step<S: Store>(&mut self, store: &mut S) -> Result<Next<Settled>, Refusal>
         requires { IsAsk (settle_rest self.old) }
-        ensures step { Steps (S.view store.old) (S.view store.new) (settle_rest self.old) (settle_rest self.new) result }
+        ensures step { Steps (S.view store.old) (S.view store.new) (settle_rest self.old)
+            (settle_rest self.new) result }
         ensures falls { settle_left self.new < settle_left self.old }
         ensures listed { IfErr result MayRefuseSettle }
     {
@@ -161,7 +162,8 @@ impl Settle {
     fn on_branch(&mut self, branch: &RefName, reply: Reply) -> Result<Next<Settled>, Refusal>
         requires ended { self.old.state ≡ Settling.Ended }
         requires awaited { Awaits (settle_program branch.now self.old.doubt) reply }
-        ensures took { Took (settle_program branch.now self.old.doubt) reply (settle_rest self.new) result }
+        ensures took { Took (settle_program branch.now self.old.doubt) reply (settle_rest self.new)
+            result }
         ensures falls { settle_left self.new < most_snapshots + 1 }
         ensures listed { IfErr result MayRefuseSettle }
     {
@@ -189,7 +191,8 @@ impl Settle {
     fn on_parent(&mut self, way: Way, parent: Option<Id12>) -> Result<Next<Settled>, Refusal>
         requires left { 0 < way.left }
         requires ended { self.old.state ≡ Settling.Ended }
-        ensures lands { Lands (way_behind self.old.doubt way.head (way.left - 1) parent) (settle_rest self.new) result }
+        ensures lands { Lands (way_behind self.old.doubt way.head (way.left - 1) parent)
+            (settle_rest self.new) result }
         ensures falls { settle_left self.new < way.left }
         ensures refused { IfErr result (λ refusal. refusal ≡ Refusal.TooDeep) }
     {
@@ -206,7 +209,9 @@ impl Settle {
     /// Where a ref or a snapshot names the next one: it is one of the two, or it is got next, if one more may be read.
     fn onto(&mut self, way: Way) -> Result<Next<Settled>, Refusal>
         requires ended { self.old.state ≡ Settling.Ended }
-        ensures lands { Lands (unless_met (met self.old.doubt way.next) (way_rest self.old.doubt way)) (settle_rest self.new) result }
+        ensures lands { Lands
+            (unless_met (met self.old.doubt way.next) (way_rest self.old.doubt way))
+            (settle_rest self.new) result }
         ensures falls { settle_left self.new ≤ way.left }
         ensures refused { IfErr result (λ refusal. refusal ≡ Refusal.TooDeep) }
     {

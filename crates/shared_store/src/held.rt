@@ -64,7 +64,8 @@ impl<S: Base> Held<S> {
 
     /// Reads an object, as this client.
     pub(crate) fn get(&mut self, client: u32, key: &Key) -> Result<Got, StoreFault>
-        ensures { Called (λ got. Reply.Got got) (Op.Get key.now) result (as_client client (S.view self.old)) (S.view self.new) }
+        ensures { Called (λ got. Reply.Got got) (Op.Get key.now) result
+            (as_client client (S.view self.old)) (S.view self.new) }
     {
         self.store.set_client(client);
         self.store.get(key)
@@ -79,7 +80,8 @@ impl<S: Base> Held<S> {
         why: Why,
     ) -> Result<New, StoreFault>
         requires polite { MayCall (S.view self.old) (Op.PutNew key.now bytes.now why) }
-        ensures { Called (λ new. Reply.New new) (Op.PutNew key.now bytes.now why) result (as_client client (S.view self.old)) (S.view self.new) }
+        ensures { Called (λ new. Reply.New new) (Op.PutNew key.now bytes.now why) result
+            (as_client client (S.view self.old)) (S.view self.new) }
     {
         self.store.set_client(client);
         self.store.put_new(key, bytes, why)
@@ -95,7 +97,8 @@ impl<S: Base> Held<S> {
         why: Why,
     ) -> Result<Over, StoreFault>
         requires polite { MayCall (S.view self.old) (Op.PutOver key.now bytes.now old why) }
-        ensures { Called (λ over. Reply.Over over) (Op.PutOver key.now bytes.now old why) result (as_client client (S.view self.old)) (S.view self.new) }
+        ensures { Called (λ over. Reply.Over over) (Op.PutOver key.now bytes.now old why) result
+            (as_client client (S.view self.old)) (S.view self.new) }
     {
         self.store.set_client(client);
         self.store.put_over(key, bytes, old, why)
@@ -104,7 +107,8 @@ impl<S: Base> Held<S> {
     /// Removes an object, as this client.
     pub(crate) fn remove(&mut self, client: u32, key: &Key, why: Why) -> Result<Gone, StoreFault>
         requires polite { MayCall (S.view self.old) (Op.Remove key.now why) }
-        ensures { Called (λ gone. Reply.Gone gone) (Op.Remove key.now why) result (as_client client (S.view self.old)) (S.view self.new) }
+        ensures { Called (λ gone. Reply.Gone gone) (Op.Remove key.now why) result
+            (as_client client (S.view self.old)) (S.view self.new) }
     {
         self.store.set_client(client);
         self.store.remove(key, why)
@@ -119,7 +123,8 @@ impl<S: Base> Held<S> {
         why: Why,
     ) -> Result<GoneAt, StoreFault>
         requires polite { MayCall (S.view self.old) (Op.RemoveAt key.now old why) }
-        ensures { Called (λ gone. Reply.GoneAt gone) (Op.RemoveAt key.now old why) result (as_client client (S.view self.old)) (S.view self.new) }
+        ensures { Called (λ gone. Reply.GoneAt gone) (Op.RemoveAt key.now old why) result
+            (as_client client (S.view self.old)) (S.view self.new) }
     {
         self.store.set_client(client);
         self.store.remove_at(key, old, why)
@@ -127,7 +132,8 @@ impl<S: Base> Held<S> {
 
     /// Lists a part, as this client.
     pub(crate) fn list(&mut self, client: u32, part: Part) -> Result<Listed, StoreFault>
-        ensures { Called (λ listed. Reply.Listed listed) (Op.List part) result (as_client client (S.view self.old)) (S.view self.new) }
+        ensures { Called (λ listed. Reply.Listed listed) (Op.List part) result
+            (as_client client (S.view self.old)) (S.view self.new) }
     {
         self.store.set_client(client);
         self.store.list(part)

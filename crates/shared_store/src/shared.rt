@@ -52,7 +52,8 @@ impl<S: Base> Shared<S> {
         ensures cell { IsPassOf self.now.cell pass.new × IsPassOf self.now.cell result }
         ensures lower { known pass.new
             ≡ record (known pass.old) { owners = lower_part at (known pass.old).owners } }
-        ensures upper { known result ≡ record (known pass.old) { owners = upper_part at (known pass.old).owners } }
+        ensures upper { known result ≡ record (known pass.old)
+            { owners = upper_part at (known pass.old).owners } }
     {
         self.cell.split(pass, at)
     }
@@ -65,8 +66,10 @@ impl<S: Base> Shared<S> {
         requires side_by_side { Adjoins (known pass.old).owners (known other).owners }
         ensures cell { IsPassOf self.now.cell pass.new }
         ensures both { known pass.new ≡ joined (known pass.old) (known other) }
-        ensures first { Follows client_of (known pass.old).owners (known pass.old).log (known pass.new).log }
-        ensures second { Follows client_of (known other).owners (known other).log (known pass.new).log }
+        ensures first { Follows client_of (known pass.old).owners (known pass.old).log
+            (known pass.new).log }
+        ensures second { Follows client_of (known other).owners (known other).log
+            (known pass.new).log }
     {
         self.cell.join(pass, other);
     }
@@ -96,8 +99,10 @@ impl<S: Base> Shared<S> {
         requires cell { IsPassOf self.cell pass }
         requires idle { (known pass).has_turn ≡ false }
         ensures good { S.tells ≡ true → IsGoodJournal (S.view result).seen }
-        ensures log { Follows client_of (known pass).owners (known pass).log (told S.tells (S.view result).seen) }
-        ensures whole { (known pass).owners ≡ all_owners → told S.tells (S.view result).seen ≡ (known pass).log }
+        ensures log { Follows client_of (known pass).owners (known pass).log
+            (told S.tells (S.view result).seen) }
+        ensures whole { (known pass).owners ≡ all_owners → told S.tells (S.view result).seen
+            ≡ (known pass).log }
         ensures faults { (known pass).count ≤ (S.view result).faults }
     {
         self.cell.close(rt, pass).into_store()

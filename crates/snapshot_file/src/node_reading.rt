@@ -176,7 +176,8 @@ fn row_at(
     bytes: &[u8],
     kind: NodeKind,
 ) -> Result<NodeRow, FileFault>
-    ensures { Reads (λ x. x) result (Ok (record { id = id; path = path; user_data = bytes.now; kind = kind })) }
+    ensures { Reads (λ x. x) result
+        (Ok (record { id = id; path = path; user_data = bytes.now; kind = kind })) }
 {
     match Bytes::of(alloc, bytes) {
         Ok(user_data) => Ok(NodeRow {

@@ -115,7 +115,8 @@ fn place(rows: &[(Text, Text)], name: &str) -> Option<usize>
     requires { Ascends prop_key None rows.now }
     ensures there { is_none result ≡ has_name rows.now name.now }
     ensures at { IfSome result (λ at. at ≤ length rows.now) }
-    ensures order { IfSome result (λ at. (value : List ℕ) → insert rows.now at (name.now, value) ≡ insert_entry name_cmp rows.now name.now value) }
+    ensures order { IfSome result (λ at. (value : List ℕ) → insert rows.now at (name.now, value)
+        ≡ insert_entry name_cmp rows.now name.now value) }
 {
     rows.binary_search_by(|row| compare(row, name)).err()
 }

@@ -11,7 +11,8 @@ use std::alloc::Global;
 
 /// Whether a property may stand behind the last one.
 fn property_follows(last: Option<&(Text, Text)>, property: &(Text, Text)) -> bool
-    ensures { result ≡ follows (option_map prop_key (option_copied last.entry)) (prop_key property.now) }
+    ensures { result ≡ follows (option_map prop_key (option_copied last.entry))
+        (prop_key property.now) }
 {
     match last {
         None => true,

@@ -21,7 +21,8 @@ use std::alloc::Global;
 
 /// Whether a node may stand behind the last one.
 pub fn node_follows(last: Option<&NodeRow>, node: &NodeRow) -> bool
-    ensures { result ≡ follows (option_map node_key (option_copied last.entry)) (node_key node.now) }
+    ensures { result ≡ follows (option_map node_key (option_copied last.entry))
+        (node_key node.now) }
 {
     match last {
         None => true,
@@ -31,7 +32,8 @@ pub fn node_follows(last: Option<&NodeRow>, node: &NodeRow) -> bool
 
 /// Whether a manifest may stand behind the last one.
 fn file_follows(last: Option<&ManifestInfo>, file: &ManifestInfo) -> bool
-    ensures { result ≡ follows (option_map file_key (option_copied last.entry)) (file_key file.now) }
+    ensures { result ≡ follows (option_map file_key (option_copied last.entry))
+        (file_key file.now) }
 {
     match last {
         None => true,
@@ -147,7 +149,9 @@ struct Rest<'a> {
 /// The slots behind the nodes.
 #[tactic(auto, unfolding(crate::specs::Snapshots::rest_of))]
 fn rest_of<'a>(alloc: Global, table: &Table<'a>) -> Result<Rest<'a>, FileFault>
-    ensures value { Reads (λ rest. (rest.flushed_at, (rest.message.now, (rest.props, rest.manifest_files)))) result (rest_of table.now) }
+    ensures value { Reads
+        (λ rest. (rest.flushed_at, (rest.message.now, (rest.props, rest.manifest_files)))) result
+        (rest_of table.now) }
     ensures ascend { IfOk result (λ rest. Ascends file_key None rest.manifest_files) }
 {
     let flushed_at = number_in(table, 3, 8)?;

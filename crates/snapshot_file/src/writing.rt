@@ -53,7 +53,8 @@ fn parent_slot(alloc: Global, parent: &Option<Id12>) -> Result<Slot, AllocError>
 
 /// The slots before the nodes.
 fn slots_before(alloc: Global, head: &SnapshotHead) -> Result<[Slot; 2], AllocError>
-    ensures parts { IfOk result (λ slots. map part_of slots ≡ id12_part head.now.id ∷ part_if id12_part head.now.parent ∷ []) }
+    ensures parts { IfOk result (λ slots. map part_of slots ≡ id12_part head.now.id ∷ part_if
+        id12_part head.now.parent ∷ []) }
     ensures writable { IfOk result (λ slots. All (λ s. IsTrue (is_writable_slot s)) slots) }
     ensures id { OnOk result (IsId12 head.now.id) }
     ensures parent { OnOk result (IfSome head.now.parent IsId12) }
@@ -66,7 +67,9 @@ fn slots_before(alloc: Global, head: &SnapshotHead) -> Result<[Slot; 2], AllocEr
 
 /// The slots behind the nodes.
 fn slots_after(alloc: Global, head: &SnapshotHead) -> Result<[Slot; 4], AllocError>
-    ensures parts { IfOk result (λ slots. map part_of slots ≡ scalar 8 head.now.flushed_at ∷ text_part head.now.message.now ∷ part_if props_part (some_props head.now.props.now) ∷ files_part head.now.manifest_files.now ∷ []) }
+    ensures parts { IfOk result (λ slots. map part_of slots ≡ scalar 8 head.now.flushed_at
+        ∷ text_part head.now.message.now ∷ part_if props_part (some_props head.now.props.now)
+        ∷ files_part head.now.manifest_files.now ∷ []) }
     ensures writable { IfOk result (λ slots. All (λ s. IsTrue (is_writable_slot s)) slots) }
     ensures flushed_at { head.now.flushed_at < 2 ^ 64 }
     ensures message { OnOk result (IsUtf8 head.now.message.now) }
@@ -88,7 +91,8 @@ fn rows_payload<S: RowSource>(
     head: &SnapshotHead,
     rows: &S,
 ) -> Result<Vec<u8>, WriteFault>
-    ensures written { let bytes = payload (snapshot_block (with_nodes head.now (S.rows rows.now))) in Writes result bytes (39 + length bytes) }
+    ensures written { let bytes = payload (snapshot_block (with_nodes head.now (S.rows rows.now)))
+        in Writes result bytes (39 + length bytes) }
     ensures sized { OnOk result (IsSnapshot (with_nodes head.now (S.rows rows.now))) }
 {
     let before = slots_before(alloc, head)?;
@@ -104,8 +108,10 @@ pub fn write_rows<S: RowSource>(
     rows: &S,
 ) -> Result<Vec<u8>, WriteFault>
     requires { IsWritable (with_nodes head.now (S.rows rows.now)) }
-    ensures written { let file = snapshot_bytes (with_nodes head.now (S.rows rows.now)) in Writes result file (length file) }
-    ensures again { IfOk result (λ file. snapshot_of file.items ≡ Ok (with_nodes head.now (S.rows rows.now))) }
+    ensures written { let file = snapshot_bytes (with_nodes head.now (S.rows rows.now)) in Writes
+        result file (length file) }
+    ensures again { IfOk result (λ file. snapshot_of file.items
+        ≡ Ok (with_nodes head.now (S.rows rows.now))) }
 {
     let payload = rows_payload(alloc, head, rows)?;
     Ok(with_header(Kind::Snapshot, payload)?)

@@ -117,7 +117,8 @@ pub trait Machine {
 /// Makes an operation.
 pub fn perform<S: Store>(store: &mut S, request: &Request<'_>) -> Result<Reply, StoreFault>
     requires { MayCall (S.view store.old) (op_of request.now) }
-    ensures called { Called (λ reply. reply) (op_of request.now) result (S.view store.old) (S.view store.new) }
+    ensures called { Called (λ reply. reply) (op_of request.now) result (S.view store.old)
+        (S.view store.new) }
     ensures fits { IfOk result (Fits (op_of request.now)) }
     ensures answered { IfOk result (λ reply. has_failed reply ≡ false) }
 {
@@ -141,7 +142,8 @@ pub fn perform<S: Store>(store: &mut S, request: &Request<'_>) -> Result<Reply, 
 /// Makes the operation that comes next.
 pub fn ask<M: Machine, S: Store>(machine: &M, store: &mut S) -> Result<Reply, StoreFault>
     requires live { IsAsk (M.rest machine.now) }
-    requires polite { IsTrue (S.view store.old).caller.tells → NextIsPolite (M.rest machine.now) (S.view store.old).seen }
+    requires polite { IsTrue (S.view store.old).caller.tells
+        → NextIsPolite (M.rest machine.now) (S.view store.old).seen }
     ensures called { AskedBy (M.rest machine.now) result (S.view store.old) (S.view store.new) }
     ensures fits { IfOk result (Awaits (M.rest machine.now)) }
     ensures answered { IfOk result (λ reply. has_failed reply ≡ false) }
@@ -158,8 +160,10 @@ pub fn drive<M: Machine, S: Store>(
     store: &mut S,
 ) -> Result<Next<M::Answer>, Refusal>
     requires live { IsAsk (M.rest machine.old) }
-    requires polite { IsTrue (S.view store.old).caller.tells → NextIsPolite (M.rest machine.old) (S.view store.old).seen }
-    ensures step { Steps (S.view store.old) (S.view store.new) (M.rest machine.old) (M.rest machine.new) result }
+    requires polite { IsTrue (S.view store.old).caller.tells
+        → NextIsPolite (M.rest machine.old) (S.view store.old).seen }
+    ensures step { Steps (S.view store.old) (S.view store.new) (M.rest machine.old)
+        (M.rest machine.new) result }
     ensures falls { M.left machine.new < M.left machine.old }
     ensures kept { M.keeps result machine.old machine.new }
     ensures listed { IfErr result M.may_refuse }

@@ -12,7 +12,8 @@ pub fn run_machine<M: Machine, S: Store>(
     store: &mut S,
 ) -> Result<M::Answer, Refusal>
     requires live { IsAsk (M.rest machine.old) }
-    requires polite { IsTrue (S.view store.old).caller.tells → StaysPolite (S.view store.old).caller (M.rest machine.old) (S.view store.old).seen }
+    requires polite { IsTrue (S.view store.old).caller.tells
+        → StaysPolite (S.view store.old).caller (M.rest machine.old) (S.view store.old).seen }
     ensures runs { Runs (S.view store.old) (S.view store.new) (M.rest machine.old) result }
     ensures ended { IsDone (M.rest machine.new) }
     ensures listed { IfErr result M.may_refuse }

@@ -41,7 +41,8 @@ const MOST_INPUT: usize = 1_048_577;
 
 /// What is taken before a script is played: a draft of its report, and the names of its tasks.
 fn prepare<'a>(alloc: Global, script: &'a Script) -> Result<(Draft, Vec<&'a [u8]>), AllocError>
-    ensures { IfOk result (λ made. IsBlank made.0 × (map (λ n. n.now) made.1.items ≡ map (λ t. t.name) script.now.tasks)) }
+    ensures { IfOk result (λ made. IsBlank made.0
+        × (map (λ n. n.now) made.1.items ≡ map (λ t. t.name) script.now.tasks)) }
 {
     let draft = Draft::new(alloc)?;
     let names = names_of(alloc, script.tasks.as_slice())?;
@@ -60,7 +61,9 @@ fn play_and_report<R: Threads + Wait + Sync, S: Counting + Send, K: Sink, G: Gat
 ) -> Ended<S>
     requires well { IsWell script.now }
     requires good { S.tells ≡ true → IsGoodJournal (S.view store).seen }
-    ensures { (command : Command) (a : InputAt) (b : InputAt) → IsReported command → HasScript command a b script.now → PlayEnds command draw a b (S.view store) (S.view result.store) (K.at out.old) (K.at out.new) result.status }
+    ensures { (command : Command) (a : InputAt) (b : InputAt) → IsReported command
+        → HasScript command a b script.now → PlayEnds command draw a b (S.view store)
+        (S.view result.store) (K.at out.old) (K.at out.new) result.status }
 {
     promise_law();
     let (draft, names) = match prepare(alloc, script) {
@@ -98,7 +101,9 @@ fn play_and_count<R: Threads + Wait + Sync, S: Counting + Send, K: Sink, G: Gate
 ) -> Ended<S>
     requires well { IsWell script.now }
     requires good { S.tells ≡ true → IsGoodJournal (S.view store).seen }
-    ensures { (a : InputAt) (b : InputAt) → HasScript (Command.Grow tasks) a b script.now → PlayEnds (Command.Grow tasks) draw a b (S.view store) (S.view result.store) (K.at out.old) (K.at out.new) result.status }
+    ensures { (a : InputAt) (b : InputAt) → HasScript (Command.Grow tasks) a b script.now
+        → PlayEnds (Command.Grow tasks) draw a b (S.view store) (S.view result.store) (K.at out.old)
+        (K.at out.new) result.status }
 {
     promise_law();
     let draft = match Draft::new(alloc) {
@@ -127,7 +132,8 @@ fn play_and_count<R: Threads + Wait + Sync, S: Counting + Send, K: Sink, G: Gate
 
 /// Reads the script of the input.
 fn read_script<I: Source>(alloc: Global, input: &mut I) -> Result<Script, Status>
-    ensures reads { MatchResult result (HasScript Command.Play (I.at input.old) (I.at input.new)) (HasNone Command.Play (I.at input.old) (I.at input.new)) }
+    ensures reads { MatchResult result (HasScript Command.Play (I.at input.old) (I.at input.new))
+        (HasNone Command.Play (I.at input.old) (I.at input.new)) }
     ensures well { IfOk result IsWell }
     ensures bound { TakesAtMost most_input (I.at input.old) (I.at input.new) }
 {
@@ -137,7 +143,8 @@ fn read_script<I: Source>(alloc: Global, input: &mut I) -> Result<Script, Status
 
 /// Makes the script of `cells` and reads it.
 fn make_cells(alloc: Global, words: &BoxWords) -> Result<Script, Status>
-    ensures reads { (at : InputAt) → MatchResult result (HasScript (Command.Cells words.now) at at) (HasNone (Command.Cells words.now) at at) }
+    ensures reads { (at : InputAt) → MatchResult result (HasScript (Command.Cells words.now) at at)
+        (HasNone (Command.Cells words.now) at at) }
     ensures well { IfOk result IsWell }
 {
     let text = cells_script(
@@ -153,7 +160,8 @@ fn make_cells(alloc: Global, words: &BoxWords) -> Result<Script, Status>
 /// Makes the script of `grow` and reads it.
 fn make_script(alloc: Global, tasks: u8) -> Result<Script, Status>
     requires { 1 ≤ tasks }
-    ensures reads { (at : InputAt) → MatchResult result (HasScript (Command.Grow tasks) at at) (HasNone (Command.Grow tasks) at at) }
+    ensures reads { (at : InputAt) → MatchResult result (HasScript (Command.Grow tasks) at at)
+        (HasNone (Command.Grow tasks) at at) }
     ensures well { IfOk result IsWell }
 {
     let text = grown_script(alloc, tasks)?;
@@ -171,7 +179,8 @@ fn run_input<R: Threads + Wait + Sync, I: Source, S: Counting + Send, K: Sink, G
     out: &mut K,
 ) -> Ended<S>
     requires good { S.tells ≡ true → IsGoodJournal (S.view store).seen }
-    ensures ends { PlayEnds Command.Play draw (I.at input.old) (I.at input.new) (S.view store) (S.view result.store) (K.at out.old) (K.at out.new) result.status }
+    ensures ends { PlayEnds Command.Play draw (I.at input.old) (I.at input.new) (S.view store)
+        (S.view result.store) (K.at out.old) (K.at out.new) result.status }
     ensures bound { TakesAtMost most_input (I.at input.old) (I.at input.new) }
 {
     match read_script(alloc, input) {
@@ -191,7 +200,8 @@ fn run_cells<R: Threads + Wait + Sync, S: Counting + Send, K: Sink, G: Gate + Sy
     out: &mut K,
 ) -> Ended<S>
     requires good { S.tells ≡ true → IsGoodJournal (S.view store).seen }
-    ensures { (at : InputAt) → PlayEnds (Command.Cells words.now) draw at at (S.view store) (S.view result.store) (K.at out.old) (K.at out.new) result.status }
+    ensures { (at : InputAt) → PlayEnds (Command.Cells words.now) draw at at (S.view store)
+        (S.view result.store) (K.at out.old) (K.at out.new) result.status }
 {
     match make_cells(alloc, words) {
         Ok(made) => play_and_report(rt, alloc, &made, draw, store, gate, out),
@@ -211,7 +221,8 @@ fn run_grown<R: Threads + Wait + Sync, S: Counting + Send, K: Sink, G: Gate + Sy
 ) -> Ended<S>
     requires range { 1 ≤ tasks }
     requires good { S.tells ≡ true → IsGoodJournal (S.view store).seen }
-    ensures { (at : InputAt) → PlayEnds (Command.Grow tasks) draw at at (S.view store) (S.view result.store) (K.at out.old) (K.at out.new) result.status }
+    ensures { (at : InputAt) → PlayEnds (Command.Grow tasks) draw at at (S.view store)
+        (S.view result.store) (K.at out.old) (K.at out.new) result.status }
 {
     match make_script(alloc, tasks) {
         Ok(script) => play_and_count(rt, alloc, tasks, &script, draw, store, gate, out),
@@ -227,8 +238,10 @@ fn run_check<R: Threads + Wait + Sync, S: Counting + Send, K: Sink, G: Gate + Sy
     gate: &G,
     out: &mut K,
 ) -> Ended<S>
-    ensures checks { Checks (S.view store) (S.view result.store) (K.at out.old) (K.at out.new) result.status }
-    ensures sound { (draw : Draw) → IsTrue (S.view store).caller.tells → StaysSound draw (S.view store).seen (S.view result.store).seen }
+    ensures checks { Checks (S.view store) (S.view result.store) (K.at out.old) (K.at out.new)
+        result.status }
+    ensures sound { (draw : Draw) → IsTrue (S.view store).caller.tells
+        → StaysSound draw (S.view store).seen (S.view result.store).seen }
 {
     run_law();
     let draft = match Draft::new(alloc) {
@@ -259,7 +272,8 @@ fn run_command<R: Threads + Wait + Sync, I: Source, S: Counting + Send, K: Sink,
 ) -> Ended<S>
     requires range { IsInRange command }
     requires good { S.tells ≡ true → IsGoodJournal (S.view store).seen }
-    ensures ends { Ends command draw (I.at input.old) (I.at input.new) (S.view store) (S.view result.store) (K.at out.old) (K.at out.new) result.status }
+    ensures ends { Ends command draw (I.at input.old) (I.at input.new) (S.view store)
+        (S.view result.store) (K.at out.old) (K.at out.new) result.status }
     ensures bound { TakesAtMost most_input (I.at input.old) (I.at input.new) }
 {
     match command {
@@ -299,22 +313,41 @@ pub fn run<R: Threads + Wait + Sync, I: Source, S: Counting + Send, K: Sink, G: 
 
     // Where the words are no command, that is what the status tells, or that there was no memory to read them; and nothing has
     // been read, done or written.
-    ensures usage { (fault : UsageFault) → command_of words.now ≡ Err fault → ((result.status ≡ Status.Usage fault) ⊎ (result.status ≡ Status.NoMemory)) × (S.view result.store ≡ S.view store) × (I.at input.new ≡ I.at input.old) × (K.at out.new ≡ K.at out.old) }
+    ensures usage { (fault : UsageFault) → command_of words.now ≡ Err fault
+        → ((result.status ≡ Status.Usage fault) ⊎ (result.status ≡ Status.NoMemory))
+        × (S.view result.store ≡ S.view store) × (I.at input.new ≡ I.at input.old)
+        × (K.at out.new ≡ K.at out.old) }
 
     // Over an empty store that tells its journal, where ids are drawn by counting, each script that was played keeps what is
     // promised, with no premise: each branch's updates form one list, each commit is its session's solved changes on the entry
     // before it, each read sees its session's base under its own changes, each task ends as it tells, the refs that are told are
     // those that stand, and the status is that of the first cause that holds. Where memory was wanting, this is so, or no task was
     // played: nothing was written, and the repository was begun at most.
-    ensures ours { (command : Command) → command_of words.now ≡ Ok command → KeepsOwn draw command (record { input = I.at input.old; store = S.view store; out = K.at out.old }) (record { input = I.at input.new; store = S.view result.store; out = K.at out.new }) result.status }
+    ensures ours { (command : Command) → command_of words.now ≡ Ok command
+        → KeepsOwn draw command
+        (record { input = I.at input.old; store = S.view store; out = K.at out.old })
+        (record { input = I.at input.new; store = S.view result.store; out = K.at out.new })
+        result.status }
 
     // The same over each store that tells a sound journal, to which the clients' ids are new.
-    ensures promise { (command : Command) → command_of words.now ≡ Ok command → KeepsSound draw command (record { input = I.at input.old; store = S.view store; out = K.at out.old }) (record { input = I.at input.new; store = S.view result.store; out = K.at out.new }) result.status }
+    ensures promise { (command : Command) → command_of words.now ≡ Ok command
+        → KeepsSound draw command
+        (record { input = I.at input.old; store = S.view store; out = K.at out.old })
+        (record { input = I.at input.new; store = S.view result.store; out = K.at out.new })
+        result.status }
 
     // What the collections of the script removed, no ref and no anchored session reached: of a run of the first kind, and of
     // one of the second.
-    ensures spares_ours { (command : Command) → command_of words.now ≡ Ok command → SparesOwn draw command (record { input = I.at input.old; store = S.view store; out = K.at out.old }) (record { input = I.at input.new; store = S.view result.store; out = K.at out.new }) result.status }
-    ensures spares { (command : Command) → command_of words.now ≡ Ok command → SparesSound draw command (record { input = I.at input.old; store = S.view store; out = K.at out.old }) (record { input = I.at input.new; store = S.view result.store; out = K.at out.new }) result.status }
+    ensures spares_ours { (command : Command) → command_of words.now ≡ Ok command
+        → SparesOwn draw command
+        (record { input = I.at input.old; store = S.view store; out = K.at out.old })
+        (record { input = I.at input.new; store = S.view result.store; out = K.at out.new })
+        result.status }
+    ensures spares { (command : Command) → command_of words.now ≡ Ok command
+        → SparesSound draw command
+        (record { input = I.at input.old; store = S.view store; out = K.at out.old })
+        (record { input = I.at input.new; store = S.view result.store; out = K.at out.new })
+        result.status }
 
     // Exactly what was done. The status tells of the input: a fault of the source only where it rose; the first line that is refused, exactly; and
     // then nothing has been done or written. Every other status but want of memory has read a script, played it over the
@@ -324,11 +357,18 @@ pub fn run<R: Threads + Wait + Sync, I: Source, S: Counting + Send, K: Sink, G: 
     // begins no repository: as client 1 it reads all that the refs reach, and writes what is wrong, or how much it found; its status
     // is that of the first cause that holds. Help and the version are written, whole, or less where the sink failed, and nothing
     // else is read or done.
-    ensures exact { (command : Command) → command_of words.now ≡ Ok command → Exact draw command (record { input = I.at input.old; store = S.view store; out = K.at out.old }) (record { input = I.at input.new; store = S.view result.store; out = K.at out.new }) result.status }
+    ensures exact { (command : Command) → command_of words.now ≡ Ok command
+        → Exact draw command
+        (record { input = I.at input.old; store = S.view store; out = K.at out.old })
+        (record { input = I.at input.new; store = S.view result.store; out = K.at out.new })
+        result.status }
 
     // And what the next run may take for granted: over a store that tells a sound journal, to which the clients' ids were new, the
     // journal is sound again, whatever the status.
-    ensures goes_on { (command : Command) → command_of words.now ≡ Ok command → GoesOn draw command (record { input = I.at input.old; store = S.view store; out = K.at out.old }) (record { input = I.at input.new; store = S.view result.store; out = K.at out.new }) }
+    ensures goes_on { (command : Command) → command_of words.now ≡ Ok command
+        → GoesOn draw command
+        (record { input = I.at input.old; store = S.view store; out = K.at out.old })
+        (record { input = I.at input.new; store = S.view result.store; out = K.at out.new }) }
 
     // At most 1,048,577 bytes of the input are read, whatever the status.
     ensures bound { TakesAtMost most_input (I.at input.old) (I.at input.new) }
@@ -336,13 +376,18 @@ pub fn run<R: Threads + Wait + Sync, I: Source, S: Counting + Send, K: Sink, G: 
     // Where the source tells its bytes and the grammar refuses a line of them, the status is the first such line and its kind,
     // unless the source failed or memory was wanting. Where it refuses a line of what `cells` makes from its words, as where
     // they tell no box, the status is that line. Whether it refuses a line of what `grow` makes isn't said; if so, the same.
-    ensures refused { (command : Command) → command_of words.now ≡ Ok command → TellsRefused command (I.at input.old) result.status }
+    ensures refused { (command : Command) → command_of words.now ≡ Ok command
+        → TellsRefused command (I.at input.old) result.status }
 
     // A fault of the store or of the sink is told only where their counts of faults rose. So where the words are a command and
     // no count rises, the status is Ok, Refused, the line that is refused, or NoMemory.
-    ensures store_fault { result.status ≡ Status.StoreFault → Rose (S.view store).faults (S.view result.store).faults }
-    ensures write_fault { result.status ≡ Status.WriteFault → Rose (K.at out.old).faults (K.at out.new).faults }
-    ensures calm { (command : Command) → command_of words.now ≡ Ok command → IsCalm (I.at input.old) (I.at input.new) (S.view store) (S.view result.store) (K.at out.old) (K.at out.new) → IsFaultless result.status }
+    ensures store_fault { result.status ≡ Status.StoreFault
+        → Rose (S.view store).faults (S.view result.store).faults }
+    ensures write_fault { result.status ≡ Status.WriteFault
+        → Rose (K.at out.old).faults (K.at out.new).faults }
+    ensures calm { (command : Command) → command_of words.now ≡ Ok command
+        → IsCalm (I.at input.old) (I.at input.new) (S.view store) (S.view result.store)
+        (K.at out.old) (K.at out.new) → IsFaultless result.status }
 {
     nothing_law();
     run_law();

@@ -107,7 +107,8 @@ fn add_refs(causes: &mut Causes, refs: &Result<RefLines, Refusal>)
 
 /// What kept the run from ending well, where the report was written whole or not.
 fn causes_of(played: &Played, unwritten: bool) -> Causes
-    ensures { result ≡ causes unwritten (refusals played.now.opening played.now.outcomes.items played.now.refs) }
+    ensures { result ≡ causes unwritten (refusals played.now.opening played.now.outcomes.items
+        played.now.refs) }
 {
     let mut causes = Causes {
         no_memory: false,
@@ -138,7 +139,8 @@ fn causes_of_check(outcome: &Outcome, unwritten: bool) -> Causes
 /// Writes what came of a check, over a blank draft, and tells the status. It takes no memory.
 pub fn finish_check<K: Sink>(draft: Draft, outcome: &Outcome, out: &mut K) -> Status
     requires { IsBlank draft }
-    ensures { Told (λ text. text ≡ outcome_text (codes "check") outcome.now) (why_ended outcome.now) (K.at out.old) (K.at out.new) result }
+    ensures { Told (λ text. text ≡ outcome_text (codes "check") outcome.now) (why_ended outcome.now)
+        (K.at out.old) (K.at out.new) result }
 {
     let mut draft = draft;
     add_outcome(&mut draft, out, b"check", outcome);
@@ -149,7 +151,10 @@ pub fn finish_check<K: Sink>(draft: Draft, outcome: &Outcome, out: &mut K) -> St
 /// Writes the report of what was played, over a blank draft, and tells the status. It takes no memory.
 pub fn finish<K: Sink>(draft: Draft, names: &[&[u8]], played: &Played, out: &mut K) -> Status
     requires { IsBlank draft }
-    ensures { Told (λ text. text ≡ report_of (map (λ n. n.now) names.now) played.now.opening played.now.outcomes.items played.now.refs) (refusals played.now.opening played.now.outcomes.items played.now.refs) (K.at out.old) (K.at out.new) result }
+    ensures { Told (λ text. text ≡ report_of (map (λ n. n.now) names.now) played.now.opening
+        played.now.outcomes.items played.now.refs)
+        (refusals played.now.opening played.now.outcomes.items played.now.refs) (K.at out.old)
+        (K.at out.new) result }
 {
     let mut draft = draft;
     add_report(
@@ -202,7 +207,8 @@ fn summary_of(tasks: u8, outcomes: &[Outcome], events: u64) -> Summary
 
 /// The line of a grown script.
 fn add_summary<K: Sink>(draft: &mut Draft, out: &mut K, summary: Summary)
-    ensures { Took draft.old (K.at out.old) (summary_text summary ++ codes "\n") draft.new (K.at out.new) }
+    ensures { Took draft.old (K.at out.old) (summary_text summary ++ codes "\n") draft.new
+        (K.at out.new) }
 {
     draft.add(out, b"tasks ");
     draft.add_number(out, summary.tasks);
@@ -225,7 +231,9 @@ pub fn finish_grown<K: Sink>(
     out: &mut K,
 ) -> Status
     requires { IsBlank draft }
-    ensures { Told (λ text. text ≡ line_text tasks played.now.outcomes.items events) (refusals played.now.opening played.now.outcomes.items played.now.refs) (K.at out.old) (K.at out.new) result }
+    ensures { Told (λ text. text ≡ line_text tasks played.now.outcomes.items events)
+        (refusals played.now.opening played.now.outcomes.items played.now.refs) (K.at out.old)
+        (K.at out.new) result }
 {
     let mut draft = draft;
     add_summary(&mut draft, out, summary_of(tasks, &played.outcomes, events));

@@ -77,7 +77,8 @@ impl Changes {
 
     /// The other metadata of a node, if it has some.
     pub fn other_meta(&self, id: &Id8) -> Option<&Meta>
-        ensures { option_map (λ meta. meta.now.text) result ≡ meta_in (held_of self.now).metas id.now }
+        ensures { option_map (λ meta. meta.now.text) result ≡ meta_in (held_of self.now).metas
+            id.now }
     {
         for row in self.metas.as_slice() {
             if row.0 == *id {
@@ -89,7 +90,8 @@ impl Changes {
 
     /// The entry of a chunk: its bytes, or that none is held. The outer `None` is where there is no entry.
     pub fn entry(&self, id: &Id8, index: &Index) -> Option<Option<&Items<u8>>>
-        ensures { option_map option_copied result ≡ entry_in (held_of self.now).chunks id.now index.now }
+        ensures { option_map option_copied result ≡ entry_in (held_of self.now).chunks id.now
+            index.now }
     {
         for row in self.chunks.as_slice() {
             if row.0 == *id && same_index(&row.1, index) {

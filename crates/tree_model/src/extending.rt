@@ -54,7 +54,9 @@ fn remove_chunks(chunks: &mut Vec<ChunkEntry>, ids: &Items<Id8>)
 
 /// Takes away the entry of a chunk.
 fn remove_chunk(chunks: &mut Vec<ChunkEntry>, id: &Id8, index: &Index)
-    ensures { chunks.new.items ≡ filter (λ row. not (same_id8 row.0 id.now && same_numbers row.1 index.now)) chunks.old.items }
+    ensures { chunks.new.items
+        ≡ filter (λ row. not (same_id8 row.0 id.now && same_numbers row.1 index.now))
+        chunks.old.items }
 {
     chunks.retain(|row| !(row.0 == *id && same_index(&row.1, index)));
 }
@@ -63,7 +65,8 @@ impl Changes {
     /// One more edit. It is refused as the edit of the tree under the changes is. After a refusal, and where memory runs out,
     /// the changes are as before. Whether the id of an added node is a new one isn't asked.
     pub fn extend(&mut self, alloc: Global, tree: &Tree, edit: &Edit) -> Result<(), EditFault>
-        ensures { Extends (changes_of self.old) (tree_of tree.now) (edit_of edit.now) result (changes_of self.new) }
+        ensures { Extends (changes_of self.old) (tree_of tree.now) (edit_of edit.now) result
+            (changes_of self.new) }
     {
         let under = self.nodes_under(alloc, &tree.nodes)?;
         match refusal(&under, edit) {
@@ -80,7 +83,8 @@ impl Changes {
         under: &Nodes,
         edit: &Edit,
     ) -> Result<(), AllocError>
-        ensures ok { OnOk result (changes_of self.new ≡ entered (changes_of self.old) own.now under.now (edit_of edit.now)) }
+        ensures ok { OnOk result (changes_of self.new ≡ entered (changes_of self.old) own.now
+            under.now (edit_of edit.now)) }
         ensures err { OnErr result (changes_of self.new ≡ changes_of self.old) }
     {
         match edit {
@@ -97,7 +101,9 @@ impl Changes {
 
     /// Adds a node.
     fn add(&mut self, alloc: Global, path: &Path, id: Id8, meta: &Meta) -> Result<(), AllocError>
-        ensures ok { OnOk result (changes_of self.new ≡ record (changes_of self.old) { added = map.insert self.old.added path.now (record { id = id; text = meta.now.text }) }) }
+        ensures ok { OnOk result (changes_of self.new ≡ record (changes_of self.old) {
+          added = map.insert self.old.added path.now (record { id = id; text = meta.now.text });
+        }) }
         ensures err { OnErr result (changes_of self.new ≡ changes_of self.old) }
     {
         let meta = meta.copy(alloc)?;
@@ -112,7 +118,8 @@ impl Changes {
         path: &Path,
         meta: &Meta,
     ) -> Result<(), AllocError>
-        ensures ok { OnOk result (changes_of self.new ≡ with_meta (changes_of self.old) path.now meta.now.text (map.get self.old.added path.now) (map.get under.now path.now)) }
+        ensures ok { OnOk result (changes_of self.new ≡ with_meta (changes_of self.old) path.now
+            meta.now.text (map.get self.old.added path.now) (map.get under.now path.now)) }
         ensures err { OnErr result (changes_of self.new ≡ changes_of self.old) }
     {
         if let Some(node) = self.added.find(path.as_str()) {
@@ -130,9 +137,12 @@ impl Changes {
 
     /// Enters the node at a path as dropped, if the tree has it there.
     fn drop_id(&mut self, own: &Nodes, under: &Nodes, path: &Path) -> Result<(), AllocError>
-        ensures ok { OnOk result ((id : TheId) → lists self.new.dropped id ≡ (lists self.old.dropped id || (has_id id (map.get under.now path.now) && has_id id (map.get own.now path.now)))) }
+        ensures ok { OnOk result ((id : TheId) → lists self.new.dropped id
+            ≡ (lists self.old.dropped id || (has_id id (map.get under.now path.now) && has_id id
+            (map.get own.now path.now)))) }
         ensures err { OnErr result (self.new.dropped ≡ self.old.dropped) }
-        ensures rest { (self.new.added ≡ self.old.added) × (self.new.metas ≡ self.old.metas) × (self.new.chunks ≡ self.old.chunks) }
+        ensures rest { (self.new.added ≡ self.old.added) × (self.new.metas ≡ self.old.metas)
+            × (self.new.chunks ≡ self.old.chunks) }
     {
         if let Some(node) = under.find(path.as_str()) {
             let id = node.found().id;
@@ -151,7 +161,8 @@ impl Changes {
         under: &Nodes,
         path: &Path,
     ) -> Result<(), AllocError>
-        ensures ok { OnOk result (changes_of self.new ≡ entered (changes_of self.old) own.now under.now (Dropping path.now)) }
+        ensures ok { OnOk result (changes_of self.new ≡ entered (changes_of self.old) own.now
+            under.now (Dropping path.now)) }
         ensures err { OnErr result (changes_of self.new ≡ changes_of self.old) }
     {
         let ids = ids_within(alloc, under, path.as_str())?;
@@ -171,7 +182,8 @@ impl Changes {
         index: &Index,
         entry: Option<Items<u8>>,
     ) -> Result<(), AllocError>
-        ensures ok { OnOk result (changes_of self.new ≡ with_entry (changes_of self.old) index.now (Some entry) (map.get under.now path.now)) }
+        ensures ok { OnOk result (changes_of self.new ≡ with_entry (changes_of self.old) index.now
+            (Some entry) (map.get under.now path.now)) }
         ensures err { OnErr result (changes_of self.new ≡ changes_of self.old) }
     {
         let Some(node) = under.find(path.as_str()) else {
@@ -191,7 +203,9 @@ impl Changes {
         path: &Path,
         index: &Index,
     ) -> Result<(), AllocError>
-        ensures ok { OnOk result (changes_of self.new ≡ with_entry (changes_of self.old) index.now (if is_some (map.get self.old.added path.now) then None else Some None) (map.get under.now path.now)) }
+        ensures ok { OnOk result (changes_of self.new ≡ with_entry (changes_of self.old) index.now
+            (if is_some (map.get self.old.added path.now) then None else Some None)
+            (map.get under.now path.now)) }
         ensures err { OnErr result (changes_of self.new ≡ changes_of self.old) }
     {
         if self.added.find(path.as_str()).is_none() {

@@ -154,7 +154,8 @@ impl<'a> Model for Rows<'a> {
 impl<'a> Rows<'a> {
     /// The next path and its node, if any are left.
     pub fn next(&mut self) -> Option<(&'a str, Found<'a>)>
-        ensures row { MatchOption result (self.old ≡ []) (λ row. self.old ≡ row_found row ∷ self.new) }
+        ensures row { MatchOption result (self.old ≡ [])
+            (λ row. self.old ≡ row_found row ∷ self.new) }
         ensures path { IfSome result (λ row. IsTrue (is_path row.0.now)) }
         ensures order { IsInOrder self.old }
     {

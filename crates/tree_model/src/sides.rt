@@ -122,7 +122,8 @@ impl<'a> Sides<'a> {
 
     /// Whether we add a node whose parent we don't add, and that isn't afterwards what it was.
     fn is_orphan(&self, path: &str) -> bool
-        ensures { result ≡ is_orphan (held_of self.now.mine.now) self.now.before.now self.now.after.now path.now }
+        ensures { result ≡ is_orphan (held_of self.now.mine.now) self.now.before.now
+            self.now.after.now path.now }
     {
         let parent = parent_text(path);
         self.adds(path)
@@ -133,7 +134,8 @@ impl<'a> Sides<'a> {
 
     /// Whether we take a node away that is still there afterwards.
     fn takes_away(&self, alloc: Global, path: &str, id: &Id8) -> Result<bool, AllocError>
-        ensures { IfOk result (λ takes. takes ≡ takes_away (held_of self.now.mine.now) self.now.before.now self.now.after.now path.now id.now) }
+        ensures { IfOk result (λ takes. takes ≡ takes_away (held_of self.now.mine.now)
+            self.now.before.now self.now.after.now path.now id.now) }
     {
         let under = self.mine.nodes_under(alloc, self.before)?;
         Ok(!has_id(id, under.find(path)) && has_id(id, self.after.find(path)))
@@ -141,7 +143,9 @@ impl<'a> Sides<'a> {
 
     /// Whether we take an array away that was changed.
     fn drops_array(&self, alloc: Global, path: &str, node: Found<'_>) -> Result<bool, AllocError>
-        ensures { IfOk result (λ drops. drops ≡ drops_array (held_of self.now.mine.now) self.now.theirs.now self.now.before.now self.now.after.now path.now (node_found node.entry)) }
+        ensures { IfOk result (λ drops. drops ≡ drops_array (held_of self.now.mine.now)
+            self.now.theirs.now self.now.before.now self.now.after.now path.now
+            (node_found node.entry)) }
     {
         let id = &node.id;
         let changed = contains(self.theirs.updated_arrays.as_slice(), id)
@@ -151,7 +155,9 @@ impl<'a> Sides<'a> {
 
     /// Whether we take a group away that was changed, or beneath which a node was added.
     fn drops_group(&self, alloc: Global, path: &str, node: Found<'_>) -> Result<bool, AllocError>
-        ensures { IfOk result (λ drops. drops ≡ drops_group (held_of self.now.mine.now) self.now.theirs.now self.now.before.now self.now.after.now path.now (node_found node.entry)) }
+        ensures { IfOk result (λ drops. drops ≡ drops_group (held_of self.now.mine.now)
+            self.now.theirs.now self.now.before.now self.now.after.now path.now
+            (node_found node.entry)) }
     {
         let id = &node.id;
         let changed = contains(self.theirs.updated_groups.as_slice(), id)
@@ -161,7 +167,8 @@ impl<'a> Sides<'a> {
 
     /// Whether both sides wrote a chunk of a node.
     fn is_twice(&self, node: Found<'_>, index: &Index) -> bool
-        ensures { result ≡ is_twice (held_of self.now.mine.now) self.now.theirs.now index.now (node_found node.entry) }
+        ensures { result ≡ is_twice (held_of self.now.mine.now) self.now.theirs.now index.now
+            (node_found node.entry) }
     {
         let id = &node.id;
         is_array(node.meta)
@@ -177,7 +184,9 @@ impl<'a> Sides<'a> {
         path: &str,
         node: Found<'_>,
     ) -> Result<bool, AllocError>
-        ensures { IfOk result (λ is. is ≡ at_node case (held_of self.now.mine.now) self.now.theirs.now self.now.before.now self.now.after.now path.now (node_found node.entry)) }
+        ensures { IfOk result (λ is. is ≡ at_node case (held_of self.now.mine.now)
+            self.now.theirs.now self.now.before.now self.now.after.now path.now
+            (node_found node.entry)) }
     {
         let id = &node.id;
         let has_meta = self.mine.other_meta(id).is_some();
@@ -213,7 +222,9 @@ impl<'a> Sides<'a> {
         path: &str,
         index: Option<&Index>,
     ) -> Result<bool, AllocError>
-        ensures { IfOk result (λ is. is ≡ at_path case (held_of self.now.mine.now) self.now.theirs.now self.now.before.now self.now.after.now path.now (option_copied index.entry) (map.get self.now.before.now path.now)) }
+        ensures { IfOk result (λ is. is ≡ at_path case (held_of self.now.mine.now)
+            self.now.theirs.now self.now.before.now self.now.after.now path.now
+            (option_copied index.entry) (map.get self.now.before.now path.now)) }
     {
         let Some(node) = self.before.find(path) else {
             return Ok(false);
@@ -234,7 +245,9 @@ impl<'a> Sides<'a> {
         path: &Path,
         index: Option<&Index>,
     ) -> Result<bool, AllocError>
-        ensures { IfOk result (λ is. IsTrue is ↔ IsConflict (changes_of self.now.mine.now) self.now.theirs.now (tree_with self.now.before.now) (tree_with self.now.after.now) case path.now (option_copied index.entry)) }
+        ensures { IfOk result (λ is. IsTrue is ↔ IsConflict (changes_of self.now.mine.now)
+            self.now.theirs.now (tree_with self.now.before.now) (tree_with self.now.after.now) case
+            path.now (option_copied index.entry)) }
     {
         match case {
             Case::NewNodeConflictsWithExistingNode => {

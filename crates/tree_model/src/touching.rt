@@ -39,7 +39,8 @@ fn is_of(arrays: bool, meta: &Meta) -> bool
 impl Changes {
     /// The ids of added arrays, or groups.
     fn new_ids(&self, alloc: Global, arrays: bool) -> Result<Ids, AllocError>
-        ensures { IfOk result (λ ids. ids ≡ ids_where (λ row. kind_of arrays row.1.text) (map.entries self.now.added)) }
+        ensures { IfOk result (λ ids. ids ≡ ids_where (λ row. kind_of arrays row.1.text)
+            (map.entries self.now.added)) }
     {
         let mut ids = Items::new(alloc);
         let mut rows = self.added.rows();
@@ -51,7 +52,9 @@ impl Changes {
 
     /// The ids of a tree's arrays, or groups, that are gone.
     fn deleted_ids(&self, alloc: Global, nodes: &Nodes, arrays: bool) -> Result<Ids, AllocError>
-        ensures { IfOk result (λ ids. ids ≡ ids_where (λ row. is_gone (changes_of self.now).dropped nodes.now row.0 && kind_of arrays row.1.text) (map.entries nodes.now)) }
+        ensures { IfOk result
+            (λ ids. ids ≡ ids_where (λ row. is_gone (changes_of self.now).dropped nodes.now row.0
+            && kind_of arrays row.1.text) (map.entries nodes.now)) }
     {
         let mut ids = Items::new(alloc);
         let mut rows = nodes.rows();
@@ -64,7 +67,8 @@ impl Changes {
 
     /// Whether a tree's node stays, and has other metadata.
     fn is_updated(&self, under: &Nodes, path: &str, found: Found<'_>) -> bool
-        ensures { result ≡ (has_id found.entry.id (map.get under.now path.now) && is_some (meta_in (held_of self.now).metas found.entry.id)) }
+        ensures { result ≡ (has_id found.entry.id (map.get under.now path.now) && is_some
+            (meta_in (held_of self.now).metas found.entry.id)) }
     {
         has_id(&found.id, under.find(path)) && self.other_meta(&found.id).is_some()
     }
@@ -77,7 +81,12 @@ impl Changes {
         under: &Nodes,
         arrays: bool,
     ) -> Result<Ids, AllocError>
-        ensures { IfOk result (λ ids. ids ≡ ids_where (λ row. (has_id row.1.id (map.get under.now row.0) && is_some (meta_in (held_of self.now).metas row.1.id)) && kind_of arrays row.1.text) (map.entries nodes.now)) }
+        ensures { IfOk result
+            (λ ids. ids
+            ≡ ids_where
+            (λ row. (has_id row.1.id (map.get under.now row.0) && is_some
+            (meta_in (held_of self.now).metas row.1.id)) && kind_of arrays row.1.text)
+            (map.entries nodes.now)) }
     {
         let mut ids = Items::new(alloc);
         let mut rows = nodes.rows();
@@ -103,7 +112,8 @@ impl Changes {
 
     /// The arrays among nodes that have entries, and the indices of those.
     fn chunks_in(&self, alloc: Global, under: &Nodes) -> Result<Items<ArrayChunks>, AllocError>
-        ensures { IfOk result (λ arrays. arrays ≡ chunks_where (held_of self.now).chunks (map.entries under.now)) }
+        ensures { IfOk result (λ arrays. arrays ≡ chunks_where (held_of self.now).chunks
+            (map.entries under.now)) }
     {
         let mut arrays = Items::new(alloc);
         let mut rows = under.rows();

@@ -127,7 +127,8 @@ impl Tree {
 
     /// Gives the node at a path other metadata, if there is one.
     fn set_meta(&mut self, alloc: Global, path: &Path, meta: &Meta) -> Result<(), AllocError>
-        ensures ok { OnOk result (self.new.nodes ≡ put_some self.old.nodes path.now (option_map (with_text meta.now.text) (map.get self.old.nodes path.now))) }
+        ensures ok { OnOk result (self.new.nodes ≡ put_some self.old.nodes path.now
+            (option_map (with_text meta.now.text) (map.get self.old.nodes path.now))) }
         ensures err { OnErr result (self.new.nodes ≡ self.old.nodes) }
         ensures writes { self.new.writes ≡ self.old.writes }
     {
@@ -141,9 +142,11 @@ impl Tree {
 
     /// Takes the node at a path, and all beneath it, away.
     fn drop_node(&mut self, alloc: Global, path: &Path) -> Result<(), AllocError>
-        ensures ok { OnOk result (self.new.nodes ≡ map.retain_keys self.old.nodes (λ q. not (is_within path.now q))) }
+        ensures ok { OnOk result (self.new.nodes ≡ map.retain_keys self.old.nodes
+            (λ q. not (is_within path.now q))) }
         ensures written { OnOk result (self.new.writes ≡ self.old.writes ++ Gone path.now ∷ []) }
-        ensures err { OnErr result ((self.new.nodes ≡ self.old.nodes) × (self.new.writes ≡ self.old.writes)) }
+        ensures err { OnErr result ((self.new.nodes ≡ self.old.nodes)
+            × (self.new.writes ≡ self.old.writes)) }
     {
         let above = path.copy(alloc)?;
         self.writes.push(Write::Gone { path: above })?;
@@ -159,7 +162,8 @@ impl Tree {
         index: &Index,
         bytes: Option<Items<u8>>,
     ) -> Result<(), AllocError>
-        ensures ok { OnOk result (self.new.writes ≡ self.old.writes ++ Chunk path.now index.now bytes ∷ []) }
+        ensures ok { OnOk result (self.new.writes ≡ self.old.writes ++ Chunk path.now index.now
+            bytes ∷ []) }
         ensures err { OnErr result (self.new.writes ≡ self.old.writes) }
         ensures nodes { self.new.nodes ≡ self.old.nodes }
     {
@@ -177,7 +181,8 @@ impl Write {
         index: &Index,
         held: Option<&'a Items<u8>>,
     ) -> Option<&'a Items<u8>>
-        ensures { option_copied result ≡ written path.now index.now (option_copied held.entry) self.now }
+        ensures { option_copied result ≡ written path.now index.now (option_copied held.entry)
+            self.now }
     {
         match self {
             Write::Chunk {

@@ -50,7 +50,8 @@ fn copy_found(alloc: Global, found: Found<'_>) -> Result<Node, AllocError>
 
 /// Puts all nodes of a map into another, in place of those at the same paths.
 fn put_all(alloc: Global, nodes: &Nodes, under: &mut Nodes) -> Result<(), AllocError>
-    ensures { OnOk result (under.new ≡ put_kept (λ p. false) (λ (n : TheNode). n) under.old (map.entries nodes.now)) }
+    ensures { OnOk result (under.new ≡ put_kept (λ p. false) (λ (n : TheNode). n) under.old
+        (map.entries nodes.now)) }
 {
     let mut rows = nodes.rows();
     while let Some((path, found)) = rows.next() {
@@ -62,7 +63,8 @@ fn put_all(alloc: Global, nodes: &Nodes, under: &mut Nodes) -> Result<(), AllocE
 impl Changes {
     /// A node of the tree, with its other metadata if it has some.
     fn patched(&self, alloc: Global, found: Found<'_>) -> Result<Node, AllocError>
-        ensures { IfOk result (λ n. n ≡ patched (changes_of self.now).metas (node_found found.entry)) }
+        ensures { IfOk result (λ n. n ≡ patched (changes_of self.now).metas
+            (node_found found.entry)) }
     {
         match self.other_meta(&found.id) {
             Some(meta) => Ok(Node::new(found.id, meta.copy(alloc)?)),
@@ -80,7 +82,8 @@ impl Changes {
         found: Found<'_>,
     ) -> Result<(), AllocError>
         requires { IsTrue (is_path path.now) }
-        ensures { OnOk result (under.new ≡ put_row (is_gone (changes_of self.now).dropped nodes.now) (patched (changes_of self.now).metas) under.old (path.now, node_found found.entry)) }
+        ensures { OnOk result (under.new ≡ put_row (is_gone (changes_of self.now).dropped nodes.now)
+            (patched (changes_of self.now).metas) under.old (path.now, node_found found.entry)) }
     {
         if self.is_gone(nodes, path) {
             return Ok(());
@@ -90,7 +93,9 @@ impl Changes {
 
     /// The tree's nodes that aren't gone, with their other metadata.
     fn own_nodes(&self, alloc: Global, nodes: &Nodes) -> Result<Nodes, AllocError>
-        ensures { IfOk result (λ own. own ≡ put_kept (is_gone (changes_of self.now).dropped nodes.now) (patched (changes_of self.now).metas) map.empty (map.entries nodes.now)) }
+        ensures { IfOk result
+            (λ own. own ≡ put_kept (is_gone (changes_of self.now).dropped nodes.now)
+            (patched (changes_of self.now).metas) map.empty (map.entries nodes.now)) }
     {
         let mut own = Nodes::new(alloc);
         let mut rows = nodes.rows();
@@ -111,7 +116,8 @@ impl Changes {
 
     /// The tree under the changes.
     pub fn apply<'a>(&'a self, alloc: Global, tree: &'a Tree) -> Result<Under<'a>, AllocError>
-        ensures { IfOk result (λ under. under_of under ≡ apply (changes_of self.now) (tree_of tree.now)) }
+        ensures { IfOk result (λ under. under_of under ≡ apply (changes_of self.now)
+            (tree_of tree.now)) }
     {
         Ok(Under {
             nodes: self.nodes_under(alloc, &tree.nodes)?,
@@ -124,7 +130,8 @@ impl Changes {
 impl<'a> Under<'a> {
     /// The tree's own chunk, where the node there has this id.
     fn own_chunk(&self, id: &Id8, path: &Path, index: &Index) -> Option<&Items<u8>>
-        ensures { option_copied result ≡ own_chunk (map.get self.now.tree.now.nodes path.now) id.now ((tree_of self.now.tree.now).chunk path.now index.now) }
+        ensures { option_copied result ≡ own_chunk (map.get self.now.tree.now.nodes path.now) id.now
+            ((tree_of self.now.tree.now).chunk path.now index.now) }
     {
         if has_id(id, self.tree.nodes.find(path.as_str())) {
             self.tree.chunk(path, index)

@@ -60,7 +60,8 @@ impl<T: Logged> TurnCell<T> {
         ensures cell { IsPassOf self.now pass.new × IsPassOf self.now result }
         ensures lower { known pass.new
             ≡ record (known pass.old) { owners = lower_part at (known pass.old).owners } }
-        ensures upper { known result ≡ record (known pass.old) { owners = upper_part at (known pass.old).owners } }
+        ensures upper { known result ≡ record (known pass.old)
+            { owners = upper_part at (known pass.old).owners } }
     {
         let _ = at;
         let seat = self.table.shared.split_seat::<Parts<C>>(&mut pass.seat);
@@ -77,7 +78,8 @@ impl<T: Logged> TurnCell<T> {
         ensures cell { IsPassOf self.now pass.new × IsPassOf self.now result }
         ensures lower { known pass.new
             ≡ record (known pass.old) { owners = lower_part at (known pass.old).owners } }
-        ensures upper { known result ≡ record (known pass.old) { owners = upper_part at (known pass.old).owners } }
+        ensures upper { known result ≡ record (known pass.old)
+            { owners = upper_part at (known pass.old).owners } }
     {
         self.split_at::<Brand>(pass, at)
     }
@@ -93,8 +95,10 @@ impl<T: Logged> TurnCell<T> {
         ensures both { known pass.new ≡ joined (known pass.old) (known other) }
 
         // The joined log is what each of the two had seen, and then entries of others.
-        ensures first { Follows T.owner (known pass.old).owners (known pass.old).log (known pass.new).log }
-        ensures second { Follows T.owner (known other).owners (known other).log (known pass.new).log }
+        ensures first { Follows T.owner (known pass.old).owners (known pass.old).log
+            (known pass.new).log }
+        ensures second { Follows T.owner (known other).owners (known other).log
+            (known pass.new).log }
     {
         let Token { seat } = other;
         self.table.shared.join_seat::<Both>(&mut pass.seat, seat);

@@ -56,7 +56,8 @@ pub fn ask_pair<M: PairMachine, S: Store, T: Store>(
 ) -> Result<Reply, StoreFault>
     requires live { IsAsk (M.rest machine.now) }
     requires polite { MayAsk (M.rest machine.now) (pair_of (S.view from.old) (T.view to.old)) }
-    ensures called { AskedBy (M.rest machine.now) result (pair_of (S.view from.old) (T.view to.old)) (pair_of (S.view from.new) (T.view to.new)) }
+    ensures called { AskedBy (M.rest machine.now) result (pair_of (S.view from.old) (T.view to.old))
+        (pair_of (S.view from.new) (T.view to.new)) }
     ensures fits { IfOk result (Awaits (M.rest machine.now)) }
     ensures answered { IfOk result (λ reply. has_failed reply ≡ false) }
 {
@@ -73,7 +74,8 @@ pub fn ask_pair<M: PairMachine, S: Store, T: Store>(
 pub fn drive_pair<M: PairMachine, S: Store, T: Store>(machine: &mut M, from: &mut S, to: &mut T)
     requires live { IsAsk (M.rest machine.old) }
     requires polite { MayAsk (M.rest machine.old) (pair_of (S.view from.old) (T.view to.old)) }
-    ensures step { PairSteps (pair_of (S.view from.old) (T.view to.old)) (pair_of (S.view from.new) (T.view to.new)) (M.rest machine.old) (M.rest machine.new) }
+    ensures step { PairSteps (pair_of (S.view from.old) (T.view to.old))
+        (pair_of (S.view from.new) (T.view to.new)) (M.rest machine.old) (M.rest machine.new) }
     ensures falls { M.left machine.new < M.left machine.old }
 {
     match ask_pair(machine, from, to) {

@@ -13,7 +13,8 @@ use zarr_tree::{ArrayChunks, Ids, Touched};
 
 /// Whether an array may stand behind the last one.
 fn array_follows(last: Option<&ArrayChunks>, array: &ArrayChunks) -> bool
-    ensures { result ≡ follows (option_map array_key (option_copied last.entry)) (array_key array.now) }
+    ensures { result ≡ follows (option_map array_key (option_copied last.entry))
+        (array_key array.now) }
 {
     match last {
         None => true,

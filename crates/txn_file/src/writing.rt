@@ -108,7 +108,8 @@ fn log_table(alloc: Global, log: &TxnFile) -> Result<Flat, AllocError>
 
 /// The payload of a log's file.
 fn log_payload(alloc: Global, log: &TxnFile) -> Result<Vec<u8>, WriteFault>
-    ensures written { let bytes = payload (log_block log.now) in Writes result bytes (39 + length bytes) }
+    ensures written { let bytes = payload (log_block log.now) in Writes result bytes
+        (39 + length bytes) }
     ensures sized { OnOk result (IsLog log.now) }
 {
     let table = log_table(alloc, log)?;

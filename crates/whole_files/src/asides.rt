@@ -22,11 +22,15 @@ fn aside_of(alloc: Global, asides: &str, number: u32) -> Result<String, AllocErr
 
 /// Makes a draft that wasn't there before, in the folder of files aside.
 fn new_draft<F: Folder>(tree: &mut F, places: &Places, alloc: Global) -> Result<F::Draft, FileFault>
-    ensures aside { IsTrue F.tells → IfOk result (λ draft. IsAside (asides_of places.now) (F.aside draft)) }
+    ensures aside { IsTrue F.tells
+        → IfOk result (λ draft. IsAside (asides_of places.now) (F.aside draft)) }
     ensures written { IsTrue F.tells → IfOk result (λ draft. F.written draft ≡ []) }
-    ensures files { IsTrue F.tells → OnlyAside (asides_of places.now) (F.files tree.old) (F.files tree.new) }
-    ensures firm { IsTrue F.tells → OnOk result (LooserAside (asides_of places.now) (F.loose tree.old) (F.loose tree.new)) }
-    ensures left { IsTrue F.tells → Leaves (IsKeptAside (asides_of places.now) (F.files tree.old)) (F.left tree.old) (F.left tree.new) }
+    ensures files { IsTrue F.tells → OnlyAside (asides_of places.now) (F.files tree.old)
+        (F.files tree.new) }
+    ensures firm { IsTrue F.tells
+        → OnOk result (LooserAside (asides_of places.now) (F.loose tree.old) (F.loose tree.new)) }
+    ensures left { IsTrue F.tells → Leaves (IsKeptAside (asides_of places.now) (F.files tree.old))
+        (F.left tree.old) (F.left tree.new) }
 {
     make_folder(tree, places.root(), places.asides(), Cause::NoAside)?;
     for number in 0..u32::MAX {
@@ -40,12 +44,15 @@ fn new_draft<F: Folder>(tree: &mut F, places: &Places, alloc: Global) -> Result<
 
 /// Writes these bytes to a draft, and flushes it to disk.
 fn write_whole<F: Folder>(tree: &mut F, draft: &mut F::Draft, bytes: &[u8]) -> Result<(), Trouble>
-    ensures written { IsTrue F.tells → OnOk result (F.written draft.new ≡ F.written draft.old ++ bytes.now) }
+    ensures written { IsTrue F.tells
+        → OnOk result (F.written draft.new ≡ F.written draft.old ++ bytes.now) }
     ensures aside { IsTrue F.tells → F.aside draft.new ≡ F.aside draft.old }
     ensures flushed { IsTrue F.tells → OnOk result (IsTrue (F.flushed draft.new)) }
-    ensures files { IsTrue F.tells → SameBut (F.aside draft.old) (F.files tree.old) (F.files tree.new) }
+    ensures files { IsTrue F.tells → SameBut (F.aside draft.old) (F.files tree.old)
+        (F.files tree.new) }
     ensures loose { IsTrue F.tells → NoLooser (F.loose tree.old) (F.loose tree.new) }
-    ensures left { IsTrue F.tells → Leaves (IsKeptBut (F.aside draft.old) (F.files tree.old)) (F.left tree.old) (F.left tree.new) }
+    ensures left { IsTrue F.tells → Leaves (IsKeptBut (F.aside draft.old) (F.files tree.old))
+        (F.left tree.old) (F.left tree.new) }
 {
     tree.write(draft, bytes)?;
     tree.flush(draft)
@@ -58,12 +65,16 @@ pub(crate) fn write_aside<F: Folder>(
     alloc: Global,
     bytes: &[u8],
 ) -> Result<F::Draft, FileFault>
-    ensures aside { IsTrue F.tells → IfOk result (λ draft. IsAside (asides_of places.now) (F.aside draft)) }
+    ensures aside { IsTrue F.tells
+        → IfOk result (λ draft. IsAside (asides_of places.now) (F.aside draft)) }
     ensures written { IsTrue F.tells → IfOk result (λ draft. F.written draft ≡ bytes.now) }
     ensures flushed { IsTrue F.tells → IfOk result (λ draft. IsTrue (F.flushed draft)) }
-    ensures files { IsTrue F.tells → OnlyAside (asides_of places.now) (F.files tree.old) (F.files tree.new) }
-    ensures firm { IsTrue F.tells → OnOk result (LooserAside (asides_of places.now) (F.loose tree.old) (F.loose tree.new)) }
-    ensures left { IsTrue F.tells → Leaves (IsKeptAside (asides_of places.now) (F.files tree.old)) (F.left tree.old) (F.left tree.new) }
+    ensures files { IsTrue F.tells → OnlyAside (asides_of places.now) (F.files tree.old)
+        (F.files tree.new) }
+    ensures firm { IsTrue F.tells
+        → OnOk result (LooserAside (asides_of places.now) (F.loose tree.old) (F.loose tree.new)) }
+    ensures left { IsTrue F.tells → Leaves (IsKeptAside (asides_of places.now) (F.files tree.old))
+        (F.left tree.old) (F.left tree.new) }
 {
     let mut draft = new_draft(tree, places, alloc)?;
     match write_whole(tree, &mut draft, bytes) {

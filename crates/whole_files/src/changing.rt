@@ -24,7 +24,8 @@ pub enum Change {
 
 /// The version of the file at a path whose folders are there, if one is there.
 fn version_in<F: Folder>(tree: &F, putting: Putting, path: &str) -> Result<Option<u64>, Trouble>
-    ensures { IsTrue F.tells → IfOk result (λ found. found ≡ version_at putting (F.files tree.now path.now)) }
+    ensures { IsTrue F.tells
+        → IfOk result (λ found. found ≡ version_at putting (F.files tree.now path.now)) }
 {
     match tree.look(path)? {
         None => Ok(None),
@@ -36,7 +37,10 @@ fn version_in<F: Folder>(tree: &F, putting: Putting, path: &str) -> Result<Optio
 /// The version of the file at a path whose folders are there, if one is there, before another one is made. What is put once has a
 /// path of its own, so nothing is asked then: where a file is there, the move finds it.
 fn version_before<F: Folder>(tree: &F, putting: Putting, path: &str) -> Result<Option<u64>, Trouble>
-    ensures { IsTrue F.tells → IfOk result (λ found. IfSome found (λ version. version_at putting (F.files tree.now path.now) ≡ Some version)) }
+    ensures { IsTrue F.tells
+        → IfOk result
+        (λ found. IfSome found (λ version. version_at putting (F.files tree.now path.now)
+        ≡ Some version)) }
 {
     match putting {
         Putting::Once => Ok(None),
@@ -56,10 +60,17 @@ fn place_file<F: Folder>(
 ) -> Result<Option<u64>, Trouble>
     requires within { IsIn above.now path.now }
     requires flushed { IsTrue F.tells → IsTrue (F.flushed draft) }
-    ensures firm { IsTrue F.tells → OnOk result (LooserAt (F.aside draft) (F.loose tree.old) (F.loose tree.new)) }
-    ensures placed { IsTrue F.tells → PlacesFile putting (F.written draft) (F.files tree.old path.now) (F.files tree.new path.now) result }
-    ensures files { IsTrue F.tells → SameButTwo path.now (F.aside draft) (F.files tree.old) (F.files tree.new) }
-    ensures left { IsTrue F.tells → Leaves (IsPlaced path.now (F.aside draft) (IsNew (F.written draft) (F.files tree.old path.now)) (F.files tree.old)) (F.left tree.old) (F.left tree.new) }
+    ensures firm { IsTrue F.tells
+        → OnOk result (LooserAt (F.aside draft) (F.loose tree.old) (F.loose tree.new)) }
+    ensures placed { IsTrue F.tells
+        → PlacesFile putting (F.written draft) (F.files tree.old path.now)
+        (F.files tree.new path.now) result }
+    ensures files { IsTrue F.tells → SameButTwo path.now (F.aside draft) (F.files tree.old)
+        (F.files tree.new) }
+    ensures left { IsTrue F.tells
+        → Leaves
+        (IsPlaced path.now (F.aside draft) (IsNew (F.written draft) (F.files tree.old path.now))
+        (F.files tree.old)) (F.left tree.old) (F.left tree.new) }
 {
     if tree.place_new(draft, path)? {
         tree.flush_folder(above, folder)?;
@@ -81,10 +92,16 @@ pub fn make_file<F: Folder>(
     bytes: &[u8],
 ) -> Result<Option<u64>, FileFault>
     requires { IsOutside (asides_of places.now) path.now }
-    ensures made { IsTrue F.tells → Makes putting bytes.now (F.files tree.old path.now) (F.files tree.new path.now) result }
-    ensures files { IsTrue F.tells → OnlyAt (asides_of places.now) path.now (F.files tree.old) (F.files tree.new) }
-    ensures firm { IsTrue F.tells → OnOk result (LooserAside (asides_of places.now) (F.loose tree.old) (F.loose tree.new)) }
-    ensures left { IsTrue F.tells → Leaves (IsLeft (asides_of places.now) path.now (IsNew bytes.now (F.files tree.old path.now)) (F.files tree.old)) (F.left tree.old) (F.left tree.new) }
+    ensures made { IsTrue F.tells → Makes putting bytes.now (F.files tree.old path.now)
+        (F.files tree.new path.now) result }
+    ensures files { IsTrue F.tells → OnlyAt (asides_of places.now) path.now (F.files tree.old)
+        (F.files tree.new) }
+    ensures firm { IsTrue F.tells
+        → OnOk result (LooserAside (asides_of places.now) (F.loose tree.old) (F.loose tree.new)) }
+    ensures left { IsTrue F.tells
+        → Leaves
+        (IsLeft (asides_of places.now) path.now (IsNew bytes.now (F.files tree.old path.now))
+        (F.files tree.old)) (F.left tree.old) (F.left tree.new) }
 {
     let above = reached(Call::Link, path)?;
     let folder = make_folders(tree, places.root(), path)?;
@@ -103,10 +120,15 @@ fn move_over<F: Folder>(
     path: &str,
 ) -> Result<(), Trouble>
     requires { IsTrue F.tells → IsTrue (F.flushed draft) }
-    ensures firm { IsTrue F.tells → OnOk result (LooserAt (F.aside draft) (F.loose tree.old) (F.loose tree.new)) }
-    ensures placed { IsTrue F.tells → PlacesOver (F.written draft) (F.files tree.old path.now) (F.files tree.new path.now) result }
-    ensures files { IsTrue F.tells → SameButTwo path.now (F.aside draft) (F.files tree.old) (F.files tree.new) }
-    ensures left { IsTrue F.tells → Leaves (IsPlaced path.now (F.aside draft) (HasBytes (F.written draft)) (F.files tree.old)) (F.left tree.old) (F.left tree.new) }
+    ensures firm { IsTrue F.tells
+        → OnOk result (LooserAt (F.aside draft) (F.loose tree.old) (F.loose tree.new)) }
+    ensures placed { IsTrue F.tells → PlacesOver (F.written draft) (F.files tree.old path.now)
+        (F.files tree.new path.now) result }
+    ensures files { IsTrue F.tells → SameButTwo path.now (F.aside draft) (F.files tree.old)
+        (F.files tree.new) }
+    ensures left { IsTrue F.tells
+        → Leaves (IsPlaced path.now (F.aside draft) (HasBytes (F.written draft)) (F.files tree.old))
+        (F.left tree.old) (F.left tree.new) }
 {
     tree.place_over(draft, path)?;
     flush_folder(tree, root, path)
@@ -124,10 +146,17 @@ pub fn replace_file<F: Folder>(
 ) -> Result<Change, FileFault>
     requires { IsOutside (asides_of places.now) path.now }
     ensures moved { IfOk result (IsMoved old) }
-    ensures replaced { IsTrue F.tells → Replaces putting bytes.now old (F.files tree.old path.now) (F.files tree.new path.now) result }
-    ensures files { IsTrue F.tells → OnlyAt (asides_of places.now) path.now (F.files tree.old) (F.files tree.new) }
-    ensures firm { IsTrue F.tells → OnOk result (LooserAside (asides_of places.now) (F.loose tree.old) (F.loose tree.new)) }
-    ensures left { IsTrue F.tells → Leaves (IsLeft (asides_of places.now) path.now (IsOver putting bytes.now old (F.files tree.old path.now)) (F.files tree.old)) (F.left tree.old) (F.left tree.new) }
+    ensures replaced { IsTrue F.tells → Replaces putting bytes.now old (F.files tree.old path.now)
+        (F.files tree.new path.now) result }
+    ensures files { IsTrue F.tells → OnlyAt (asides_of places.now) path.now (F.files tree.old)
+        (F.files tree.new) }
+    ensures firm { IsTrue F.tells
+        → OnOk result (LooserAside (asides_of places.now) (F.loose tree.old) (F.loose tree.new)) }
+    ensures left { IsTrue F.tells
+        → Leaves
+        (IsLeft (asides_of places.now) path.now
+        (IsOver putting bytes.now old (F.files tree.old path.now)) (F.files tree.old))
+        (F.left tree.old) (F.left tree.new) }
 {
     let found = file_version(tree, putting, path)?;
     if found != Some(old) {
@@ -140,10 +169,12 @@ pub fn replace_file<F: Folder>(
 
 /// Removes the plain file at a path, and tells whether one was there.
 pub fn remove_file<F: Folder>(tree: &mut F, root: &str, path: &str) -> Result<bool, Trouble>
-    ensures removed { IsTrue F.tells → Removes (F.files tree.old path.now) (F.files tree.new path.now) result }
+    ensures removed { IsTrue F.tells
+        → Removes (F.files tree.old path.now) (F.files tree.new path.now) result }
     ensures files { IsTrue F.tells → SameBut path.now (F.files tree.old) (F.files tree.new) }
     ensures firm { IsTrue F.tells → OnOk result (NoLooser (F.loose tree.old) (F.loose tree.new)) }
-    ensures left { IsTrue F.tells → Leaves (IsChanged path.now (λ f. f ≡ None) (F.files tree.old)) (F.left tree.old) (F.left tree.new) }
+    ensures left { IsTrue F.tells → Leaves (IsChanged path.now (λ f. f ≡ None) (F.files tree.old))
+        (F.left tree.old) (F.left tree.new) }
 {
     if !tree.remove(path)? {
         return Ok(false);
@@ -161,10 +192,13 @@ pub fn remove_version<F: Folder>(
     old: u64,
 ) -> Result<Change, Trouble>
     ensures moved { IfOk result (IsMoved old) }
-    ensures removed { IsTrue F.tells → RemovesVersion putting old (F.files tree.old path.now) (F.files tree.new path.now) result }
+    ensures removed { IsTrue F.tells → RemovesVersion putting old (F.files tree.old path.now)
+        (F.files tree.new path.now) result }
     ensures files { IsTrue F.tells → SameBut path.now (F.files tree.old) (F.files tree.new) }
     ensures firm { IsTrue F.tells → OnOk result (NoLooser (F.loose tree.old) (F.loose tree.new)) }
-    ensures left { IsTrue F.tells → Leaves (IsChanged path.now (IsGone putting old (F.files tree.old path.now)) (F.files tree.old)) (F.left tree.old) (F.left tree.new) }
+    ensures left { IsTrue F.tells
+        → Leaves (IsChanged path.now (IsGone putting old (F.files tree.old path.now))
+        (F.files tree.old)) (F.left tree.old) (F.left tree.new) }
 {
     let standing = file_version(tree, putting, path)?;
     if standing != Some(old) {

@@ -67,8 +67,10 @@ pub fn folder_at<F: Folder>(tree: &F, path: &str) -> Result<Option<Seen>, Troubl
 /// Flushes to disk which files the folder of a path holds.
 pub(crate) fn flush_folder<F: Folder>(tree: &mut F, root: &str, path: &str) -> Result<(), Trouble>
     ensures files { IsTrue F.tells → SameFiles (F.files tree.old) (F.files tree.new) }
-    ensures firm { IsTrue F.tells → OnOk result (FirmAt path.now (F.loose tree.old) (F.loose tree.new)) }
-    ensures left { IsTrue F.tells → Leaves (IsKept (F.files tree.old)) (F.left tree.old) (F.left tree.new) }
+    ensures firm { IsTrue F.tells
+        → OnOk result (FirmAt path.now (F.loose tree.old) (F.loose tree.new)) }
+    ensures left { IsTrue F.tells → Leaves (IsKept (F.files tree.old)) (F.left tree.old)
+        (F.left tree.new) }
 {
     let folder = reached(Call::Flush, path)?;
     if folder == root {
@@ -97,7 +99,8 @@ pub(crate) fn make_folder<F: Folder>(
 ) -> Result<Seen, Trouble>
     ensures files { IsTrue F.tells → SameFiles (F.files tree.old) (F.files tree.new) }
     ensures firm { IsTrue F.tells → OnOk result (NoLooser (F.loose tree.old) (F.loose tree.new)) }
-    ensures left { IsTrue F.tells → Leaves (IsKept (F.files tree.old)) (F.left tree.old) (F.left tree.new) }
+    ensures left { IsTrue F.tells → Leaves (IsKept (F.files tree.old)) (F.left tree.old)
+        (F.left tree.new) }
 {
     if let Some(seen) = seen_folder(tree, folder, cause)? {
         return Ok(seen);
@@ -115,7 +118,8 @@ pub(crate) fn make_folder<F: Folder>(
 pub(crate) fn make_folders<F: Folder>(tree: &mut F, root: &str, path: &str) -> Result<Seen, Trouble>
     ensures files { IsTrue F.tells → SameFiles (F.files tree.old) (F.files tree.new) }
     ensures firm { IsTrue F.tells → OnOk result (NoLooser (F.loose tree.old) (F.loose tree.new)) }
-    ensures left { IsTrue F.tells → Leaves (IsKept (F.files tree.old)) (F.left tree.old) (F.left tree.new) }
+    ensures left { IsTrue F.tells → Leaves (IsKept (F.files tree.old)) (F.left tree.old)
+        (F.left tree.new) }
 {
     let folder = reached(Call::MakeFolder, path)?;
     let above = folder_of(folder).unwrap_or(root);

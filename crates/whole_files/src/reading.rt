@@ -42,7 +42,8 @@ fn next_piece<F: Folder>(
 ) -> Result<usize, Trouble>
     requires { 0 < length piece.old }
     ensures within { IfOk result (λ count. count ≤ length piece.old) }
-    ensures read { IsTrue F.tells → IfOk result (λ count. Takes count piece.new (F.rest file.old) (F.rest file.new)) }
+    ensures read { IsTrue F.tells
+        → IfOk result (λ count. Takes count piece.new (F.rest file.old) (F.rest file.new)) }
 {
     if taken > MOST {
         return Err(failed(Call::Read, Cause::TooLong));
@@ -110,7 +111,8 @@ fn number_of<F: Folder>(tree: &F, file: &mut F::Reading) -> Result<u64, Trouble>
 
 /// Opens the file that was seen at a path, if it isn't too long, to be read.
 fn opened<F: Folder>(tree: &F, path: &str, seen: &Seen) -> Result<F::Reading, Trouble>
-    ensures { IsTrue F.tells → IfOk result (λ file. HasBytes (F.rest file) (F.files tree.now path.now)) }
+    ensures { IsTrue F.tells
+        → IfOk result (λ file. HasBytes (F.rest file) (F.files tree.now path.now)) }
 {
     if seen.size > MOST {
         return Err(failed(Call::Open, Cause::TooLong));
@@ -138,7 +140,8 @@ pub(crate) fn version_seen<F: Folder>(
     seen: &Seen,
 ) -> Result<u64, Trouble>
     requires { IsTrue F.tells → IsMeasured seen.now (F.files tree.now path.now) }
-    ensures { IsTrue F.tells → IfOk result (λ version. version_at putting (F.files tree.now path.now) ≡ Some version) }
+    ensures { IsTrue F.tells
+        → IfOk result (λ version. version_at putting (F.files tree.now path.now) ≡ Some version) }
 {
     match putting {
         Putting::Once => Ok(0),
@@ -155,7 +158,8 @@ pub fn file_version<F: Folder>(
     putting: Putting,
     path: &str,
 ) -> Result<Option<u64>, Trouble>
-    ensures { IsTrue F.tells → IfOk result (λ found. found ≡ version_at putting (F.files tree.now path.now)) }
+    ensures { IsTrue F.tells
+        → IfOk result (λ found. found ≡ version_at putting (F.files tree.now path.now)) }
 {
     match tree.file(path)? {
         Some(seen) => Ok(Some(version_seen(tree, putting, path, &seen)?)),

@@ -25,7 +25,9 @@ type Nodes = BTreeMap<String, SharedNode>;
 /// Enters a node at the path of this text, if none stands there, which it tells. The path is searched for once.
 fn enter_new(nodes: &mut Nodes, text: String, node: SharedNode) -> Result<bool, AllocError>
     ensures free { IfOk result (λ free. free ≡ not (is_some (tree.get string_cmp nodes.old text))) }
-    ensures entries { IfOk result (λ free. nodes.new.entries ≡ (if free then tree.insert_entry string_cmp nodes.old.entries text node else nodes.old.entries)) }
+    ensures entries { IfOk result
+        (λ free. nodes.new.entries ≡ (if free then tree.insert_entry string_cmp nodes.old.entries
+        text node else nodes.old.entries)) }
     ensures err { OnErr result (nodes.new.entries ≡ nodes.old.entries) }
 {
     let Entry::Vacant(place) = nodes.entry(text)? else {
@@ -98,7 +100,8 @@ impl Added {
         id: Id8,
         meta: SharedMeta,
     ) -> Result<(), AllocError>
-        ensures ok { OnOk result (self.new ≡ map.insert self.old path.now (record { id = id; text = meta.text })) }
+        ensures ok { OnOk result
+            (self.new ≡ map.insert self.old path.now (record { id = id; text = meta.text })) }
         ensures err { OnErr result (self.new ≡ self.old) }
     {
         let text = String::from_str(alloc, path.as_str())?;
@@ -125,7 +128,10 @@ impl Added {
         meta: SharedMeta,
     ) -> Result<bool, AllocError>
         ensures free { IfOk result (λ free. free ≡ not (is_some (map.get self.old path.now))) }
-        ensures entered { IfOk result (λ free. self.new ≡ (if free then map.insert self.old path.now (record { id = id; text = meta.text }) else self.old)) }
+        ensures entered { IfOk result
+            (λ free. self.new
+            ≡ (if free then map.insert self.old path.now (record { id = id; text = meta.text })
+            else self.old)) }
         ensures err { OnErr result (self.new ≡ self.old) }
     {
         let text = String::from_str(alloc, path.as_str())?;
@@ -135,8 +141,11 @@ impl Added {
     /// Enters a node at the path of this text, if none stands there.
     fn enter_new(&mut self, text: String, node: SharedNode) -> Result<bool, AllocError>
         requires { IsTrue (is_path (string_bytes text)) }
-        ensures free { IfOk result (λ free. free ≡ not (is_some (map.get self.old (string_bytes text)))) }
-        ensures entered { IfOk result (λ free. self.new ≡ (if free then map.insert self.old (string_bytes text) node else self.old)) }
+        ensures free { IfOk result
+            (λ free. free ≡ not (is_some (map.get self.old (string_bytes text)))) }
+        ensures entered { IfOk result
+            (λ free. self.new ≡ (if free then map.insert self.old (string_bytes text) node
+            else self.old)) }
         ensures err { OnErr result (self.new ≡ self.old) }
     {
         enter_new(&mut self.nodes, text, node)
@@ -191,7 +200,8 @@ impl<'a> Model for AddedRows<'a> {
 impl<'a> AddedRows<'a> {
     /// The next path and its node, if any are left.
     pub(crate) fn next(&mut self) -> Option<(&'a str, Found<'a>)>
-        ensures row { MatchOption result (self.old ≡ []) (λ row. self.old ≡ row_found row ∷ self.new) }
+        ensures row { MatchOption result (self.old ≡ [])
+            (λ row. self.old ≡ row_found row ∷ self.new) }
         ensures path { IfSome result (λ row. IsTrue (is_path row.0.now)) }
         ensures order { IsInOrder self.old }
     {

@@ -53,7 +53,8 @@ impl ChangeSet {
 
     /// Whether a node at this path is refused even where no added one stands there.
     fn is_closed<B: TreeLike>(&self, base: &B, path: &Path) -> bool
-        ensures { result ≡ (is_some (own_node self.now (B.nodes base.now) path.now) || is_some (place_refusal (nodes_over self.now (B.nodes base.now)) path.now)) }
+        ensures { result ≡ (is_some (own_node self.now (B.nodes base.now) path.now) || is_some
+            (place_refusal (nodes_over self.now (B.nodes base.now)) path.now)) }
     {
         self.own(base, path.as_str()).is_some() || self.place_fault(base, path).is_some()
     }
@@ -61,7 +62,8 @@ impl ChangeSet {
     /// Refuses exactly as adding a node at this path to the overlay would, whatever its id and its metadata. It takes no
     /// memory.
     pub fn may_add<B: TreeLike>(&self, base: &B, path: &Path) -> Result<(), EditFault>
-        ensures { result ≡ unless (add_refusal (nodes_over self.now (B.nodes base.now)) path.now) tt }
+        ensures { result ≡ unless (add_refusal (nodes_over self.now (B.nodes base.now)) path.now)
+            tt }
     {
         if self.lookup(base, path.as_str()).is_some() {
             return Err(EditFault::NodeExists);
@@ -82,7 +84,9 @@ impl ChangeSet {
         id: Id8,
         meta: SharedMeta,
     ) -> Result<(), EditFault>
-        ensures { Enters (add_refusal (nodes_over self.old (B.nodes base.now)) path.now) (with_added self.old path.now (record { id = id; text = meta.text })) self.old result self.new }
+        ensures { Enters (add_refusal (nodes_over self.old (B.nodes base.now)) path.now)
+            (with_added self.old path.now (record { id = id; text = meta.text })) self.old result
+            self.new }
     {
         if self.is_closed(base, path) {
             drop(meta);

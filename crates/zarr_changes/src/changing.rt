@@ -22,7 +22,8 @@ impl ChangeSet {
         path: &Path,
         meta: SharedMeta,
     ) -> Result<(), EditFault>
-        ensures { Enters (text_refusal (nodes_over self.old (B.nodes base.now)) path.now meta.text) (with_text_at self.old (B.nodes base.now) path.now meta.text) self.old result self.new }
+        ensures { Enters (text_refusal (nodes_over self.old (B.nodes base.now)) path.now meta.text)
+            (with_text_at self.old (B.nodes base.now) path.now meta.text) self.old result self.new }
     {
         let Some(found) = self.lookup(base, path.as_str()) else {
             return Err(EditFault::NoNode);

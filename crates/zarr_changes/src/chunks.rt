@@ -83,7 +83,8 @@ impl ChangeSet {
         index: &Index,
         len: u64,
     ) -> Result<(), EditFault>
-        ensures { result ≡ unless (set_refusal (nodes_over self.now (B.nodes base.now)) path.now index.now len) tt }
+        ensures { result ≡ unless (set_refusal (nodes_over self.now (B.nodes base.now)) path.now
+            index.now len) tt }
     {
         let chunk = self.find_chunk(base, path, index)?;
         if len != chunk.bytes {
@@ -105,7 +106,9 @@ impl ChangeSet {
         index: &Index,
         place: Place,
     ) -> Result<(), EditFault>
-        ensures { Enters (set_refusal (nodes_over self.old (B.nodes base.now)) path.now index.now (length_of place)) (with_chunk_at self.old (B.nodes base.now) path.now index.now place) self.old result self.new }
+        ensures { Enters (set_refusal (nodes_over self.old (B.nodes base.now)) path.now index.now
+            (length_of place)) (with_chunk_at self.old (B.nodes base.now) path.now index.now place)
+            self.old result self.new }
     {
         let chunk = self.find_chunk(base, path, index)?;
         let got = length_of(&place);
@@ -128,7 +131,10 @@ impl ChangeSet {
         node: Id8,
         placed: Vec<Placed>,
     ) -> Result<(), AllocError>
-        ensures ok { OnOk result (self.new ≡ record self.old { chunks = with_placed self.old.chunks node placed.items }) }
+        ensures ok { OnOk result
+            (self.new ≡ record self.old {
+              chunks = with_placed self.old.chunks node placed.items;
+            }) }
         ensures err { OnErr result (self.new ≡ self.old) }
     {
         self.entries.insert_all(alloc, node, placed)
@@ -143,7 +149,9 @@ impl ChangeSet {
         path: &Path,
         index: &Index,
     ) -> Result<(), EditFault>
-        ensures { Enters (unset_refusal (nodes_over self.old (B.nodes base.now)) path.now index.now) (without_chunk_at self.old (B.nodes base.now) path.now index.now) self.old result self.new }
+        ensures { Enters (unset_refusal (nodes_over self.old (B.nodes base.now)) path.now index.now)
+            (without_chunk_at self.old (B.nodes base.now) path.now index.now) self.old result
+            self.new }
     {
         let node = self.find_chunk(base, path, index)?.node;
         if self.added.find(path.as_str()).is_some() {

@@ -35,7 +35,8 @@ fn ids_within<B: TreeLike>(
     mut overlay: Overlay<'_, B>,
     of: &str,
 ) -> Result<IdSet, AllocError>
-    ensures { IfOk result (λ ids. (id : TheId) → lists ids id ≡ within_rows overlay.entry of.now id) }
+    ensures { IfOk result (λ ids. (id : TheId) → lists ids id ≡ within_rows overlay.entry of.now
+        id) }
 {
     let mut ids = IdSet::new(alloc);
     while let Some((path, found)) = overlay.next() {
@@ -55,8 +56,10 @@ impl ChangeSet {
         base: &B,
         path: &str,
     ) -> Result<IdSet, AllocError>
-        ensures texts { IfOk result (λ ids. texts_left self.now (lists ids) ≡ texts_left self.now (has_id_within (nodes_over self.now (B.nodes base.now)) path.now)) }
-        ensures chunks { IfOk result (λ ids. chunks_left self.now (lists ids) ≡ chunks_left self.now (has_id_within (nodes_over self.now (B.nodes base.now)) path.now)) }
+        ensures texts { IfOk result (λ ids. texts_left self.now (lists ids) ≡ texts_left self.now
+            (has_id_within (nodes_over self.now (B.nodes base.now)) path.now)) }
+        ensures chunks { IfOk result (λ ids. chunks_left self.now (lists ids) ≡ chunks_left self.now
+            (has_id_within (nodes_over self.now (B.nodes base.now)) path.now)) }
     {
         if self.metas.is_empty() && self.entries.is_empty() {
             return Ok(IdSet::new(alloc));
@@ -72,7 +75,8 @@ impl ChangeSet {
         base: &B,
         path: &Path,
     ) -> Result<(), EditFault>
-        ensures { Enters (drop_refusal (nodes_over self.old (B.nodes base.now)) path.now) (without_node self.old (B.nodes base.now) path.now) self.old result self.new }
+        ensures { Enters (drop_refusal (nodes_over self.old (B.nodes base.now)) path.now)
+            (without_node self.old (B.nodes base.now) path.now) self.old result self.new }
     {
         let text = path.as_str();
         let Some(found) = self.lookup(base, text) else {

@@ -34,7 +34,8 @@ type ChunkRow = (Index, Option<Place>);
 
 /// An entry for the chunk of an index, in place of what there is for it. Where memory runs out, all is as before.
 fn enter(chunks: &mut Chunks, index: Index, entry: Option<Place>) -> Result<(), AllocError>
-    ensures ok { OnOk result (chunks.new.entries ≡ insert_entry index_cmp chunks.old.entries index entry) }
+    ensures ok { OnOk result (chunks.new.entries ≡ insert_entry index_cmp chunks.old.entries index
+        entry) }
     ensures err { OnErr result (chunks.new.entries ≡ chunks.old.entries) }
     ensures order { IndicesAscend (keys_of chunks.old.entries) }
 {
@@ -44,7 +45,8 @@ fn enter(chunks: &mut Chunks, index: Index, entry: Option<Place>) -> Result<(), 
 
 /// Takes away the entry for the chunk of an index.
 fn forget(chunks: &mut Chunks, index: &Index)
-    ensures { chunks.new.entries ≡ filter (λ row. not (same_numbers row.0 index.now)) chunks.old.entries }
+    ensures { chunks.new.entries ≡ filter (λ row. not (same_numbers row.0 index.now))
+        chunks.old.entries }
 {
     // The contract of `len` says that the indices ascend.
     let _ordered = chunks.len();
@@ -53,7 +55,8 @@ fn forget(chunks: &mut Chunks, index: &Index)
 
 /// An array with its entries. Where memory runs out, all is as before.
 fn enter_array(arrays: &mut Arrays, id: Id8, chunks: Chunks) -> Result<(), AllocError>
-    ensures ok { OnOk result (arrays.new.entries ≡ insert_entry id8_cmp arrays.old.entries id chunks) }
+    ensures ok { OnOk result (arrays.new.entries ≡ insert_entry id8_cmp arrays.old.entries id
+        chunks) }
     ensures err { OnErr result (arrays.new.entries ≡ arrays.old.entries) }
     ensures order { IdsAscend (keys_of arrays.new.entries) }
 {
@@ -272,7 +275,8 @@ impl Entries {
 
     /// The indices of an array's entries in their order.
     pub(crate) fn indices(&self, alloc: Global, node: &Id8) -> Result<Items<Index>, AllocError>
-        ensures { IfOk result (λ indices. indices ≡ indices_in_order (indices_of self.now node.now)) }
+        ensures { IfOk result
+            (λ indices. indices ≡ indices_in_order (indices_of self.now node.now)) }
     {
         match self.arrays.get(node) {
             Some(chunks) => indices_in(alloc, chunks),

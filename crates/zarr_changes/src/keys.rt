@@ -72,7 +72,8 @@ impl ChangeSet {
 
     /// The overlay's paths in the order of their bytes.
     pub fn paths<B: TreeLike>(&self, alloc: Global, base: &B) -> Result<Items<Path>, AllocError>
-        ensures { IfOk result (λ paths. paths ≡ finmap.keys (nodes_over self.now (B.nodes base.now))) }
+        ensures { IfOk result
+            (λ paths. paths ≡ finmap.keys (nodes_over self.now (B.nodes base.now))) }
     {
         paths_in(alloc, self.over(base))
     }

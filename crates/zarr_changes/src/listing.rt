@@ -52,7 +52,8 @@ impl ChangeSet {
         base: &B,
         path: &Path,
     ) -> Result<Vec<(Path, bool)>, AllocError>
-        ensures { IfOk result (λ rows. rows.items ≡ rows_beneath (nodes_over self.now (B.nodes base.now)) path.now) }
+        ensures { IfOk result
+            (λ rows. rows.items ≡ rows_beneath (nodes_over self.now (B.nodes base.now)) path.now) }
     {
         listed(alloc, self.over(base), path.as_str())
     }

@@ -27,7 +27,8 @@ pub fn before_slash(text: &str) -> Option<&str>
 impl ChangeSet {
     /// Whether the base has a node at the path of this text that was dropped.
     fn is_dropped<B: TreeLike>(&self, base: &B, path: &str) -> bool
-        ensures { result ≡ is_dropped (lists self.now.dropped) (map.get (B.nodes base.now) path.now) }
+        ensures { result ≡ is_dropped (lists self.now.dropped)
+            (map.get (B.nodes base.now) path.now) }
     {
         match base.find(path) {
             Some(found) => self.dropped.contains(&found.id),
@@ -91,7 +92,8 @@ impl ChangeSet {
 
     /// The overlay's node at a path; `None` exactly where there is none. It takes no memory.
     pub fn lookup<'a, B: TreeLike>(&'a self, base: &'a B, path: &str) -> Option<Found<'a>>
-        ensures { option_map node_found result ≡ map.get (nodes_over self.now (B.nodes base.now)) path.now }
+        ensures { option_map node_found result ≡ map.get (nodes_over self.now (B.nodes base.now))
+            path.now }
     {
         match self.added.find(path) {
             Some(node) => Some(node.found()),

@@ -48,7 +48,8 @@ impl Kinds {
 
     /// The ids as lists.
     fn listed(&self, alloc: Global) -> Result<KindLists, AllocError>
-        ensures { IfOk result (λ ids. (ids.groups ≡ self.now.groups) × (ids.arrays ≡ self.now.arrays)) }
+        ensures { IfOk result (λ ids. (ids.groups ≡ self.now.groups)
+            × (ids.arrays ≡ self.now.arrays)) }
     {
         let groups = self.groups.items(alloc)?;
         let arrays = self.arrays.items(alloc)?;
@@ -77,7 +78,8 @@ fn kinds_of(alloc: Global, mut rows: AddedRows<'_>) -> Result<Kinds, AllocError>
 impl ChangeSet {
     /// Whether a node of the base at this path has other metadata, and a node of its id stands there in the overlay.
     fn is_updated<B: TreeLike>(&self, base: &B, path: &str, found: Found<'_>) -> bool
-        ensures { result ≡ is_updated self.now (B.nodes base.now) (path.now, node_found found.entry) }
+        ensures { result ≡ is_updated self.now (B.nodes base.now)
+            (path.now, node_found found.entry) }
     {
         if self.metas.get(&found.id).is_none() {
             return false;
@@ -149,7 +151,8 @@ impl ChangeSet {
         alloc: Global,
         base: &B,
     ) -> Result<Items<ArrayChunks>, AllocError>
-        ensures { IfOk result (λ arrays. arrays ≡ chunk_lists self.now.chunks (ids_of is_array (written_rows self.now (B.nodes base.now)))) }
+        ensures { IfOk result (λ arrays. arrays ≡ chunk_lists self.now.chunks
+            (ids_of is_array (written_rows self.now (B.nodes base.now)))) }
     {
         let arrays = self.written(alloc, base)?.arrays.items(alloc)?;
         chunk_lists(alloc, &self.entries, arrays.as_slice())

@@ -53,7 +53,8 @@ impl<'a, B: TreeLike> Model for OwnRows<'a, B> {
 impl<'a, B: TreeLike> OwnRows<'a, B> {
     /// The next row, if any are left.
     fn next(&mut self) -> Option<Row<'a>>
-        ensures row { MatchOption result (self.old ≡ []) (λ row. self.old ≡ row_found row ∷ self.new) }
+        ensures row { MatchOption result (self.old ≡ [])
+            (λ row. self.old ≡ row_found row ∷ self.new) }
         ensures path { IfSome result (λ row. IsTrue (is_path row.0.now)) }
         ensures order { IsInOrder self.old }
     {
@@ -89,7 +90,8 @@ impl<'a, B: TreeLike> Model for Overlay<'a, B> {
 impl<'a, B: TreeLike> Overlay<'a, B> {
     /// The next path and the node that stands there, if any are left. It takes no memory.
     pub fn next(&mut self) -> Option<Row<'a>>
-        ensures row { MatchOption result (self.old ≡ []) (λ row. self.old ≡ row_found row ∷ self.new) }
+        ensures row { MatchOption result (self.old ≡ [])
+            (λ row. self.old ≡ row_found row ∷ self.new) }
         ensures path { IfSome result (λ row. IsTrue (is_path row.0.now)) }
     {
         let Some(row) = self.next_added else {

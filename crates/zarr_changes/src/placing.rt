@@ -34,7 +34,8 @@ struct Before {
 
 /// Gives the chunk of an index this entry, where it has one.
 fn replace(chunks: &mut Chunks, index: &Index, entry: Option<Place>)
-    ensures { chunks.new.entries ≡ set_value (is_at (index_cmp index.now)) chunks.old.entries entry }
+    ensures { chunks.new.entries ≡ set_value (is_at (index_cmp index.now)) chunks.old.entries
+        entry }
 {
     let Some(place) = chunks.get_mut(index) else {
         drop(entry);
@@ -71,8 +72,10 @@ fn enter_one(
     placed: Placed,
     before: &mut Vec<Before>,
 ) -> Result<(), AllocError>
-    ensures ok { OnOk result (chunks.new.entries ≡ insert_entry index_cmp chunks.old.entries placed.index (Some placed.place)) }
-    ensures back { all_back before.new.items chunks.new.entries ≡ all_back before.old.items chunks.old.entries }
+    ensures ok { OnOk result (chunks.new.entries ≡ insert_entry index_cmp chunks.old.entries
+        placed.index (Some placed.place)) }
+    ensures back { all_back before.new.items chunks.new.entries ≡ all_back before.old.items
+        chunks.old.entries }
 {
     before.reserve(1)?;
     let key = placed.index.copy(alloc)?;
@@ -91,7 +94,8 @@ fn enter_each(
     before: &mut Vec<Before>,
 ) -> Result<(), AllocError>
     ensures ok { OnOk result (chunks.new.entries ≡ rows_placed chunks.old.entries placed.items) }
-    ensures back { all_back before.new.items chunks.new.entries ≡ all_back before.old.items chunks.old.entries }
+    ensures back { all_back before.new.items chunks.new.entries ≡ all_back before.old.items
+        chunks.old.entries }
 {
     for item in placed {
         enter_one(alloc, chunks, item, before)?;

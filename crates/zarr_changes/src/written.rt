@@ -41,7 +41,8 @@ fn kinds_with<B: TreeLike>(
 
 /// Whether an array of an overlay has entries.
 fn any_with<B: TreeLike>(entries: &Entries, mut overlay: Overlay<'_, B>) -> bool
-    ensures { result ≡ list_any (λ row. is_array row.1.text) (with_entries entries.now overlay.entry) }
+    ensures { result ≡ list_any (λ row. is_array row.1.text)
+        (with_entries entries.now overlay.entry) }
 {
     while let Some((_, found)) = overlay.next() {
         if entries.has(&found.id) && is_array(found.meta) {
@@ -59,7 +60,9 @@ fn push_array(
     found: Found<'_>,
 ) -> Result<(), AllocError>
     requires { IsTrue (is_path text.now) }
-    ensures { OnOk result (arrays.new ≡ arrays.old ++ option_to_list (array_of_row (text.now, node_found found.entry))) }
+    ensures { OnOk result
+        (arrays.new ≡ arrays.old ++ option_to_list
+        (array_of_row (text.now, node_found found.entry))) }
 {
     if let View::Array(array) = &found.meta.view {
         arrays.push(ChangedArray {
@@ -77,7 +80,8 @@ fn arrays_with<B: TreeLike>(
     entries: &Entries,
     mut overlay: Overlay<'_, B>,
 ) -> Result<Items<ChangedArray>, AllocError>
-    ensures { IfOk result (λ arrays. arrays ≡ filter_map array_of_row (with_entries entries.now overlay.entry)) }
+    ensures { IfOk result
+        (λ arrays. arrays ≡ filter_map array_of_row (with_entries entries.now overlay.entry)) }
 {
     let mut arrays = Items::new(alloc);
     while let Some((text, found)) = overlay.next() {
@@ -119,7 +123,8 @@ impl ChangeSet {
 
     /// Whether an array of the overlay has entries.
     pub(crate) fn has_written<B: TreeLike>(&self, base: &B) -> bool
-        ensures { result ≡ list_any (λ row. is_array row.1.text) (written_rows self.now (B.nodes base.now)) }
+        ensures { result ≡ list_any (λ row. is_array row.1.text)
+            (written_rows self.now (B.nodes base.now)) }
     {
         if self.entries.is_empty() {
             return false;

@@ -41,7 +41,8 @@ pub fn cell_place(alloc: Global, chunks: &[u64], cell: &[u64]) -> Result<(Index,
     requires positive { All (λ n. 1 ≤ n) chunks.now }
     requires small { product chunks.now ≤ most_chunk_bytes }
     requires fits { All (λ number. number < 2 ^ 32) (chunk_of chunks.now cell.now) }
-    ensures { IfOk result (λ found. (found.0 ≡ chunk_of chunks.now cell.now) × (found.1 ≡ place_of chunks.now cell.now)) }
+    ensures { IfOk result (λ found. (found.0 ≡ chunk_of chunks.now cell.now)
+        × (found.1 ≡ place_of chunks.now cell.now)) }
 {
     Ok((chunk_of(alloc, chunks, cell)?, place_of(chunks, cell)))
 }

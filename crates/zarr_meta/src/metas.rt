@@ -59,10 +59,14 @@ impl Meta {
         chunks: &[u64],
         fill: i128,
     ) -> Result<Meta, MetaFault>
-        ensures text { MatchResult result (IsReadingOf (array_text kind shape.now chunks.now fill)) (Refuses (array_text kind shape.now chunks.now fill)) }
+        ensures text { MatchResult result (IsReadingOf (array_text kind shape.now chunks.now fill))
+            (Refuses (array_text kind shape.now chunks.now fill)) }
 
         // A fill value of 64 bits, with a sign or without.
-        ensures asked { IsWhole fill → MatchResult result (λ meta. plain_view kind shape.now chunks.now fill ≡ Ok meta.view) (λ fault. (fault ≡ MetaFault.NoMemory) ⊎ (plain_view kind shape.now chunks.now fill ≡ Err fault)) }
+        ensures asked { IsWhole fill
+            → MatchResult result (λ meta. plain_view kind shape.now chunks.now fill ≡ Ok meta.view)
+            (λ fault. (fault ≡ MetaFault.NoMemory)
+            ⊎ (plain_view kind shape.now chunks.now fill ≡ Err fault)) }
     {
         Meta::read_owned(
             alloc,

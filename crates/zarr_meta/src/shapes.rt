@@ -61,7 +61,8 @@ pub fn shape_of(alloc: Global, value: &Value) -> Result<Option<Lengths>, AllocEr
 /// The list of a regular grid's chunk lengths.
 #[tactic(auto, unfolding(crate::specs::Parts::chunk_items))]
 fn chunk_items(value: &Value) -> Option<&Vec<Value>>
-    ensures { option_map (λ items. items_view items.now.items) result ≡ chunk_items (view value.now) }
+    ensures { option_map (λ items. items_view items.now.items) result
+        ≡ chunk_items (view value.now) }
 {
     let grid = value.get("chunk_grid")?;
     if !is_text(grid.get("name"), "regular") {

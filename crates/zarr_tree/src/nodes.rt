@@ -83,6 +83,7 @@ pub trait TreeLike {
     /// Node number `at` in the order of the bytes of the paths, with its path, which is that of a node.
     fn row(&self, at: usize) -> (&str, Found<'_>)
         requires { at < map.len (nodes self.now) }
-        ensures row { slice_get (map.entries (nodes self.now)) at ≡ Some (result.0.now, node_found result.1) }
+        ensures row { slice_get (map.entries (nodes self.now)) at
+            ≡ Some (result.0.now, node_found result.1) }
         ensures path { IsTrue (is_path result.0.now) };
 }
