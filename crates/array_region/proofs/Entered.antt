@@ -4,7 +4,7 @@ use Rattle.std.specs.Prelude.{◌&&◌, nat_eq}
 use Rattle.zarr_tree.specs.Nodes.{chunk_length}
 use Rattle.zarr_tree.proofs.Apply.{first, second}
 use Rattle.session.specs.declared.chunks.Value.{Value}
-use Rattle.session.specs.declared.chunks.Value.TheVariants.{Held}
+use Rattle.session.specs.declared.chunks.Value.TheVariants.{Bytes}
 use Rattle.region_cells.specs.Boxes.{count_of}
 use Rattle.region_cells.specs.Parts.{ReadsPart}
 use Rattle.region_cells.specs.Walks.{with_part}
@@ -27,7 +27,7 @@ fitting r index bytes numbers h =
     }
 
 -- a part that was read is told whole
-pub entered : (r : Reads) (index bytes : List ℕ) (value : Value) (old new : List ℤ) → length r.from ≡ length r.to → fits r index bytes old ≡ true → value ≡ Held bytes → ReadsPart r.array.kind r.array.big r.from r.to r.array.chunks index bytes old new
+pub entered : (r : Reads) (index bytes : List ℕ) (value : Value) (old new : List ℤ) → length r.from ≡ length r.to → fits r index bytes old ≡ true → value ≡ Bytes bytes → ReadsPart r.array.kind r.array.big r.from r.to r.array.chunks index bytes old new
     → new ≡ with_value r index value old
 entered r index bytes value old new rank h v read =
     part_is r.array.kind r.array.big r.from r.to r.array.chunks index bytes old new rank (fitting r index bytes old h).count read
@@ -35,6 +35,6 @@ entered r index bytes value old new rank h v read =
     ∙ sym (ap (λ x. with_value r index x old) v)
 
 -- what doesn't fit leaves them
-pub left : (r : Reads) (index bytes : List ℕ) (value : Value) (numbers : List ℤ) → fits r index bytes numbers ≡ false → value ≡ Held bytes → numbers ≡ with_value r index value numbers
+pub left : (r : Reads) (index bytes : List ℕ) (value : Value) (numbers : List ℤ) → fits r index bytes numbers ≡ false → value ≡ Bytes bytes → numbers ≡ with_value r index value numbers
 left r index bytes value numbers h v =
     sym (ap (λ b. cond b (with_part r.array.kind r.array.big r.from r.to r.array.chunks index bytes numbers) numbers) h) ∙ sym (ap (λ x. with_value r index x numbers) v)

@@ -14,7 +14,7 @@ use Rattle.zarr_tree.specs.declared.edit.EditFault.{EditFault}
 use Rattle.zarr_tree.specs.declared.edit.EditFault.TheVariants as E
 use Rattle.zarr_tree.specs.Nodes.{Node, array_in}
 use Rattle.zarr_tree.proofs.Apply.{first, second}
-use Rattle.zarr_changes.proofs.GridParts.{grid_parts}
+use Rattle.zarr_tree.proofs.GridParts.{grid_parts}
 use Rattle.store_api.specs.declared.machines.Refusal.{Refusal}
 use Rattle.store_api.specs.declared.machines.Refusal.TheVariants as R
 use Rattle.store_api.specs.declared.machines.RegionFault.{RegionFault}

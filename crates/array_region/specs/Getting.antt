@@ -11,7 +11,7 @@ use Rattle.region_cells.specs.Walks.{chunks_met}
 use Rattle.array_region.specs.declared.getting.Getting.{Getting}
 use Rattle.array_region.specs.declared.getting.Getting.TheVariants.{Ready, Again}
 use Rattle.array_region.specs.declared.getting.RegionGet.{RegionGet}
-use Rattle.array_region.specs.declared.held.KeptManifest.{KeptManifest}
+use Rattle.array_region.specs.declared.kept_manifest.KeptManifest.{KeptManifest}
 use Rattle.array_region.specs.declared.plans.Plan.{Plan}
 use Rattle.array_region.specs.declared.plans.Region.{Region}
 use Rattle.array_region.specs.declared.stages.Stage.{Stage}

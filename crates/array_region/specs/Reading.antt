@@ -17,7 +17,7 @@ use Rattle.store_api.specs.Program.{Done}
 use Rattle.store_api.specs.Running.{Program, ◌>>=◌}
 use Rattle.repo_read.specs.Programs.{manifest_program}
 use Rattle.session.specs.declared.chunks.Value.{Value}
-use Rattle.session.specs.declared.chunks.Value.TheVariants.{Held, Fill}
+use Rattle.session.specs.declared.chunks.Value.TheVariants.{Bytes, Fill}
 use Rattle.session.specs.Sessions.{SessionState}
 use Rattle.session.specs.Chunks.{read_object, read_own, read_place}
 use Rattle.session.specs.Arrays.{array_at}
@@ -101,7 +101,7 @@ fits r index bytes numbers = length index == length r.array.chunks && length byt
 -- the numbers with those of a chunk that was read
 abbrev pub with_value : Reads → (index : List ℕ) → Value → List ℤ → List ℤ
 with_value r index Fill numbers = numbers
-with_value r index (Held bytes) numbers =
+with_value r index (Bytes bytes) numbers =
     if fits r index bytes numbers then with_part r.array.kind r.array.big r.from r.to r.array.chunks index bytes numbers else numbers
 
 unfoldable pub read_chunks : SessionState → Reads → Kept → List ℤ → (met : List (List ℕ)) → Program (List ℤ)

@@ -14,7 +14,7 @@ use Rattle.store_api.specs.declared.machines.RegionFault.TheVariants.{CellCount,
 use Rattle.store_api.specs.Program.{Done}
 use Rattle.store_api.specs.Running.{Program, ◌>>=◌}
 use Rattle.session.specs.declared.chunks.Value.{Value}
-use Rattle.session.specs.declared.chunks.Value.TheVariants.{Held, Fill}
+use Rattle.session.specs.declared.chunks.Value.TheVariants.{Bytes, Fill}
 use Rattle.session.specs.Sessions.{SessionState, writes}
 use Rattle.session.specs.Chunks.{set_program}
 use Rattle.session.specs.Arrays.{array_at}
@@ -36,7 +36,7 @@ old_chunk s r index kept = if is_covered r.from r.to r.array.chunks index then k
 -- "fill_value": the bytes of a chunk, those of the fill value where it isn't held
 abbrev pub bytes_read : ArrayView → Value → List ℕ
 bytes_read array Fill = filled array.kind array.big array.fill (product array.chunks)
-bytes_read array (Held bytes) = bytes
+bytes_read array (Bytes bytes) = bytes
 
 -- the bytes with those of the box's numbers; bytes that are no chunk of the array stay
 abbrev pub with_numbers : Reads → (index : List ℕ) → List ℤ → (bytes : List ℕ) → List ℕ

@@ -74,7 +74,7 @@ impl Plan {
     pub(crate) fn enter(&self, index: &Index, value: &Value, numbers: &mut [i128])
         ensures { numbers.new ≡ with_value (reads_of self.now) index.now value.now numbers.old }
     {
-        let Value::Held(bytes) = value else {
+        let Value::Bytes(bytes) = value else {
             return;
         };
         if !self.fits(index, bytes.as_slice(), numbers) {

@@ -11,11 +11,11 @@ ghost use Rattle.session.specs.inside.Working.{LandsCalmly};
 ghost use Rattle.array_region.specs.Reading.{Chunk, object_kept, in_file, got_kept, listed_kept, chunk_kept, read_chunks, region_program};
 ghost use Rattle.array_region.specs.Getting.{region_rest, region_left, region_session, reads_of, kept_of, chunks_of, box_after, left_behind, Finds, Looks, Begins, IsFew};
 
-use crate::held::KeptManifest;
+use crate::kept_manifest::KeptManifest;
 use crate::planning::planned;
 use crate::plans::{Plan, Region};
 use crate::stages::{Found, Stage};
-use held_manifest::Held;
+use held_manifest::HeldManifest;
 use ice_ids::Id12;
 use ice_items::Items;
 use repo_read::{manifest_told, object_told};
@@ -203,7 +203,7 @@ impl RegionGet {
         id: Id12,
         ids: Items<Id12>,
         at: usize,
-        held: Held,
+        held: HeldManifest,
     ) -> Result<Found, Refusal>
         ensures found { Looks (reads_of self.old.plan) (kept_of self.new.kept) index
             (length ids - at + 1) (in_file (chunk_length self.old.plan.array) self.old.plan.node
@@ -285,7 +285,7 @@ impl RegionGet {
         ensures listed { IfErr result MayRefuseObject }
     {
         match object_told(self.plan.want(), id, offset, length, reply) {
-            Ok(bytes) => self.on_found(Found::Told(index, Value::Held(bytes))),
+            Ok(bytes) => self.on_found(Found::Told(index, Value::Bytes(bytes))),
             Err(why) => Err(why),
         }
     }

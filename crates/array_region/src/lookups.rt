@@ -7,8 +7,7 @@ ghost use Rattle.session.specs.Sessions.{SessionState};
 ghost use Rattle.array_region.specs.Reading.{Kept, own_kept, place_kept, in_file, listed_kept, chunk_kept};
 ghost use Rattle.array_region.specs.Getting.{Looks, kept_of, reads_of};
 
-use crate::held::KeptManifest;
-use crate::kept::file_kept;
+use crate::kept_manifest::{KeptManifest, file_kept};
 use crate::plans::Plan;
 use crate::stages::{Found, Stage};
 use held_manifest::PlaceView;
@@ -30,7 +29,7 @@ impl Plan {
     {
         match place {
             Place::Inline(bytes) => match bytes.copy(alloc) {
-                Ok(bytes) => Ok(Found::Told(index, Value::Held(bytes))),
+                Ok(bytes) => Ok(Found::Told(index, Value::Bytes(bytes))),
                 Err(_) => Err(Refusal::NoMemory),
             },
             Place::Object { id, offset, length } => Ok(Found::Gets(Stage::Object {
@@ -56,7 +55,7 @@ impl Plan {
     {
         match place {
             PlaceView::Inline(bytes) => match inline_read(alloc, self.want(), bytes) {
-                Ok(read) => Ok(Found::Told(index, Value::Held(read))),
+                Ok(read) => Ok(Found::Told(index, Value::Bytes(read))),
                 Err(Unread::NoMemory) => Err(Refusal::NoMemory),
                 Err(Unread::Bad(bad)) => Err(Refusal::BadFile(Key::Manifest(manifest), bad)),
             },

@@ -9,7 +9,7 @@ ghost use Rattle.array_region.specs.Reading.{Chunk, object_kept, got_kept, liste
 ghost use Rattle.array_region.specs.Getting.{Finds, kept_of};
 ghost use Rattle.array_region.specs.Setting.{box_written, object_put, set_after, run_entered, run_going, run_met, run_left, run_old, run_reads, run_rest, chunks_left, Rests, RunLands, RunTook, SameTree, Stays, Takes, UnlessReady, MayRefuseWrite};
 
-use crate::held::KeptManifest;
+use crate::kept_manifest::KeptManifest;
 use crate::runs::{Run, WriteStage};
 use crate::stages::{Found, Stage};
 use ice_base::Bytes;
@@ -168,7 +168,7 @@ impl Run {
         ensures listed { IfErr result MayRefuseWrite }
     {
         match object_told(self.given.plan.want(), id, offset, length, reply) {
-            Ok(bytes) => self.on_found(Found::Told(index, Value::Held(bytes))),
+            Ok(bytes) => self.on_found(Found::Told(index, Value::Bytes(bytes))),
             Err(why) => Err(why),
         }
     }

@@ -1,7 +1,7 @@
 //! Where the writing of a box stands.
 
 use crate::given::Given;
-use crate::held::KeptManifest;
+use crate::kept_manifest::KeptManifest;
 use crate::stages::Stage;
 use ice_base::Bytes;
 use ice_ids::Id12;

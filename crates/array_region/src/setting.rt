@@ -180,7 +180,7 @@ impl Machine for RegionSet {
             }),
             WriteStage::Puts { id, bytes, .. } => Ok(Request::PutNew {
                 key: Key::Chunk(*id),
-                bytes: Payload::Held(bytes.as_slice()),
+                bytes: Payload::Lent(bytes.as_slice()),
                 why: Why::Set,
             }),
             WriteStage::Reads(Stage::Ended) | WriteStage::Ended => unreachable!(),

@@ -63,7 +63,7 @@ impl Plan {
         ensures { IfOk result (λ bytes. bytes.items ≡ bytes_read self.now.array value) }
     {
         match value {
-            Value::Held(bytes) => Ok(bytes.into_vec()),
+            Value::Bytes(bytes) => Ok(bytes.into_vec()),
             Value::Fill => self.unheld(alloc),
         }
     }

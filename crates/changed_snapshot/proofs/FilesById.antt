@@ -17,8 +17,8 @@ use Rattle.ice_ids.proofs.TextLaws.{same_id12-self}
 use Rattle.snapshot_file.specs.declared.snapshot.ManifestInfo.{ManifestInfo}
 use Rattle.snapshot_file.specs.Snapshots.{file_key}
 use Rattle.snapshot_file.specs.Layout.{IsInfo}
-use Rattle.changed_snapshot.specs.declared.written.NewList.{NewList}
-use Rattle.changed_snapshot.specs.declared.written.NewManifest.{NewManifest}
+use Rattle.changed_snapshot.specs.declared.new_snapshot.NewList.{NewList}
+use Rattle.changed_snapshot.specs.declared.new_snapshot.NewManifest.{NewManifest}
 use Rattle.changed_snapshot.specs.Rows.{info_of, infos_of, files_with}
 use Rattle.changed_snapshot.specs.Laws.{IsSized, AreSized}
 use Rattle.changed_snapshot.specs.inside.Named.{files_by_id}

@@ -20,7 +20,7 @@ use Rattle.snapshot_file.specs.declared.nodes.NodeRow.{NodeRow}
 use Rattle.snapshot_file.specs.Snapshots.{manifests_named}
 use Rattle.repo_objects.specs.Trees.{node_of, nodes_in, row_at}
 use Rattle.snapshot_file.specs.declared.nodes.ManifestRef.{ManifestRef}
-use Rattle.changed_snapshot.specs.declared.written.NewList.{NewList}
+use Rattle.changed_snapshot.specs.declared.new_snapshot.NewList.{NewList}
 use Rattle.changed_snapshot.specs.Rows.{refs_of, new_list, row_of, row_from, row_over, rows_over}
 
 -- nodes by their paths, in order

@@ -18,8 +18,8 @@ use Rattle.snapshot_file.specs.declared.nodes.NodeRow.{NodeRow}
 use Rattle.snapshot_file.specs.declared.snapshot.ManifestInfo.{ManifestInfo}
 use Rattle.snapshot_file.specs.Snapshots.{manifests_named, is_listed, all_listed, first_unlisted}
 use Rattle.repo_objects.specs.Trees.{row_at}
-use Rattle.changed_snapshot.specs.declared.written.NewList.{NewList}
-use Rattle.changed_snapshot.specs.declared.written.NewManifest.{NewManifest}
+use Rattle.changed_snapshot.specs.declared.new_snapshot.NewList.{NewList}
+use Rattle.changed_snapshot.specs.declared.new_snapshot.NewManifest.{NewManifest}
 use Rattle.changed_snapshot.specs.Rows.{refs_of, infos_of, files_with, kind_of, row_of, row_from, names_in, files_over, rows_over}
 use Rattle.changed_snapshot.proofs.Found.{row_has, by_list, all_over}
 use Rattle.changed_snapshot.proofs.FilesById.{lists_id, or_left, or_right, with_listed, found_info}

@@ -7,7 +7,7 @@ use Rattle.zarr_tree.specs.Held.{Held, nodes_over}
 use Rattle.zarr_tree.proofs.Maps.{same, get-made}
 use Rattle.snapshot_file.specs.declared.nodes.NodeRow.{NodeRow}
 use Rattle.repo_objects.specs.Trees.{node_of, nodes_in}
-use Rattle.changed_snapshot.specs.declared.written.NewList.{NewList}
+use Rattle.changed_snapshot.specs.declared.new_snapshot.NewList.{NewList}
 use Rattle.changed_snapshot.specs.Rows.{rows_over}
 use Rattle.changed_snapshot.specs.Laws.{NodesLaw}
 use Rattle.changed_snapshot.proofs.Found.{Entries, made, made-path, made-node}

@@ -15,7 +15,7 @@ use Rattle.zarr_tree.proofs.Maps.{Path}
 use Rattle.snapshot_file.specs.declared.nodes.NodeRow.{NodeRow}
 use Rattle.snapshot_file.specs.Snapshots.{node_key}
 use Rattle.repo_objects.specs.Trees.{nodes_in}
-use Rattle.changed_snapshot.specs.declared.written.NewList.{NewList}
+use Rattle.changed_snapshot.specs.declared.new_snapshot.NewList.{NewList}
 use Rattle.changed_snapshot.specs.Rows.{rows_over}
 use Rattle.changed_snapshot.proofs.Found.{Entries, made, made-path, head_below, tail_sorted}
 

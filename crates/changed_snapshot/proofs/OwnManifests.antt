@@ -14,8 +14,8 @@ use Rattle.snapshot_file.specs.declared.nodes.ManifestRef.{ManifestRef}
 use Rattle.snapshot_file.specs.declared.nodes.NodeRow.{NodeRow}
 use Rattle.snapshot_file.specs.Snapshots.{manifests_named}
 use Rattle.repo_objects.specs.Trees.{NamesManifest, row_at}
-use Rattle.changed_snapshot.specs.declared.written.NewList.{NewList}
-use Rattle.changed_snapshot.specs.declared.written.NewManifest.{NewManifest}
+use Rattle.changed_snapshot.specs.declared.new_snapshot.NewList.{NewList}
+use Rattle.changed_snapshot.specs.declared.new_snapshot.NewManifest.{NewManifest}
 use Rattle.changed_snapshot.specs.Rows.{refs_of, kind_of, row_of, row_from, rows_over}
 use Rattle.changed_snapshot.specs.Laws.{IsNew, OwnLaw}
 use Rattle.changed_snapshot.proofs.Found.{by_list, all_over}

@@ -28,14 +28,14 @@ use Rattle.snapshot_file.specs.declared.snapshot.ManifestInfo.{ManifestInfo}
 use Rattle.snapshot_file.specs.declared.snapshot.SnapshotFile.{SnapshotFile}
 use Rattle.snapshot_file.specs.Snapshots.{file_key}
 use Rattle.snapshot_file.specs.Layout.{IsManifest, IsKind, IsNode, IsInfo, IsWritable}
-use Rattle.repo_objects.specs.declared.bad.Bad.{Bad}
-use Rattle.repo_objects.specs.declared.bad.Bad.TheVariants as bad
+use Rattle.repo_objects.specs.declared.bad_objects.Bad.{Bad}
+use Rattle.repo_objects.specs.declared.bad_objects.Bad.TheVariants as bad
 use Rattle.repo_objects.specs.Readings.{kind_fault, row_fault, first_bad}
 use Rattle.snapshot_file.specs.Snapshots.{manifests_named}
 use Rattle.repo_objects.specs.Trees.{node_of, nodes_in, row_at}
-use Rattle.changed_snapshot.specs.declared.written.NewList.{NewList}
-use Rattle.changed_snapshot.specs.declared.written.NewManifest.{NewManifest}
-use Rattle.changed_snapshot.specs.declared.written.Stamp.{Stamp}
+use Rattle.changed_snapshot.specs.declared.new_snapshot.NewList.{NewList}
+use Rattle.changed_snapshot.specs.declared.new_snapshot.NewManifest.{NewManifest}
+use Rattle.changed_snapshot.specs.declared.new_snapshot.Stamp.{Stamp}
 use Rattle.changed_snapshot.specs.Rows.{refs_of, infos_of, files_with, kind_of, row_of, row_from, names_in, rows_over, snapshot_over}
 use Rattle.changed_snapshot.specs.Laws.{IsFineNode, AddsFine, SetsFine, IsSized, AreSized, FineLaw, ProperLaw}
 use Rattle.changed_snapshot.proofs.ArrayRows.{metadata_bytes, kind_is}

@@ -24,7 +24,7 @@ use Rattle.snapshot_file.specs.declared.nodes.ManifestRef.{ManifestRef}
 use Rattle.snapshot_file.specs.declared.nodes.NodeRow.{NodeRow}
 use Rattle.snapshot_file.specs.Snapshots.{manifests_named}
 use Rattle.repo_objects.specs.Trees.{Puts, bytes_at, node_of, nodes_in, row_at, listed, place_in, chunk_under, tree_under}
-use Rattle.changed_snapshot.specs.declared.written.NewList.{NewList}
+use Rattle.changed_snapshot.specs.declared.new_snapshot.NewList.{NewList}
 use Rattle.changed_snapshot.specs.Rows.{new_list, manifests_for, kind_of, row_of, row_from, row_over, rows_over}
 use Rattle.changed_snapshot.specs.Laws.{HasMerged, TreeLaw}
 use Rattle.repo_objects.proofs.Rows.{node_at_row}

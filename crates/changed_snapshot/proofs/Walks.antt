@@ -6,11 +6,10 @@ use Rattle.std.proofs.lemmas.Option.{slice_get-map, slice_get_read, slice_get_wi
 use Rattle.std.proofs.lemmas.List.{length-map, drop_more}
 use Rattle.zarr_path.specs.Paths.{is_path}
 use Rattle.zarr_tree.specs.declared.nodes.Found.{Found}
-use Rattle.zarr_tree.specs.Rows.{node_found}
-use Rattle.zarr_changes.specs.Rows.{row_found, ArePaths}
+use Rattle.zarr_tree.specs.Rows.{node_found, row_found, ArePaths}
 use Rattle.snapshot_file.specs.declared.nodes.NodeRow.{NodeRow}
 use Rattle.repo_objects.specs.Trees.{row_at}
-use Rattle.changed_snapshot.specs.declared.written.NewList.{NewList}
+use Rattle.changed_snapshot.specs.declared.new_snapshot.NewList.{NewList}
 use Rattle.changed_snapshot.specs.Rows.{new_list, row_over, rows_of}
 use Rattle.changed_snapshot.proofs.Found.{made, first_of, second_of}
 

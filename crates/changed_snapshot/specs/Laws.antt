@@ -23,9 +23,9 @@ use Rattle.snapshot_file.specs.Props.{AreProps}
 use Rattle.snapshot_file.specs.Layout.{IsExtent}
 use Rattle.repo_objects.specs.Trees.{Puts, NamesManifest, bytes_at, nodes_in, listed, tree_under}
 use Rattle.repo_objects.specs.Laws.{IsProper}
-use Rattle.changed_snapshot.specs.declared.written.NewManifest.{NewManifest}
-use Rattle.changed_snapshot.specs.declared.written.NewList.{NewList}
-use Rattle.changed_snapshot.specs.declared.written.Stamp.{Stamp}
+use Rattle.changed_snapshot.specs.declared.new_snapshot.NewManifest.{NewManifest}
+use Rattle.changed_snapshot.specs.declared.new_snapshot.NewList.{NewList}
+use Rattle.changed_snapshot.specs.declared.new_snapshot.Stamp.{Stamp}
 use Rattle.changed_snapshot.specs.Rows.{new_list, own_manifests, rows_over, snapshot_over}
 
 -- ---- the tree

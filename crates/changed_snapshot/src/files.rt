@@ -6,8 +6,8 @@ ghost use Rattle.ice_ids.specs.declared.Id12.{Id12 as TheId};
 ghost use Rattle.changed_snapshot.specs.Rows.{infos_of, files_with, names_in, files_over};
 ghost use Rattle.changed_snapshot.specs.inside.Named.{has_id, have_id, files_by_id};
 
+use crate::new_snapshot::NewList;
 use crate::rows::RowsOver;
-use crate::written::NewList;
 use held_snapshot::HeldFiles;
 use ice_ids::Id12;
 use ice_items::Items;

@@ -4,8 +4,8 @@
 mod files;
 mod laws;
 mod names;
+mod new_snapshot;
 mod rows;
-mod written;
 
 pub use laws::{fine_law, frozen_law, nodes_law, own_law, proper_law, ranked_law, tree_law};
-pub use written::{NewList, NewLists, NewManifest, Stamp, write_over};
+pub use new_snapshot::{NewList, NewLists, NewManifest, Stamp, write_over};

@@ -10,7 +10,7 @@ ghost use Rattle.repo_objects.specs.Trees.{row_at};
 ghost use Rattle.changed_snapshot.specs.Rows.{refs_of, new_list, list_key, kind_of, row_of, row_from, row_over, rows_over};
 
 use crate::names::copy_names;
-use crate::written::{NewList, NewManifest};
+use crate::new_snapshot::{NewList, NewManifest};
 use held_snapshot::{HeldNode, HeldNodes};
 use ice_items::Items;
 use repo_objects::Loaded;
@@ -193,7 +193,7 @@ impl<'a> Model for RowsOver<'a> {
     ghost use Rattle.std.specs.Prelude.{List, map, length, ◌≡◌, None};
     ghost use Rattle.flat_tables.specs.Rows.{Ascends};
     ghost use Rattle.snapshot_file.specs.declared.nodes.NodeRow.{NodeRow as TheRow};
-    ghost use Rattle.zarr_changes.specs.Rows.{row_found, ArePaths};
+    ghost use Rattle.zarr_tree.specs.Rows.{row_found, ArePaths};
     ghost use Rattle.changed_snapshot.specs.Rows.{list_key, rows_of};
 
     ghost Value = { List TheRow };

@@ -4,7 +4,7 @@ use Rattle.std.specs.Prelude.{Option, Some, Ok, Contains}
 use Rattle.ice_ids.specs.declared.Id12.{Id12}
 use Rattle.snapshot_file.specs.declared.snapshot.SnapshotFile.{SnapshotFile}
 use Rattle.object_store.specs.declared.keys.Key.{Key}
-use Rattle.object_store.specs.declared.keys.Key.TheVariants.{Snapshot, Manifest, Txn, Chunk, Branch, Tag, TagGone, Lease}
+use Rattle.object_store.specs.declared.keys.Key.TheVariants.{Snapshot, Manifest, Txn, Chunk, Branch, Tag, Tombstone, Lease}
 use Rattle.object_store.specs.declared.keys.Part.{Part as Part_of_store}
 use Rattle.object_store.specs.declared.keys.Part.TheVariants.{Branches, Tags, Snapshots, Manifests, Txns, Chunks, Leases}
 use Rattle.object_store.specs.declared.events.Op.{Op}
@@ -162,7 +162,7 @@ module _ (client : ℕ) (start first last : List Event) (made : List Made) (c : 
   ref-key : (part : Part_of_store) (at : Key → Option Stored) (key : Key) → IsRefPart part → IsRefIn at part key → IsRef key
   ref-key part at (Branch name) p r = tt
   ref-key part at (Tag name) p r = tt
-  ref-key part at (TagGone name) p r = absurd r.not_gone
+  ref-key part at (Tombstone name) p r = absurd r.not_gone
   ref-key part at (Snapshot id) (inl e) r = let other : Snapshots ≡ Branches = r.part_is ∙ e in absurd cc
   ref-key part at (Snapshot id) (inr e) r = let other : Snapshots ≡ Tags = r.part_is ∙ e in absurd cc
   ref-key part at (Manifest id) (inl e) r = let other : Manifests ≡ Branches = r.part_is ∙ e in absurd cc

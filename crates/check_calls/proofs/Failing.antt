@@ -1,8 +1,7 @@
 -- A check tells faults only where none of its operations failed.
-use Rattle.std.proofs.Common.{◌≡◌, inl, inr, ℕ, zero, suc, Bool, true, false, cond, List, [], ◌∷◌, ◌++◌, length, drop, refl, sym, ◌∙◌, ap, subst, append_assoc, append-nil}
-use Rattle.std.specs.Prelude.{◌==◌, Option, Some, None, Result, Ok, Err, Contains}
-use Rattle.std.proofs.Math.Seq.{drop-append_seam}
-use Rattle.std.proofs.lemmas.List.Elements.{filter-append, Contains-push_cases}
+use Rattle.std.proofs.Common.{◌≡◌, inl, inr, ℕ, zero, suc, Bool, true, false, cond, List, [], ◌∷◌, ◌++◌, refl, sym, ◌∙◌, ap, subst}
+use Rattle.std.specs.Prelude.{Option, Some, None, Result, Ok, Err, Contains}
+use Rattle.std.proofs.lemmas.List.Elements.{Contains-push_cases}
 use Rattle.ice_ids.specs.declared.Id12.{Id12}
 use Rattle.ice_ids.specs.Text.{same_id12, initial_id}
 use Rattle.ice_ids.specs.Sets.{has_object}
@@ -12,18 +11,14 @@ use Rattle.object_store.specs.declared.keys.Key.{Key}
 use Rattle.object_store.specs.declared.keys.Key.TheVariants.{Snapshot, Manifest, Txn, Chunk}
 use Rattle.object_store.specs.declared.keys.Part.{Part as Part_of_store}
 use Rattle.object_store.specs.declared.keys.Part.TheVariants.{Branches, Tags}
-use Rattle.object_store.specs.declared.events.Op.{Op}
 use Rattle.object_store.specs.declared.events.Op.TheVariants.{Get, List as ListPart}
 use Rattle.object_store.specs.declared.events.Got.{Got}
 use Rattle.object_store.specs.declared.events.Reply.{Reply}
 use Rattle.object_store.specs.declared.events.Reply.TheVariants.{Got as Is_got, New as Is_new, Over as Is_over, Gone as Is_gone, GoneAt as Is_gone_at, Listed as Is_listed, Failed}
 use Rattle.object_store.specs.declared.events.Event.{Event}
 use Rattle.store_api.specs.declared.machines.Refusal.TheVariants.{Unsound, TooDeep, StoreFault}
-use Rattle.store_api.specs.Callers.{Caller, IsOther, Waits, Makes, own_event, has_failed}
-use Rattle.store_api.specs.Journal.{Each}
-use Rattle.store_api.specs.Program.{events_of}
+use Rattle.store_api.specs.Callers.{Caller, Waits, has_failed}
 use Rattle.store_api.specs.Plays.{Ended, Ask, Or, PlayLeads}
-use Rattle.store_api.proofs.Programs.{events_of-others, own-one}
 use Rattle.check_reports.specs.declared.faults.FaultKind.{FaultKind}
 use Rattle.check_reports.specs.declared.faults.FaultKind.TheVariants.{Ring}
 use Rattle.repo_read.specs.Chains.{most_snapshots}
@@ -37,8 +32,9 @@ use Rattle.repo_check.specs.declared.standing.CheckReport.{CheckReport}
 use Rattle.repo_check.specs.Works.{Work, no_work, new_walk, has_file, has_part, meet_snapshot, meet_file, tell, verdict}
 use Rattle.repo_check.specs.Plays.{Answer, ends_with, starved, asks, on_got, on_listed, roots_with, told_ref, told_part, told_log, get_refs, get_parts, get_files, get_log, after_file, after_snapshot, meets, onward, walk, walks, list_refs, then_tags, check_play}
 use Rattle.repo_check.specs.Findings.{Deed}
-use Rattle.repo_check.specs.Exact.{CheckTells, deeds_in, deeds_behind}
-use Rattle.repo_check.proofs.Made.{none-in}
+use Rattle.repo_check.specs.Exact.{CheckTells, deeds_behind}
+use Rattle.repo_check.proofs.Journals.{IsAt, at-begin, at-step, deeds-at, deeds-stay}
+use Rattle.ice_ids.proofs.Elements.{none-in}
 use Rattle.check_calls.specs.Told.{TellsNoFailure}
 use Rattle.check_calls.specs.Laws.{FailureLaw}
 
@@ -188,63 +184,22 @@ goes-play : Goes [] check_play
 goes-play = goes-listing Branches then_tags (λ roots. goes-listing Tags walks goes-walks roots) [] [] no_work (λ deed k. absurd (none-in deed k))
 
 -- ---- in a journal
-deeds-append : (own : List Event) (event : Event) → deeds_in (own ++ event ∷ []) ≡ deeds_in own ++ record { op = event.op; reply = event.reply } ∷ []
-deeds-append [] event = refl
-deeds-append (x ∷ own) event = ap (λ (l : List Deed). record { op = x.op; reply = x.reply } ∷ l) (deeds-append own event)
-
 module _ (by : Caller) (start : List Event) where
-  -- these are the client's operations behind `start`
-  record IsAt (d : List Deed) (journal : List Event) : Type 0 where
-    more : List Event
-    since : journal ≡ start ++ more
-    deeds : deeds_in (events_of by.number more) ≡ d
-
-  behind-start : (journal more : List Event) → journal ≡ start ++ more → drop (length start) journal ≡ more
-  behind-start journal more e = ap (drop (length start)) e ∙ drop-append_seam start more
-
-  own-waits : (old between : List Event) → Each (IsOther by) old between → (more : List Event) → events_of by.number (more ++ between) ≡ events_of by.number more
-  own-waits old between o more =
-      filter-append (λ (e : Event). e.client == by.number) more between
-      ∙ (ap (λ (l : List Event). events_of by.number more ++ l) (events_of-others by old between o) ∙ append-nil (events_of by.number more))
-
-  at-step : (d : List Deed) (op : Op) (reply : Reply) (journal new : List Event) → IsAt d journal → Makes by op reply journal new → IsAt (d ++ record { op = op; reply = reply } ∷ []) new
-  at-step d op reply journal new a m =
-      let event : Event = own_event by op reply m.time in
-      let between = m.waits.between in
-      let own : events_of by.number ((a.more ++ between) ++ event ∷ []) ≡ events_of by.number a.more ++ event ∷ [] =
-      filter-append (λ (e : Event). e.client == by.number) (a.more ++ between) (event ∷ [])
-      ∙ (ap (λ (l : List Event). l ++ events_of by.number (event ∷ [])) (own-waits journal between m.waits.others a.more)
-      ∙ ap (λ (l : List Event). events_of by.number a.more ++ l) (own-one by.number event refl)) in
-      record {
-        more = (a.more ++ between) ++ event ∷ [];
-        since = m.is ∙ (ap (λ (h : List Event). h ++ event ∷ []) (m.waits.is ∙ (ap (λ (h : List Event). h ++ between) a.since ∙ append_assoc start a.more between)) ∙ append_assoc start (a.more ++ between) (event ∷ []));
-        deeds = ap deeds_in own ∙ (deeds-append (events_of by.number a.more) event ∙ ap (λ (l : List Deed). l ++ record { op = op; reply = reply } ∷ []) a.deeds);
-      }
-
-  deeds-at : (d : List Deed) (journal : List Event) → IsAt d journal → d ≡ deeds_behind by.number start journal
-  deeds-at d journal a = sym a.deeds ∙ ap (λ (l : List Event). deeds_in (events_of by.number l)) (sym (behind-start journal a.more a.since))
-
-  leads : (d : List Deed) (p : Answer) (journal : List Event) → Goes d p → IsAt d journal → PlayLeads (TellsNoFailure by.number start) by p journal
+  leads : (d : List Deed) (p : Answer) (journal : List Event) → Goes d p → IsAt by start d journal → PlayLeads (TellsNoFailure by.number start) by p journal
   unfolding PlayLeads Goes
-  leads d (Ended report) journal g a = λ n e. subst NoFailures (deeds-at d journal a) (g n e)
+  leads d (Ended report) journal g a = λ n e. subst NoFailures (deeds-at by start d journal a) (g n e)
   leads d (Ask op without next) journal g a = (
     leads d without journal g.0 a,
-    λ reply new m. leads (d ++ record { op = op; reply = reply } ∷ []) (next reply) new (g.1 reply) (at-step d op reply journal new a m),
+    λ reply new m. leads (d ++ record { op = op; reply = reply } ∷ []) (next reply) new (g.1 reply) (at-step by start d op reply journal new a m),
   )
   leads d (Or p q) journal g a = (leads d p journal g.0 a, leads d q journal g.1 a)
 
   -- ---- later
-  deeds-stay : (journal between more : List Event) → journal ≡ start ++ more → Each (IsOther by) journal between → deeds_behind by.number start (journal ++ between) ≡ deeds_behind by.number start journal
-  deeds-stay journal between more e o =
-      ap (λ (l : List Event). deeds_in (events_of by.number l)) (behind-start (journal ++ between) (more ++ between) (ap (λ (h : List Event). h ++ between) e ∙ append_assoc start more between))
-      ∙ (ap deeds_in (own-waits journal between o more)
-      ∙ ap (λ (l : List Event). deeds_in (events_of by.number l)) (sym (behind-start journal more e)))
-
   kept : (report : CheckReport) (old new : List Event) → Waits by old new → CheckTells by.number start report old → TellsNoFailure by.number start report old → TellsNoFailure by.number start report new
-  kept report old new w c t = λ n e. subst NoFailures (sym (ap (deeds_behind by.number start) w.is ∙ deeds-stay old w.between c.more c.since w.others)) (t n e)
+  kept report old new w c t = λ n e. subst NoFailures (sym (ap (deeds_behind by.number start) w.is ∙ deeds-stay by start old w.between c.more c.since w.others)) (t n e)
 
 pub failure-law : FailureLaw
 failure-law = record {
-  leads = λ by start. leads by start [] check_play start goes-play (record { more = []; since = sym (append-nil start); deeds = refl });
+  leads = λ by start. leads by start [] check_play start goes-play (at-begin by start);
   kept = λ by start. kept by start;
 }

@@ -20,7 +20,7 @@ use Rattle.intact.specs.Rows.{files_of}
 use Rattle.intact.specs.Parts.{parts_of}
 use Rattle.intact.specs.Told.{found_ref, found_snapshot, found_log, found_manifest, found_part}
 use Rattle.intact.specs.Visits.{Visit, Refs, Ref, Snap, Log, File, Part, leads, leading, nowhere, or_nowhere, behind_ref, its_log, its_files, its_parent, behind_snapshot, behind_manifest}
-use Rattle.repo_check.proofs.Made.{first-is, later-is, first-or-later, none-in}
+use Rattle.ice_ids.proofs.Elements.{first-is, later-is, first-or-later, none-in}
 use Rattle.check_calls.proofs.Lists.{from-map, has-map}
 
 -- ---- from listings to refs

@@ -7,7 +7,7 @@ use Rattle.ice_ids.specs.declared.Id12.{Id12}
 use Rattle.ice_ids.specs.Text.{same_id12}
 use Rattle.ice_ids.proofs.TextLaws.{same_id12-true, same_id12-self}
 use Rattle.repo_check.specs.Exact.{AreDistinct}
-use Rattle.repo_check.proofs.Made.{first-is, later-is, first-or-later, none-in}
+use Rattle.ice_ids.proofs.Elements.{first-is, later-is, first-or-later, none-in}
 
 module _ {B : Type 0} where
   cons-here : (o : Option B) (b : B) (xs : List B) → o ≡ Some b → Contains (cons_option o xs) b

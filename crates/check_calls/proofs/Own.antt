@@ -12,7 +12,7 @@ use Rattle.intact.specs.Visits.{Visit, Refs, Ref, Snap, Log, File, Part, op_for}
 use Rattle.intact.specs.Intact.{Made}
 use Rattle.repo_check.specs.Findings.{Deed, deed_of, deeds_of}
 use Rattle.repo_check.specs.Exact.{IsRead, deeds_in}
-use Rattle.repo_check.proofs.Made.{first-is, later-is, first-or-later, none-in}
+use Rattle.ice_ids.proofs.Elements.{first-is, later-is, first-or-later, none-in}
 use Rattle.check_calls.specs.Beside.{IsOf}
 use Rattle.check_calls.proofs.Steady.{Reads}
 

@@ -26,15 +26,15 @@ use Rattle.snapshot_file.specs.declared.snapshot.SnapshotFile.{SnapshotFile}
 use Rattle.snapshot_file.specs.Snapshots.{node_key}
 use Rattle.snapshot_file.specs.Layout.{IsNode}
 use Rattle.held_snapshot.specs.LookUp.{is_array, row_at}
-use Rattle.repo_objects.specs.declared.bad.Bad.{Bad}
-use Rattle.repo_objects.specs.declared.bad.Bad.TheVariants as bad
+use Rattle.repo_objects.specs.declared.bad_objects.Bad.{Bad}
+use Rattle.repo_objects.specs.declared.bad_objects.Bad.TheVariants as bad
 use Rattle.repo_objects.specs.Readings.{kind_fault, row_fault, first_bad}
 use Rattle.repo_objects.specs.Trees.{Puts, node_of, tree_under}
 use Rattle.repo_objects.specs.Laws.{IsProper}
 use Rattle.repo_objects.proofs.Rows.{node_at_row}
 use Rattle.store_api.proofs.SameTree.{find-contains}
 use Rattle.intact.specs.Rows.{has_node, is_group_row, stands, is_well, unwell_behind, first_unwell}
-use Rattle.repo_check.proofs.Made.{first-is, later-is, first-or-later, none-in}
+use Rattle.ice_ids.proofs.Elements.{first-is, later-is, first-or-later, none-in}
 
 -- ---- tests
 pub both-true : (a b : Bool) → (a && b) ≡ true → (a ≡ true) × (b ≡ true)

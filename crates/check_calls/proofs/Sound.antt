@@ -15,13 +15,13 @@ use Rattle.manifest_file.specs.declared.manifest.Place.{Place}
 use Rattle.manifest_file.specs.declared.manifest.Place.TheVariants.{Inline, Object}
 use Rattle.manifest_file.specs.declared.manifest.ChunkRef.{ChunkRef}
 use Rattle.manifest_file.specs.declared.manifest.ManifestFile.{ManifestFile}
-use Rattle.repo_objects.specs.declared.bad.Bad.{Bad}
+use Rattle.repo_objects.specs.declared.bad_objects.Bad.{Bad}
 use Rattle.repo_objects.specs.Laws.{SnapshotLaw}
 use Rattle.repo_objects.specs.Readings.{read_chunk, given, snapshot_by, manifest_by}
-use Rattle.repo_objects.specs.declared.bad.Bad.TheVariants as bad
+use Rattle.repo_objects.specs.declared.bad_objects.Bad.TheVariants as bad
 use Rattle.repo_objects.specs.Trees.{NamesManifest, manifest_put}
 use Rattle.object_store.specs.declared.keys.Key.{Key}
-use Rattle.object_store.specs.declared.keys.Key.TheVariants.{Snapshot, Manifest, Txn, Chunk, Branch, Tag, TagGone, Lease}
+use Rattle.object_store.specs.declared.keys.Key.TheVariants.{Snapshot, Manifest, Txn, Chunk, Branch, Tag, Tombstone, Lease}
 use Rattle.object_store.specs.declared.events.Version.{Version}
 use Rattle.object_store.specs.declared.events.Op.TheVariants.{Get}
 use Rattle.object_store.specs.declared.events.Got.{Got}
@@ -45,7 +45,8 @@ use Rattle.intact.specs.Visits.{Visit, Ref, Snap, Log, File, Part, op_for, or_no
 use Rattle.intact.specs.Intact.{Made, IsTold, IsMade, Named, HasParent, IsAbove, IsIntact}
 use Rattle.intact.specs.Intact as intact
 use Rattle.repo_check.specs.Exact.{AreDistinct, IsObjectNamed}
-use Rattle.repo_check.proofs.Made.{first-is, first-or-later, none-in, above-then}
+use Rattle.repo_check.proofs.Made.{above-then}
+use Rattle.ice_ids.proofs.Elements.{first-is, first-or-later, none-in}
 use Rattle.check_calls.specs.Whole.{HasBytes, IsWholeChunk, HasEntry, HasLog, IsWholeSnapshot, Ends, last, further, IsWhole}
 use Rattle.check_calls.specs.Told.{IsIn, IsOfNoRow, IsExcepted, AreWholeAsRead}
 use Rattle.check_calls.proofs.Lists.{has-map, has-flat, has-filter, few, among}
@@ -323,7 +324,7 @@ module _ (snaps : SnapshotLaw) (client : ℕ) (start first end : List Event) (ma
       held-stands at n (Snapshot id) h = absurd h
       held-stands at n (Branch name) h = absurd h
       held-stands at n (Tag name) h = absurd h
-      held-stands at n (TagGone name) h = absurd h
+      held-stands at n (Tombstone name) h = absurd h
       held-stands at n (Lease id) h = absurd h
 
       reached-stands : (id : Id12) → Named made (Snap id) → (key : Key) → Reaches end id key → Stands end key ⊎ IsExcepted client start end key

@@ -2,7 +2,7 @@
 use Rattle.std.proofs.Common.{◌≡◌, ℕ, true, List, [], ◌∷◌, ◌++◌, length, refl, sym, ◌∙◌, ap, subst, append_assoc, append-nil}
 use Rattle.std.specs.Prelude.{Some, None}
 use Rattle.object_store.specs.declared.keys.Key.{Key}
-use Rattle.object_store.specs.declared.keys.Key.TheVariants.{Snapshot, Manifest, Txn, Chunk, Branch, Tag, TagGone, Lease}
+use Rattle.object_store.specs.declared.keys.Key.TheVariants.{Snapshot, Manifest, Txn, Chunk, Branch, Tag, Tombstone, Lease}
 use Rattle.object_store.specs.declared.keys.Why.{Why}
 use Rattle.object_store.specs.declared.events.Version.{Version}
 use Rattle.object_store.specs.declared.events.Op.{Op}
@@ -25,7 +25,7 @@ module _ (before : List Event) (event : Event) where
   no-over good calm (Chunk id) object bytes old why op done s there v = subst (IsPolite before) op good.polite
   no-over good calm (Branch name) object bytes old why op done s there v = absurd object
   no-over good calm (Tag name) object bytes old why op done s there v = absurd object
-  no-over good calm (TagGone name) object bytes old why op done s there v = absurd object
+  no-over good calm (Tombstone name) object bytes old why op done s there v = absurd object
   no-over good calm (Lease id) object bytes old why op done s there v = absurd object
 
   module _ (good : IsGood before event) (calm : TakesNothing before event) (key : Key) (object : IsObject key) (s : Stored) (there : found before key ≡ Some s) where

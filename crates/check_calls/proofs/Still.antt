@@ -16,13 +16,13 @@ use Rattle.manifest_file.specs.declared.manifest.Place.TheVariants.{Inline, Obje
 use Rattle.manifest_file.specs.declared.manifest.ChunkRef.{ChunkRef}
 use Rattle.manifest_file.specs.declared.manifest.ManifestFile.{ManifestFile}
 use Rattle.txn_file.specs.declared.log.TxnFile.{TxnFile}
-use Rattle.repo_objects.specs.declared.bad.Bad.{Bad}
-use Rattle.repo_objects.specs.declared.bad.Bad.TheVariants as bad
+use Rattle.repo_objects.specs.declared.bad_objects.Bad.{Bad}
+use Rattle.repo_objects.specs.declared.bad_objects.Bad.TheVariants as bad
 use Rattle.repo_objects.specs.Laws.{SnapshotLaw}
 use Rattle.repo_objects.specs.Readings.{read_snapshot, read_manifest, read_log, read_ref, read_chunk, given, snapshot_by, manifest_by}
 use Rattle.repo_objects.specs.Trees.{manifest_put}
 use Rattle.object_store.specs.declared.keys.Key.{Key}
-use Rattle.object_store.specs.declared.keys.Key.TheVariants.{Snapshot, Manifest, Txn, Chunk, Branch, Tag, TagGone, Lease}
+use Rattle.object_store.specs.declared.keys.Key.TheVariants.{Snapshot, Manifest, Txn, Chunk, Branch, Tag, Tombstone, Lease}
 use Rattle.object_store.specs.declared.keys.Part.{Part as Part_of_store}
 use Rattle.object_store.specs.declared.keys.Part.TheVariants.{Branches, Tags}
 use Rattle.object_store.specs.declared.events.Op.TheVariants.{Get}
@@ -46,7 +46,7 @@ use Rattle.intact.specs.Told.{found_ref, found_snapshot, found_manifest, found_p
 use Rattle.intact.specs.Visits.{Visit, Refs, Ref, Snap, Log, File, Part, op_for, told, leads, leading, nowhere, behind_ref, behind_snapshot, behind_manifest}
 use Rattle.intact.specs.Intact.{Made, IsTold, IsMade, IsFine, IsFineBy, Named, HasParent, IsAbove, IsIntact}
 use Rattle.intact.specs.Intact as intact
-use Rattle.repo_check.proofs.Made.{first-is, later-is}
+use Rattle.ice_ids.proofs.Elements.{first-is, later-is}
 use Rattle.check_calls.specs.Whole.{IsWholeChunk, HasEntry, IsWholeSnapshot, IsWhole, NamesWhole, AllWhole}
 use Rattle.check_calls.proofs.Lists.{from-map, from-flat, from-filter, has-map}
 use Rattle.check_calls.proofs.Steady.{last-stands}
@@ -85,8 +85,8 @@ whole-part want offset size bytes e l =
     both a b e f = rw (e, f) refl
 
 gone-same : (at other : Key → Option Stored) → ((key : Key) → at key ≡ other key) → (key : Key) → IsNotGone at key → IsNotGone other key
-gone-same at other same (Tag name) h = sym (same (TagGone name)) ∙ h
-gone-same at other same (TagGone name) h = h
+gone-same at other same (Tag name) h = sym (same (Tombstone name)) ∙ h
+gone-same at other same (Tombstone name) h = h
 gone-same at other same (Branch name) h = tt
 gone-same at other same (Snapshot id) h = tt
 gone-same at other same (Manifest id) h = tt
@@ -359,7 +359,7 @@ module _ (snaps : SnapshotLaw) (client : ℕ) (start first end : List Event) (ma
     part-for : (ref : Key) → IsRef ref → (part : Part_of_store) × (part_of ref ≡ part) × Named made (Refs part)
     part-for (Branch name) r = (Branches, refl, intact.branches)
     part-for (Tag name) r = (Tags, refl, intact.tags)
-    part-for (TagGone name) r = absurd r
+    part-for (Tombstone name) r = absurd r
     part-for (Snapshot id) r = absurd r
     part-for (Manifest id) r = absurd r
     part-for (Txn id) r = absurd r

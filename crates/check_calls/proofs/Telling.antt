@@ -17,7 +17,7 @@ use Rattle.intact.specs.Intact.{Made, IsTold}
 use Rattle.repo_check.specs.declared.standing.CheckReport.{CheckReport}
 use Rattle.repo_check.specs.Findings.{Finding, Deed, made_of, deed_of, deeds_of}
 use Rattle.repo_check.specs.Exact.{EndsSo, CheckTells}
-use Rattle.repo_check.proofs.Made.{first-is, later-is, first-or-later, none-in}
+use Rattle.ice_ids.proofs.Elements.{first-is, later-is, first-or-later, none-in}
 use Rattle.check_calls.specs.Beside.{TakesNothing, IsOf, IsStill}
 use Rattle.check_calls.specs.Whole.{AllWhole}
 use Rattle.check_calls.specs.Told.{NoneFailed}

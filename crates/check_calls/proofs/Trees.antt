@@ -32,7 +32,7 @@ use Rattle.store_api.specs.Journal.{puts_of}
 use Rattle.store_api.proofs.SameTree.{find-contains}
 use Rattle.intact.specs.Rows.{want_in, want_of, first_unwell}
 use Rattle.intact.specs.Parts.{entries_of}
-use Rattle.repo_check.proofs.Made.{first-is, later-is}
+use Rattle.ice_ids.proofs.Elements.{first-is, later-is}
 use Rattle.check_calls.specs.Whole.{IsWholeChunk, HasEntry}
 use Rattle.check_calls.proofs.Steady.{last-stands}
 use Rattle.check_calls.proofs.Rows.{both-true, row-there, node-of_row, nodes-named, nodes-readable, nodes-distinct, nodes-parents}

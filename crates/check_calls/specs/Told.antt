@@ -8,7 +8,7 @@ use Rattle.manifest_file.specs.declared.manifest.ChunkRef.{ChunkRef}
 use Rattle.snapshot_file.specs.declared.nodes.NodeRow.{NodeRow}
 use Rattle.snapshot_file.specs.declared.snapshot.SnapshotFile.{SnapshotFile}
 use Rattle.object_store.specs.declared.keys.Key.{Key}
-use Rattle.object_store.specs.declared.keys.Key.TheVariants.{Snapshot, Manifest, Txn, Chunk, Branch, Tag, TagGone, Lease}
+use Rattle.object_store.specs.declared.keys.Key.TheVariants.{Snapshot, Manifest, Txn, Chunk, Branch, Tag, Tombstone, Lease}
 use Rattle.object_store.specs.declared.events.Version.{Version}
 use Rattle.object_store.specs.declared.events.Op.TheVariants.{Get}
 use Rattle.object_store.specs.declared.events.Reply.{Reply}
@@ -51,7 +51,7 @@ IsExcepted client start journal (Chunk id) = IsOfNoRow client id start journal
 IsExcepted client start journal (Manifest id) = ⊥
 IsExcepted client start journal (Branch name) = ⊥
 IsExcepted client start journal (Tag name) = ⊥
-IsExcepted client start journal (TagGone name) = ⊥
+IsExcepted client start journal (Tombstone name) = ⊥
 IsExcepted client start journal (Lease id) = ⊥
 
 -- ---- sound means whole

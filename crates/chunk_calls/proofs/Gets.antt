@@ -27,7 +27,7 @@ use Rattle.store_api.specs.Plays.{Stays}
 use Rattle.store_api.specs.Running.{Program, on_answer}
 use Rattle.repo_read.specs.Answers.{at_key, manifest_told, object_told}
 use Rattle.session.specs.declared.chunks.Value.{Value}
-use Rattle.session.specs.declared.chunks.Value.TheVariants.{Held}
+use Rattle.session.specs.declared.chunks.Value.TheVariants.{Bytes}
 use Rattle.session.specs.Sessions.{SessionState, nodes_seen}
 use Rattle.session.specs.Chunks.{found, read_entry, read_place, read_listed, read_own, read_at, read_found, get_program}
 use Rattle.store_api.specs.Telling.{ChangedNothing}
@@ -63,7 +63,7 @@ gets-stay by start (Ask _ k) g journal c = absurd g
 
 -- ---- a read of a chunk
 abbrev pub held_of : Result (List ℕ) Refusal → Program Value
-held_of r = on_answer (λ (bytes : List ℕ). Done (Ok (Held bytes))) r
+held_of r = on_answer (λ (bytes : List ℕ). Done (Ok (Bytes bytes))) r
 
 held-gets : (r : Result (List ℕ) Refusal) → OnlyGets (held_of r)
 held-gets (Ok bytes) = tt

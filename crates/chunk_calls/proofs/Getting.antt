@@ -17,8 +17,8 @@ use Rattle.manifest_file.specs.declared.manifest.ManifestFile.{ManifestFile}
 use Rattle.held_manifest.specs.LookUp.{within, entry_of, look_up}
 use Rattle.manifest_index.specs.Merging.{ids_within}
 use Rattle.snapshot_file.specs.declared.nodes.ManifestRef.{ManifestRef}
-use Rattle.repo_objects.specs.declared.bad.Bad.{Bad}
-use Rattle.repo_objects.specs.declared.bad.Bad.TheVariants.{Chunk as BadChunk}
+use Rattle.repo_objects.specs.declared.bad_objects.Bad.{Bad}
+use Rattle.repo_objects.specs.declared.bad_objects.Bad.TheVariants.{Chunk as BadChunk}
 use Rattle.repo_objects.specs.Readings.{manifest_by, read_manifest, read_inline, read_chunk}
 use Rattle.repo_objects.specs.Trees.{Puts, NamesManifest, part_of, bytes_at, manifest_put, or_empty, listed}
 use Rattle.changed_snapshot.specs.Rows.{own_manifests}
@@ -37,7 +37,7 @@ use Rattle.store_api.specs.Program.{Leads}
 use Rattle.store_api.specs.Running.{Program, on_answer}
 use Rattle.repo_read.specs.Answers.{at_key, manifest_told, object_told}
 use Rattle.session.specs.declared.chunks.Value.{Value}
-use Rattle.session.specs.declared.chunks.Value.TheVariants.{Held, Fill}
+use Rattle.session.specs.declared.chunks.Value.TheVariants.{Bytes, Fill}
 use Rattle.session.specs.Sessions.{SessionState, nodes_seen, overlay}
 use Rattle.session.specs.Editing.{refusal_of_edit}
 use Rattle.session.specs.Chunks.{found as found_bytes, read_entry, read_listed, read_at, read_found, get_program}
@@ -115,7 +115,7 @@ module _ (L : SessionLaw) (by : Caller) (s : SessionState) (path index : List �
     part-told bytes version now old new p k m (Ok part) e =
         let k' = Known-makes (λ puts. bytes_at puts place) (Chunk id) (Is_got (Found bytes version now)) old new m k in
         let had = get-had by (Chunk id) bytes version now old new m in
-        value-told (Held part) new (record {
+        value-told (Bytes part) new (record {
           is = λ once puts x keeps.
               k'.is once puts x keeps
               ∙ ap (option_and_then (part_of offset size)) (x.chunks id bytes had.last)
@@ -170,7 +170,7 @@ module _ (L : SessionLaw) (by : Caller) (s : SessionState) (path index : List �
     unfolding Leads
     inline-told m bytes file version journal named got h k (Ok read) e =
         let same = inline-read want bytes read e in
-        value-told (Held read) journal (record { is = λ once puts x keeps. k.is once puts x keeps ∙ ap (λ (b : List ℕ). Some b) same; opened = k.opened; nothing = k.nothing })
+        value-told (Bytes read) journal (record { is = λ once puts x keeps. k.is once puts x keeps ∙ ap (λ (b : List ℕ). Some b) same; opened = k.opened; nothing = k.nothing })
     inline-told m bytes file version journal named got h k (Err bad) e =
         ((record { bytes = file; version = version; got = got; unfit = (named, inr (record { at = at; found = found; file = h.held; read = h.read; held = bytes; has = h.has; unfit = e })) }, k.nothing), k.opened)
 
@@ -237,7 +237,7 @@ module _ (L : SessionLaw) (by : Caller) (s : SessionState) (path index : List �
 
     at-told : (at : ChunkAt) → chunk_found (nodes_seen s) path index ≡ Ok at → IsThere s path index at → (entry : Option (Option Place)) → entry_in s.held.chunks at.node index ≡ entry → Leads Told by (read_at s path index at entry) journal
     unfolding Leads
-    at-told at f t (Some (Some (Inline bytes))) e = value-told (Held bytes) journal (record { is = λ once puts x keeps. by-entry s path index at t puts (Some (Some (Inline bytes))) e; opened = o; nothing = c })
+    at-told at f t (Some (Some (Inline bytes))) e = value-told (Bytes bytes) journal (record { is = λ once puts x keeps. by-entry s path index at t puts (Some (Some (Inline bytes))) e; opened = o; nothing = c })
     at-told at f t (Some (Some (Object id offset size))) e =
         λ reply new n. object-told at id offset size reply journal new (record { found = f; told = inl e }) (record { is = λ once puts x keeps. by-entry s path index at t puts (Some (Some (Object id offset size))) e; opened = o; nothing = c }) n
     at-told at f t (Some None) e = value-told Fill journal (record { is = λ once puts x keeps. by-entry s path index at t puts (Some None) e; opened = o; nothing = c })

@@ -11,7 +11,7 @@ use Rattle.manifest_file.specs.declared.manifest.Place.{Place}
 use Rattle.manifest_file.specs.declared.manifest.Place.TheVariants.{Inline, Object}
 use Rattle.manifest_file.specs.declared.manifest.ManifestFile.{ManifestFile}
 use Rattle.held_manifest.specs.LookUp.{entry_of}
-use Rattle.repo_objects.specs.declared.bad.Bad.{Bad}
+use Rattle.repo_objects.specs.declared.bad_objects.Bad.{Bad}
 use Rattle.repo_objects.specs.Readings.{read_manifest, manifest_by, read_inline, read_chunk}
 use Rattle.repo_objects.specs.Trees.{Puts, Extends, NamesManifest}
 use Rattle.changed_snapshot.specs.Laws.{KeepsFrozen}
@@ -28,7 +28,7 @@ use Rattle.store_api.specs.declared.machines.Refusal.{Refusal}
 use Rattle.store_api.specs.declared.machines.Refusal.TheVariants.{ReadOnly, IdsSpent, IdTaken, Missing, BadFile, StoreFault, NoMemory}
 use Rattle.store_api.specs.Journal.{puts_of, IsOnce}
 use Rattle.session.specs.declared.chunks.Value.{Value}
-use Rattle.session.specs.declared.chunks.Value.TheVariants.{Held, Fill}
+use Rattle.session.specs.declared.chunks.Value.TheVariants.{Bytes, Fill}
 use Rattle.session.specs.Sessions.{SessionState, writes, nodes_seen, overlay}
 use Rattle.session.specs.Editing.{refusal_of_edit}
 use Rattle.session.specs.Chunks.{most_inline, with_chunk, after_draw}
@@ -97,7 +97,7 @@ SetTells client s path index bytes start (Err why) journal = SetRefused client s
 -- ---- a chunk that was read
 -- the chunk has these bytes, or isn't held
 abbrev pub value_of : Value → Option (List ℕ)
-value_of (Held bytes) = Some bytes
+value_of (Bytes bytes) = Some bytes
 value_of Fill = None
 
 -- Whatever more is put, and whatever others do: the read answered the chunk of the session's base under its own changes. (Where nodes that

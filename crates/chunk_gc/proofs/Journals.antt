@@ -6,7 +6,7 @@ use Rattle.std.proofs.lemmas.List.Elements.{filter-append}
 use Rattle.held_manifest.specs.Laws.{ObjectsLaw}
 use Rattle.repo_objects.specs.Laws.{SnapshotLaw, ManifestLaw}
 use Rattle.object_store.specs.declared.keys.Key.{Key}
-use Rattle.object_store.specs.declared.keys.Key.TheVariants.{Snapshot, Manifest, Txn, Chunk, Branch, Tag, TagGone, Lease}
+use Rattle.object_store.specs.declared.keys.Key.TheVariants.{Snapshot, Manifest, Txn, Chunk, Branch, Tag, Tombstone, Lease}
 use Rattle.object_store.specs.declared.keys.Why.{Why}
 use Rattle.object_store.specs.declared.keys.Why.TheVariants.{Collect}
 use Rattle.object_store.specs.declared.events.Op.{Op}
@@ -153,7 +153,7 @@ module _ (cutoff : ℕ) (by : Caller) (start : List Event) where
   polite-removal (Chunk id) why e o = e
   polite-removal (Branch name) why e o = absurd o
   polite-removal (Tag name) why e o = absurd o
-  polite-removal (TagGone name) why e o = absurd o
+  polite-removal (Tombstone name) why e o = absurd o
   polite-removal (Lease id) why e o = absurd o
 
   polite-op : (w : Walk) (op : Op) (journal : List Event) → May cutoff w op → IsPolite journal op

@@ -22,7 +22,7 @@ use Rattle.chunk_gc.specs.Programs.{Answer, mark_program}
 use Rattle.chunk_gc.specs.declared.standing.Collected.{Collected}
 use Rattle.chunk_gc.specs.Plays.{nothing, counted, tally_from, tally, ends_with, after_removal, sweep, after_marking, collect_play}
 use Rattle.chunk_gc.specs.Exact.{Picks, InOrder, Ends}
-use Rattle.chunk_gc.proofs.Sets.{first-is}
+use Rattle.ice_ids.proofs.Elements.{first-is}
 use Rattle.chunk_gc.proofs.Sweeping.{picked}
 use Rattle.chunk_gc.proofs.Going.{Trail, follow, deed, IsCalm, Marks, marks-calm, MarkEnds, goes-program}
 

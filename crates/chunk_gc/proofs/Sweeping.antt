@@ -7,12 +7,13 @@ use Rattle.ice_ids.specs.Text.{initial_id, same_id12}
 use Rattle.ice_ids.specs.Sets.{has_object}
 use Rattle.ice_ids.proofs.TextLaws.{same_id12-true, same_id12-self}
 use Rattle.object_store.specs.declared.keys.Key.{Key}
-use Rattle.object_store.specs.declared.keys.Key.TheVariants.{Snapshot, Manifest, Txn, Chunk, Branch, Tag, TagGone, Lease}
+use Rattle.object_store.specs.declared.keys.Key.TheVariants.{Snapshot, Manifest, Txn, Chunk, Branch, Tag, Tombstone, Lease}
 use Rattle.object_store.specs.declared.events.Entry.{Entry}
 use Rattle.collecting.specs.Walks.{IsObject}
 use Rattle.chunk_gc.specs.Programs.{Work, keeps, dooms, swept, with_key}
 use Rattle.chunk_gc.specs.Exact.{IsChosen, Picks}
-use Rattle.chunk_gc.proofs.Sets.{Has, first-is, first-or-later, later-is, none-in}
+use Rattle.ice_ids.proofs.OneMore.{Has}
+use Rattle.ice_ids.proofs.Elements.{first-is, first-or-later, later-is, none-in}
 use Rattle.chunk_gc.proofs.Marking.{ListedIn}
 
 or_split : (a b : Bool) → (a || b) ≡ true → (a ≡ true) ⊎ (b ≡ true)
@@ -35,22 +36,22 @@ id_kept id ids (inr h) = or_second (same_id12 id initial_id) (has_object ids id)
 
 kept-listed : (w : Work) (key : Key) → IsObject key → keeps w key ≡ true → ListedIn w key
 kept-listed w (Snapshot id) o e = kept_id id w.snapshots.all e
-kept-listed w (Txn id) o e = kept_id id w.snapshots.all e
+kept-listed w (Txn id) o e = kept_id id w.logs e
 kept-listed w (Manifest id) o e = e
 kept-listed w (Chunk id) o e = e
 kept-listed w (Branch name) o e = absurd o
 kept-listed w (Tag name) o e = absurd o
-kept-listed w (TagGone name) o e = absurd o
+kept-listed w (Tombstone name) o e = absurd o
 kept-listed w (Lease id) o e = absurd o
 
 listed-kept : (w : Work) (key : Key) → ListedIn w key → keeps w key ≡ true
 listed-kept w (Snapshot id) h = id_kept id w.snapshots.all h
-listed-kept w (Txn id) h = id_kept id w.snapshots.all h
+listed-kept w (Txn id) h = id_kept id w.logs h
 listed-kept w (Manifest id) h = h
 listed-kept w (Chunk id) h = h
 listed-kept w (Branch name) h = absurd h
 listed-kept w (Tag name) h = absurd h
-listed-kept w (TagGone name) h = absurd h
+listed-kept w (Tombstone name) h = absurd h
 listed-kept w (Lease id) h = absurd h
 
 object-of : (w : Work) (key : Key) → keeps w key ≡ false → IsObject key
@@ -60,7 +61,7 @@ object-of w (Manifest id) e = tt
 object-of w (Chunk id) e = tt
 object-of w (Branch name) e = absurd cc
 object-of w (Tag name) e = absurd cc
-object-of w (TagGone name) e = absurd cc
+object-of w (Tombstone name) e = absurd cc
 object-of w (Lease id) e = absurd cc
 
 module _ (cutoff : ℕ) (w : Work) (marked : Key → Type 0) (cut : w.cutoff ≡ cutoff) (into : (key : Key) → marked key → ListedIn w key) (from : (key : Key) → ListedIn w key → marked key) where

@@ -9,7 +9,7 @@ use Rattle.snapshot_file.specs.declared.snapshot.SnapshotFile.{SnapshotFile}
 use Rattle.manifest_file.specs.declared.manifest.ManifestFile.{ManifestFile}
 use Rattle.repo_objects.specs.Readings.{snapshot_by, manifest_by, ref_of}
 use Rattle.object_store.specs.declared.keys.Key.{Key}
-use Rattle.object_store.specs.declared.keys.Key.TheVariants.{Snapshot, Manifest, Txn, Chunk, Branch, Tag, TagGone, Lease}
+use Rattle.object_store.specs.declared.keys.Key.TheVariants.{Snapshot, Manifest, Txn, Chunk, Branch, Tag, Tombstone, Lease}
 use Rattle.object_store.specs.declared.keys.Why.{Why}
 use Rattle.object_store.specs.declared.keys.Part.{Part}
 use Rattle.object_store.specs.declared.keys.Part.TheVariants.{Snapshots, Manifests, Txns, Chunks, Branches, Tags, Leases}
@@ -31,11 +31,11 @@ use Rattle.store_api.specs.Program.{events_of}
 use Rattle.store_api.specs.Telling.{HasOwn}
 use Rattle.store_api.proofs.Programs.{own-one}
 use Rattle.live_refs.specs.Live.{live}
-use Rattle.collecting.specs.Walks.{Walk, fresh, IsObject, Marked, Doomed, May, told, ended, with_root, with_read, with_file, told_ref, told_file, told_object, told_got, told_get}
+use Rattle.collecting.specs.Walks.{Walk, fresh, IsObject, Marked, Doomed, May, told, ended, with_root, with_leased, with_read, with_file, told_ref, told_lease, told_file, told_object, told_got, told_get}
 use Rattle.collecting.specs.Runs.{told_all, walk_of, OwesCollecting}
 use Rattle.chunk_gc.specs.Exact.{IsChosen}
 use Rattle.chunk_gc.specs.Gone.{WasListed, WasRemoved, GoneLaw}
-use Rattle.chunk_gc.proofs.Sets.{none-in}
+use Rattle.ice_ids.proofs.Elements.{none-in}
 use Rattle.chunk_gc.proofs.Sweeping.{picks-all}
 
 -- ---- what a get changes of a walk
@@ -53,6 +53,14 @@ root-lists w v (Some id) s = record { listed = s.listed; answered = s.answered }
 ref-lists : (w v : Walk) (got : Got) → SameLists w v → SameLists w (told_ref v got)
 ref-lists w v (Found bytes version now) s = root-lists w v (ref_of bytes) s
 ref-lists w v (Absent now) s = s
+
+leased-lists : (w v : Walk) (o : Option Id12) → SameLists w v → SameLists w (with_leased v o)
+leased-lists w v None s = record { listed = s.listed; answered = s.answered }
+leased-lists w v (Some id) s = record { listed = s.listed; answered = s.answered }
+
+lease-lists : (w v : Walk) (got : Got) → SameLists w v → SameLists w (told_lease v got)
+lease-lists w v (Found bytes version now) s = leased-lists w v (ref_of bytes) s
+lease-lists w v (Absent now) s = s
 
 read-lists : (w : Walk) (o : Option SnapshotFile) → SameLists w (with_read w o)
 read-lists w None = record { listed = refl; answered = refl }
@@ -72,22 +80,24 @@ bytes-lists w (Txn id) bytes = over-lists w
 bytes-lists w (Chunk id) bytes = over-lists w
 bytes-lists w (Branch name) bytes = over-lists w
 bytes-lists w (Tag name) bytes = over-lists w
-bytes-lists w (TagGone name) bytes = over-lists w
+bytes-lists w (Tombstone name) bytes = over-lists w
 bytes-lists w (Lease id) bytes = over-lists w
 
 object-lists : (w : Walk) (key : Key) (got : Got) → SameLists w (told_object w key got)
 object-lists w key (Found bytes version now) = bytes-lists w key bytes
-object-lists w key (Absent now) = over-lists w
+object-lists w key (Absent now) = record { listed = refl; answered = refl }
 
-got-lists : (bs ts : Option (List Key)) (w : Walk) (key : Key) (got : Got) → SameLists w (told_got bs ts w key got)
-got-lists (Some (next ∷ behind)) ts w key got = ref-lists w (record w { branches = Some behind }) got (record { listed = refl; answered = refl })
-got-lists (Some []) (Some (next ∷ behind)) w key got = ref-lists w (record w { tags = Some behind }) got (record { listed = refl; answered = refl })
-got-lists (Some []) (Some []) w key got = object-lists w key got
-got-lists (Some []) None w key got = over-lists w
-got-lists None ts w key got = over-lists w
+got-lists : (bs ts ls : Option (List Key)) (w : Walk) (key : Key) (got : Got) → SameLists w (told_got bs ts ls w key got)
+got-lists (Some (next ∷ behind)) ts ls w key got = ref-lists w (record w { branches = Some behind }) got (record { listed = refl; answered = refl })
+got-lists (Some []) (Some (next ∷ behind)) ls w key got = ref-lists w (record w { tags = Some behind }) got (record { listed = refl; answered = refl })
+got-lists (Some []) (Some []) (Some (next ∷ behind)) w key got = lease-lists w (record w { leases = Some behind }) got (record { listed = refl; answered = refl })
+got-lists (Some []) (Some []) (Some []) w key got = object-lists w key got
+got-lists (Some []) (Some []) None w key got = over-lists w
+got-lists (Some []) None ls w key got = over-lists w
+got-lists None ts ls w key got = over-lists w
 
 get-lists : (w : Walk) (key : Key) (reply : Reply) → SameLists w (told_get w key reply)
-get-lists w key (Is_got got) = got-lists w.branches w.tags w key got
+get-lists w key (Is_got got) = got-lists w.branches w.tags w.leases w key got
 get-lists w key (Is_new x) = over-lists w
 get-lists w key (Is_over x) = over-lists w
 get-lists w key (Is_gone x) = over-lists w
@@ -316,7 +326,7 @@ module _ (cutoff client : ℕ) (start : List Event) where
     by-list Manifests (Is_listed l) o r = entries-more Manifests l o r
     by-list Chunks (Is_listed l) o r = entries-more Chunks l o r
     by-list Tags (Is_listed l) o r = facts-same w (told cutoff w (ListPart Tags) (Is_listed l)) journal event (record { listed = refl; answered = refl }) f
-    by-list Leases (Is_listed l) o r = facts-same w (ended w) journal event (over-lists w) f
+    by-list Leases (Is_listed l) o r = facts-same w (told cutoff w (ListPart Leases) (Is_listed l)) journal event (record { listed = refl; answered = refl }) f
     by-list Branches (Is_listed l) o r = by_time (nat_lt l.now cutoff)
       where
         by_time : (b : Bool) → Facts (cond b (ended w) (record w { branches = Some (live l.entries) })) (journal ++ event ∷ [])

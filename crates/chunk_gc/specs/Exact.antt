@@ -1,7 +1,7 @@
 -- What a collection has done when it ends, by what it was told (own).
 use Rattle.std.specs.Prelude.{◌≡◌, ◌⊎◌, ℕ, ◌<◌, true, List, [], ◌∷◌, ◌++◌, drop, length, Option, Some, None, Result, Ok, Err}
 use Rattle.ice_ids.specs.declared.Id12.{Id12}
-use Rattle.repo_objects.specs.declared.bad.Bad.{Bad}
+use Rattle.repo_objects.specs.declared.bad_objects.Bad.{Bad}
 use Rattle.repo_objects.specs.Readings.{read_snapshot, read_manifest, read_ref}
 use Rattle.object_store.specs.declared.keys.Key.{Key}
 use Rattle.object_store.specs.declared.keys.Key.TheVariants.{Snapshot, Manifest}
@@ -19,7 +19,7 @@ use Rattle.store_api.specs.declared.machines.Refusal.TheVariants as R
 use Rattle.store_api.specs.Callers.{Fits, has_failed}
 use Rattle.store_api.specs.Program.{events_of}
 use Rattle.repo_read.specs.Chains.{most_snapshots}
-use Rattle.collecting.specs.Walks.{Walk, IsObject, Marked, IsFound, May}
+use Rattle.collecting.specs.Walks.{Walk, IsObject, Marked, IsFound, IsNeeded, IsRead, IsWantedBy, May}
 use Rattle.collecting.specs.Runs.{walk_of}
 use Rattle.chunk_gc.specs.declared.standing.Collected.{Collected}
 use Rattle.chunk_gc.specs.Plays.{tally}
@@ -63,8 +63,9 @@ pub record WasAhead (cutoff now : ℕ) (last : Option Deed) : Type 0 where
   pub is : last ≡ Some (record { op = ListPart Branches; reply = Is_listed (record { entries = entries; now = now }) })
   pub ahead : now < cutoff
 
--- the last operation got this key, at which nothing was
-pub record WasMissing (key : Key) (last : Option Deed) : Type 0 where
+-- the last operation got this key, at which nothing was, and refs need what it was asked for
+pub record WasMissing (w : Walk) (key : Key) (last : Option Deed) : Type 0 where
+  pub needed : IsWantedBy (IsNeeded w) w key
   pub now : ℕ
   pub is : last ≡ Some (record { op = Get key; reply = Is_got (Absent now) })
 
@@ -87,6 +88,7 @@ pub record WasDeep (w : Walk) : Type 0 where
   pub many : length w.reads ≡ most_snapshots
   pub next : Id12
   pub found : IsFound w next
+  pub further : IsRead w next → ⊥
 
 -- the last operation failed, or its reply was none to it
 pub record HasFailed (last : Option Deed) : Type 0 where
@@ -97,7 +99,7 @@ pub record HasFailed (last : Option Deed) : Type 0 where
 -- its cause, for each refusal; want of memory needs none
 abbrev pub Cause : ℕ → Walk → Option Deed → Refusal → Type 0
 Cause cutoff w last (R.CutoffAhead now) = WasAhead cutoff now last
-Cause cutoff w last (R.Missing key) = WasMissing key last
+Cause cutoff w last (R.Missing key) = WasMissing w key last
 Cause cutoff w last (R.BadFile key bad) = WasBad key bad last
 Cause cutoff w last R.TooDeep = WasDeep w
 Cause cutoff w last R.StoreFault = HasFailed last

@@ -1,7 +1,7 @@
 -- What a collection does, from its beginning to its end (own).
 use Rattle.std.specs.Prelude.{ℕ, ◌+◌, Bool, false, List, [], ◌∷◌, Result, Ok, Err}
 use Rattle.object_store.specs.declared.keys.Key.{Key}
-use Rattle.object_store.specs.declared.keys.Key.TheVariants.{Snapshot, Manifest, Txn, Chunk, Branch, Tag, TagGone, Lease}
+use Rattle.object_store.specs.declared.keys.Key.TheVariants.{Snapshot, Manifest, Txn, Chunk, Branch, Tag, Tombstone, Lease}
 use Rattle.object_store.specs.declared.keys.Why.TheVariants.{Collect}
 use Rattle.object_store.specs.declared.events.Gone.{Gone}
 use Rattle.object_store.specs.declared.events.Gone.TheVariants.{Done as Gone_done, Absent as Gone_absent}
@@ -29,7 +29,7 @@ counted (Manifest id) r = record r { manifests = r.manifests + 1 }
 counted (Chunk id) r = record r { chunks = r.chunks + 1 }
 counted (Branch name) r = r
 counted (Tag name) r = r
-counted (TagGone name) r = r
+counted (Tombstone name) r = r
 counted (Lease id) r = r
 
 abbrev pub tally_from : Removed → List Key → Removed

@@ -10,7 +10,7 @@ use std::alloc::Global;
 use std::mem;
 use store_api::Store;
 
-/// A collection. It lists the refs, gets each, and marks what they reach; it lists all objects; and then it removes those that
+/// A collection. It lists refs and leases, gets each, and marks what they reach; it lists all objects; and then it removes those that
 /// are older than the cutoff and not marked, one after the other, snapshots first, then logs, manifests and objects with chunks.
 /// Each step makes one operation of the store. What it removed it tells whatever its end.
 ///

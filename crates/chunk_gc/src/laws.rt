@@ -7,8 +7,8 @@ use held_manifest::laws::objects_law;
 use repo_objects::{manifest_law, snapshot_law};
 
 /// Exact collection. Whatever others do, each operation of a collection is polite, and one that it may make by what it was told; so
-/// it removes nothing but what is doomed: objects that it listed, after all that its own gets of refs reach was marked, as older
-/// than the cutoff and not marked; and that in the order of the listings. Where it ends well, each of these was removed, or absent
+/// it removes nothing but what is doomed: objects that it listed, after all that its own gets of refs and leases reach was marked,
+/// as older than the cutoff and not marked; and that in the order of the listings. Where it ends well, each of these was removed, or absent
 /// at its removal. Where it is refused, the last of its own operations has the cause. Its report counts those removals that were
 /// told as done, whatever its end.
 pub fn collect_law()

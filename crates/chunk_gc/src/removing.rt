@@ -152,7 +152,7 @@ fn with_one_more(mut removed: Removed, key: &Key) -> Removed
         Key::Txn(_) => removed.logs += 1,
         Key::Manifest(_) => removed.manifests += 1,
         Key::Chunk(_) => removed.chunks += 1,
-        Key::Branch(_) | Key::Tag(_) | Key::TagGone(_) | Key::Lease(_) => {}
+        Key::Branch(_) | Key::Tag(_) | Key::Tombstone(_) | Key::Lease(_) => {}
     }
     removed
 }

@@ -1,16 +1,18 @@
 //! What replies to the operations of a collection tell.
 
-ghost use Rattle.std.specs.Prelude.{◌≡◌, IfOk, IfErr};
+ghost use Rattle.std.specs.Prelude.{◌≡◌, ◌&&◌, IfOk, IfErr};
 ghost use Rattle.live_refs.specs.Live.{live};
 ghost use Rattle.repo_read.specs.Answers.{Answers};
-ghost use Rattle.chunk_gc.specs.Told.{first_told, listed_told, ref_got};
+ghost use Rattle.chunk_gc.specs.Told.{first_told, listed_told, ref_got, is_absent, snapshot_got, manifest_got};
 ghost use Rattle.chunk_gc.specs.Programs.{MayRefuseMark};
 
 use crate::queue::Keys;
+use held_manifest::HeldManifest;
 use ice_ids::Id12;
 use live_refs::is_gone;
 use object_store::{Entry, Got, Key, Listed, Reply};
-use repo_objects::{Unread, ref_read};
+use repo_objects::{Loaded, Unread, ref_read};
+use repo_read::{manifest_told, snapshot_told};
 use std::alloc::{AllocError, Global};
 use store_api::Refusal;
 
@@ -39,7 +41,7 @@ pub(crate) fn first_told(cutoff: u64, reply: Reply) -> Result<Listed, Refusal>
     Ok(listed)
 }
 
-/// The snapshot that a ref names, if it is still there. Refusals: `BadFile`, `StoreFault`, `NoMemory`.
+/// The snapshot that a ref or a lease names, if it is still there. Refusals: `BadFile`, `StoreFault`, `NoMemory`.
 pub(crate) fn ref_got(alloc: Global, key: &Key, reply: Reply) -> Result<Option<Id12>, Refusal>
     ensures told { Answers (ref_got key.now reply) result }
     ensures listed { IfErr result MayRefuseMark }
@@ -62,6 +64,61 @@ pub(crate) fn ref_got(alloc: Global, key: &Key, reply: Reply) -> Result<Option<I
             Ok(key) => Err(Refusal::BadFile(key, bad)),
             Err(_) => Err(Refusal::NoMemory),
         },
+    }
+}
+
+/// Whether a get found nothing.
+fn is_absent(reply: &Reply) -> bool
+    ensures { result ≡ is_absent reply.now }
+{
+    match reply {
+        Reply::Got(Got::Absent { now: _ }) => true,
+        _ => false,
+    }
+}
+
+/// Whether what was got is passed over.
+fn is_passed(passes: bool, reply: &Reply) -> bool
+    ensures { result ≡ (is_absent reply.now && passes) }
+{
+    is_absent(reply) && passes
+}
+
+/// A snapshot; where absent ones are passed over, none for such a one. Refusals: `Missing`, `BadFile`, `StoreFault`, `NoMemory`.
+pub(crate) fn snapshot_got(
+    alloc: Global,
+    passes: bool,
+    id: Id12,
+    reply: Reply,
+) -> Result<Option<Loaded>, Refusal>
+    ensures told { Answers (snapshot_got passes id reply) result }
+    ensures listed { IfErr result MayRefuseMark }
+{
+    if is_passed(passes, &reply) {
+        return Ok(None);
+    }
+    match snapshot_told(alloc, id, reply) {
+        Ok(loaded) => Ok(Some(loaded)),
+        Err(why) => Err(why),
+    }
+}
+
+/// A manifest; where absent ones are passed over, none for such a one. It takes no memory. Refusals: `Missing`, `BadFile`,
+/// `StoreFault`.
+pub(crate) fn manifest_got(
+    passes: bool,
+    id: Id12,
+    reply: Reply,
+) -> Result<Option<HeldManifest>, Refusal>
+    ensures told { result ≡ manifest_got passes id reply }
+    ensures listed { IfErr result MayRefuseMark }
+{
+    if is_passed(passes, &reply) {
+        return Ok(None);
+    }
+    match manifest_told(id, reply) {
+        Ok(held) => Ok(Some(held)),
+        Err(why) => Err(why),
     }
 }
 

@@ -14,8 +14,8 @@ use Rattle.command_words.specs.declared.reading.UsageFault.{UsageFault}
 use Rattle.command_words.specs.declared.reading.UsageFault.TheVariants.{NoCommand, Unknown, Words}
 use Rattle.command_words.specs.declared.reading.WordsFault.{WordsFault}
 use Rattle.command_words.specs.declared.reading.WordsFault.TheVariants as F
-use Rattle.command_words.specs.declared.reading.Place.{Place}
-use Rattle.command_words.specs.declared.reading.Place.TheVariants as P
+use Rattle.command_words.specs.declared.reading.Location.{Location}
+use Rattle.command_words.specs.declared.reading.Location.TheVariants as P
 use Rattle.command_words.specs.Parsers.{play, cells, grow, check, mirror, kinds_of, dir_in, word_in, path_in, count_in}
 
 -- a word that asks for help; for the version
@@ -118,7 +118,7 @@ abbrev pub dir_of : List Text → Option Text
 dir_of [] = None
 dir_of (first ∷ others) = dir_named (name_of first) (first ∷ others)
 
-abbrev pub path_of : Place → Option Text
+abbrev pub path_of : Location → Option Text
 path_of P.Memory = None
 path_of (P.Dir path) = Some path.now
 path_of (P.Pair from to) = None
@@ -141,7 +141,7 @@ abbrev pub pair_of : List Text → Option (Text × Text)
 pair_of [] = None
 pair_of (first ∷ others) = pair_named (name_of first) (first ∷ others)
 
-abbrev pub paths_of : Place → Option (Text × Text)
+abbrev pub paths_of : Location → Option (Text × Text)
 paths_of P.Memory = None
 paths_of (P.Dir path) = None
 paths_of (P.Pair from to) = Some (from.now, to.now)

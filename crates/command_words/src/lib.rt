@@ -10,6 +10,7 @@ mod words;
 pub use complaints::{Complaint, complaint_of};
 pub use help::version;
 pub use reading::{
-    BoxWords, Command, Place, Topic, UsageFault, WordsFault, place_of, read_words, shows_progress,
+    BoxWords, Command, Location, Topic, UsageFault, WordsFault, location_of, read_words,
+    shows_progress,
 };
 pub use words::{Word, words_of};

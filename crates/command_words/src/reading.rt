@@ -82,7 +82,7 @@ pub enum WordsFault {
 
 /// Where the repository lies.
 #[derive(Clone, Copy, Debug, PartialEq, Eq)]
-pub enum Place<'a> {
+pub enum Location<'a> {
     /// In memory, for this run alone.
     Memory,
     /// In the directory at this path.
@@ -273,7 +273,7 @@ fn alone(others: &[Word], command: Command) -> Result<Command, WordsFault>
 /// and `Words` exactly where clap refuses the others for another cause than memory, where one of the
 /// four words of `cells` holds a space or a line feed, or where a word stands behind `--help` or
 /// `--version`. A command's own `--help` asks for help on it. `-h` and `-V` are short for those. `mirror
-/// FROM TO` is `Unknown`, since it is done over two directories, which `place_of` tells.
+/// FROM TO` is `Unknown`, since it is done over two directories, which `location_of` tells.
 pub fn read_words(alloc: Global, words: &[Word]) -> Result<Command, WordsFault>
     ensures says { IsSaid (command_of words.now) result }
     ensures range { IfOk result IsInRange }
@@ -341,40 +341,40 @@ fn check_dir<'a>(alloc: Global, words: &'a [Word]) -> Result<Option<&'a str>, Al
 }
 
 /// The place at this path, or in memory where there is none.
-fn in_dir<'a>(dir: Result<Option<&'a str>, AllocError>) -> Result<Place<'a>, AllocError>
+fn in_dir<'a>(dir: Result<Option<&'a str>, AllocError>) -> Result<Location<'a>, AllocError>
     ensures path { (said : Option Text)
         → IfOk dir.entry (λ path. option_map (λ s. s.now) path ≡ said)
         → IfOk result (λ place. path_of place ≡ said) }
     ensures pair { IfOk result (λ place. paths_of place ≡ None) }
 {
     match dir {
-        Ok(Some(path)) => Ok(Place::Dir(path)),
-        Ok(None) => Ok(Place::Memory),
+        Ok(Some(path)) => Ok(Location::Dir(path)),
+        Ok(None) => Ok(Location::Memory),
         Err(error) => Err(error),
     }
 }
 
 /// No two directories are told where clap refuses the words.
-fn no_pair<'a>(refusal: Refusal) -> Result<Place<'a>, AllocError>
+fn no_pair<'a>(refusal: Refusal) -> Result<Location<'a>, AllocError>
     ensures dir { IfOk result (λ place. path_of place ≡ None) }
     ensures pair { (a : App) (words : List Text) (pair : Text × Text) → IsRefused a words refusal
         → IfOk result (λ place. paths_of place ≡ pair_where (kinds_of a words) pair) }
 {
     match refusal {
         Refusal::NoMemory => Err(AllocError),
-        Refusal::Help | Refusal::Words(_) => Ok(Place::Memory),
+        Refusal::Help | Refusal::Words(_) => Ok(Location::Memory),
     }
 }
 
 /// The two directories of a mirror.
-fn mirror_pair<'a>(alloc: Global, words: &'a [Word]) -> Result<Place<'a>, AllocError>
+fn mirror_pair<'a>(alloc: Global, words: &'a [Word]) -> Result<Location<'a>, AllocError>
     ensures dir { IfOk result (λ place. path_of place ≡ None) }
     ensures pair { IfOk result
         (λ place. paths_of place ≡ pair_where (kinds_of mirror words.entry.now)
         (pair_in words.entry.now)) }
 {
     match read_mirror(alloc, words) {
-        Ok(pair) => Ok(Place::Pair(pair.from, pair.to)),
+        Ok(pair) => Ok(Location::Pair(pair.from, pair.to)),
         Err(refusal) => no_pair(refusal),
     }
 }
@@ -383,12 +383,12 @@ fn mirror_pair<'a>(alloc: Global, words: &'a [Word]) -> Result<Place<'a>, AllocE
 /// command, clap takes the others, the four words of `cells` hold neither a space nor a line feed, and
 /// `--dir` is among them; in two directories exactly where the first word is `mirror` and clap takes
 /// the others; else in memory.
-pub fn place_of<'a>(alloc: Global, words: &'a [Word]) -> Result<Place<'a>, AllocError>
+pub fn location_of<'a>(alloc: Global, words: &'a [Word]) -> Result<Location<'a>, AllocError>
     ensures dir { IfOk result (λ place. path_of place ≡ dir_of words.entry.now) }
     ensures pair { IfOk result (λ place. paths_of place ≡ pair_of words.entry.now) }
 {
     let [first, ..] = words else {
-        return Ok(Place::Memory);
+        return Ok(Location::Memory);
     };
     match name_of(first.as_str()) {
         Some(Name::Play) => in_dir(play_dir(alloc, words)),
@@ -396,7 +396,7 @@ pub fn place_of<'a>(alloc: Global, words: &'a [Word]) -> Result<Place<'a>, Alloc
         Some(Name::Grow) => in_dir(grow_dir(alloc, words)),
         Some(Name::Check) => in_dir(check_dir(alloc, words)),
         Some(Name::Mirror) => mirror_pair(alloc, words),
-        _ => Ok(Place::Memory),
+        _ => Ok(Location::Memory),
     }
 }
 

@@ -13,7 +13,7 @@ use Rattle.zarr_tree.proofs.Maps.{Path}
 use Rattle.manifest_file.specs.declared.manifest.Place.{Place}
 use Rattle.zarr_changes.specs.declared.chunks.ChangedArray.{ChangedArray}
 use Rattle.zarr_changes.specs.Sets.{changed_arrays}
-use Rattle.changed_snapshot.specs.declared.written.NewList.{NewList}
+use Rattle.changed_snapshot.specs.declared.new_snapshot.NewList.{NewList}
 use Rattle.changed_snapshot.proofs.Found.{Entries, head_below, tail_sorted}
 use Rattle.changed_snapshot.proofs.Orders.{filter_ascends}
 use Rattle.commit_path.specs.inside.Lists.{AreInOrder}

@@ -16,7 +16,7 @@ use Rattle.zarr_tree.proofs.Listing.{touched-law}
 use Rattle.zarr_tree.proofs.Differing.{differs-law}
 use Rattle.manifest_file.specs.declared.manifest.Place.{Place}
 use Rattle.repo_objects.specs.Trees.{Puts, bytes_at, tree_under}
-use Rattle.changed_snapshot.specs.declared.written.NewList.{NewList}
+use Rattle.changed_snapshot.specs.declared.new_snapshot.NewList.{NewList}
 use Rattle.changed_snapshot.specs.Rows.{rows_over}
 use Rattle.changed_snapshot.specs.Laws.{AreMerged}
 use Rattle.changed_snapshot.proofs.NodesHold.{nodes_hold}

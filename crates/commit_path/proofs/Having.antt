@@ -24,8 +24,8 @@ use Rattle.store_api.specs.Callers.{Caller, Makes}
 use Rattle.object_store.proofs.Slots.{WasPut-append, StoodAt-append}
 use Rattle.session.specs.Sessions.{SessionState}
 use Rattle.zarr_changes.specs.declared.chunks.ChangedArray.{ChangedArray}
-use Rattle.changed_snapshot.specs.declared.written.NewManifest.{NewManifest}
-use Rattle.changed_snapshot.specs.declared.written.NewList.{NewList}
+use Rattle.changed_snapshot.specs.declared.new_snapshot.NewManifest.{NewManifest}
+use Rattle.changed_snapshot.specs.declared.new_snapshot.NewList.{NewList}
 use Rattle.changed_snapshot.specs.Laws.{IsSized}
 use Rattle.session.specs.Sources.{IsLater, MayDrawObject}
 use Rattle.commit_path.specs.Committing.{Written, unwritten}

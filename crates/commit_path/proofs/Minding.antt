@@ -12,7 +12,7 @@ use Rattle.ref_file.specs.Refs.{ref_bytes}
 use Rattle.zarr_changes.specs.Sets.{changed_arrays}
 use Rattle.repo_objects.specs.Trees.{NamesManifest, NamesChunk, manifest_put}
 use Rattle.changed_snapshot.specs.Rows.{rows_over}
-use Rattle.object_store.specs.declared.keys.Key.TheVariants.{Snapshot, Manifest, Txn, Chunk, Branch, Tag, TagGone, Lease}
+use Rattle.object_store.specs.declared.keys.Key.TheVariants.{Snapshot, Manifest, Txn, Chunk, Branch, Tag, Tombstone, Lease}
 use Rattle.object_store.specs.declared.events.Op.{Op}
 use Rattle.object_store.specs.declared.events.Op.TheVariants.{Get, PutNew, PutOver, Remove, RemoveAt, List as ListPart}
 use Rattle.object_store.specs.declared.events.Event.{Event}
@@ -84,7 +84,7 @@ module _ (L : Spellings) (client : ℕ) (s : SessionState) (message : List ℕ) 
     is-own (Snapshot other) h = absurd h
     is-own (Branch name) h = absurd h
     is-own (Tag name) h = absurd h
-    is-own (TagGone name) h = absurd h
+    is-own (Tombstone name) h = absurd h
     is-own (Lease lease) h = absurd h
 
   pub own-commit : IsId12 id → WasLogged client id flushed start journal → WasSnapped client id message flushed start journal → OwnsChunks client s.held.chunks start journal → IsOwnCommit client (ref_bytes id) start journal

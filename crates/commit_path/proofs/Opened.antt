@@ -22,10 +22,10 @@ use Rattle.snapshot_file.specs.declared.nodes.NodeRow.{NodeRow}
 use Rattle.snapshot_file.specs.declared.snapshot.SnapshotFile.{SnapshotFile}
 use Rattle.snapshot_file.specs.Snapshots.{node_limit}
 use Rattle.snapshot_file.proofs.PropsRead.{none_are}
-use Rattle.repo_objects.specs.declared.bad.Bad.{Bad}
+use Rattle.repo_objects.specs.declared.bad_objects.Bad.{Bad}
 use Rattle.repo_objects.specs.Readings.{read_snapshot, read_ref, ref_of}
 use Rattle.repo_objects.specs.Trees.{node_of, nodes_in}
-use Rattle.object_store.specs.declared.keys.Key.TheVariants.{Snapshot, Branch, Tag, TagGone}
+use Rattle.object_store.specs.declared.keys.Key.TheVariants.{Snapshot, Branch, Tag, Tombstone}
 use Rattle.object_store.specs.declared.events.Version.{Version}
 use Rattle.object_store.specs.declared.events.Op.TheVariants.{Get}
 use Rattle.object_store.specs.declared.events.Got.TheVariants.{Found, Absent}
@@ -80,7 +80,7 @@ id-gets (Ok id) = done-gets (Ok (alone id))
 id-gets (Err why) = done-gets (Err why)
 
 tag-gets : (name : List ℕ) (r : Result Id12 Refusal) → Gets (on_answer (tag_named name) r)
-tag-gets name (Ok id) = ask-gets (TagGone name) (λ reply. on_answer id_named (tombstone_told id reply)) (λ reply. id-gets (tombstone_told id reply))
+tag-gets name (Ok id) = ask-gets (Tombstone name) (λ reply. on_answer id_named (tombstone_told id reply)) (λ reply. id-gets (tombstone_told id reply))
 tag-gets name (Err why) = done-gets (Err why)
 
 naming-gets : (at : At) → Gets (resolve_at_program at)

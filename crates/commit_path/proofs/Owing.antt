@@ -22,8 +22,8 @@ use Rattle.ref_file.specs.Refs.{ref_bytes}
 use Rattle.repo_objects.specs.Readings.{snapshot_by, log_by}
 use Rattle.repo_objects.specs.Trees.{Puts, Extends}
 use Rattle.repo_objects.specs.Laws.{initial_bytes}
-use Rattle.changed_snapshot.specs.declared.written.NewManifest.{NewManifest}
-use Rattle.changed_snapshot.specs.declared.written.NewList.{NewList}
+use Rattle.changed_snapshot.specs.declared.new_snapshot.NewManifest.{NewManifest}
+use Rattle.changed_snapshot.specs.declared.new_snapshot.NewList.{NewList}
 use Rattle.changed_snapshot.specs.Rows.{rows_over}
 use Rattle.changed_snapshot.specs.Laws.{AreMerged, IsSized, AreSized}
 use Rattle.object_store.specs.declared.keys.Key.TheVariants.{Snapshot, Manifest, Txn, Branch}

@@ -23,7 +23,7 @@ use Rattle.snapshot_file.specs.declared.nodes.ManifestRef.{ManifestRef}
 use Rattle.snapshot_file.specs.declared.nodes.NodeRow.{NodeRow}
 use Rattle.snapshot_file.specs.Snapshots.{manifests_named}
 use Rattle.repo_objects.specs.Trees.{Puts, manifest_put, or_empty, listed, bytes_at, place_in, place_under, nodes_in, node_of, row_at, Extends, IsReadable}
-use Rattle.changed_snapshot.specs.declared.written.NewList.{NewList}
+use Rattle.changed_snapshot.specs.declared.new_snapshot.NewList.{NewList}
 use Rattle.changed_snapshot.specs.Rows.{refs_of, manifests_for, own_manifests, kind_of, row_of, row_from, rows_over}
 use Rattle.changed_snapshot.specs.Laws.{KeepsFrozen}
 use Rattle.repo_objects.proofs.Rows.{node_at_row}

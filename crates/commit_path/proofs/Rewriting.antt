@@ -22,8 +22,8 @@ use Rattle.snapshot_file.specs.declared.nodes.NodeRow.{NodeRow}
 use Rattle.repo_objects.specs.Trees.{Puts, manifest_put, or_empty, listed, nodes_in, Extends}
 use Rattle.changed_snapshot.proofs.Found.{head_below, tail_sorted}
 use Rattle.zarr_changes.specs.declared.chunks.ChangedArray.{ChangedArray}
-use Rattle.changed_snapshot.specs.declared.written.NewManifest.{NewManifest}
-use Rattle.changed_snapshot.specs.declared.written.NewList.{NewList}
+use Rattle.changed_snapshot.specs.declared.new_snapshot.NewManifest.{NewManifest}
+use Rattle.changed_snapshot.specs.declared.new_snapshot.NewList.{NewList}
 use Rattle.changed_snapshot.specs.Rows.{own_manifests, refs_of, new_list}
 use Rattle.changed_snapshot.specs.Laws.{HasMerged, AreMerged}
 

@@ -20,7 +20,7 @@ use Rattle.held_manifest.specs.LookUp.{Listed}
 use Rattle.manifest_index.specs.Merging.{merged_array}
 use Rattle.snapshot_file.specs.declared.nodes.ManifestRef.{ManifestRef}
 use Rattle.snapshot_file.specs.declared.nodes.NodeRow.{NodeRow}
-use Rattle.changed_snapshot.specs.declared.written.NewList.{NewList}
+use Rattle.changed_snapshot.specs.declared.new_snapshot.NewList.{NewList}
 use Rattle.changed_snapshot.specs.Rows.{own_manifests}
 use Rattle.changed_snapshot.specs.Laws.{AreSized}
 use Rattle.flat_tables.specs.declared.header.Kind.TheVariants as kinds

@@ -2,9 +2,9 @@
 use Rattle.std.proofs.Common.{◌≡◌, inl, inr, ℕ, true, List, [], ◌∷◌, ◌++◌, ◌∙◌, ap, subst, append_assoc}
 use Rattle.std.specs.Prelude.{None}
 use Rattle.ice_ids.specs.declared.Id12.{Id12}
-use Rattle.repo_objects.specs.declared.bad.Bad.{Bad}
+use Rattle.repo_objects.specs.declared.bad_objects.Bad.{Bad}
 use Rattle.object_store.specs.declared.keys.Key.{Key}
-use Rattle.object_store.specs.declared.keys.Key.TheVariants.{Branch, Tag, TagGone}
+use Rattle.object_store.specs.declared.keys.Key.TheVariants.{Branch, Tag, Tombstone}
 use Rattle.object_store.specs.declared.events.Version.{Version}
 use Rattle.object_store.specs.declared.events.Op.{Op}
 use Rattle.object_store.specs.declared.events.Op.TheVariants.{Get}
@@ -74,7 +74,7 @@ module _ (client : ℕ) (start middle more : List Event) (is : middle ≡ start 
     record {
       version = w.1.version;
       read = ref-sooner (Tag name) w.1.version named.id journal w.1.read;
-      stands = absent-sooner (TagGone name) journal w.1.stands;
+      stands = absent-sooner (Tombstone name) journal w.1.stands;
       still = w.1.still;
     },
   )
@@ -83,7 +83,7 @@ module _ (client : ℕ) (start middle more : List Event) (is : middle ≡ start 
   pub nothing-sooner : (at : At) (journal : List Event) → WasNothing client at middle journal → WasNothing client at start journal
   nothing-sooner (At.Branch name) journal w = absent-sooner (Branch name) journal w
   nothing-sooner (At.Tag name) journal (inl w) = inl (absent-sooner (Tag name) journal w)
-  nothing-sooner (At.Tag name) journal (inr w) = inr (record { bytes = w.bytes; version = w.version; got = got-sooner (TagGone name) w.bytes w.version journal w.got })
+  nothing-sooner (At.Tag name) journal (inr w) = inr (record { bytes = w.bytes; version = w.version; got = got-sooner (Tombstone name) w.bytes w.version journal w.got })
   nothing-sooner (At.Snapshot id) journal w = absurd w
 
   pub unnamed-sooner : (at : At) (key : Key) (bad : Bad) (journal : List Event) → WasUnnamed client at key bad middle journal → WasUnnamed client at key bad start journal

@@ -36,7 +36,7 @@ use Rattle.repo_objects.proofs.Rows.{node_at_row}
 use Rattle.session.specs.Sessions.{SessionState, base_nodes, nodes_seen, base_tree, changes_in, overlay}
 use Rattle.commit_path.specs.Committing.{log_for, snap_for, is_long}
 use Rattle.commit_path.specs.Spelled.{IsSpelled}
-use Rattle.changed_snapshot.specs.declared.written.NewList.{NewList}
+use Rattle.changed_snapshot.specs.declared.new_snapshot.NewList.{NewList}
 use Rattle.changed_snapshot.specs.Laws.{AreMerged, NodesLaw, TreeLaw, FrozenLaw, RankedLaw, ProperLaw, OwnLaw}
 use Rattle.changed_snapshot.specs.Rows.{rows_over, snapshot_over}
 use Rattle.manifest_index.specs.Laws.{MergedLaw, NewListLaw, ExtentsLaw}

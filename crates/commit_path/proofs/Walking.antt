@@ -20,8 +20,8 @@ use Rattle.zarr_tree.specs.Held.{touched}
 use Rattle.zarr_tree.specs.Touched.{is_untouched}
 use Rattle.zarr_changes.specs.declared.chunks.ChangedArray.{ChangedArray}
 use Rattle.zarr_changes.specs.Sets.{chunks_of, changed_arrays}
-use Rattle.changed_snapshot.specs.declared.written.NewManifest.{NewManifest}
-use Rattle.changed_snapshot.specs.declared.written.NewList.{NewList}
+use Rattle.changed_snapshot.specs.declared.new_snapshot.NewManifest.{NewManifest}
+use Rattle.changed_snapshot.specs.declared.new_snapshot.NewList.{NewList}
 use Rattle.changed_snapshot.specs.Rows.{own_manifests}
 use Rattle.object_store.specs.declared.keys.Key.TheVariants.{Manifest as Manifest_key, Txn}
 use Rattle.object_store.specs.declared.keys.Why.TheVariants.{Set}

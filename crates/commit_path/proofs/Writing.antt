@@ -20,7 +20,7 @@ use Rattle.manifest_file.specs.Layout.{file_bytes}
 use Rattle.held_manifest.specs.LookUp.{Listed}
 use Rattle.manifest_index.specs.Merging.{Change, merged, IsMerged, merged_array}
 use Rattle.snapshot_file.specs.declared.nodes.ManifestRef.{ManifestRef}
-use Rattle.repo_objects.specs.declared.bad.Bad.{Bad}
+use Rattle.repo_objects.specs.declared.bad_objects.Bad.{Bad}
 use Rattle.repo_objects.specs.Readings.{read_manifest, manifest_by}
 use Rattle.repo_objects.specs.Trees.{NamesManifest, NamesChunk}
 use Rattle.object_store.specs.declared.keys.Key.TheVariants.{Manifest}
@@ -42,7 +42,7 @@ use Rattle.store_api.specs.Program.{Done, Ask}
 use Rattle.repo_read.specs.Answers.{at_key, manifest_told}
 use Rattle.session.specs.Sessions.{SessionState, base_nodes}
 use Rattle.zarr_changes.specs.declared.chunks.ChangedArray.{ChangedArray}
-use Rattle.changed_snapshot.specs.declared.written.NewManifest.{NewManifest}
+use Rattle.changed_snapshot.specs.declared.new_snapshot.NewManifest.{NewManifest}
 use Rattle.changed_snapshot.specs.Rows.{own_manifests}
 use Rattle.manifest_index.specs.Laws.{IsNewList}
 use Rattle.manifest_index.specs.Extents.{extents_for}

@@ -26,8 +26,8 @@ use Rattle.snapshot_file.specs.Layout.{snapshot_bytes}
 use Rattle.txn_file.specs.declared.log.TxnFile.{TxnFile}
 use Rattle.txn_file.specs.Layout.{log_file}
 use Rattle.ref_file.specs.Refs.{ref_bytes}
-use Rattle.changed_snapshot.specs.declared.written.NewManifest.{NewManifest}
-use Rattle.changed_snapshot.specs.declared.written.NewList.{NewList}
+use Rattle.changed_snapshot.specs.declared.new_snapshot.NewManifest.{NewManifest}
+use Rattle.changed_snapshot.specs.declared.new_snapshot.NewList.{NewList}
 use Rattle.changed_snapshot.specs.Rows.{own_manifests, snapshot_over}
 use Rattle.object_store.specs.declared.keys.Key.TheVariants.{Snapshot as Snapshot_key, Manifest as Manifest_key, Txn, Branch as Branch_key}
 use Rattle.object_store.specs.declared.keys.Why.TheVariants.{Set, Commit as For_commit}

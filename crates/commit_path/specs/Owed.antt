@@ -13,7 +13,7 @@ use Rattle.manifest_file.specs.declared.manifest.Place.{Place}
 use Rattle.snapshot_file.specs.declared.snapshot.SnapshotFile.{SnapshotFile}
 use Rattle.repo_objects.specs.Readings.{snapshot_by, ref_of}
 use Rattle.object_store.specs.declared.keys.Key.{Key}
-use Rattle.object_store.specs.declared.keys.Key.TheVariants.{Snapshot, Manifest, Txn, Chunk, Branch, Tag, TagGone, Lease}
+use Rattle.object_store.specs.declared.keys.Key.TheVariants.{Snapshot, Manifest, Txn, Chunk, Branch, Tag, Tombstone, Lease}
 use Rattle.object_store.specs.declared.keys.Why.{Why}
 use Rattle.object_store.specs.declared.keys.Why.TheVariants.{Commit}
 use Rattle.object_store.specs.declared.events.Op.{Op}
@@ -96,7 +96,7 @@ OwesNew ids mine journal bytes (Manifest id) = MayDrawObject ids id
 OwesNew ids mine journal bytes (Chunk id) = MayDrawObject ids id
 OwesNew ids mine journal bytes (Branch name) = ⊥
 OwesNew ids mine journal bytes (Tag name) = ⊥
-OwesNew ids mine journal bytes (TagGone name) = ⊥
+OwesNew ids mine journal bytes (Tombstone name) = ⊥
 OwesNew ids mine journal bytes (Lease id) = ⊥
 
 -- what is put over is a branch
@@ -107,7 +107,7 @@ OwesPutOver mine journal bytes old why (Manifest id) = ⊥
 OwesPutOver mine journal bytes old why (Txn id) = ⊥
 OwesPutOver mine journal bytes old why (Chunk id) = ⊥
 OwesPutOver mine journal bytes old why (Tag name) = ⊥
-OwesPutOver mine journal bytes old why (TagGone name) = ⊥
+OwesPutOver mine journal bytes old why (Tombstone name) = ⊥
 OwesPutOver mine journal bytes old why (Lease id) = ⊥
 
 -- a client that opens sessions, edits and commits them reads, puts objects and puts branches over

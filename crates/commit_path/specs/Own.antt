@@ -14,7 +14,7 @@ use Rattle.manifest_file.specs.declared.manifest.Place.TheVariants.{Object}
 use Rattle.snapshot_file.specs.declared.snapshot.SnapshotFile.{SnapshotFile}
 use Rattle.repo_objects.specs.Readings.{ref_of}
 use Rattle.object_store.specs.declared.keys.Key.{Key}
-use Rattle.object_store.specs.declared.keys.Key.TheVariants.{Snapshot, Manifest, Txn, Chunk, Branch, Tag, TagGone, Lease}
+use Rattle.object_store.specs.declared.keys.Key.TheVariants.{Snapshot, Manifest, Txn, Chunk, Branch, Tag, Tombstone, Lease}
 use Rattle.object_store.specs.declared.keys.Why.{Why}
 use Rattle.object_store.specs.declared.events.Op.{Op}
 use Rattle.object_store.specs.declared.events.Op.TheVariants.{Get, PutNew, PutOver, Remove, RemoveAt, List as ListPart}
@@ -70,7 +70,7 @@ id_of (Txn id) = Some id
 id_of (Chunk id) = Some id
 id_of (Branch name) = None
 id_of (Tag name) = None
-id_of (TagGone name) = None
+id_of (Tombstone name) = None
 id_of (Lease id) = Some id
 
 -- on its way from the first of these to the second, the source drew the id

@@ -6,7 +6,7 @@ use Rattle.snapshot_file.specs.declared.snapshot.SnapshotFile.{SnapshotFile}
 use Rattle.repo_objects.specs.Readings.{snapshot_by}
 use Rattle.repo_objects.specs.Trees.{nodes_in}
 use Rattle.object_store.specs.declared.keys.Key.{Key}
-use Rattle.object_store.specs.declared.keys.Key.TheVariants.{Snapshot, Manifest, Txn, Chunk, Branch, Tag, TagGone, Lease}
+use Rattle.object_store.specs.declared.keys.Key.TheVariants.{Snapshot, Manifest, Txn, Chunk, Branch, Tag, Tombstone, Lease}
 use Rattle.object_store.specs.declared.keys.Why.{Why}
 use Rattle.object_store.specs.declared.events.Op.{Op}
 use Rattle.object_store.specs.declared.events.Op.TheVariants.{Get, PutNew, PutOver, Remove, RemoveAt, List as ListPart}
@@ -29,7 +29,7 @@ IsOfSnapshot (Txn id) = ⊥
 IsOfSnapshot (Chunk id) = ⊥
 IsOfSnapshot (Branch name) = ⊥
 IsOfSnapshot (Tag name) = ⊥
-IsOfSnapshot (TagGone name) = ⊥
+IsOfSnapshot (Tombstone name) = ⊥
 IsOfSnapshot (Lease id) = ⊥
 
 -- a put of a new snapshot, done or not

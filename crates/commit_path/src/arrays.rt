@@ -2,7 +2,7 @@
 
 ghost use Rattle.std.specs.Prelude.{◌≡◌, ◌<◌, [], None, length, OnOk, OnErr, MatchBool, MatchOption};
 ghost use Rattle.flat_tables.specs.Rows.{Ascends};
-ghost use Rattle.changed_snapshot.specs.declared.written.NewList.{NewList as TheList};
+ghost use Rattle.changed_snapshot.specs.declared.new_snapshot.NewList.{NewList as TheList};
 ghost use Rattle.zarr_changes.specs.declared.chunks.ChangedArray.{ChangedArray as TheArray};
 ghost use Rattle.commit_path.specs.inside.Lists.{IsFirst, closed};
 

@@ -9,7 +9,7 @@ ghost use Rattle.store_api.specs.Driving.{Awaits, Took, op_of};
 ghost use Rattle.object_store.specs.declared.events.Op.TheVariants as Op;
 ghost use Rattle.snapshot_file.specs.Layout.{snapshot_bytes};
 ghost use Rattle.txn_file.specs.Layout.{log_file};
-ghost use Rattle.changed_snapshot.specs.declared.written.NewList.{NewList as TheList};
+ghost use Rattle.changed_snapshot.specs.declared.new_snapshot.NewList.{NewList as TheList};
 ghost use Rattle.commit_path.specs.Committing.{log_for, snap_for, old_rest, new_behind, arrays_behind, written_in, after_arrays, after_log, after_snapshot, after_branch, commit_rest, commit_left, manifests_left, session_in, message_in, IsDrawn, DrewOwn, DrewFor, IsLeft, CommitStarts, MayRefuseStart, MayRefuseCommit};
 ghost use Rattle.session.specs.Sessions.{branch_of};
 ghost use Rattle.commit_path.specs.inside.Lists.{IsRank};
@@ -124,7 +124,7 @@ fn put_new(key: Key, file: &Bytes) -> Request<'_>
 {
     Request::PutNew {
         key,
-        bytes: Payload::Held(file.as_slice()),
+        bytes: Payload::Lent(file.as_slice()),
         why: Why::Set,
     }
 }
@@ -150,7 +150,7 @@ impl Machine for Commit {
             Committing::Snapshot { id, file } => Ok(put_new(Key::Snapshot(*id), file)),
             Committing::Branch { id: _, file } => Ok(Request::PutOver {
                 key: Key::Branch(self.session.branch().copy(self.alloc)?),
-                bytes: Payload::Held(file.as_slice()),
+                bytes: Payload::Lent(file.as_slice()),
                 old: self.session.version(),
                 why: Why::Commit,
             }),

@@ -1,14 +1,14 @@
 //! Where a commit stands.
 
 use changed_snapshot::NewManifest;
-use held_manifest::Held;
+use held_manifest::HeldManifest;
 use ice_base::Bytes;
 use ice_ids::Id12;
 use snapshot_file::{Extents, ManifestRef};
 use std::mem;
 
 /// Manifests that were got, each with its extents in the list.
-pub type Got = Vec<(Extents, Held)>;
+pub type Got = Vec<(Extents, HeldManifest)>;
 
 /// The operation that comes next, with the bytes that it puts.
 #[derive(Debug, Drop)]

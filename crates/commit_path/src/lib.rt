@@ -4,14 +4,14 @@
 mod arrays;
 mod commit;
 mod committing;
+mod common_law;
 mod laws;
 mod manifests;
 mod owning;
-mod single;
 mod writer;
 
 pub use commit::{Commit, Committed, Tried};
+pub use common_law::single_law;
 pub use laws::{answers_law, commit_law, opening_law, session_law};
 pub use owning::owning_law;
-pub use single::single_law;
 pub use writer::Writer;

@@ -18,7 +18,8 @@ ghost use Rattle.conflicts.specs.inside.Looking.{twice_at};
 ghost use Rattle.conflicts.specs.Found.{if_so, of_added, of_case, of_row, rows_before, rows_from, found_in, found};
 
 use crate::sides::Sides;
-use held_log::{HeldLists, IndexView};
+use held_log::HeldLists;
+use held_manifest::IndexView;
 use ice_ids::Id8;
 use ice_items::Items;
 use std::alloc::{AllocError, Global};

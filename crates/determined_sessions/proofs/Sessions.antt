@@ -11,8 +11,8 @@ use Rattle.session.specs.Opening.{Asked, begun}
 use Rattle.chunk_calls.specs.Told.{WasSet, WasPutOut}
 use Rattle.region_calls.specs.Written.{AreSet, WasWritten}
 use Rattle.commit_path.specs.Opened.{WasBegun}
-use Rattle.play_script.specs.declared.scripts.Access.{Access}
-use Rattle.play_script.specs.declared.scripts.Head.TheVariants.{Session}
+use Rattle.script_calls.specs.declared.calls.Access.{Access}
+use Rattle.script_calls.specs.declared.calls.Head.TheVariants.{Session}
 use Rattle.play_script.specs.declared.scripts.Line.{Line}
 use Rattle.play_outcome.specs.declared.outcome.Shown.{Shown}
 use Rattle.play_tasks.specs.Lines.{Deed, Goes, Sets, Reads, Puts, Gathers, Commits, deed}

@@ -23,11 +23,11 @@ use Rattle.region_calls.proofs.Cells.{has_told}
 use Rattle.conflicts.specs.declared.solving.Policy.{Policy}
 use Rattle.rebase.specs.Along.{Link}
 use Rattle.rebase.specs.AlongLaws.{Passes}
-use Rattle.play_script.specs.declared.scripts.CellBox.{CellBox}
-use Rattle.play_script.specs.declared.scripts.EditCall.{EditCall}
-use Rattle.play_script.specs.declared.scripts.EditCall.TheVariants as E
-use Rattle.play_script.specs.declared.scripts.Call.{Call}
-use Rattle.play_script.specs.declared.scripts.Call.TheVariants as C
+use Rattle.script_calls.specs.declared.calls.CellBox.{CellBox}
+use Rattle.script_calls.specs.declared.calls.EditCall.{EditCall}
+use Rattle.script_calls.specs.declared.calls.EditCall.TheVariants as E
+use Rattle.script_calls.specs.declared.calls.Call.{Call}
+use Rattle.script_calls.specs.declared.calls.Call.TheVariants as C
 use Rattle.play_outcome.specs.declared.outcome.Shown.{Shown}
 use Rattle.run_promise.specs.Lines.{text_put, key_put, edit_of, Edits, PutsBox, Changed, Does, Plays}
 use Rattle.run_promise.specs.Ways.{Carried, stays, over}

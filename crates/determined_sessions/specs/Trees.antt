@@ -7,10 +7,10 @@ use Rattle.zarr_tree.specs.Changes.{Changes}
 use Rattle.zarr_tree.specs.Edits.{Edit, Add, SetMeta, Drop, Set, Unset}
 use Rattle.conflicts.specs.declared.solving.Policy.{Policy}
 use Rattle.rebase.specs.Along.{Link}
-use Rattle.play_script.specs.declared.scripts.EditCall.{EditCall}
-use Rattle.play_script.specs.declared.scripts.EditCall.TheVariants as E
-use Rattle.play_script.specs.declared.scripts.Call.{Call}
-use Rattle.play_script.specs.declared.scripts.Call.TheVariants as C
+use Rattle.script_calls.specs.declared.calls.EditCall.{EditCall}
+use Rattle.script_calls.specs.declared.calls.EditCall.TheVariants as E
+use Rattle.script_calls.specs.declared.calls.Call.{Call}
+use Rattle.script_calls.specs.declared.calls.Call.TheVariants as C
 use Rattle.play_script.specs.declared.scripts.Line.{Line}
 use Rattle.play_outcome.specs.declared.outcome.Shown.{Shown}
 use Rattle.run_promise.specs.Lines.{Changed, Does, Plays}

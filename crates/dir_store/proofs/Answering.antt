@@ -19,9 +19,9 @@ use Rattle.object_store.specs.declared.events.Reply.TheVariants.{New as Is_new, 
 use Rattle.object_store.specs.declared.events.StoreFault.{StoreFault}
 use Rattle.object_store.specs.declared.events.StoreFault.TheVariants.{Failed, NoMemory}
 use Rattle.object_store.specs.Machine.{Stored, fresh_slot, put_at, new_of, over_of}
-use Rattle.dir_store.specs.Versions.{putting_of, version_for}
+use Rattle.object_files.specs.Versions.{putting_of, version_for}
 use Rattle.dir_store.specs.Contents.{object_of, IsDone, Did, Answers}
-use Rattle.dir_store.specs.Paths.{path_in, aside_folder_in}
+use Rattle.object_files.specs.Paths.{path_in, aside_folder_in}
 use Rattle.dir_store.specs.Store.{time_of_new, time_of_over}
 use Rattle.dir_store.specs.inside.Telling.{as_told, Through, told_new, told_over}
 

@@ -9,9 +9,9 @@ use Rattle.object_store.specs.declared.keys.Why.{Why}
 use Rattle.object_store.specs.declared.events.Op.{Op}
 use Rattle.object_store.specs.declared.events.Op.TheVariants.{PutNew, PutOver}
 use Rattle.object_store.specs.declared.events.Version.{Version}
-use Rattle.dir_store.specs.Versions.{putting_of}
+use Rattle.object_files.specs.Versions.{putting_of}
 use Rattle.dir_store.specs.Contents.{object_at, IsDone, IsLeftBy}
-use Rattle.dir_store.specs.Paths.{path_in, aside_folder_in}
+use Rattle.object_files.specs.Paths.{path_in, aside_folder_in}
 use Rattle.dir_store.proofs.Answering.{object, new-done, over-done}
 
 -- of a key's file, where it lies in the directory

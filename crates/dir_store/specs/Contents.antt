@@ -1,28 +1,18 @@
 -- The directory as the machine of a store, where the version of an object is told by its key and its content, and its time
 -- is that of its file's last change.
-use Rattle.std.specs.Prelude.{◌≡◌, ◌≢◌, ◌<◌, ◌⊎◌, ℕ, List, Option, Some, option_map, Result, Ok, Err, IfOk, slice_get}
-use Rattle.std.specs.declared.cmp.Ordering.TheVariants.{Less}
+use Rattle.std.specs.Prelude.{◌≡◌, ◌≢◌, ◌⊎◌, ℕ, List, Option, option_map, Result, Ok, Err, IfOk}
 use Rattle.folder.specs.Files.{Stored as StoredFile}
 use Rattle.whole_files.specs.Whole.{OnlyAt, IsOutside}
 use Rattle.object_store.specs.declared.keys.Key.{Key}
-use Rattle.object_store.specs.declared.keys.Part.{Part}
 use Rattle.object_store.specs.declared.events.Op.{Op}
 use Rattle.object_store.specs.declared.events.Op.TheVariants.{Get, PutNew, PutOver, Remove, RemoveAt, List as ListPart}
 use Rattle.object_store.specs.declared.events.Reply.{Reply}
-use Rattle.object_store.specs.declared.events.Entry.{Entry}
 use Rattle.object_store.specs.declared.events.StoreFault.{StoreFault}
 use Rattle.object_store.specs.declared.events.StoreFault.TheVariants.{Failed, NoMemory}
-use Rattle.object_store.specs.Machine.{Stored, fresh_slot, leaves, IsHonest, IsEntry, HasEntry, part_of, listing_cmp}
-use Rattle.dir_store.specs.Versions.{version_for}
-use Rattle.dir_store.specs.Paths.{IsKey, path_in, aside_folder_in}
-
--- the object that a key's file is
-abbrev pub object_of : Key → StoredFile → Stored
-object_of key file = record { bytes = file.bytes; version = version_for key file.bytes; created = file.changed }
-
--- what stands at a key, of the files of a directory
-abbrev pub object_at : (List ℕ → Option StoredFile) → List ℕ → Key → Option Stored
-object_at files root key = option_map (object_of key) (files (path_in root key))
+use Rattle.object_store.specs.Machine.{Stored, fresh_slot, leaves, IsHonest}
+use Rattle.object_files.specs.Versions.{version_for}
+use Rattle.object_files.specs.Paths.{path_in, aside_folder_in}
+pub use Rattle.object_files.specs.Contents.{object_of, object_at, ListsAll}
 
 -- the version of what an operation puts
 abbrev pub version_put : Op → ℕ
@@ -62,9 +52,3 @@ pub record IsLeftBy (root : List ℕ) (key : Key) (op : Op) (files : List ℕ �
 -- Where no name was loose before, a loss of power now leaves what lies there, but for files aside.
 abbrev pub Lasts : List ℕ → (List ℕ → Type 0) → (List ℕ → Option StoredFile → Type 0) → (List ℕ → Option StoredFile) → Type 0
 Lasts asides loose left files = (p : List ℕ) (f : Option StoredFile) → (loose p → ⊥) → IsOutside asides p → left p f → f ≡ files p
-
--- The entries are those of what stands in the part, each once, in the order of listings.
-pub record ListsAll (at : Key → Option Stored) (part : Part) (entries : List Entry) : Type 0 where
-  pub right : (k : ℕ) (e : Entry) → slice_get entries k ≡ Some e → IsEntry at part e
-  pub whole : (key : Key) (s : Stored) → IsKey key → part_of key ≡ part → at key ≡ Some s → HasEntry entries key
-  pub ascending : (j k : ℕ) (d e : Entry) → j < k → slice_get entries j ≡ Some d → slice_get entries k ≡ Some e → listing_cmp d.key e.key ≡ Less

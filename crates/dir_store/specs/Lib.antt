@@ -1,6 +1,5 @@
-pub mod Paths
 pub mod Store
-pub mod Versions
 pub mod Listings
 pub mod Contents
+pub mod Faults
 pub mod inside

@@ -18,7 +18,7 @@ use Rattle.object_store.specs.Callers.{Caller, View}
 use Rattle.dir_store.specs.declared.store.FolderStore.{FolderStore}
 use Rattle.whole_files.specs.Places.{root_of as root_in, asides_of as asides_in}
 use Rattle.object_store.specs.declared.keys.Key.{Key}
-use Rattle.dir_store.specs.Versions.{version_for}
+use Rattle.object_files.specs.Versions.{version_for}
 
 -- ---- what is seen
 abbrev pub client_of : {F C : Type 0} → FolderStore F C → ℕ

@@ -1,11 +1,11 @@
 //! Answers of the operations.
 
 ghost use Rattle.std.specs.Prelude.{◌≡◌};
-ghost use Rattle.dir_store.specs.Versions.{version_for};
+ghost use Rattle.object_files.specs.Versions.{version_for};
 ghost use Rattle.dir_store.specs.inside.Telling.{told_got, told_new, told_over, told_gone, told_gone_at};
 
-use crate::versions::version_for;
 use ice_base::Bytes;
+use object_files::version_for;
 use object_store::{Gone, GoneAt, Got, Key, New, Over, Version};
 use whole_files::Change;
 

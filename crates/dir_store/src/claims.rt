@@ -1,12 +1,13 @@
 //! The claim of a directory by one program.
 
 use crate::clearing::clear;
-use crate::faults::{OpenFault, in_memory};
+use crate::faults::OpenFault;
 use folder::{Call, Lock, refused};
 use std::fs::File;
 use std::io::ErrorKind;
 use std::rt::Files;
 use std::{fs, io};
+use whole_files::in_memory;
 
 /// The claim of a directory: an advisory lock on a file in it, which the system holds until this value
 /// is dropped or the program ends in whatever way. It binds only programs that claim the directory too.

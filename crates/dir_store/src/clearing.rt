@@ -4,8 +4,8 @@ ghost use Rattle.std.specs.Prelude.{IsTrue};
 ghost use Rattle.folder.specs.Files.{NoLooser, Leaves, IsKept};
 ghost use Rattle.whole_files.specs.Whole.{SameFiles};
 
-use crate::names::{aside_folder, is_aside};
 use folder::{FileFault, Folder, Kind, SystemFolder};
+use object_files::{aside_folder, is_aside};
 use std::alloc::{AllocError, Global};
 use std::rt::Files;
 use whole_files::folder_at;

@@ -5,24 +5,22 @@ ghost use Rattle.folder.specs.Files.{SameBut, NoLooser, Leaves, IsKept, IsChange
 ghost use Rattle.whole_files.specs.Places.{root_of, asides_of};
 ghost use Rattle.whole_files.specs.Whole.{SameFiles, OnlyAt, IsOutside, LooserAside, IsLeft, bytes_at};
 ghost use Rattle.whole_files.specs.Changes.{Makes, Replaces, IsMoved, IsNew, IsOver, IsGone};
-ghost use Rattle.dir_store.specs.Paths.{path_in, aside_folder_in};
-ghost use Rattle.dir_store.specs.Versions.{putting_of};
+ghost use Rattle.object_files.specs.Paths.{path_in, aside_folder_in};
+ghost use Rattle.object_files.specs.Versions.{putting_of};
 ghost use Rattle.dir_store.specs.inside.Telling.{as_told, Through, Removed, RemovedVersion};
 ghost use Rattle.dir_store.specs.Listings.{IsListed};
 ghost use Rattle.dir_store.specs.Contents.{object_at, ListsAll};
 ghost use Rattle.object_store.specs.declared.events.StoreFault.TheVariants as StoreFault;
 
 use crate::clearing::flush_all;
-use crate::listing::{ListFault, folder_of, list_files};
-use crate::names::{aside_folder, path_of};
-use crate::versions::putting_of;
 use folder::{FileFault, Folder, Trouble};
 use ice_base::Bytes;
+use object_files::{ListFault, aside_folder, folder_of, list_files, path_of, putting_of};
 use object_store::{Entries, Key, Part, StoreFault};
 use std::alloc::{AllocError, Global};
 use std::fmt;
 use whole_files::{
-    Change, Places, Putting, make_file, read_file, remove_file, remove_version, replace_file,
+    Change, Known, Places, Putting, make_file, read_file, remove_file, remove_version, replace_file,
 };
 
 /// The first call on files that failed, and where.
@@ -64,6 +62,7 @@ pub(crate) struct Directory<F> {
     tree: F,
     alloc: Global,
     places: Places,
+    known: Known,
     settled: bool,
     first_fault: Option<FirstFault>,
     ghost asides: { asides_of places ≡ aside_folder_in (root_of places) },
@@ -80,6 +79,7 @@ impl<F: Folder> Directory<F> {
         let asides = aside_folder(alloc, path)?;
         Ok(Directory {
             places: Places::new(String::from_str(alloc, path)?, asides),
+            known: Known::nothing(),
             tree,
             alloc,
             settled: true,
@@ -183,6 +183,7 @@ impl<F: Folder> Directory<F> {
         make_file(
             &mut self.tree,
             &self.places,
+            &mut self.known,
             self.alloc,
             putting,
             path,
@@ -217,6 +218,7 @@ impl<F: Folder> Directory<F> {
         replace_file(
             &mut self.tree,
             &self.places,
+            &mut self.known,
             self.alloc,
             putting,
             path,

@@ -1,10 +1,10 @@
 //! Why a directory can't be used.
 
-ghost use Rattle.std.specs.Prelude.{◌≡◌, Ok, MatchResult};
-ghost use Rattle.folder.specs.declared.faults.FileFault.TheVariants as FileFault;
+ghost use Rattle.std.specs.Prelude.{◌≡◌};
+ghost use Rattle.dir_store.specs.declared.faults.OpenFault.TheVariants as Opening;
+ghost use Rattle.dir_store.specs.Faults.{open_fault};
 
 use folder::{FileFault, Trouble};
-use std::alloc::AllocError;
 use std::fmt;
 
 /// Why a directory can't be used.
@@ -38,27 +38,20 @@ impl fmt::Display for OpenFault {
 }
 
 impl From<Trouble> for OpenFault {
+    ghost from_gives = { λ trouble fault. fault ≡ Opening.Failed trouble };
+
     fn from(trouble: Trouble) -> OpenFault {
         OpenFault::Failed(trouble)
     }
 }
 
 impl From<FileFault> for OpenFault {
+    ghost from_gives = { λ fault told. told ≡ open_fault fault };
+
     fn from(fault: FileFault) -> OpenFault {
         match fault {
             FileFault::Failed(trouble) => OpenFault::Failed(trouble),
             FileFault::NoMemory => OpenFault::NoMemory,
         }
-    }
-}
-
-/// Want of memory.
-pub(crate) fn in_memory<T>(made: Result<T, AllocError>) -> Result<T, FileFault>
-    ensures value { MatchResult result (λ value. made ≡ Ok value)
-        (λ fault. fault ≡ FileFault.NoMemory) }
-{
-    match made {
-        Ok(value) => Ok(value),
-        Err(_) => Err(FileFault::NoMemory),
     }
 }

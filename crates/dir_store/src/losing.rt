@@ -1,11 +1,11 @@
 //! Whether the branch `main` was lost.
 
-use crate::faults::in_memory;
-use crate::listing::list_files;
 use folder::{FileFault, Folder};
 use ice_ids::Id12;
+use object_files::list_files;
 use object_store::{Entries, Key, Part};
 use std::alloc::Global;
+use whole_files::in_memory;
 
 /// Whether one of these isn't the snapshot that a new repository begins with.
 fn is_used(entries: &Entries) -> bool {

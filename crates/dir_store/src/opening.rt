@@ -4,7 +4,7 @@ ghost use Rattle.std.specs.Prelude.{IfOk};
 ghost use Rattle.dir_store.specs.Store.{IsNewIn};
 
 use crate::claims::Claim;
-use crate::faults::{OpenFault, in_memory};
+use crate::faults::OpenFault;
 use crate::losing::is_main_lost;
 use crate::seeds::random_seed;
 use crate::store::{DirStore, of_listed};
@@ -12,6 +12,7 @@ use folder::SystemFolder;
 use ice_base::Clock;
 use std::fs::File;
 use std::rt::Files;
+use whole_files::in_memory;
 
 /// What a run over a directory needs.
 #[derive(Drop)]

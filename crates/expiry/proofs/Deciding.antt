@@ -5,7 +5,7 @@ use Rattle.std.proofs.lemmas.Bool.{and_parts, not-true}
 use Rattle.ice_base.specs.Names.{main_name, same_name}
 use Rattle.ice_ids.specs.declared.Id12.{Id12}
 use Rattle.object_store.specs.declared.keys.Key.{Key}
-use Rattle.object_store.specs.declared.keys.Key.TheVariants.{Snapshot, Manifest, Txn, Chunk, Branch, Tag, TagGone, Lease}
+use Rattle.object_store.specs.declared.keys.Key.TheVariants.{Snapshot, Manifest, Txn, Chunk, Branch, Tag, Tombstone, Lease}
 use Rattle.object_store.specs.declared.keys.Why.TheVariants.{Expire}
 use Rattle.object_store.specs.declared.events.Version.{Version}
 use Rattle.object_store.specs.declared.events.Op.{Op}
@@ -55,7 +55,7 @@ drop-fine t client (Snapshot id) version start h d may = absurd (cc)
 drop-fine t client (Manifest id) version start h d may = absurd (cc)
 drop-fine t client (Txn id) version start h d may = absurd (cc)
 drop-fine t client (Chunk id) version start h d may = absurd (cc)
-drop-fine t client (TagGone name) version start h d may = absurd (cc)
+drop-fine t client (Tombstone name) version start h d may = absurd (cc)
 drop-fine t client (Lease id) version start h d may = absurd (cc)
 
 -- ---- replies, by kind: one of another kind is none of an honest store's
@@ -91,12 +91,12 @@ module _ (by : Caller) (old new : List Event) (P : Reply → Type 0) where
   -- of a drop of what may be dropped
   drop-cases : (t : Terms) (ref : Key) (version : Version) → may_drop t ref ≡ true → Told drop_told (drop_op ref version) Dropped → Told drop_told (drop_op ref version) Moved → Fails (drop_op ref version) → (reply : Reply) → Makes by (drop_op ref version) reply old new → P reply
   drop-cases t (Branch name) version may did moved failed reply m = removal-cases (Branch name) version did moved failed reply m
-  drop-cases t (Tag name) version may did moved failed reply m = burial-cases (TagGone name) did moved failed reply m
+  drop-cases t (Tag name) version may did moved failed reply m = burial-cases (Tombstone name) did moved failed reply m
   drop-cases t (Snapshot id) version may did moved failed reply m = absurd (cc)
   drop-cases t (Manifest id) version may did moved failed reply m = absurd (cc)
   drop-cases t (Txn id) version may did moved failed reply m = absurd (cc)
   drop-cases t (Chunk id) version may did moved failed reply m = absurd (cc)
-  drop-cases t (TagGone name) version may did moved failed reply m = absurd (cc)
+  drop-cases t (Tombstone name) version may did moved failed reply m = absurd (cc)
   drop-cases t (Lease id) version may did moved failed reply m = absurd (cc)
 
   cut-cases : (id : Id12) (bytes : List ℕ) (version : Version) → Told (cut_told id) (PutOver (Snapshot id) bytes version Expire) (Cut id) → Told (cut_told id) (PutOver (Snapshot id) bytes version Expire) Moved → Fails (PutOver (Snapshot id) bytes version Expire)

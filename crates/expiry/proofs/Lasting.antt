@@ -6,7 +6,7 @@ use Rattle.std.proofs.lemmas.List.Elements.{All-weaker}
 use Rattle.ice_ids.specs.declared.Id12.{Id12}
 use Rattle.snapshot_file.specs.declared.snapshot.SnapshotFile.{SnapshotFile}
 use Rattle.object_store.specs.declared.keys.Key.{Key}
-use Rattle.object_store.specs.declared.keys.Key.TheVariants.{Snapshot, Manifest, Txn, Chunk, Branch, Tag, TagGone, Lease}
+use Rattle.object_store.specs.declared.keys.Key.TheVariants.{Snapshot, Manifest, Txn, Chunk, Branch, Tag, Tombstone, Lease}
 use Rattle.object_store.specs.declared.keys.Part.{Part}
 use Rattle.object_store.specs.declared.keys.Part.TheVariants.{Branches, Tags}
 use Rattle.object_store.specs.declared.keys.Why.TheVariants.{Expire}
@@ -162,7 +162,7 @@ module _ (t : Terms) (client : ℕ) (start journal more : List Event) where
 
   -- ---- what it owes
   new-more : (bytes : List ℕ) (key : Key) → OwesNew t client start journal bytes key → OwesNew t client start (journal ++ more) bytes key
-  new-more bytes (TagGone name) w = (w.0, (w.1.0, judged-more (Tag name) w.1.0 ToDrop w.1.1))
+  new-more bytes (Tombstone name) w = (w.0, (w.1.0, judged-more (Tag name) w.1.0 ToDrop w.1.1))
   new-more bytes (Snapshot id) w = absurd w
   new-more bytes (Manifest id) w = absurd w
   new-more bytes (Txn id) w = absurd w
@@ -178,7 +178,7 @@ module _ (t : Terms) (client : ℕ) (start journal more : List Event) where
   over-more bytes old (Chunk id) w = absurd w
   over-more bytes old (Branch name) w = absurd w
   over-more bytes old (Tag name) w = absurd w
-  over-more bytes old (TagGone name) w = absurd w
+  over-more bytes old (Tombstone name) w = absurd w
   over-more bytes old (Lease id) w = absurd w
 
   gone-more : (old : Version) (key : Key) → OwesGone t client start journal old key → OwesGone t client start (journal ++ more) old key
@@ -188,7 +188,7 @@ module _ (t : Terms) (client : ℕ) (start journal more : List Event) where
   gone-more old (Txn id) w = absurd w
   gone-more old (Chunk id) w = absurd w
   gone-more old (Tag name) w = absurd w
-  gone-more old (TagGone name) w = absurd w
+  gone-more old (Tombstone name) w = absurd w
   gone-more old (Lease id) w = absurd w
 
   pub owed-more : (op : Op) → IsOwed t start journal client op → IsOwed t start (journal ++ more) client op

@@ -7,4 +7,5 @@ pub mod Judging
 pub mod Reading
 pub mod Deciding
 pub mod Listing
+pub mod Changing
 pub mod Lawful

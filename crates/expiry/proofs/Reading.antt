@@ -11,7 +11,7 @@ use Rattle.flat_tables.specs.File.{file_limit}
 use Rattle.ice_ids.specs.declared.Id12.{Id12}
 use Rattle.ice_ids.specs.Text.{initial_id}
 use Rattle.snapshot_file.specs.declared.snapshot.SnapshotFile.{SnapshotFile}
-use Rattle.repo_objects.specs.declared.bad.Bad.{Bad}
+use Rattle.repo_objects.specs.declared.bad_objects.Bad.{Bad}
 use Rattle.repo_objects.specs.Readings.{read_ref, read_snapshot, snapshot_by}
 use Rattle.repo_objects.specs.Laws.{SnapshotLaw}
 use Rattle.object_store.specs.declared.keys.Key.{Key}

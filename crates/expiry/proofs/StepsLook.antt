@@ -2,7 +2,7 @@
 use Rattle.std.proofs.Common.{◌≡◌, ℕ, zero, suc, ◌<◌, ◌-◌, Bool, true, false, List, Option, Some, None, Result, Ok, Err, IfErr, if◌then◌else◌, ◌&&◌, refl, subst, arith}
 use Rattle.ice_ids.specs.declared.Id12.{Id12}
 use Rattle.object_store.specs.declared.keys.Key.{Key}
-use Rattle.object_store.specs.declared.keys.Key.TheVariants.{Snapshot, Manifest, Txn, Chunk, Branch, Tag, TagGone, Lease}
+use Rattle.object_store.specs.declared.keys.Key.TheVariants.{Snapshot, Manifest, Txn, Chunk, Branch, Tag, Tombstone, Lease}
 use Rattle.object_store.specs.declared.events.Event.{Event}
 use Rattle.object_store.specs.declared.events.Op.TheVariants.{Get}
 use Rattle.object_store.specs.declared.events.Reply.{Reply}
@@ -22,7 +22,8 @@ use Rattle.expiry.specs.declared.look.Walk.{Walk}
 use Rattle.expiry.specs.Verdicts.{is_older, may_drop}
 use Rattle.expiry.specs.Looks.{Seen, cuts, next_of, snapshot_seen, look_below}
 use Rattle.expiry.specs.inside.Looking.{looking_rest, looking_left, is_ref}
-use Rattle.expiry.proofs.StepsHeard.{refused, went, snapshot-tells}
+use Rattle.expiry.proofs.StepsHeard.{snapshot-tells}
+use Rattle.repo_read.proofs.Hearing.{refused, went}
 
 -- ---- down the parents
 pub below-ends : (left cutoff : ℕ) (last : Seen) (next : Option Id12) → next ≡ None → look_below left cutoff last next ≡ Done (Ok Keeps)
@@ -105,5 +106,5 @@ drops-ref t (Snapshot id) old e = absurd cc
 drops-ref t (Manifest id) old e = absurd cc
 drops-ref t (Txn id) old e = absurd cc
 drops-ref t (Chunk id) old e = absurd cc
-drops-ref t (TagGone name) old e = absurd cc
+drops-ref t (Tombstone name) old e = absurd cc
 drops-ref t (Lease id) old e = absurd cc

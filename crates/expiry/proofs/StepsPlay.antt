@@ -28,7 +28,7 @@ use Rattle.expiry.specs.declared.register.Phase.TheVariants.{Branches, Tags}
 use Rattle.expiry.specs.Plays.{tells_failure, after_look, after_listing, expire_each, all_done}
 use Rattle.expiry.specs.inside.Registers.{Refs}
 use Rattle.expiry.specs.inside.Expiring.{settled, faults, Blamed, heard, listed_told, listed_rest, behind_all, refs_rest, case_rest, listing_rest}
-use Rattle.expiry.proofs.StepsHeard.{IsTelling}
+use Rattle.repo_read.proofs.Hearing.{IsTelling}
 
 -- ---- ends and their blame
 calm-end : (p q : Play Expired) (m n : ℕ) → m ≤ n → Blamed false q → BlamesEnd tells_failure p q m n

@@ -2,6 +2,7 @@ pub mod Verdicts
 pub mod Looks
 pub mod Plays
 pub mod Telling
+pub mod Changes
 pub mod Owing
 pub mod Laws
 pub mod Resting

@@ -1,7 +1,7 @@
 -- What an expiry owes of each of its operations. (Own.)
 use Rattle.std.specs.Prelude.{◌≡◌, ℕ, List, []}
 use Rattle.object_store.specs.declared.keys.Key.{Key}
-use Rattle.object_store.specs.declared.keys.Key.TheVariants.{Snapshot, Manifest, Txn, Chunk, Branch, Tag, TagGone, Lease}
+use Rattle.object_store.specs.declared.keys.Key.TheVariants.{Snapshot, Manifest, Txn, Chunk, Branch, Tag, Tombstone, Lease}
 use Rattle.object_store.specs.declared.keys.Why.TheVariants.{Expire}
 use Rattle.object_store.specs.declared.events.Version.{Version}
 use Rattle.object_store.specs.declared.events.Op.{Op}
@@ -17,7 +17,7 @@ IsToDrop t client ref version start journal = WasJudged t client ref version ToD
 
 -- a new key is the tombstone of a tag that is to be dropped
 abbrev pub OwesNew : Terms → (client : ℕ) → (start journal : List Event) → (bytes : List ℕ) → Key → Type 0
-OwesNew t client start journal bytes (TagGone name) = (bytes ≡ []) × ((version : Version) × IsToDrop t client (Tag name) version start journal)
+OwesNew t client start journal bytes (Tombstone name) = (bytes ≡ []) × ((version : Version) × IsToDrop t client (Tag name) version start journal)
 OwesNew t client start journal bytes (Snapshot id) = ⊥
 OwesNew t client start journal bytes (Manifest id) = ⊥
 OwesNew t client start journal bytes (Txn id) = ⊥
@@ -34,7 +34,7 @@ OwesOver t client start journal bytes old (Txn id) = ⊥
 OwesOver t client start journal bytes old (Chunk id) = ⊥
 OwesOver t client start journal bytes old (Branch name) = ⊥
 OwesOver t client start journal bytes old (Tag name) = ⊥
-OwesOver t client start journal bytes old (TagGone name) = ⊥
+OwesOver t client start journal bytes old (Tombstone name) = ⊥
 OwesOver t client start journal bytes old (Lease id) = ⊥
 
 -- what is removed is a branch that is to be dropped, at the version at which it was read
@@ -45,7 +45,7 @@ OwesGone t client start journal old (Manifest id) = ⊥
 OwesGone t client start journal old (Txn id) = ⊥
 OwesGone t client start journal old (Chunk id) = ⊥
 OwesGone t client start journal old (Tag name) = ⊥
-OwesGone t client start journal old (TagGone name) = ⊥
+OwesGone t client start journal old (Tombstone name) = ⊥
 OwesGone t client start journal old (Lease id) = ⊥
 
 -- An operation of an expiry: a get, a listing, or one that changes what is to be changed, by what the client's own gets read since `start`. So it is

@@ -2,7 +2,7 @@
 use Rattle.std.specs.Prelude.{Bool, false, List, [], ◌∷◌, ◌++◌, Result, Ok, Err}
 use Rattle.ice_ids.specs.declared.Id12.{Id12}
 use Rattle.object_store.specs.declared.keys.Key.{Key}
-use Rattle.object_store.specs.declared.keys.Key.TheVariants.{Snapshot, Manifest, Txn, Chunk, Branch, Tag, TagGone, Lease}
+use Rattle.object_store.specs.declared.keys.Key.TheVariants.{Snapshot, Manifest, Txn, Chunk, Branch, Tag, Tombstone, Lease}
 use Rattle.object_store.specs.declared.keys.Part.{Part}
 use Rattle.object_store.specs.declared.keys.Part.TheVariants.{Branches, Tags}
 use Rattle.object_store.specs.declared.keys.Why.TheVariants.{Expire}
@@ -43,12 +43,12 @@ ends_with cases result = Ended (record { cases = cases; result = result })
 -- A branch is dropped by a removal of the version that was read, a tag by its tombstone. Nothing else is ever dropped.
 abbrev pub drop_op : Key → Version → Op
 drop_op (Branch name) version = RemoveAt (Branch name) version Expire
-drop_op (Tag name) version = PutNew (TagGone name) [] Expire
+drop_op (Tag name) version = PutNew (Tombstone name) [] Expire
 drop_op (Snapshot id) version = Get (Snapshot id)
 drop_op (Manifest id) version = Get (Manifest id)
 drop_op (Txn id) version = Get (Txn id)
 drop_op (Chunk id) version = Get (Chunk id)
-drop_op (TagGone name) version = Get (TagGone name)
+drop_op (Tombstone name) version = Get (Tombstone name)
 drop_op (Lease id) version = Get (Lease id)
 
 -- what the reply to it tells: done, or the ref had moved on, or the tombstone was there

@@ -5,7 +5,7 @@ use Rattle.ice_base.specs.Names.{main_name, same_name}
 use Rattle.ice_ids.specs.Text.{initial_id}
 use Rattle.snapshot_file.specs.declared.snapshot.SnapshotFile.{SnapshotFile}
 use Rattle.object_store.specs.declared.keys.Key.{Key}
-use Rattle.object_store.specs.declared.keys.Key.TheVariants.{Snapshot, Manifest, Txn, Chunk, Branch, Tag, TagGone, Lease}
+use Rattle.object_store.specs.declared.keys.Key.TheVariants.{Snapshot, Manifest, Txn, Chunk, Branch, Tag, Tombstone, Lease}
 use Rattle.expiry.specs.declared.terms.Terms.{Terms}
 
 -- its history stays as it is; or it is to end at this snapshot; or the ref is to be dropped
@@ -35,7 +35,7 @@ may_drop t (Snapshot id) = false
 may_drop t (Manifest id) = false
 may_drop t (Txn id) = false
 may_drop t (Chunk id) = false
-may_drop t (TagGone name) = false
+may_drop t (Tombstone name) = false
 may_drop t (Lease id) = false
 
 -- a snapshot whose history ends there: it follows the initial one, and all else stays

@@ -33,7 +33,7 @@ pub(crate) fn may_drop(terms: Terms, key: &Key) -> bool
         Key::Branch(name) => terms.drop_branches && !is_main(name),
         Key::Tag(_) => terms.drop_tags,
         Key::Snapshot(_) | Key::Manifest(_) | Key::Txn(_) | Key::Chunk(_) => false,
-        Key::TagGone(_) | Key::Lease(_) => false,
+        Key::Tombstone(_) | Key::Lease(_) => false,
     }
 }
 

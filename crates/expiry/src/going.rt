@@ -230,11 +230,11 @@ fn drop_ref<S: Store>(
     match key {
         Key::Branch(_) => Ok(Reply::GoneAt(store.remove_at(key, version, Why::Expire)?)),
         Key::Tag(name) => match name.copy(alloc) {
-            Ok(name) => Ok(Reply::New(store.put_new(&Key::TagGone(name), &[], Why::Expire)?)),
+            Ok(name) => Ok(Reply::New(store.put_new(&Key::Tombstone(name), &[], Why::Expire)?)),
             Err(_) => Err(StoreFault::NoMemory),
         },
         Key::Snapshot(_) | Key::Manifest(_) | Key::Txn(_) | Key::Chunk(_) => unreachable!(),
-        Key::TagGone(_) | Key::Lease(_) => unreachable!(),
+        Key::Tombstone(_) | Key::Lease(_) => unreachable!(),
     }
 }
 
@@ -262,7 +262,7 @@ fn step_cutting<S: Store>(
     } = cut;
     let request = Request::PutOver {
         key: Key::Snapshot(id),
-        bytes: Payload::Held(bytes.as_slice()),
+        bytes: Payload::Lent(bytes.as_slice()),
         old: version,
         why: Why::Expire,
     };

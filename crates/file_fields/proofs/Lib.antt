@@ -6,3 +6,4 @@ pub mod Places
 pub mod Blocks
 pub mod WasRead
 pub mod Payloads
+pub mod NoMemory

@@ -115,6 +115,25 @@ pub record IsIn (folder path : List ℕ) : Type 0 where
 abbrev pub Firms : List ℕ → (List ℕ → Type 0) → (List ℕ → Type 0) → Type 0
 Firms folder old new = (p : List ℕ) → new p → old p × (IsIn folder p → ⊥)
 
+-- no name beneath the path is loose
+abbrev pub NoneLoose : (List ℕ → Type 0) → List ℕ → Type 0
+NoneLoose loose path = (rest : List ℕ) → loose (path ++ codes "/" ++ rest) → ⊥
+
+-- only beneath a folder a name is loose
+abbrev pub LooseOf : Kind → (List ℕ → Type 0) → List ℕ → Type 0
+LooseOf File loose path = NoneLoose loose path
+LooseOf Folder loose path = Unit {0}
+LooseOf Other loose path = NoneLoose loose path
+
+-- where this is seen
+abbrev pub LooseIn : (List ℕ → Type 0) → List ℕ → Option Seen → Type 0
+LooseIn loose path None = NoneLoose loose path
+LooseIn loose path (Some seen) = LooseOf seen.kind loose path
+
+-- each name in the folder at which or beneath which a name is loose is told
+abbrev pub TellsLoose : (List ℕ → Type 0) → List ℕ → List (List ℕ) → Type 0
+TellsLoose loose folder names = (name rest : List ℕ) → IsName name → IsBehind rest → loose (folder ++ codes "/" ++ name ++ rest) → HasName names name
+
 -- a move that overwrites nothing loosens the path only where it moved
 abbrev pub LoosensNew : {E : Type 0} → List ℕ → List ℕ → (List ℕ → Type 0) → (List ℕ → Type 0) → Result Bool E → Type 0
 LoosensNew path aside old new (Ok true) = LooserAtTwo path aside old new

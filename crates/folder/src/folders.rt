@@ -1,7 +1,7 @@
 //! What is asked of folders and files.
 
 ghost use Rattle.std.specs.Prelude.{◌≡◌, ◌≤◌, ◌++◌, ℕ, Bool, List, [], Option, None, IsTrue, length, map, string_bytes, IfOk, OnOk, IfSome, MatchOption};
-ghost use Rattle.folder.specs.Files.{Stored, HasBytes, IsSeen, IsFileSeen, ReadsOn, SameBut, SameButTwo, PlacesNew, PlacesOver, Removes, TellsNames, HoldsNone, NoLooser, LooserAt, LooserAtTwo, LoosensNew, LoosensGone, Firms, Leaves, IsKept, IsKeptBut, IsChanged, IsPlaced, IsNew};
+ghost use Rattle.folder.specs.Files.{Stored, HasBytes, IsSeen, IsFileSeen, ReadsOn, SameBut, SameButTwo, PlacesNew, PlacesOver, Removes, TellsNames, HoldsNone, NoneLoose, LooseIn, TellsLoose, NoLooser, LooserAt, LooserAtTwo, LoosensNew, LoosensGone, Firms, Leaves, IsKept, IsKeptBut, IsChanged, IsPlaced, IsNew};
 
 use crate::{FileFault, Seen, Trouble};
 use std::alloc::Global;
@@ -47,9 +47,11 @@ pub trait Folder {
     /// path of a draft nothing is said.
     ghost left: { Self → ℕ → List ℕ → Option Stored → Type 0 };
 
-    /// What lies at a path, if anything does: a link itself, and not what it leads to.
+    /// What lies at a path, if anything does: a link itself, and not what it leads to. Where that is no folder, no name beneath
+    /// it is loose.
     fn look(&self, path: &str) -> Result<Option<Seen>, Trouble>
-        ensures { IsTrue tells → IfOk result (IsSeen (files self.now path.now)) };
+        ensures seen { IsTrue tells → IfOk result (IsSeen (files self.now path.now)) }
+        ensures loose { IsTrue tells → IfOk result (LooseIn (loose self.now) path.now) };
 
     /// The plain file at a path, if one is there: what else lies there, or is no folder on the way, is a fault. Beneath a
     /// plain file nothing lies.
@@ -70,11 +72,14 @@ pub trait Folder {
 
     /// The names in a folder, or none where no folder is. Some may be told that are no longer there.
     fn list(&self, alloc: Global, path: &str) -> Result<Option<Vec<String>>, FileFault>
-        ensures { IsTrue tells
+        ensures names { IsTrue tells
             → IfOk result (λ found. MatchOption found (HoldsNone (files self.now) path.now)
-            (λ names. TellsNames (files self.now) path.now (map string_bytes names.items))) };
+            (λ names. TellsNames (files self.now) path.now (map string_bytes names.items))) }
+        ensures loose { IsTrue tells
+            → IfOk result (λ found. MatchOption found (NoneLoose (loose self.now) path.now)
+            (λ names. TellsLoose (loose self.now) path.now (map string_bytes names.items))) };
 
-    /// Makes an empty draft at a path, where nothing is.
+    /// Makes an empty draft at a path, where nothing is. Where there is no folder for it, the cause is `Unreached`.
     fn create(&mut self, path: String) -> Result<Option<Self::Draft>, Trouble>
         ensures draft { IsTrue tells
             → IfOk result (λ made. IfSome made (λ draft. (aside draft ≡ string_bytes path)

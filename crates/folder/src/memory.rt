@@ -1,6 +1,6 @@
 //! A folder in memory.
 
-ghost use Rattle.std.specs.Prelude.{◌≢◌, ◌==◌, min, take, MatchOption, codes, List, ℕ, map, ◌≡◌, ◌≤◌, true, length, drop, option_copied, Some, IfOk, IfSome, OnErr, OnOk, ◌++◌, ◌∷◌, [], string_bytes};
+ghost use Rattle.std.specs.Prelude.{◌≢◌, ◌==◌, ◌+◌, ◌-◌, ◌^◌, min, take, MatchOption, codes, List, ℕ, map, ◌≡◌, ◌≤◌, true, length, drop, option_copied, Some, IfOk, IfSome, OnErr, OnOk, ◌++◌, ◌∷◌, [], string_bytes};
 ghost use Rattle.std.proofs.Common.{ap, ◌∙◌};
 ghost use Rattle.folder.specs.Files.{Leaves, IsKept, IsSeen, IsFileSeen, HasBytes, SameBut, IsName, IsBehind, HasName};
 ghost use Rattle.std.specs.List.{before_first};
@@ -84,7 +84,10 @@ fn seen_of(content: Option<&Content>) -> Option<Seen>
 
 impl MemoryFolder {
     /// An empty folder.
-    pub fn new(alloc: Global) -> MemoryFolder {
+    pub fn new(alloc: Global) -> MemoryFolder
+        ensures files { result.changes.items ≡ [] }
+        ensures left { result.calls_left ≡ 2 ^ 64 - 1 }
+    {
         MemoryFolder {
             alloc,
             changes: Vec::new(alloc),
@@ -95,18 +98,23 @@ impl MemoryFolder {
     /// Cuts the folder off after so many more calls that change something.
     pub fn cut_after(&mut self, calls: u64)
         ensures files { self.new.changes.items ≡ self.old.changes.items }
+        ensures left { self.new.calls_left ≡ calls }
     {
         self.calls_left = calls;
     }
 
     /// How many more calls that change something are made before it is cut off.
-    pub fn calls_left(&self) -> u64 {
+    pub fn calls_left(&self) -> u64
+        ensures { result ≡ self.now.calls_left }
+    {
         self.calls_left
     }
 
     /// Counts a call that changes something, and fails where the folder was cut off before.
     fn begin(&mut self, call: Call) -> Result<(), Trouble>
-        ensures { self.new.changes.items ≡ self.old.changes.items }
+        ensures files { self.new.changes.items ≡ self.old.changes.items }
+        ensures counted { OnOk result (self.old.calls_left ≡ self.new.calls_left + 1) }
+        ensures cut { OnErr result ((self.old.calls_left ≡ 0) × (self.new.calls_left ≡ 0)) }
     {
         if self.calls_left == 0 {
             return Err(failed(call, Cause::CutOff));

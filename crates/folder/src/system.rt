@@ -255,6 +255,7 @@ impl<R: Files + AllocGlobal + Clone + Drop> Folder for SystemFolder<R> {
         match made {
             Ok(file) => Ok(Some(SystemDraft { file, path })),
             Err(error) if error.kind() == ErrorKind::AlreadyExists => Ok(None),
+            Err(error) if is_missing(error.kind()) => Err(failed(Call::Open, Cause::Unreached)),
             Err(error) => Err(refused(Call::Open, &error)),
         }
     }

@@ -5,19 +5,19 @@ use Rattle.std.proofs.lemmas.Fmt.{decimal_digit}
 use Rattle.ice_base.specs.Names.{name_fault}
 use Rattle.zarr_path.specs.Paths.{path_fault, names_of, is_name}
 use Rattle.conflicts.specs.declared.solving.Pick.TheVariants as pick
-use Rattle.play_script.specs.declared.scripts.Call.{Call}
-use Rattle.play_script.specs.declared.scripts.Call.TheVariants as call
-use Rattle.play_script.specs.declared.scripts.EditCall.TheVariants as edit
-use Rattle.play_script.specs.declared.scripts.Access.TheVariants as access
-use Rattle.play_script.specs.declared.scripts.Head.{Head}
-use Rattle.play_script.specs.declared.scripts.Head.TheVariants as head
-use Rattle.play_script.specs.declared.scripts.Class.TheVariants as c
+use Rattle.script_calls.specs.declared.calls.Call.{Call}
+use Rattle.script_calls.specs.declared.calls.Call.TheVariants as call
+use Rattle.script_calls.specs.declared.calls.EditCall.TheVariants as edit
+use Rattle.script_calls.specs.declared.calls.Access.TheVariants as access
+use Rattle.script_calls.specs.declared.calls.Head.{Head}
+use Rattle.script_calls.specs.declared.calls.Head.TheVariants as head
+use Rattle.script_calls.specs.declared.calls.Class.TheVariants as c
 use Rattle.play_script.specs.declared.scripts.Line.{Line}
 use Rattle.play_script.specs.declared.scripts.Task.{Task}
-use Rattle.play_script.specs.Words.{Text, cut_of, five}
-use Rattle.play_script.specs.Values.{task_name_of, path_of, text_of, number_of, numbers_of, fill_of, ref_name_of, tries_in, pick_in, drops_in, policy_in}
-use Rattle.play_script.specs.Arrays.{array_line_text}
-use Rattle.play_script.specs.Forms.{lone_path, array_of, path_and_array, node_edit_of, chunk_edit_of, key_edit_of, read_of, commit_of, form_of, write_of, head_of}
+use Rattle.script_values.specs.Words.{Text, cut_of, five}
+use Rattle.script_values.specs.Values.{task_name_of, path_of, text_of, number_of, numbers_of, fill_of, ref_name_of, tries_in, pick_in, drops_in, policy_in}
+use Rattle.script_values.specs.Arrays.{array_line_text}
+use Rattle.script_calls.specs.Forms.{lone_path, array_of, path_and_array, node_edit_of, chunk_edit_of, key_edit_of, read_of, commit_of, form_of, write_of, head_of}
 use Rattle.play_script.specs.Places.{is_head_placed, may_begin, task_line, head_line, words_line}
 use Rattle.play_script.specs.Reading.{empty}
 use Rattle.grow_script.specs.Script.{base_task}

@@ -6,19 +6,19 @@ use Rattle.std.specs.Str.{is_utf8}
 use Rattle.std.proofs.lemmas.Bool.{and_parts, le-leb}
 use Rattle.std.proofs.lemmas.Str.{IsUtf8-append, IsUtf8-from_is_utf8, is_utf8-from_IsUtf8}
 use Rattle.repo_read.specs.declared.resolving.At.TheVariants as at
-use Rattle.play_script.specs.declared.faults.ScriptKind.{ScriptKind}
-use Rattle.play_script.specs.declared.scripts.CellBox.{CellBox}
-use Rattle.play_script.specs.declared.scripts.Call.TheVariants as call
-use Rattle.play_script.specs.declared.scripts.ReadCall.TheVariants as read
-use Rattle.play_script.specs.declared.scripts.Access.TheVariants as access
-use Rattle.play_script.specs.declared.scripts.Head.TheVariants as head
-use Rattle.play_script.specs.declared.scripts.Class.TheVariants as c
+use Rattle.script_values.specs.declared.kinds.ScriptKind.{ScriptKind}
+use Rattle.script_calls.specs.declared.calls.CellBox.{CellBox}
+use Rattle.script_calls.specs.declared.calls.Call.TheVariants as call
+use Rattle.script_calls.specs.declared.calls.ReadCall.TheVariants as read
+use Rattle.script_calls.specs.declared.calls.Access.TheVariants as access
+use Rattle.script_calls.specs.declared.calls.Head.TheVariants as head
+use Rattle.script_calls.specs.declared.calls.Class.TheVariants as c
 use Rattle.play_script.specs.declared.scripts.Script.{Script}
-use Rattle.play_script.specs.declared.forms.Form.{Form}
-use Rattle.play_script.specs.Words.{Text, lines_of, cut_of, two, three}
-use Rattle.play_script.specs.Parts.{made}
-use Rattle.play_script.specs.Values.{ref_name_of, task_name_of}
-use Rattle.play_script.specs.Forms.{at_of, lone_at, box_of, lone_box, head_of, node_edit_of, chunk_edit_of, key_edit_of, read_of, form_of}
+use Rattle.script_calls.specs.declared.forms.Form.{Form}
+use Rattle.script_values.specs.Words.{Text, lines_of, cut_of, two, three}
+use Rattle.script_values.specs.Parts.{made}
+use Rattle.script_values.specs.Values.{ref_name_of, task_name_of}
+use Rattle.script_calls.specs.Forms.{at_of, lone_at, box_of, lone_box, head_of, node_edit_of, chunk_edit_of, key_edit_of, read_of, form_of}
 use Rattle.play_script.specs.Places.{is_head_placed, may_begin, task_line, head_line, body_line, words_line, line_at, is_passed}
 use Rattle.play_script.specs.Reading.{most_bytes, lines_from, empty, script_of}
 use Rattle.cells_script.specs.Script.{cells_text}

@@ -4,7 +4,7 @@ use Rattle.std.specs.Prelude.{◌==◌}
 use Rattle.std.specs.List.{list_all, onto_first}
 use Rattle.std.proofs.lemmas.Bool.{and_parts, not-true, cond_both}
 use Rattle.std.proofs.lemmas.Bool.Decides.{nat_tests}
-use Rattle.play_script.specs.Words.{Text, lines_of, cut_of, parts, next}
+use Rattle.script_values.specs.Words.{Text, lines_of, cut_of, parts, next}
 use Rattle.grown_scripts.proofs.Bytes.{is_not, is_line, line_no_feed}
 
 same : (c : ℕ) → (c == c) ≡ true

@@ -7,14 +7,14 @@ use Rattle.std.proofs.lemmas.Bool.{and_right, and_from}
 use Rattle.std.proofs.lemmas.Bool.Decides.{nat_tests}
 use Rattle.std.proofs.lemmas.Fmt.{decimal_nonempty}
 use Rattle.zarr_path.specs.Paths.{path_fault, names_of, is_name}
-use Rattle.play_script.specs.declared.scripts.Call.{Call}
-use Rattle.play_script.specs.declared.scripts.Call.TheVariants as call
-use Rattle.play_script.specs.declared.scripts.EditCall.TheVariants as edit
-use Rattle.play_script.specs.declared.scripts.Class.TheVariants as c
-use Rattle.play_script.specs.Words.{Text, parts, three}
-use Rattle.play_script.specs.Parts.{each}
-use Rattle.play_script.specs.Values.{◌reads◌, path_of, index_part_of, index_of}
-use Rattle.play_script.specs.Forms.{chunk_and_byte, node_edit_of, chunk_edit_of, form_of}
+use Rattle.script_calls.specs.declared.calls.Call.{Call}
+use Rattle.script_calls.specs.declared.calls.Call.TheVariants as call
+use Rattle.script_calls.specs.declared.calls.EditCall.TheVariants as edit
+use Rattle.script_calls.specs.declared.calls.Class.TheVariants as c
+use Rattle.script_values.specs.Words.{Text, parts, three}
+use Rattle.script_values.specs.Parts.{each}
+use Rattle.script_values.specs.Values.{◌reads◌, path_of, index_part_of, index_of}
+use Rattle.script_calls.specs.Forms.{chunk_and_byte, node_edit_of, chunk_edit_of, form_of}
 use Rattle.grow_script.specs.Script.{hex_pair, fill_text}
 use Rattle.grown_scripts.proofs.Bytes.{is_not, is_line_byte, is_line, is_word_byte, is_word, all_append, digit_word, digit_no_comma, word_line, line_text, word_no_space}
 use Rattle.grown_scripts.proofs.Cutting.{next_word, last_word, parts_join, one_part}

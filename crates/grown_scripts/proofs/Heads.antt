@@ -4,16 +4,16 @@ use Rattle.std.specs.Prelude.{codes}
 use Rattle.std.proofs.lemmas.Bool.{lt-ltb}
 use Rattle.ice_base.specs.Names.{name_fault}
 use Rattle.conflicts.specs.declared.solving.Pick.TheVariants as pick
-use Rattle.play_script.specs.declared.scripts.Call.{Call}
-use Rattle.play_script.specs.declared.scripts.Call.TheVariants as call
-use Rattle.play_script.specs.declared.scripts.Access.TheVariants as access
-use Rattle.play_script.specs.declared.scripts.Head.{Head}
-use Rattle.play_script.specs.declared.scripts.Head.TheVariants as head
-use Rattle.play_script.specs.declared.scripts.Class.TheVariants as c
+use Rattle.script_calls.specs.declared.calls.Call.{Call}
+use Rattle.script_calls.specs.declared.calls.Call.TheVariants as call
+use Rattle.script_calls.specs.declared.calls.Access.TheVariants as access
+use Rattle.script_calls.specs.declared.calls.Head.{Head}
+use Rattle.script_calls.specs.declared.calls.Head.TheVariants as head
+use Rattle.script_calls.specs.declared.calls.Class.TheVariants as c
 use Rattle.play_script.specs.declared.scripts.Task.{Task}
-use Rattle.play_script.specs.Words.{Text, cut_of}
-use Rattle.play_script.specs.Values.{ref_name_of, tries_in, pick_in, drops_in, policy_in}
-use Rattle.play_script.specs.Forms.{node_edit_of, chunk_edit_of, key_edit_of, read_of, commit_of, form_of, write_of, head_of}
+use Rattle.script_values.specs.Words.{Text, cut_of}
+use Rattle.script_values.specs.Values.{ref_name_of, tries_in, pick_in, drops_in, policy_in}
+use Rattle.script_calls.specs.Forms.{node_edit_of, chunk_edit_of, key_edit_of, read_of, commit_of, form_of, write_of, head_of}
 use Rattle.play_script.specs.Places.{most_tasks, is_head_placed, may_begin, task_line, head_line, words_line}
 use Rattle.grown_scripts.proofs.Bytes.{is_line_byte, is_line, all_append, line_text, word_line, word_no_space}
 use Rattle.grown_scripts.proofs.Cutting.{next_word}

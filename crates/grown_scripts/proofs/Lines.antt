@@ -1,13 +1,13 @@
 -- Texts that are read line by line, from one script to another.
 use Rattle.std.proofs.Common.{◌≡◌, ℕ, ◌+◌, ◌≤◌, true, false, List, [], ◌∷◌, ◌++◌, length, Option, None, Result, Ok, refl, ◌∙◌, append_assoc, append-nil}
 use Rattle.std.proofs.lemmas.Bool.{le-leb}
-use Rattle.play_script.specs.declared.faults.ScriptKind.{ScriptKind}
-use Rattle.play_script.specs.declared.scripts.Call.{Call}
-use Rattle.play_script.specs.declared.scripts.Class.{Class}
+use Rattle.script_values.specs.declared.kinds.ScriptKind.{ScriptKind}
+use Rattle.script_calls.specs.declared.calls.Call.{Call}
+use Rattle.script_calls.specs.declared.calls.Class.{Class}
 use Rattle.play_script.specs.declared.scripts.Task.{Task}
 use Rattle.play_script.specs.declared.scripts.Script.{Script}
-use Rattle.play_script.specs.Words.{Text, lines_of, cut_of}
-use Rattle.play_script.specs.Forms.{form_of}
+use Rattle.script_values.specs.Words.{Text, lines_of, cut_of}
+use Rattle.script_calls.specs.Forms.{form_of}
 use Rattle.play_script.specs.Places.{is_open, takes, last, with_line, body_line, is_passed, words_line, line_at}
 use Rattle.play_script.specs.Reading.{most_bytes, lines_from, empty, script_of}
 use Rattle.grown_scripts.proofs.Bytes.{is_line, line_text}

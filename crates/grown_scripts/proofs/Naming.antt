@@ -7,11 +7,11 @@ use Rattle.std.proofs.lemmas.Bool.{le-leb, cases_Bool, cases_eq, cond_both, both
 use Rattle.std.proofs.lemmas.Bool.Decides.{nat_tests}
 use Rattle.std.proofs.lemmas.Slice.Eq.{bytes_eq-Decides}
 use Rattle.std.proofs.lemmas.Fmt.{decimal_injective, length-decimal-le}
-use Rattle.play_script.specs.declared.faults.ScriptKind.{ScriptKind}
+use Rattle.script_values.specs.declared.kinds.ScriptKind.{ScriptKind}
 use Rattle.play_script.specs.declared.scripts.Line.{Line}
 use Rattle.play_script.specs.declared.scripts.Task.{Task}
-use Rattle.play_script.specs.Words.{Text}
-use Rattle.play_script.specs.Values.{◌reads◌, is_task_byte, task_name_of}
+use Rattle.script_values.specs.Words.{Text}
+use Rattle.script_values.specs.Values.{◌reads◌, is_task_byte, task_name_of}
 use Rattle.play_script.specs.Places.{last, onto_last, is_used, client_from}
 use Rattle.grown_scripts.proofs.Bytes.{is_word, all_weaker, digit_word}
 use Rattle.grown_scripts.proofs.Numbers.{decimal_digits}

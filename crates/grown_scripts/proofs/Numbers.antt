@@ -8,10 +8,10 @@ use Rattle.std.specs.Str.Parse.{digits_value}
 use Rattle.std.proofs.lemmas.Bool.{and_from, le-leb}
 use Rattle.std.proofs.lemmas.Bool.Decides.{nat_tests}
 use Rattle.std.proofs.lemmas.Fmt.{digits_decimal, digits_value-decimal, decimal_nonempty}
-use Rattle.play_script.specs.declared.faults.ScriptKind.TheVariants as k
-use Rattle.play_script.specs.Words.{Text}
-use Rattle.play_script.specs.Values.{is_digits, is_number, number_of, hex_digit_of, byte_of}
-use Rattle.play_script.proofs.Digits.{own}
+use Rattle.script_values.specs.declared.kinds.ScriptKind.TheVariants as k
+use Rattle.script_values.specs.Words.{Text}
+use Rattle.script_values.specs.Values.{is_digits, is_number, number_of, hex_digit_of, byte_of}
+use Rattle.script_values.proofs.Digits.{own}
 use Rattle.grow_script.specs.Script.{hex_pair}
 
 pub decimal_digits : (n : ℕ) → n < 2 ^ 64 → list_all is_ascii_digit (decimal n) ≡ true

@@ -2,7 +2,7 @@
 use Rattle.std.proofs.Common.{◌≡◌, ℕ, zero, suc, ◌+◌, ◌*◌, ◌<◌, ◌≤◌, ◌∷◌, ◌++◌, length, refl, ap, ◌∙◌, arith, length-append}
 use Rattle.std.specs.Prelude.{codes, decimal}
 use Rattle.std.proofs.lemmas.Fmt.{length-decimal-le}
-use Rattle.play_script.specs.Words.{Text}
+use Rattle.script_values.specs.Words.{Text}
 use Rattle.grow_script.specs.Draws.{after, drawn}
 use Rattle.grow_script.specs.Script.{hex_pair, base_task, fill_text, fill_lines, grow_task, grow_tasks, drawn_turns, script_text}
 use Rattle.grown_scripts.proofs.Naming.{task_word}

@@ -1,12 +1,12 @@
 -- The tasks behind the base task.
 use Rattle.std.proofs.Common.{◌≡◌, ℕ, zero, suc, ◌+◌, ◌*◌, ◌<◌, ◌≤◌, true, false, List, [], ◌∷◌, ◌++◌, length, Option, Some, Ok, refl, sym, ap, subst, ◌∙◌, arith, length-append, append_assoc}
 use Rattle.std.specs.Prelude.{codes, decimal}
-use Rattle.play_script.specs.declared.scripts.Call.{Call}
-use Rattle.play_script.specs.declared.scripts.Class.{Class}
-use Rattle.play_script.specs.declared.scripts.Class.TheVariants as c
+use Rattle.script_calls.specs.declared.calls.Call.{Call}
+use Rattle.script_calls.specs.declared.calls.Class.{Class}
+use Rattle.script_calls.specs.declared.calls.Class.TheVariants as c
 use Rattle.play_script.specs.declared.scripts.Task.{Task}
-use Rattle.play_script.specs.Words.{Text, cut_of}
-use Rattle.play_script.specs.Forms.{form_of}
+use Rattle.script_values.specs.Words.{Text, cut_of}
+use Rattle.script_calls.specs.Forms.{form_of}
 use Rattle.play_script.specs.Places.{last, is_commit, is_commit_call, head_takes, takes, body_line, words_line}
 use Rattle.grow_script.specs.Draws.{after, drawn}
 use Rattle.grow_script.specs.Script.{fill_text, fill_lines, grow_task, grow_tasks}

@@ -6,9 +6,9 @@ use Rattle.std.proofs.lemmas.Fmt.{decimal_digit}
 use Rattle.play_script.specs.declared.scripts.Task.{Task}
 use Rattle.play_script.specs.declared.scripts.Turn.{Turn}
 use Rattle.play_script.specs.declared.scripts.Script.{Script}
-use Rattle.play_script.specs.Words.{Text, cut_of, parts}
-use Rattle.play_script.specs.Parts.{each}
-use Rattle.play_script.specs.Values.{number_of, count_of}
+use Rattle.script_values.specs.Words.{Text, cut_of, parts}
+use Rattle.script_values.specs.Parts.{each}
+use Rattle.script_values.specs.Values.{number_of, count_of}
 use Rattle.play_script.specs.Places.{client_from, turn, turn_of, turns_line, words_line}
 use Rattle.grow_script.specs.Draws.{after, drawn}
 use Rattle.grow_script.specs.Script.{drawn_turns}

@@ -3,7 +3,7 @@ use Rattle.std.proofs.Common.{◌≡◌, ℕ, ◌+◌, ◌*◌, ◌≤◌, List,
 use Rattle.std.specs.Prelude.{codes}
 use Rattle.play_script.specs.declared.scripts.Task.{Task}
 use Rattle.play_script.specs.declared.scripts.Script.{Script}
-use Rattle.play_script.specs.Words.{Text}
+use Rattle.script_values.specs.Words.{Text}
 use Rattle.play_script.specs.Reading.{empty, script_of}
 use Rattle.grow_script.specs.Draws.{after}
 use Rattle.grow_script.specs.Script.{base_task, grow_tasks, drawn_turns, script_text}

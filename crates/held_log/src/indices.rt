@@ -4,8 +4,8 @@ ghost use Rattle.file_fields.specs.Fields.{index_key};
 ghost use Rattle.txn_file.specs.Logs.{index_at, indices_in};
 ghost use Rattle.held_manifest.specs.Views.{rows_or_none};
 
-use crate::index::{IndexView, index_of};
 use flat_tables::{FileFault, Vector};
+use held_manifest::{IndexView, index_of};
 use std::marker::Model;
 
 /// The index that element `at` leads to.
@@ -26,7 +26,7 @@ fn index_follows(last: Option<&IndexView>, index: &IndexView) -> bool
 {
     match last {
         None => true,
-        Some(last) => last.compare(index).is_lt(),
+        Some(last) => last.compare_view(index).is_lt(),
     }
 }
 

@@ -18,11 +18,11 @@ use zarr_path::Index;
 
 /// The file of a manifest. Contracts see it as the manifest that the file stands for.
 #[derive(Debug, Drop)]
-pub struct Held {
+pub struct HeldManifest {
     file: Bytes,
 }
 
-impl Model for Held {
+impl Model for HeldManifest {
     ghost use Rattle.std.specs.Prelude.{IsOk};
     ghost use Rattle.manifest_file.specs.declared.manifest.ManifestFile.{ManifestFile};
     ghost use Rattle.manifest_file.specs.Manifests.{manifest_of};
@@ -59,11 +59,11 @@ fn check_file(file: &[u8]) -> Result<(), FileFault>
 
 /// Holds the file of a manifest, or gives it back with the fault that reading it would answer. It takes no memory.
 #[tactic(auto, using(crate::proofs::Parts::manifest_ok, crate::proofs::NoMemory::never_memory))]
-pub fn hold(file: Bytes) -> Result<Held, (Bytes, FileFault)>
+pub fn hold(file: Bytes) -> Result<HeldManifest, (Bytes, FileFault)>
     ensures { Holds file result }
 {
     match check_file(file.as_slice()) {
-        Ok(()) => Ok(Held { file }),
+        Ok(()) => Ok(HeldManifest { file }),
         Err(fault) => Err((file, fault)),
     }
 }
@@ -77,7 +77,7 @@ fn root(file: &[u8]) -> Table<'_>
     Table::root(payload).unwrap()
 }
 
-impl Held {
+impl HeldManifest {
     /// The manifest's id.
     pub fn id(&self) -> Id12
         ensures { result ≡ self.now.id }

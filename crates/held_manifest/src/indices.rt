@@ -1,15 +1,17 @@
-ghost use Rattle.std.specs.Prelude.{◌≡◌, ◌<◌, min, length, slice_index};
+ghost use Rattle.std.specs.Prelude.{◌≡◌, ◌<◌, min, length, slice_index, IfOk};
 ghost use Rattle.zarr_path.specs.Indices.{index_cmp};
 ghost use Rattle.file_fields.specs.Fields.{index_of};
 
 use file_fields::u32_of;
 use flat_tables::{FileFault, FlatFault, Table, Vector};
+use std::alloc::{AllocError, Global};
 use std::cmp::Ordering;
 use std::marker::Model;
+use zarr_path::Index;
 
 /// An index, read in place. Contracts see it as the list of its numbers.
 #[derive(Drop)]
-pub(crate) struct IndexView<'a> {
+pub struct IndexView<'a> {
     vector: Vector<'a>,
 }
 
@@ -26,7 +28,7 @@ impl<'a> Model for IndexView<'a> {
 
 /// The index in a slot. `Flat` where the slot is absent, or where its vector doesn't lie in the payload.
 #[tactic(auto, unfolding(file_fields::specs::Fields::index_of))]
-pub(crate) fn index_of<'a>(table: &Table<'a>, slot: u16) -> Result<IndexView<'a>, FileFault>
+pub fn index_of<'a>(table: &Table<'a>, slot: u16) -> Result<IndexView<'a>, FileFault>
     ensures { result ≡ index_of table.now slot }
 {
     match table.vector(slot, 4)? {
@@ -44,22 +46,33 @@ fn lesser(one: usize, other: usize) -> usize
 
 impl<'a> IndexView<'a> {
     /// How many numbers there are.
-    pub(crate) fn len(&self) -> usize
+    pub fn len(&self) -> usize
         ensures { result ≡ length self.now }
     {
         self.vector.len()
     }
 
-    /// The number in one dimension.
-    pub(crate) fn at(&self, k: usize) -> u32
+    /// The number in dimension `k`.
+    pub fn at(&self, k: usize) -> u32
         requires { k < length self.now }
         ensures { result ≡ slice_index self.now k }
     {
         u32_of(self.vector.item(k))
     }
 
+    /// The index in memory of its own.
+    pub fn copy(&self, alloc: Global) -> Result<Index, AllocError>
+        ensures { IfOk result (λ index. index ≡ self.now) }
+    {
+        let mut numbers: Vec<u32> = Vec::new(alloc);
+        for k in 0..self.len() {
+            numbers.push(self.at(k))?;
+        }
+        Ok(Index::from_parts(numbers))
+    }
+
     /// How the index stands to one in memory.
-    pub(crate) fn compare(&self, other: &[u32]) -> Ordering
+    pub fn compare(&self, other: &[u32]) -> Ordering
         ensures { result ≡ index_cmp self.now other.now }
     {
         let len = self.len();
@@ -72,8 +85,8 @@ impl<'a> IndexView<'a> {
         len.cmp(&other.len())
     }
 
-    /// How the index stands to another one in the file.
-    pub(crate) fn compare_view(&self, other: &IndexView) -> Ordering
+    /// How the index stands to another one in a file.
+    pub fn compare_view(&self, other: &IndexView) -> Ordering
         ensures { result ≡ index_cmp self.now other.now }
     {
         let len = self.len();

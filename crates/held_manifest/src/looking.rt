@@ -2,7 +2,7 @@ ghost use Rattle.std.specs.Prelude.{◌≡◌, option_map};
 ghost use Rattle.held_manifest.specs.Places.{place_seen};
 ghost use Rattle.held_manifest.specs.LookUp.{within, entry_seen, look_up, chunk_place};
 
-use crate::held::Held;
+use crate::held::HeldManifest;
 use crate::places::PlaceView;
 use ice_ids::Id8;
 use ice_items::Items;
@@ -30,7 +30,7 @@ pub fn is_within(extents: &[(u32, u32)], index: &[u32]) -> bool
 /// Where a manifest of a node's list has the chunk at an index, if its extents there contain the index.
 fn seek_seen<'a>(
     extents: &Items<(u32, u32)>,
-    held: &'a Held,
+    held: &'a HeldManifest,
     node: Id8,
     index: &Index,
 ) -> Option<PlaceView<'a>>
@@ -46,7 +46,7 @@ fn seek_seen<'a>(
 /// Where the manifests of a node's list, each with its extents there, have the chunk at an index: the first one has it
 /// whose extents contain the index and which has an entry for the node and the index.
 pub fn look_up<'a>(
-    manifests: &'a [(Items<(u32, u32)>, Held)],
+    manifests: &'a [(Items<(u32, u32)>, HeldManifest)],
     node: Id8,
     index: &Index,
 ) -> Option<PlaceView<'a>>
@@ -63,7 +63,7 @@ pub fn look_up<'a>(
 /// Where the manifests of an array's list have the chunk at an index; an index of another rank than the array's has
 /// nothing.
 pub fn chunk_place<'a>(
-    manifests: &'a [(Items<(u32, u32)>, Held)],
+    manifests: &'a [(Items<(u32, u32)>, HeldManifest)],
     rank: usize,
     node: Id8,
     index: &Index,

@@ -1,20 +1,13 @@
 -- What a file stands for never tells want of memory.
-use Rattle.std.proofs.Common.{◌≡◌, ◌≢◌, ℕ, zero, suc, ◌==◌, Bool, true, false, cond, List, [], ◌∷◌, ◌++◌, length, Option, None, Some, Result, Ok, Err}
-use Rattle.std.specs.Prelude.{nat_lt}
-use Rattle.flat_tables.specs.declared.header.Kind.{Kind}
+use Rattle.std.proofs.Common.{◌≡◌, ◌≢◌, ℕ, ◌==◌, List, [], length, Option, None, Some, Ok, Err}
 use Rattle.flat_tables.specs.declared.header.Kind.TheVariants as kinds
-use Rattle.flat_tables.specs.declared.header.HeaderFault.{HeaderFault}
-use Rattle.flat_tables.specs.declared.fault.FlatFault.{FlatFault}
 use Rattle.flat_tables.specs.declared.fault.FileFault.{FileFault}
-use Rattle.flat_tables.specs.declared.fault.FileFault.TheVariants.{NoMemory, Limit, Order, Property, Path, NodeKind, Unlisted}
-use Rattle.flat_tables.specs.declared.fault.FileFault.TheVariants as faults
-use Rattle.flat_tables.specs.Header.{kind_of as header_kind}
-use Rattle.flat_tables.specs.Step.{◌>>=◌, on_some}
+use Rattle.flat_tables.specs.declared.fault.FileFault.TheVariants.{NoMemory, Property, Path, NodeKind, Unlisted}
 use Rattle.flat_tables.specs.Places.{TableIn, VectorIn, root_of, struct_of, scalar_of, text_of, child_of, vector_of, all_of, table_of}
-use Rattle.flat_tables.specs.Rows.{flat, required, optional_rows, at_most, rows, each, in_order, follows, last_key}
-use Rattle.flat_tables.specs.File.{of_kind, file_of}
+use Rattle.flat_tables.specs.Rows.{flat, required, at_most, each, in_order}
 use Rattle.ice_ids.specs.declared.Id8.{Id8}
 use Rattle.file_fields.specs.Fields.{id8_of, id12_of}
+use Rattle.file_fields.proofs.NoMemory.{Told, bind_told, cond_told, flat_told, required_told, optional_rows_told, on_some_told, at_most_told, in_order_told, rows_told, id8_told, id12_told, file_told, told_fault}
 use Rattle.zarr_path.specs.Paths.{is_path}
 use Rattle.snapshot_file.specs.declared.nodes.NodeKind.{NodeKind as TheKind}
 use Rattle.snapshot_file.specs.declared.nodes.NodeKind.TheVariants.{Group}
@@ -22,59 +15,6 @@ use Rattle.snapshot_file.specs.declared.snapshot.SnapshotFile.{SnapshotFile}
 use Rattle.snapshot_file.specs.Nodes.{manifest_of, manifest_at, manifests_in, manifests_of, name_at, names_in, names_of, shape_of, array_of, kind_of, proper_path, known_kind, row_of, node_of, node_at}
 use Rattle.snapshot_file.specs.Props.{prop_limit, is_prop, prop_key}
 use Rattle.snapshot_file.specs.Snapshots.{node_limit, node_key, file_key, nodes_in, nodes_of, property_of, property_at, properties_in, few_properties_in, properties_of, info_at, files_in, files_of, first_unlisted, unless_unlisted, parent_of, rest_of, payload_of, snapshot_of}
-
--- a fault, if there is one, that isn't want of memory
-abbrev Told : {A : Type 0} → Result A FileFault → Type 0
-Told (Ok x) = Unit {0}
-Told (Err fault) = fault ≢ NoMemory
-
-bind_told : {A B : Type 0} (r : Result A FileFault) (f : A → Result B FileFault) → Told r → ((x : A) → Told (f x)) → Told (r >>= f)
-bind_told (Ok x) f told more = more x
-bind_told (Err fault) f told more = told
-
-cond_told : {A : Type 0} (b : Bool) (r s : Result A FileFault) → Told r → Told s → Told (cond b r s)
-cond_told true r s one other = one
-cond_told false r s one other = other
-
-flat_told : {A : Type 0} (r : Result A FlatFault) → Told (flat r)
-flat_told (Ok x) = tt
-flat_told (Err fault) = λ e. cc
-
-required_told : {A : Type 0} (slot : ℕ) (r : Result (Option A) FlatFault) → Told (required slot r)
-required_told slot (Ok None) = λ e. cc
-required_told slot (Ok (Some x)) = tt
-required_told slot (Err fault) = λ e. cc
-
-optional_rows_told : {A : Type 0} (r : Result (Option VectorIn) FlatFault) (read : VectorIn → Result (List A) FileFault) → ((v : VectorIn) → Told (read v)) → Told (optional_rows r read)
-optional_rows_told (Ok None) read told = tt
-optional_rows_told (Ok (Some v)) read told = told v
-optional_rows_told (Err fault) read told = λ e. cc
-
-on_some_told : {A B : Type 0} (o : Option A) (f : A → Result B FileFault) → ((x : A) → Told (f x)) → Told (on_some o f)
-on_some_told None f told = tt
-on_some_told (Some x) f told = bind_told (f x) _ (told x) (λ y. tt)
-
-at_most_told : (limit n : ℕ) → Told (at_most limit n)
-at_most_told limit n = cond_told (nat_lt limit n) (Err Limit) (Ok n) (λ e. cc) tt
-
-in_order_told : {A : Type 0} (key : A → List ℕ) (slot : ℕ) (read : List A → Result A FileFault) (before : List A) → Told (read before) → Told (in_order key slot read before)
-in_order_told key slot read before told =
-    bind_told (read before) _ told (λ x. cond_told (follows (last_key key before) (key x)) (Ok x) (Err (Order slot (length before))) tt (λ e. cc))
-
-rows_told : {A : Type 0} (read : List A → Result A FileFault) (before : List A) (n : ℕ) → ((xs : List A) → Told (read xs)) → Told (rows read before n)
-unfolding rows
-rows_told read before zero told = tt
-rows_told read before (suc n) told = bind_told (read before) (λ x. rows read (before ++ x ∷ []) n) (told before) (λ x. rows_told read (before ++ x ∷ []) n told)
-
--- ---- fields
-
-id8_told : (t : TableIn) (slot : ℕ) → Told (id8_of t slot)
-unfolding id8_of
-id8_told t slot = bind_told (required slot (struct_of t slot 8)) _ (required_told slot (struct_of t slot 8)) (λ x. tt)
-
-id12_told : (t : TableIn) (slot : ℕ) → Told (id12_of t slot)
-unfolding id12_of
-id12_told t slot = bind_told (required slot (struct_of t slot 12)) _ (required_told slot (struct_of t slot 12)) (λ x. tt)
 
 -- ---- arrays
 
@@ -211,21 +151,9 @@ payload_told payload =
     bind_told (nodes_of t) _ (nodes_told t) (λ nodes.
     bind_told (rest_of t) _ (rest_told t) (λ rest. listed_told (first_unlisted rest.1.1.1 nodes) _)))))
 
-of_kind_told : {A : Type 0} (wanted : Kind) (found : Result Kind HeaderFault) (r : Result A FileFault) → Told r → Told (of_kind wanted found r)
-of_kind_told wanted (Err fault) r told = λ e. cc
-of_kind_told wanted (Ok found) r told = cond_told _ r (Err (faults.Kind found)) told (λ e. cc)
-
-file_told : {A : Type 0} (kind : Kind) (read : List ℕ → Result A FileFault) (file : List ℕ) → ((payload : List ℕ) → Told (read payload)) → Told (file_of kind read file)
-unfolding file_of
-file_told kind read file told = cond_told _ (Err Limit) _ (λ e. cc) (of_kind_told kind (header_kind file) _ (told _))
-
 snapshot_told : (file : List ℕ) → Told (snapshot_of file)
 unfolding snapshot_of
 snapshot_told file = file_told kinds.Snapshot payload_of file payload_told
-
-told_fault : {A : Type 0} (r : Result A FileFault) (fault : FileFault) → Told r → r ≡ Err fault → fault ≢ NoMemory
-told_fault (Ok x) fault told is = absurd cc
-told_fault (Err other) fault told is = λ e. told cc
 
 -- the fault of a file is no want of memory
 pub never_memory : (file : List ℕ) (fault : FileFault) → snapshot_of file ≡ Err fault → fault ≢ NoMemory

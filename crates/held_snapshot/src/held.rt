@@ -5,7 +5,7 @@ ghost use Rattle.held_manifest.specs.Files.{Checks};
 ghost use Rattle.held_snapshot.specs.Files.{ChecksRest, Holds, IsTableOf};
 
 use crate::files::{HeldFiles, files_of, held_files};
-use crate::listed::first_unlisted;
+use crate::listed_files::first_unlisted;
 use crate::nodes::{HeldNodes, held_nodes, nodes_of};
 use crate::props::{HeldProps, held_properties, properties_of};
 use crate::slots::{number_in, text_in};

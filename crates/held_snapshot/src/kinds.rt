@@ -4,7 +4,7 @@ ghost use Rattle.snapshot_file.specs.Snapshots.{manifests_named};
 ghost use Rattle.held_manifest.specs.Files.{Checks};
 ghost use Rattle.held_snapshot.specs.LookUp.{is_array, shape_named, names_named};
 
-use crate::manifests::{HeldManifests, held_manifests, manifests_of};
+use crate::manifests::{HeldManifestRefs, held_manifests, manifests_of};
 use crate::names::{HeldNames, held_names, names_of};
 use crate::pairs::{HeldShape, shape_of};
 use flat_tables::{FileFault, Table};
@@ -108,11 +108,11 @@ impl<'a> HeldKind<'a> {
     }
 
     /// The manifests that it names: those of an array.
-    pub fn manifests(&self) -> HeldManifests<'a>
+    pub fn manifests(&self) -> HeldManifestRefs<'a>
         ensures { result ≡ manifests_named self.now }
     {
         match &self.array {
-            None => HeldManifests::none(),
+            None => HeldManifestRefs::none(),
             Some(table) => held_manifests(table),
         }
     }

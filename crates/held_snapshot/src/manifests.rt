@@ -13,12 +13,12 @@ use std::marker::Model;
 
 /// A manifest that has chunks of an array, read in place. Contracts see it as the manifest that it stands for.
 #[derive(Drop)]
-pub struct HeldManifest<'a> {
+pub struct HeldManifestRef<'a> {
     id: Id12,
     extents: HeldExtents<'a>,
 }
 
-impl<'a> Model for HeldManifest<'a> {
+impl<'a> Model for HeldManifestRef<'a> {
     ghost use Rattle.snapshot_file.specs.declared.nodes.ManifestRef.{ManifestRef as TheRef};
 
     ghost Value = { TheRef };
@@ -26,7 +26,7 @@ impl<'a> Model for HeldManifest<'a> {
     ghost view = { λ m. record { id = m.id; extents = m.extents } };
 }
 
-impl<'a> HeldManifest<'a> {
+impl<'a> HeldManifestRef<'a> {
     /// The manifest.
     pub fn id(&self) -> Id12
         ensures { result ≡ self.now.id }
@@ -54,18 +54,18 @@ impl<'a> HeldManifest<'a> {
 
 /// The manifest that a table has.
 #[tactic(auto, unfolding(snapshot_file::specs::Nodes::manifest_of))]
-fn manifest_of<'a>(table: &Table<'a>) -> Result<HeldManifest<'a>, FileFault>
+fn manifest_of<'a>(table: &Table<'a>) -> Result<HeldManifestRef<'a>, FileFault>
     ensures { result ≡ manifest_of table.now }
 {
     let id = id12_of(table, 0)?;
     let vector = vector_in(table, 1, 8)?;
     let extents = HeldExtents::new(vector);
-    Ok(HeldManifest { id, extents })
+    Ok(HeldManifestRef { id, extents })
 }
 
 /// The manifest that element `at` leads to.
 #[tactic(auto, unfolding(snapshot_file::specs::Nodes::manifest_at))]
-fn manifest_at<'a>(vector: &Vector<'a>, at: usize) -> Result<HeldManifest<'a>, FileFault>
+fn manifest_at<'a>(vector: &Vector<'a>, at: usize) -> Result<HeldManifestRef<'a>, FileFault>
     requires below { at < vector.now.count }
     requires offsets { vector.now.size ≡ 4 }
     ensures { result ≡ manifest_at vector.now at }
@@ -113,7 +113,7 @@ impl<'a> ManifestVector<'a> {
     }
 
     /// Manifest number `i`.
-    fn at(&self, i: usize) -> HeldManifest<'a>
+    fn at(&self, i: usize) -> HeldManifestRef<'a>
         requires { i < length self.now }
         ensures { slice_get self.now i ≡ Some result }
     {
@@ -124,11 +124,11 @@ impl<'a> ManifestVector<'a> {
 /// The manifests that a node names, read in place: those of an array. Contracts see them as the list of the manifests that they
 /// stand for.
 #[derive(Drop)]
-pub struct HeldManifests<'a> {
+pub struct HeldManifestRefs<'a> {
     rows: Option<ManifestVector<'a>>,
 }
 
-impl<'a> Model for HeldManifests<'a> {
+impl<'a> Model for HeldManifestRefs<'a> {
     ghost use Rattle.std.specs.Prelude.{List};
     ghost use Rattle.snapshot_file.specs.declared.nodes.ManifestRef.{ManifestRef as TheRef};
     ghost use Rattle.held_snapshot.specs.Views.{rows_there};
@@ -140,36 +140,36 @@ impl<'a> Model for HeldManifests<'a> {
 
 /// The manifests of an array's table, none where the slot is absent; else the first fault.
 #[tactic(auto, unfolding(snapshot_file::specs::Nodes::manifests_of))]
-pub(crate) fn manifests_of<'a>(table: &Table<'a>) -> Result<HeldManifests<'a>, FileFault>
+pub(crate) fn manifests_of<'a>(table: &Table<'a>) -> Result<HeldManifestRefs<'a>, FileFault>
     ensures { result ≡ manifests_of table.now }
 {
     match table.vector(2, 4)? {
-        None => Ok(HeldManifests { rows: None }),
-        Some(vector) => Ok(HeldManifests {
+        None => Ok(HeldManifestRefs { rows: None }),
+        Some(vector) => Ok(HeldManifestRefs {
             rows: Some(manifests_in(vector)?),
         }),
     }
 }
 
 /// The manifests of an array's table, which were read before.
-pub(crate) fn held_manifests<'a>(table: &Table<'a>) -> HeldManifests<'a>
+pub(crate) fn held_manifests<'a>(table: &Table<'a>) -> HeldManifestRefs<'a>
     requires { IsOk (manifests_of table.now) }
     ensures { manifests_of table.now ≡ Ok result }
 {
     match table.vector(2, 4).unwrap() {
-        None => HeldManifests { rows: None },
-        Some(vector) => HeldManifests {
+        None => HeldManifestRefs { rows: None },
+        Some(vector) => HeldManifestRefs {
             rows: Some(ManifestVector { vector }),
         },
     }
 }
 
-impl<'a> HeldManifests<'a> {
+impl<'a> HeldManifestRefs<'a> {
     /// No manifests.
-    pub fn none() -> HeldManifests<'a>
+    pub fn none() -> HeldManifestRefs<'a>
         ensures { result ≡ [] }
     {
-        HeldManifests { rows: None }
+        HeldManifestRefs { rows: None }
     }
 
     /// How many manifests there are.
@@ -183,7 +183,7 @@ impl<'a> HeldManifests<'a> {
     }
 
     /// Manifest number `i`.
-    pub fn at(&self, i: usize) -> HeldManifest<'a>
+    pub fn at(&self, i: usize) -> HeldManifestRef<'a>
         requires { i < length self.now }
         ensures { slice_get self.now i ≡ Some result }
     {

@@ -5,7 +5,7 @@ ghost use Rattle.snapshot_file.specs.Snapshots.{manifests_named};
 ghost use Rattle.held_snapshot.specs.LookUp.{is_array};
 
 use crate::kinds::{HeldKind, held_kind, kind_of};
-use crate::manifests::HeldManifests;
+use crate::manifests::HeldManifestRefs;
 use crate::slots::{number_in, table_in, text_in, vector_in};
 use file_fields::id8_of;
 use flat_tables::{FileFault, Table, Vector};
@@ -120,11 +120,11 @@ impl<'a> HeldNode<'a> {
     }
 
     /// The manifests that it names: those of an array. Of a group its type alone is read.
-    pub fn manifests(&self) -> HeldManifests<'a>
+    pub fn manifests(&self) -> HeldManifestRefs<'a>
         ensures { result ≡ manifests_named self.now.kind }
     {
         if !self.is_array() {
-            return HeldManifests::none();
+            return HeldManifestRefs::none();
         }
         self.kind().manifests()
     }

@@ -4,7 +4,7 @@ use Rattle.std.specs.Prelude.{Option, Some, None}
 use Rattle.ice_ids.specs.declared.Id12.{Id12}
 use Rattle.zarr_tree.specs.Trees.{Tree}
 use Rattle.repo_objects.specs.Readings.{ref_of}
-use Rattle.object_store.specs.declared.keys.Key.TheVariants.{Tag, TagGone as Tombstone}
+use Rattle.object_store.specs.declared.keys.Key.TheVariants.{Tag, Tombstone}
 use Rattle.object_store.specs.Machine.{Stored, found}
 use Rattle.store_api.specs.Journal.{NamesPut, tree_of}
 use Rattle.store_api.proofs.Naming.{names-law}

@@ -26,7 +26,7 @@ pub data TagAnswer : Type 0 where
   Done : TagAnswer
   NoRef : TagAnswer
   RefExists : (version : ℕ) → TagAnswer
-  TagGone : TagAnswer
+  TagDropped : TagAnswer
 
 -- what a call answers at a state
 abbrev pub tag_answer : TagCall → TagState → TagAnswer
@@ -35,7 +35,7 @@ tag_answer Open (Stands e) = Opened e
 tag_answer Open (Gone e) = NoRef
 tag_answer (Make id) Absent = Done
 tag_answer (Make id) (Stands e) = RefExists e.version
-tag_answer (Make id) (Gone e) = TagGone
+tag_answer (Make id) (Gone e) = TagDropped
 tag_answer Drop Absent = NoRef
 tag_answer Drop (Stands e) = Done
 tag_answer Drop (Gone e) = NoRef

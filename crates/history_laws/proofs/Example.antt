@@ -13,9 +13,9 @@ use Rattle.repo_objects.specs.Readings.{snapshot_by, ref_of}
 use Rattle.snapshot_file.specs.Initial.{initial_snapshot}
 use Rattle.ref_file.specs.Refs.{ref_bytes}
 use Rattle.object_store.specs.declared.keys.Key.{Key}
-use Rattle.object_store.specs.declared.keys.Key.TheVariants.{Snapshot, Manifest, Txn, Chunk, Branch, Tag, TagGone, Lease}
+use Rattle.object_store.specs.declared.keys.Key.TheVariants.{Snapshot, Manifest, Txn, Chunk, Branch, Tag, Tombstone, Lease}
 use Rattle.object_store.specs.declared.keys.Part.{Part}
-use Rattle.object_store.specs.declared.keys.Part.TheVariants.{Snapshots, Manifests, Txns, Chunks, Branches, Tags}
+use Rattle.object_store.specs.declared.keys.Part.TheVariants.{Snapshots, Manifests, Txns, Chunks, Branches, Tags, Leases}
 use Rattle.object_store.specs.declared.keys.Why.{Why}
 use Rattle.object_store.specs.declared.keys.Why.TheVariants.{Init, Set, Collect}
 use Rattle.object_store.specs.declared.events.Op.{Op}
@@ -33,7 +33,7 @@ use Rattle.object_store.proofs.Slots.{same_key-refl, same_key-true, slot-append_
 use Rattle.store_api.specs.Journal.{Each, IsUnused, ManifestsPut, IsFirst, IsFirstOp, IsGood, IsGoodJournal, IsOnce, IsPolite, PutsFirst, WasPut}
 use Rattle.std.proofs.lemmas.Option.{slice_get-get_or}
 use Rattle.store_api.proofs.Puts.{snapshot-polite}
-use Rattle.collecting.specs.Marks.{MarkedBy, first, root, log, parent, manifest, chunk}
+use Rattle.collecting.specs.Marks.{MarkedBy, first, first_log, root, log, parent, manifest, chunk, FoundBy, named, below}
 use Rattle.collecting.specs.Walks.{Walk, fresh, IsClosed, Doomed, branch, May, with_root, told}
 use Rattle.history_laws.specs.Refs.{Points, makes_branch, makes_tag, resets, Commits, Removes}
 use Rattle.history_laws.specs.Collections.{Collection, walk_at, Owes, DoomedBy, CommitsOwn, IsQuiet, IsCollected, Collects, OnlyCollects, CommitsLater, LeavesLost, AreCollected}
@@ -232,14 +232,16 @@ root-is roots id e c = at c.0 c.1 (subst (λ (xs : List Id12). slice_get xs c.0 
 
 only-initial : {key : Key} → MarkedBy (initial_id ∷ []) [] [] key → (key ≡ Snapshot initial_id) ⊎ (key ≡ Txn initial_id)
 only-initial first = inl refl
+only-initial first_log = inr refl
 only-initial (root {id = id} h) = inl (ap Snapshot (root-is (initial_id ∷ []) id refl h))
-only-initial (log {id = id} m) = elim (only-initial m) [
-  | inl e ↦ (let same : id ≡ initial_id = cc in inr (ap Txn same))
-  | inr e ↦ cc
-]
+only-initial (log s h m) = absurd (omega (arith, h.1))
 only-initial (parent s h m e) = absurd (omega (arith, h.1))
 only-initial (manifest s h m n) = absurd (omega (arith, h.1))
 only-initial (chunk s f h m n g o) = absurd (omega (arith, h.1))
+
+only-found : {id : Id12} → FoundBy (initial_id ∷ []) [] id → id ≡ initial_id
+only-found (named {id = id} h) = root-is (initial_id ∷ []) id refl h
+only-found (below s h f e) = absurd (omega (arith, h.1))
 
 -- ---- the journal
 module _ (initial : InitialLaw) (i : List ℕ) (i_is : i ≡ initial_bytes) (r : List ℕ) (names : ref_of r ≡ Some initial_id) where
@@ -279,6 +281,9 @@ module _ (initial : InitialLaw) (i : List ℕ) (i_is : i ≡ initial_bytes) (r :
   abbrev l2 : Event
   l2 = lists Tags []
 
+  abbrev ll : Event
+  ll = lists Leases []
+
   abbrev l3 : Event
   l3 = lists Snapshots (entry (Snapshot initial_id) s0 ∷ [])
 
@@ -295,7 +300,7 @@ module _ (initial : InitialLaw) (i : List ℕ) (i_is : i ≡ initial_bytes) (r :
   gone = event 1 9 (Remove (Chunk garbage) Collect) (Is_gone (Gone_done 9))
 
   abbrev its : List Event
-  its = l1 ∷ g1 ∷ l2 ∷ l3 ∷ l4 ∷ l5 ∷ l6 ∷ gone ∷ []
+  its = l1 ∷ g1 ∷ l2 ∷ ll ∷ l3 ∷ l4 ∷ l5 ∷ l6 ∷ gone ∷ []
 
   abbrev at1 : Key → Option Stored
   at1 = with (Snapshot initial_id) (Some s0) nothing
@@ -353,7 +358,7 @@ module _ (initial : InitialLaw) (i : List ℕ) (i_is : i ≡ initial_bytes) (r :
   one-branch (Txn x) t p e = cc
   one-branch (Chunk x) t p e = cc
   one-branch (Tag x) t p e = cc
-  one-branch (TagGone x) t p e = cc
+  one-branch (Tombstone x) t p e = cc
   one-branch (Lease x) t p e = cc
 
   one-snapshot : (other : Key) (t : Stored) → part_of other ≡ Snapshots → at3 other ≡ Some t → Snapshot initial_id ≡ other
@@ -363,7 +368,7 @@ module _ (initial : InitialLaw) (i : List ℕ) (i_is : i ≡ initial_bytes) (r :
   one-snapshot (Txn x) t p e = cc
   one-snapshot (Chunk x) t p e = cc
   one-snapshot (Tag x) t p e = cc
-  one-snapshot (TagGone x) t p e = cc
+  one-snapshot (Tombstone x) t p e = cc
   one-snapshot (Lease x) t p e = cc
 
   one-chunk : (other : Key) (t : Stored) → part_of other ≡ Chunks → at3 other ≡ Some t → Chunk garbage ≡ other
@@ -373,12 +378,12 @@ module _ (initial : InitialLaw) (i : List ℕ) (i_is : i ≡ initial_bytes) (r :
   one-chunk (Txn x) t p e = cc
   one-chunk (Snapshot x) t p e = cc
   one-chunk (Tag x) t p e = cc
-  one-chunk (TagGone x) t p e = cc
+  one-chunk (Tombstone x) t p e = cc
   one-chunk (Lease x) t p e = cc
 
   no-tag : (key : Key) → part_of key ≡ Tags → at3 key ≡ None
   no-tag (Tag x) p = refl
-  no-tag (TagGone x) p = refl
+  no-tag (Tombstone x) p = refl
   no-tag (Branch x) p = cc
   no-tag (Snapshot x) p = cc
   no-tag (Manifest x) p = cc
@@ -386,10 +391,20 @@ module _ (initial : InitialLaw) (i : List ℕ) (i_is : i ≡ initial_bytes) (r :
   no-tag (Chunk x) p = cc
   no-tag (Lease x) p = cc
 
+  no-lease : (key : Key) → part_of key ≡ Leases → at3 key ≡ None
+  no-lease (Lease x) p = refl
+  no-lease (Tag x) p = cc
+  no-lease (Tombstone x) p = cc
+  no-lease (Branch x) p = cc
+  no-lease (Snapshot x) p = cc
+  no-lease (Manifest x) p = cc
+  no-lease (Txn x) p = cc
+  no-lease (Chunk x) p = cc
+
   no-log : (key : Key) → part_of key ≡ Txns → at3 key ≡ None
   no-log (Txn x) p = refl
   no-log (Tag x) p = cc
-  no-log (TagGone x) p = cc
+  no-log (Tombstone x) p = cc
   no-log (Branch x) p = cc
   no-log (Snapshot x) p = cc
   no-log (Manifest x) p = cc
@@ -399,7 +414,7 @@ module _ (initial : InitialLaw) (i : List ℕ) (i_is : i ≡ initial_bytes) (r :
   no-manifest : (key : Key) → part_of key ≡ Manifests → at3 key ≡ None
   no-manifest (Manifest x) p = refl
   no-manifest (Tag x) p = cc
-  no-manifest (TagGone x) p = cc
+  no-manifest (Tombstone x) p = cc
   no-manifest (Branch x) p = cc
   no-manifest (Snapshot x) p = cc
   no-manifest (Txn x) p = cc
@@ -415,8 +430,11 @@ module _ (initial : InitialLaw) (i : List ℕ) (i_is : i ≡ initial_bytes) (r :
   abbrev j6 : List Event
   j6 = j5 ++ l2 ∷ []
 
+  abbrev jl : List Event
+  jl = j6 ++ ll ∷ []
+
   abbrev j7 : List Event
-  j7 = j6 ++ l3 ∷ []
+  j7 = jl ++ l3 ∷ []
 
   abbrev j8 : List Event
   j8 = j7 ++ l4 ∷ []
@@ -439,66 +457,78 @@ module _ (initial : InitialLaw) (i : List ℕ) (i_is : i ≡ initial_bytes) (r :
   is6 : IsAt j6 6 9 at3
   is6 = at-list j5 5 9 at3 is5 1 9 (omega arith) (omega arith) Tags [] (lists-none at3 Tags no-tag)
 
-  is7 : IsAt j7 7 9 at3
-  is7 = at-list j6 6 9 at3 is6 1 9 (omega arith) (omega arith) Snapshots (entry (Snapshot initial_id) s0 ∷ []) (lists-one at3 Snapshots (Snapshot initial_id) s0 refl there0 one-snapshot)
+  isl : IsAt jl 7 9 at3
+  isl = at-list j6 6 9 at3 is6 1 9 (omega arith) (omega arith) Leases [] (lists-none at3 Leases no-lease)
 
-  is8 : IsAt j8 8 9 at3
-  is8 = at-list j7 7 9 at3 is7 1 9 (omega arith) (omega arith) Txns [] (lists-none at3 Txns no-log)
+  is7 : IsAt j7 8 9 at3
+  is7 = at-list jl 7 9 at3 isl 1 9 (omega arith) (omega arith) Snapshots (entry (Snapshot initial_id) s0 ∷ []) (lists-one at3 Snapshots (Snapshot initial_id) s0 refl there0 one-snapshot)
 
-  is9 : IsAt j9 9 9 at3
-  is9 = at-list j8 8 9 at3 is8 1 9 (omega arith) (omega arith) Manifests [] (lists-none at3 Manifests no-manifest)
+  is8 : IsAt j8 9 9 at3
+  is8 = at-list j7 8 9 at3 is7 1 9 (omega arith) (omega arith) Txns [] (lists-none at3 Txns no-log)
 
-  is10 : IsAt j10 10 9 at3
-  is10 = at-list j9 9 9 at3 is9 1 9 (omega arith) (omega arith) Chunks (entry (Chunk garbage) s2 ∷ []) (lists-one at3 Chunks (Chunk garbage) s2 refl chunk-there one-chunk)
+  is9 : IsAt j9 10 9 at3
+  is9 = at-list j8 9 9 at3 is8 1 9 (omega arith) (omega arith) Manifests [] (lists-none at3 Manifests no-manifest)
 
-  is11 : IsAt whole 11 9 (with (Chunk garbage) None at3)
-  is11 = at-remove j10 10 9 at3 is10 1 9 (omega arith) (omega arith) (Chunk garbage) s2 chunk-there refl
+  is10 : IsAt j10 11 9 at3
+  is10 = at-list j9 10 9 at3 is9 1 9 (omega arith) (omega arith) Chunks (entry (Chunk garbage) s2 ∷ []) (lists-one at3 Chunks (Chunk garbage) s2 refl chunk-there one-chunk)
+
+  is11 : IsAt whole 12 9 (with (Chunk garbage) None at3)
+  is11 = at-remove j10 11 9 at3 is10 1 9 (omega arith) (omega arith) (Chunk garbage) s2 chunk-there refl
 
   -- ---- the collection
   abbrev c : Collection
   c = record { cutoff = 5; client = 1; start = start; stop = 20 }
 
   -- what it knows when so many listings were made
-  abbrev knows : (branches tags : Option (List Key)) → List Id12 → ℕ → List Entry → Walk
-  knows branches tags roots n listed = record { branches = branches; tags = tags; roots = roots; reads = []; files = []; lists = n; listed = listed; answered = []; removed = []; over = false }
+  abbrev knows : (branches tags leases : Option (List Key)) → List Id12 → ℕ → List Entry → Walk
+  knows branches tags leases roots n listed = record { branches = branches; tags = tags; leases = leases; roots = roots; leased = []; reads = []; files = []; absent = []; lists = n; listed = listed; answered = []; removed = []; over = false }
 
   abbrev done : List Entry → ℕ → Walk
-  done listed n = knows (Some []) (Some []) (initial_id ∷ []) n listed
+  done listed n = knows (Some []) (Some []) (Some []) (initial_id ∷ []) n listed
 
   step : (journal : List Event) (x : Event) (w v : Walk) → Behind c journal → x.client ≡ 1 → length journal < 20 → walk_at c journal ≡ w → told 5 w x.op x.reply ≡ v → walk_at c (journal ++ x ∷ []) ≡ v
   step journal x w v behind client within is told_is = (its-own c journal x behind client within).walk ∙ (ap (λ (u : Walk). told 5 u x.op x.reply) is ∙ told_is)
 
-  k4 : walk_at c j4 ≡ knows (Some (Branch main_name ∷ [])) None [] 0 []
-  k4 = step start l1 fresh (knows (Some (Branch main_name ∷ [])) None [] 0 []) ([], refl) refl (omega arith) (walk-start c) refl
+  k4 : walk_at c j4 ≡ knows (Some (Branch main_name ∷ [])) None None [] 0 []
+  k4 = step start l1 fresh (knows (Some (Branch main_name ∷ [])) None None [] 0 []) ([], refl) refl (omega arith) (walk-start c) refl
 
-  k5 : walk_at c j5 ≡ knows (Some []) None (initial_id ∷ []) 0 []
-  k5 = step j4 g1 (knows (Some (Branch main_name ∷ [])) None [] 0 []) (knows (Some []) None (initial_id ∷ []) 0 []) (l1 ∷ [], refl) refl (omega arith) k4 (ap (with_root (knows (Some []) None [] 0 [])) names)
+  k5 : walk_at c j5 ≡ knows (Some []) None None (initial_id ∷ []) 0 []
+  k5 = step j4 g1 (knows (Some (Branch main_name ∷ [])) None None [] 0 []) (knows (Some []) None None (initial_id ∷ []) 0 []) (l1 ∷ [], refl) refl (omega arith) k4 (ap (with_root (knows (Some []) None None [] 0 [])) names)
 
-  k6 : walk_at c j6 ≡ done [] 0
-  k6 = step j5 l2 (knows (Some []) None (initial_id ∷ []) 0 []) (done [] 0) (l1 ∷ g1 ∷ [], refl) refl (omega arith) k5 refl
+  k6 : walk_at c j6 ≡ knows (Some []) (Some []) None (initial_id ∷ []) 0 []
+  k6 = step j5 l2 (knows (Some []) None None (initial_id ∷ []) 0 []) (knows (Some []) (Some []) None (initial_id ∷ []) 0 []) (l1 ∷ g1 ∷ [], refl) refl (omega arith) k5 refl
+
+  kl : walk_at c jl ≡ done [] 0
+  kl = step j6 ll (knows (Some []) (Some []) None (initial_id ∷ []) 0 []) (done [] 0) (l1 ∷ g1 ∷ l2 ∷ [], refl) refl (omega arith) k6 refl
 
   k7 : walk_at c j7 ≡ done (entry (Snapshot initial_id) s0 ∷ []) 1
-  k7 = step j6 l3 (done [] 0) (done (entry (Snapshot initial_id) s0 ∷ []) 1) (l1 ∷ g1 ∷ l2 ∷ [], refl) refl (omega arith) k6 refl
+  k7 = step jl l3 (done [] 0) (done (entry (Snapshot initial_id) s0 ∷ []) 1) (l1 ∷ g1 ∷ l2 ∷ ll ∷ [], refl) refl (omega arith) kl refl
 
   k8 : walk_at c j8 ≡ done (entry (Snapshot initial_id) s0 ∷ []) 2
-  k8 = step j7 l4 (done (entry (Snapshot initial_id) s0 ∷ []) 1) (done (entry (Snapshot initial_id) s0 ∷ []) 2) (l1 ∷ g1 ∷ l2 ∷ l3 ∷ [], refl) refl (omega arith) k7 refl
+  k8 = step j7 l4 (done (entry (Snapshot initial_id) s0 ∷ []) 1) (done (entry (Snapshot initial_id) s0 ∷ []) 2) (l1 ∷ g1 ∷ l2 ∷ ll ∷ l3 ∷ [], refl) refl (omega arith) k7 refl
 
   k9 : walk_at c j9 ≡ done (entry (Snapshot initial_id) s0 ∷ []) 3
-  k9 = step j8 l5 (done (entry (Snapshot initial_id) s0 ∷ []) 2) (done (entry (Snapshot initial_id) s0 ∷ []) 3) (l1 ∷ g1 ∷ l2 ∷ l3 ∷ l4 ∷ [], refl) refl (omega arith) k8 refl
+  k9 = step j8 l5 (done (entry (Snapshot initial_id) s0 ∷ []) 2) (done (entry (Snapshot initial_id) s0 ∷ []) 3) (l1 ∷ g1 ∷ l2 ∷ ll ∷ l3 ∷ l4 ∷ [], refl) refl (omega arith) k8 refl
 
   abbrev all : List Entry
   all = entry (Snapshot initial_id) s0 ∷ entry (Chunk garbage) s2 ∷ []
 
   k10 : walk_at c j10 ≡ done all 4
-  k10 = step j9 l6 (done (entry (Snapshot initial_id) s0 ∷ []) 3) (done all 4) (l1 ∷ g1 ∷ l2 ∷ l3 ∷ l4 ∷ l5 ∷ [], refl) refl (omega arith) k9 refl
+  k10 = step j9 l6 (done (entry (Snapshot initial_id) s0 ∷ []) 3) (done all 4) (l1 ∷ g1 ∷ l2 ∷ ll ∷ l3 ∷ l4 ∷ l5 ∷ [], refl) refl (omega arith) k9 refl
 
   k11 : walk_at c whole ≡ record (done all 4) { answered = Chunk garbage ∷ []; removed = Chunk garbage ∷ [] }
-  k11 = step j10 gone (done all 4) (record (done all 4) { answered = Chunk garbage ∷ []; removed = Chunk garbage ∷ [] }) (l1 ∷ g1 ∷ l2 ∷ l3 ∷ l4 ∷ l5 ∷ l6 ∷ [], refl) refl (omega arith) k10 refl
+  k11 = step j10 gone (done all 4) (record (done all 4) { answered = Chunk garbage ∷ []; removed = Chunk garbage ∷ [] }) (l1 ∷ g1 ∷ l2 ∷ ll ∷ l3 ∷ l4 ∷ l5 ∷ l6 ∷ [], refl) refl (omega arith) k10 refl
 
   closed : (listed : List Entry) (n : ℕ) → IsClosed (done listed n)
   closed listed n = record {
-    snapshots = λ id m. elim (only-initial m) [ inl e ↦ inl (let same : id ≡ initial_id = cc in same) | inr e ↦ cc ];
-    manifests = λ id named. absurd (let l = named.read.1 in omega (arith, l));
+    needed = record {
+      snapshots = λ id f. inl (only-found f);
+      manifests = λ id n. absurd (let l = n.read.1 in omega (arith, l));
+    };
+    all = record {
+      snapshots = λ id m. elim (only-initial m) [ inl e ↦ inl (let same : id ≡ initial_id = cc in same) | inr e ↦ cc ];
+      manifests = λ id n. absurd (let l = n.read.1 in omega (arith, l));
+    };
   }
 
   unmarked : MarkedBy (initial_id ∷ []) [] [] (Chunk garbage) → ⊥
@@ -511,29 +541,30 @@ module _ (initial : InitialLaw) (i : List ℕ) (i_is : i ≡ initial_bytes) (r :
   owed journal x w is may e within = subst (λ (u : Walk). May 5 u x.op) (sym is) may
 
   -- a fact of each of its events
-  by-each : (P : List Event → Event → Type 0) → P start l1 → P j4 g1 → P j5 l2 → P j6 l3 → P j7 l4 → P j8 l5 → P j9 l6 → P j10 gone → Each P start its
+  by-each : (P : List Event → Event → Type 0) → P start l1 → P j4 g1 → P j5 l2 → P j6 ll → P jl l3 → P j7 l4 → P j8 l5 → P j9 l6 → P j10 gone → Each P start its
   unfolding Each
-  by-each P a1 a2 a3 a4 a5 a6 a7 a8 = (a1, (a2, (a3, (a4, (a5, (a6, (a7, (a8, tt))))))))
+  by-each P a1 a2 a3 a4 a5 a6 a7 a8 a9 = (a1, (a2, (a3, (a4, (a5, (a6, (a7, (a8, (a9, tt)))))))))
 
   owes : Each (Owes c) start its
   owes = by-each (Owes c)
       (owed start l1 fresh (walk-start c) (refl, refl))
-      (owed j4 g1 (knows (Some (Branch main_name ∷ [])) None [] 0 []) k4 (refl, branch ([], refl)))
-      (owed j5 l2 (knows (Some []) None (initial_id ∷ []) 0 []) k5 (refl, (refl, refl)))
-      (owed j6 l3 (done [] 0) k6 (refl, ((refl, refl), refl, closed [] 0)))
-      (owed j7 l4 (done (entry (Snapshot initial_id) s0 ∷ []) 1) k7 (refl, ((refl, refl), refl, closed (entry (Snapshot initial_id) s0 ∷ []) 1)))
-      (owed j8 l5 (done (entry (Snapshot initial_id) s0 ∷ []) 2) k8 (refl, ((refl, refl), refl, closed (entry (Snapshot initial_id) s0 ∷ []) 2)))
-      (owed j9 l6 (done (entry (Snapshot initial_id) s0 ∷ []) 3) k9 (refl, ((refl, refl), refl, closed (entry (Snapshot initial_id) s0 ∷ []) 3)))
-      (owed j10 gone (done all 4) k10 (refl, (refl, (refl, refl), doomed)))
+      (owed j4 g1 (knows (Some (Branch main_name ∷ [])) None None [] 0 []) k4 (refl, branch ([], refl)))
+      (owed j5 l2 (knows (Some []) None None (initial_id ∷ []) 0 []) k5 (refl, (refl, refl)))
+      (owed j6 ll (knows (Some []) (Some []) None (initial_id ∷ []) 0 []) k6 (refl, (refl, refl, refl)))
+      (owed jl l3 (done [] 0) kl (refl, ((refl, refl, refl), refl, closed [] 0)))
+      (owed j7 l4 (done (entry (Snapshot initial_id) s0 ∷ []) 1) k7 (refl, ((refl, refl, refl), refl, closed (entry (Snapshot initial_id) s0 ∷ []) 1)))
+      (owed j8 l5 (done (entry (Snapshot initial_id) s0 ∷ []) 2) k8 (refl, ((refl, refl, refl), refl, closed (entry (Snapshot initial_id) s0 ∷ []) 2)))
+      (owed j9 l6 (done (entry (Snapshot initial_id) s0 ∷ []) 3) k9 (refl, ((refl, refl, refl), refl, closed (entry (Snapshot initial_id) s0 ∷ []) 3)))
+      (owed j10 gone (done all 4) k10 (refl, (refl, (refl, refl, refl), doomed)))
 
   collected : IsCollected c whole []
   collected = record {
     listed = record { good = is11.good; once = is11.once; more = its; is = refl; owes = owes; listed = ap (λ (w : Walk). w.lists) k11 };
     own = by-each (CommitsOwn c)
-        (λ b base id k. absurd (no-commit start l1 base id tt k)) (λ b base id k. absurd (no-commit j4 g1 base id tt k)) (λ b base id k. absurd (no-commit j5 l2 base id tt k)) (λ b base id k. absurd (no-commit j6 l3 base id tt k))
+        (λ b base id k. absurd (no-commit start l1 base id tt k)) (λ b base id k. absurd (no-commit j4 g1 base id tt k)) (λ b base id k. absurd (no-commit j5 l2 base id tt k)) (λ b base id k. absurd (no-commit j6 ll base id tt k)) (λ b base id k. absurd (no-commit jl l3 base id tt k))
         (λ b base id k. absurd (no-commit j7 l4 base id tt k)) (λ b base id k. absurd (no-commit j8 l5 base id tt k)) (λ b base id k. absurd (no-commit j9 l6 base id tt k)) (λ b base id k. absurd (no-commit j10 gone base id tt k));
     quiet = by-each (IsQuiet (DoomedBy c (whole ++ [])) c)
-        (λ b id p. absurd (no-points start l1 id tt p)) (λ b id p. absurd (no-points j4 g1 id tt p)) (λ b id p. absurd (no-points j5 l2 id tt p)) (λ b id p. absurd (no-points j6 l3 id tt p))
+        (λ b id p. absurd (no-points start l1 id tt p)) (λ b id p. absurd (no-points j4 g1 id tt p)) (λ b id p. absurd (no-points j5 l2 id tt p)) (λ b id p. absurd (no-points j6 ll id tt p)) (λ b id p. absurd (no-points jl l3 id tt p))
         (λ b id p. absurd (no-points j7 l4 id tt p)) (λ b id p. absurd (no-points j8 l5 id tt p)) (λ b id p. absurd (no-points j9 l6 id tt p)) (λ b id p. absurd (no-points j10 gone id tt p));
   }
 
@@ -549,7 +580,7 @@ module _ (initial : InitialLaw) (i : List ℕ) (i_is : i ≡ initial_bytes) (r :
   ]
 
   the-removal : OnlyCollects (c ∷ []) j10 gone
-  the-removal key object removes = record { collection = c; among = (0, omega arith, refl); client_is = refl; within = omega arith; more = l1 ∷ g1 ∷ l2 ∷ l3 ∷ l4 ∷ l5 ∷ l6 ∷ []; is = refl }
+  the-removal key object removes = record { collection = c; among = (0, omega arith, refl); client_is = refl; within = omega arith; more = l1 ∷ g1 ∷ l2 ∷ ll ∷ l3 ∷ l4 ∷ l5 ∷ l6 ∷ []; is = refl }
 
   only : Each (OnlyCollects (c ∷ [])) [] whole
   unfolding Each
@@ -559,7 +590,7 @@ module _ (initial : InitialLaw) (i : List ℕ) (i_is : i ≡ initial_bytes) (r :
       no-removal (e0 ∷ []) e1 (inr (Branch main_name, r, Init, refl)),
       (
         no-removal (e0 ∷ e1 ∷ []) e2 (inr (Chunk garbage, [], Set, refl)),
-        by-each (OnlyCollects (c ∷ [])) (no-removal start l1 (inl tt)) (no-removal j4 g1 (inl tt)) (no-removal j5 l2 (inl tt)) (no-removal j6 l3 (inl tt)) (no-removal j7 l4 (inl tt)) (no-removal j8 l5 (inl tt)) (no-removal j9 l6 (inl tt)) the-removal,
+        by-each (OnlyCollects (c ∷ [])) (no-removal start l1 (inl tt)) (no-removal j4 g1 (inl tt)) (no-removal j5 l2 (inl tt)) (no-removal j6 ll (inl tt)) (no-removal jl l3 (inl tt)) (no-removal j7 l4 (inl tt)) (no-removal j8 l5 (inl tt)) (no-removal j9 l6 (inl tt)) the-removal,
       ),
     ),
   )

@@ -8,14 +8,14 @@ use Rattle.ice_ids.specs.Text.{initial_id}
 use Rattle.manifest_file.specs.declared.manifest.ManifestFile.{ManifestFile}
 use Rattle.repo_objects.specs.Laws.{InitialLaw, SnapshotLaw, ManifestLaw}
 use Rattle.repo_objects.specs.Trees.{NamesChunk}
-use Rattle.repo_objects.specs.Readings.{manifest_by, ref_of}
+use Rattle.repo_objects.specs.Readings.{manifest_by}
 use Rattle.object_store.specs.declared.keys.Key.{Key}
-use Rattle.object_store.specs.declared.keys.Key.TheVariants.{Snapshot, Manifest, Txn, Chunk, Branch, Tag, TagGone, Lease}
+use Rattle.object_store.specs.declared.keys.Key.TheVariants.{Snapshot, Manifest, Txn, Chunk, Branch, Tag, Tombstone, Lease}
 use Rattle.object_store.specs.declared.events.Event.{Event}
 use Rattle.object_store.specs.Machine.{Slot, found, first_put, last_put}
 use Rattle.object_store.proofs.Journals.{Each-append, Each-at, Each-back, Each-one, Each-two}
 use Rattle.object_store.proofs.Slots.{id-true, bytes-same, slot-none, WasPut-append}
-use Rattle.store_api.specs.Journal.{Each, ChunksPut, IsFirst, IsFirstOp, IsGood, IsGoodJournal, IsOnce, NamesPut, PutsFirst, WasPut}
+use Rattle.store_api.specs.Journal.{Each, ChunksPut, IsFirst, IsFirstOp, IsGood, IsGoodJournal, IsOnce, PutsFirst, WasPut}
 use Rattle.store_api.proofs.Naming.{names-law}
 use Rattle.store_api.proofs.Once.{chunks-put}
 use Rattle.reach.specs.Chains.{Chain, here, down, parent_at}
@@ -24,17 +24,18 @@ use Rattle.reach.specs.Own.{HasPut}
 use Rattle.reach.proofs.Holding.{named-put}
 use Rattle.collecting.specs.Walks.{IsObject, MayDo}
 use Rattle.history_laws.specs.Refs.{Names, RefReaches, Removes}
-use Rattle.history_laws.specs.Collections.{Collection, walk_at, DoomedBy, Owes, IsPreceded, Collects, OnlyCollects, IsLost, CommitsLater, LeavesLost, AreCollected}
+use Rattle.history_laws.specs.Collections.{Collection, walk_at, DoomedBy, Owes, IsPreceded, Collects, CommitsOwn, IsQuiet, IsCollected, OnlyCollects, IsLost, CommitsLater, LeavesLost, NoneMissing, AreCollected}
 use Rattle.history_laws.specs.Laws.{Stands, ReachedFound, BasesFound, OwnFound, ReachedPut, NoneMissed, NothingMissing}
 use Rattle.history_laws.proofs.Steps.{IsRemoval, step-one}
 use Rattle.history_laws.proofs.Past.{look, Known, Has, Past, past-of, past-one, initial-parent, initial-names}
 use Rattle.history_laws.proofs.Safe.{Safe, safe-quiet, safe-clean}
 use Rattle.history_laws.proofs.Walking.{Behind, behind-more}
 use Rattle.history_laws.proofs.Young.{never-put, put-stands}
-use Rattle.history_laws.proofs.Settled.{IsSettled, settled-one}
+use Rattle.history_laws.proofs.Settled.{IsSettled, settled-one, settled-later}
 use Rattle.history_laws.proofs.Running.{held-object}
 use Rattle.history_laws.proofs.Moving.{refs-one}
-use Rattle.history_laws.proofs.Ending.{ref-kept, initial-kept, puts-kept, reach-further}
+use Rattle.history_laws.proofs.Ending.{at-first, ref-kept, initial-kept, puts-kept, reach-further}
+use Rattle.history_laws.proofs.Passed.{named-known}
 
 -- behind a first part two ends are the same
 same-end : (start more rest : List Event) → start ++ more ≡ start ++ rest → more ≡ rest
@@ -73,31 +74,105 @@ by-initial (Txn id) = inr (λ is. cc)
 by-initial (Chunk id) = inr (λ is. cc)
 by-initial (Branch name) = inr (λ is. cc)
 by-initial (Tag name) = inr (λ is. cc)
-by-initial (TagGone name) = inr (λ is. cc)
+by-initial (Tombstone name) = inr (λ is. cc)
 by-initial (Lease id) = inr (λ is. cc)
 
 -- a snapshot that a ref names was put
-named-known : (journal : List Event) (bytes : List ℕ) (id : Id12) → ref_of bytes ≡ Some id → NamesPut journal bytes → WasPut journal (Snapshot id)
-named-known journal bytes id e n = let same : n.id ≡ id = let f = n.reference in cc in subst (λ (x : Id12). WasPut journal (Snapshot x)) same n.put
-
-ref-put : (journal : List Event) → IsGoodJournal journal → (ref : Key) (id : Id12) → Names journal ref id → WasPut journal (Snapshot id)
+pub ref-put : (journal : List Event) → IsGoodJournal journal → (ref : Key) (id : Id12) → Names journal ref id → WasPut journal (Snapshot id)
 ref-put journal good (Branch name) id n = named-known journal n.stored.bytes id n.names ((names-law journal good).branches name n.stored n.stands)
 ref-put journal good (Tag name) id n = named-known journal n.stored.bytes id n.names ((names-law journal good).tags name n.stored n.stands)
-ref-put journal good (TagGone name) id n = absurd n.is_ref
+ref-put journal good (Tombstone name) id n = absurd n.is_ref
 ref-put journal good (Snapshot x) id n = absurd n.is_ref
 ref-put journal good (Manifest x) id n = absurd n.is_ref
 ref-put journal good (Txn x) id n = absurd n.is_ref
 ref-put journal good (Chunk x) id n = absurd n.is_ref
 ref-put journal good (Lease x) id n = absurd n.is_ref
 
-module _ (initial : InitialLaw) (snaps : SnapshotLaw) (manifests : ManifestLaw) (collections : List Collection) (old journal : List Event) (h : AreCollected collections old journal) where
+-- ---- a first part of a journal
+-- What is so of a journal, of which this may be a first part, with the rest behind it.
+pub record IsPart (collections : List Collection) (old journal rest : List Event) : Type 0 where
+  pub good : IsGoodJournal journal
+  pub once : IsOnce journal
+  pub added : List Event
+  pub is : journal ≡ old ++ added
+  pub only : Each (OnlyCollects collections) old added
+  pub owes : (c : Collection) → Contains collections c → (before : List Event) (event : Event) (after : List Event) → journal ≡ before ++ event ∷ after → Behind c before → Owes c before event
+  pub collected : (c : Collection) → Contains collections c → Behind c journal → IsSettled (walk_at c journal) → IsCollected c journal rest
+  pub none_missing : NoneMissing old
+  pub own : Each (CommitsLater old) old added
+  pub quiet : Each (LeavesLost old) old added
+
+module _ (collections : List Collection) (old whole : List Event) (h : AreCollected collections old whole) (journal rest : List Event) (whole_is : whole ≡ journal ++ rest) where
+  owes-at : (c : Collection) → Contains collections c → (before : List Event) (event : Event) (after : List Event) → whole ≡ before ++ event ∷ after → Behind c before → Owes c before event
+  owes-at c among before event after is behind =
+      let k : Collects c whole = h.collects c among in
+      let same : c.start ++ k.more ≡ c.start ++ (behind.0 ++ event ∷ after) = sym k.is ∙ (is ∙ (ap (λ (j : List Event). j ++ event ∷ after) behind.1 ∙ append_assoc c.start behind.0 (event ∷ after))) in
+      let owes : Each (Owes c) c.start (behind.0 ++ event ∷ after) = subst (λ (xs : List Event). Each (Owes c) c.start xs) (same-end c.start k.more (behind.0 ++ event ∷ after) same) k.owes in
+      subst (λ (j : List Event). Owes c j event) (sym behind.1) (Each-at (Owes c) c.start behind.0 event after owes)
+
+  -- a collection that has listed all by then
+  module _ (c : Collection) (among : Contains collections c) (behind : Behind c journal) (settled : IsSettled (walk_at c journal)) where
+    goes-on : (more : List Event) → whole ≡ c.start ++ more → more ≡ behind.0 ++ rest
+    goes-on more is = same-end c.start more (behind.0 ++ rest) (sym is ∙ (whole_is ∙ (ap (λ (j : List Event). j ++ rest) behind.1 ∙ append_assoc c.start behind.0 rest)))
+
+    owed : Each (Owes c) c.start (behind.0 ++ rest)
+    owed = let k : Collects c whole = h.collects c among in subst (λ (xs : List Event). Each (Owes c) c.start xs) (goes-on k.more k.is) k.owes
+
+    owed-later : Each (Owes c) journal rest
+    owed-later = subst (λ (j : List Event). Each (Owes c) j rest) (sym behind.1) (Each-back (Owes c) c.start behind.0 rest owed).1
+
+    listed-later : (walk_at c whole).lists ≡ 4
+    listed-later = subst (λ (j : List Event). (walk_at c j).lists ≡ 4) (sym whole_is) (settled-later c journal rest behind owed-later settled).lists
+
+    collected-by : IsCollected c journal rest
+    collected-by =
+        let k : IsCollected c whole [] = h.collected c among listed-later in
+        let same = goes-on k.listed.more k.listed.is in
+        let goods = (Each-back IsGood [] journal rest (subst (λ (j : List Event). Each IsGood [] j) whole_is h.good)).0 in
+        let firsts = (Each-back IsFirst [] journal rest (subst (λ (j : List Event). Each IsFirst [] j) whole_is h.once)).0 in
+        let own = (Each-back (CommitsOwn c) c.start behind.0 rest (subst (λ (xs : List Event). Each (CommitsOwn c) c.start xs) same k.own)).0 in
+        let quiet = (Each-back (IsQuiet (DoomedBy c (whole ++ [])) c) c.start behind.0 rest (subst (λ (xs : List Event). Each (IsQuiet (DoomedBy c (whole ++ [])) c) c.start xs) same k.quiet)).0 in
+        record {
+          listed = record { good = goods; once = firsts; more = behind.0; is = behind.1; owes = owed; listed = settled.lists };
+          own = own;
+          quiet = subst (λ (j : List Event). Each (IsQuiet (DoomedBy c j) c) c.start behind.0) (append-nil whole ∙ whole_is) quiet;
+        }
+
+  -- up to there it is so
+  pub part-of : (added : List Event) → journal ≡ old ++ added → IsPart collections old journal rest
+  part-of added is =
+      let same : h.added ≡ added ++ rest = same-end old h.added (added ++ rest) (sym h.is ∙ (whole_is ∙ (ap (λ (j : List Event). j ++ rest) is ∙ append_assoc old added rest))) in
+      record {
+        good = (Each-back IsGood [] journal rest (subst (λ (j : List Event). Each IsGood [] j) whole_is h.good)).0;
+        once = (Each-back IsFirst [] journal rest (subst (λ (j : List Event). Each IsFirst [] j) whole_is h.once)).0;
+        added = added;
+        is = is;
+        only = (Each-back (OnlyCollects collections) old added rest (subst (λ (xs : List Event). Each (OnlyCollects collections) old xs) same h.only)).0;
+        owes = λ c among before event after e behind. owes-at c among before event (after ++ rest) (whole_is ∙ (ap (λ (j : List Event). j ++ rest) e ∙ append_assoc before (event ∷ after) rest)) behind;
+        collected = collected-by;
+        none_missing = h.none_missing;
+        own = (Each-back (CommitsLater old) old added rest (subst (λ (xs : List Event). Each (CommitsLater old) old xs) same h.own)).0;
+        quiet = (Each-back (LeavesLost old) old added rest (subst (λ (xs : List Event). Each (LeavesLost old) old xs) same h.quiet)).0;
+      }
+
+-- what removes an object is an event of a collection
+pub only-at : (collections : List Collection) (old whole : List Event) (h : AreCollected collections old whole) (added : List Event) (event : Event) (after : List Event) → whole ≡ (old ++ added) ++ event ∷ after → OnlyCollects collections (old ++ added) event
+only-at collections old whole h added event after is =
+    let same : h.added ≡ added ++ event ∷ after = same-end old h.added (added ++ event ∷ after) (sym h.is ∙ (is ∙ append_assoc old added (event ∷ after))) in
+    Each-at (OnlyCollects collections) old added event after (subst (λ (xs : List Event). Each (OnlyCollects collections) old xs) same h.only)
+
+-- the whole is one
+pub whole-of : (collections : List Collection) (old journal : List Event) → AreCollected collections old journal → IsPart collections old journal []
+whole-of collections old journal h = part-of collections old journal h journal [] (sym (append-nil journal)) h.added h.is
+
+module _ (initial : InitialLaw) (snaps : SnapshotLaw) (manifests : ManifestLaw) (collections : List Collection) (old journal later : List Event) (h : IsPart collections old journal later) where
   -- ---- what was put stands, was lost before, or is doomed by one of the collections
-  record DoomedByOne (j : List Event) (key : Key) : Type 0 where
-    one : Collection
-    among : Contains collections one
-    behind : Behind one j
-    settled : IsSettled (walk_at one j)
-    doomed : DoomedBy one j key
+  pub record DoomedByOne (j : List Event) (key : Key) : Type 0 where
+    pub one : Collection
+    pub among : Contains collections one
+    pub behind : Behind one j
+    pub settled : IsSettled (walk_at one j)
+    pub doomed : DoomedBy one j key
 
   abbrev Accounted : List Event → Key → Type 0
   Accounted j key = Stands j key ⊎ (IsLost old key ⊎ DoomedByOne j key)
@@ -105,25 +180,18 @@ module _ (initial : InitialLaw) (snaps : SnapshotLaw) (manifests : ManifestLaw) 
   abbrev AllAccounted : List Event → Type 0
   AllAccounted j = (key : Key) → IsObject key → WasPut j key → Accounted j key
 
-  owes-at : (c : Collection) → Contains collections c → (before : List Event) (event : Event) (after : List Event) → journal ≡ before ++ event ∷ after → Behind c before → Owes c before event
-  owes-at c among before event after is behind =
-      let k : Collects c journal = h.collects c among in
-      let whole : c.start ++ k.more ≡ c.start ++ (behind.0 ++ event ∷ after) = sym k.is ∙ (is ∙ (ap (λ (j : List Event). j ++ event ∷ after) behind.1 ∙ append_assoc c.start behind.0 (event ∷ after))) in
-      let owes : Each (Owes c) c.start (behind.0 ++ event ∷ after) = subst (λ (xs : List Event). Each (Owes c) c.start xs) (same-end c.start k.more (behind.0 ++ event ∷ after) whole) k.owes in
-      subst (λ (j : List Event). Owes c j event) (sym behind.1) (Each-at (Owes c) c.start behind.0 event after owes)
-
   module _ (before : List Event) (event : Event) (after : List Event) (is : journal ≡ before ++ event ∷ after) where
     stays-doomed : (key : Key) → DoomedByOne before key → DoomedByOne (before ++ event ∷ []) key
     stays-doomed key d =
-        let one = settled-one d.one before event d.behind (owes-at d.one d.among before event after is d.behind) d.settled in
+        let one = settled-one d.one before event d.behind (h.owes d.one d.among before event after is d.behind) d.settled in
         record { one = d.one; among = d.among; behind = behind-more d.one before (event ∷ []) d.behind; settled = one.settled; doomed = one.fore key d.doomed }
 
     -- what is removed is doomed
-    removed : OnlyCollects collections before event → (key : Key) → IsObject key → Removes before event key → (slot : Slot) → IsRemoval before event key slot → DoomedByOne before key
+    pub removed : OnlyCollects collections before event → (key : Key) → IsObject key → Removes before event key → (slot : Slot) → IsRemoval before event key slot → DoomedByOne before key
     removed only key object removes slot gone =
         let o = only key object removes in
         let behind : Behind o.collection before = (o.more, o.is) in
-        let may = (owes-at o.collection o.among before event after is behind o.client_is o.within).1 in
+        let may = (h.owes o.collection o.among before event after is behind o.client_is o.within).1 in
         elim gone.removes [
           | inl r ↦
               let m = subst (MayDo o.collection.cutoff (walk_at o.collection before)) r.1 may in
@@ -223,7 +291,7 @@ module _ (initial : InitialLaw) (snaps : SnapshotLaw) (manifests : ManifestLaw) 
   initial-has (Snapshot x) (inr held) lost = held
   initial-has (Branch name) (inr held) lost = held
   initial-has (Tag name) (inr held) lost = held
-  initial-has (TagGone name) (inr held) lost = held
+  initial-has (Tombstone name) (inr held) lost = held
   initial-has (Lease x) (inr held) lost = held
 
   initial-clean : (id x : Id12) (key : Key) → id ≡ initial_id → Chain journal id x → Has journal x key → IsLost old key → ⊥
@@ -242,24 +310,27 @@ module _ (initial : InitialLaw) (snaps : SnapshotLaw) (manifests : ManifestLaw) 
   ]
 
   -- ---- so it stands
-  at-end : (c : Collection) (key : Key) → DoomedBy c journal key → DoomedBy c (journal ++ []) key
-  at-end c key d = subst (λ (j : List Event). DoomedBy c j key) (sym (append-nil journal)) d
+  its-end : {key : Key} → (d : DoomedByOne journal key) → IsCollected d.one journal later
+  its-end d = h.collected d.one d.among d.behind d.settled
 
-  found-by : (ref key : Key) (id : Id12) → IsObject key → Names journal ref id → Reaches journal id key → WasPut journal key → Stands journal key
+  at-end : {key : Key} → (d : DoomedByOne journal key) → DoomedBy d.one (journal ++ later) key
+  at-end {key = key} d = at-first initial snaps manifests d.one journal later (its-end d).listed key d.doomed
+
+  pub found-by : (ref key : Key) (id : Id12) → IsObject key → Names journal ref id → Reaches journal id key → WasPut journal key → Stands journal key
   found-by ref key id object n r was = elim (accounted key object was) [
     | inl there ↦ there
     | inr rest ↦ elim rest [
       | inl lost ↦ absurd (lost-kept ref key id n r lost)
-      | inr d ↦ absurd (ref-kept initial snaps manifests d.one journal [] (h.collected d.one d.among d.settled.lists) ref key id n r (at-end d.one key d.doomed))
+      | inr d ↦ absurd (ref-kept initial snaps manifests d.one journal later (its-end d) ref key id n r (at-end d))
     ]
   ]
 
-  initial-found : (key : Key) → IsObject key → Reaches journal initial_id key → WasPut journal key → Stands journal key
+  pub initial-found : (key : Key) → IsObject key → Reaches journal initial_id key → WasPut journal key → Stands journal key
   initial-found key object r was = elim (accounted key object was) [
     | inl there ↦ there
     | inr rest ↦ elim rest [
       | inl lost ↦ absurd (from-initial key r lost)
-      | inr d ↦ absurd (initial-kept initial snaps manifests d.one journal [] (h.collected d.one d.among d.settled.lists) key r (at-end d.one key d.doomed))
+      | inr d ↦ absurd (initial-kept initial snaps manifests d.one journal later (its-end d) key r (at-end d))
     ]
   ]
 
@@ -277,25 +348,25 @@ module _ (initial : InitialLaw) (snaps : SnapshotLaw) (manifests : ManifestLaw) 
         | inl is ↦ absurd (h.none_missing.initial key (inl is) lost)
         | inr apart ↦ absurd (later-new old since journal client key h.once object apart put lost.put)
       ]
-      | inr d ↦ absurd (puts-kept initial snaps manifests d.one journal [] (h.collected d.one d.among d.settled.lists).listed client (old ++ since) key (preceded d.one d.among d.settled.lists) put (at-end d.one key d.doomed))
+      | inr d ↦ absurd (puts-kept initial snaps manifests d.one journal later (its-end d).listed client (old ++ since) key (preceded d.one d.among d.settled.lists) put (at-end d))
     ]
   ]
 
 -- ---- the laws
 pub reached-found : InitialLaw → SnapshotLaw → ManifestLaw → ReachedFound
-reached-found initial snaps manifests collections old journal h ref key object r was = found-by initial snaps manifests collections old journal h ref key r.id object r.named r.reaches was
+reached-found initial snaps manifests collections old journal h ref key object r was = found-by initial snaps manifests collections old journal [] (whole-of collections old journal h) ref key r.id object r.named r.reaches was
 
 pub bases-found : InitialLaw → SnapshotLaw → ManifestLaw → BasesFound
-bases-found initial snaps manifests collections old journal h ref base key object r reached was = base-found initial snaps manifests collections old journal h ref base key object r reached was
+bases-found initial snaps manifests collections old journal h ref base key object r reached was = base-found initial snaps manifests collections old journal [] (whole-of collections old journal h) ref base key object r reached was
 
 pub own-found : InitialLaw → SnapshotLaw → ManifestLaw → OwnFound
-own-found initial snaps manifests collections old since journal h client key object put preceded = put-found initial snaps manifests collections old journal h since client key object put preceded
+own-found initial snaps manifests collections old since journal h client key object put preceded = put-found initial snaps manifests collections old journal [] (whole-of collections old journal h) since client key object put preceded
 
 -- none is missing at the end
 pub none-missed : InitialLaw → SnapshotLaw → ManifestLaw → NoneMissed
 none-missed initial snaps manifests collections old journal h = record {
-  refs = λ ref key r lost. let s = found-by initial snaps manifests collections old journal h ref key r.id lost.object r.named r.reaches lost.put in let e = s.1 in let f = lost.gone in cc;
-  initial = λ key r lost. let s = initial-found initial snaps manifests collections old journal h key lost.object r lost.put in let e = s.1 in let f = lost.gone in cc;
+  refs = λ ref key r lost. let s = found-by initial snaps manifests collections old journal [] (whole-of collections old journal h) ref key r.id lost.object r.named r.reaches lost.put in let e = s.1 in let f = lost.gone in cc;
+  initial = λ key r lost. let s = initial-found initial snaps manifests collections old journal [] (whole-of collections old journal h) key lost.object r lost.put in let e = s.1 in let f = lost.gone in cc;
 }
 
 pub never-lost : (key : Key) → IsLost [] key → ⊥
@@ -329,10 +400,10 @@ module _ (journal : List Event) (good : IsGoodJournal journal) (once : IsOnce jo
   held-put id (Snapshot x) known (inr h) = absurd h
   held-put id (Branch name) known (inr h) = absurd h
   held-put id (Tag name) known (inr h) = absurd h
-  held-put id (TagGone name) known (inr h) = absurd h
+  held-put id (Tombstone name) known (inr h) = absurd h
   held-put id (Lease x) known (inr h) = absurd h
 
-  reach-put : (id : Id12) (key : Key) → Known journal id → Reaches journal id key → PutOr key
+  pub reach-put : (id : Id12) (key : Key) → Known journal id → Reaches journal id key → PutOr key
   reach-put id key known (inl is) = inl (inl is)
   reach-put id key known (inr r) = held-put r.at key (known-down r.chain known) r.has
 

@@ -7,10 +7,13 @@ pub mod Telling
 mod Moving
 pub mod Young
 mod Kept
+mod Leasing
 mod Settled
 mod Running
 mod Ending
+mod Passed
 mod Found
+mod Leased
 mod Anchors
 mod Given
 mod Example

@@ -8,7 +8,7 @@ use Rattle.snapshot_file.specs.declared.snapshot.SnapshotFile.{SnapshotFile}
 use Rattle.repo_objects.specs.Laws.{InitialLaw}
 use Rattle.repo_objects.specs.Readings.{ref_of}
 use Rattle.object_store.specs.declared.keys.Key.{Key}
-use Rattle.object_store.specs.declared.keys.Key.TheVariants.{Snapshot, Manifest, Txn, Chunk, Branch, Tag, TagGone, Lease}
+use Rattle.object_store.specs.declared.keys.Key.TheVariants.{Snapshot, Manifest, Txn, Chunk, Branch, Tag, Tombstone, Lease}
 use Rattle.object_store.specs.declared.keys.Why.{Why}
 use Rattle.object_store.specs.declared.keys.Why.TheVariants.{Commit}
 use Rattle.object_store.specs.declared.events.Op.TheVariants.{PutNew, PutOver}
@@ -26,13 +26,13 @@ use Rattle.history_laws.proofs.Past.{Past}
 use Rattle.history_laws.proofs.Safe.{Safe, safe-on, safe-quiet, safe-commit}
 
 -- a tombstone stays
-tombstone-stays : (journal : List Event) (event : Event) (name : List ℕ) → IsGood journal event → found (journal ++ event ∷ []) (TagGone name) ≡ None → found journal (TagGone name) ≡ None
-tombstone-stays journal event name good none = elim (step-one journal event (TagGone name)) [
+tombstone-stays : (journal : List Event) (event : Event) (name : List ℕ) → IsGood journal event → found (journal ++ event ∷ []) (Tombstone name) ≡ None → found journal (Tombstone name) ≡ None
+tombstone-stays journal event name good none = elim (step-one journal event (Tombstone name)) [
   | inl same ↦ sym (ap (λ (s : Slot). s.stands) same) ∙ none
   | inr put ↦ elim put [
     | inl new ↦ new.free
     | inr over ↦ elim over [
-      | inl moved ↦ absurd (over-polite journal event (TagGone name) (slot_of (journal ++ event ∷ []) (TagGone name)) good moved)
+      | inl moved ↦ absurd (over-polite journal event (Tombstone name) (slot_of (journal ++ event ∷ []) (Tombstone name)) good moved)
       | inr gone ↦ elim gone.removes [
         | inl h ↦ absurd (subst (IsPolite journal) h.1 good.polite)
         | inr h ↦ absurd (subst (IsPolite journal) h.2 good.polite)
@@ -44,7 +44,7 @@ tombstone-stays journal event name good none = elim (step-one journal event (Tag
 not-gone-before : (journal : List Event) (event : Event) (ref : Key) → IsGood journal event → IsNotGone (found (journal ++ event ∷ [])) ref → IsNotGone (found journal) ref
 not-gone-before journal event (Branch name) good h = h
 not-gone-before journal event (Tag name) good h = tombstone-stays journal event name good h
-not-gone-before journal event (TagGone name) good h = h
+not-gone-before journal event (Tombstone name) good h = h
 not-gone-before journal event (Snapshot id) good h = h
 not-gone-before journal event (Manifest id) good h = h
 not-gone-before journal event (Txn id) good h = h
@@ -87,7 +87,7 @@ module _ (initial : InitialLaw) (doomed : Key → Type 0) (young : List Event �
   new-ref (Tag name) id h new e =
       let polite : MayPutNew journal new.bytes new.why (Tag name) = new-polite journal event (Tag name) (slot_of (journal ++ event ∷ []) (Tag name)) good new in
       quiet-ref (Tag name) id h (named-put new.bytes id e polite.0) (makes_tag name new.bytes (new.op_is ∙ ap (λ (w : Why). PutNew (Tag name) new.bytes w) polite.1) new.done new.free e)
-  new-ref (TagGone name) id h new e = absurd h.is_ref
+  new-ref (Tombstone name) id h new e = absurd h.is_ref
   new-ref (Snapshot x) id h new e = absurd h.is_ref
   new-ref (Manifest x) id h new e = absurd h.is_ref
   new-ref (Txn x) id h new e = absurd h.is_ref
@@ -122,7 +122,7 @@ module _ (initial : InitialLaw) (doomed : Key → Type 0) (young : List Event �
             commit-ref name id h moved (moved.op_is ∙ ap (λ (w : Why). PutOver (Branch name) moved.bytes moved.old w) for.0) e (subst (IsCommitOver journal name moved.old.0) same for.1) put
       ]
   over-ref (Tag name) id h moved e = absurd (over-polite journal event (Tag name) (slot_of (journal ++ event ∷ []) (Tag name)) good moved)
-  over-ref (TagGone name) id h moved e = absurd h.is_ref
+  over-ref (Tombstone name) id h moved e = absurd h.is_ref
   over-ref (Snapshot x) id h moved e = absurd h.is_ref
   over-ref (Manifest x) id h moved e = absurd h.is_ref
   over-ref (Txn x) id h moved e = absurd h.is_ref

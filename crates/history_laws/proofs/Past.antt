@@ -10,7 +10,7 @@ use Rattle.snapshot_file.specs.Initial.{initial_snapshot}
 use Rattle.repo_objects.specs.Readings.{snapshot_by}
 use Rattle.repo_objects.specs.Laws.{InitialLaw}
 use Rattle.object_store.specs.declared.keys.Key.{Key}
-use Rattle.object_store.specs.declared.keys.Key.TheVariants.{Snapshot, Manifest, Txn, Chunk, Branch, Tag, TagGone, Lease}
+use Rattle.object_store.specs.declared.keys.Key.TheVariants.{Snapshot, Manifest, Txn, Chunk, Branch, Tag, Tombstone, Lease}
 use Rattle.object_store.specs.declared.events.Event.{Event}
 use Rattle.object_store.specs.Machine.{Stored, Slot, slot_of, put_at, first_put, last_put, first_time, time_after, last_time}
 use Rattle.object_store.proofs.Slots.{slot-none, sound, first-append, WasPut-append}
@@ -185,7 +185,7 @@ module _ (initial : InitialLaw) where
     initial-holds (Snapshot other) h = h
     initial-holds (Branch name) h = h
     initial-holds (Tag name) h = h
-    initial-holds (TagGone name) h = h
+    initial-holds (Tombstone name) h = h
     initial-holds (Lease lease) h = h
 
     -- what a snapshot holds stays
@@ -200,7 +200,7 @@ module _ (initial : InitialLaw) where
     holds-fore-one id (Snapshot other) h = h
     holds-fore-one id (Branch name) h = h
     holds-fore-one id (Tag name) h = h
-    holds-fore-one id (TagGone name) h = h
+    holds-fore-one id (Tombstone name) h = h
     holds-fore-one id (Lease lease) h = h
 
     -- a snapshot that was put now, for the first time

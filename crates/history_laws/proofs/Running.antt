@@ -1,18 +1,17 @@
--- What refs name stays safe beside a collection, along a journal.
+-- What refs name and leases keep stays safe beside a collection, along a journal.
 use Rattle.std.proofs.Common.{◌≡◌, ◌≢◌, ◌⊎◌, inl, inr, ℕ, List, [], ◌∷◌, ◌++◌, length, refl, sym, subst, append_assoc, append-nil}
 use Rattle.std.specs.Prelude.{None}
 use Rattle.ice_ids.specs.declared.Id12.{Id12}
 use Rattle.ice_ids.specs.Text.{initial_id}
 use Rattle.repo_objects.specs.Laws.{InitialLaw, SnapshotLaw, ManifestLaw}
 use Rattle.object_store.specs.declared.keys.Key.{Key}
-use Rattle.object_store.specs.declared.keys.Key.TheVariants.{Snapshot, Manifest, Txn, Chunk, Branch, Tag, TagGone, Lease}
+use Rattle.object_store.specs.declared.keys.Key.TheVariants.{Snapshot, Manifest, Txn, Chunk, Branch, Tag, Tombstone, Lease}
 use Rattle.object_store.specs.declared.events.Event.{Event}
 use Rattle.object_store.specs.Machine.{last_time}
 use Rattle.object_store.proofs.Journals.{Each-append, Each-one}
 use Rattle.store_api.specs.Journal.{Each, IsFirst, IsGood, IsOnce}
 use Rattle.reach.specs.Holding.{Holds, Reaches}
 use Rattle.reach.specs.Own.{HoldsBesides}
-use Rattle.collecting.specs.Marks.{first}
 use Rattle.collecting.specs.Walks.{Walk, fresh, IsObject, MayDo, told}
 use Rattle.history_laws.specs.Refs.{IsRef, Names, Points, makes_branch, makes_tag, resets, Commits}
 use Rattle.history_laws.specs.Collections.{Collection, walk_at, HasBegun, Owes, CommitsOwn, IsQuiet, IsOfSession}
@@ -20,7 +19,8 @@ use Rattle.history_laws.proofs.Past.{look, last_time-one, Past, past-one}
 use Rattle.history_laws.proofs.Walking.{IsTold, IsDead, Behind, behind-more, walk-one, walk-start, told-later, told-kept, told-on}
 use Rattle.history_laws.proofs.Telling.{IsLate, stands-at-start, dead-one}
 use Rattle.history_laws.proofs.Young.{IsYoung, young-one, log-young, own-young}
-use Rattle.history_laws.proofs.Kept.{IsLater, FoundBy, AreSafe, told-safe}
+use Rattle.history_laws.proofs.Kept.{IsLater, NeededBy, AreSafe, told-safe}
+use Rattle.history_laws.proofs.Leasing.{AreLeased, HasLease, leased-stands, told-leased, leases-on}
 use Rattle.history_laws.proofs.Moving.{refs-one}
 
 -- what is held is an object, and no snapshot
@@ -31,7 +31,7 @@ held-object journal id (Chunk o) h = (tt, λ e. cc)
 held-object journal id (Snapshot x) h = absurd h
 held-object journal id (Branch name) h = absurd h
 held-object journal id (Tag name) h = absurd h
-held-object journal id (TagGone name) h = absurd h
+held-object journal id (Tombstone name) h = absurd h
 held-object journal id (Lease x) h = absurd h
 
 -- no operation of a collection moves a ref
@@ -44,11 +44,15 @@ module _ (initial : InitialLaw) (snaps : SnapshotLaw) (manifests : ManifestLaw) 
   abbrev pub SafeAt : List Event → Walk → Type 0
   SafeAt journal w = AreSafe doomed (IsYoung c.cutoff) journal w
 
+  abbrev pub LeasedAt : List Event → Walk → Type 0
+  LeasedAt journal w = AreLeased doomed (IsYoung c.cutoff) (HasLease journal) journal w
+
   pub record KeptAt (journal : List Event) (last : ℕ) (w : Walk) : Type 0 where
     pub told : IsTold c.cutoff journal last w
     pub safe : SafeAt journal w
+    pub leases : LeasedAt journal w
 
-  -- it was ended too early, or what it was told is so and what refs name that it gets no more is safe
+  -- it was ended too early, or what it was told is so, and what refs and leases name that it gets no more is safe
   abbrev pub Kept : List Event → Type 0
   Kept journal = IsDead (walk_at c journal) ⊎ KeptAt journal (last_time journal) (walk_at c journal)
 
@@ -58,10 +62,13 @@ module _ (initial : InitialLaw) (snaps : SnapshotLaw) (manifests : ManifestLaw) 
         → (Begun → (id : Id12) → Points journal event id → (key : Key) → Reaches journal id key → doomed key → ⊥)
         → (Begun → (base id : Id12) → Commits journal event base id → (key : Key) → doomed key → HoldsBesides (IsYoung c.cutoff journal) base id journal)
         → KeptAt (journal ++ event ∷ []) (last_time (journal ++ event ∷ [])) w
-    store-part Begun w k free quiet own = record {
-      told = subst (λ (n : ℕ). IsTold c.cutoff (journal ++ event ∷ []) n w) (sym (last_time-one journal event)) (told-on initial c.cutoff journal event once good firsts event.time _ _ _ _ _ _ _ k.told);
-      safe = refs-one initial doomed (IsYoung c.cutoff) (FoundBy w.roots w.reads w.files) first (IsLater w.branches w.tags) Begun journal event once good firsts past (young-one c.cutoff journal event) (log-young c.cutoff journal past) k.safe free quiet own;
-    }
+    store-part Begun w k free quiet own =
+        let refs = refs-one initial doomed (IsYoung c.cutoff) (NeededBy w.roots w.reads) (inl refl) (IsLater w.branches w.tags) Begun journal event once good firsts past (young-one c.cutoff journal event) (log-young c.cutoff journal past) k.safe free quiet own in
+        record {
+          told = subst (λ (n : ℕ). IsTold c.cutoff (journal ++ event ∷ []) n w) (sym (last_time-one journal event)) (told-on initial c.cutoff journal event once good firsts event.time _ _ _ _ _ _ _ _ _ _ k.told);
+          safe = refs;
+          leases = leases-on initial doomed (IsYoung c.cutoff) c.cutoff journal event once good firsts (young-one c.cutoff journal event) event.time w k.told k.leases refs;
+        }
 
     own-part : MayDo c.cutoff (walk_at c journal) event.op → KeptAt journal (last_time journal) (walk_at c journal) → IsDead (told c.cutoff (walk_at c journal) event.op event.reply) ⊎ KeptAt (journal ++ event ∷ []) (last_time (journal ++ event ∷ [])) (told c.cutoff (walk_at c journal) event.op event.reply)
     own-part may k =
@@ -69,9 +76,12 @@ module _ (initial : InitialLaw) (snaps : SnapshotLaw) (manifests : ManifestLaw) 
           | inl dead ↦ inl dead
           | inr so ↦ elim (told-safe snaps manifests doomed (IsYoung c.cutoff) c.cutoff journal past (last_time journal) event.time good.legal.later (walk_at c journal) k.told k.safe (length journal) event.op event.reply may good.legal.answered) [
             | inl dead ↦ inl dead
-            | inr safe ↦ inr (store-part (Unit {0}) (told c.cutoff (walk_at c journal) event.op event.reply) (record { told = so; safe = safe }) (λ ref id n. inr tt)
-                (λ b id points. absurd (no-points c.cutoff (walk_at c journal) journal event id may points))
-                (λ b base id commits. absurd (subst (MayDo c.cutoff (walk_at c journal)) commits.op_is may)))
+            | inr safe ↦ elim (told-leased snaps manifests doomed (IsYoung c.cutoff) c.cutoff journal past (last_time journal) event.time good.legal.later (walk_at c journal) k.told (HasLease journal) (λ id base l. leased-stands id base l.0 journal l.1) k.leases (length journal) event.op event.reply may good.legal.answered) [
+              | inl dead ↦ inl dead
+              | inr leases ↦ inr (store-part (Unit {0}) (told c.cutoff (walk_at c journal) event.op event.reply) (record { told = so; safe = safe; leases = leases }) (λ ref id n. inr tt)
+                  (λ b id points. absurd (no-points c.cutoff (walk_at c journal) journal event id may points))
+                  (λ b base id commits. absurd (subst (MayDo c.cutoff (walk_at c journal)) commits.op_is may)))
+            ]
           ]
         ]
 
@@ -91,7 +101,7 @@ module _ (initial : InitialLaw) (snaps : SnapshotLaw) (manifests : ManifestLaw) 
         by_ref : (key : Key) → IsRef key → (walk_at c journal).branches ≡ None → IsLater (walk_at c journal).branches (walk_at c journal).tags key
         by_ref (Branch name) is none = inl none
         by_ref (Tag name) is none = inl (no-tags none)
-        by_ref (TagGone name) is none = absurd is
+        by_ref (Tombstone name) is none = absurd is
         by_ref (Snapshot x) is none = absurd is
         by_ref (Manifest x) is none = absurd is
         by_ref (Txn x) is none = absurd is
@@ -100,7 +110,7 @@ module _ (initial : InitialLaw) (snaps : SnapshotLaw) (manifests : ManifestLaw) 
 
     other-part : IsQuiet doomed c journal event → CommitsOwn c journal event → KeptAt journal (last_time journal) (walk_at c journal) → KeptAt (journal ++ event ∷ []) (last_time (journal ++ event ∷ [])) (walk_at c journal)
     other-part quiet own k =
-        store-part (HasBegun c journal) (walk_at c journal) (record { told = told-later snaps manifests c.cutoff journal past (last_time journal) event.time good.legal.later (walk_at c journal) k.told; safe = k.safe })
+        store-part (HasBegun c journal) (walk_at c journal) (record { told = told-later snaps manifests c.cutoff journal past (last_time journal) event.time good.legal.later (walk_at c journal) k.told; safe = k.safe; leases = k.leases })
         (λ ref id n. not-yet ref id k n) quiet
         (λ begun base id commits key doom held h.
         let s : IsOfSession c journal event base id = own begun base id commits in
@@ -131,13 +141,13 @@ module _ (initial : InitialLaw) (snaps : SnapshotLaw) (manifests : ManifestLaw) 
   pub kept-at-start : Kept c.start
   kept-at-start = elim (stands-at-start c) [
     | inl dead ↦ inl dead
-    | inr so ↦ inr (record { told = so; safe = subst (SafeAt c.start) (sym (walk-start c)) safe-fresh })
+    | inr so ↦ inr (record { told = so; safe = subst (SafeAt c.start) (sym (walk-start c)) safe-fresh; leases = subst (LeasedAt c.start) (sym (walk-start c)) (λ id base l. inl (inl refl)) })
   ]
     where
       safe-fresh : SafeAt c.start fresh
       safe-fresh (Branch name) id n = inl (inl refl)
       safe-fresh (Tag name) id n = inl (inl refl)
-      safe-fresh (TagGone name) id n = absurd n.is_ref
+      safe-fresh (Tombstone name) id n = absurd n.is_ref
       safe-fresh (Snapshot x) id n = absurd n.is_ref
       safe-fresh (Manifest x) id n = absurd n.is_ref
       safe-fresh (Txn x) id n = absurd n.is_ref

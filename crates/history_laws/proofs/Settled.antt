@@ -10,7 +10,7 @@ use Rattle.object_store.specs.declared.events.Reply.{Reply}
 use Rattle.object_store.specs.declared.events.Reply.TheVariants.{Gone as Is_gone}
 use Rattle.object_store.specs.declared.events.Event.{Event}
 use Rattle.store_api.specs.Journal.{Each}
-use Rattle.collecting.specs.Walks.{Walk, Doomed, RefsRead, MayGet, branch, tag, object, MayList, MayDo, told}
+use Rattle.collecting.specs.Walks.{Walk, Doomed, RefsRead, MayGet, branch, tag, lease, object, MayList, MayDo, told}
 use Rattle.history_laws.specs.Collections.{Collection, walk_at, DoomedBy, Owes}
 use Rattle.history_laws.proofs.Walking.{Behind, behind-more, walk-one}
 
@@ -31,6 +31,7 @@ itself cutoff w s = record { settled = s; fore = λ key d. d; back = λ key d. d
 no-get : (w : Walk) (key : Key) → IsSettled w → MayGet w key → ⊥
 no-get w key s (branch f) = let e = s.refs.0 in let g = f.1 in cc
 no-get w key s (tag all f) = let e = s.refs.1 in let g = f.1 in cc
+no-get w key s (lease all every f) = let e = s.refs.2 in let g = f.1 in cc
 no-get w key s (object refs none wanted) = let e = s.lists in absurd (omega (arith, e, none))
 
 no-list : (w : Walk) (part : Part) → IsSettled w → MayList w part → ⊥
@@ -40,7 +41,7 @@ no-list w Snapshots s may = let e = s.lists in let f = may.1 in absurd (omega (a
 no-list w Txns s may = let e = s.lists in let f = may.1 in absurd (omega (arith, e, f))
 no-list w Manifests s may = let e = s.lists in let f = may.1 in absurd (omega (arith, e, f))
 no-list w Chunks s may = let e = s.lists in let f = may.1 in absurd (omega (arith, e, f))
-no-list w Leases s may = may
+no-list w Leases s may = let e = s.refs.2 in let f = may.2 in cc
 
 -- the same in all that dooms
 module _ (cutoff : ℕ) (w : Walk) (s : IsSettled w) where
@@ -72,6 +73,14 @@ settled-one c journal event behind owes s = elim (walk-one c journal event behin
   | inl its ↦ subst (λ (v : Walk). DoomsAs c.cutoff v (walk_at c journal)) (sym its.walk) (settled-told c.cutoff (walk_at c journal) s event.op event.reply (owes its.client_is its.within).1)
   | inr same ↦ subst (λ (v : Walk). DoomsAs c.cutoff v (walk_at c journal)) (sym same) (itself c.cutoff (walk_at c journal) s)
 ]
+
+-- all stays listed
+pub settled-later : (c : Collection) (journal more : List Event) → Behind c journal → Each (Owes c) journal more → IsSettled (walk_at c journal) → IsSettled (walk_at c (journal ++ more))
+unfolding Each
+settled-later c journal [] behind owes s = subst (λ (j : List Event). IsSettled (walk_at c j)) (sym (append-nil journal)) s
+settled-later c journal (x ∷ xs) behind owes s =
+    subst (λ (j : List Event). IsSettled (walk_at c j)) (append_assoc journal (x ∷ []) xs)
+    (settled-later c (journal ++ x ∷ []) xs (behind-more c journal (x ∷ []) behind) owes.1 (settled-one c journal x behind owes.0 s).settled)
 
 pub settled-along : (c : Collection) (journal more : List Event) → Behind c journal → Each (Owes c) journal more → IsSettled (walk_at c journal) → (key : Key) → DoomedBy c (journal ++ more) key → DoomedBy c journal key
 unfolding Each

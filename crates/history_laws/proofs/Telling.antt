@@ -23,6 +23,7 @@ stands-at-start c = inr (subst (IsTold c.cutoff c.start (last_time c.start)) (sy
   listed_ok = λ e h. absurd (omega (arith, h.1));
   closed = λ some. absurd (omega (arith, some));
   tags_last = λ ts e. cc;
+  leases_last = λ ls e. absurd cc;
   late = λ left e. cc;
 }))
 
@@ -60,7 +61,7 @@ module _ (initial : InitialLaw) (snaps : SnapshotLaw) (manifests : ManifestLaw) 
     stands-one once first (inr h) = elim (told-before h) [
       | inl d ↦ inl d
       | inr t ↦ inr (subst (λ (n : ℕ). IsTold c.cutoff (journal ++ event ∷ []) n (walk_at c (journal ++ event ∷ []))) (sym (last_time-one journal event))
-          (told-on initial c.cutoff journal event once good first event.time _ _ _ _ _ _ _ t))
+          (told-on initial c.cutoff journal event once good first event.time _ _ _ _ _ _ _ _ _ _ t))
     ]
 
   -- ---- along a journal

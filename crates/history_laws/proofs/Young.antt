@@ -7,7 +7,7 @@ use Rattle.ice_ids.specs.declared.Id12.{Id12}
 use Rattle.ice_ids.specs.Text.{initial_id}
 use Rattle.repo_objects.specs.Laws.{InitialLaw}
 use Rattle.object_store.specs.declared.keys.Key.{Key}
-use Rattle.object_store.specs.declared.keys.Key.TheVariants.{Snapshot, Manifest, Txn, Chunk, Branch, Tag, TagGone, Lease}
+use Rattle.object_store.specs.declared.keys.Key.TheVariants.{Snapshot, Manifest, Txn, Chunk, Branch, Tag, Tombstone, Lease}
 use Rattle.object_store.specs.declared.keys.Why.{Why}
 use Rattle.object_store.specs.declared.events.Op.{Op}
 use Rattle.object_store.specs.declared.events.Op.TheVariants.{PutNew}
@@ -61,7 +61,7 @@ never-put journal bytes (Txn id) object other f free = f free
 never-put journal bytes (Chunk id) object other f free = f free
 never-put journal bytes (Branch name) object other f free = absurd object
 never-put journal bytes (Tag name) object other f free = absurd object
-never-put journal bytes (TagGone name) object other f free = absurd object
+never-put journal bytes (Tombstone name) object other f free = absurd object
 never-put journal bytes (Lease id) object other f free = absurd object
 
 -- the time of what a put put first

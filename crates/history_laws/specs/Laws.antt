@@ -11,7 +11,7 @@ use Rattle.reach.specs.Holding.{Reaches}
 use Rattle.reach.specs.Own.{HasPut}
 use Rattle.collecting.specs.Walks.{IsObject}
 use Rattle.collecting.specs.Runs.{walk_of, OwesCollecting}
-use Rattle.history_laws.specs.Refs.{RefReaches, IsAnchored, Commits}
+use Rattle.history_laws.specs.Refs.{RefReaches, IsAnchored, IsLeased, Commits}
 use Rattle.history_laws.specs.Collections.{Collection, walk_at, DoomedBy, Owes, HasBegun, IsPreceded, IsListed, IsCollected, NoneMissing, AreCollected}
 
 -- ---- beside one collection
@@ -31,6 +31,14 @@ BasesKept = (c : Collection) (journal later : List Event) → IsCollected c jour
 abbrev pub PutsKept : Type 0
 PutsKept = (c : Collection) (journal later : List Event) → IsListed c journal later → (client : ℕ) (from : List Event) (key : Key) → IsPreceded c client from journal → HasPut client key from journal → DoomedBy c (journal ++ later) key → ⊥
 
+-- the collection passed over nothing that the base reaches, but maybe the initial snapshot
+abbrev pub PassedNone : Collection → List Event → Id12 → Type 0
+PassedNone c journal base = (key : Key) → Contains (walk_at c journal).absent key → key ≢ Snapshot initial_id → Reaches journal base key → ⊥
+
+-- nor does the base of a leased session reach what is doomed, where the collection passed over nothing that the base reaches
+abbrev pub LeasesKept : Type 0
+LeasesKept = (c : Collection) (journal later : List Event) → IsCollected c journal later → (lease base : Id12) (since : List Event) (key : Key) → IsLeased lease base since journal → PassedNone c journal base → Reaches journal base key → DoomedBy c (journal ++ later) key → ⊥
+
 -- a ref reaches the base of an anchored session
 abbrev pub AnchoredReached : Type 0
 AnchoredReached = (ref : Key) (base : Id12) (since journal : List Event) → IsAnchored ref base since journal → RefReaches journal ref (Snapshot base)
@@ -47,6 +55,10 @@ ReachedFound = (collections : List Collection) (old journal : List Event) → Ar
 -- and each that a base reaches which a ref reaches
 abbrev pub BasesFound : Type 0
 BasesFound = (collections : List Collection) (old journal : List Event) → AreCollected collections old journal → (ref : Key) (base : Id12) (key : Key) → IsObject key → RefReaches journal ref (Snapshot base) → Reaches journal base key → WasPut journal key → Stands journal key
+
+-- and each that the base of a leased session reaches
+abbrev pub LeasesFound : Type 0
+LeasesFound = (collections : List Collection) (old since journal : List Event) → AreCollected collections old journal → (lease base : Id12) (key : Key) → IsObject key → IsLeased lease base (old ++ since) journal → Reaches journal base key → WasPut journal key → Stands journal key
 
 -- and each that a session put which each cutoff precedes
 abbrev pub OwnFound : Type 0

@@ -3,7 +3,7 @@ use Rattle.std.specs.Prelude.{◌≡◌, ℕ, true, List, [], ◌∷◌, ◌++�
 use Rattle.ice_ids.specs.declared.Id12.{Id12}
 use Rattle.repo_objects.specs.Readings.{ref_of}
 use Rattle.object_store.specs.declared.keys.Key.{Key}
-use Rattle.object_store.specs.declared.keys.Key.TheVariants.{Snapshot, Manifest, Txn, Chunk, Branch, Tag, TagGone, Lease}
+use Rattle.object_store.specs.declared.keys.Key.TheVariants.{Snapshot, Manifest, Txn, Chunk, Branch, Tag, Tombstone, Lease}
 use Rattle.object_store.specs.declared.keys.Why.TheVariants.{Commit, Create, Reset, Tag as For_tag}
 use Rattle.object_store.specs.declared.events.Version.{Version}
 use Rattle.object_store.specs.declared.events.Op.TheVariants.{PutNew, PutOver}
@@ -18,7 +18,7 @@ use Rattle.reach.specs.Holding.{Reaches}
 abbrev pub IsRef : Key → Type 0
 IsRef (Branch name) = Unit {0}
 IsRef (Tag name) = Unit {0}
-IsRef (TagGone name) = ⊥
+IsRef (Tombstone name) = ⊥
 IsRef (Snapshot id) = ⊥
 IsRef (Manifest id) = ⊥
 IsRef (Txn id) = ⊥
@@ -49,6 +49,26 @@ pub record IsAnchored (ref : Key) (base : Id12) (since journal : List Event) : T
   pub is : journal ≡ since ++ more
   pub at_first : RefReaches since ref (Snapshot base)
   pub always : Each (StillReaches ref base) since more
+
+-- ---- leases that stand
+-- A lease stands with a reference to this snapshot.
+pub record LeaseNames (journal : List Event) (lease id : Id12) : Type 0 where
+  pub stored : Stored
+  pub stands : found journal (Lease lease) ≡ Some stored
+  pub names : ref_of stored.bytes ≡ Some id
+
+-- it stands so behind the event
+abbrev pub StillNames : (lease base : Id12) → List Event → Event → Type 0
+StillNames lease base before event = LeaseNames (before ++ event ∷ []) lease base
+
+-- At some moment a ref named the base, and the lease named it, too; and at each event since then the lease stood so.
+pub record IsLeased (lease base : Id12) (since journal : List Event) : Type 0 where
+  pub more : List Event
+  pub is : journal ≡ since ++ more
+  pub ref : Key
+  pub named : Names since ref base
+  pub at_first : LeaseNames since lease base
+  pub always : Each (StillNames lease base) since more
 
 -- ---- events that took effect, also where their answers were lost
 -- The event made a branch or a tag at this snapshot, or reset a branch to it.

@@ -5,10 +5,12 @@ ghost use Rattle.history_laws.specs.Laws.{
   RefsKept,
   DoomsStay,
   BasesKept,
+  LeasesKept,
   PutsKept,
   AnchoredReached,
   ReachedFound,
   BasesFound,
+  LeasesFound,
   OwnFound,
   ReachedPut,
   NoneMissed,
@@ -33,9 +35,11 @@ pub fn refs_kept()
     manifest_law();
 }
 
-/// Nor does the base of a session, where a ref reaches it; nor does it doom what a session put that its cutoff precedes.
+/// Nor does the base of a session, where a ref reaches it, or where a lease stands that named it while a ref did; nor does
+/// it doom what a session put that its cutoff precedes.
 pub fn sessions_kept()
     ensures bases { BasesKept }
+    ensures leases { LeasesKept }
     ensures puts { PutsKept }
     ensures anchored { AnchoredReached }
 {
@@ -45,11 +49,12 @@ pub fn sessions_kept()
 }
 
 /// Where collections alone remove objects, what a branch or a tag without a tombstone reaches stands, and so do what the
-/// base of a session reaches, where a ref reaches the base, and what a session put that each cutoff precedes. So an
-/// anchored session misses nothing.
+/// base of a session reaches, where a ref reaches the base or it is leased, and what a session put that each cutoff
+/// precedes. So an anchored session misses nothing, nor does a leased one.
 pub fn base_found()
     ensures refs { ReachedFound }
     ensures bases { BasesFound }
+    ensures leases { LeasesFound }
     ensures own { OwnFound }
     ensures was_put { ReachedPut }
     ensures none_missing { NoneMissed }

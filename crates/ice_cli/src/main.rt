@@ -11,7 +11,7 @@ mod streams;
 mod system_store;
 mod telling;
 
-use command_words::{Place, place_of};
+use command_words::{Location, location_of};
 use directory::in_directory;
 use mirroring::between;
 use running::in_memory;
@@ -25,13 +25,13 @@ fn main(rt: HostRuntime) -> ExitCode {
         Ok(words) => words,
         Err(status) => return end_without_words(&rt, &status),
     };
-    match place_of(rt.alloc(), &words) {
-        Ok(Place::Memory) => in_memory(&rt, &words),
-        Ok(Place::Dir(path)) => match keep_numbers(&rt) {
+    match location_of(rt.alloc(), &words) {
+        Ok(Location::Memory) => in_memory(&rt, &words),
+        Ok(Location::Dir(path)) => match keep_numbers(&rt) {
             Ok(_kept) => in_directory(&rt, rt, &words, path),
             Err(status) => end(&rt, &status),
         },
-        Ok(Place::Pair(from, to)) => match keep_numbers(&rt) {
+        Ok(Location::Pair(from, to)) => match keep_numbers(&rt) {
             Ok(_kept) => between(&rt, rt, from, to),
             Err(status) => end(&rt, &status),
         },

@@ -3,3 +3,5 @@ pub mod LetterLaws
 pub mod TextLaws
 pub mod Drawn
 pub mod SetLaws
+pub mod Elements
+pub mod OneMore

@@ -3,7 +3,7 @@
 use crate::kept::Kept;
 use crate::kinds::tell;
 use crate::parts::bytes_of;
-use show_trees::{NoAnswer, first_word};
+use show_files::{NoAnswer, first_word};
 use std::alloc::{AllocError, Global};
 
 /// How much of a line is printed again before its answer.

@@ -3,7 +3,7 @@
 //! number; `{d4+44}` its decimal digits.
 
 use crate::parts::digits_of;
-use show_trees::{NoAnswer, small_number_of};
+use show_files::{NoAnswer, small_number_of};
 use std::alloc::Global;
 
 /// Appends a number of a turn.

@@ -2,18 +2,20 @@
 
 use crate::ref_calls::tell_refs;
 use crate::storing::tell_store;
+use show_files::{
+    NoAnswer, tell_draw, tell_draw_at, tell_draw_stream, tell_header, tell_header_of, tell_held,
+    tell_id, tell_id_of, tell_indices, tell_initial, tell_key, tell_keys, tell_log, tell_log_again,
+    tell_manifest, tell_manifest_again, tell_name, tell_names, tell_node_id, tell_path, tell_paths,
+    tell_properties, tell_ref, tell_ref_of, tell_snapshot, tell_snapshot_again, text_of,
+};
 use show_runs::{
     tell_byte_list, tell_input, tell_object, tell_output, tell_refusal, tell_report, tell_same,
     tell_script,
 };
 use show_trees::{
-    NoAnswer, tell_changes, tell_conflicts, tell_draw, tell_draw_at, tell_draw_stream, tell_grid,
-    tell_header, tell_header_of, tell_held, tell_id, tell_id_of, tell_in_grid, tell_indices,
-    tell_initial, tell_json, tell_key, tell_keys, tell_known_log, tell_known_ref, tell_loaded,
-    tell_log, tell_log_again, tell_manifest, tell_manifest_again, tell_member, tell_meta,
-    tell_meta_text, tell_name, tell_names, tell_node_id, tell_number, tell_path, tell_paths,
-    tell_plain, tell_properties, tell_ref, tell_ref_of, tell_snapshot, tell_snapshot_again,
-    tell_solved, text_of,
+    tell_changes, tell_conflicts, tell_grid, tell_in_grid, tell_json, tell_known_log,
+    tell_known_ref, tell_loaded, tell_member, tell_meta, tell_meta_text, tell_number, tell_plain,
+    tell_solved,
 };
 use std::alloc::Global;
 

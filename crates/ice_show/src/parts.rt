@@ -10,7 +10,7 @@
 
 use crate::counted::push_turns;
 use crate::kept::Kept;
-use show_trees::{NoAnswer, first_word};
+use show_files::{NoAnswer, first_word};
 use std::alloc::{AllocError, Global};
 
 /// The bytes so far, and where the last part of them begins.

@@ -10,8 +10,8 @@ use refs_admin::{
 };
 use repo_read::At;
 use repository::{begin, read_refs};
+use show_files::{NoAnswer, first_word, name_of, parted, push_props};
 use show_runs::key_of;
-use show_trees::{NoAnswer, first_word, name_of, parted, push_props};
 use std::alloc::{AllocError, Global};
 use store_api::{Key, Refusal};
 

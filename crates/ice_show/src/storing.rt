@@ -3,8 +3,8 @@
 
 use ice_base::TickClock;
 use mem_store::{Failing, FaultStore, MemStore, OpRef};
+use show_files::{NoAnswer, first_word, number_of, parted, small_number_of};
 use show_runs::key_of;
-use show_trees::{NoAnswer, first_word, number_of, parted, small_number_of};
 use std::alloc::{AllocError, Global};
 use store_api::{Key, Part, Polite, Reply, StoreFault, Version, Why};
 

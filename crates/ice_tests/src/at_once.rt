@@ -24,7 +24,7 @@ fn report_of_two<R: Threads + Wait + Sync>(
     gate: &Meeting,
 ) -> Option<String> {
     let mut asked = script(alloc, TWO)?;
-    let store = Untold::new(alloc, None);
+    let store = Untold::new(alloc);
     drop(perform(rt, alloc, Draw::Count, &mut asked, store, gate));
     let report = report(alloc, &asked);
     drop(asked);
@@ -253,7 +253,7 @@ pub(crate) fn left<R: Threads + Wait + Sync>(
 /// A store on which the root was committed.
 fn with_root<R: Threads + Wait + Sync>(rt: &R, alloc: Global) -> Option<Untold> {
     let mut asked = script(alloc, ROOT)?;
-    let store = Untold::new(alloc, None);
+    let store = Untold::new(alloc);
     let store = left(rt, alloc, Draw::Count, &mut asked, store);
     drop(asked);
     Some(store)

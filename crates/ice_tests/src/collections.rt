@@ -54,7 +54,7 @@ fn has(report: Option<String>, line: &str, word: &str, times: usize) -> bool {
 
 /// Whether all commit, the collection takes the one object that nothing reaches, and the head can be read behind it, whole.
 fn are_kept<R: Threads + Wait + Sync>(rt: &R, alloc: Global) -> bool {
-    let store = Untold::new(alloc, None);
+    let store = Untold::new(alloc);
     let (store, begun) = told(rt, alloc, Draw::Count, BEGUN, store);
     let (store, beside) = told(rt, alloc, Draw::Stream([7; 32]), AT_ONCE, store);
     let (store, read) = told(rt, alloc, Draw::Stream([8; 32]), READ, store);
@@ -80,7 +80,7 @@ fn count(report: &Option<String>, word: &str) -> usize {
 /// Whether each task commits or finds that its base was cut off, `main` stays, and its head has the group of each commit that
 /// was told, and no other.
 fn are_cut<R: Threads + Wait + Sync>(rt: &R, alloc: Global) -> bool {
-    let store = Untold::new(alloc, None);
+    let store = Untold::new(alloc);
     let (store, begun) = told(rt, alloc, Draw::Count, BEGUN, store);
     let (store, beside) = told(rt, alloc, Draw::Stream([7; 32]), EXPIRED, store);
     let (store, read) = told(rt, alloc, Draw::Stream([8; 32]), READ, store);

@@ -1,8 +1,8 @@
 //! A program that is killed at each call of one commit that changes something, over a folder in memory.
 
 use crate::checking::holds;
+use crate::folders::MemoryStore;
 use crate::runs::{report, script};
-use crate::stores::MemoryStore;
 use folder::MemoryFolder;
 use ice_ids::Draw;
 use play_at_once::OpenGate;

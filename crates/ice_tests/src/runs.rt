@@ -6,7 +6,7 @@ use crate::untold::Untold;
 use command_words::{UsageFault, Word, words_of};
 use ice_base::{ByteSink, ByteSource};
 use ice_ids::Draw;
-use play_script::ScriptKind;
+use script_values::ScriptKind;
 use std::alloc::{AllocError, Global};
 use std::sync::Wait;
 use std::test::Fail;
@@ -99,7 +99,7 @@ pub(crate) fn report(alloc: Global, asked: &Asked) -> Option<String> {
 /// The status of a run over an empty store.
 fn status<R: Threads + Wait + Sync>(rt: &R, alloc: Global, asked: &mut Asked) -> Status {
     let gate = Meeting::new(false);
-    let store = Untold::new(alloc, None);
+    let store = Untold::new(alloc);
     let ended = perform(rt, alloc, Draw::Count, asked, store, &gate);
     let status = ended.status;
     drop(ended);
@@ -132,7 +132,7 @@ fn ends_that_fail(rt: HostRuntime) -> Result<(), Fail> {
 }
 
 const REFUSED: [(&str, u32, ScriptKind); 2] = [
-    ("task a refs\n", 1, ScriptKind::Place),
+    ("task a refs\n", 1, ScriptKind::Misplaced),
     (
         "task a write main 0 fail\ngroup /\ngroop /b\ncommit x\n",
         3,

@@ -1,40 +1,32 @@
 //! A store in memory that tells no journal.
 
-ghost use Rattle.std.specs.Prelude.{false, refl, [], IfSome};
+ghost use Rattle.std.specs.Prelude.{false, refl, []};
 ghost use Rattle.mem_store.specs.Memory.{sole, client_of};
-ghost use Rattle.store_api.specs.Program.{IsAsk};
-ghost use Rattle.session.specs.Opening.{open_rest};
 
-use ice_base::{RefName, TickClock};
-use ice_ids::AnyIds;
+use ice_base::TickClock;
 use mem_store::MemStore;
-use repository::begin;
-use session::{Open, Session};
 use std::alloc::Global;
 use store_api::{
-    CountingStore, Gone, GoneAt, Got, Key, Listed, New, ObjectStore, Over, Part, Refusal, Rule,
-    StoreFault, Version, Viewed, WholeStore, Why, run_machine,
+    CountingStore, Gone, GoneAt, Got, Key, Listed, New, ObjectStore, Over, Part, Rule, StoreFault,
+    Version, Viewed, WholeStore, Why,
 };
 
-/// A store in memory that tells nothing of its journal, so that a call over it asks nothing of what was done before. Behind
-/// each listing it drops what stands at a key, if one is named.
+/// A store in memory that tells nothing of its journal, so that a call over it asks nothing of what was done before.
 #[derive(Drop)]
-pub struct Untold {
-    pub memory: MemStore<TickClock>,
-    pub late: Option<Key>,
+pub(crate) struct Untold {
+    memory: MemStore<TickClock>,
 }
 
 impl Untold {
     /// A store with no objects.
-    pub fn new(alloc: Global, late: Option<Key>) -> Untold {
+    pub(crate) fn new(alloc: Global) -> Untold {
         Untold {
             memory: MemStore::new(alloc, TickClock::new()),
-            late,
         }
     }
 
     /// The store beneath, which tells its journal.
-    pub fn into_memory(self) -> MemStore<TickClock> {
+    pub(crate) fn into_memory(self) -> MemStore<TickClock> {
         self.memory
     }
 }
@@ -71,11 +63,7 @@ impl<R: Rule> ObjectStore<R> for Untold {
     }
 
     fn list(&mut self, part: Part) -> Result<Listed, StoreFault> {
-        let listed = ObjectStore::<R>::list(&mut self.memory, part);
-        if let Some(late) = &self.late {
-            let _ = ObjectStore::<R>::remove(&mut self.memory, late, Why::Drop);
-        }
-        listed
+        ObjectStore::<R>::list(&mut self.memory, part)
     }
 }
 
@@ -95,34 +83,4 @@ impl CountingStore for Untold {
     fn operations(&self) -> u64 {
         self.memory.number_of_events() as u64
     }
-}
-
-/// Whether a call wasn't refused.
-pub fn went<T: Drop>(done: Result<T, Refusal>) -> bool {
-    let went = done.is_ok();
-    drop(done);
-    went
-}
-
-/// Such a store with a repository in it, if one was begun.
-pub fn begun(alloc: Global, late: Option<Key>) -> Option<Untold> {
-    let mut store = Untold::new(alloc, late);
-    let begun = went(begin(alloc, &mut store));
-    begun.then_some(store)
-}
-
-/// A session to write on `main`, which draws these ids, if it was opened.
-pub fn opened(alloc: Global, ids: AnyIds, store: &mut Untold) -> Option<Session> {
-    let mut open = opening(alloc, ids)?;
-    let opened = run_machine(&mut open, store);
-    drop(open);
-    opened.ok()
-}
-
-/// The opening of a session to write on `main`.
-pub(crate) fn opening(alloc: Global, ids: AnyIds) -> Option<Open>
-    ensures { IfSome result (λ machine. IsAsk (open_rest machine)) }
-{
-    let main = RefName::main(alloc).ok()?;
-    Open::write(alloc, main, ids).ok()
 }

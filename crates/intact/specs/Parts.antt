@@ -7,7 +7,7 @@ use Rattle.manifest_file.specs.declared.manifest.Place.TheVariants.{Inline, Obje
 use Rattle.manifest_file.specs.declared.manifest.ChunkRef.{ChunkRef}
 use Rattle.manifest_file.specs.declared.manifest.ManifestFile.{ManifestFile}
 use Rattle.held_manifest.specs.LookUp.{refs_of_node}
-use Rattle.repo_objects.specs.declared.bad.Bad.{Bad}
+use Rattle.repo_objects.specs.declared.bad_objects.Bad.{Bad}
 use Rattle.repo_objects.specs.Readings.{read_inline}
 use Rattle.intact.specs.declared.visits.FileVisit.{FileVisit}
 use Rattle.intact.specs.declared.visits.PartVisit.{PartVisit}

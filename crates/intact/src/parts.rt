@@ -7,7 +7,7 @@ ghost use Rattle.intact.specs.Places.{many, TakesPart};
 ghost use Rattle.intact.specs.inside.Finding.{FindsPart};
 
 use crate::visits::{FileVisit, PartVisit};
-use held_manifest::{Held, PlaceView, Refs};
+use held_manifest::{HeldManifest, PlaceView, Refs};
 use ice_ids::Id8;
 use repo_objects::Bad;
 use std::marker::Model;
@@ -16,7 +16,7 @@ use std::marker::Model;
 /// these parts.
 #[derive(Drop)]
 pub struct ManifestPlace {
-    held: Held,
+    held: HeldManifest,
     node: Id8,
     want: u64,
     at: usize,
@@ -61,7 +61,7 @@ fn first_short(want: u64, refs: &Refs) -> Option<Bad>
 }
 
 /// The first such fault of the entries under a node's id.
-pub(crate) fn short_chunk(held: &Held, visit: &FileVisit) -> Option<Bad>
+pub(crate) fn short_chunk(held: &HeldManifest, visit: &FileVisit) -> Option<Bad>
     ensures { result ≡ first_short visit.now.want (entries_of visit.now.node held.now) }
 {
     match held.node(visit.node) {
@@ -98,7 +98,7 @@ fn part_from(want: u64, refs: &Refs, from: usize) -> Option<(PartVisit, usize)>
 }
 
 /// How many entries there are under a node's id.
-fn entry_count(held: &Held, node: Id8) -> usize
+fn entry_count(held: &HeldManifest, node: Id8) -> usize
     ensures { result ≡ length (entries_of node held.now) }
 {
     match held.node(node) {
@@ -108,7 +108,7 @@ fn entry_count(held: &Held, node: Id8) -> usize
 }
 
 /// The first part from entry number `from` under a node's id on, and the number of the entry behind it.
-fn part_behind(held: &Held, node: Id8, want: u64, from: usize) -> Option<(PartVisit, usize)>
+fn part_behind(held: &HeldManifest, node: Id8, want: u64, from: usize) -> Option<(PartVisit, usize)>
     ensures { FindsPart want (entries_of node held.now) from result }
 {
     match held.node(node) {
@@ -119,7 +119,7 @@ fn part_behind(held: &Held, node: Id8, want: u64, from: usize) -> Option<(PartVi
 
 impl ManifestPlace {
     /// Before the first part that a manifest names for a node.
-    pub fn new(held: Held, visit: &FileVisit) -> ManifestPlace
+    pub fn new(held: HeldManifest, visit: &FileVisit) -> ManifestPlace
         ensures parts { result ≡ parts_of visit.now held }
         ensures few { length result < many }
     {

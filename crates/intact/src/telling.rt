@@ -8,7 +8,7 @@ use crate::parts::short_chunk;
 use crate::rows::first_unwell;
 use crate::visits::{FileVisit, PartVisit};
 use check_reports::FaultKind;
-use held_manifest::Held;
+use held_manifest::HeldManifest;
 use ice_ids::Id12;
 use object_store::Got;
 use repo_objects::{Loaded, Unread, chunk_read, log_hold, manifest_hold, ref_read};
@@ -85,7 +85,7 @@ pub fn log_seen(id: Id12, got: Got) -> Result<(), FaultKind>
 }
 
 /// The manifest, if the node's chunks that are in it are as long as a chunk, or what is wrong with it. It takes no memory.
-pub fn manifest_seen(visit: &FileVisit, got: Got) -> Result<Held, FaultKind>
+pub fn manifest_seen(visit: &FileVisit, got: Got) -> Result<HeldManifest, FaultKind>
     ensures { result ≡ found_manifest visit.now got }
 {
     let Got::Found {

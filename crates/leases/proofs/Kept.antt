@@ -2,7 +2,7 @@
 use Rattle.std.proofs.Common.{◌≡◌, ◌⊎◌, inl, inr, ℕ, List, ◌++◌}
 use Rattle.std.specs.Prelude.{Option, Some, None, Result, Ok, Err}
 use Rattle.ice_ids.specs.declared.Id12.{Id12}
-use Rattle.object_store.specs.declared.keys.Key.TheVariants.{Branch, TagGone}
+use Rattle.object_store.specs.declared.keys.Key.TheVariants.{Branch, Tombstone}
 use Rattle.object_store.specs.declared.events.Version.{Version}
 use Rattle.object_store.specs.declared.events.Op.{Op}
 use Rattle.object_store.specs.declared.events.Op.TheVariants.{Get}
@@ -48,13 +48,13 @@ module _ (by : Caller) (start journal more : List Event) (others : Each (IsOther
 
   confirmed : (from : List Event) (w : Witness) → WasConfirmed by.number w from journal → WasConfirmed by.number w from (journal ++ more)
   confirmed from (W.Branch tip) c = at from tip.branch tip.version.0 c
-  confirmed from (W.Tag tag) c = record { now = c.now; own = own from (Get (TagGone tag)) (Got (Absent c.now)) c.own; nothing = c.nothing }
+  confirmed from (W.Tag tag) c = record { now = c.now; own = own from (Get (Tombstone tag)) (Got (Absent c.now)) c.own; nothing = c.nothing }
 
   refuted : (from : List Event) (w : Witness) (there : Option Version) → WasRefuted by.number w there from journal → WasRefuted by.number w there from (journal ++ more)
   refuted from (W.Branch tip) None c = record { now = c.now; own = own from (Get (Branch tip.branch)) (Got (Absent c.now)) c.own; nothing = c.nothing }
   refuted from (W.Branch tip) (Some version) c = (c.0, at from tip.branch version.0 c.1)
   refuted from (W.Tag tag) None c = absurd c
-  refuted from (W.Tag tag) (Some version) c = record { bytes = c.bytes; got = record { now = c.got.now; own = own from (Get (TagGone tag)) (Got (Found c.bytes (version_at version.0) c.got.now)) c.got.own } }
+  refuted from (W.Tag tag) (Some version) c = record { bytes = c.bytes; got = record { now = c.got.now; own = own from (Get (Tombstone tag)) (Got (Found c.bytes (version_at version.0) c.got.now)) c.got.own } }
 
   -- ---- a lease
   module _ (id base : Id12) (w : Witness) where

@@ -4,7 +4,7 @@ use Rattle.std.specs.Prelude.{Some, Result, Ok, Err, ◌==◌}
 use Rattle.ice_ids.specs.declared.Id12.{Id12}
 use Rattle.ref_file.specs.Refs.{ref_bytes}
 use Rattle.object_store.specs.declared.keys.Key.{Key}
-use Rattle.object_store.specs.declared.keys.Key.TheVariants.{Branch, TagGone, Lease}
+use Rattle.object_store.specs.declared.keys.Key.TheVariants.{Branch, Tombstone, Lease}
 use Rattle.object_store.specs.declared.keys.Why.TheVariants.{Lease as For_lease}
 use Rattle.object_store.specs.declared.events.Version.{Version}
 use Rattle.object_store.specs.declared.events.Op.TheVariants.{Get}
@@ -22,14 +22,14 @@ use Rattle.store_api.specs.Telling.{MadeGets}
 use Rattle.store_api.proofs.Happening.{new-present, stands-as}
 use Rattle.session.specs.declared.origin.Tip.{Tip}
 use Rattle.repo_read.proofs.Own.{MadeGets-none, MadeGets-get, Since, Since-gets, made-more, own-made, one-made}
-use Rattle.repo_read.proofs.Replies.{got-absent, got-cases, got-holds}
+use Rattle.repo_read.proofs.Replies.{got-absent, got-cases, got-holds, new-cases, new-done}
 use Rattle.repo_read.proofs.Namings.{failed-made}
 use Rattle.leases.specs.declared.lease.Leased.{Leased}
 use Rattle.leases.specs.declared.witness.Witness.{Witness}
 use Rattle.leases.specs.declared.witness.Witness.TheVariants as W
 use Rattle.leases.specs.Plays.{after_put, after_release, confirm_play, confirmed, has_none, lease_play, release_play, stands_at, witness_key}
 use Rattle.leases.specs.Telling.{BranchWasAt, LeaseTells, PlacedTells, ReleaseTells, WasPlaced, leases, placing, releases}
-use Rattle.leases.proofs.Replying.{gone-cases, new-cases, new-done, none-stands}
+use Rattle.leases.proofs.Replying.{gone-cases, none-stands}
 
 -- ---- own gets behind a put
 module _ (by : Caller) (id base : Id12) (start : List Event) where
@@ -99,17 +99,17 @@ module _ (by : Caller) (id base : Id12) (start : List Event) where
     abbrev TagTells : Result (Unit {0}) Refusal → List Event → Type 0
     TagTells result journal = PlacedTells by.number id base (W.Tag tag) start result journal
 
-    tag-told : (reply : Reply) (old new : List Event) → WasPlaced by.number id base start old → Makes by (Get (TagGone tag)) reply old new → TagTells (has_none reply) new
-    tag-told reply old new p m = got-cases by old new (λ r. TagTells (has_none r) new) (TagGone tag)
+    tag-told : (reply : Reply) (old new : List Event) → WasPlaced by.number id base start old → Makes by (Get (Tombstone tag)) reply old new → TagTells (has_none reply) new
+    tag-told reply old new p m = got-cases by old new (λ r. TagTells (has_none r) new) (Tombstone tag)
         (λ bytes version now n. record {
-          placed = placed-on (TagGone tag) (Got (Found bytes version now)) old new n p;
-          refuted = record { bytes = bytes; got = record { now = now; own = own-made by (placing p) (Get (TagGone tag)) (Got (Found bytes version now)) old new n (behind old p) } };
+          placed = placed-on (Tombstone tag) (Got (Found bytes version now)) old new n p;
+          refuted = record { bytes = bytes; got = record { now = now; own = own-made by (placing p) (Get (Tombstone tag)) (Got (Found bytes version now)) old new n (behind old p) } };
         })
         (λ now n. record {
-          placed = placed-on (TagGone tag) (Got (Absent now)) old new n p;
-          confirmed = record { now = now; own = own-made by (placing p) (Get (TagGone tag)) (Got (Absent now)) old new n (behind old p); nothing = got-absent (found n.middle (TagGone tag)) now n.time n.answered.answered };
+          placed = placed-on (Tombstone tag) (Got (Absent now)) old new n p;
+          confirmed = record { now = now; own = own-made by (placing p) (Get (Tombstone tag)) (Got (Absent now)) old new n (behind old p); nothing = got-absent (found n.middle (Tombstone tag)) now n.time n.answered.answered };
         })
-        (λ done n. inr (record { placed = placed-on (TagGone tag) (Failed done) old new n p; done = done; own = own-made by (placing p) (Get (TagGone tag)) (Failed done) old new n (behind old p) }))
+        (λ done n. inr (record { placed = placed-on (Tombstone tag) (Failed done) old new n p; done = done; own = own-made by (placing p) (Get (Tombstone tag)) (Failed done) old new n (behind old p) }))
         reply m
 
   confirm-told : (w : Witness) (reply : Reply) (old new : List Event) → WasPlaced by.number id base start old → Makes by (Get (witness_key w)) reply old new → PlacedTells by.number id base w start (confirmed w reply) new

@@ -1,35 +1,19 @@
 -- What own puts and removals are answered.
 use Rattle.std.proofs.Common.{◌≡◌, ℕ, Bool, List, [], ◌∷◌, ◌++◌, length, refl, ◌∙◌, ap}
-use Rattle.std.specs.Prelude.{Option, Some, None}
+use Rattle.std.specs.Prelude.{None}
 use Rattle.object_store.specs.declared.keys.Key.{Key}
 use Rattle.object_store.specs.declared.keys.Why.{Why}
-use Rattle.object_store.specs.declared.events.Version.{Version}
 use Rattle.object_store.specs.declared.events.Gone.{Gone}
-use Rattle.object_store.specs.declared.events.Op.TheVariants.{PutNew, Remove}
-use Rattle.object_store.specs.declared.events.New.TheVariants.{Done as New_done, Present}
+use Rattle.object_store.specs.declared.events.Op.TheVariants.{Remove}
 use Rattle.object_store.specs.declared.events.Reply.{Reply}
 use Rattle.object_store.specs.declared.events.Reply.TheVariants.{Got, New, Over, Gone as Is_gone, GoneAt, Listed, Failed}
 use Rattle.object_store.specs.declared.events.Event.{Event}
-use Rattle.object_store.specs.Machine.{Stored, Slot, slot_of, effect, found, version_at, new_of}
+use Rattle.object_store.specs.Machine.{Slot, slot_of, effect, found}
 use Rattle.object_store.proofs.Slots.{same_key-refl, slot-append_one}
 use Rattle.store_api.specs.Callers.{Caller, Makes, own_event}
 
 -- ---- by kind: a reply of another kind is none of an honest store's
 module _ (by : Caller) (old new : List Event) (P : Reply → Type 0) where
-  pub new-cases : (key : Key) (bytes : List ℕ) (why : Why)
-      → ((version : Version) (now : ℕ) → Makes by (PutNew key bytes why) (New (New_done version now)) old new → P (New (New_done version now)))
-      → ((version : Version) (now : ℕ) → Makes by (PutNew key bytes why) (New (Present version now)) old new → P (New (Present version now)))
-      → ((done : Bool) → Makes by (PutNew key bytes why) (Failed done) old new → P (Failed done))
-      → (reply : Reply) → Makes by (PutNew key bytes why) reply old new → P reply
-  new-cases key bytes why did present failed (New (New_done version now)) m = did version now m
-  new-cases key bytes why did present failed (New (Present version now)) m = present version now m
-  new-cases key bytes why did present failed (Failed done) m = failed done m
-  new-cases key bytes why did present failed (Got x) m = let e = m.answered.answered in absurd (cc)
-  new-cases key bytes why did present failed (Over x) m = let e = m.answered.answered in absurd (cc)
-  new-cases key bytes why did present failed (Is_gone x) m = let e = m.answered.answered in absurd (cc)
-  new-cases key bytes why did present failed (GoneAt x) m = let e = m.answered.answered in absurd (cc)
-  new-cases key bytes why did present failed (Listed x) m = let e = m.answered.answered in absurd (cc)
-
   pub gone-cases : (key : Key) (why : Why)
       → ((gone : Gone) → Makes by (Remove key why) (Is_gone gone) old new → P (Is_gone gone))
       → ((done : Bool) → Makes by (Remove key why) (Failed done) old new → P (Failed done))
@@ -43,10 +27,6 @@ module _ (by : Caller) (old new : List Event) (P : Reply → Type 0) where
   gone-cases key why did failed (Listed x) m = let e = m.answered.answered in absurd (cc)
 
 -- ---- what the answers say of what stands
-pub new-done : (n time : ℕ) (at : Option Stored) (version : Version) (now : ℕ) → New (New_done version now) ≡ New (new_of n time at) → (at ≡ None) × (version ≡ version_at n)
-new-done n time None version now e = (refl, cc)
-new-done n time (Some s) version now e = absurd (cc)
-
 removed : (by : Caller) (key : Key) (why : Why) (gone : Gone) (n time : ℕ) (slot : Slot) → (effect key n slot (own_event by (Remove key why) (Is_gone gone) time)).stands ≡ None
 unfolding effect
 removed by key why gone n time slot = rw (same_key-refl key) refl

@@ -4,7 +4,7 @@ use Rattle.std.specs.Prelude.{◌==◌, if◌then◌else◌, Bool, false, Option
 use Rattle.ice_ids.specs.declared.Id12.{Id12}
 use Rattle.ref_file.specs.Refs.{ref_bytes}
 use Rattle.object_store.specs.declared.keys.Key.{Key}
-use Rattle.object_store.specs.declared.keys.Key.TheVariants.{Branch, TagGone, Lease}
+use Rattle.object_store.specs.declared.keys.Key.TheVariants.{Branch, Tombstone, Lease}
 use Rattle.object_store.specs.declared.keys.Why.TheVariants.{Lease as For_lease}
 use Rattle.object_store.specs.declared.events.Version.{Version}
 use Rattle.object_store.specs.declared.events.Op.TheVariants.{Get, PutNew, Remove}
@@ -33,7 +33,7 @@ witness_of ReadsId = None
 -- what is got to confirm it: the branch, or the tag's tombstone
 abbrev pub witness_key : Witness → Key
 witness_key (W.Branch tip) = Branch tip.branch
-witness_key (W.Tag tag) = TagGone tag
+witness_key (W.Tag tag) = Tombstone tag
 
 -- a branch has to stand at this version
 abbrev pub stands_at : (wanted : Version) → Reply → Result (Unit {0}) Refusal

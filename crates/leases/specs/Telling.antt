@@ -3,7 +3,7 @@ use Rattle.std.specs.Prelude.{◌≡◌, ◌≢◌, ◌⊎◌, ℕ, Bool, List, 
 use Rattle.ice_ids.specs.declared.Id12.{Id12}
 use Rattle.ref_file.specs.Refs.{ref_bytes}
 use Rattle.repo_objects.specs.Readings.{ref_of}
-use Rattle.object_store.specs.declared.keys.Key.TheVariants.{Branch, TagGone, Lease}
+use Rattle.object_store.specs.declared.keys.Key.TheVariants.{Branch, Tombstone, Lease}
 use Rattle.object_store.specs.declared.keys.Why.TheVariants.{Lease as For_lease}
 use Rattle.object_store.specs.declared.events.Version.{Version}
 use Rattle.object_store.specs.declared.events.Gone.{Gone}
@@ -53,12 +53,12 @@ pub record BranchWasAt (client : ℕ) (branch : List ℕ) (version : ℕ) (start
 -- The client's own get found that the ref named the base still: the branch stood at the version at which it did, or the tag had no tombstone.
 abbrev pub WasConfirmed : ℕ → Witness → (start journal : List Event) → Type 0
 WasConfirmed client (W.Branch tip) start journal = BranchWasAt client tip.branch tip.version.0 start journal
-WasConfirmed client (W.Tag tag) start journal = WasAbsent client (TagGone tag) start journal
+WasConfirmed client (W.Tag tag) start journal = WasAbsent client (Tombstone tag) start journal
 
 -- the client's own get found a tombstone of the tag, at this version
 pub record TombstoneWasThere (client : ℕ) (tag : List ℕ) (version : Version) (start journal : List Event) : Type 0 where
   pub bytes : List ℕ
-  pub got : WasGot client (TagGone tag) bytes version.0 start journal
+  pub got : WasGot client (Tombstone tag) bytes version.0 start journal
 
 -- ... or that it didn't: the branch stood at another version, or was absent; or the tag had a tombstone
 abbrev pub WasRefuted : ℕ → Witness → Option Version → (start journal : List Event) → Type 0
@@ -142,7 +142,7 @@ pub record BranchNames (journal : List Event) (branch : List ℕ) (id : Id12) : 
 -- a ref names the base: the branch, or the tag, which has no tombstone
 abbrev pub StillNames : Witness → (base : Id12) → List Event → Type 0
 StillNames (W.Branch tip) base journal = BranchNames journal tip.branch base
-StillNames (W.Tag tag) base journal = TagNames journal tag base × (found journal (TagGone tag) ≡ None)
+StillNames (W.Tag tag) base journal = TagNames journal tag base × (found journal (Tombstone tag) ≡ None)
 
 -- the journal at the get that confirmed it
 abbrev pub confirmed_at : (client : ℕ) (start journal : List Event) (w : Witness) → WasConfirmed client w start journal → List Event

@@ -86,7 +86,7 @@ fn step_confirm<S: Store>(id: Id12, witness: Witness, store: &mut S) -> Leasing
             after_branch(id, tip.version, answer)
         }
         Witness::Tag(tag) => {
-            let answer = store.get(&Key::TagGone(tag));
+            let answer = store.get(&Key::Tombstone(tag));
             after_tombstone(id, answer)
         }
     }

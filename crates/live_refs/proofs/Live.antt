@@ -9,7 +9,7 @@ use Rattle.std.proofs.lemmas.Bool.{cases_lt}
 use Rattle.std.proofs.lemmas.Cmp.{nat_list_cmp_total, tied_itself}
 use Rattle.std.proofs.lemmas.Option.{slice_get_within}
 use Rattle.object_store.specs.declared.keys.Key.{Key}
-use Rattle.object_store.specs.declared.keys.Key.TheVariants.{Snapshot, Manifest, Txn, Chunk, Branch, Tag, TagGone, Lease}
+use Rattle.object_store.specs.declared.keys.Key.TheVariants.{Snapshot, Manifest, Txn, Chunk, Branch, Tag, Tombstone, Lease}
 use Rattle.object_store.specs.declared.keys.Part.{Part}
 use Rattle.object_store.specs.declared.events.Entry.{Entry}
 use Rattle.object_store.specs.Machine.{Stored, same_key, part_of, name_of, rank_of, listing_cmp, HasEntry, IsListing}
@@ -91,7 +91,7 @@ no-rank (Txn id) l m = cc
 no-rank (Chunk id) l m = cc
 no-rank (Branch name) l m = cc
 no-rank (Tag name) l m = cc
-no-rank (TagGone name) l m = cc
+no-rank (Tombstone name) l m = cc
 no-rank (Lease id) l m = cc
 
 no-order : (o : Ordering) (key : Key) → ordering_then o (nat_cmp 0 (rank_of key)) ≡ Less → ordering_then (ordering_reverse o) (nat_cmp (rank_of key) 1) ≡ Less → ⊥
@@ -99,31 +99,31 @@ no-order Less key l m = cc
 no-order Equal key l m = no-rank key l m
 no-order Greater key l m = cc
 
-no-between : (name : List ℕ) (key : Key) → listing_cmp (Tag name) key ≡ Less → listing_cmp key (TagGone name) ≡ Less → ⊥
+no-between : (name : List ℕ) (key : Key) → listing_cmp (Tag name) key ≡ Less → listing_cmp key (Tombstone name) ≡ Less → ⊥
 no-between name key l m =
     let back : slice_cmp nat_cmp (name_of key) name ≡ ordering_reverse (slice_cmp nat_cmp name (name_of key)) = nat_list_cmp_total.antisymm (name_of key) name in
     no-order (slice_cmp nat_cmp name (name_of key)) key l (subst (λ (o : Ordering). ordering_then o (nat_cmp (rank_of key) 1) ≡ Less) back m)
 
-not-before : (name : List ℕ) → listing_cmp (TagGone name) (Tag name) ≡ Less → ⊥
+not-before : (name : List ℕ) → listing_cmp (Tombstone name) (Tag name) ≡ Less → ⊥
 not-before name l = let e : ordering_then Equal (nat_cmp 1 0) ≡ Less = subst (λ (o : Ordering). ordering_then o (nat_cmp 1 0) ≡ Less) (tied_itself nat_list_cmp_total name) l in cc
 
 -- ---- an honest listing
 module _ (at : Key → Option Stored) (part : Part) (entries : List Entry) (L : IsListing at part entries) where
-  between : (name : List ℕ) (j k : ℕ) (d e : Entry) → suc j < k → slice_get entries j ≡ Some d → slice_get entries k ≡ Some e → d.key ≡ Tag name → e.key ≡ TagGone name → ⊥
+  between : (name : List ℕ) (j k : ℕ) (d e : Entry) → suc j < k → slice_get entries j ≡ Some d → slice_get entries k ≡ Some e → d.key ≡ Tag name → e.key ≡ Tombstone name → ⊥
   between name j k d e l hd he kd ke =
       let next = within-get entries (suc j) (omega (arith, l, slice_get_within entries k e he)) in
       let one : listing_cmp d.key next.0.key ≡ Less = L.ascending j (suc j) d next.0 (omega arith) hd next.1 in
       let two : listing_cmp next.0.key e.key ≡ Less = L.ascending (suc j) k next.0 e l next.1 he in
       no-between name next.0.key (subst (λ (x : Key). listing_cmp x next.0.key ≡ Less) kd one) (subst (λ (x : Key). listing_cmp next.0.key x ≡ Less) ke two)
 
-  behind : (name : List ℕ) (j k : ℕ) (d e : Entry) → j ≡ k → slice_get entries (suc j) ≡ Some d → d.key ≡ TagGone name → is_gone (Tag name) (drop (suc k) entries) ≡ false → ⊥
+  behind : (name : List ℕ) (j k : ℕ) (d e : Entry) → j ≡ k → slice_get entries (suc j) ≡ Some d → d.key ≡ Tombstone name → is_gone (Tag name) (drop (suc k) entries) ≡ false → ⊥
   behind name j k d e same hd kd g =
       let g' : is_gone (Tag name) (drop (suc j) entries) ≡ false = subst (λ (n : ℕ). is_gone (Tag name) (drop (suc n) entries) ≡ false) (sym same) g in
-      let listed : same_key d.key (TagGone name) ≡ false = sym (ap (is_gone (Tag name)) (drop-get entries (suc j) d hd)) ∙ g' in
-      let is : same_key (TagGone name) (TagGone name) ≡ false = subst (λ (x : Key). same_key x (TagGone name) ≡ false) kd listed in
-      let yes = same_key-refl (TagGone name) in cc
+      let listed : same_key d.key (Tombstone name) ≡ false = sym (ap (is_gone (Tag name)) (drop-get entries (suc j) d hd)) ∙ g' in
+      let is : same_key (Tombstone name) (Tombstone name) ≡ false = subst (λ (x : Key). same_key x (Tombstone name) ≡ false) kd listed in
+      let yes = same_key-refl (Tombstone name) in cc
 
-  no-tombstone : (name : List ℕ) (k : ℕ) (e : Entry) → slice_get entries k ≡ Some e → e.key ≡ Tag name → is_gone (Tag name) (drop (suc k) entries) ≡ false → HasEntry entries (TagGone name) → ⊥
+  no-tombstone : (name : List ℕ) (k : ℕ) (e : Entry) → slice_get entries k ≡ Some e → e.key ≡ Tag name → is_gone (Tag name) (drop (suc k) entries) ≡ false → HasEntry entries (Tombstone name) → ⊥
   no-tombstone name k e he ke g t = elim (cases_lt k t.place) [
     | inl l ↦ elim (cases_lt (suc k) t.place) [
       | inl m ↦ between name k t.place e t.entry m he t.here ke t.same
@@ -139,18 +139,18 @@ module _ (at : Key → Option Stored) (part : Part) (entries : List Entry) (L : 
           let place : t.place ≡ k = omega (arith, l, m) in
           let one : slice_get entries k ≡ Some t.entry = subst (λ (n : ℕ). slice_get entries n ≡ Some t.entry) place t.here in
           let entry_is : e ≡ t.entry = cc in
-          let keys : Tag name ≡ TagGone name = sym ke ∙ (ap (λ (x : Entry). x.key) entry_is ∙ t.same) in cc
+          let keys : Tag name ≡ Tombstone name = sym ke ∙ (ap (λ (x : Entry). x.key) entry_is ∙ t.same) in cc
     ]
   ]
 
-  gone-none : (name : List ℕ) (k : ℕ) (e : Entry) → slice_get entries k ≡ Some e → e.key ≡ Tag name → is_gone (Tag name) (drop (suc k) entries) ≡ false → at (TagGone name) ≡ None
-  gone-none name k e he ke g = by_case (at (TagGone name)) refl
+  gone-none : (name : List ℕ) (k : ℕ) (e : Entry) → slice_get entries k ≡ Some e → e.key ≡ Tag name → is_gone (Tag name) (drop (suc k) entries) ≡ false → at (Tombstone name) ≡ None
+  gone-none name k e he ke g = by_case (at (Tombstone name)) refl
     where
-      by_case : (o : Option Stored) → at (TagGone name) ≡ o → at (TagGone name) ≡ None
+      by_case : (o : Option Stored) → at (Tombstone name) ≡ o → at (Tombstone name) ≡ None
       by_case None s = s
       by_case (Some s) is =
           let part_is : part_of (Tag name) ≡ part = subst (λ (x : Key). part_of x ≡ part) ke (L.right k e he).part_is in
-          absurd (no-tombstone name k e he ke g (L.whole (TagGone name) s part_is is))
+          absurd (no-tombstone name k e he ke g (L.whole (Tombstone name) s part_is is))
 
   not-gone : (key : Key) (k : ℕ) (e : Entry) → slice_get entries k ≡ Some e → e.key ≡ key → is_gone key (drop (suc k) entries) ≡ false → IsNotGone at key
   not-gone (Snapshot id) k e he ke g = tt
@@ -159,7 +159,7 @@ module _ (at : Key → Option Stored) (part : Part) (entries : List Entry) (L : 
   not-gone (Chunk id) k e he ke g = tt
   not-gone (Branch name) k e he ke g = tt
   not-gone (Tag name) k e he ke g = gone-none name k e he ke g
-  not-gone (TagGone name) k e he ke g = absurd cc
+  not-gone (Tombstone name) k e he ke g = absurd cc
   not-gone (Lease id) k e he ke g = tt
 
   live-ref : (key : Key) → HasKey (live entries) key → IsRefIn at part key
@@ -173,15 +173,15 @@ module _ (at : Key → Option Stored) (part : Part) (entries : List Entry) (L : 
         not_gone = not-gone key s.place s.entry s.here s.same s.stays;
       }
 
-  stays-tag : (name : List ℕ) (k : ℕ) → at (TagGone name) ≡ None → (rest : List Entry) → drop k entries ≡ rest → is_gone (Tag name) rest ≡ false
+  stays-tag : (name : List ℕ) (k : ℕ) → at (Tombstone name) ≡ None → (rest : List Entry) → drop k entries ≡ rest → is_gone (Tag name) rest ≡ false
   stays-tag name k none [] e = refl
-  stays-tag name k none (next ∷ rest) e = by_case (same_key next.key (TagGone name)) refl
+  stays-tag name k none (next ∷ rest) e = by_case (same_key next.key (Tombstone name)) refl
     where
-      by_case : (b : Bool) → same_key next.key (TagGone name) ≡ b → same_key next.key (TagGone name) ≡ false
+      by_case : (b : Bool) → same_key next.key (Tombstone name) ≡ b → same_key next.key (Tombstone name) ≡ false
       by_case false s = s
       by_case true s =
           let r = L.right k next (get-drop entries k next rest e) in
-          let there : at (TagGone name) ≡ Some r.stored = subst (λ (x : Key). at x ≡ Some r.stored) (same_key-true next.key (TagGone name) s) r.stands in
+          let there : at (Tombstone name) ≡ Some r.stored = subst (λ (x : Key). at x ≡ Some r.stored) (same_key-true next.key (Tombstone name) s) r.stands in
           absurd cc
 
   stays-key : (key : Key) (k : ℕ) → IsNotGone at key → is_gone key (drop k entries) ≡ false
@@ -191,7 +191,7 @@ module _ (at : Key → Option Stored) (part : Part) (entries : List Entry) (L : 
   stays-key (Chunk id) k n = refl
   stays-key (Branch name) k n = refl
   stays-key (Tag name) k n = stays-tag name k n (drop k entries) refl
-  stays-key (TagGone name) k n = absurd n
+  stays-key (Tombstone name) k n = absurd n
   stays-key (Lease id) k n = refl
 
   ref-live : (key : Key) → IsRefIn at part key → HasKey (live entries) key

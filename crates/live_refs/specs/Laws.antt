@@ -1,7 +1,7 @@
 -- What a listing tells of the refs that stand (own).
 use Rattle.std.specs.Prelude.{◌≡◌, ◌↔◌, ℕ, List, Option, Some, None, slice_get}
 use Rattle.object_store.specs.declared.keys.Key.{Key}
-use Rattle.object_store.specs.declared.keys.Key.TheVariants.{Snapshot, Manifest, Txn, Chunk, Branch, Tag, TagGone, Lease}
+use Rattle.object_store.specs.declared.keys.Key.TheVariants.{Snapshot, Manifest, Txn, Chunk, Branch, Tag, Tombstone, Lease}
 use Rattle.object_store.specs.declared.keys.Part.{Part}
 use Rattle.object_store.specs.declared.events.Entry.{Entry}
 use Rattle.object_store.specs.Machine.{Stored, part_of, IsListing}
@@ -14,8 +14,8 @@ pub record HasKey (keys : List Key) (key : Key) : Type 0 where
 
 -- a tag without a tombstone, or what is neither tag nor tombstone
 abbrev pub IsNotGone : (Key → Option Stored) → Key → Type 0
-IsNotGone at (TagGone name) = ⊥
-IsNotGone at (Tag name) = at (TagGone name) ≡ None
+IsNotGone at (Tombstone name) = ⊥
+IsNotGone at (Tag name) = at (Tombstone name) ≡ None
 IsNotGone at (Snapshot id) = Unit {0}
 IsNotGone at (Manifest id) = Unit {0}
 IsNotGone at (Txn id) = Unit {0}

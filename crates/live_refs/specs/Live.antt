@@ -1,14 +1,14 @@
 -- Which refs of a listing stand (own; tombstones of tags are objects of their own).
 use Rattle.std.specs.Prelude.{Bool, true, false, if◌then◌else◌, List, [], ◌∷◌}
 use Rattle.object_store.specs.declared.keys.Key.{Key}
-use Rattle.object_store.specs.declared.keys.Key.TheVariants.{Snapshot, Manifest, Txn, Chunk, Branch, Tag, TagGone, Lease}
+use Rattle.object_store.specs.declared.keys.Key.TheVariants.{Snapshot, Manifest, Txn, Chunk, Branch, Tag, Tombstone, Lease}
 use Rattle.object_store.specs.declared.events.Entry.{Entry}
 use Rattle.object_store.specs.Machine.{same_key}
 
 -- a tombstone, or the tag of the tombstone that is listed right behind it
 abbrev pub is_gone : Key → List Entry → Bool
-is_gone (TagGone name) behind = true
-is_gone (Tag name) (next ∷ behind) = same_key next.key (TagGone name)
+is_gone (Tombstone name) behind = true
+is_gone (Tag name) (next ∷ behind) = same_key next.key (Tombstone name)
 is_gone (Tag name) [] = false
 is_gone (Snapshot id) behind = false
 is_gone (Manifest id) behind = false

@@ -35,7 +35,7 @@ pub fn is_gone(key: &Key, behind: &[Entry]) -> bool
     ensures { result ≡ is_gone key.now behind.now }
 {
     match key {
-        Key::TagGone(_) => true,
+        Key::Tombstone(_) => true,
         Key::Tag(name) => !behind.is_empty() && is_tombstone(&behind[0].key, name),
         Key::Snapshot(_) | Key::Manifest(_) | Key::Txn(_) | Key::Chunk(_) => false,
         Key::Branch(_) | Key::Lease(_) => false,
@@ -43,10 +43,10 @@ pub fn is_gone(key: &Key, behind: &[Entry]) -> bool
 }
 
 fn is_tombstone(key: &Key, name: &RefName) -> bool
-    ensures { result ≡ same_key key.now (Key.TagGone name.now) }
+    ensures { result ≡ same_key key.now (Key.Tombstone name.now) }
 {
     match key {
-        Key::TagGone(gone) => gone == name,
+        Key::Tombstone(gone) => gone == name,
         Key::Snapshot(_) | Key::Manifest(_) | Key::Txn(_) | Key::Chunk(_) => false,
         Key::Branch(_) | Key::Tag(_) | Key::Lease(_) => false,
     }

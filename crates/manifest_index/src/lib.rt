@@ -8,10 +8,10 @@ mod chunks;
 mod copies;
 mod extents;
 mod laws;
-mod listed;
+mod manifests_within;
 mod merging;
 
 pub use extents::extents_of;
 pub use laws::{extents_law, merged_law, new_list_law, sized_extents_law};
-pub use listed::candidates;
+pub use manifests_within::candidates;
 pub use merging::merge;

@@ -9,7 +9,7 @@ ghost use Rattle.manifest_index.specs.inside.Chunks.{chunk_at, ranked, IsSized};
 
 use crate::chunks::{Chunks, into_refs, set};
 use crate::copies::{copy_change, own_index, own_place};
-use held_manifest::{Held, RefView, Refs, is_within};
+use held_manifest::{HeldManifest, RefView, Refs, is_within};
 use ice_ids::Id8;
 use ice_items::Items;
 use manifest_file::{ArrayRefs, Place};
@@ -83,7 +83,7 @@ fn enter_manifest(
     chunks: &mut Chunks,
     rank: usize,
     node: Id8,
-    manifest: &(Items<(u32, u32)>, Held),
+    manifest: &(Items<(u32, u32)>, HeldManifest),
 ) -> Result<(), AllocError>
     ensures entered { OnOk result ((q : List ℕ)
         → chunk_at q chunks.new ≡ option_or (ranked rank q (entry_seen node q manifest.now))
@@ -104,7 +104,7 @@ fn old_chunks(
     alloc: Global,
     rank: usize,
     node: Id8,
-    manifests: &[(Items<(u32, u32)>, Held)],
+    manifests: &[(Items<(u32, u32)>, HeldManifest)],
 ) -> Result<Chunks, AllocError>
     ensures found { IfOk result (λ chunks. (q : List ℕ)
         → chunk_at q chunks ≡ ranked rank q (look_up node q manifests.now)) }
@@ -167,7 +167,7 @@ pub fn merge(
     alloc: Global,
     rank: usize,
     node: Id8,
-    old: &[(Items<(u32, u32)>, Held)],
+    old: &[(Items<(u32, u32)>, HeldManifest)],
     change: &[(Index, Option<Place>)],
 ) -> Result<Option<ArrayRefs>, AllocError>
     requires { All (λ c. IsTrue (are_low c.0)) change.now }

@@ -10,7 +10,7 @@ use Rattle.object_store.specs.Machine.{found, last_time, IsHonest, UnlessFailed}
 use Rattle.object_store.specs.declared.events.Event.{Event}
 use Rattle.object_store.specs.Callers.{Makes, Called, own_event}
 use Rattle.object_store.proofs.Waits.{Waits-same, Makes-alone}
-use Rattle.mem_store.specs.declared.mem.MemStore.{MemStore}
+use Rattle.mem_store.specs.declared.memory_store.MemStore.{MemStore}
 use Rattle.mem_store.specs.Memory.{sole, journal_of, client_of, view_of, Adds, Answers, IsLogged, Exactly, Fails}
 use Rattle.mem_store.specs.Failing.{MadeFail}
 use Rattle.mem_store.specs.declared.logs.Answer.{Answer}

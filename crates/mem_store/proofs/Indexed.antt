@@ -9,10 +9,10 @@ use Rattle.object_store.specs.Machine.{Stored, Slot, is_on, was_done, leaves, ef
 use Rattle.object_store.proofs.Slots.{slot-append_one, sound}
 use Rattle.mem_store.specs.declared.logs.Answer.{Answer}
 use Rattle.mem_store.specs.declared.logs.Answer.TheVariants.{Stood, Listed, Failed}
-use Rattle.mem_store.specs.Held.{slot_with}
+use Rattle.mem_store.specs.Standing.{slot_with}
 use Rattle.mem_store.specs.Places.{place_left, place_after}
 use Rattle.mem_store.specs.Logs.{bytes_put, put_by, put_in, puts_in, reply_in, is_done}
-use Rattle.mem_store.proofs.HeldLemmas.{effect-stands}
+use Rattle.mem_store.proofs.StandingLemmas.{effect-stands}
 use Rattle.mem_store.proofs.Told.{get-before, get-seam}
 
 pub put-version : (place : ℕ) (o : Option Event) → (put_by place o).version ≡ place

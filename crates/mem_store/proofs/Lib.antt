@@ -1,5 +1,5 @@
 pub mod Placing
-pub mod HeldLemmas
+pub mod StandingLemmas
 pub mod Changing
 pub mod Told
 pub mod Indexed

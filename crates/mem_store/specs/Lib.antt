@@ -1,4 +1,4 @@
-pub mod Held
+pub mod Standing
 pub mod Memory
 pub mod Plans
 pub mod Failing

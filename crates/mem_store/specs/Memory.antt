@@ -8,7 +8,7 @@ use Rattle.object_store.specs.declared.events.StoreFault.{StoreFault}
 use Rattle.object_store.specs.declared.events.StoreFault.TheVariants.{Failed, NoMemory}
 use Rattle.object_store.specs.Machine.{found, last_time, IsHonest}
 use Rattle.object_store.specs.Callers.{Caller, View, own_event, as_client}
-use Rattle.mem_store.specs.declared.mem.MemStore.{MemStore}
+use Rattle.mem_store.specs.declared.memory_store.MemStore.{MemStore}
 use Rattle.mem_store.specs.declared.logs.Answer.{Answer}
 use Rattle.mem_store.specs.Times.{IsTime}
 use Rattle.mem_store.specs.Logs.{event_in}

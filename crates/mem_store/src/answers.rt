@@ -3,7 +3,7 @@
 ghost use Rattle.std.specs.Prelude.{◌≡◌, List};
 ghost use Rattle.object_store.specs.declared.events.Event.{Event};
 ghost use Rattle.object_store.specs.Machine.{new_of, over_of, gone_of, gone_at_of};
-ghost use Rattle.mem_store.specs.Held.{got_from};
+ghost use Rattle.mem_store.specs.Standing.{got_from};
 ghost use Rattle.mem_store.specs.Logs.{puts_in};
 
 use ice_base::Bytes;
@@ -11,7 +11,7 @@ use object_store::{Gone, GoneAt, Got, New, Over, Version};
 
 /// What a put put: the bytes, the position of the put in the journal, and its time.
 #[derive(Clone, Copy, Debug)]
-pub(crate) struct Held<'a> {
+pub(crate) struct Standing<'a> {
     pub(crate) bytes: &'a [u8],
     pub(crate) version: u64,
     pub(crate) created: u64,

@@ -5,7 +5,7 @@ ghost use Rattle.object_store.specs.Callers.{Called, Fits, has_failed};
 ghost use Rattle.mem_store.specs.Lent.{op_lent};
 ghost use Rattle.mem_store.specs.Failing.{faulty_view, GoesByPlan};
 
-use crate::faulty::{Failing, Telling};
+use crate::failing_stores::{Failing, Telling};
 use crate::plans::planned;
 use crate::requests::OpRef;
 use object_store::{

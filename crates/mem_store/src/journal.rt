@@ -4,7 +4,7 @@ ghost use Rattle.std.specs.Prelude.{◌≡◌, ◌<◌, length, vec_capacity, ve
 ghost use Rattle.object_store.specs.declared.keys.Key.{Key as Name};
 ghost use Rattle.mem_store.specs.Places.{place_in, place_after};
 
-use crate::answers::Held;
+use crate::answers::Standing;
 use crate::events::EventRef;
 use crate::index::Index;
 use crate::logs::{Answer, Logged, event_at, last_time, put_in};
@@ -37,7 +37,7 @@ impl Model for Journal {
 impl Journal {
     ghost use Rattle.std.specs.Prelude.{◌≡◌, ◌<◌, ◌^◌, ◌++◌, [], ◌∷◌, length, option_map, slice_get, IfOk, OnErr};
     ghost use Rattle.object_store.specs.Machine.{found, last_time, IsListing};
-    ghost use Rattle.mem_store.specs.Held.{stored_of};
+    ghost use Rattle.mem_store.specs.Standing.{stored_of};
     ghost use Rattle.mem_store.specs.Lent.{event_lent};
     ghost use Rattle.mem_store.specs.Times.{IsTime};
     ghost use Rattle.mem_store.specs.Logs.{put_in, puts_in, event_in};
@@ -75,7 +75,7 @@ impl Journal {
     }
 
     /// What the put at this place put.
-    pub(crate) fn put(&self, place: u64) -> Held<'_>
+    pub(crate) fn put(&self, place: u64) -> Standing<'_>
         ensures { stored_of result ≡ put_in self.now place }
     {
         put_in(&self.logs, place)

@@ -5,18 +5,18 @@
 mod answers;
 mod counting;
 mod events;
+mod failing_stores;
 mod faults;
-mod faulty;
 mod index;
 mod journal;
 mod logs;
 mod making;
-mod mem;
+mod memory_store;
 mod plans;
 mod requests;
 
 pub use events::{EventRef, ReplyRef};
+pub use failing_stores::{Failing, Telling};
 pub use faults::FaultStore;
-pub use faulty::{Failing, Telling};
-pub use mem::MemStore;
+pub use memory_store::MemStore;
 pub use requests::OpRef;

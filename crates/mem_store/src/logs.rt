@@ -3,12 +3,12 @@
 ghost use Rattle.std.specs.Prelude.{◌≡◌, length, option_map, slice_get, if◌then◌else◌};
 ghost use Rattle.std.specs.Option.{option_copied};
 ghost use Rattle.object_store.specs.Machine.{last_time, got_of};
-ghost use Rattle.mem_store.specs.Held.{stored_of};
+ghost use Rattle.mem_store.specs.Standing.{stored_of};
 ghost use Rattle.mem_store.specs.Lent.{reply_lent, event_lent};
 ghost use Rattle.mem_store.specs.Places.{place_left, where_at};
 ghost use Rattle.mem_store.specs.Logs.{key_changed, is_done, bytes_put, put_in, puts_in, answered_by, reply_in, told};
 
-use crate::answers::{Held, gone_answer, gone_at_answer, new_answer, over_answer};
+use crate::answers::{Standing, gone_answer, gone_at_answer, new_answer, over_answer};
 use crate::events::{EventRef, ReplyRef};
 use object_store::{Entries, Key, Op, Reply, Version};
 
@@ -109,16 +109,16 @@ pub(crate) fn last_time(logs: &[Logged]) -> u64
 }
 
 /// What the put at this place put.
-pub(crate) fn put_in(logs: &[Logged], place: u64) -> Held<'_>
+pub(crate) fn put_in(logs: &[Logged], place: u64) -> Standing<'_>
     ensures { stored_of result ≡ put_in (told logs.now) place }
 {
     match logs.get(place as usize) {
-        None => Held {
+        None => Standing {
             bytes: &[],
             version: place,
             created: 0,
         },
-        Some(log) => Held {
+        Some(log) => Standing {
             bytes: bytes_put(&log.op),
             version: place,
             created: log.time,

@@ -4,7 +4,7 @@ ghost use Rattle.std.specs.Prelude.{refl};
 ghost use Rattle.mem_store.specs.Memory.{Exactly, Fails, Serves};
 
 use crate::MemStore;
-use crate::faulty::{Failing, Telling};
+use crate::failing_stores::{Failing, Telling};
 use crate::logs::Answer;
 use crate::requests::OpRef;
 use ice_base::Clock;

@@ -16,7 +16,7 @@ use Rattle.mirror.specs.declared.mirror.Mirror.{Mirror}
 use Rattle.mirror.specs.declared.mirror.Object.{Object}
 use Rattle.mirror.specs.declared.mirror.Object.TheVariants as object
 use Rattle.mirror.specs.Programs.{Work, Answer, ends, refused, on_told, asks, copy_refs}
-use Rattle.mirror.specs.inside.Working.{Lands, on_first, behind_refs, object_key}
+use Rattle.mirror.specs.inside.Working.{Lands, EndsOutright, on_first, behind_refs, object_key}
 
 -- whether a failed operation was done tells nothing
 abbrev pub IsBlind : {A : Type 0} → (Reply → Result A Refusal) → Type 0
@@ -46,6 +46,21 @@ went-surely {A} w side op told next reply x q blind e same = took-so w side op t
 -- it told why it is refused
 pub was-refused : {A : Type 0} (w : Work) (side : Side) (op : Op) (told : Reply → Result A Refusal) (next : A → Answer) (reply : Reply) (reason : Refusal) (q : Answer) → IsBlind told → told reply ≡ Err reason → q ≡ refused w reason → Took (asks w side op told next) reply q
 was-refused {A} w side op told next reply reason q blind e same = took-so w side op told next reply q blind (subst (λ (r : Result A Refusal). Comes op (ends w (Err NoMemory)) (on_told w next r) q) (sym e) (inl same))
+
+-- ... and so it ends outright
+pub ends-so : {A : Type 0} (w : Work) (told : Result A Refusal) (reason : Refusal) (q : Answer) → told ≡ Err reason → q ≡ refused w reason → EndsOutright w told q
+ends-so {A} w told reason q e same = subst (λ (r : Result A Refusal). EndsOutright w r q) (sym e) same
+
+-- where it told a value nothing is owed
+pub goes-on : {A : Type 0} (w : Work) (told : Result A Refusal) (x : A) (q : Answer) → told ≡ Ok x → EndsOutright w told q
+goes-on {A} w told x q e = subst (λ (r : Result A Refusal). EndsOutright w r q) (sym e) tt
+
+-- what follows what it told, where that is known
+pub told-next : {A : Type 0} (w : Work) (next : A → Answer) (told : Result A Refusal) (x : A) (q : Answer) → told ≡ Ok x → q ≡ next x → q ≡ on_told w next told
+told-next {A} w next told x q e same = same ∙ sym (ap (λ (r : Result A Refusal). on_told w next r) e)
+
+pub told-refused : {A : Type 0} (w : Work) (next : A → Answer) (told : Result A Refusal) (reason : Refusal) (q : Answer) → told ≡ Err reason → q ≡ refused w reason → q ≡ on_told w next told
+told-refused {A} w next told reason q e same = same ∙ sym (ap (λ (r : Result A Refusal). on_told w next r) e)
 
 -- of the refs that are left one is in work, where something is left to be done with it
 pub has-first : (names : List RefId) (w : Work) (f : RefId → (Work → Answer) → Answer) (phase : Phase) → IsAsk (on_first names w f phase) → (r : RefId) × (rs : List RefId) × (names ≡ r ∷ rs)

@@ -11,10 +11,10 @@ use Rattle.snapshot_file.specs.Layout.{snapshot_bytes}
 use Rattle.manifest_file.specs.declared.manifest.ManifestFile.{ManifestFile}
 use Rattle.held_manifest.specs.Objects.{objects_of}
 use Rattle.ref_file.specs.Refs.{ref_bytes}
-use Rattle.repo_objects.specs.declared.bad.Bad.{Bad}
+use Rattle.repo_objects.specs.declared.bad_objects.Bad.{Bad}
 use Rattle.repo_objects.specs.Readings.{read_snapshot, read_manifest, read_log, read_ref, snapshot_by}
 use Rattle.object_store.specs.declared.keys.Key.{Key}
-use Rattle.object_store.specs.declared.keys.Key.TheVariants.{Snapshot, Manifest, Txn, Chunk, Branch, Tag, TagGone, Lease}
+use Rattle.object_store.specs.declared.keys.Key.TheVariants.{Snapshot, Manifest, Txn, Chunk, Branch, Tag, Tombstone, Lease}
 use Rattle.object_store.specs.declared.keys.Part.{Part}
 use Rattle.object_store.specs.declared.keys.Part.TheVariants as part
 use Rattle.object_store.specs.declared.keys.Why.{Why}
@@ -41,7 +41,7 @@ use Rattle.mirror_reports.specs.declared.outcome.RefId.{RefId}
 use Rattle.mirror_reports.specs.declared.outcome.Mirrored.{Mirrored}
 use Rattle.mirror_reports.specs.declared.outcome.MirrorEnd.{MirrorEnd}
 use Rattle.mirror.specs.declared.lines.Link.{Link}
-use Rattle.mirror.specs.Lines.{Line, found, enter_ids, enter_rows}
+use Rattle.repo_objects.specs.Lines.{Line, found, enter_ids, enter_rows}
 use Rattle.mirror_reports.specs.Told.{key_of, fault_of, listed_told, bytes_told, if_there, ref_told, buried_told, put_told, made_told, moved_told, same_parent, file_of, file_under, if_equal, same_but_parent, is_fine}
 use Rattle.mirror.specs.Programs.{Work, Answer, no_work, ends, refused, on_told, asks, with_put, cause_of, fits_there, unless_differs, compare, put_behind, put_object, take_object, copy_chunks, with_chunks, with_manifest, copy_manifest, copy_manifests, copy_log, with_copied, put_snapshot, with_manifests, fill_snapshot, with_snapshot, copy_snapshot, copy_line, down, down_onto, down_behind, with_ref, make_ref, move_ref, unless_buried, see_tag, see_branch, see_ref, point, behind_ref, copy_ref, copy_refs, ref_ids, copy_part, finish, copy_tags, mirror_program}
 use Rattle.mirror.proofs.Parts.{log-behind, down-onto}
@@ -277,7 +277,7 @@ fits-quiet (Manifest id) bytes there reason e = absurd (ok-err (bytes_eq bytes t
 fits-quiet (Chunk id) bytes there reason e = absurd (ok-err (bytes_eq bytes there) reason e)
 fits-quiet (Branch name) bytes there reason e = absurd (ok-err (bytes_eq bytes there) reason e)
 fits-quiet (Tag name) bytes there reason e = absurd (ok-err (bytes_eq bytes there) reason e)
-fits-quiet (TagGone name) bytes there reason e = absurd (ok-err (bytes_eq bytes there) reason e)
+fits-quiet (Tombstone name) bytes there reason e = absurd (ok-err (bytes_eq bytes there) reason e)
 fits-quiet (Lease id) bytes there reason e = absurd (ok-err (bytes_eq bytes there) reason e)
 
 -- ---- objects
@@ -360,7 +360,7 @@ module _ (r : RefId) (id : Id12) (w : Work) (next : Next) (f : (v : Work) → Mi
   mild-buried there false = mild-if (same_id12 there id) (next (with_ref r id false w)) (refused w (Differs (key_of r))) (f (with_ref r id false w)) (mild-refused w (Differs (key_of r)) (quiet-differs (key_of r)))
 
   mild-tag : (there : Id12) → Mild (see_tag r id w next there)
-  mild-tag there = mild-asks w To (Get (TagGone r.name)) buried_told (unless_buried r id w next there) (fair-buried (TagGone r.name)) (mild-buried there)
+  mild-tag there = mild-asks w To (Get (Tombstone r.name)) buried_told (unless_buried r id w next there) (fair-buried (Tombstone r.name)) (mild-buried there)
 
   mild-branch : (there : Resolved) → Mild (see_branch r id w next there)
   mild-branch there = mild-if (same_id12 there.id id) (next (with_ref r id false w)) (move_ref r id w next there.version) (f (with_ref r id false w)) (mild-moved there.version)

@@ -18,7 +18,8 @@ use Rattle.mirror.specs.declared.lines.Link.{Link}
 use Rattle.mirror.specs.declared.mirror.Mirror.{Mirror}
 use Rattle.mirror.specs.declared.mirror.Object.TheVariants as object
 use Rattle.mirror.specs.declared.mirror.Stage.TheVariants as stage
-use Rattle.mirror.specs.Lines.{Line, Pops, Takes}
+use Rattle.mirror.specs.Lines.{Takes}
+use Rattle.repo_objects.specs.Lines.{Line, Pops}
 use Rattle.mirror.specs.Programs.{Work, Answer, refused, on_told, take_object, put_object, copy_line, copy_refs, down, down_onto, with_ref, behind_ref, point, see_tag, see_branch, see_ref, move_ref, differs, unless_buried}
 use Rattle.mirror.specs.inside.Registers.{Refs}
 use Rattle.mirror.specs.inside.Working.{work_of, mirror_rest, on_first, behind_refs, behind_line, behind_snapshot, behind_log, behind_files, behind_manifest, behind_chunk, each_ref, phase_left, refs_left, others_left}
@@ -32,7 +33,7 @@ with-chunks m all todo = record m { chunks = record { all = all; todo = todo } }
 
 pub chunk-none : (m : Mirror) (q : Line) → Pops m.chunks None q → mirror_rest (record m { chunks = q; stage = stage.Put (object.Manifest m.file) }) ≡ behind_chunk m (work_of m)
 chunk-none m q p =
-    subst (λ (ids : List Id12). mirror_rest (record (with-chunks m ids q.todo) { stage = stage.Put (object.Manifest m.file) }) ≡ behind_chunk m (work_of m)) (sym p.1) (sym (chunks-end m.chunks.todo (work_of m) (λ v. put_object (Manifest m.file) m.manifest v (behind_manifest m)) p.0.0))
+    subst (λ (l : Line). mirror_rest (record m { chunks = l; stage = stage.Put (object.Manifest m.file) }) ≡ behind_chunk m (work_of m)) (sym p.1) (sym (chunks-end m.chunks.todo (work_of m) (λ v. put_object (Manifest m.file) m.manifest v (behind_manifest m)) p.0))
 
 pub chunk-some : (m : Mirror) (id : Id12) (q : Line) → Pops m.chunks (Some id) q → mirror_rest (record m { chunks = q; stage = stage.Take (object.Chunk id) }) ≡ behind_chunk m (work_of m)
 chunk-some m id q p =
@@ -47,15 +48,15 @@ abbrev log-or : Mirror → Bool → Answer
 log-or m first = if first then behind_log m (work_of m) else take_object (Txn m.link.id) (work_of m) (log-behind m.link.id (work_of m) (behind_log m))
 
 files-done : (m : Mirror) (q : Line) (first : Bool) → Pops m.files None q → same_id12 m.link.id initial_id ≡ first → log-or m first ≡ behind_manifest m (work_of m)
-files-done m q first p e = ap (λ (b : Bool). log-or m b) (sym e) ∙ sym (manifests-end m.files.todo (work_of m) (behind_files m) p.0.0)
+files-done m q first p e = ap (λ (b : Bool). log-or m b) (sym e) ∙ sym (manifests-end m.files.todo (work_of m) (behind_files m) p.0)
 
 pub files-initial : (m : Mirror) (q : Line) → Pops m.files None q → same_id12 m.link.id initial_id ≡ true → mirror_rest (record m { files = q; stage = stage.Put object.Snapshot }) ≡ behind_manifest m (work_of m)
 files-initial m q p e =
-    subst (λ (ids : List Id12). mirror_rest (record (with-files m ids q.todo) { stage = stage.Put object.Snapshot }) ≡ behind_manifest m (work_of m)) (sym p.1) (files-done m q true p e)
+    subst (λ (l : Line). mirror_rest (record m { files = l; stage = stage.Put object.Snapshot }) ≡ behind_manifest m (work_of m)) (sym p.1) (files-done m q true p e)
 
 pub files-none : (m : Mirror) (q : Line) → Pops m.files None q → same_id12 m.link.id initial_id ≡ false → mirror_rest (record m { files = q; stage = stage.Take object.Log }) ≡ behind_manifest m (work_of m)
 files-none m q p e =
-    subst (λ (ids : List Id12). mirror_rest (record (with-files m ids q.todo) { stage = stage.Take object.Log }) ≡ behind_manifest m (work_of m)) (sym p.1) (files-done m q false p e)
+    subst (λ (l : Line). mirror_rest (record m { files = l; stage = stage.Take object.Log }) ≡ behind_manifest m (work_of m)) (sym p.1) (files-done m q false p e)
 
 -- behind the log comes the snapshot
 pub log-done : (m : Mirror) → mirror_rest (record m { stage = stage.Put object.Snapshot }) ≡ behind_log m (work_of m)

@@ -1,5 +1,4 @@
 pub mod Parts
-pub mod Sets
 pub mod Fair
 pub mod Answering
 pub mod Stepping

@@ -5,7 +5,7 @@ use Rattle.ice_ids.specs.declared.Id12.{Id12}
 use Rattle.snapshot_file.specs.declared.snapshot.SnapshotFile.{SnapshotFile}
 use Rattle.manifest_file.specs.declared.manifest.ManifestFile.{ManifestFile}
 use Rattle.held_manifest.specs.Objects.{objects_of}
-use Rattle.repo_objects.specs.declared.bad.Bad.{Bad}
+use Rattle.repo_objects.specs.declared.bad_objects.Bad.{Bad}
 use Rattle.repo_objects.specs.Readings.{read_snapshot}
 use Rattle.object_store.specs.declared.keys.Key.{Key}
 use Rattle.object_store.specs.declared.keys.Key.TheVariants.{Snapshot, Manifest}
@@ -18,7 +18,7 @@ use Rattle.mirror.specs.declared.lines.Link.{Link}
 use Rattle.mirror.specs.declared.mirror.Mirror.{Mirror}
 use Rattle.mirror.specs.declared.mirror.Object.{Object}
 use Rattle.mirror.specs.declared.mirror.Object.TheVariants as object
-use Rattle.mirror.specs.Lines.{Line, found, enter_ids, enter_rows}
+use Rattle.repo_objects.specs.Lines.{Line, found, enter_ids, enter_rows}
 use Rattle.mirror_reports.specs.Told.{file_under}
 use Rattle.mirror.specs.Programs.{Work, Answer, refused, on_told, unless_differs, with_manifest, with_snapshot, fill_snapshot, with_copied, copy_line}
 use Rattle.mirror.specs.inside.Working.{work_of, behind_line, behind_snapshot, behind_manifest, behind_chunk, behind_object, Entered, Lands, Refuses}

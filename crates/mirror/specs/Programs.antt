@@ -9,7 +9,7 @@ use Rattle.held_manifest.specs.Objects.{objects_of}
 use Rattle.ref_file.specs.Refs.{ref_bytes}
 use Rattle.repo_objects.specs.Readings.{read_snapshot, read_manifest, read_log}
 use Rattle.object_store.specs.declared.keys.Key.{Key}
-use Rattle.object_store.specs.declared.keys.Key.TheVariants.{Snapshot, Manifest, Txn, Chunk, Branch, Tag, TagGone, Lease}
+use Rattle.object_store.specs.declared.keys.Key.TheVariants.{Snapshot, Manifest, Txn, Chunk, Branch, Tag, Tombstone, Lease}
 use Rattle.object_store.specs.declared.keys.Part.{Part}
 use Rattle.object_store.specs.declared.keys.Part.TheVariants as part
 use Rattle.object_store.specs.declared.keys.Why.{Why}
@@ -32,7 +32,7 @@ use Rattle.mirror_reports.specs.declared.outcome.MirrorRef.{MirrorRef}
 use Rattle.mirror_reports.specs.declared.outcome.Mirrored.{Mirrored}
 use Rattle.mirror_reports.specs.declared.outcome.MirrorEnd.{MirrorEnd}
 use Rattle.mirror.specs.declared.lines.Link.{Link}
-use Rattle.mirror.specs.Lines.{Line, found, enter_ids, enter_rows}
+use Rattle.repo_objects.specs.Lines.{Line, found, enter_ids, enter_rows}
 use Rattle.mirror_reports.specs.Told.{key_of, listed_told, bytes_told, ref_told, buried_told, put_told, made_told, moved_told, file_under, is_fine}
 
 -- What a mirror holds: the snapshots that it has copied, the manifests and the objects with chunks that it has come to, how many objects it has put, and
@@ -78,7 +78,7 @@ counted (Manifest id) m = record m { manifests = m.manifests + 1 }
 counted (Chunk id) m = record m { chunks = m.chunks + 1 }
 counted (Branch name) m = m
 counted (Tag name) m = m
-counted (TagGone name) m = m
+counted (Tombstone name) m = m
 counted (Lease id) m = m
 
 abbrev pub with_put : Key → Work → Work
@@ -92,7 +92,7 @@ cause_of (Manifest id) = why.Set
 cause_of (Chunk id) = why.Set
 cause_of (Branch name) = why.Create
 cause_of (Tag name) = why.Tag
-cause_of (TagGone name) = why.Drop
+cause_of (Tombstone name) = why.Drop
 cause_of (Lease id) = why.Lease
 
 -- whether what stands in the target under a key is fine, where these bytes are the source's
@@ -103,7 +103,7 @@ fits_there (Manifest id) bytes there = Ok (bytes_eq bytes there)
 fits_there (Chunk id) bytes there = Ok (bytes_eq bytes there)
 fits_there (Branch name) bytes there = Ok (bytes_eq bytes there)
 fits_there (Tag name) bytes there = Ok (bytes_eq bytes there)
-fits_there (TagGone name) bytes there = Ok (bytes_eq bytes there)
+fits_there (Tombstone name) bytes there = Ok (bytes_eq bytes there)
 fits_there (Lease id) bytes there = Ok (bytes_eq bytes there)
 
 -- where it is fine it goes on
@@ -219,7 +219,7 @@ unless_buried r id w next there true = differs r w
 unless_buried r id w next there false = if same_id12 there id then next (with_ref r id false w) else differs r w
 
 abbrev pub see_tag : RefId → Id12 → Work → (Work → Answer) → Id12 → Answer
-see_tag r id w next there = asks w To (Get (TagGone r.name)) buried_told (unless_buried r id w next there)
+see_tag r id w next there = asks w To (Get (Tombstone r.name)) buried_told (unless_buried r id w next there)
 
 abbrev pub see_branch : RefId → Id12 → Work → (Work → Answer) → Resolved → Answer
 see_branch r id w next there = if same_id12 there.id id then next (with_ref r id false w) else move_ref r id w next there.version
@@ -255,7 +255,7 @@ ref_ids (Snapshot id ∷ keys) = ref_ids keys
 ref_ids (Manifest id ∷ keys) = ref_ids keys
 ref_ids (Txn id ∷ keys) = ref_ids keys
 ref_ids (Chunk id ∷ keys) = ref_ids keys
-ref_ids (TagGone name ∷ keys) = ref_ids keys
+ref_ids (Tombstone name ∷ keys) = ref_ids keys
 ref_ids (Lease id ∷ keys) = ref_ids keys
 
 -- lists a part of the source, and copies the refs of it that stand

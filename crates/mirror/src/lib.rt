@@ -4,7 +4,10 @@
 mod laws;
 mod lines;
 mod mirror;
+mod pointing;
 mod register;
+mod source;
+mod target;
 
 pub use laws::fair_law;
 pub use mirror::Mirror;

@@ -180,7 +180,7 @@ fn enter_live(
             name: name.copy(alloc)?,
         })?,
         Key::Snapshot(_) | Key::Manifest(_) | Key::Txn(_) | Key::Chunk(_) => {}
-        Key::TagGone(_) | Key::Lease(_) => {}
+        Key::Tombstone(_) | Key::Lease(_) => {}
     }
     Ok(())
 }

@@ -13,7 +13,7 @@ use Rattle.store_api.proofs.Programs.{events_of-others, own-one, good-waits}
 use Rattle.two_stores.specs.declared.side.Side.{Side}
 use Rattle.two_stores.specs.declared.side.Side.TheVariants.{From, To}
 use Rattle.two_stores.specs.Sides.{other}
-use Rattle.mirror.proofs.Sets.{first-is, later-is, first-or-later, none-in}
+use Rattle.ice_ids.proofs.Elements.{first-is, later-is, first-or-later, none-in}
 use Rattle.mirror_calls.specs.Deeds.{Deed, Did}
 use Rattle.mirror_calls.specs.Journals.{deeds_in, on_this, deeds_on, GoesOn}
 use Rattle.mirror_calls.proofs.Later.{with-deed}

@@ -1,12 +1,12 @@
 -- Why a reply refuses a mirror.
-use Rattle.std.proofs.Common.{◌≡◌, ℕ, inl, inr, Bool, true, false, List, refl, ap, subst}
+use Rattle.std.proofs.Common.{◌≡◌, ℕ, inl, inr, Bool, true, false, List, [], ◌∷◌, refl, ap, subst}
 use Rattle.std.specs.Prelude.{Option, Some, None, Result, Ok, Err}
 use Rattle.ice_ids.specs.declared.Id12.{Id12}
 use Rattle.snapshot_file.specs.declared.snapshot.SnapshotFile.{SnapshotFile}
-use Rattle.repo_objects.specs.declared.bad.Bad.{Bad}
+use Rattle.repo_objects.specs.declared.bad_objects.Bad.{Bad}
 use Rattle.repo_objects.specs.Readings.{read_snapshot, read_ref}
 use Rattle.object_store.specs.declared.keys.Key.{Key}
-use Rattle.object_store.specs.declared.keys.Key.TheVariants.{Snapshot, Branch, Tag}
+use Rattle.object_store.specs.declared.keys.Key.TheVariants.{Snapshot, Manifest, Txn, Chunk, Branch, Tag, Tombstone, Lease}
 use Rattle.object_store.specs.declared.keys.Part.{Part}
 use Rattle.object_store.specs.declared.keys.Why.{Why}
 use Rattle.object_store.specs.declared.keys.Why.TheVariants.{Reset}
@@ -26,10 +26,11 @@ use Rattle.repo_read.specs.declared.answers.Resolved.{Resolved}
 use Rattle.repo_read.specs.Answers.{at_key, snapshot_told, resolved_at}
 use Rattle.two_stores.specs.declared.side.Side.{Side}
 use Rattle.two_stores.specs.declared.side.Side.TheVariants.{From, To}
+use Rattle.two_stores.specs.Pairs.{is_ref}
 use Rattle.mirror_reports.specs.Told.{fault_of, listed_told, bytes_told, if_there, ref_told, buried_told, put_told, made_told, moved_told}
 use Rattle.mirror_calls.specs.Deeds.{Deed, Did, HasGot, HasMissed, HasRef, HasPut}
 use Rattle.mirror_calls.specs.Copies.{HasParent}
-use Rattle.mirror_calls.specs.Reports.{IsRef, ReadsBad, Cause}
+use Rattle.mirror_calls.specs.Reports.{IsRef, IsObject, ReadsBad, Cause, PutRef, put_if, put_by}
 use Rattle.mirror_calls.proofs.Later.{with-deed, did-now}
 
 pub err-is : {A : Type 0} (a b : Refusal) → ◌≡◌ {A = Result A Refusal} (Err a) (Err b) → a ≡ b
@@ -54,19 +55,19 @@ failed deeds From op done why e = by-cause (with-deed deeds From op (R.Failed do
 failed deeds To op done why e = by-cause (with-deed deeds To op (R.Failed done)) TargetFault why e (record { op = op; done = done; did = did-now deeds To op (R.Failed done) })
 
 -- ---- gets
-missed : (deeds : List Deed) (side : Side) (key : Key) (now : ℕ) → Cause (with-deed deeds side (Get key) (R.Got (Absent now))) (Missing key)
-missed deeds From key now = inl (record { now = now; did = did-now deeds From (Get key) (R.Got (Absent now)) })
-missed deeds To key now = inr (record { now = now; did = did-now deeds To (Get key) (R.Got (Absent now)) })
+missed : (deeds : List Deed) (side : Side) (key : Key) (now : ℕ) → IsObject key → Cause (with-deed deeds side (Get key) (R.Got (Absent now))) (Missing key)
+missed deeds From key now is = (is, inl (record { now = now; did = did-now deeds From (Get key) (R.Got (Absent now)) }))
+missed deeds To key now is = (is, inr (record { now = now; did = did-now deeds To (Get key) (R.Got (Absent now)) }))
 
-pub cause-bytes : (deeds : List Deed) (side : Side) (key : Key) (reply : Reply) (why : Refusal) → Fits (Get key) reply → bytes_told side key reply ≡ Err why → Cause (with-deed deeds side (Get key) reply) why
-cause-bytes deeds side key (R.Got (Found bytes version now)) why f e = absurd (ok-err bytes why e)
-cause-bytes deeds side key (R.Got (Absent now)) why f e = by-cause (with-deed deeds side (Get key) (R.Got (Absent now))) (Missing key) why e (missed deeds side key now)
-cause-bytes deeds side key (R.Failed x) why f e = failed deeds side (Get key) x why e
-cause-bytes deeds side key (R.New x) why f e = absurd f
-cause-bytes deeds side key (R.Over x) why f e = absurd f
-cause-bytes deeds side key (R.Gone x) why f e = absurd f
-cause-bytes deeds side key (R.GoneAt x) why f e = absurd f
-cause-bytes deeds side key (R.Listed x) why f e = absurd f
+pub cause-bytes : (deeds : List Deed) (side : Side) (key : Key) (reply : Reply) (why : Refusal) → IsObject key → Fits (Get key) reply → bytes_told side key reply ≡ Err why → Cause (with-deed deeds side (Get key) reply) why
+cause-bytes deeds side key (R.Got (Found bytes version now)) why is f e = absurd (ok-err bytes why e)
+cause-bytes deeds side key (R.Got (Absent now)) why is f e = by-cause (with-deed deeds side (Get key) (R.Got (Absent now))) (Missing key) why e (missed deeds side key now is)
+cause-bytes deeds side key (R.Failed x) why is f e = failed deeds side (Get key) x why e
+cause-bytes deeds side key (R.New x) why is f e = absurd f
+cause-bytes deeds side key (R.Over x) why is f e = absurd f
+cause-bytes deeds side key (R.Gone x) why is f e = absurd f
+cause-bytes deeds side key (R.GoneAt x) why is f e = absurd f
+cause-bytes deeds side key (R.Listed x) why is f e = absurd f
 
 -- a get was answered with these bytes
 got-now : (deeds : List Deed) (side : Side) (key : Key) (bytes : List ℕ) (version : Version) (now : ℕ) → HasGot (with-deed deeds side (Get key) (R.Got (Found bytes version now))) side key bytes
@@ -94,7 +95,7 @@ cause-bad deeds key bytes (Err bad) why reads g e = by-cause deeds (BadFile key 
 
 pub cause-snapshot : (deeds : List Deed) (id : Id12) (reply : Reply) (why : Refusal) → Fits (Get (Snapshot id)) reply → snapshot_told id reply ≡ Err why → Cause (with-deed deeds From (Get (Snapshot id)) reply) why
 cause-snapshot deeds id (R.Got (Found bytes version now)) why f e = cause-bad (with-deed deeds From (Get (Snapshot id)) (R.Got (Found bytes version now))) (Snapshot id) bytes (read_snapshot id bytes) why (λ bad x. x) (got-now deeds From (Snapshot id) bytes version now) e
-cause-snapshot deeds id (R.Got (Absent now)) why f e = by-cause (with-deed deeds From (Get (Snapshot id)) (R.Got (Absent now))) (Missing (Snapshot id)) why e (missed deeds From (Snapshot id) now)
+cause-snapshot deeds id (R.Got (Absent now)) why f e = by-cause (with-deed deeds From (Get (Snapshot id)) (R.Got (Absent now))) (Missing (Snapshot id)) why e (missed deeds From (Snapshot id) now tt)
 cause-snapshot deeds id (R.Failed x) why f e = failed deeds From (Get (Snapshot id)) x why e
 cause-snapshot deeds id (R.New x) why f e = absurd f
 cause-snapshot deeds id (R.Over x) why f e = absurd f
@@ -271,3 +272,58 @@ moved-now deeds key id bytes old (R.New y) x f e = absurd f
 moved-now deeds key id bytes old (R.Gone y) x f e = absurd f
 moved-now deeds key id bytes old (R.GoneAt y) x f e = absurd f
 moved-now deeds key id bytes old (R.Listed y) x f e = absurd f
+
+-- ---- which refs were put
+pub object-no-ref : (key : Key) → IsObject key → is_ref key ≡ false
+object-no-ref (Snapshot id) o = refl
+object-no-ref (Manifest id) o = refl
+object-no-ref (Txn id) o = refl
+object-no-ref (Chunk id) o = refl
+object-no-ref (Branch name) o = absurd o
+object-no-ref (Tag name) o = absurd o
+object-no-ref (Tombstone name) o = absurd o
+object-no-ref (Lease id) o = absurd o
+
+-- this ref was put
+abbrev pub a-put : Key → List ℕ → List PutRef
+a-put key bytes = record { key = key; bytes = bytes } ∷ []
+
+pub made-none : (key : Key) (bytes : List ℕ) (w : Why) (reply : Reply) (why : Refusal) → made_told reply ≡ Err why → put_by (PutNew key bytes w) reply ≡ []
+made-none key bytes w (R.New (New_done version now)) why e = absurd (ok-err tt why e)
+made-none key bytes w (R.New (Present version now)) why e = refl
+made-none key bytes w (R.Failed x) why e = refl
+made-none key bytes w (R.Got x) why e = refl
+made-none key bytes w (R.Over x) why e = refl
+made-none key bytes w (R.Gone x) why e = refl
+made-none key bytes w (R.GoneAt x) why e = refl
+made-none key bytes w (R.Listed x) why e = refl
+
+pub made-put : (key : Key) (bytes : List ℕ) (w : Why) (reply : Reply) (x : Unit {0}) → is_ref key ≡ true → Fits (PutNew key bytes w) reply → made_told reply ≡ Ok x → put_by (PutNew key bytes w) reply ≡ a-put key bytes
+made-put key bytes w (R.New (New_done version now)) x is f e = ap (λ (b : Bool). put_if b (record { key = key; bytes = bytes })) is
+made-put key bytes w (R.New (Present version now)) x is f e = absurd (err-ok x (RefExists version) e)
+made-put key bytes w (R.Failed y) x is f e = absurd (err-ok x TargetFault e)
+made-put key bytes w (R.Got y) x is f e = absurd f
+made-put key bytes w (R.Over y) x is f e = absurd f
+made-put key bytes w (R.Gone y) x is f e = absurd f
+made-put key bytes w (R.GoneAt y) x is f e = absurd f
+made-put key bytes w (R.Listed y) x is f e = absurd f
+
+pub moved-none : (key : Key) (bytes : List ℕ) (old : Version) (reply : Reply) (why : Refusal) → moved_told reply ≡ Err why → put_by (PutOver key bytes old Reset) reply ≡ []
+moved-none key bytes old (R.Over (Over_done version now)) why e = absurd (ok-err tt why e)
+moved-none key bytes old (R.Over (Over_moved there now)) why e = refl
+moved-none key bytes old (R.Failed x) why e = refl
+moved-none key bytes old (R.Got x) why e = refl
+moved-none key bytes old (R.New x) why e = refl
+moved-none key bytes old (R.Gone x) why e = refl
+moved-none key bytes old (R.GoneAt x) why e = refl
+moved-none key bytes old (R.Listed x) why e = refl
+
+pub moved-put : (key : Key) (bytes : List ℕ) (old : Version) (reply : Reply) (x : Unit {0}) → is_ref key ≡ true → Fits (PutOver key bytes old Reset) reply → moved_told reply ≡ Ok x → put_by (PutOver key bytes old Reset) reply ≡ a-put key bytes
+moved-put key bytes old (R.Over (Over_done version now)) x is f e = ap (λ (b : Bool). put_if b (record { key = key; bytes = bytes })) is
+moved-put key bytes old (R.Over (Over_moved there now)) x is f e = absurd (err-ok x (Has_moved there) e)
+moved-put key bytes old (R.Failed y) x is f e = absurd (err-ok x TargetFault e)
+moved-put key bytes old (R.Got y) x is f e = absurd f
+moved-put key bytes old (R.New y) x is f e = absurd f
+moved-put key bytes old (R.Gone y) x is f e = absurd f
+moved-put key bytes old (R.GoneAt y) x is f e = absurd f
+moved-put key bytes old (R.Listed y) x is f e = absurd f

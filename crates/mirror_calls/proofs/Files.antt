@@ -13,7 +13,7 @@ use Rattle.repo_objects.specs.Readings.{snapshot_by}
 use Rattle.repo_objects.specs.Laws.{SnapshotLaw, IsProper}
 use Rattle.object_store.proofs.Slots.{bytes-true, bytes-same}
 use Rattle.object_store.specs.declared.keys.Key.{Key}
-use Rattle.object_store.specs.declared.keys.Key.TheVariants.{Snapshot, Manifest, Txn, Chunk, Branch, Tag, TagGone, Lease}
+use Rattle.object_store.specs.declared.keys.Key.TheVariants.{Snapshot, Manifest, Txn, Chunk, Branch, Tag, Tombstone, Lease}
 use Rattle.store_api.specs.declared.machines.Refusal.{Refusal}
 use Rattle.store_api.specs.declared.machines.Refusal.TheVariants.{TooLarge}
 use Rattle.two_stores.specs.declared.side.Side.TheVariants.{From, To}
@@ -151,7 +151,7 @@ module _ (law : SnapshotLaw) where
   is-fine (Chunk id) bytes there e = bytes-true bytes there (ok-is (bytes_eq bytes there) true e)
   is-fine (Branch name) bytes there e = bytes-true bytes there (ok-is (bytes_eq bytes there) true e)
   is-fine (Tag name) bytes there e = bytes-true bytes there (ok-is (bytes_eq bytes there) true e)
-  is-fine (TagGone name) bytes there e = bytes-true bytes there (ok-is (bytes_eq bytes there) true e)
+  is-fine (Tombstone name) bytes there e = bytes-true bytes there (ok-is (bytes_eq bytes there) true e)
   is-fine (Lease id) bytes there e = bytes-true bytes there (ok-is (bytes_eq bytes there) true e)
 
 -- what isn't, isn't
@@ -184,7 +184,7 @@ not-fine (Txn id) bytes there e f = unequal bytes there e f
 not-fine (Chunk id) bytes there e f = unequal bytes there e f
 not-fine (Branch name) bytes there e f = unequal bytes there e f
 not-fine (Tag name) bytes there e f = unequal bytes there e f
-not-fine (TagGone name) bytes there e f = unequal bytes there e f
+not-fine (Tombstone name) bytes there e f = unequal bytes there e f
 not-fine (Lease id) bytes there e f = unequal bytes there e f
 
 pub fine-self : (key : Key) (bytes : List ℕ) → IsFine key bytes bytes
@@ -194,7 +194,7 @@ fine-self (Txn id) bytes = refl
 fine-self (Chunk id) bytes = refl
 fine-self (Branch name) bytes = refl
 fine-self (Tag name) bytes = refl
-fine-self (TagGone name) bytes = refl
+fine-self (Tombstone name) bytes = refl
 fine-self (Lease id) bytes = refl
 
 -- ---- comparing may be too long

@@ -1,22 +1,29 @@
 -- What a mirror did stays done: what is known by it stays known.
 use Rattle.std.proofs.Common.{◌≡◌, ◌⊎◌, ℕ, inl, inr, Bool, true, false, List, [], ◌∷◌, ◌++◌, refl, sym, ◌∙◌, ap, subst, append_assoc, append-nil, arith}
 use Rattle.std.specs.Prelude.{◌+◌, ◌≤◌, IfSome, Option, Some, None, Contains}
-use Rattle.std.proofs.lemmas.List.Elements.{Contains-append_left, Contains-push}
+use Rattle.std.proofs.lemmas.List.Elements.{Contains-append_left, Contains-push, Contains-push_cases}
 use Rattle.ice_ids.specs.declared.Id12.{Id12}
 use Rattle.snapshot_file.specs.declared.snapshot.SnapshotFile.{SnapshotFile}
 use Rattle.manifest_file.specs.declared.manifest.ManifestFile.{ManifestFile}
 use Rattle.object_store.specs.declared.keys.Key.{Key}
+use Rattle.object_store.specs.declared.keys.Why.{Why}
 use Rattle.object_store.specs.declared.events.Version.{Version}
 use Rattle.object_store.specs.declared.events.Op.{Op}
+use Rattle.object_store.specs.declared.events.Op.TheVariants.{Get, PutNew, PutOver, Remove, RemoveAt, List as ListPart}
+use Rattle.object_store.specs.declared.events.New.TheVariants.{Done as New_done, Present}
+use Rattle.object_store.specs.declared.events.Over.TheVariants.{Done as Over_done, Moved as Over_moved}
 use Rattle.object_store.specs.declared.events.Reply.{Reply}
+use Rattle.object_store.specs.declared.events.Reply.TheVariants as R
+use Rattle.two_stores.specs.Pairs.{moves_ref}
 use Rattle.two_stores.specs.declared.side.Side.{Side}
+use Rattle.two_stores.specs.declared.side.Side.TheVariants.{To}
 use Rattle.mirror_reports.specs.declared.outcome.RefId.{RefId}
 use Rattle.mirror_reports.specs.declared.outcome.MirrorRef.{MirrorRef}
 use Rattle.mirror_reports.specs.declared.outcome.Mirrored.{Mirrored}
 use Rattle.mirror.specs.Programs.{no_puts}
 use Rattle.mirror_calls.specs.Deeds.{Deed, Did, HasGot, HasMissed, HasRef, HasPut}
 use Rattle.mirror_calls.specs.Copies.{IsThere, IsCopied, AreChunksCopied, IsManifestCopied, IsNamedCopied, IsSnapshotCopied, HasParent, IsChainCopied, first, further}
-use Rattle.mirror_calls.specs.Reports.{WasPointed, NotBuried, IsPointed, IsMirrored, count_deed, counts_from, counts_of, snapshot_gets}
+use Rattle.mirror_calls.specs.Reports.{WasPointed, NotBuried, IsPointed, IsMirrored, PutRef, put_if, put_by, refs_put, told_put, refs_told, count_deed, counts_from, counts_of, snapshot_gets, IsObject, IsCompared, AreCompared}
 
 pub record Later (old new : List Deed) : Type 0 where
   pub more : List Deed
@@ -117,6 +124,112 @@ tally-same deeds side op reply counts none e = e ∙ (sym (none (counts_of deeds
 -- what is counted
 pub tally-more : (deeds : List Deed) (side : Side) (op : Op) (reply : Reply) (counts : Mirrored) → counts ≡ counts_of deeds → count_deed op reply counts ≡ counts_of (with-deed deeds side op reply)
 tally-more deeds side op reply counts e = ap (count_deed op reply) e ∙ sym (counts-more no_puts deeds (record { side = side; op = op; reply = reply }))
+
+-- ---- which refs were put
+-- those that are told as put are those that were
+abbrev pub Puts : List Deed → List MirrorRef → Type 0
+Puts deeds refs = refs_told refs ≡ refs_put deeds
+
+puts-more : (deeds : List Deed) (d : Deed) → refs_put (deeds ++ d ∷ []) ≡ refs_put deeds ++ put_by d.op d.reply
+puts-more [] d = append-nil (put_by d.op d.reply)
+puts-more (x ∷ deeds) d = ap (λ (l : List PutRef). put_by x.op x.reply ++ l) (puts-more deeds d) ∙ sym (append_assoc (put_by x.op x.reply) (refs_put deeds) (put_by d.op d.reply))
+
+told-more : (refs : List MirrorRef) (r : MirrorRef) → refs_told (refs ++ r ∷ []) ≡ refs_told refs ++ told_put r
+told-more [] r = append-nil (told_put r)
+told-more (x ∷ refs) r = ap (λ (l : List PutRef). told_put x ++ l) (told-more refs r) ∙ sym (append_assoc (told_put x) (refs_told refs) (told_put r))
+
+-- behind what puts no ref
+pub puts-same : (deeds : List Deed) (side : Side) (op : Op) (reply : Reply) (refs : List MirrorRef) → put_by op reply ≡ [] → Puts deeds refs → Puts (with-deed deeds side op reply) refs
+puts-same deeds side op reply refs none z =
+    z ∙ (sym (append-nil (refs_put deeds)) ∙ (ap (λ (l : List PutRef). refs_put deeds ++ l) (sym none) ∙ sym (puts-more deeds (record { side = side; op = op; reply = reply }))))
+
+-- behind the put of a ref, of which it is told
+pub puts-with : (deeds : List Deed) (side : Side) (op : Op) (reply : Reply) (refs : List MirrorRef) (r : MirrorRef) → put_by op reply ≡ told_put r → Puts deeds refs → Puts (with-deed deeds side op reply) (refs ++ r ∷ [])
+puts-with deeds side op reply refs r same z =
+    told-more refs r ∙ (ap (λ (l : List PutRef). l ++ told_put r) z ∙ (ap (λ (l : List PutRef). refs_put deeds ++ l) (sym same) ∙ sym (puts-more deeds (record { side = side; op = op; reply = reply }))))
+
+-- where it is told of one that was left
+pub puts-left : (deeds : List Deed) (refs : List MirrorRef) (r : MirrorRef) → told_put r ≡ [] → Puts deeds refs → Puts deeds (refs ++ r ∷ [])
+puts-left deeds refs r none z = told-more refs r ∙ (ap (λ (l : List PutRef). refs_told refs ++ l) none ∙ (append-nil (refs_told refs) ∙ z))
+
+-- what changes no ref puts none
+new-none : (key : Key) (bytes : List ℕ) (why : Why) (reply : Reply) → moves_ref (PutNew key bytes why) ≡ false → put_by (PutNew key bytes why) reply ≡ []
+new-none key bytes why (R.New (New_done version now)) e = ap (λ (b : Bool). put_if b (record { key = key; bytes = bytes })) e
+new-none key bytes why (R.New (Present version now)) e = refl
+new-none key bytes why (R.Failed x) e = refl
+new-none key bytes why (R.Got x) e = refl
+new-none key bytes why (R.Over x) e = refl
+new-none key bytes why (R.Gone x) e = refl
+new-none key bytes why (R.GoneAt x) e = refl
+new-none key bytes why (R.Listed x) e = refl
+
+over-none : (key : Key) (bytes : List ℕ) (old : Version) (why : Why) (reply : Reply) → moves_ref (PutOver key bytes old why) ≡ false → put_by (PutOver key bytes old why) reply ≡ []
+over-none key bytes old why (R.Over (Over_done version now)) e = ap (λ (b : Bool). put_if b (record { key = key; bytes = bytes })) e
+over-none key bytes old why (R.Over (Over_moved there now)) e = refl
+over-none key bytes old why (R.Failed x) e = refl
+over-none key bytes old why (R.Got x) e = refl
+over-none key bytes old why (R.New x) e = refl
+over-none key bytes old why (R.Gone x) e = refl
+over-none key bytes old why (R.GoneAt x) e = refl
+over-none key bytes old why (R.Listed x) e = refl
+
+pub still-none : (op : Op) (reply : Reply) → moves_ref op ≡ false → put_by op reply ≡ []
+still-none (PutNew key bytes why) reply e = new-none key bytes why reply e
+still-none (PutOver key bytes old why) reply e = over-none key bytes old why reply e
+still-none (Get key) reply e = refl
+still-none (ListPart part) reply e = refl
+still-none (Remove key why) reply e = refl
+still-none (RemoveAt key old why) reply e = refl
+
+-- ---- what stood there already
+pub compared-later : {old new : List Deed} {key : Key} {bytes : List ℕ} → Later old new → IsCompared old key bytes → IsCompared new key bytes
+compared-later l c = record { there = c.there; got = got-later l c.got; fine = c.fine }
+
+-- an operation is no put of an object that was told that one stands there
+abbrev pub Unmet : Op → Reply → Type 0
+Unmet op reply = (key : Key) (bytes : List ℕ) (why : Why) (version : Version) (now : ℕ) → IsObject key → op ≡ PutNew key bytes why → reply ≡ R.New (Present version now) → ⊥
+
+abbrev deed-of : Side → Op → Reply → Deed
+deed-of side op reply = record { side = side; op = op; reply = reply }
+
+pub compared-none : (deeds : List Deed) (side : Side) (op : Op) (reply : Reply) → Unmet op reply → AreCompared deeds → AreCompared (with-deed deeds side op reply)
+compared-none deeds side op reply unmet c key bytes why version now is did = go (Contains-push_cases deeds (deed-of side op reply) (deed-of To (PutNew key bytes why) (R.New (Present version now))) did)
+  where
+    go : Did deeds To (PutNew key bytes why) (R.New (Present version now)) ⊎ (deed-of side op reply ≡ deed-of To (PutNew key bytes why) (R.New (Present version now))) → IsCompared (with-deed deeds side op reply) key bytes
+    go (inl d) = compared-later (later-step deeds side op reply) (c key bytes why version now is d)
+    go (inr e) = absurd (unmet key bytes why version now is (ap (λ (d : Deed). d.op) e) (ap (λ (d : Deed). d.reply) e))
+
+-- all are compared but this one, which is to be
+abbrev pub ButOne : List Deed → Key → List ℕ → Type 0
+ButOne deeds key bytes = (k : Key) (b : List ℕ) (why : Why) (version : Version) (now : ℕ) → IsObject k → Did deeds To (PutNew k b why) (R.New (Present version now)) → IsCompared deeds k b ⊎ ((key ≡ k) × (bytes ≡ b))
+
+pub same-put : (key k : Key) (bytes b : List ℕ) (why w : Why) → PutNew key bytes why ≡ PutNew k b w → (key ≡ k) × (bytes ≡ b)
+same-put key k bytes b why w e =
+    let keys : key ≡ k = cc in
+    let equal : bytes ≡ b = cc in
+    (keys, equal)
+
+pub but-one : (deeds : List Deed) (key : Key) (bytes : List ℕ) (why : Why) (reply : Reply) → AreCompared deeds → ButOne (with-deed deeds To (PutNew key bytes why) reply) key bytes
+but-one deeds key bytes why reply c k b w version now is did = go (Contains-push_cases deeds (deed-of To (PutNew key bytes why) reply) (deed-of To (PutNew k b w) (R.New (Present version now))) did)
+  where
+    go : Did deeds To (PutNew k b w) (R.New (Present version now)) ⊎ (deed-of To (PutNew key bytes why) reply ≡ deed-of To (PutNew k b w) (R.New (Present version now))) → IsCompared (with-deed deeds To (PutNew key bytes why) reply) k b ⊎ ((key ≡ k) × (bytes ≡ b))
+    go (inl d) = inl (compared-later (later-step deeds To (PutNew key bytes why) reply) (c k b w version now is d))
+    go (inr e) = inr (same-put key k bytes b why w (ap (λ (d : Deed). d.op) e))
+
+get-no-put : (key k : Key) (b : List ℕ) (why : Why) → Get key ≡ PutNew k b why → ⊥
+get-no-put key k b why e = cc
+
+-- the get of what stands there tells that it is fine
+pub one-compared : (deeds : List Deed) (key : Key) (bytes : List ℕ) (reply : Reply) → ButOne deeds key bytes → IsCompared (with-deed deeds To (Get key) reply) key bytes → AreCompared (with-deed deeds To (Get key) reply)
+one-compared deeds key bytes reply but one k b why version now is did = go (Contains-push_cases deeds (deed-of To (Get key) reply) (deed-of To (PutNew k b why) (R.New (Present version now))) did)
+  where
+    either : IsCompared deeds k b ⊎ ((key ≡ k) × (bytes ≡ b)) → IsCompared (with-deed deeds To (Get key) reply) k b
+    either (inl c) = compared-later (later-step deeds To (Get key) reply) c
+    either (inr same) = subst (λ (x : Key). IsCompared (with-deed deeds To (Get key) reply) x b) same.0 (subst (λ (y : List ℕ). IsCompared (with-deed deeds To (Get key) reply) key y) same.1 one)
+
+    go : Did deeds To (PutNew k b why) (R.New (Present version now)) ⊎ (deed-of To (Get key) reply ≡ deed-of To (PutNew k b why) (R.New (Present version now))) → IsCompared (with-deed deeds To (Get key) reply) k b
+    go (inl d) = either (but k b why version now is d)
+    go (inr e) = absurd (get-no-put key k b why (ap (λ (d : Deed). d.op) e))
 
 pub gets-append : (a b : List Deed) → snapshot_gets (a ++ b) ≡ snapshot_gets a + snapshot_gets b
 gets-append [] b = omega arith

@@ -6,7 +6,7 @@ use Rattle.ice_ids.specs.Text.{IsId12, initial_id}
 use Rattle.repo_objects.specs.Readings.{snapshot_by, manifest_by, ref_of}
 use Rattle.repo_objects.specs.Laws.{RefLaw}
 use Rattle.object_store.specs.declared.keys.Key.{Key}
-use Rattle.object_store.specs.declared.keys.Key.TheVariants.{Snapshot, Manifest, Txn, Chunk, Branch, Tag, TagGone, Lease}
+use Rattle.object_store.specs.declared.keys.Key.TheVariants.{Snapshot, Manifest, Txn, Chunk, Branch, Tag, Tombstone, Lease}
 use Rattle.object_store.specs.declared.keys.Why.{Why}
 use Rattle.object_store.specs.declared.keys.Why.TheVariants.{Reset}
 use Rattle.object_store.specs.declared.events.Version.{Version}
@@ -107,7 +107,7 @@ module _ (client : ℕ) (start journal : List Event) where
     new-polite law (Chunk id) bytes why m w = tt
     new-polite law (Branch name) bytes why m w = (names-put law (Branch name) bytes m.point, inl w)
     new-polite law (Tag name) bytes why m w = (names-put law (Tag name) bytes m.point, w)
-    new-polite law (TagGone name) bytes why m w = absurd m
+    new-polite law (Tombstone name) bytes why m w = absurd m
     new-polite law (Lease id) bytes why m w = absurd m
 
     over-polite : RefLaw → (key : Key) (bytes : List ℕ) (old : Version) (why : Why) → MayPutOver deeds bytes old key → why ≡ Reset → IsPolite journal (PutOver key bytes old why)
@@ -117,7 +117,7 @@ module _ (client : ℕ) (start journal : List Event) where
     over-polite law (Txn id) bytes old why m w = absurd m
     over-polite law (Chunk id) bytes old why m w = absurd m
     over-polite law (Tag name) bytes old why m w = absurd m
-    over-polite law (TagGone name) bytes old why m w = absurd m
+    over-polite law (Tombstone name) bytes old why m w = absurd m
     over-polite law (Lease id) bytes old why m w = absurd m
 
     pub target-polite : RefLaw → (op : Op) → MayDo deeds To op → IsPolite journal op

@@ -13,7 +13,7 @@ use Rattle.repo_objects.specs.Readings.{snapshot_by, manifest_by, ref_of}
 use Rattle.repo_objects.specs.Trees.{NamesManifest, NamesChunk, manifest_put, or_empty, tree_under}
 use Rattle.repo_objects.specs.Laws.{SnapshotLaw, RefLaw, initial_bytes}
 use Rattle.object_store.specs.declared.keys.Key.{Key}
-use Rattle.object_store.specs.declared.keys.Key.TheVariants.{Snapshot, Manifest, Txn, Chunk, Branch, Tag, TagGone, Lease}
+use Rattle.object_store.specs.declared.keys.Key.TheVariants.{Snapshot, Manifest, Txn, Chunk, Branch, Tag, Tombstone, Lease}
 use Rattle.object_store.specs.declared.keys.Why.{Why}
 use Rattle.object_store.specs.declared.events.Version.{Version}
 use Rattle.object_store.specs.declared.events.Op.{Op}
@@ -38,7 +38,7 @@ use Rattle.two_stores.proofs.PairLaws.{KeepsPair-weaker, LeadsPair-weaker}
 use Rattle.mirror_reports.specs.declared.outcome.MirrorEnd.{MirrorEnd}
 use Rattle.mirror_reports.specs.Told.{key_of}
 use Rattle.mirror.specs.Programs.{mirror_program}
-use Rattle.mirror.proofs.Sets.{first-is, later-is, first-or-later, none-in}
+use Rattle.ice_ids.proofs.Elements.{first-is, later-is, first-or-later, none-in}
 use Rattle.mirror_calls.specs.Deeds.{Deed, Did, HasGot, HasRef}
 use Rattle.mirror_calls.specs.Copies.{IsThere, IsSnapshotCopied, SaysBut, IsChainCopied, first, further}
 use Rattle.mirror_calls.specs.Owed.{MayPoint, MayDo}
@@ -394,7 +394,7 @@ points-well by start tell To seen (PutNew (Snapshot id) bytes why) w = λ is o. 
 points-well by start tell To seen (PutNew (Manifest id) bytes why) w = λ is o. cc
 points-well by start tell To seen (PutNew (Txn id) bytes why) w = λ is o. cc
 points-well by start tell To seen (PutNew (Chunk id) bytes why) w = λ is o. cc
-points-well by start tell To seen (PutNew (TagGone name) bytes why) w = λ is o. cc
+points-well by start tell To seen (PutNew (Tombstone name) bytes why) w = λ is o. cc
 points-well by start tell To seen (PutNew (Lease id) bytes why) w = λ is o. cc
 points-well by start tell To seen (PutOver (Branch name) bytes old why) (deeds, d, may) = λ is o. names-same by start seen tell deeds d o (Branch name) bytes deeds (later-same deeds) may.0.point
 points-well by start tell To seen (PutOver (Tag name) bytes old why) (deeds, d, may) = λ is o. absurd may.0
@@ -402,7 +402,7 @@ points-well by start tell To seen (PutOver (Snapshot id) bytes old why) w = λ i
 points-well by start tell To seen (PutOver (Manifest id) bytes old why) w = λ is o. cc
 points-well by start tell To seen (PutOver (Txn id) bytes old why) w = λ is o. cc
 points-well by start tell To seen (PutOver (Chunk id) bytes old why) w = λ is o. cc
-points-well by start tell To seen (PutOver (TagGone name) bytes old why) w = λ is o. cc
+points-well by start tell To seen (PutOver (Tombstone name) bytes old why) w = λ is o. cc
 points-well by start tell To seen (PutOver (Lease id) bytes old why) w = λ is o. cc
 points-well by start tell To seen (Get key) w = tt
 points-well by start tell To seen (Remove key why) w = tt

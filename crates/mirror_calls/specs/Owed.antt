@@ -6,7 +6,7 @@ use Rattle.manifest_file.specs.declared.manifest.ManifestFile.{ManifestFile}
 use Rattle.ref_file.specs.Refs.{ref_bytes}
 use Rattle.repo_objects.specs.Readings.{snapshot_by, manifest_by}
 use Rattle.object_store.specs.declared.keys.Key.{Key}
-use Rattle.object_store.specs.declared.keys.Key.TheVariants.{Snapshot, Manifest, Txn, Chunk, Branch, Tag, TagGone, Lease}
+use Rattle.object_store.specs.declared.keys.Key.TheVariants.{Snapshot, Manifest, Txn, Chunk, Branch, Tag, Tombstone, Lease}
 use Rattle.object_store.specs.declared.keys.Why.TheVariants.{Reset}
 use Rattle.object_store.specs.declared.events.Version.{Version}
 use Rattle.object_store.specs.declared.events.Op.{Op}
@@ -15,7 +15,7 @@ use Rattle.two_stores.specs.declared.side.Side.{Side}
 use Rattle.two_stores.specs.declared.side.Side.TheVariants.{From, To}
 use Rattle.mirror.specs.Programs.{cause_of}
 use Rattle.mirror_calls.specs.Deeds.{Deed, HasGot, HasMissed, HasRef}
-use Rattle.mirror_calls.specs.Copies.{AreChunksCopied, IsNamedCopied, SaysBut, IsChainCopied}
+use Rattle.mirror_calls.specs.Copies.{AreChunksCopied, IsNamedCopied, SaysBut, HasParent, IsChainCopied}
 
 -- A manifest is put as it was got in the source, behind the objects in which it has chunks.
 pub record MayPutManifest (deeds : List Deed) (id : Id12) (bytes : List ℕ) : Type 0 where
@@ -24,7 +24,8 @@ pub record MayPutManifest (deeds : List Deed) (id : Id12) (bytes : List ℕ) : T
   pub read : manifest_by id bytes ≡ Some manifest
   pub chunks : AreChunksCopied deeds manifest
 
--- A snapshot is put as it was got in the source, but for its parent, behind what it names and all before it.
+-- A snapshot is put as it was got in the source, but for its parent, behind what it names and all before it. Its parent is one with which a get in the
+-- source read it: it may have been cut there meanwhile.
 pub record MayPutSnapshot (deeds : List Deed) (id : Id12) (bytes : List ℕ) : Type 0 where
   pub source : List ℕ
   pub got : HasGot deeds From (Snapshot id) source
@@ -32,6 +33,7 @@ pub record MayPutSnapshot (deeds : List Deed) (id : Id12) (bytes : List ℕ) : T
   pub read : snapshot_by id source ≡ Some snap
   pub named : IsNamedCopied deeds id snap
   pub says : SaysBut id snap bytes
+  pub parent : HasParent deeds id says.parent
   pub before : IfSome says.parent (IsChainCopied deeds)
 
 -- A ref is made to name the snapshot that the source's named, behind that and all before it.
@@ -61,7 +63,7 @@ MayPut deeds bytes (Txn id) = HasGot deeds From (Txn id) bytes
 MayPut deeds bytes (Chunk id) = HasGot deeds From (Chunk id) bytes
 MayPut deeds bytes (Branch name) = MayMake deeds (Branch name) bytes
 MayPut deeds bytes (Tag name) = MayMake deeds (Tag name) bytes
-MayPut deeds bytes (TagGone name) = ⊥
+MayPut deeds bytes (Tombstone name) = ⊥
 MayPut deeds bytes (Lease id) = ⊥
 
 abbrev pub MayPutOver : List Deed → List ℕ → Version → Key → Type 0
@@ -71,7 +73,7 @@ MayPutOver deeds bytes old (Txn id) = ⊥
 MayPutOver deeds bytes old (Chunk id) = ⊥
 MayPutOver deeds bytes old (Branch name) = MayMove deeds (Branch name) bytes old
 MayPutOver deeds bytes old (Tag name) = ⊥
-MayPutOver deeds bytes old (TagGone name) = ⊥
+MayPutOver deeds bytes old (Tombstone name) = ⊥
 MayPutOver deeds bytes old (Lease id) = ⊥
 
 -- The source is read alone; in the target nothing is removed, and what is put was got in the source.

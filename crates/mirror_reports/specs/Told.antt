@@ -6,6 +6,8 @@ use Rattle.ice_ids.specs.declared.Id12.{Id12}
 use Rattle.ice_ids.specs.Text.{same_id12}
 use Rattle.snapshot_file.specs.declared.snapshot.SnapshotFile.{SnapshotFile}
 use Rattle.snapshot_file.specs.Layout.{snapshot_bytes}
+use Rattle.repo_objects.specs.declared.bad_objects.Unread.{Unread}
+use Rattle.repo_objects.specs.declared.bad_objects.Unread.TheVariants as unread
 use Rattle.repo_objects.specs.Readings.{read_ref, snapshot_by}
 use Rattle.object_store.specs.declared.keys.Key.{Key}
 use Rattle.object_store.specs.declared.keys.Key.TheVariants.{Branch, Tag}
@@ -98,6 +100,12 @@ abbrev pub if_equal : Result (List ℕ) Refusal → Result (List ℕ) Refusal �
 if_equal (Ok a) (Ok b) = Ok (bytes_eq a b)
 if_equal (Ok a) (Err why) = Err why
 if_equal (Err why) b = Err why
+
+-- the snapshot that was read, if there is one
+abbrev pub if_read : Result SnapshotFile Unread → Result (Option SnapshotFile) Refusal
+if_read (Ok s) = Ok (Some s)
+if_read (Err (unread.Bad bad)) = Ok None
+if_read (Err unread.NoMemory) = Err R.NoMemory
 
 -- whether two snapshots differ in the parent alone
 abbrev pub same_but_parent : Option SnapshotFile → Option SnapshotFile → Result Bool Refusal

@@ -5,7 +5,7 @@ ghost use Rattle.flat_tables.specs.File.{Writes};
 ghost use Rattle.snapshot_file.specs.Layout.{snapshot_bytes};
 ghost use Rattle.repo_read.specs.Answers.{Answers};
 ghost use Rattle.repo_objects.specs.Readings.{snapshot_by};
-ghost use Rattle.mirror_reports.specs.Told.{file_of, file_under, same_parent, same_but_parent, is_fine};
+ghost use Rattle.mirror_reports.specs.Told.{file_of, file_under, same_parent, same_but_parent, if_read, is_fine};
 
 use flat_tables::{Kind, WriteFault};
 use ice_base::{Bytes, Text};
@@ -70,6 +70,17 @@ pub fn file_under(
     }
 }
 
+/// The snapshot that was read, if there is one; `NoMemory` where memory was wanting for that. It takes none itself.
+fn if_read(read: Result<Loaded, Unread>) -> Result<Option<Loaded>, Refusal>
+    ensures { result ≡ if_read read }
+{
+    match read {
+        Ok(loaded) => Ok(Some(loaded)),
+        Err(Unread::Bad(_)) => Ok(None),
+        Err(Unread::NoMemory) => Err(Refusal::NoMemory),
+    }
+}
+
 /// A snapshot of this id, if the bytes stand for one; `NoMemory` without memory.
 fn read_of(alloc: Global, id: Id12, bytes: &Bytes) -> Result<Option<Loaded>, Refusal>
     ensures { Answers (Ok (snapshot_by id bytes.now)) result }
@@ -77,11 +88,7 @@ fn read_of(alloc: Global, id: Id12, bytes: &Bytes) -> Result<Option<Loaded>, Ref
     let Ok(copy) = bytes.copy(alloc) else {
         return Err(Refusal::NoMemory);
     };
-    match Loaded::read(alloc, id, copy) {
-        Ok(loaded) => Ok(Some(loaded)),
-        Err(Unread::Bad(_)) => Ok(None),
-        Err(Unread::NoMemory) => Err(Refusal::NoMemory),
-    }
+    if_read(Loaded::read(alloc, id, copy))
 }
 
 /// Whether two snapshots differ in the parent alone. Refusals: `TooLarge`, `NoMemory`.

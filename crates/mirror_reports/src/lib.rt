@@ -3,6 +3,6 @@
 
 pub mod files;
 pub mod outcome;
-pub mod told;
+pub mod replies;
 
 pub use outcome::{MirrorEnd, MirrorRef, MirrorRefs, Mirrored, RefId};

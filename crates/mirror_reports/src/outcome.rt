@@ -72,8 +72,8 @@ impl RefId {
 
     /// The key of its tombstone, if it is a tag.
     pub fn tombstone(&self, alloc: Global) -> Result<Key, AllocError>
-        ensures { IfOk result (λ key. key ≡ Key.TagGone self.now.name) }
+        ensures { IfOk result (λ key. key ≡ Key.Tombstone self.now.name) }
     {
-        Ok(Key::TagGone(self.name.copy(alloc)?))
+        Ok(Key::Tombstone(self.name.copy(alloc)?))
     }
 }

@@ -6,7 +6,7 @@ use Rattle.std.proofs.lemmas.List.{take-append-le}
 use Rattle.std.proofs.lemmas.Slice.Eq.{bytes_eq-Decides}
 use Rattle.ice_ids.specs.declared.Id12.{Id12}
 use Rattle.object_store.specs.declared.keys.Key.{Key}
-use Rattle.object_store.specs.declared.keys.Key.TheVariants.{Snapshot, Manifest, Txn, Chunk, Branch, Tag, TagGone, Lease}
+use Rattle.object_store.specs.declared.keys.Key.TheVariants.{Snapshot, Manifest, Txn, Chunk, Branch, Tag, Tombstone, Lease}
 use Rattle.object_store.specs.declared.events.Op.{Op}
 use Rattle.object_store.specs.declared.events.Op.TheVariants.{Get, PutNew, PutOver, Remove, RemoveAt, List as ListPart}
 use Rattle.object_store.specs.declared.events.Event.{Event}
@@ -29,7 +29,7 @@ same_key-refl (Txn a) = bytes-same a.0
 same_key-refl (Chunk a) = bytes-same a.0
 same_key-refl (Branch a) = bytes-same a
 same_key-refl (Tag a) = bytes-same a
-same_key-refl (TagGone a) = bytes-same a
+same_key-refl (Tombstone a) = bytes-same a
 same_key-refl (Lease a) = bytes-same a.0
 
 pub same_key-true : (a b : Key) → same_key a b ≡ true → a ≡ b
@@ -39,7 +39,7 @@ same_key-true (Txn a) (Txn b) e = ap Txn (id-true a b e)
 same_key-true (Chunk a) (Chunk b) e = ap Chunk (id-true a b e)
 same_key-true (Branch a) (Branch b) e = ap Branch (bytes-true a b e)
 same_key-true (Tag a) (Tag b) e = ap Tag (bytes-true a b e)
-same_key-true (TagGone a) (TagGone b) e = ap TagGone (bytes-true a b e)
+same_key-true (Tombstone a) (Tombstone b) e = ap Tombstone (bytes-true a b e)
 same_key-true (Lease a) (Lease b) e = ap Lease (id-true a b e)
 same_key-true _ _ e = cc
 

@@ -9,7 +9,7 @@ use Rattle.std.proofs.lemmas.Cmp.{nat_cmp_total, tied_itself}
 use Rattle.std.proofs.lemmas.Map.Text.{is_eq-slice_cmp}
 use Rattle.std.proofs.lemmas.Option.{slice_get-map}
 use Rattle.object_store.specs.declared.keys.Key.{Key}
-use Rattle.object_store.specs.declared.keys.Key.TheVariants.{Snapshot, Manifest, Txn, Chunk, Branch, Tag, TagGone, Lease}
+use Rattle.object_store.specs.declared.keys.Key.TheVariants.{Snapshot, Manifest, Txn, Chunk, Branch, Tag, Tombstone, Lease}
 use Rattle.object_store.specs.declared.keys.Part.{Part}
 use Rattle.object_store.specs.Machine.{same_key, part_of, listing_cmp}
 use Rattle.object_store.specs.Orders.{place_of, key_cmp}
@@ -39,10 +39,10 @@ same-tie (Txn a) (Txn b) = names-tie a.0 b.0
 same-tie (Chunk a) (Chunk b) = names-tie a.0 b.0
 same-tie (Branch a) (Branch b) = names-tie a b
 same-tie (Tag a) (Tag b) = names-tie a b
-same-tie (TagGone a) (TagGone b) = names-tie a b
+same-tie (Tombstone a) (Tombstone b) = names-tie a b
 same-tie (Lease a) (Lease b) = names-tie a.0 b.0
-same-tie (Tag a) (TagGone b) = then-less (slice_cmp nat_cmp a b)
-same-tie (TagGone a) (Tag b) = then-greater (slice_cmp nat_cmp a b)
+same-tie (Tag a) (Tombstone b) = then-less (slice_cmp nat_cmp a b)
+same-tie (Tombstone a) (Tag b) = then-greater (slice_cmp nat_cmp a b)
 same-tie _ _ = refl
 
 pub within-part : (part : Part) (a b : Key) → part_of a ≡ part → part_of b ≡ part → key_cmp a b ≡ Less → listing_cmp a b ≡ Less

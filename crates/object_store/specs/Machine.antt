@@ -9,7 +9,7 @@ use Rattle.std.specs.Cmp.Lexicographic.{slice_cmp}
 use Rattle.ice_ids.specs.Text.{same_id12}
 use Rattle.ice_base.specs.Names.{same_name}
 use Rattle.object_store.specs.declared.keys.Key.{Key}
-use Rattle.object_store.specs.declared.keys.Key.TheVariants.{Snapshot, Manifest, Txn, Chunk, Branch, Tag, TagGone, Lease}
+use Rattle.object_store.specs.declared.keys.Key.TheVariants.{Snapshot, Manifest, Txn, Chunk, Branch, Tag, Tombstone, Lease}
 use Rattle.object_store.specs.declared.keys.Part.{Part}
 use Rattle.object_store.specs.declared.keys.Part.TheVariants.{Snapshots, Manifests, Txns, Chunks, Branches, Tags, Leases}
 use Rattle.object_store.specs.declared.events.Version.{Version}
@@ -39,7 +39,7 @@ same_key (Txn a) (Txn b) = same_id12 a b
 same_key (Chunk a) (Chunk b) = same_id12 a b
 same_key (Branch a) (Branch b) = same_name a b
 same_key (Tag a) (Tag b) = same_name a b
-same_key (TagGone a) (TagGone b) = same_name a b
+same_key (Tombstone a) (Tombstone b) = same_name a b
 same_key (Lease a) (Lease b) = same_id12 a b
 same_key (Snapshot a) other = false
 same_key (Manifest a) other = false
@@ -47,7 +47,7 @@ same_key (Txn a) other = false
 same_key (Chunk a) other = false
 same_key (Branch a) other = false
 same_key (Tag a) other = false
-same_key (TagGone a) other = false
+same_key (Tombstone a) other = false
 same_key (Lease a) other = false
 
 abbrev pub part_of : Key → Part
@@ -57,7 +57,7 @@ part_of (Txn id) = Txns
 part_of (Chunk id) = Chunks
 part_of (Branch name) = Branches
 part_of (Tag name) = Tags
-part_of (TagGone name) = Tags
+part_of (Tombstone name) = Tags
 part_of (Lease id) = Leases
 
 -- the bytes of a key's id or name
@@ -68,7 +68,7 @@ name_of (Txn id) = id.0
 name_of (Chunk id) = id.0
 name_of (Branch name) = name
 name_of (Tag name) = name
-name_of (TagGone name) = name
+name_of (Tombstone name) = name
 name_of (Lease id) = id.0
 
 -- a tag stands before its tombstone
@@ -79,7 +79,7 @@ rank_of (Txn id) = 0
 rank_of (Chunk id) = 0
 rank_of (Branch name) = 0
 rank_of (Tag name) = 0
-rank_of (TagGone name) = 1
+rank_of (Tombstone name) = 1
 rank_of (Lease id) = 0
 
 -- the order of a listing

@@ -18,7 +18,7 @@ impl fmt::Display for Key {
             Key::Chunk(id) => write!(f, "chunks/{id}"),
             Key::Branch(name) => write!(f, "refs/branch.{name}/ref.json"),
             Key::Tag(name) => write!(f, "refs/tag.{name}/ref.json"),
-            Key::TagGone(name) => write!(f, "refs/tag.{name}/ref.json.deleted"),
+            Key::Tombstone(name) => write!(f, "refs/tag.{name}/ref.json.deleted"),
             Key::Lease(id) => write!(f, "leases/{id}"),
         }
     }

@@ -20,7 +20,7 @@ pub enum Key {
     /// A tag: names a snapshot, and never moves.
     Tag(RefName),
     /// The tombstone of a tag.
-    TagGone(RefName),
+    Tombstone(RefName),
     /// A lease: names the snapshot on which a session is open.
     Lease(Id12),
 }

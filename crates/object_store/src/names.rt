@@ -18,7 +18,7 @@ impl Key {
             (Key::Chunk(a), Key::Chunk(b)) => a.0 == b.0,
             (Key::Branch(a), Key::Branch(b)) => a == b,
             (Key::Tag(a), Key::Tag(b)) => a == b,
-            (Key::TagGone(a), Key::TagGone(b)) => a == b,
+            (Key::Tombstone(a), Key::Tombstone(b)) => a == b,
             (Key::Lease(a), Key::Lease(b)) => a.0 == b.0,
             _ => false,
         }
@@ -34,7 +34,7 @@ impl Key {
             Key::Txn(_) => Part::Txns,
             Key::Chunk(_) => Part::Chunks,
             Key::Branch(_) => Part::Branches,
-            Key::Tag(_) | Key::TagGone(_) => Part::Tags,
+            Key::Tag(_) | Key::Tombstone(_) => Part::Tags,
             Key::Lease(_) => Part::Leases,
         }
     }
@@ -50,7 +50,7 @@ impl Key {
             Key::Chunk(id) => Ok(Key::Chunk(*id)),
             Key::Branch(name) => Ok(Key::Branch(name.copy(alloc)?)),
             Key::Tag(name) => Ok(Key::Tag(name.copy(alloc)?)),
-            Key::TagGone(name) => Ok(Key::TagGone(name.copy(alloc)?)),
+            Key::Tombstone(name) => Ok(Key::Tombstone(name.copy(alloc)?)),
             Key::Lease(id) => Ok(Key::Lease(*id)),
         }
     }

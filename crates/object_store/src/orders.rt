@@ -41,7 +41,7 @@ impl Key {
             | Key::Txn(id)
             | Key::Chunk(id)
             | Key::Lease(id) => &id.0,
-            Key::Branch(name) | Key::Tag(name) | Key::TagGone(name) => name.as_bytes(),
+            Key::Branch(name) | Key::Tag(name) | Key::Tombstone(name) => name.as_bytes(),
         }
     }
 
@@ -50,7 +50,7 @@ impl Key {
         ensures { result ≡ rank_of self.now }
     {
         match self {
-            Key::TagGone(_) => 1,
+            Key::Tombstone(_) => 1,
             Key::Snapshot(_)
             | Key::Manifest(_)
             | Key::Txn(_)

@@ -131,8 +131,8 @@ still-told law draw tells clients place task outcome start old xs ys own good al
     subst (λ (h : List Event). TellsAt draw place task start outcome h) (append_assoc old xs ys)
     (law (only tells (place + 1)) (ids_at draw place) task outcome start (old ++ xs) ys (others-each tells clients place own (old ++ xs) ys parts.1 all) told)
 
-one-log : (xs ys : List Event) → (longer xs ys ≡ xs) ⊎ (longer xs ys ≡ ys)
-one-log xs ys = by_test (nat_lt (length xs) (length ys))
+one-journal : (xs ys : List Event) → (longer xs ys ≡ xs) ⊎ (longer xs ys ≡ ys)
+one-journal xs ys = by_test (nat_lt (length xs) (length ys))
   where
     by_test : (b : Bool) → ((if b then ys else xs) ≡ xs) ⊎ ((if b then ys else xs) ≡ ys)
     by_test true = inr refl
@@ -150,7 +150,7 @@ module _ (law : OutcomeLaw) (tells : Bool) (old : Known Event) (l r j : Known Ev
     (h : HasPlaces old.owners (length ps + 1))
     (a : RanAll tells (record old { owners = lower_part (length ps + 1) old.owners }) l ps outcomes)
     (b : RanOne tells (length ps) (record old { owners = upper_part (length ps + 1) old.owners }) r p outcome)
-    (is : j ≡ joined l r) (first : Follows client_of l.owners l.log j.log) (second : Follows client_of r.owners r.log j.log) where
+    (is : j ≡ joined l r) (first : Follows client_of l.owners l.journal j.journal) (second : Follows client_of r.owners r.journal j.journal) where
   abbrev at : ℕ
   at = length ps + 1
 
@@ -189,39 +189,39 @@ module _ (law : OutcomeLaw) (tells : Bool) (old : Known Event) (l r j : Known Ev
       differ : (place : ℕ) → place < length ps → place + 1 ≡ length ps + 1 → ⊥
       differ place less e = omega (arith, e, less)
 
-  module _ (draw : Draw) (tasks : List Task) (start : List Event) (told : IsTrue tells) (stand : AllStand draw tasks start tells (ps ++ p ∷ []) old.log) where
-    crew : AllTell draw tasks start Low outcomes a.events old.log l.log
+  module _ (draw : Draw) (tasks : List Task) (start : List Event) (told : IsTrue tells) (stand : AllStand draw tasks start tells (ps ++ p ∷ []) old.journal) where
+    crew : AllTell draw tasks start Low outcomes a.events old.journal l.journal
     crew = a.kept draw tasks start told (λ place q at_q. stand place q (get_more ps p q place at_q))
 
-    one : ((task : Task) → slice_get tasks (length ps) ≡ Some task → TellsAt draw (length ps) task start outcome r.log) × Tells draw tasks start High (length ps) b.events old.log r.log
+    one : ((task : Task) → slice_get tasks (length ps) ≡ Some task → TellsAt draw (length ps) task start outcome r.journal) × Tells draw tasks start High (length ps) b.events old.journal r.journal
     one = b.kept draw tasks start told (stand (length ps) p (get_last ps p))
 
     abbrev more : List Event
     more = crew.more ++ first.rest
 
-    goes : j.log ≡ old.log ++ more
-    goes = first.is ∙ (ap (λ (x : List Event). x ++ first.rest) crew.is ∙ append_assoc old.log crew.more first.rest)
+    goes : j.journal ≡ old.journal ++ more
+    goes = first.is ∙ (ap (λ (x : List Event). x ++ first.rest) crew.is ∙ append_assoc old.journal crew.more first.rest)
 
-    goes-one : j.log ≡ old.log ++ (one.1.more ++ second.rest)
-    goes-one = second.is ∙ (ap (λ (x : List Event). x ++ second.rest) one.1.is ∙ append_assoc old.log one.1.more second.rest)
+    goes-one : j.journal ≡ old.journal ++ (one.1.more ++ second.rest)
+    goes-one = second.is ∙ (ap (λ (x : List Event). x ++ second.rest) one.1.is ∙ append_assoc old.journal one.1.more second.rest)
 
     same-more : more ≡ one.1.more ++ second.rest
-    same-more = cancel old.log more (one.1.more ++ second.rest) (sym goes ∙ goes-one)
+    same-more = cancel old.journal more (one.1.more ++ second.rest) (sym goes ∙ goes-one)
 
     which : (crew.more ≡ more) ⊎ (one.1.more ≡ more)
     which = ⊎_elim
-        (λ e. inl (cancel old.log crew.more more (sym crew.is ∙ (sym e ∙ (sym log_is ∙ goes)))))
-        (λ e. inr (cancel old.log one.1.more more (sym one.1.is ∙ (sym e ∙ (sym log_is ∙ goes)))))
-        (one-log l.log r.log)
+        (λ e. inl (cancel old.journal crew.more more (sym crew.is ∙ (sym e ∙ (sym journal_is ∙ goes)))))
+        (λ e. inr (cancel old.journal one.1.more more (sym one.1.is ∙ (sym e ∙ (sym journal_is ∙ goes)))))
+        (one-journal l.journal r.journal)
       where
-        log_is : j.log ≡ longer l.log r.log
-        log_is = ap (λ (x : Known Event). x.log) is
+        journal_is : j.journal ≡ longer l.journal r.journal
+        journal_is = ap (λ (x : Known Event). x.journal) is
 
-    all-known : Each (IsKnown draw tasks start (IsOwner old.owners)) old.log more
-    all-known = known-joined draw tasks start Low High (IsOwner old.owners) splits old.log more crew.more first.rest one.1.more second.rest refl same-more crew.known one.1.known out-low out-high which
+    all-known : Each (IsKnown draw tasks start (IsOwner old.owners)) old.journal more
+    all-known = known-joined draw tasks start Low High (IsOwner old.owners) splits old.journal more crew.more first.rest one.1.more second.rest refl same-more crew.known one.1.known out-low out-high which
 
-    all-good : Each IsGood old.log more
-    all-good = Each-weaker (IsKnown draw tasks start (IsOwner old.owners)) IsGood (λ x e k. k.good) old.log more all-known
+    all-good : Each IsGood old.journal more
+    all-good = Each-weaker (IsKnown draw tasks start (IsOwner old.owners)) IsGood (λ x e k. k.good) old.journal more all-known
 
     alike-below : (place : ℕ) → place < length ps → place < length outcomes → events_of (place + 1) more ≡ events_of (place + 1) events
     alike-below place less less' = part-of Low (place + 1) crew.more first.rest (lower-places old.owners (length ps) place h less) out-low ∙ (crew.alike place less' ∙ sym (below-mine place less))
@@ -229,18 +229,18 @@ module _ (law : OutcomeLaw) (tells : Bool) (old : Known Event) (l r j : Known Ev
     alike-last : events_of (length ps + 1) more ≡ events_of (length ps + 1) events
     alike-last = ap (events_of (length ps + 1)) same-more ∙ (part-of High (length ps + 1) one.1.more second.rest (upper-place old.owners (length ps) h) out-high ∙ (one.1.alike ∙ sym last-mine))
 
-    told-below : (place : ℕ) (task : Task) (o : Outcome) → place < length ps → slice_get tasks place ≡ Some task → slice_get outcomes place ≡ Some o → TellsAt draw place task start o j.log
+    told-below : (place : ℕ) (task : Task) (o : Outcome) → place < length ps → slice_get tasks place ≡ Some task → slice_get outcomes place ≡ Some o → TellsAt draw place task start o j.journal
     told-below place task o less at_task at_o =
         let here = subst (λ (x : List Event). TellsAt draw place task start o x) crew.is (crew.told place task o at_task at_o) in
-        subst (λ (x : List Event). TellsAt draw place task start o x) (sym goes) (still-told law draw tells Low place task o start old.log crew.more first.rest (lower-places old.owners (length ps) place h less) all-good out-low here)
+        subst (λ (x : List Event). TellsAt draw place task start o x) (sym goes) (still-told law draw tells Low place task o start old.journal crew.more first.rest (lower-places old.owners (length ps) place h less) all-good out-low here)
 
-    told-last : (task : Task) → slice_get tasks (length ps) ≡ Some task → TellsAt draw (length ps) task start outcome j.log
+    told-last : (task : Task) → slice_get tasks (length ps) ≡ Some task → TellsAt draw (length ps) task start outcome j.journal
     told-last task at_task =
         let here = subst (λ (x : List Event). TellsAt draw (length ps) task start outcome x) one.1.is (one.0 task at_task) in
         subst (λ (x : List Event). TellsAt draw (length ps) task start outcome x) (sym goes-one)
-        (still-told law draw tells High (length ps) task outcome start old.log one.1.more second.rest (upper-place old.owners (length ps) h) (subst (λ (x : List Event). Each IsGood old.log x) same-more all-good) out-high here)
+        (still-told law draw tells High (length ps) task outcome start old.journal one.1.more second.rest (upper-place old.owners (length ps) h) (subst (λ (x : List Event). Each IsGood old.journal x) same-more all-good) out-high here)
 
-    all-tell : AllTell draw tasks start (IsOwner old.owners) (outcomes ++ outcome ∷ []) events old.log j.log
+    all-tell : AllTell draw tasks start (IsOwner old.owners) (outcomes ++ outcome ∷ []) events old.journal j.journal
     all-tell = record {
       more = more;
       is = goes;
@@ -265,9 +265,9 @@ module _ (law : OutcomeLaw) (tells : Bool) (old : Known Event) (l r j : Known Ev
             let grown = length-snoc outcomes outcome in
             alike-below place (omega (arith, less, differs, size, grown)) (omega (arith, less, differs, size, grown))
 
-        by_last : (place : ℕ) (task : Task) (o : Outcome) → place ≡ length ps → slice_get tasks place ≡ Some task → outcome ≡ o → TellsAt draw place task start o j.log
+        by_last : (place : ℕ) (task : Task) (o : Outcome) → place ≡ length ps → slice_get tasks place ≡ Some task → outcome ≡ o → TellsAt draw place task start o j.journal
         by_last place task o same at_task e =
-            subst (λ (n : ℕ). TellsAt draw n task start o j.log) (sym same) (subst (λ (x : Outcome). TellsAt draw (length ps) task start x j.log) e (told-last task (subst (λ (n : ℕ). slice_get tasks n ≡ Some task) same at_task)))
+            subst (λ (n : ℕ). TellsAt draw n task start o j.journal) (sym same) (subst (λ (x : Outcome). TellsAt draw (length ps) task start x j.journal) e (told-last task (subst (λ (n : ℕ). slice_get tasks n ≡ Some task) same at_task)))
 
   back : IsBack old j
   back = record {
@@ -337,8 +337,8 @@ RanAll-none tells old idle ps outcomes e f = subst (λ (qs : List (Play Outcome)
       plays = λ place p o at at_o. absurd (cc);
       kept = λ draw tasks start told stand. record {
         more = [];
-        is = sym (append-nil old.log);
-        known = Each-none (IsKnown draw tasks start (IsOwner old.owners)) old.log;
+        is = sym (append-nil old.journal);
+        known = Each-none (IsKnown draw tasks start (IsOwner old.owners)) old.journal;
         alike = λ place less. refl;
         told = λ place task o at_task at_o. absurd (cc);
       };
@@ -367,7 +367,7 @@ module _ (ws xs : List Worker) (x : Worker) (items : ws ≡ xs ++ x ∷ []) wher
 
   pub RanAll-crew : OutcomeLaw → (tells : Bool) (place : ℕ) (old l0 r0 l r j : Known Event) (outcomes after : List Outcome) (outcome : Outcome) → place ≡ length xs
       → l0 ≡ record old { owners = lower_part (place + 1) old.owners } → r0 ≡ record old { owners = upper_part (place + 1) old.owners } → HasPlaces old.owners (length ws)
-      → RanAll tells l0 l (map worker_rest xs) outcomes → RanOne tells place r0 r (worker_rest x) outcome → j ≡ joined l r → Follows client_of l.owners l.log j.log → Follows client_of r.owners r.log j.log
+      → RanAll tells l0 l (map worker_rest xs) outcomes → RanOne tells place r0 r (worker_rest x) outcome → j ≡ joined l r → Follows client_of l.owners l.journal j.journal → Follows client_of r.owners r.journal j.journal
       → after ≡ outcomes ++ outcome ∷ [] → RanAll tells old j (map worker_rest ws) after
   RanAll-crew law tells place old l0 r0 l r j outcomes after outcome place_is lower upper places a b is first second all =
       let ps : List (Play Outcome) = map worker_rest xs in

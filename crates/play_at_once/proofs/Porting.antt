@@ -46,7 +46,7 @@ module _ {T : Type 0} (tells : Bool) (place : ℕ) (before : Token T Event) wher
   pub IsClientAt-port : (n : ℕ) → n ≡ place + 1 → IsOwner (known before).owners (place + 1) → IsClientAt place (port_view tells n before).caller
   IsClientAt-port n number own = record { number = number; own = owner-owns tells n (cell_of before) (known before).owners (place + 1) own }
 
-  pub CanStep-port : (n : ℕ) (p : Play Outcome) → CanGoAt tells place p (known before).log → CanStep place (port_view tells n before) p
+  pub CanStep-port : (n : ℕ) (p : Play Outcome) → CanGoAt tells place p (known before).journal → CanStep place (port_view tells n before) p
   CanStep-port n p can told = let r = can told in record { draw = r.draw; tasks = r.tasks; start = r.start; stand = r.stand }
 
   -- what it came to
@@ -64,13 +64,13 @@ module _ {T : Type 0} (tells : Bool) (place : ℕ) (before : Token T Event) wher
     kept = λ draw tasks start told stand.
         let k = w.kept draw tasks start told stand in (
           λ task at_task.
-              subst (λ (x : Task). TellsAt draw place x start outcome (known after).log) (some_same k.0.task task (sym k.0.at ∙ at_task))
-              (ended_told (TellsAt draw place k.0.task start) tells (place + 1) outcome (known after).log k.0.leads),
+              subst (λ (x : Task). TellsAt draw place x start outcome (known after).journal) (some_same k.0.task task (sym k.0.at ∙ at_task))
+              (ended_told (TellsAt draw place k.0.task start) tells (place + 1) outcome (known after).journal k.0.leads),
           record {
             more = k.1.more;
             is = k.1.is;
             known = Each-weaker (IsKnown draw tasks start (λ x. owns (caller_of tells n (cell_of before) (known before).owners) x ≡ true)) (IsKnown draw tasks start (IsOwner (known before).owners))
-                (λ h e c. record { good = c.good; mine = λ own. c.mine (owner-owns tells n (cell_of before) (known before).owners e.client own) }) (known before).log k.1.more k.1.known;
+                (λ h e c. record { good = c.good; mine = λ own. c.mine (owner-owns tells n (cell_of before) (known before).owners e.client own) }) (known before).journal k.1.more k.1.known;
             alike = k.1.alike;
           },
         );

@@ -54,14 +54,14 @@ module _ (draw : Draw) (tasks : List Task) (ps : List (Play Outcome)) (begins : 
           PlaysTo-comes (task_play (ids_at draw place) task) r.q (events_of (place + 1) events) outcome comes (plays place r.q outcome r.at at)
 
   module _ (law : TaskLaw) (wells : All IsWellTask tasks) (faults : ℕ) (outcomes : List Outcome) (end : Known Event) (old new : List Event) where
-    -- the store tells the journal, which is then the log of the cell
-    tell : (run : RanAll true (starting old faults) end ps outcomes) → AllTell draw tasks old (IsOwner all_owners) outcomes run.events old end.log
+    -- the store tells the journal, which is then that of the cell
+    tell : (run : RanAll true (starting old faults) end ps outcomes) → AllTell draw tasks old (IsOwner all_owners) outcomes run.events old end.journal
     tell run = run.kept draw tasks old refl (AllStand-begin law draw tasks true old ps wells begins)
 
     of-client : (more : List Event) → Each (IsKnown draw tasks old (IsOwner all_owners)) old more → Each (IsOfClient draw tasks old) old more
     of-client more known = Each-weaker (IsKnown draw tasks old (IsOwner all_owners)) (IsOfClient draw tasks old) (λ h e k. k.mine (omega arith, tt)) old more known
 
-    ran-for : (tells : Bool) → RanAll tells (starting (told tells old) faults) end ps outcomes → told tells new ≡ end.log → RanAtOnce draw tasks tells outcomes old new
+    ran-for : (tells : Bool) → RanAll tells (starting (told tells old) faults) end ps outcomes → told tells new ≡ end.journal → RanAtOnce draw tasks tells outcomes old new
     ran-for true run journal =
         let t = tell run in
         let careful = of-client t.more t.known in
@@ -81,16 +81,16 @@ module _ (draw : Draw) (tasks : List Task) (ps : List (Play Outcome)) (begins : 
           run.plays;
     }
 
-    told-for : (tells : Bool) → RanAll tells (starting (told tells old) faults) end ps outcomes → told tells new ≡ end.log → IsTrue tells → AllTold draw tasks outcomes old new
+    told-for : (tells : Bool) → RanAll tells (starting (told tells old) faults) end ps outcomes → told tells new ≡ end.journal → IsTrue tells → AllTold draw tasks outcomes old new
     told-for true run journal is_told = subst (λ (h : List Event). AllTold draw tasks outcomes old h) (sym journal) (tell run).told
     told-for false run journal is_told = absurd (cc)
 
     module _ (tells by_view : Bool) (law_is : by_view ≡ tells) (start : Known Event) (start_is : start ≡ starting (told tells old) faults) (run : RanAll tells start end ps outcomes)
-        (whole : end.owners ≡ all_owners → told tells new ≡ end.log) where
+        (whole : end.owners ≡ all_owners → told tells new ≡ end.journal) where
       run' : RanAll tells (starting (told tells old) faults) end ps outcomes
       run' = subst (λ (k : Known Event). RanAll tells k end ps outcomes) start_is run
 
-      journal : told tells new ≡ end.log
+      journal : told tells new ≡ end.journal
       journal = whole run'.back.owners
 
       pub ran-whole : RanAtOnce draw tasks by_view outcomes old new

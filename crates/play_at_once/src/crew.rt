@@ -11,7 +11,7 @@ use crate::gate::Gate;
 use crate::runner::run_one;
 use play_outcome::Outcome;
 use play_tasks::{Worker, outcome_law};
-use shared_store::{Held, Shared};
+use shared_store::{LegalStore, Shared};
 use std::sync::Wait;
 use std::thread::{Threads, join};
 use store_api::Base;
@@ -23,17 +23,17 @@ pub(crate) fn run_crew<S: Base + Send, R: Threads + Wait + Sync, G: Gate + Sync>
     rt: &R,
     gate: &G,
     shared: &Shared<S>,
-    pass: Pass<Held<S>>,
+    pass: Pass<LegalStore<S>>,
     workers: Vec<Worker<'_>>,
     outcomes: Vec<Outcome>,
-) -> (Pass<Held<S>>, Vec<Outcome>)
+) -> (Pass<LegalStore<S>>, Vec<Outcome>)
     requires cell { IsPassOf shared.now.cell pass }
     requires idle { (known pass).has_turn ≡ false }
     requires places { HasPlaces (known pass).owners (vec_len workers) }
     requires small { vec_len workers < 2 ^ 32 - 1 }
     requires none { outcomes.items ≡ [] }
     requires room { vec_len workers ≤ vec_capacity outcomes }
-    requires stand { CanGo S.tells (map worker_rest workers.items) (known pass).log }
+    requires stand { CanGo S.tells (map worker_rest workers.items) (known pass).journal }
     ensures cell { IsPassOf shared.now.cell result.0 }
     ensures room { vec_capacity result.1 ≡ vec_capacity outcomes }
     ensures ran { RanAll S.tells (known pass) (known result.0) (map worker_rest workers.entry.items)
@@ -49,20 +49,20 @@ pub(crate) fn run_crew<S: Base + Send, R: Threads + Wait + Sync, G: Gate + Sync>
     let own = shared.split(&mut pass, place + 1);
     let ((mut pass, mut outcomes), (own, outcome)) = join(
         rt,
-        move || -> (Pass<Held<S>>, Vec<Outcome>)
+        move || -> (Pass<LegalStore<S>>, Vec<Outcome>)
             requires { IsSync R.row × IsSync G.row × IsPassOf shared.now.cell pass
                 × ((known pass).has_turn ≡ false)
                 × HasPlaces (known pass).owners (vec_len workers) × (vec_len workers < 2 ^ 32 - 1) × (outcomes.items ≡ [])
-                × (vec_len workers ≤ vec_capacity outcomes) × CanGo S.tells (map worker_rest workers.items) (known pass).log }
+                × (vec_len workers ≤ vec_capacity outcomes) × CanGo S.tells (map worker_rest workers.items) (known pass).journal }
             ensures { IsPassOf shared.entry.now.cell result.0
                 × (vec_capacity result.1 ≡ vec_capacity outcomes)
                 × RanAll S.tells (known pass) (known result.0) (map worker_rest workers.entry.items) result.1.items }
         { run_crew(rt, gate, shared, pass, workers, outcomes) },
-        move || -> (Pass<Held<S>>, Outcome)
+        move || -> (Pass<LegalStore<S>>, Outcome)
             requires { IsSync R.row × IsSync G.row × IsPassOf shared.now.cell own
                 × ((known own).has_turn ≡ false)
                 × IsOwner (known own).owners (place + 1) × (place < 2 ^ 32 - 1)
-                × CanGoAt S.tells place (worker_rest last) (known own).log }
+                × CanGoAt S.tells place (worker_rest last) (known own).journal }
             ensures { IsPassOf shared.entry.now.cell result.0
                 × RanOne S.tells place (known own) (known result.0) (worker_rest last.entry) result.1 }
         { run_one(rt, gate, shared, own, place, last) },

@@ -11,7 +11,7 @@ ghost use Rattle.play_at_once.specs.inside.Forking.{CanGoAt, RanOne};
 use crate::gate::Gate;
 use play_outcome::Outcome;
 use play_tasks::{Worker, outcome_law};
-use shared_store::{Held, Shared};
+use shared_store::{LegalStore, Shared};
 use std::sync::Wait;
 use store_api::{Base, Store};
 use turn_cell::Pass;
@@ -45,15 +45,15 @@ pub(crate) fn run_one<S: Base, R: Wait, G: Gate>(
     rt: &R,
     gate: &G,
     shared: &Shared<S>,
-    pass: Pass<Held<S>>,
+    pass: Pass<LegalStore<S>>,
     place: u32,
     worker: Worker<'_>,
-) -> (Pass<Held<S>>, Outcome)
+) -> (Pass<LegalStore<S>>, Outcome)
     requires small { place < 2 ^ 32 - 1 }
     requires cell { IsPassOf shared.now.cell pass }
     requires idle { (known pass).has_turn ≡ false }
     requires own { IsOwner (known pass).owners (place + 1) }
-    requires stand { CanGoAt S.tells place (worker_rest worker) (known pass).log }
+    requires stand { CanGoAt S.tells place (worker_rest worker) (known pass).journal }
     ensures cell { IsPassOf shared.now.cell result.0 }
     ensures ran { RanOne S.tells place (known pass) (known result.0) (worker_rest worker.entry)
         result.1 }

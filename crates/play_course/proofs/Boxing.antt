@@ -14,13 +14,13 @@ use Rattle.zarr_tree.specs.Held.{entry_in}
 use Rattle.zarr_tree.specs.Nodes.{chunk_length}
 use Rattle.zarr_tree.proofs.ViewLaws.{array_has_grid}
 use Rattle.zarr_changes.specs.declared.chunks.ChunkAt.{ChunkAt}
-use Rattle.zarr_changes.proofs.GridParts.{grid_parts}
+use Rattle.zarr_tree.proofs.GridParts.{grid_parts}
 use Rattle.manifest_file.specs.declared.manifest.Place.{Place}
 use Rattle.manifest_file.specs.declared.manifest.ManifestFile.{ManifestFile}
 use Rattle.held_manifest.specs.LookUp.{within, entry_of, look_up}
 use Rattle.manifest_index.specs.Merging.{ids_within}
 use Rattle.snapshot_file.specs.declared.nodes.ManifestRef.{ManifestRef}
-use Rattle.repo_objects.specs.declared.bad.Bad.{Bad}
+use Rattle.repo_objects.specs.declared.bad_objects.Bad.{Bad}
 use Rattle.repo_objects.specs.Readings.{read_manifest}
 use Rattle.repo_objects.specs.Trees.{Puts, Extends, manifest_put, or_empty, listed}
 use Rattle.changed_snapshot.specs.Rows.{own_manifests}
@@ -54,7 +54,8 @@ use Rattle.array_region.specs.Reading.{Kept, Chunk, Reads, keeping, entry_kept, 
 use Rattle.array_region.specs.Writing.{is_covered, old_chunk, bytes_put, write_chunks, outside_from, cells_refused, region_set_program}
 use Rattle.array_region.proofs.Planned.{IsAt, at_array, no_array, no_box, box_passes, box_of}
 use Rattle.region_calls.proofs.Gets.{place_gets, own_gets}
-use Rattle.region_calls.proofs.Chunks.{KeptIs, taken}
+use Rattle.region_calls.proofs.Chunks.{KeptIs}
+use Rattle.array_region.proofs.Looking.{taken}
 use Rattle.region_calls.proofs.Boxes.{met_ranked}
 use Rattle.region_calls.proofs.Sets.{reads_of_box, box_cases, old_gets}
 use Rattle.play_tasks.proofs.Tried.{other-opened}

@@ -6,10 +6,10 @@ use Rattle.ice_ids.specs.declared.Id12.{Id12}
 use Rattle.ice_ids.specs.declared.drawing.AnyIds.{AnyIds}
 use Rattle.ref_file.specs.Refs.{ref_bytes}
 use Rattle.snapshot_file.specs.declared.snapshot.SnapshotFile.{SnapshotFile}
-use Rattle.repo_objects.specs.declared.bad.Bad.{Bad}
+use Rattle.repo_objects.specs.declared.bad_objects.Bad.{Bad}
 use Rattle.repo_objects.specs.Readings.{read_snapshot, snapshot_by}
 use Rattle.object_store.specs.declared.keys.Key.{Key}
-use Rattle.object_store.specs.declared.keys.Key.TheVariants.{Snapshot, Branch, Tag, TagGone}
+use Rattle.object_store.specs.declared.keys.Key.TheVariants.{Snapshot, Branch, Tag, Tombstone}
 use Rattle.object_store.specs.declared.keys.Why.TheVariants as why
 use Rattle.object_store.specs.declared.events.Version.{Version}
 use Rattle.object_store.specs.declared.events.Op.{Op}
@@ -41,10 +41,10 @@ use Rattle.refs_admin.specs.Targets.{no_snapshot, target_told, target_program}
 use Rattle.refs_admin.specs.Branches.{created, put_branch, create_program, branch_new_program, moved, put_over, move_program, reset_program, branch_reset_program, dropped, removal, branch_drop_program}
 use Rattle.refs_admin.specs.Tags.{taken, after_tag, put_tag, tag_target_program, tag_new_program, buried, put_tombstone, tag_drop_program}
 use Rattle.refs_admin.specs.Logs.{told_lines, refused_now, refused_first, chain_at, log_program, line_of}
-use Rattle.play_script.specs.declared.scripts.Call.{Call}
-use Rattle.play_script.specs.declared.scripts.Call.TheVariants as calls
-use Rattle.play_script.specs.declared.scripts.RefCall.{RefCall}
-use Rattle.play_script.specs.declared.scripts.RefCall.TheVariants as ref
+use Rattle.script_calls.specs.declared.calls.Call.{Call}
+use Rattle.script_calls.specs.declared.calls.Call.TheVariants as calls
+use Rattle.script_calls.specs.declared.calls.RefCall.{RefCall}
+use Rattle.script_calls.specs.declared.calls.RefCall.TheVariants as ref
 use Rattle.play_script.specs.declared.scripts.Line.{Line}
 use Rattle.play_outcome.specs.declared.outcome.Shown.{Shown}
 use Rattle.play_outcome.specs.declared.outcome.End.TheVariants as E
@@ -215,7 +215,7 @@ module _ (client : Client) (ids : AnyIds) where
   -- ---- tags
   after-meets : (name : List ℕ) (reply : Reply) (journal : List Event) → Kept journal → Meets Knows (beside client ids) (after_tag name reply) journal
   after-meets name (Is_new (New_done version now)) journal t = done-meets Knows (beside client ids) (Ok tt) journal t
-  after-meets name (Is_new (Present version now)) journal t = told-meets (Get (TagGone name)) (λ reply. Err (taken version reply)) (taken-plain client.collects version) journal t
+  after-meets name (Is_new (Present version now)) journal t = told-meets (Get (Tombstone name)) (λ reply. Err (taken version reply)) (taken-plain client.collects version) journal t
   after-meets name (Is_got x) journal t = done-meets Knows (beside client ids) (Err R.StoreFault) journal refl
   after-meets name (Is_over x) journal t = done-meets Knows (beside client ids) (Err R.StoreFault) journal refl
   after-meets name (Is_gone x) journal t = done-meets Knows (beside client ids) (Err R.StoreFault) journal refl
@@ -241,7 +241,7 @@ module _ (client : Client) (ids : AnyIds) where
   untag-meets : (name : List ℕ) (journal : List Event) → Kept journal → Meets Knows (beside client ids) (tag_drop_program name) journal
   untag-meets name journal t =
       then-meets (Tags client ids Kept kept-along kept-got (λ h k. k.tidy)) Knows (beside client ids) (tag_program name) (λ tagged. put_tombstone name) journal (tag-read client ids Kept kept-along kept-got (λ h k. k.tidy) name journal t)
-      (λ tagged h q. told-meets (PutNew (TagGone name) [] why.Drop) buried (buried-plain client.collects) h q.0) (λ w h p. p)
+      (λ tagged h q. told-meets (PutNew (Tombstone name) [] why.Drop) buried (buried-plain client.collects) h q.0) (λ w h p. p)
 
   -- ---- logs
   -- what follows a snapshot

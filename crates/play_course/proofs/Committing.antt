@@ -20,7 +20,7 @@ use Rattle.snapshot_file.specs.declared.nodes.ManifestRef.{ManifestRef}
 use Rattle.snapshot_file.specs.Layout.{snapshot_bytes}
 use Rattle.txn_file.specs.Layout.{log_file}
 use Rattle.ref_file.specs.Refs.{ref_bytes}
-use Rattle.repo_objects.specs.declared.bad.Bad.{Bad}
+use Rattle.repo_objects.specs.declared.bad_objects.Bad.{Bad}
 use Rattle.repo_objects.specs.Readings.{read_manifest}
 use Rattle.changed_snapshot.specs.Rows.{own_manifests}
 use Rattle.object_store.specs.declared.keys.Key.TheVariants.{Snapshot, Manifest, Txn, Branch}

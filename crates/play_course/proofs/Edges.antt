@@ -3,14 +3,14 @@ use Rattle.std.proofs.Common.{◌≡◌, ℕ, zero, suc, inl, inr, Bool, true, f
 use Rattle.std.specs.Prelude.{Some, None, Result, Ok, Err, slice_get}
 use Rattle.ice_ids.specs.declared.Id12.{Id12}
 use Rattle.snapshot_file.specs.Initial.{initial_snapshot}
-use Rattle.repo_objects.specs.declared.bad.Bad.{Bad}
+use Rattle.repo_objects.specs.declared.bad_objects.Bad.{Bad}
 use Rattle.repo_objects.specs.Readings.{snapshot_by, read_ref as read_bytes}
 use Rattle.repo_objects.specs.Laws.{InitialLaw}
 use Rattle.ice_ids.specs.Text.{initial_id}
 use Rattle.object_store.specs.declared.keys.Key.{Key}
-use Rattle.object_store.specs.declared.keys.Key.TheVariants.{Snapshot, Manifest, Txn, Chunk, Branch, Tag, TagGone, Lease}
+use Rattle.object_store.specs.declared.keys.Key.TheVariants.{Snapshot, Manifest, Txn, Chunk, Branch, Tag, Tombstone, Lease}
 use Rattle.object_store.specs.declared.keys.Part.{Part}
-use Rattle.object_store.specs.declared.keys.Part.TheVariants.{Branches, Tags}
+use Rattle.object_store.specs.declared.keys.Part.TheVariants.{Branches, Tags, Leases}
 use Rattle.object_store.specs.declared.events.Op.{Op}
 use Rattle.object_store.specs.declared.events.Op.TheVariants.{Get, PutNew, PutOver, Remove, RemoveAt, List as ListPart}
 use Rattle.object_store.specs.declared.events.Entry.{Entry}
@@ -44,7 +44,7 @@ plain-puts initial (PutNew (Manifest id) bytes why) p = absurd p
 plain-puts initial (PutNew (Txn id) bytes why) p = absurd p
 plain-puts initial (PutNew (Chunk id) bytes why) p = absurd p
 plain-puts initial (PutNew (Tag name) bytes why) p = tt
-plain-puts initial (PutNew (TagGone name) bytes why) p = tt
+plain-puts initial (PutNew (Tombstone name) bytes why) p = tt
 plain-puts initial (PutNew (Lease id) bytes why) p = absurd p
 plain-puts initial (PutOver key bytes old why) p = tt
 plain-puts initial (Remove key why) p = absurd p
@@ -97,17 +97,19 @@ module _ (who : Id12 → Type 0) where
   begin-meets journal = bind-meets Plain Plain watch init_program (λ made. Done (begun made)) journal (init-meets journal) (λ made h p. done-meets Plain watch (begun made) h (begun-plain made p))
 
 -- ---- the closing reading
--- a branch, a tag or a tombstone
+-- a branch, a tag, a tombstone or a lease
 abbrev pub IsNamed : Key → Type 0
 IsNamed (Branch name) = Unit {0}
 IsNamed (Tag name) = Unit {0}
-IsNamed (TagGone name) = Unit {0}
+IsNamed (Tombstone name) = Unit {0}
+IsNamed (Lease id) = Unit {0}
 IsNamed _ = ⊥
 
--- a branch or a tag
+-- a branch, a tag or a lease
 abbrev pub IsRef : Key → Type 0
 IsRef (Branch name) = Unit {0}
 IsRef (Tag name) = Unit {0}
+IsRef (Lease id) = Unit {0}
 IsRef _ = ⊥
 
 abbrev pub AllNamedKeys : List Entry → Type 0
@@ -118,17 +120,18 @@ abbrev pub AllRefs : List Key → Type 0
 AllRefs [] = Unit {0}
 AllRefs (k ∷ ks) = IsRef k × AllRefs ks
 
--- the part of refs
+-- a part of such keys
 abbrev pub IsRefs : Part → Type 0
 IsRefs Branches = Unit {0}
 IsRefs Tags = Unit {0}
+IsRefs Leases = Unit {0}
 IsRefs _ = ⊥
 
 pub named-in : (part : Part) (key : Key) → IsRefs part → part_of key ≡ part → IsNamed key
 named-in part (Branch name) r e = tt
 named-in part (Tag name) r e = tt
-named-in part (TagGone name) r e = tt
-named-in part (Lease id) r e = subst IsRefs (sym e) r
+named-in part (Tombstone name) r e = tt
+named-in part (Lease id) r e = tt
 named-in part (Snapshot id) r e = subst IsRefs (sym e) r
 named-in part (Manifest id) r e = subst IsRefs (sym e) r
 named-in part (Txn id) r e = subst IsRefs (sym e) r
@@ -145,8 +148,8 @@ keep-refs false key keys r all = (r, all)
 live-one : (key : Key) (behind : List Entry) (keys : List Key) → IsNamed key → AllRefs keys → AllRefs (cond (is_gone key behind) keys (key ∷ keys))
 live-one (Branch name) behind keys n all = keep-refs (is_gone (Branch name) behind) (Branch name) keys tt all
 live-one (Tag name) behind keys n all = keep-refs (is_gone (Tag name) behind) (Tag name) keys tt all
-live-one (TagGone name) behind keys n all = all
-live-one (Lease id) behind keys n all = absurd n
+live-one (Tombstone name) behind keys n all = all
+live-one (Lease id) behind keys n all = keep-refs (is_gone (Lease id) behind) (Lease id) keys tt all
 live-one (Snapshot id) behind keys n all = absurd n
 live-one (Manifest id) behind keys n all = absurd n
 live-one (Txn id) behind keys n all = absurd n
@@ -156,12 +159,12 @@ pub live-refs : (entries : List Entry) → AllNamedKeys entries → AllRefs (liv
 live-refs [] a = tt
 live-refs (e ∷ es) a = live-one e.key es (live es) a.0 (live-refs es a.1)
 
--- what stands at a ref names a snapshot that was put
+-- what stands at a ref or a lease names a snapshot that was put
 pub named-at : (key : Key) (journal : List Event) (s : Stored) → IsRef key → Each IsAny [] journal → found journal key ≡ Some s → NamesPut journal s.bytes
 named-at (Branch name) journal s r tidy e = (all-named journal tidy).branches name s e
 named-at (Tag name) journal s r tidy e = (all-named journal tidy).tags name s e
-named-at (TagGone name) journal s r tidy e = absurd r
-named-at (Lease id) journal s r tidy e = absurd r
+named-at (Tombstone name) journal s r tidy e = absurd r
+named-at (Lease id) journal s r tidy e = (all-named journal tidy).leases id s e
 named-at (Snapshot id) journal s r tidy e = absurd r
 named-at (Manifest id) journal s r tidy e = absurd r
 named-at (Txn id) journal s r tidy e = absurd r

@@ -12,8 +12,8 @@ use Rattle.zarr_path.specs.Keys.{key_of}
 use Rattle.flat_tables.specs.declared.fault.FileFault.{FileFault}
 use Rattle.txn_file.specs.declared.log.TxnFile.{TxnFile}
 use Rattle.txn_file.specs.Logs.{txn_of}
-use Rattle.repo_objects.specs.declared.bad.Bad.{Bad}
-use Rattle.repo_objects.specs.declared.bad.Bad.TheVariants.{Unlisted, WrongId}
+use Rattle.repo_objects.specs.declared.bad_objects.Bad.{Bad}
+use Rattle.repo_objects.specs.declared.bad_objects.Bad.TheVariants.{Unlisted, WrongId}
 use Rattle.repo_objects.specs.Readings.{◌>>=◌, in_file, under, read_log}
 use Rattle.conflicts.specs.declared.solving.Policy.{Policy}
 use Rattle.object_store.specs.declared.keys.Key.{Key}
@@ -30,14 +30,14 @@ use Rattle.commit_path.specs.Opened.{RefusalTells}
 use Rattle.rebase.specs.Telling.{RebaseSays, WasHidden}
 use Rattle.zarr_keys.specs.Keys.{put_over}
 use Rattle.chunk_calls.specs.Told.{SetTells, GetTells}
-use Rattle.play_script.specs.declared.scripts.Call.{Call}
-use Rattle.play_script.specs.declared.scripts.Call.TheVariants.{Edit, Read, Commit, Ref, Prop}
-use Rattle.play_script.specs.declared.scripts.EditCall.{EditCall}
-use Rattle.play_script.specs.declared.scripts.EditCall.TheVariants.{Set as Set_call, Fill, Put, KeySet}
-use Rattle.play_script.specs.declared.scripts.ReadCall.{ReadCall}
-use Rattle.play_script.specs.declared.scripts.ReadCall.TheVariants.{List as List_call, Get as Get_call, Chunk as Chunk_call, Cells, KeyGet}
-use Rattle.play_script.specs.declared.scripts.Access.{Access}
-use Rattle.play_script.specs.declared.scripts.Head.TheVariants.{Session}
+use Rattle.script_calls.specs.declared.calls.Call.{Call}
+use Rattle.script_calls.specs.declared.calls.Call.TheVariants.{Edit, Read, Commit, Ref, Prop}
+use Rattle.script_calls.specs.declared.calls.EditCall.{EditCall}
+use Rattle.script_calls.specs.declared.calls.EditCall.TheVariants.{Set as Set_call, Fill, Put, KeySet}
+use Rattle.script_calls.specs.declared.calls.ReadCall.{ReadCall}
+use Rattle.script_calls.specs.declared.calls.ReadCall.TheVariants.{List as List_call, Get as Get_call, Chunk as Chunk_call, Cells, KeyGet}
+use Rattle.script_calls.specs.declared.calls.Access.{Access}
+use Rattle.script_calls.specs.declared.calls.Head.TheVariants.{Session}
 use Rattle.play_script.specs.declared.scripts.Line.{Line}
 use Rattle.play_script.specs.declared.scripts.Task.{Task}
 use Rattle.play_outcome.specs.declared.outcome.Shown.{Shown}
@@ -185,7 +185,7 @@ module _ (ids : AnyIds) (task : Task) (client : ℕ) (start journal : List Event
           | inr (inr a) ↦ elim a [
             | inl c ↦ not-committed w.at_last w.message c.why (says l.number c.why c.end_is) c.tells
             | inr b ↦ elim b [
-              | inl c ↦ not-strange (R.Conflict c.old c.found) (says l.number (R.Conflict c.old c.found) c.end_is) refl
+              | inl c ↦ not-strange (R.LostRace c.old c.found) (says l.number (R.LostRace c.old c.found) c.end_is) refl
               | inr n ↦
                   let own = says l.number n.why n.end_is in
                   never n.lost (start ++ n.since) (Txn own.at) (Unlisted own.node)

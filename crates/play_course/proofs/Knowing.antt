@@ -5,7 +5,7 @@ use Rattle.ice_ids.specs.declared.Id12.{Id12}
 use Rattle.ice_ids.specs.declared.drawing.AnyIds.{AnyIds}
 use Rattle.ice_ids.specs.Drawing.{drawn12, after12}
 use Rattle.object_store.specs.declared.keys.Key.{Key}
-use Rattle.object_store.specs.declared.keys.Key.TheVariants.{Snapshot, Manifest, Txn, Chunk, Branch, Tag, TagGone, Lease}
+use Rattle.object_store.specs.declared.keys.Key.TheVariants.{Snapshot, Manifest, Txn, Chunk, Branch, Tag, Tombstone, Lease}
 use Rattle.object_store.specs.declared.keys.Why.{Why}
 use Rattle.object_store.specs.declared.events.Version.{Version}
 use Rattle.object_store.specs.declared.events.Op.TheVariants.{Get, PutNew, PutOver}
@@ -140,7 +140,7 @@ id_of (Txn id) = Some id
 id_of (Chunk id) = Some id
 id_of (Branch name) = None
 id_of (Tag name) = None
-id_of (TagGone name) = None
+id_of (Tombstone name) = None
 id_of (Lease id) = Some id
 
 some-same : {A : Type 0} (a b : A) → Some a ≡ Some b → a ≡ b

@@ -6,7 +6,7 @@ use Rattle.ice_ids.specs.declared.Id12.{Id12}
 use Rattle.ice_ids.specs.declared.drawing.Draw.{Draw}
 use Rattle.zarr_tree.specs.Changes.{Changes}
 use Rattle.object_store.specs.declared.events.Event.{Event}
-use Rattle.object_store.specs.declared.keys.Key.TheVariants.{Branch, Tag, TagGone}
+use Rattle.object_store.specs.declared.keys.Key.TheVariants.{Branch, Tag, Tombstone}
 use Rattle.store_api.specs.declared.machines.Refusal.{Refusal}
 use Rattle.object_store.specs.Machine.{Stored, found}
 use Rattle.store_api.specs.Journal.{Each, IsGood, tree_of}
@@ -103,11 +103,11 @@ module _ (changes : ℕ → Changes) (journal : List Event) where
   told-tags lines stand t name id = (
     λ line.
         let n = (t.tags name id).0 line in
-        let e = tag-stands (files_by (tree_of journal)) id (state name) (found journal (Tag name)) (found journal (TagGone name)) (stand name).tag (stand name).tombstone n.1 n.0.stored n.0.stands n.0.names in
+        let e = tag-stands (files_by (tree_of journal)) id (state name) (found journal (Tag name)) (found journal (Tombstone name)) (stand name).tag (stand name).tombstone n.1 n.0.stored n.0.stands n.0.names in
         record { entry = e.0; stands = e.1; names = e.2 },
     λ end.
         let s = ends-names (files_by (tree_of journal)) id (found journal (Tag name)) (made_as (state name)) (stand name).tag end.entry (ap made_as end.stands) end.names in
-        (t.tags name id).1 (record { stored = s.0; stands = s.1; names = s.2 }, tag-unburied (state name) (found journal (TagGone name)) end.entry end.stands (stand name).tombstone),
+        (t.tags name id).1 (record { stored = s.0; stands = s.1; names = s.2 }, tag-unburied (state name) (found journal (Tombstone name)) end.entry end.stands (stand name).tombstone),
   )
 
   told-ends : (lines : List RefLine) → ((branch : List ℕ) → StandsAs (files_by (tree_of journal)) (found journal (Branch branch)) (last (history_of (files_by (tree_of journal)) (applied changes) journal branch))) → ((tag : List ℕ) → StandsByState (files_by (tree_of journal)) journal tag) → TellsRefs journal lines → TellsEnds (files_by (tree_of journal)) changes journal lines

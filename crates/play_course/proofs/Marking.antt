@@ -13,14 +13,14 @@ use Rattle.manifest_file.specs.declared.manifest.ManifestFile.{ManifestFile}
 use Rattle.snapshot_file.specs.declared.nodes.NodeRow.{NodeRow}
 use Rattle.snapshot_file.specs.declared.snapshot.SnapshotFile.{SnapshotFile}
 use Rattle.snapshot_file.specs.Snapshots.{node_key}
-use Rattle.repo_objects.specs.declared.bad.Bad.{Bad}
+use Rattle.repo_objects.specs.declared.bad_objects.Bad.{Bad}
 use Rattle.repo_objects.specs.Laws.{SnapshotLaw}
 use Rattle.repo_objects.specs.Readings.{read_snapshot, snapshot_by, read_manifest, read_ref}
 use Rattle.repo_objects.specs.Trees.{NamesManifest, manifest_put, row_at}
 use Rattle.object_store.specs.declared.keys.Key.{Key}
 use Rattle.object_store.specs.declared.keys.Key.TheVariants.{Snapshot, Manifest}
 use Rattle.object_store.specs.declared.keys.Part.{Part}
-use Rattle.object_store.specs.declared.keys.Part.TheVariants.{Snapshots, Manifests, Txns, Chunks, Branches, Tags}
+use Rattle.object_store.specs.declared.keys.Part.TheVariants.{Snapshots, Manifests, Txns, Chunks, Branches, Tags, Leases}
 use Rattle.object_store.specs.declared.events.Op.TheVariants.{Get, List as ListPart}
 use Rattle.object_store.specs.declared.events.Listed.{Listed}
 use Rattle.object_store.specs.declared.events.Reply.{Reply}
@@ -36,12 +36,14 @@ use Rattle.store_api.specs.Program.{Done}
 use Rattle.store_api.specs.Running.{on_answer}
 use Rattle.commit_path.proofs.Putting.{puts-kept}
 use Rattle.commit_path.proofs.Readable.{some_of}
-use Rattle.repo_read.specs.Answers.{at_key, snapshot_told, manifest_told}
+use Rattle.repo_read.specs.Answers.{at_key}
 use Rattle.repository.specs.Refs.{live}
-use Rattle.chunk_gc.specs.Lines.{enter_rows}
-use Rattle.chunk_gc.specs.Told.{first_told, listed_told, some_id, ref_got}
-use Rattle.chunk_gc.specs.Programs.{Work, Answer, no_work, asks, with_ref, get_refs, with_file, leaving_files, get_files, with_snapshot, leaving_snapshots, mark_files, mark_last, mark_next, mark, sweeping, list_objects, told_doomed, list_chunks, list_manifests, list_logs, list_snapshots, marking, list_tags, mark_program}
-use Rattle.chunk_gc.proofs.Sets.{none-in, first-is, later-is, enters-rows}
+use Rattle.repo_objects.specs.Lines.{enter_rows}
+use Rattle.chunk_gc.specs.Told.{first_told, listed_told, ref_got, unless_passed, snapshot_got, manifest_got}
+use Rattle.chunk_gc.specs.Told as tells
+use Rattle.chunk_gc.specs.Programs.{Work, Answer, no_work, asks, with_ref, with_lease, get_refs, with_file, leaving_files, get_files, with_snapshot, leaving_snapshots, mark_got, mark_last, mark_next, mark, mark_leased, begin_leased, sweeping, list_objects, told_doomed, list_chunks, list_manifests, list_logs, list_snapshots, marking, list_leases, list_tags, mark_program}
+use Rattle.repo_objects.proofs.Entering.{enters-rows}
+use Rattle.ice_ids.proofs.Elements.{none-in, first-is, later-is}
 use Rattle.play_course.specs.Refusing.{is_strange}
 use Rattle.play_course.proofs.Tidy.{Client, stands-readable}
 use Rattle.play_course.proofs.Meeting.{was-read, Meets, done-meets, ask-meets, got-meets, replied}
@@ -112,6 +114,11 @@ module _ (client : Client) (ids : AnyIds) (law : SnapshotLaw) (collects : client
   missing : (key : Key) (h : List Event) → Well (Done (Err (R.Missing key))) h
   missing key h = refused (R.Missing key) h (missing-plain client.collects key (λ none. let both = sym collects ∙ none in absurd cc))
 
+  -- or is passed over
+  absent-meets : {A : Type 0} (passes : Bool) (rest : Option A → Answer) (key : Key) (h : List Event) → Well (rest None) h → Well (on_answer rest (unless_passed passes (Err (R.Missing key)))) h
+  absent-meets true rest key h go = go
+  absent-meets false rest key h go = missing key h
+
   kept-behind : (journal more : List Event) (event : Event) → Each (OfOthers client ids) journal more → OfOwn client ids (journal ++ more) event → IsKept client journal → IsKept client ((journal ++ more) ++ event ∷ [])
   kept-behind journal more event others own k = kept-next client (journal ++ more) event own.tidy own.after (kept-others client ids journal more others k)
 
@@ -155,17 +162,18 @@ module _ (client : Client) (ids : AnyIds) (law : SnapshotLaw) (collects : client
   unfolding get_files
   files-meet [] w next journal none put k go = go w journal none k
   files-meet (id ∷ todo) w next journal is put k go =
-      let rest = λ (m : ManifestFile). get_files todo (with_file m (leaving_files todo w)) next in
-      ask-meets MarksWell (beside client ids) (Get (Manifest id)) (λ reply. on_answer rest (manifest_told id reply)) journal (λ more event others own op_is.
+      let rest = λ (m : Option ManifestFile). get_files todo (with_file m (leaving_files todo w)) next in
+      ask-meets MarksWell (beside client ids) (Get (Manifest id)) (λ reply. on_answer rest (manifest_got w.passes id reply)) journal (λ more event others own op_is.
       let after : List Event = (journal ++ more) ++ event ∷ [] in
       let mid : ArePut (id ∷ todo) (journal ++ more) = put-others journal more (id ∷ todo) others k put in
       let file = mid id (first-is id todo) in
+      let behind : (m : Option ManifestFile) → Well (rest m) after = λ m. files-meet todo (with_file m (leaving_files todo w)) next after refl (put-own (journal ++ more) event todo own (λ q c. mid q (later-is id q todo c))) (kept-behind journal more event others own k) go in
       let stands = put-reads client.collects (journal ++ more) id file.0 (kept-others client ids journal more others k).so_far file.1 in
-      got-meets MarksWell (beside client ids) (λ reply. on_answer rest (manifest_told id reply)) (journal ++ more) event own.tidy.good after (Manifest id) op_is
+      got-meets MarksWell (beside client ids) (λ reply. on_answer rest (manifest_got w.passes id reply)) (journal ++ more) event own.tidy.good after (Manifest id) op_is
       (λ st at.
-      subst (λ (r : Result ManifestFile Bad). Well (on_answer rest (at_key (Manifest id) r)) after) (sym (was-read (read_manifest id st.bytes) stands.file (stands.read st at)))
-      (files-meet todo (with_file stands.file (leaving_files todo w)) next after refl (put-own (journal ++ more) event todo own (λ q c. mid q (later-is id q todo c))) (kept-behind journal more event others own k) go))
-      (λ gone. missing (Manifest id) after)
+      subst (λ (r : Result ManifestFile Bad). Well (on_answer rest (tells.some_of (at_key (Manifest id) r))) after) (sym (was-read (read_manifest id st.bytes) stands.file (stands.read st at)))
+      (behind (Some stands.file)))
+      (λ gone. absent-meets w.passes rest (Manifest id) after (behind None))
       (λ done. refused R.StoreFault after refl))
 
   -- ---- snapshots
@@ -177,47 +185,55 @@ module _ (client : Client) (ids : AnyIds) (law : SnapshotLaw) (collects : client
   ]
 
   -- a snapshot that is found, and the marking behind it
-  next-meets : (w : Work) (again : Work → Answer) → GoesOn again → (journal : List Event) → w.files.todo ≡ [] → IsKept client journal → (todo : List Id12) → Well (mark_next w list_snapshots again todo) journal
-  next-meets w again go journal none k [] = lists-meet w journal
-  next-meets w again go journal none k (id ∷ todo) =
+  next-meets : (end again : Work → Answer) → GoesOn end → GoesOn again → (todo : List Id12) (w : Work) (journal : List Event) → w.files.todo ≡ [] → IsKept client journal → Well (mark_next end again todo w) journal
+  unfolding mark_next
+  next-meets end again ends go [] w journal none k = ends w journal none k
+  next-meets end again ends go (id ∷ todo) w journal none k =
       let v : Work = leaving_snapshots todo w in
-      let rest = λ (s : SnapshotFile). mark_files (with_snapshot s v) again in
-      ask-meets MarksWell (beside client ids) (Get (Snapshot id)) (λ reply. on_answer rest (snapshot_told id reply)) journal (λ more event others own op_is.
+      let rest = mark_got id again (mark_next end again todo v) v in
+      ask-meets MarksWell (beside client ids) (Get (Snapshot id)) (λ reply. on_answer rest (snapshot_got w.passes id reply)) journal (λ more event others own op_is.
       let mid = kept-others client ids journal more others k in
       let after : List Event = (journal ++ more) ++ event ∷ [] in
-      got-meets MarksWell (beside client ids) (λ reply. on_answer rest (snapshot_told id reply)) (journal ++ more) event own.tidy.good after (Snapshot id) op_is
+      got-meets MarksWell (beside client ids) (λ reply. on_answer rest (snapshot_got w.passes id reply)) (journal ++ more) event own.tidy.good after (Snapshot id) op_is
       (λ st at.
       let can = stands-readable id (journal ++ more) st mid.tidy at in
-      let x : Work = with_snapshot can.0 v in
+      let x : Work = with_snapshot id can.0 v in
       let put : ArePut x.files.todo (journal ++ more) = entered-put v can.0 (journal ++ more) none (named-put client law id (journal ++ more) st can.0 mid at can.1) in
-      subst (λ (r : Result SnapshotFile Bad). Well (on_answer rest (at_key (Snapshot id) r)) after) (sym (was-read (read_snapshot id st.bytes) can.0 can.1))
+      subst (λ (r : Result SnapshotFile Bad). Well (on_answer rest (tells.some_of (at_key (Snapshot id) r))) after) (sym (was-read (read_snapshot id st.bytes) can.0 can.1))
       (files-meet x.files.todo x again after refl (put-own (journal ++ more) event x.files.todo own put) (kept-behind journal more event others own k) go))
-      (λ gone. missing (Snapshot id) after)
+      (λ gone. absent-meets w.passes rest (Snapshot id) after (next-meets end again ends go todo v after none (kept-behind journal more event others own k)))
       (λ done. refused R.StoreFault after refl))
 
-  last-meets : (w : Work) (journal : List Event) (todo : List Id12) → Well (mark_last w list_snapshots todo) journal
-  last-meets w journal [] = lists-meet w journal
-  last-meets w journal (id ∷ todo) = refused R.TooDeep journal refl
+  last-meets : (end : Work → Answer) → GoesOn end → (todo : List Id12) (w : Work) (journal : List Event) → w.files.todo ≡ [] → IsKept client journal → Well (mark_last end todo w) journal
+  last-meets end ends [] w journal none k = ends w journal none k
+  last-meets end ends (id ∷ todo) w journal none k = refused R.TooDeep journal refl
 
-  mark-meets : (left : ℕ) (w : Work) (journal : List Event) → w.files.todo ≡ [] → IsKept client journal → Well (mark left w list_snapshots) journal
+  mark-meets : (left : ℕ) (end : ℕ → Work → Answer) → ((n : ℕ) → GoesOn (end n)) → (w : Work) (journal : List Event) → w.files.todo ≡ [] → IsKept client journal → Well (mark left end w) journal
   unfolding mark
-  mark-meets zero w journal none k = last-meets w journal w.snapshots.todo
-  mark-meets (suc left) w journal none k = next-meets w (λ v. mark left v list_snapshots) (λ v h empty kept. mark-meets left v h empty kept) journal none k w.snapshots.todo
+  mark-meets zero end ends w journal none k = last-meets (end zero) (ends zero) w.snapshots.todo w journal none k
+  mark-meets (suc left) end ends w journal none k = next-meets (end (suc left)) (λ v. mark left end v) (ends (suc left)) (λ v h empty kept. mark-meets left end ends v h empty kept) w.snapshots.todo w journal none k
 
-  -- ---- refs
-  refs-meet : (keys : List Key) (w : Work) (next : Work → Answer) (journal : List Event) → AllRefs keys → w.files.todo ≡ [] → IsKept client journal → GoesOn next → Well (get_refs keys w next) journal
+  leased-meets : (left : ℕ) → GoesOn (mark_leased left)
+  leased-meets left w journal none k = mark-meets left (λ n v. list_snapshots v) (λ n v h empty kept. lists-meet v h) w journal none k
+
+  marking-meets : (passes : Bool) (left : ℕ) → GoesOn (marking passes left)
+  marking-meets true left w journal none k = leased-meets left w journal none k
+  marking-meets false left w journal none k = mark-meets left (λ n v. mark_leased n (begin_leased v)) (λ n v h empty kept. leased-meets n (begin_leased v) h empty kept) w journal none k
+
+  -- ---- refs and leases
+  refs-meet : (add : Option Id12 → Work → Work) → ((id : Option Id12) (w : Work) → (add id w).files.todo ≡ w.files.todo) → (keys : List Key) (w : Work) (next : Work → Answer) (journal : List Event) → AllRefs keys → w.files.todo ≡ [] → IsKept client journal → GoesOn next → Well (get_refs add keys w next) journal
   unfolding get_refs
-  refs-meet [] w next journal refs none k go = go w journal none k
-  refs-meet (key ∷ keys) w next journal refs none k go =
-      let rest = λ (id : Option Id12). get_refs keys (with_ref id w) next in
+  refs-meet add same [] w next journal refs none k go = go w journal none k
+  refs-meet add same (key ∷ keys) w next journal refs none k go =
+      let rest = λ (id : Option Id12). get_refs add keys (add id w) next in
       ask-meets MarksWell (beside client ids) (Get key) (λ reply. on_answer rest (ref_got key reply)) journal (λ more event others own op_is.
       let mid = kept-others client ids journal more others k in
       let after : List Event = (journal ++ more) ++ event ∷ [] in
-      let behind : (id : Option Id12) → Well (rest id) after = λ id. refs-meet keys (with_ref id w) next after refs.1 none (kept-behind journal more event others own k) go in
+      let behind : (id : Option Id12) → Well (rest id) after = λ id. refs-meet add same keys (add id w) next after refs.1 (same id w ∙ none) (kept-behind journal more event others own k) go in
       got-meets MarksWell (beside client ids) (λ reply. on_answer rest (ref_got key reply)) (journal ++ more) event own.tidy.good after key op_is
       (λ st at.
       let n = named-at key (journal ++ more) st refs.0 mid.tidy at in
-      subst (λ (r : Result Id12 Bad). Well (on_answer rest (some_id (at_key key r))) after) (sym (was-read (read_ref st.bytes) n.id n.reference)) (behind (Some n.id)))
+      subst (λ (r : Result Id12 Bad). Well (on_answer rest (tells.some_of (at_key key r))) after) (sym (was-read (read_ref st.bytes) n.id n.reference)) (behind (Some n.id)))
       (λ gone. behind None)
       (λ done. refused R.StoreFault after refl))
 
@@ -234,19 +250,25 @@ module _ (client : Client) (ids : AnyIds) (law : SnapshotLaw) (collects : client
       ])
 
   -- ---- all of it
+  leases-meet : (left : ℕ) (w : Work) (journal : List Event) → w.files.todo ≡ [] → IsKept client journal → Well (list_leases left w) journal
+  leases-meet left w journal none k =
+      part-meets Leases listed_told (λ (l : Listed). get_refs with_lease (live l.entries) w (marking w.passes left)) journal tt k
+      (λ l h named kept. refs-meet with_lease (λ id v. refl) (live l.entries) w (marking w.passes left) h (live-refs l.entries named) none kept (marking-meets w.passes left))
+      (λ done h. refused R.StoreFault h refl)
+
   tags-meet : (left : ℕ) (w : Work) (journal : List Event) → w.files.todo ≡ [] → IsKept client journal → Well (list_tags left w) journal
   tags-meet left w journal none k =
-      part-meets Tags listed_told (λ (l : Listed). get_refs (live l.entries) w (marking left)) journal tt k
-      (λ l h named kept. refs-meet (live l.entries) w (marking left) h (live-refs l.entries named) none kept (λ v j empty at. mark-meets left v j empty at))
+      part-meets Tags listed_told (λ (l : Listed). get_refs with_ref (live l.entries) w (list_leases left)) journal tt k
+      (λ l h named kept. refs-meet with_ref (λ id v. refl) (live l.entries) w (list_leases left) h (live-refs l.entries named) none kept (λ v j empty at. leases-meet left v j empty at))
       (λ done h. refused R.StoreFault h refl)
 
   -- behind the listing of branches
   abbrev listed_branches : (most cutoff : ℕ) → Listed → Answer
-  listed_branches most cutoff l = get_refs (live l.entries) (no_work cutoff) (list_tags most)
+  listed_branches most cutoff l = get_refs with_ref (live l.entries) (no_work cutoff) (list_tags most)
 
   timed-meets : (most cutoff : ℕ) (l : Listed) (h : List Event) → AllNamedKeys l.entries → IsKept client h → (ahead : Bool) → Well (on_answer (listed_branches most cutoff) (cond ahead (Err (R.CutoffAhead l.now)) (Ok l))) h
   timed-meets most cutoff l h named kept true = refused (R.CutoffAhead l.now) h refl
-  timed-meets most cutoff l h named kept false = refs-meet (live l.entries) (no_work cutoff) (list_tags most) h (live-refs l.entries named) refl kept (λ v j empty at. tags-meet most v j empty at)
+  timed-meets most cutoff l h named kept false = refs-meet with_ref (λ id v. refl) (live l.entries) (no_work cutoff) (list_tags most) h (live-refs l.entries named) refl kept (λ v j empty at. tags-meet most v j empty at)
 
   pub marks-meet : (most cutoff : ℕ) (journal : List Event) → IsKept client journal → Meets MarksWell (beside client ids) (mark_program most cutoff) journal
   marks-meet most cutoff journal k =

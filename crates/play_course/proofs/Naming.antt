@@ -3,10 +3,10 @@ use Rattle.std.proofs.Common.{◌≡◌, ℕ, Bool, true, false, List, [], ◌�
 use Rattle.std.specs.Prelude.{Some, Result, Ok, Err}
 use Rattle.ice_ids.specs.declared.Id12.{Id12}
 use Rattle.ice_ids.specs.declared.drawing.AnyIds.{AnyIds}
-use Rattle.repo_objects.specs.declared.bad.Bad.{Bad}
+use Rattle.repo_objects.specs.declared.bad_objects.Bad.{Bad}
 use Rattle.repo_objects.specs.Readings.{read_ref}
 use Rattle.object_store.specs.declared.keys.Key.{Key}
-use Rattle.object_store.specs.declared.keys.Key.TheVariants.{Snapshot, Branch, Tag, TagGone}
+use Rattle.object_store.specs.declared.keys.Key.TheVariants.{Snapshot, Branch, Tag, Tombstone}
 use Rattle.object_store.specs.declared.events.Op.TheVariants.{Get}
 use Rattle.object_store.specs.declared.events.Event.{Event}
 use Rattle.store_api.specs.declared.machines.Refusal.{Refusal}
@@ -95,9 +95,9 @@ module _ (client : Client) (ids : AnyIds) (K : List Event → Type 0) (k_others 
 
   tombstone-read : (name : List ℕ) (id : Id12) (journal : List Event) → K journal → WasPut journal (Snapshot id) → Meets Tags (beside client ids) (tombstone_program name id) journal
   tombstone-read name id journal k put =
-      ask-meets Tags (beside client ids) (Get (TagGone name)) (λ reply. Done (tombstone_told id reply)) journal (λ more event others own is.
-      let after = k_got (journal ++ more) event (TagGone name) own is (k_others journal more others k) in
-      got-meets Tags (beside client ids) (λ reply. Done (tombstone_told id reply)) (journal ++ more) event own.tidy.good ((journal ++ more) ++ event ∷ []) (TagGone name) is
+      ask-meets Tags (beside client ids) (Get (Tombstone name)) (λ reply. Done (tombstone_told id reply)) journal (λ more event others own is.
+      let after = k_got (journal ++ more) event (Tombstone name) own is (k_others journal more others k) in
+      got-meets Tags (beside client ids) (λ reply. Done (tombstone_told id reply)) (journal ++ more) event own.tidy.good ((journal ++ more) ++ event ∷ []) (Tombstone name) is
       (λ s at. done-meets Tags (beside client ids) (Err R.NoRef) ((journal ++ more) ++ event ∷ []) refl)
       (λ gone. done-meets Tags (beside client ids) (Ok id) ((journal ++ more) ++ event ∷ []) (after, WasPut-append (journal ++ more) (event ∷ []) (Snapshot id) (WasPut-append journal more (Snapshot id) put)))
       (λ done. done-meets Tags (beside client ids) (Err R.StoreFault) ((journal ++ more) ++ event ∷ []) refl))

@@ -4,7 +4,7 @@ use Rattle.std.specs.Prelude.{Option, Some, option_map, Result, Ok, Err}
 use Rattle.ice_ids.specs.declared.Id12.{Id12}
 use Rattle.ice_ids.specs.declared.drawing.AnyIds.{AnyIds}
 use Rattle.snapshot_file.specs.declared.snapshot.SnapshotFile.{SnapshotFile}
-use Rattle.repo_objects.specs.declared.bad.Bad.{Bad}
+use Rattle.repo_objects.specs.declared.bad_objects.Bad.{Bad}
 use Rattle.repo_objects.specs.Readings.{read_snapshot, snapshot_by}
 use Rattle.repo_objects.specs.Trees.{tree_under}
 use Rattle.object_store.specs.declared.keys.Key.{Key}

@@ -17,8 +17,8 @@ use Rattle.manifest_file.specs.declared.manifest.ManifestFile.{ManifestFile}
 use Rattle.held_manifest.specs.LookUp.{within, entry_of, look_up}
 use Rattle.manifest_index.specs.Merging.{ids_within}
 use Rattle.snapshot_file.specs.declared.nodes.ManifestRef.{ManifestRef}
-use Rattle.repo_objects.specs.declared.bad.Bad.{Bad}
-use Rattle.repo_objects.specs.declared.bad.Bad.TheVariants.{Chunk as BadChunk}
+use Rattle.repo_objects.specs.declared.bad_objects.Bad.{Bad}
+use Rattle.repo_objects.specs.declared.bad_objects.Bad.TheVariants.{Chunk as BadChunk}
 use Rattle.repo_objects.specs.Readings.{read_manifest, read_inline, read_chunk}
 use Rattle.repo_objects.specs.Trees.{Puts, Extends, part_of, bytes_at, manifest_put, or_empty, listed}
 use Rattle.changed_snapshot.specs.Rows.{own_manifests}
@@ -35,7 +35,7 @@ use Rattle.store_api.specs.Running.{Program, on_answer}
 use Rattle.object_store.proofs.Journals.{Each-one}
 use Rattle.repo_read.specs.Answers.{at_key, manifest_told, object_told}
 use Rattle.session.specs.declared.chunks.Value.{Value}
-use Rattle.session.specs.declared.chunks.Value.TheVariants.{Held as Is_held, Fill}
+use Rattle.session.specs.declared.chunks.Value.TheVariants.{Bytes, Fill}
 use Rattle.session.specs.Sessions.{SessionState, nodes_seen, overlay}
 use Rattle.session.specs.Editing.{refusal_of_edit}
 use Rattle.session.specs.Chunks.{found as found_bytes, read_object, read_place, read_entry, read_listed, read_at, read_found, get_program}
@@ -120,17 +120,17 @@ module _ (client : Client) (ids : AnyIds) (s : SessionState) where
 
   object-meets : (want : ℕ) (id : Id12) (offset size : ℕ) (journal : List Event) → Held client ids s journal → Stays want (Object id offset size) journal → Meets ReadWell (beside client ids) (read_object want id offset size) journal
   object-meets want id offset size journal h has =
-      ask-meets ReadWell (beside client ids) (Get (Chunk id)) (λ reply. on_answer (λ bytes. Done (Ok (Is_held bytes))) (object_told want id offset size reply)) journal (λ more event others own is.
+      ask-meets ReadWell (beside client ids) (Get (Chunk id)) (λ reply. on_answer (λ bytes. Done (Ok (Bytes bytes))) (object_told want id offset size reply)) journal (λ more event others own is.
       let mid = held-others client ids s journal more others h in
       let after = held-got (journal ++ more) event (Chunk id) own is mid in
       let b = has (journal ++ more) mid (grown journal more others h) in
       let object = and-then (part_of offset size) (last_put (journal ++ more) (Chunk id)) b.0 b.1 in
       let stands = last-stands client.collects (journal ++ more) (Chunk id) object.0 tt mid.before.so_far object.1 in
-      got-meets ReadWell (beside client ids) (λ reply. on_answer (λ bytes. Done (Ok (Is_held bytes))) (object_told want id offset size reply)) (journal ++ more) event own.tidy.good ((journal ++ more) ++ event ∷ []) (Chunk id) is
+      got-meets ReadWell (beside client ids) (λ reply. on_answer (λ bytes. Done (Ok (Bytes bytes))) (object_told want id offset size reply)) (journal ++ more) event own.tidy.good ((journal ++ more) ++ event ∷ []) (Chunk id) is
       (λ st e.
       let read : read_chunk want offset size st.bytes ≡ Ok b.0 = chunk-read want offset size st.bytes b.0 (ap (part_of offset size) (stands.bytes_are st e) ∙ object.2) b.2 in
-      subst (λ (r : Result (List ℕ) Bad). Meets ReadWell (beside client ids) (on_answer (λ bytes. Done (Ok (Is_held bytes))) (at_key (Chunk id) r)) ((journal ++ more) ++ event ∷ [])) (sym read)
-      (done-meets ReadWell (beside client ids) (Ok (Is_held b.0)) ((journal ++ more) ++ event ∷ []) after))
+      subst (λ (r : Result (List ℕ) Bad). Meets ReadWell (beside client ids) (on_answer (λ bytes. Done (Ok (Bytes bytes))) (at_key (Chunk id) r)) ((journal ++ more) ++ event ∷ [])) (sym read)
+      (done-meets ReadWell (beside client ids) (Ok (Bytes b.0)) ((journal ++ more) ++ event ∷ []) after))
       (λ gone. done-meets ReadWell (beside client ids) (Err (R.Missing (Chunk id))) ((journal ++ more) ++ event ∷ []) (missing-plain client.collects (Chunk id) (λ none. stands.there none gone)))
       (λ done. done-meets ReadWell (beside client ids) (Err R.StoreFault) ((journal ++ more) ++ event ∷ []) refl))
 
@@ -156,7 +156,7 @@ module _ (client : Client) (ids : AnyIds) (s : SessionState) where
           let b = has-place (Inline bytes) journal is journal h (extends-same (puts_of journal)) in
           let same : bytes ≡ b.0 = some-same bytes b.0 b.1 in
           subst (λ (r : Result (List ℕ) Bad). Meets ReadWell (beside client ids) (found_bytes (at_key (Manifest id) r)) journal) (sym (inline-read at.bytes bytes (ap length same ∙ b.2)))
-          (done-meets ReadWell (beside client ids) (Ok (Is_held bytes)) journal h)
+          (done-meets ReadWell (beside client ids) (Ok (Bytes bytes)) journal h)
       place-meets id (Object object offset size) journal h is = object-meets at.bytes object offset size journal h (has-place (Object object offset size) journal is)
 
       -- the first manifest says this, or those behind it have the chunk
@@ -209,7 +209,7 @@ module _ (client : Client) (ids : AnyIds) (s : SessionState) where
         (b.0, b.1, is-whole client ids s h k path index at t b.0 (by-entry s path index at t (puts_of h) (Some (Some place)) e ∙ b.1))
 
     pub at-meets : (entry : Option (Option Place)) → entry_in s.held.chunks at.node index ≡ entry → (journal : List Event) → Held client ids s journal → Meets ReadWell (beside client ids) (read_at s path index at entry) journal
-    at-meets (Some (Some (Inline bytes))) e journal h = done-meets ReadWell (beside client ids) (Ok (Is_held bytes)) journal h
+    at-meets (Some (Some (Inline bytes))) e journal h = done-meets ReadWell (beside client ids) (Ok (Bytes bytes)) journal h
     at-meets (Some (Some (Object id offset size))) e journal h = object-meets at.bytes id offset size journal h (entry-has (Object id offset size) e journal)
     at-meets (Some None) e journal h = done-meets ReadWell (beside client ids) (Ok Fill) journal h
     at-meets None e journal h = listed-meets e all (own-of-base s.rows path at.node) journal h (λ puts x. refl)

@@ -18,8 +18,8 @@ use Rattle.manifest_file.specs.declared.manifest.Place.{Place}
 use Rattle.snapshot_file.specs.declared.snapshot.SnapshotFile.{SnapshotFile}
 use Rattle.txn_file.specs.declared.log.TxnFile.{TxnFile}
 use Rattle.conflicts.specs.declared.solving.Policy.{Policy}
-use Rattle.repo_objects.specs.declared.bad.Bad.{Bad}
-use Rattle.repo_objects.specs.declared.bad.Bad.TheVariants.{Unlisted}
+use Rattle.repo_objects.specs.declared.bad_objects.Bad.{Bad}
+use Rattle.repo_objects.specs.declared.bad_objects.Bad.TheVariants.{Unlisted}
 use Rattle.repo_objects.specs.Laws.{SnapshotLaw}
 use Rattle.repo_objects.specs.Readings.{read_snapshot, snapshot_by, read_log, log_by, read_ref}
 use Rattle.repo_objects.specs.Trees.{nodes_in}
@@ -42,7 +42,7 @@ use Rattle.repo_read.specs.Chains.{most_snapshots}
 use Rattle.session.specs.Sessions.{SessionState, base_nodes, branch_of, moved_to, origin_at, writes}
 use Rattle.commit_path.proofs.Entries.{filter-fewer}
 use Rattle.rebase.specs.declared.machine.Rebased.{Rebased}
-use Rattle.rebase.specs.declared.machine.Rebased.TheVariants.{Moved, UpToDate}
+use Rattle.rebase.specs.declared.machine.Rebased.TheVariants.{OnHead, UpToDate}
 use Rattle.rebase.specs.Along.{Link, left_at, solved_at, first_hidden}
 use Rattle.rebase.specs.Rebasing.{Commits, head_of, walk_down, if_solved, solve_link, solve_program, on_head, over_commits, after_ref, rebase_program}
 use Rattle.rebase.proofs.Walking.{IsHead, IsHead-append, got-head}
@@ -276,16 +276,16 @@ module _ (client : Client) (ids : AnyIds) (law : SnapshotLaw) (policy : Policy) 
 
   -- ---- the rebase
   abbrev pub RebasesWell : Result Rebased Refusal → List Event → Type 0
-  RebasesWell (Ok (Moved t count)) h = MayCommit client t h
+  RebasesWell (Ok (OnHead t count)) h = MayCommit client t h
   RebasesWell (Ok (UpToDate t)) h = MayCommit client t h
   RebasesWell (Err why) h = IsFine client.collects why
 
   head-meets : (named : Resolved) (count : ℕ) (c : Commits) (held : Held Place) (h : List Event) → Chain named c h → IsLess s.held held → Meets RebasesWell (beside client ids) (on_head s named count (head_of c.oldest c.later) held) h
   head-meets named count c held h k less = by_test (nat_lt most_nodes (len (nodes_over held (nodes_in (head_of c.oldest c.later).nodes))))
     where
-      by_test : (b : Bool) → Meets RebasesWell (beside client ids) (cond b (Done (Err (R.Edit E.Full))) (Done (Ok (Moved (moved_to s named.id named.version.0 (head_of c.oldest c.later) held) count)))) h
+      by_test : (b : Bool) → Meets RebasesWell (beside client ids) (cond b (Done (Err (R.Edit E.Full))) (Done (Ok (OnHead (moved_to s named.id named.version.0 (head_of c.oldest c.later) held) count)))) h
       by_test true = done-meets RebasesWell (beside client ids) (Err (R.Edit E.Full)) h (inl refl)
-      by_test false = done-meets RebasesWell (beside client ids) (Ok (Moved (moved_to s named.id named.version.0 (head_of c.oldest c.later) held) count)) h (record {
+      by_test false = done-meets RebasesWell (beside client ids) (Ok (OnHead (moved_to s named.id named.version.0 (head_of c.oldest c.later) held) count)) h (record {
         before = k.may.before;
         known = k.may.known;
         opened = moved-opened s named.id named.version.0 (head_of c.oldest c.later) held h k.branch k.top less k.may.opened;

@@ -27,11 +27,11 @@ use Rattle.session.specs.declared.session.Listing.{Listing}
 use Rattle.session.specs.Sessions.{SessionState, branch_of, nodes_seen, writes}
 use Rattle.session.specs.Opening.{open_program}
 use Rattle.session.specs.Editing as session
-use Rattle.play_script.specs.declared.scripts.Call.{Call}
-use Rattle.play_script.specs.declared.scripts.Call.TheVariants.{Edit, Read, Commit, Ref, Prop}
-use Rattle.play_script.specs.declared.scripts.EditCall.{EditCall}
-use Rattle.play_script.specs.declared.scripts.ReadCall.{ReadCall}
-use Rattle.play_script.specs.declared.scripts.Access.{Access}
+use Rattle.script_calls.specs.declared.calls.Call.{Call}
+use Rattle.script_calls.specs.declared.calls.Call.TheVariants.{Edit, Read, Commit, Ref, Prop}
+use Rattle.script_calls.specs.declared.calls.EditCall.{EditCall}
+use Rattle.script_calls.specs.declared.calls.ReadCall.{ReadCall}
+use Rattle.script_calls.specs.declared.calls.Access.{Access}
 use Rattle.play_script.specs.declared.scripts.Line.{Line}
 use Rattle.play_outcome.specs.declared.outcome.Shown.{Shown}
 use Rattle.play_outcome.specs.declared.outcome.End.{End}
@@ -53,12 +53,12 @@ use Rattle.commit_path.specs.declared.commit.Tried.TheVariants.{Done as Was_done
 use Rattle.commit_path.specs.Committing.{commit_program}
 use Rattle.conflicts.specs.declared.solving.Policy.{Policy}
 use Rattle.rebase.specs.declared.machine.Rebased.{Rebased}
-use Rattle.rebase.specs.declared.machine.Rebased.TheVariants.{Moved, UpToDate}
+use Rattle.rebase.specs.declared.machine.Rebased.TheVariants.{OnHead, UpToDate}
 use Rattle.rebase.specs.Rebasing.{rebase_program}
 use Rattle.commit_path.proofs.Editing.{node-added, text-set, node-dropped, added-opened, set-opened, dropped-opened}
 use Rattle.commit_path.proofs.Setting.{chunk-unset, without-opened}
-use Rattle.play_script.specs.declared.scripts.EditCall.TheVariants.{Set as Set_call, Fill, Put, KeySet}
-use Rattle.play_script.specs.declared.scripts.ReadCall.TheVariants.{List as List_call, Get as Get_call, Chunk as Chunk_call, Cells, KeyGet}
+use Rattle.script_calls.specs.declared.calls.EditCall.TheVariants.{Set as Set_call, Fill, Put, KeySet}
+use Rattle.script_calls.specs.declared.calls.ReadCall.TheVariants.{List as List_call, Get as Get_call, Chunk as Chunk_call, Cells, KeyGet}
 use Rattle.play_script.specs.Well.{IsWellPath, IsWellEdit, IsWellLine}
 use Rattle.zarr_keys.specs.Keys.{session_of, meta_value, put_over}
 use Rattle.play_tasks.specs.Lines.{deed, edit_deed, read_deed, edited, read_by, silent, still, nodes_shown, meta_shown, value_shown, cells_shown, key_shown, chunk_key_shown, key_set_deed, key_get_deed, filled, Goes}
@@ -303,7 +303,7 @@ module _ (client : Client) (ids : AnyIds) where
     -- and what follows that of a rebase
     rebased-meets : (line : ℕ) (shown : List Shown) (policy : Policy) (s : SessionState) (again : SessionState → Play Outcome) → ((t : SessionState) (h : List Event) → MayCommit client t h → PlayMeets Ends (beside client ids) (again t) h)
         → (r : Result Rebased Refusal) (h : List Event) → RebasesWell client ids law policy s r h → PlayMeets Ends (beside client ids) (after_rebase line shown again r) h
-    rebased-meets line shown policy s again go (Ok (Moved t count)) h q = or-meets Ends (beside client ids) (again t) (refused line shown R.NoMemory) h (go t h q) (refused-meets line shown R.NoMemory h refl)
+    rebased-meets line shown policy s again go (Ok (OnHead t count)) h q = or-meets Ends (beside client ids) (again t) (refused line shown R.NoMemory) h (go t h q) (refused-meets line shown R.NoMemory h refl)
     rebased-meets line shown policy s again go (Ok (UpToDate t)) h q = or-meets Ends (beside client ids) (again t) (refused line shown R.NoMemory) h (go t h q) (refused-meets line shown R.NoMemory h refl)
     rebased-meets line shown policy s again go (Err why) h q = refused-fine line shown why h q
 
@@ -319,7 +319,7 @@ module _ (client : Client) (ids : AnyIds) where
     tries-meet : (tries : ℕ) (policy : Policy) (line : ℕ) (shown : List Shown) (message : List ℕ) (s : SessionState) (journal : List Event) → MayCommit client s journal → PlayMeets Ends (beside client ids) (commit_play tries policy line shown message s) journal
     unfolding commit_play
     tries-meet zero policy line shown message s journal k =
-        lost-meets line shown message s journal k (λ old there next. refused line shown (R.Conflict old there)) (λ old there next h m. refused-meets line shown (R.Conflict old there) h refl)
+        lost-meets line shown message s journal k (λ old there next. refused line shown (R.LostRace old there)) (λ old there next h m. refused-meets line shown (R.LostRace old there) h refl)
     tries-meet (suc tries) policy line shown message s journal k =
         let again = λ (t : SessionState). commit_play tries policy line shown message t in
         lost-meets line shown message s journal k (λ old there next. call (rebase_program policy (record s { ids = next })) (after_rebase line shown again)) (λ old there next h m.

@@ -9,7 +9,7 @@ use Rattle.ice_ids.specs.Text.{initial_id}
 use Rattle.snapshot_file.specs.declared.snapshot.SnapshotFile.{SnapshotFile}
 use Rattle.repo_objects.specs.Readings.{snapshot_by}
 use Rattle.object_store.specs.declared.keys.Key.{Key}
-use Rattle.object_store.specs.declared.keys.Key.TheVariants.{Snapshot, Manifest, Txn, Chunk, Branch, Tag, TagGone, Lease}
+use Rattle.object_store.specs.declared.keys.Key.TheVariants.{Snapshot, Manifest, Txn, Chunk, Branch, Tag, Tombstone, Lease}
 use Rattle.object_store.specs.declared.events.Op.{Op}
 use Rattle.object_store.specs.declared.events.Op.TheVariants.{Get, PutNew, PutOver, Remove, RemoveAt, List as ListPart}
 use Rattle.object_store.specs.declared.events.Event.{Event}
@@ -43,7 +43,7 @@ PutsNew who bytes (Manifest id) = who id
 PutsNew who bytes (Chunk id) = who id
 PutsNew who bytes (Branch name) = Unit {0}
 PutsNew who bytes (Tag name) = Unit {0}
-PutsNew who bytes (TagGone name) = Unit {0}
+PutsNew who bytes (Tombstone name) = Unit {0}
 PutsNew who bytes (Lease id) = who id
 
 -- nothing is removed at a version but branches; keys are removed by collections, and politeness says what is put over
@@ -67,7 +67,7 @@ new-weaker who more f bytes (Manifest id) p = f id p
 new-weaker who more f bytes (Chunk id) p = f id p
 new-weaker who more f bytes (Branch name) p = tt
 new-weaker who more f bytes (Tag name) p = tt
-new-weaker who more f bytes (TagGone name) p = tt
+new-weaker who more f bytes (Tombstone name) p = tt
 new-weaker who more f bytes (Lease id) p = f id p
 
 pub puts-weaker : (who more : Id12 → Type 0) → ((id : Id12) → who id → more id) → (op : Op) → Puts who op → Puts more op
@@ -161,7 +161,7 @@ no-object (Txn id) o b = b
 no-object (Chunk id) o b = b
 no-object (Branch name) o b = o
 no-object (Tag name) o b = o
-no-object (TagGone name) o b = o
+no-object (Tombstone name) o b = o
 no-object (Lease id) o b = o
 
 -- no key is removed but a branch

@@ -10,7 +10,7 @@ use Rattle.ice_ids.specs.declared.drawing.Draw.{Draw}
 use Rattle.ice_ids.specs.Drawing.{DrawsOnce}
 use Rattle.zarr_tree.specs.Changes.{none}
 use Rattle.object_store.specs.declared.keys.Key.{Key}
-use Rattle.object_store.specs.declared.keys.Key.TheVariants.{Snapshot, Manifest, Txn, Chunk, Branch, Tag, TagGone, Lease}
+use Rattle.object_store.specs.declared.keys.Key.TheVariants.{Snapshot, Manifest, Txn, Chunk, Branch, Tag, Tombstone, Lease}
 use Rattle.object_store.specs.declared.events.Op.{Op}
 use Rattle.object_store.specs.declared.events.Op.TheVariants.{Get, PutNew, PutOver, Remove, RemoveAt, List as ListPart}
 use Rattle.object_store.specs.declared.events.Event.{Event}
@@ -33,8 +33,8 @@ use Rattle.repo_objects.specs.Laws.{InitialLaw, SnapshotLaw}
 use Rattle.repository.specs.Beginning.{begin_program}
 use Rattle.repository.specs.Refs.{refs_program}
 use Rattle.play_script.specs.Collections.{has_collection, is_collection}
-use Rattle.play_script.specs.declared.scripts.Head.{Head}
-use Rattle.play_script.specs.declared.scripts.Head.TheVariants.{Session, Refs, Collect, Expire, Check}
+use Rattle.script_calls.specs.declared.calls.Head.{Head}
+use Rattle.script_calls.specs.declared.calls.Head.TheVariants.{Session, Refs, Collect, Expire, Check}
 use Rattle.play_script.specs.declared.scripts.Script.{Script}
 use Rattle.play_script.specs.declared.scripts.Task.{Task}
 use Rattle.play_script.specs.Well.{IsWell, IsWellTask}
@@ -110,7 +110,7 @@ new-puts ids mine who f g journal bytes (Manifest id) o = g id o
 new-puts ids mine who f g journal bytes (Chunk id) o = g id o
 new-puts ids mine who f g journal bytes (Branch name) o = absurd o
 new-puts ids mine who f g journal bytes (Tag name) o = absurd o
-new-puts ids mine who f g journal bytes (TagGone name) o = absurd o
+new-puts ids mine who f g journal bytes (Tombstone name) o = absurd o
 new-puts ids mine who f g journal bytes (Lease id) o = absurd o
 
 owes-puts : (ids : AnyIds) (mine : Sessions) (who : Id12 → Type 0) → ((h : List Event) (s : SessionState) (id : Id12) → mine h s id → who id) → ((id : Id12) → MayDrawObject ids id → who id) → (journal : List Event) (op : Op) → Owes ids mine journal op → Puts who op

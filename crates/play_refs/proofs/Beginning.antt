@@ -15,8 +15,8 @@ use Rattle.refs_admin.specs.Branches.{branch_new_program, branch_reset_program}
 use Rattle.refs_admin.specs.Tags.{tag_new_program}
 use Rattle.refs_admin.specs.Logs.{log_program}
 use Rattle.refs_admin.specs.inside.Working.{branch_new_rest, branch_new_left, branch_reset_rest, branch_reset_left, tag_new_rest, tag_new_left, log_rest, log_left}
-use Rattle.play_script.specs.declared.scripts.RefCall.{RefCall}
-use Rattle.play_script.specs.declared.scripts.RefCall.TheVariants as ref
+use Rattle.script_calls.specs.declared.calls.RefCall.{RefCall}
+use Rattle.script_calls.specs.declared.calls.RefCall.TheVariants as ref
 use Rattle.play_outcome.specs.declared.outcome.Outcome.{Outcome}
 use Rattle.play_refs.specs.declared.working.RefMaker.TheVariants as m
 use Rattle.play_refs.specs.declared.working.RefMachine.TheVariants.{Making, Reading}

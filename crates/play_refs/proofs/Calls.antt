@@ -22,8 +22,8 @@ use Rattle.refs_admin.specs.BranchTelling.{BranchNewTells, BranchResetTells, Bra
 use Rattle.refs_admin.specs.TagTelling.{TagNewTells, TagDropTells}
 use Rattle.refs_admin.specs.LogTelling.{LogTells}
 use Rattle.refs_admin.specs.Laws.{RefsLaw}
-use Rattle.play_script.specs.declared.scripts.RefCall.{RefCall}
-use Rattle.play_script.specs.declared.scripts.RefCall.TheVariants as ref
+use Rattle.script_calls.specs.declared.calls.RefCall.{RefCall}
+use Rattle.script_calls.specs.declared.calls.RefCall.TheVariants as ref
 use Rattle.play_outcome.specs.declared.outcome.Shown.{Shown}
 use Rattle.play_outcome.specs.declared.outcome.Outcome.{Outcome}
 use Rattle.play_outcome.proofs.Plays.{Keeps-both}

@@ -11,9 +11,9 @@ use Rattle.store_api.specs.Plays.{Play, PlayKeeps, PlayLeads}
 use Rattle.store_api.proofs.Programs.{events_of-others}
 use Rattle.repo_read.proofs.Own.{MadeGets-none}
 use Rattle.refs_admin.specs.Laws.{RefsLaw}
-use Rattle.play_script.specs.declared.scripts.RefCall.TheVariants as ref
-use Rattle.play_script.specs.declared.scripts.Call.{Call}
-use Rattle.play_script.specs.declared.scripts.Call.TheVariants as call
+use Rattle.script_calls.specs.declared.calls.RefCall.TheVariants as ref
+use Rattle.script_calls.specs.declared.calls.Call.{Call}
+use Rattle.script_calls.specs.declared.calls.Call.TheVariants as call
 use Rattle.play_script.specs.declared.scripts.Line.{Line}
 use Rattle.play_outcome.specs.declared.outcome.Shown.{Shown}
 use Rattle.play_outcome.specs.declared.outcome.End.{End}

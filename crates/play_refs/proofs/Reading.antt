@@ -2,7 +2,7 @@
 use Rattle.std.proofs.Common.{◌≡◌, ℕ, zero, suc, false, List, [], ◌∷◌, ◌++◌, Option, Some, None, sym, ap, ◌∙◌}
 use Rattle.std.specs.Prelude.{Ok}
 use Rattle.ice_ids.specs.declared.Id12.{Id12}
-use Rattle.object_store.specs.declared.keys.Key.TheVariants.{Snapshot, Branch, Tag, TagGone}
+use Rattle.object_store.specs.declared.keys.Key.TheVariants.{Snapshot, Branch, Tag, Tombstone}
 use Rattle.object_store.specs.declared.events.Op.{Op}
 use Rattle.object_store.specs.declared.events.Reply.{Reply}
 use Rattle.store_api.specs.Program.{Prog, Done, Ask, moves_branch}
@@ -23,8 +23,8 @@ use Rattle.play_refs.proofs.Shaped.{first-gets}
 
 resolving-gets : (x : Resolving) → Gets (resolving_rest x)
 resolving-gets (Get_of.Branch name) = then-gets (resolve_program name) _ (ask-gets (Branch name) _ (λ reply. done-gets _)) (λ read. done-gets _)
-resolving-gets (Get_of.Tag name) = then-gets (tag_program name) _ (ask-gets (Tag name) _ (λ reply. done-gets _)) (λ id. then-gets (tombstone_program name id) _ (ask-gets (TagGone name) _ (λ reply. done-gets _)) (λ own. done-gets _))
-resolving-gets (Get_of.Tombstone name id) = then-gets (tombstone_program name id) _ (ask-gets (TagGone name) _ (λ reply. done-gets _)) (λ own. done-gets _)
+resolving-gets (Get_of.Tag name) = then-gets (tag_program name) _ (ask-gets (Tag name) _ (λ reply. done-gets _)) (λ id. then-gets (tombstone_program name id) _ (ask-gets (Tombstone name) _ (λ reply. done-gets _)) (λ own. done-gets _))
+resolving-gets (Get_of.Tombstone name id) = then-gets (tombstone_program name id) _ (ask-gets (Tombstone name) _ (λ reply. done-gets _)) (λ own. done-gets _)
 
 walk-on : (left : ℕ) (lines : List LogLine) (parent : Option Id12) → ((more : List LogLine) (id : Id12) → Gets (log_walk left more id)) → Gets (elim parent as (λ x. Program (List LogLine)) [ Some id ↦ log_walk left lines id | None ↦ Done (Ok lines) ])
 walk-on left lines (Some id) g = g lines id

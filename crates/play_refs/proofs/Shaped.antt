@@ -4,7 +4,7 @@ use Rattle.std.specs.Prelude.{Ok, Err}
 use Rattle.ice_base.specs.Names.{main_name, same_name}
 use Rattle.ice_ids.specs.declared.Id12.{Id12}
 use Rattle.snapshot_file.specs.declared.snapshot.SnapshotFile.{SnapshotFile}
-use Rattle.object_store.specs.declared.keys.Key.TheVariants.{Snapshot, Branch, Tag, TagGone}
+use Rattle.object_store.specs.declared.keys.Key.TheVariants.{Snapshot, Branch, Tag, Tombstone}
 use Rattle.object_store.specs.declared.events.Version.{Version}
 use Rattle.object_store.specs.declared.events.Op.{Op}
 use Rattle.store_api.specs.declared.machines.Refusal.{Refusal}
@@ -27,7 +27,7 @@ use Rattle.play_refs.proofs.Shapes.{Gets, ask-gets, done-gets, then-gets, Ends, 
 -- ---- what names a snapshot, and the snapshot
 pub resolve-gets : (at : At) → Gets (resolve_at_program at)
 resolve-gets (At.Branch name) = then-gets (resolve_program name) _ (ask-gets (Branch name) _ (λ reply. done-gets _)) (λ read. done-gets _)
-resolve-gets (At.Tag name) = then-gets (tag_program name) _ (ask-gets (Tag name) _ (λ reply. done-gets _)) (λ id. then-gets (tombstone_program name id) _ (ask-gets (TagGone name) _ (λ reply. done-gets _)) (λ own. done-gets _))
+resolve-gets (At.Tag name) = then-gets (tag_program name) _ (ask-gets (Tag name) _ (λ reply. done-gets _)) (λ id. then-gets (tombstone_program name id) _ (ask-gets (Tombstone name) _ (λ reply. done-gets _)) (λ own. done-gets _))
 resolve-gets (At.Snapshot id) = done-gets _
 
 pub target-gets : (id : Id12) → Gets (target_program id)

@@ -27,7 +27,7 @@ use Rattle.repo_read.specs.Resolving.{resolve_at_program}
 use Rattle.repo_read.specs.Naming.{NamingTells}
 use Rattle.repo_read.proofs.Own.{MadeGets-none, MadeGets-get, one-made}
 use Rattle.repo_read.proofs.Namings.{naming-leads}
-use Rattle.refs_admin.proofs.Replies.{new-cases}
+use Rattle.repo_read.proofs.Replies.{new-cases}
 use Rattle.refs_admin.specs.Targets.{target_program, target_told}
 use Rattle.refs_admin.specs.Tags.{taken, after_tag, put_tag, tag_target_program, tag_new_program}
 use Rattle.refs_admin.specs.TagTelling.{tags, TagWasThere, TagNewTells}

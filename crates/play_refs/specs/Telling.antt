@@ -1,7 +1,7 @@
 -- What the outcome of a task that calls on refs says of the journal, in words that name no machine and no program. (Own.)
 use Rattle.std.specs.Prelude.{◌≡◌, ◌⊎◌, ℕ, List, [], ◌∷◌, ◌++◌, map, Result, Ok, Err}
 use Rattle.object_store.specs.declared.keys.Key.{Key}
-use Rattle.object_store.specs.declared.keys.Key.TheVariants.{Snapshot, Manifest, Txn, Chunk, Branch, Tag, TagGone, Lease}
+use Rattle.object_store.specs.declared.keys.Key.TheVariants.{Snapshot, Manifest, Txn, Chunk, Branch, Tag, Tombstone, Lease}
 use Rattle.object_store.specs.declared.keys.Why.{Why}
 use Rattle.object_store.specs.declared.keys.Why.TheVariants as why
 use Rattle.object_store.specs.declared.events.Version.{Version}
@@ -16,10 +16,10 @@ use Rattle.refs_admin.specs.declared.log.LogLine.{LogLine}
 use Rattle.refs_admin.specs.BranchTelling.{BranchNewTells, BranchResetTells, BranchDropTells, WasCreated, WasReset, WasDropped}
 use Rattle.refs_admin.specs.TagTelling.{TagNewTells, TagDropTells, TagWasThere, WasTagPut, WasBuried}
 use Rattle.refs_admin.specs.LogTelling.{LogTells}
-use Rattle.play_script.specs.declared.scripts.RefCall.{RefCall}
-use Rattle.play_script.specs.declared.scripts.RefCall.TheVariants as ref
-use Rattle.play_script.specs.declared.scripts.Call.{Call}
-use Rattle.play_script.specs.declared.scripts.Call.TheVariants as call
+use Rattle.script_calls.specs.declared.calls.RefCall.{RefCall}
+use Rattle.script_calls.specs.declared.calls.RefCall.TheVariants as ref
+use Rattle.script_calls.specs.declared.calls.Call.{Call}
+use Rattle.script_calls.specs.declared.calls.Call.TheVariants as call
 use Rattle.play_script.specs.declared.scripts.Line.{Line}
 use Rattle.play_outcome.specs.declared.outcome.Shown.{Shown}
 use Rattle.play_outcome.specs.declared.outcome.End.{End}
@@ -36,7 +36,7 @@ OwesNewRef w (Txn id) = ⊥
 OwesNewRef w (Chunk id) = ⊥
 OwesNewRef w (Branch name) = w ≡ why.Create
 OwesNewRef w (Tag name) = w ≡ why.Tag
-OwesNewRef w (TagGone name) = w ≡ why.Drop
+OwesNewRef w (Tombstone name) = w ≡ why.Drop
 OwesNewRef w (Lease id) = ⊥
 
 -- it changes a branch that is there, for this reason
@@ -47,7 +47,7 @@ IsOfBranch for w (Txn id) = ⊥
 IsOfBranch for w (Chunk id) = ⊥
 IsOfBranch for w (Branch name) = w ≡ for
 IsOfBranch for w (Tag name) = ⊥
-IsOfBranch for w (TagGone name) = ⊥
+IsOfBranch for w (Tombstone name) = ⊥
 IsOfBranch for w (Lease id) = ⊥
 
 -- It gets anything; it makes, resets and drops branches, and makes and drops tags. It puts no object.

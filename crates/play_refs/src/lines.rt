@@ -8,8 +8,9 @@ ghost use Rattle.play_refs.specs.inside.Working.{Begins, is_well, lines_from, mo
 
 use crate::working::{RefMachine, RefMaker, Working};
 use play_outcome::{End, Outcome, Shown, Shows};
-use play_script::{Call, Line, RefCall};
+use play_script::Line;
 use refs_admin::{BranchDrop, BranchNew, BranchReset, Log, LogLine, TagDrop, TagNew};
+use script_calls::{Call, RefCall};
 use std::alloc::{AllocError, Global};
 use store_api::Refusal;
 

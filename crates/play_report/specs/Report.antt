@@ -129,7 +129,7 @@ key_lines name line (key.Snapshot id) what = []
 key_lines name line (key.Manifest id) what = []
 key_lines name line (key.Txn id) what = []
 key_lines name line (key.Chunk id) what = []
-key_lines name line (key.TagGone ref) what = []
+key_lines name line (key.Tombstone ref) what = []
 key_lines name line (key.Lease id) what = []
 
 abbrev pub case_lines : List ℕ → ℕ → RefCase → List ℕ

@@ -69,7 +69,7 @@ fn add_case_lines<K: Sink>(out: &mut Draft, to: &mut K, task: &[u8], line: u32, 
         | Key::Manifest(_)
         | Key::Txn(_)
         | Key::Chunk(_)
-        | Key::TagGone(_)
+        | Key::Tombstone(_)
         | Key::Lease(_) => {}
     }
 }

@@ -2,12 +2,11 @@
 #![tactic(auto)]
 
 ghost use Rattle.std.specs.Prelude.{◌≡◌, ◌++◌, codes, decimal};
-ghost use Rattle.zarr_meta.specs.Shown.{text_of};
 ghost use Rattle.zarr_tree.specs.Cases.{number};
 ghost use Rattle.drafts.specs.Drafts.{Took};
 ghost use Rattle.play_report.specs.Words.{◌space◌};
 ghost use Rattle.play_report.specs.Refusals.{conflict_text, conflicts_text, edit_text, frozen_text, index_text, kind_text, more_numbers, place_text, prop_text, refusal_text, region_text, version_text};
-ghost use Rattle.store_api.specs.declared.machines.Refusal.TheVariants.{Conflict as Lost, Left, Moved};
+ghost use Rattle.store_api.specs.declared.machines.Refusal.TheVariants.{LostRace, Left, Moved};
 
 use crate::words::{
     add_id, add_path, add_small, add_told_id, add_told_key, add_told_number, add_told_numbers,
@@ -19,7 +18,6 @@ use ice_base::Sink;
 use ice_ids::Id12;
 use snapshot_file::PropFault;
 use store_api::{Refusal, RegionFault, Version};
-use zarr_meta::MetaFault;
 use zarr_path::Index;
 use zarr_tree::{Case, Conflict, EditFault, Frozen};
 
@@ -67,28 +65,6 @@ fn prop_text(fault: PropFault) -> &'static str
         PropFault::Twice => "twice",
         PropFault::Many => "many",
         PropFault::NoMemory => "nomemory",
-    }
-}
-
-/// The member of metadata that is at fault.
-fn meta_text(fault: &MetaFault) -> &'static str
-    ensures { result.now ≡ text_of fault.now }
-{
-    match fault {
-        MetaFault::Json => "json",
-        MetaFault::Format => "zarr_format",
-        MetaFault::NodeType => "node_type",
-        MetaFault::Shape => "shape",
-        MetaFault::DataType => "data_type",
-        MetaFault::Grid => "chunk_grid",
-        MetaFault::KeyEncoding => "chunk_key_encoding",
-        MetaFault::Fill => "fill_value",
-        MetaFault::Codec => "codecs",
-        MetaFault::Transformers => "storage_transformers",
-        MetaFault::Attributes => "attributes",
-        MetaFault::Names => "dimension_names",
-        MetaFault::Extra(_) => "extra",
-        MetaFault::NoMemory => "no memory",
     }
 }
 
@@ -194,7 +170,7 @@ fn add_moved<K: Sink>(out: &mut Draft, to: &mut K, found: Option<Version>)
 
 /// The version that was read of a branch, and the one that stood there, behind a word.
 fn add_lost<K: Sink>(out: &mut Draft, to: &mut K, old: Version, found: Option<Version>)
-    ensures { Took out.old (K.at to.old) (refusal_text (Lost old found)) out.new (K.at to.new) }
+    ensures { Took out.old (K.at to.old) (refusal_text (LostRace old found)) out.new (K.at to.new) }
 {
     out.add(to, b"conflict ");
     out.add_number(to, old.0);
@@ -238,7 +214,7 @@ pub fn add_refusal<K: Sink>(out: &mut Draft, to: &mut K, why: &Refusal)
     match why {
         Refusal::NoRef => out.add(to, b"noref"),
         Refusal::Edit(fault) => add_edit(out, to, *fault),
-        Refusal::BadMeta(fault) => add_told_text(out, to, "badmeta", meta_text(fault)),
+        Refusal::BadMeta(fault) => add_told_text(out, to, "badmeta", fault.text()),
         Refusal::ReadOnly => out.add(to, b"readonly"),
         Refusal::Missing(key) => add_told_key(out, to, "missing", key),
         Refusal::BadFile(key, _) => add_told_key(out, to, "badfile", key),
@@ -248,7 +224,7 @@ pub fn add_refusal<K: Sink>(out: &mut Draft, to: &mut K, why: &Refusal)
         Refusal::NoMemory => out.add(to, b"nomemory"),
         Refusal::IdsSpent => out.add(to, b"idsspent"),
         Refusal::BadKey => out.add(to, b"badkey"),
-        Refusal::Conflict { old, found } => add_lost(out, to, *old, *found),
+        Refusal::LostRace { old, found } => add_lost(out, to, *old, *found),
         Refusal::NothingToCommit => out.add(to, b"nothing"),
         Refusal::TooLarge(kind) => add_told_text(out, to, "toolarge", kind_text(*kind)),
         Refusal::InDoubt { snapshot } => add_told_id(out, to, "indoubt", *snapshot),
@@ -256,7 +232,7 @@ pub fn add_refusal<K: Sink>(out: &mut Draft, to: &mut K, why: &Refusal)
         Refusal::NotAncestor { head } => add_told_id(out, to, "notancestor", *head),
         Refusal::RefExists(version) => add_told_number(out, to, "refexists", version.0),
         Refusal::NoSnapshot => out.add(to, b"nosnapshot"),
-        Refusal::TagGone => out.add(to, b"taggone"),
+        Refusal::TagDropped => out.add(to, b"taggone"),
         Refusal::MainKept => out.add(to, b"mainkept"),
         Refusal::Moved { found } => add_moved(out, to, *found),
         Refusal::CutoffAhead { now } => add_told_number(out, to, "cutoffahead", *now),

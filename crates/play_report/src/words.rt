@@ -77,7 +77,7 @@ pub fn add_key<K: Sink>(out: &mut Draft, to: &mut K, key: &Key)
         Key::Chunk(id) => add_object(out, to, "chunks/", *id),
         Key::Branch(name) => add_ref_object(out, to, "refs/branch.", name, "/ref.json"),
         Key::Tag(name) => add_ref_object(out, to, "refs/tag.", name, "/ref.json"),
-        Key::TagGone(name) => add_ref_object(out, to, "refs/tag.", name, "/ref.json.deleted"),
+        Key::Tombstone(name) => add_ref_object(out, to, "refs/tag.", name, "/ref.json.deleted"),
         Key::Lease(id) => add_object(out, to, "leases/", *id),
     }
 }

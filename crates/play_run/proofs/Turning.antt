@@ -24,8 +24,8 @@ use Rattle.chunk_calls.proofs.Lasting.{tells-law}
 use Rattle.store_api.proofs.Happening.{ChangedNothing-others}
 use Rattle.store_api.proofs.Standing.{IsPolite-append}
 use Rattle.commit_path.proofs.Singling.{HasPutAlike-others}
-use Rattle.play_script.specs.declared.scripts.Head.{Head}
-use Rattle.play_script.specs.declared.scripts.Head.TheVariants.{Session, Refs, Collect, Expire, Check}
+use Rattle.script_calls.specs.declared.calls.Head.{Head}
+use Rattle.script_calls.specs.declared.calls.Head.TheVariants.{Session, Refs, Collect, Expire, Check}
 use Rattle.play_script.specs.declared.scripts.Task.{Task}
 use Rattle.play_refs.proofs.Playing.{RefsTells-others}
 use Rattle.play_collect.proofs.Lasting.{owed-others, CollectedTells-others}

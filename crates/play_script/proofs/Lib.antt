@@ -1,17 +1,6 @@
-pub mod Digits
-pub mod Fills
-pub mod Cutoffs
-pub mod PlainText
 pub mod LastTask
-pub mod Earliest
-pub mod Pairs
-pub mod Cuts
-pub mod Utf8
 pub mod NextLine
 pub mod Inversions
-pub mod WellCutoffs
-pub mod HexTexts
-pub mod ArrayUtf8
 pub mod WellLines
 pub mod WellTasks
 pub mod WellRead

@@ -5,18 +5,18 @@ use Rattle.std.specs.List.{list_any}
 use Rattle.std.proofs.lemmas.Cmp.{nat_list_eq_equiv}
 use Rattle.std.proofs.lemmas.List.{map-append}
 use Rattle.indexmap.specs.IndexSet.{insert_key}
-use Rattle.play_script.specs.declared.faults.ScriptKind.TheVariants as k
-use Rattle.play_script.specs.declared.scripts.Call.{Call}
-use Rattle.play_script.specs.declared.scripts.Head.{Head}
+use Rattle.script_values.specs.declared.kinds.ScriptKind.TheVariants as k
+use Rattle.script_calls.specs.declared.calls.Call.{Call}
+use Rattle.script_calls.specs.declared.calls.Head.{Head}
 use Rattle.play_script.specs.declared.scripts.Task.{Task}
 use Rattle.play_script.specs.declared.scripts.Script.{Script}
-use Rattle.play_script.specs.Words.{Text}
-use Rattle.play_script.specs.Parts.{◌&◌, only_if}
-use Rattle.play_script.specs.Values.{◌reads◌, task_name_of}
-use Rattle.play_script.specs.Forms.{form_of}
+use Rattle.script_values.specs.Words.{Text}
+use Rattle.script_values.specs.Parts.{◌&◌, only_if}
+use Rattle.script_values.specs.Values.{◌reads◌, task_name_of}
+use Rattle.script_calls.specs.Forms.{form_of}
 use Rattle.play_script.specs.Places.{last, is_open, takes, with_line, body_line, is_used, with_task}
 use Rattle.play_script.specs.SoFar.{task_names, is_among}
-use Rattle.play_script.proofs.Inversions.{made_ok, task_name_ok}
+use Rattle.script_values.proofs.Inversions.{made_ok, task_name_ok}
 use Rattle.play_script.proofs.WellTasks.{names-append, names-onto_last}
 
 pub any_mapped : {X Y : Type 0} (p : Y → Bool) (h : X → Y) (xs : List X) → list_any (λ x. p (h x)) xs ≡ list_any p (map h xs)
@@ -46,5 +46,5 @@ pub body_names : (s t : Script) (n : ℕ) (first : Text) (rest : Option Text) �
 unfolding body_line
 body_names s t n first rest is =
     let f = form_of first rest in
-    let m = made_ok (λ (v : Unit {0} × Call). with_line s n v.1) (only_if (is_open s && takes (last s.tasks) f.class) k.Place & f.call) t (sym is) in
+    let m = made_ok (λ (v : Unit {0} × Call). with_line s n v.1) (only_if (is_open s && takes (last s.tasks) f.class) k.Misplaced & f.call) t (sym is) in
     ap (λ (u : Script). task_names u.tasks) (sym m.2) ∙ names-onto_last (record { number = n; call = m.0.1 }) s.tasks

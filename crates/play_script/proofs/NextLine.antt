@@ -1,8 +1,8 @@
 -- One line after the other.
 use Rattle.std.proofs.Common.{◌≡◌, ℕ, ◌+◌, false, List, [], ◌∷◌, Result, Ok, Err, length, arith, refl, sym, ◌∙◌}
-use Rattle.play_script.specs.declared.faults.ScriptKind.{ScriptKind}
+use Rattle.script_values.specs.declared.kinds.ScriptKind.{ScriptKind}
 use Rattle.play_script.specs.declared.scripts.Script.{Script}
-use Rattle.play_script.specs.Words.{Text, lines_of}
+use Rattle.script_values.specs.Words.{Text, lines_of}
 use Rattle.play_script.specs.Places.{has_line, line_at}
 use Rattle.play_script.specs.Reading.{lines_from}
 

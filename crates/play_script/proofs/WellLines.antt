@@ -9,33 +9,34 @@ use Rattle.ice_ids.specs.declared.Id12.{Id12}
 use Rattle.conflicts.specs.declared.solving.Policy.{Policy}
 use Rattle.repo_read.specs.declared.resolving.At.{At}
 use Rattle.repo_read.specs.declared.resolving.At.TheVariants as at
-use Rattle.play_script.specs.declared.faults.ScriptKind.{ScriptKind}
-use Rattle.play_script.specs.declared.scripts.Call.{Call}
-use Rattle.play_script.specs.declared.scripts.Call.TheVariants as call
-use Rattle.play_script.specs.declared.scripts.CellBox.{CellBox}
-use Rattle.play_script.specs.declared.scripts.EditCall.TheVariants as edit
-use Rattle.play_script.specs.declared.scripts.ReadCall.TheVariants as read
-use Rattle.play_script.specs.declared.faults.ScriptKind.TheVariants as k
-use Rattle.play_script.specs.declared.scripts.RefCall.TheVariants as ref
-use Rattle.play_script.specs.declared.scripts.Access.{Access}
-use Rattle.play_script.specs.declared.scripts.Access.TheVariants as access
-use Rattle.play_script.specs.declared.scripts.Head.{Head}
-use Rattle.play_script.specs.declared.scripts.Head.TheVariants as head
+use Rattle.script_values.specs.declared.kinds.ScriptKind.{ScriptKind}
+use Rattle.script_calls.specs.declared.calls.Call.{Call}
+use Rattle.script_calls.specs.declared.calls.Call.TheVariants as call
+use Rattle.script_calls.specs.declared.calls.CellBox.{CellBox}
+use Rattle.script_calls.specs.declared.calls.EditCall.TheVariants as edit
+use Rattle.script_calls.specs.declared.calls.ReadCall.TheVariants as read
+use Rattle.script_values.specs.declared.kinds.ScriptKind.TheVariants as k
+use Rattle.script_calls.specs.declared.calls.RefCall.TheVariants as ref
+use Rattle.script_calls.specs.declared.calls.Access.{Access}
+use Rattle.script_calls.specs.declared.calls.Access.TheVariants as access
+use Rattle.script_calls.specs.declared.calls.Head.{Head}
+use Rattle.script_calls.specs.declared.calls.Head.TheVariants as head
 use Rattle.play_script.specs.declared.scripts.Task.{Task}
 use Rattle.play_script.specs.declared.scripts.Turn.{Turn}
-use Rattle.play_script.specs.declared.scripts.Class.{Class}
-use Rattle.play_script.specs.declared.scripts.Class.TheVariants as c
-use Rattle.play_script.specs.declared.forms.Form.{Form}
-use Rattle.play_script.specs.Words.{Text, cut_of, next, one, two, three, four, five}
-use Rattle.play_script.specs.Parts.{◌&◌, made}
-use Rattle.play_script.specs.Values.{◌reads◌, path_of, text_of, ref_name_of, id_of, tries_in, policy_in, numbers_of, fill_of, count_of, index_of, bytes_of, byte_of, corner_of, cells_of, cutoff_of, flags_of}
-use Rattle.play_script.specs.Arrays.{array_line_text}
-use Rattle.play_script.specs.Forms.{taken, lone_path, path_and_text, array_of, path_and_array, path_and_index, chunk_and_bytes, chunk_and_byte, cell_box, box_of, lone_box, box_and_cells, lone_key, key_and_bytes, node_edit_of, chunk_edit_of, key_edit_of, edit_of, read_of, commit_of, name_and_value, prop_of, at_of, lone_at, lone_name, name_and_at, ref_of, form, no_form, form_of, write_of, refs_of, collect_of, expire_of, check_of, head_of}
+use Rattle.script_calls.specs.declared.calls.Class.{Class}
+use Rattle.script_calls.specs.declared.calls.Class.TheVariants as c
+use Rattle.script_calls.specs.declared.forms.Form.{Form}
+use Rattle.script_values.specs.Words.{Text, cut_of, next, one, two, three, four, five}
+use Rattle.script_values.specs.Parts.{◌&◌, made}
+use Rattle.script_values.specs.Values.{◌reads◌, path_of, text_of, ref_name_of, id_of, tries_in, policy_in, numbers_of, fill_of, count_of, index_of, bytes_of, byte_of, corner_of, cells_of, cutoff_of, flags_of}
+use Rattle.script_values.specs.Arrays.{array_line_text}
+use Rattle.script_calls.specs.Forms.{taken, lone_path, path_and_text, array_of, path_and_array, path_and_index, chunk_and_bytes, chunk_and_byte, cell_box, box_of, lone_box, box_and_cells, lone_key, key_and_bytes, node_edit_of, chunk_edit_of, key_edit_of, edit_of, read_of, commit_of, name_and_value, prop_of, at_of, lone_at, lone_name, name_and_at, ref_of, form, no_form, form_of, write_of, refs_of, collect_of, expire_of, check_of, head_of}
 use Rattle.play_script.specs.Places.{class_of, client_from, turn, turn_of}
 use Rattle.play_script.specs.Well.{IsWellPath, IsWellText, IsWellIndex, IsWellBox, AreWellCells, IsWellEdit, IsWellRead, IsWellAt, IsWellRef, IsWellCall, IsWellAccess, IsWellHead, IsWellTurn}
-use Rattle.play_script.proofs.Inversions.{made_ok, both_ok, taken_ok, path_ok, text_ok, ref_name_ok, numbers_ok, fill_ok, count_ok, index_ok, byte_ok, bytes_ok, corner_ok, cells_ok, tries_ok}
-use Rattle.play_script.proofs.WellCutoffs.{IsCutoff, cutoff_ok}
-use Rattle.play_script.proofs.ArrayUtf8.{array_utf8}
+use Rattle.script_values.proofs.Inversions.{made_ok, both_ok, path_ok, text_ok, ref_name_ok, numbers_ok, fill_ok, count_ok, index_ok, byte_ok, bytes_ok, tries_ok}
+use Rattle.play_script.proofs.Inversions.{taken_ok, corner_ok, cells_ok}
+use Rattle.script_values.proofs.WellCutoffs.{IsCutoff, cutoff_ok}
+use Rattle.script_values.proofs.ArrayUtf8.{array_utf8}
 
 lone_path_ok : (rest : Option Text) (path : Text) → lone_path rest ≡ Ok path → IsWellPath path
 unfolding lone_path

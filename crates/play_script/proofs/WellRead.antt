@@ -5,25 +5,26 @@ use Rattle.std.specs.List.{All, onto_first}
 use Rattle.std.specs.Str.{is_utf8}
 use Rattle.std.proofs.lemmas.Bool.{and_parts, both_ways, not-true, ltb-true, cond_both}
 use Rattle.std.proofs.lemmas.List.Elements.{All-nil, All-push}
-use Rattle.play_script.specs.declared.faults.ScriptKind.{ScriptKind}
-use Rattle.play_script.specs.declared.faults.ScriptKind.TheVariants as k
-use Rattle.play_script.specs.declared.scripts.Call.{Call}
-use Rattle.play_script.specs.declared.scripts.Head.{Head}
-use Rattle.play_script.specs.declared.scripts.Head.TheVariants as head
+use Rattle.script_values.specs.declared.kinds.ScriptKind.{ScriptKind}
+use Rattle.script_values.specs.declared.kinds.ScriptKind.TheVariants as k
+use Rattle.script_calls.specs.declared.calls.Call.{Call}
+use Rattle.script_calls.specs.declared.calls.Head.{Head}
+use Rattle.script_calls.specs.declared.calls.Head.TheVariants as head
 use Rattle.play_script.specs.declared.scripts.Line.{Line}
 use Rattle.play_script.specs.declared.scripts.Task.{Task}
 use Rattle.play_script.specs.declared.scripts.Turn.{Turn}
 use Rattle.play_script.specs.declared.scripts.Script.{Script}
-use Rattle.play_script.specs.Words.{Text, cut_of, pieces, next, lines_of}
-use Rattle.play_script.specs.Parts.{◌&◌, each, only_if}
-use Rattle.play_script.specs.Values.{◌reads◌, task_name_of}
-use Rattle.play_script.specs.Forms.{taken, form_of, head_of}
+use Rattle.script_values.specs.Words.{Text, cut_of, pieces, next, lines_of}
+use Rattle.script_values.specs.Parts.{◌&◌, each, only_if}
+use Rattle.script_values.specs.Values.{◌reads◌, task_name_of}
+use Rattle.script_calls.specs.Forms.{taken, form_of, head_of}
 use Rattle.play_script.specs.Places.{most_tasks, last, is_open, class_of, head_takes, takes, onto_last, with_line, body_line, is_passed, has_line, is_used, with_task, is_head_placed, may_begin, task_line, head_line, turn_of, turns_line, words_line, line_at}
 use Rattle.play_script.specs.declared.faults.ScriptFault.{ScriptFault}
 use Rattle.play_script.specs.Reading.{most_bytes, at_line, lines_from, empty, IsReading}
 use Rattle.play_script.specs.SoFar.{task_names}
 use Rattle.play_script.specs.Well.{IsLineNumber, HasItsLine, IsWellTurn, IsWell}
-use Rattle.play_script.proofs.Inversions.{made_ok, both_ok, only_if_ok, taken_ok, each_ok, task_name_ok}
+use Rattle.script_values.proofs.Inversions.{made_ok, both_ok, only_if_ok, each_ok, task_name_ok}
+use Rattle.play_script.proofs.Inversions.{taken_ok}
 use Rattle.play_script.proofs.WellLines.{form_ok, head_ok, refs_word, turn_ok}
 use Rattle.play_script.proofs.WellTasks.{IsBegun, HaveLines, tasks_more, all_lines, lines_kept, lines_behind, lines_more, well_tasks, length-onto_last, names-onto_last, names_more, no_turns}
 
@@ -43,8 +44,8 @@ body_well : (s : Script) (n : ℕ) (first : Text) (rest : Option Text) (before c
 unfolding body_line
 body_well s n first rest before comes w number t h =
     let f = form_of first rest in
-    let m = made_ok (λ (v : Unit {0} × Call). with_line s n v.1) (only_if (is_open s && takes (last s.tasks) f.class) k.Place & f.call) t h in
-    let b = both_ok (only_if (is_open s && takes (last s.tasks) f.class) k.Place) f.call m.0 m.1 in
+    let m = made_ok (λ (v : Unit {0} × Call). with_line s n v.1) (only_if (is_open s && takes (last s.tasks) f.class) k.Misplaced & f.call) t h in
+    let b = both_ok (only_if (is_open s && takes (last s.tasks) f.class) k.Misplaced) f.call m.0 m.1 in
     let placed = and_parts (is_open s) (takes (last s.tasks) f.class) (only_if_ok _ _ _ b.0) in
     let call = form_ok first rest m.0.1 b.1 in
     let line : Line = record { number = n; call = m.0.1 } in
@@ -78,7 +79,7 @@ first_line s after word rest head.Refs placed is none = absurd (both_ways (has_l
 task_well : (s : Script) (n : ℕ) (after : List Text) (name word : Text) (rest : Option Text) → IsSoFar false s → IsLineNumber n → IsSoFarIfRead (has_line after) (task_line s n after name word rest)
 unfolding task_line may_begin
 task_well s n after name word rest w number t h =
-    let place = only_if (is_head_placed s after word) k.Place in
+    let place = only_if (is_head_placed s after word) k.Misplaced in
     let few = only_if (nat_lt (length s.tasks) most_tasks) k.Many in
     let unused = only_if (not (is_used s.tasks name)) k.Name in
     let m = made_ok (λ (v : ((Unit {0} × Text) × Head)). with_task s n v.0.1 v.1) (may_begin s after name word & task_name_of name & head_of word rest) t h in
@@ -110,8 +111,8 @@ head_well s n after rest w number t h =
 turns_well : (s : Script) (rest : Option Text) (comes : Bool) → IsSoFar false s → IsSoFarIfRead comes (turns_line s rest)
 unfolding turns_line
 turns_well s rest comes w t h =
-    let m = made_ok (λ (v : Unit {0} × List Turn). record s { turns = Some v.1 }) (only_if (is_open s) k.Place & each (turn_of s.tasks) (pieces 32 rest)) t h in
-    let b = both_ok (only_if (is_open s) k.Place) (each (turn_of s.tasks) (pieces 32 rest)) m.0 m.1 in
+    let m = made_ok (λ (v : Unit {0} × List Turn). record s { turns = Some v.1 }) (only_if (is_open s) k.Misplaced & each (turn_of s.tasks) (pieces 32 rest)) t h in
+    let b = both_ok (only_if (is_open s) k.Misplaced) (each (turn_of s.tasks) (pieces 32 rest)) m.0 m.1 in
     let turns = each_ok (IsWellTurn (length s.tasks)) (turn_of s.tasks) (pieces 32 rest) m.0.1 (turn_ok s.tasks) b.1 in
     subst (IsSoFar comes) m.2 (record { few = w.few; tasks = w.tasks; lines = lines_kept comes s.tasks (all_lines s.tasks w.lines); names = w.names; turns = turns })
 

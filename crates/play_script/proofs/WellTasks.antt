@@ -5,14 +5,14 @@ use Rattle.std.specs.List.{All}
 use Rattle.std.proofs.lemmas.Bool.{and_parts, and_from, or_parts, not-true, eq-eqb, both_ways}
 use Rattle.std.proofs.lemmas.List.Elements.{All-nil, All-cons, All-head, All-tail, All-push, All-map}
 use Rattle.std.proofs.lemmas.List.Quantifiers.{all_pairs_push}
-use Rattle.play_script.specs.declared.scripts.Head.{Head}
-use Rattle.play_script.specs.declared.scripts.Head.TheVariants as head
+use Rattle.script_calls.specs.declared.calls.Head.{Head}
+use Rattle.script_calls.specs.declared.calls.Head.TheVariants as head
 use Rattle.play_script.specs.declared.scripts.Line.{Line}
 use Rattle.play_script.specs.declared.scripts.Task.{Task}
 use Rattle.play_script.specs.declared.scripts.Turn.{Turn}
-use Rattle.play_script.specs.declared.scripts.Class.{Class}
-use Rattle.play_script.specs.Words.{Text}
-use Rattle.play_script.specs.Values.{◌reads◌, is_task_name}
+use Rattle.script_calls.specs.declared.calls.Class.{Class}
+use Rattle.script_values.specs.Words.{Text}
+use Rattle.script_values.specs.Values.{◌reads◌, is_task_name}
 use Rattle.play_script.specs.Places.{last, class_of, head_takes, is_commit, is_commit_call, takes, onto_last, is_used}
 use Rattle.play_script.specs.SoFar.{task_names}
 use Rattle.play_script.specs.Well.{IsLineNumber, IsWellLine, EndsAtCommit, IsWellHead, AreTaken, HasItsLine, IsWellTask, IsWellTurn}

@@ -1,8 +1,8 @@
 -- Which tasks collect.
 use Rattle.std.specs.Prelude.{Bool, true, false, List}
 use Rattle.std.specs.List.{list_any}
-use Rattle.play_script.specs.declared.scripts.Head.{Head}
-use Rattle.play_script.specs.declared.scripts.Head.TheVariants.{Session, Refs, Collect, Expire, Check}
+use Rattle.script_calls.specs.declared.calls.Head.{Head}
+use Rattle.script_calls.specs.declared.calls.Head.TheVariants.{Session, Refs, Collect, Expire, Check}
 use Rattle.play_script.specs.declared.scripts.Task.{Task}
 
 abbrev pub is_collection : Head → Bool

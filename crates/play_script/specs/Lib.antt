@@ -1,9 +1,3 @@
-pub mod Words
-pub mod Parts
-pub mod Values
-pub mod HexText
-pub mod Arrays
-pub mod Forms
 pub mod Places
 pub mod Reading
 pub mod Well

@@ -2,24 +2,24 @@
 use Rattle.std.specs.Prelude.{ℕ, ◌+◌, ◌-◌, List, [], ◌∷◌, ◌++◌, ◌==◌, nat_lt, if◌then◌else◌, Option, Some, None, is_some, Result, Ok, Err, Bool, true, false, not, ◌&&◌, ◌||◌, length, slice_get, codes}
 use Rattle.std.specs.List.{list_any}
 use Rattle.std.specs.Str.{is_utf8}
-use Rattle.play_script.specs.declared.faults.ScriptKind.{ScriptKind}
-use Rattle.play_script.specs.declared.faults.ScriptKind.TheVariants as k
-use Rattle.play_script.specs.declared.scripts.Call.{Call}
-use Rattle.play_script.specs.declared.scripts.Call.TheVariants as call
-use Rattle.play_script.specs.declared.scripts.Access.{Access}
-use Rattle.play_script.specs.declared.scripts.Access.TheVariants as access
-use Rattle.play_script.specs.declared.scripts.Head.{Head}
-use Rattle.play_script.specs.declared.scripts.Head.TheVariants as head
+use Rattle.script_values.specs.declared.kinds.ScriptKind.{ScriptKind}
+use Rattle.script_values.specs.declared.kinds.ScriptKind.TheVariants as k
+use Rattle.script_calls.specs.declared.calls.Call.{Call}
+use Rattle.script_calls.specs.declared.calls.Call.TheVariants as call
+use Rattle.script_calls.specs.declared.calls.Access.{Access}
+use Rattle.script_calls.specs.declared.calls.Access.TheVariants as access
+use Rattle.script_calls.specs.declared.calls.Head.{Head}
+use Rattle.script_calls.specs.declared.calls.Head.TheVariants as head
 use Rattle.play_script.specs.declared.scripts.Line.{Line}
 use Rattle.play_script.specs.declared.scripts.Task.{Task}
 use Rattle.play_script.specs.declared.scripts.Turn.{Turn}
 use Rattle.play_script.specs.declared.scripts.Script.{Script}
-use Rattle.play_script.specs.declared.scripts.Class.{Class}
-use Rattle.play_script.specs.declared.scripts.Class.TheVariants as c
-use Rattle.play_script.specs.Words.{Text, cut_of, pieces, next}
-use Rattle.play_script.specs.Parts.{◌&◌, made, each, only_if}
-use Rattle.play_script.specs.Values.{◌reads◌, task_name_of, count_of}
-use Rattle.play_script.specs.Forms.{taken, form_of, head_of}
+use Rattle.script_calls.specs.declared.calls.Class.{Class}
+use Rattle.script_calls.specs.declared.calls.Class.TheVariants as c
+use Rattle.script_values.specs.Words.{Text, cut_of, pieces, next}
+use Rattle.script_values.specs.Parts.{◌&◌, made, each, only_if}
+use Rattle.script_values.specs.Values.{◌reads◌, task_name_of, count_of}
+use Rattle.script_calls.specs.Forms.{taken, form_of, head_of}
 
 -- how many tasks a script may have
 abbrev pub most_tasks : ℕ
@@ -83,7 +83,7 @@ with_line s n call = record s { tasks = onto_last (record { number = n; call = c
 unfoldable pub body_line : Script → ℕ → Text → Option Text → Result Script ScriptKind
 body_line s n first rest =
     let f = form_of first rest in
-    made (λ v. with_line s n v.1) (only_if (is_open s && takes (last s.tasks) f.class) k.Place & f.call)
+    made (λ v. with_line s n v.1) (only_if (is_open s && takes (last s.tasks) f.class) k.Misplaced & f.call)
 
 -- which lines are passed over: empty ones and comments
 abbrev pub is_passed : Text → Bool
@@ -114,7 +114,7 @@ is_head_placed s after word = is_open s && (not (word reads codes "refs") || has
 -- what a head asks of the script before it and of the lines behind it
 unfoldable pub may_begin : Script → List Text → Text → Text → Result (Unit {0}) ScriptKind
 may_begin s after name word = made (λ v. v.1) (
-    only_if (is_head_placed s after word) k.Place
+    only_if (is_head_placed s after word) k.Misplaced
     & only_if (nat_lt (length s.tasks) most_tasks) k.Many
     & only_if (not (is_used s.tasks name)) k.Name)
 
@@ -142,7 +142,7 @@ turn_of tasks w =
 
 -- `turns WORDS`
 unfoldable pub turns_line : Script → Option Text → Result Script ScriptKind
-turns_line s rest = made (λ v. record s { turns = Some v.1 }) (only_if (is_open s) k.Place & each (turn_of s.tasks) (pieces 32 rest))
+turns_line s rest = made (λ v. record s { turns = Some v.1 }) (only_if (is_open s) k.Misplaced & each (turn_of s.tasks) (pieces 32 rest))
 
 -- a line by its first word
 unfoldable pub words_line : Script → ℕ → List Text → Text → Option Text → Result Script ScriptKind

@@ -1,11 +1,11 @@
 -- Own: the script that a text stands for, or its first fault.
 use Rattle.std.specs.Prelude.{◌≡◌, ℕ, ◌+◌, List, [], ◌∷◌, ◌==◌, nat_le, if◌then◌else◌, None, Result, Ok, Err, length, take, count_by}
-use Rattle.play_script.specs.declared.faults.ScriptKind.{ScriptKind}
-use Rattle.play_script.specs.declared.faults.ScriptKind.TheVariants.{Long}
+use Rattle.script_values.specs.declared.kinds.ScriptKind.{ScriptKind}
+use Rattle.script_values.specs.declared.kinds.ScriptKind.TheVariants.{Long}
 use Rattle.play_script.specs.declared.faults.ScriptFault.{ScriptFault}
 use Rattle.play_script.specs.declared.faults.ScriptFault.TheVariants.{At, NoMemory}
 use Rattle.play_script.specs.declared.scripts.Script.{Script}
-use Rattle.play_script.specs.Words.{Text, lines_of}
+use Rattle.script_values.specs.Words.{Text, lines_of}
 use Rattle.play_script.specs.Places.{line_at}
 
 -- how many bytes a script may have

@@ -1,12 +1,13 @@
 //! Body lines, each in view of the script before it.
 
 ghost use Rattle.std.specs.Prelude.{◌≡◌, ◌++◌, ◌∷◌, [], IfOk, length, option_map};
-ghost use Rattle.play_script.specs.Words.{seen};
+ghost use Rattle.script_values.specs.Words.{seen};
 ghost use Rattle.play_script.specs.Places.{access_takes, head_takes, is_commit, takes, is_open, onto_last, with_line, body_line};
 
-use crate::faults::{ScriptKind, both, only_if};
-use crate::forms::form_in;
-use crate::scripts::{Access, Call, Class, Head, Line, Script, Task, Tasks};
+use crate::scripts::{Line, Script, Task, Tasks};
+use script_calls::{Access, Call, Class, Head, form_in};
+use script_values::ScriptKind;
+use script_values::parts::{both, only_if};
 use std::alloc::{AllocError, Global};
 
 fn access_takes(access: &Access, class: Class) -> bool
@@ -116,7 +117,7 @@ pub fn body_line(
 {
     let form = form_in(alloc, first, rest)?;
     let placed = is_open(&script) && takes(script.tasks.as_slice().last(), form.class);
-    match both(only_if(placed, ScriptKind::Place), form.call) {
+    match both(only_if(placed, ScriptKind::Misplaced), form.call) {
         Ok(((), call)) => {
             let script = with_line(script, number, call)?;
             Ok(Ok(script))

@@ -1,17 +1,18 @@
 //! Heads of tasks, each in view of the script before it.
 
 ghost use Rattle.std.specs.Prelude.{◌≡◌, ◌+◌, ◌<◌, ◌≤◌, IfOk, length, false};
-ghost use Rattle.play_script.specs.Words.{seen, lines_of};
+ghost use Rattle.script_values.specs.Words.{seen, lines_of};
 ghost use Rattle.play_script.specs.Places.{most_tasks, is_passed, ends_task, has_line, with_task, is_head_placed, may_begin, task_line, head_line};
 ghost use Rattle.play_script.specs.SoFar.{task_names, is_among};
 
 use crate::bodies::is_open;
-use crate::faults::{ScriptKind, both, only_if};
 use crate::names::Names;
-use crate::openings::head_in;
-use crate::scripts::{Head, Lines, Script, Task};
-use crate::values::{TaskName, task_name_in};
-use crate::words::{cut_line, first_word, next};
+use crate::scripts::{Lines, Script, Task};
+use script_calls::{Head, head_in};
+use script_values::parts::{both, only_if};
+use script_values::values::task_name_in;
+use script_values::words::{cut_line, first_word, next};
+use script_values::{ScriptKind, TaskName};
 use std::alloc::{AllocError, Global};
 
 /// How many tasks a script may have.
@@ -105,7 +106,7 @@ fn may_begin(
     ensures few { IfOk result (λ _. length script.now.tasks < most_tasks) }
     ensures unused { IfOk result (λ _. is_among names.now name.now ≡ false) }
 {
-    let placed = only_if(is_head_placed(script, after, word), ScriptKind::Place);
+    let placed = only_if(is_head_placed(script, after, word), ScriptKind::Misplaced);
     let few = only_if(script.tasks.as_slice().len() < MOST_TASKS, ScriptKind::Many);
     let unused = only_if(!names.has(name), ScriptKind::Name);
     match both(both(placed, few), unused) {

@@ -24,30 +24,15 @@
 //! `keep`, `branches`, `tags` or `both`.
 #![tactic(auto)]
 
-mod arrays;
 mod bodies;
-mod boxed;
 mod faults;
-mod forms;
 mod heads;
-mod laws;
-mod lists;
 mod names;
-mod openings;
 mod reading;
-mod refs;
 mod scripts;
 mod turning;
-mod values;
-mod words;
 
-pub use boxed::Boxed;
-pub use faults::{ScriptFault, ScriptKind};
+pub use faults::ScriptFault;
 pub use heads::MOST_TASKS;
-pub use laws::{hex_law, plain_law};
 pub use reading::MOST_BYTES;
-pub use scripts::{
-    Access, Call, CellBox, EditCall, Head, Line, Lines, ReadCall, RefCall, Script, Task, Tasks,
-    Turn, Turns,
-};
-pub use values::TaskName;
+pub use scripts::{Line, Lines, Script, Task, Tasks, Turn, Turns};

@@ -2,19 +2,20 @@
 
 ghost use Rattle.std.specs.Prelude.{◌≡◌, ◌≤◌, ◌<◌, ◌+◌, IfOk, MatchOption, length, false, true, take};
 ghost use Rattle.std.specs.Str.{is_utf8};
-ghost use Rattle.play_script.specs.Words.{seen, lines_of};
+ghost use Rattle.script_values.specs.Words.{seen, lines_of};
 ghost use Rattle.play_script.specs.Places.{most_tasks, words_line, line_at};
 ghost use Rattle.play_script.specs.Reading.{most_bytes, feeds, lines_from, empty, script_of, IsReading};
 ghost use Rattle.play_script.specs.SoFar.{task_names};
 ghost use Rattle.play_script.specs.Well.{IsWell};
 
 use crate::bodies::body_line;
-use crate::faults::{ScriptFault, ScriptKind};
+use crate::faults::ScriptFault;
 use crate::heads::{head_line, is_passed};
 use crate::names::Names;
 use crate::scripts::{Script, Tasks};
 use crate::turning::turns_line;
-use crate::words::{cut, cut_line};
+use script_values::ScriptKind;
+use script_values::words::{cut, cut_line};
 use std::alloc::{AllocError, Global};
 
 /// How many bytes a script may have; who reads one needs the next byte too, to see that it is too long.
@@ -48,7 +49,7 @@ fn words_line(
 }
 
 /// The line as text.
-#[tactic(auto, using(crate::proofs::Utf8::not_text, crate::proofs::Utf8::is_text))]
+#[tactic(auto, using(script_values::proofs::Utf8::not_text, script_values::proofs::Utf8::is_text))]
 fn text_of(line: &[u8]) -> Option<&str>
     ensures { MatchOption result (is_utf8 line.now ≡ false) (λ t. (is_utf8 line.now ≡ true)
         × (t.now ≡ line.now)) }

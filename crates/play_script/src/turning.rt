@@ -1,16 +1,17 @@
 //! The line of turns.
 
 ghost use Rattle.std.specs.Prelude.{◌≡◌, ◌≤◌, IfOk, length};
-ghost use Rattle.play_script.specs.Words.{seen, pieces};
-ghost use Rattle.play_script.specs.Parts.{each};
+ghost use Rattle.script_values.specs.Words.{seen, pieces};
+ghost use Rattle.script_values.specs.Parts.{each};
 ghost use Rattle.play_script.specs.Places.{most_tasks, client_from, turn_of, turns_line};
-ghost use Rattle.play_script.specs.SoFar.{parts_seen};
+ghost use Rattle.script_values.specs.SoFar.{parts_seen};
 
 use crate::bodies::is_open;
-use crate::faults::{ScriptKind, both, only_if, with_part};
 use crate::scripts::{Script, Task, Turn, Turns};
-use crate::values::count_in;
-use crate::words::cut;
+use script_values::ScriptKind;
+use script_values::parts::{both, only_if, with_part};
+use script_values::values::count_in;
+use script_values::words::cut;
 use std::alloc::{AllocError, Global};
 
 /// The number of the task of this name, from 1.
@@ -75,7 +76,7 @@ pub fn turns_line(
     ensures value { IfOk result (λ r. r ≡ turns_line script (seen rest.entry)) }
     ensures few { IfOk result (λ r. IfOk r (λ s. s.tasks ≡ script.tasks)) }
 {
-    let placed = only_if(is_open(&script), ScriptKind::Place);
+    let placed = only_if(is_open(&script), ScriptKind::Misplaced);
     let turns = turns_in(alloc, script.tasks.as_slice(), rest)?;
     let Script { tasks, turns: _ } = script;
     match both(placed, turns) {

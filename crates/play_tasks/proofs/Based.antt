@@ -26,8 +26,8 @@ use Rattle.store_api.proofs.Programs.{Leads-weaker}
 use Rattle.session.specs.declared.origin.Origin.{Origin}
 use Rattle.session.specs.Opening.{Asked}
 use Rattle.repo_read.specs.declared.resolving.At.{At}
-use Rattle.play_script.specs.declared.scripts.Head.{Head}
-use Rattle.play_script.specs.declared.scripts.Head.TheVariants.{Session, Refs, Collect, Expire, Check}
+use Rattle.script_calls.specs.declared.calls.Head.{Head}
+use Rattle.script_calls.specs.declared.calls.Head.TheVariants.{Session, Refs, Collect, Expire, Check}
 use Rattle.play_outcome.specs.declared.outcome.Outcome.{Outcome}
 use Rattle.play_tasks.specs.Playing.{asked_by}
 use Rattle.play_tasks.specs.Bases.{ComesOpen, HasAsked, HasBase, IsAskedFor, IsRebasing, MadeAlone, NamesBase, OpensOrHasBase, WasNamed, naming_key, GetsWalked}

@@ -17,7 +17,7 @@ use Rattle.zarr_changes.specs.Sets.{add_refusal, text_refusal, drop_refusal, uns
 use Rattle.snapshot_file.specs.declared.properties.PropFault.{PropFault}
 use Rattle.snapshot_file.specs.Props.{prop_fault}
 use Rattle.snapshot_file.specs.declared.snapshot.SnapshotFile.{SnapshotFile}
-use Rattle.repo_objects.specs.declared.bad.Bad.{Bad}
+use Rattle.repo_objects.specs.declared.bad_objects.Bad.{Bad}
 use Rattle.repo_objects.specs.Readings.{read_ref, read_snapshot, ref_of}
 use Rattle.conflicts.specs.declared.solving.Policy.{Policy}
 use Rattle.object_store.specs.declared.keys.Key.TheVariants.{Snapshot, Branch, Tag}
@@ -29,7 +29,7 @@ use Rattle.object_store.specs.declared.events.Event.{Event}
 use Rattle.object_store.specs.declared.events.Version.{Version}
 use Rattle.object_store.proofs.Journals.{Each-weaker}
 use Rattle.store_api.specs.declared.machines.Refusal.{Refusal}
-use Rattle.store_api.specs.declared.machines.Refusal.TheVariants.{NoMemory, Conflict, ReadOnly}
+use Rattle.store_api.specs.declared.machines.Refusal.TheVariants.{NoMemory, LostRace, ReadOnly}
 use Rattle.store_api.specs.Callers.{Caller, IsOther, Makes}
 use Rattle.store_api.specs.Program.{Done, bind, Keeps, Leads}
 use Rattle.store_api.specs.Running.{Program, ◌>>=◌, on_answer}
@@ -57,17 +57,17 @@ use Rattle.commit_path.specs.declared.commit.Tried.{Tried}
 use Rattle.commit_path.specs.declared.commit.Tried.TheVariants.{Done as Was_done, Lost}
 use Rattle.commit_path.specs.Committing.{commit_program}
 use Rattle.rebase.specs.declared.machine.Rebased.{Rebased}
-use Rattle.rebase.specs.declared.machine.Rebased.TheVariants.{Moved, UpToDate}
+use Rattle.rebase.specs.declared.machine.Rebased.TheVariants.{OnHead as On_head, UpToDate}
 use Rattle.rebase.specs.Rebasing.{after_ref, rebase_program}
-use Rattle.play_script.specs.declared.scripts.Access.{Access}
-use Rattle.play_script.specs.declared.scripts.Call.{Call}
-use Rattle.play_script.specs.declared.scripts.Call.TheVariants as call
-use Rattle.play_script.specs.declared.scripts.EditCall.{EditCall}
-use Rattle.play_script.specs.declared.scripts.EditCall.TheVariants as edit
+use Rattle.script_calls.specs.declared.calls.Access.{Access}
+use Rattle.script_calls.specs.declared.calls.Call.{Call}
+use Rattle.script_calls.specs.declared.calls.Call.TheVariants as call
+use Rattle.script_calls.specs.declared.calls.EditCall.{EditCall}
+use Rattle.script_calls.specs.declared.calls.EditCall.TheVariants as edit
 use Rattle.play_script.specs.declared.scripts.Line.{Line}
 use Rattle.play_script.specs.Well.{IsWellPath, IsWellEdit}
-use Rattle.play_script.specs.declared.scripts.ReadCall.{ReadCall}
-use Rattle.play_script.specs.declared.scripts.ReadCall.TheVariants as read
+use Rattle.script_calls.specs.declared.calls.ReadCall.{ReadCall}
+use Rattle.script_calls.specs.declared.calls.ReadCall.TheVariants as read
 use Rattle.play_outcome.specs.declared.outcome.Outcome.{Outcome}
 use Rattle.play_outcome.specs.declared.outcome.Shown.{Shown}
 use Rattle.play_outcome.specs.Playing.{refused}
@@ -221,7 +221,7 @@ module _ (by : Caller) (a : Asked) (start : List Event) where
 
   -- ---- a rebase
   abbrev OnHead : Rebased → List Event → Type 0
-  OnHead (Moved t count) h = Base t h
+  OnHead (On_head t count) h = Base t h
   OnHead (UpToDate t) h = Base t h
 
   module _ (policy : Policy) (s : SessionState) (tip : Tip) (is : s.origin ≡ Writes tip) where
@@ -236,7 +236,7 @@ module _ (by : Caller) (a : Asked) (start : List Event) where
     ends-there why h = (tt, tt)
 
     on-head : (named : Resolved) (r : Result Rebased Refusal) (h : List Event) → IfOk r (IsOnHead s named) × Settled by a start named.id (Writes (tip_at named.version.0 tip)) h → IfOk r (λ x. OnHead x h)
-    on-head named (Ok (Moved t count)) h q = settled-as t named.id (Writes (tip_at named.version.0 tip)) h q.0.0 (q.0.1 ∙ ap (origin_at named.version.0) is) q.1
+    on-head named (Ok (On_head t count)) h q = settled-as t named.id (Writes (tip_at named.version.0 tip)) h q.0.0 (q.0.1 ∙ ap (origin_at named.version.0) is) q.1
     on-head named (Ok (UpToDate t)) h q = settled-as t named.id (Writes (tip_at named.version.0 tip)) h q.0.0 (q.0.1 ∙ ap (origin_at named.version.0) is) q.1
     on-head named (Err why) h q = tt
 
@@ -266,7 +266,7 @@ module _ (by : Caller) (a : Asked) (start : List Event) where
 
   rebased-opens : (line : ℕ) (shown : List Shown) (again : SessionState → Play Outcome) → ((u : SessionState) (h : List Event) → Base u h → OpensAll (again u) h) → (x : Rebased) (h : List Event) → OnHead x h → OpensAll (after_rebase line shown again (Ok x)) h
   unfolding PlayKeeps
-  rebased-opens line shown again go (Moved t count) h q = (go t h q, tt)
+  rebased-opens line shown again go (On_head t count) h q = (go t h q, tt)
   rebased-opens line shown again go (UpToDate t) h q = (go t h q, tt)
 
   rebase-opens : (policy : Policy) (line : ℕ) (shown : List Shown) (again : SessionState → Play Outcome) → ((u : SessionState) (h : List Event) → Base u h → OpensAll (again u) h) → (s : SessionState) (h : List Event) → Base s h → OpensAll (call (rebase_program policy s) (after_rebase line shown again)) h
@@ -319,7 +319,7 @@ module _ (by : Caller) (a : Asked) (start : List Event) where
   commit-opens : (tries : ℕ) (policy : Policy) (line : ℕ) (shown : List Shown) (message : List ℕ) (s : SessionState) (h : List Event) → Base s h → OpensAll (commit_play tries policy line shown message s) h
   unfolding commit_play
   commit-opens zero policy line shown message s h x =
-      once-opens line shown s (λ old there next. refused line shown (Conflict old there)) message h x (λ old there next j y. refused-opens line shown (Conflict old there) j)
+      once-opens line shown s (λ old there next. refused line shown (LostRace old there)) message h x (λ old there next j y. refused-opens line shown (LostRace old there) j)
   commit-opens (suc tries) policy line shown message s h x =
       once-opens line shown s (λ old there next. call (rebase_program policy (record s { ids = next })) (after_rebase line shown (commit_play tries policy line shown message))) message h x
       (λ old there next j y. rebase-opens policy line shown (commit_play tries policy line shown message) (λ u k z. commit-opens tries policy line shown message u k z) (record s { ids = next }) j (settled-same s (record s { ids = next }) j (record { base = refl; origin = refl }) y))

@@ -18,7 +18,7 @@ use Rattle.held_manifest.specs.LookUp.{entry_of}
 use Rattle.manifest_index.specs.Merging.{ids_within}
 use Rattle.changed_snapshot.specs.Rows.{own_manifests}
 use Rattle.changed_snapshot.specs.Laws.{KeepsFrozen}
-use Rattle.repo_objects.specs.declared.bad.Bad.{Bad}
+use Rattle.repo_objects.specs.declared.bad_objects.Bad.{Bad}
 use Rattle.repo_objects.specs.Readings.{read_manifest, read_inline, read_chunk}
 use Rattle.object_store.specs.declared.keys.Key.{Key}
 use Rattle.object_store.specs.declared.keys.Key.TheVariants.{Manifest, Chunk as Chunk_key}
@@ -42,7 +42,7 @@ use Rattle.store_api.specs.Running.{Program, ◌>>=◌, on_answer}
 use Rattle.repo_read.specs.Answers.{at_key, manifest_told, object_told}
 use Rattle.repo_read.specs.Programs.{manifest_program, object_program}
 use Rattle.session.specs.declared.chunks.Value.{Value}
-use Rattle.session.specs.declared.chunks.Value.TheVariants.{Held as Is_held, Fill}
+use Rattle.session.specs.declared.chunks.Value.TheVariants.{Bytes, Fill}
 use Rattle.session.specs.Sessions.{SessionState, nodes_seen, overlay}
 use Rattle.session.specs.Arrays.{array_at}
 use Rattle.session.specs.Editing.{refusal_of_edit}
@@ -138,11 +138,11 @@ module _ (may : Op → Type 0) (gets : (key : Key) → is_branch key ≡ false �
   -- ---- a chunk
   part-goes : (want : ℕ) (id : Id12) (offset size : ℕ) → Goes {A = Value} Anything (read_object want id offset size)
   part-goes want id offset size =
-      then-goes {A = List ℕ} Anything Anything (object_program want id offset size) (λ bytes. Done (Ok (Is_held bytes))) (asks-goes (Get (Chunk_key id)) (object_told want id offset size) (gets (Chunk_key id) refl) (object-tells want id offset size))
-      (λ bytes q. done-goes Anything (Ok (Is_held bytes)) tt)
+      then-goes {A = List ℕ} Anything Anything (object_program want id offset size) (λ bytes. Done (Ok (Bytes bytes))) (asks-goes (Get (Chunk_key id)) (object_told want id offset size) (gets (Chunk_key id) refl) (object-tells want id offset size))
+      (λ bytes q. done-goes Anything (Ok (Bytes bytes)) tt)
 
   found-goes : (r : Result (List ℕ) Refusal) → By {A = List ℕ} Anything r → Goes {A = Value} Anything (found r)
-  found-goes (Ok bytes) q = done-goes Anything (Ok (Is_held bytes)) tt
+  found-goes (Ok bytes) q = done-goes Anything (Ok (Bytes bytes)) tt
   found-goes (Err why) q = done-goes Anything (Err why) q
 
   place-goes : (want : ℕ) (manifest : Id12) (place : Place) → Goes {A = Value} Anything (read_place want manifest place)
@@ -150,7 +150,7 @@ module _ (may : Op → Type 0) (gets : (key : Key) → is_branch key ≡ false �
   place-goes want manifest (Object id offset size) = part-goes want id offset size
 
   own-goes : (want : ℕ) (place : Place) → Goes {A = Value} Anything (read_own want place)
-  own-goes want (Inline bytes) = done-goes Anything (Ok (Is_held bytes)) tt
+  own-goes want (Inline bytes) = done-goes Anything (Ok (Bytes bytes)) tt
   own-goes want (Object id offset size) = part-goes want id offset size
 
   keeping-goes : (kept : Kept) (p : Program Value) → Goes {A = Value} Anything p → Goes {A = Chunk} Anything (p >>= keeping kept)

@@ -23,7 +23,7 @@ use Rattle.manifest_index.specs.Merging.{merged_array, ids_within}
 use Rattle.snapshot_file.specs.declared.nodes.ManifestRef.{ManifestRef}
 use Rattle.snapshot_file.specs.declared.nodes.NodeRow.{NodeRow}
 use Rattle.txn_file.specs.Layout.{log_file}
-use Rattle.changed_snapshot.specs.declared.written.NewList.{NewList}
+use Rattle.changed_snapshot.specs.declared.new_snapshot.NewList.{NewList}
 use Rattle.changed_snapshot.specs.Rows.{own_manifests}
 use Rattle.store_api.specs.declared.machines.Refusal.{Refusal}
 use Rattle.store_api.specs.declared.machines.Refusal.TheVariants as R

@@ -3,7 +3,7 @@ use Rattle.std.proofs.Common.{List, ◌++◌, ℕ}
 use Rattle.ice_ids.specs.declared.Id12.{Id12}
 use Rattle.ice_ids.specs.declared.drawing.AnyIds.{AnyIds}
 use Rattle.object_store.specs.declared.keys.Key.{Key}
-use Rattle.object_store.specs.declared.keys.Key.TheVariants.{Snapshot, Manifest, Txn, Chunk, Branch, Tag, TagGone, Lease}
+use Rattle.object_store.specs.declared.keys.Key.TheVariants.{Snapshot, Manifest, Txn, Chunk, Branch, Tag, Tombstone, Lease}
 use Rattle.object_store.specs.declared.keys.Why.{Why}
 use Rattle.object_store.specs.declared.events.Op.{Op}
 use Rattle.object_store.specs.declared.events.Op.TheVariants.{Get, PutNew, PutOver, Remove, RemoveAt, List as ListPart}
@@ -131,7 +131,7 @@ module _ (ids : AnyIds) (mine more : Sessions) (journal : List Event) (f : (s : 
   owes-new bytes (Chunk id) o = o
   owes-new bytes (Branch name) o = o
   owes-new bytes (Tag name) o = o
-  owes-new bytes (TagGone name) o = o
+  owes-new bytes (Tombstone name) o = o
   owes-new bytes (Lease id) o = o
 
   owes-over : (name bytes : List ℕ) (old : ℕ) (why : Why) → OwesOver mine journal name bytes old why → OwesOver more journal name bytes old why
@@ -153,7 +153,7 @@ module _ (ids : AnyIds) (mine more : Sessions) (journal : List Event) (f : (s : 
   owes-put-over bytes old why (Chunk id) o = o
   owes-put-over bytes old why (Branch name) o = owes-over name bytes old why o
   owes-put-over bytes old why (Tag name) o = o
-  owes-put-over bytes old why (TagGone name) o = o
+  owes-put-over bytes old why (Tombstone name) o = o
   owes-put-over bytes old why (Lease id) o = o
 
   owes : (op : Op) → Owes ids mine journal op → Owes ids more journal op

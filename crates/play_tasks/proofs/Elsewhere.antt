@@ -5,9 +5,9 @@ use Rattle.std.proofs.lemmas.Bool.{false≢true}
 use Rattle.ice_ids.specs.declared.Id12.{Id12}
 use Rattle.snapshot_file.specs.declared.snapshot.SnapshotFile.{SnapshotFile}
 use Rattle.object_store.specs.declared.keys.Key.{Key}
-use Rattle.object_store.specs.declared.keys.Key.TheVariants.{Snapshot, Manifest, Txn, Chunk, Branch, Tag, TagGone, Lease}
+use Rattle.object_store.specs.declared.keys.Key.TheVariants.{Snapshot, Manifest, Txn, Chunk, Branch, Tag, Tombstone, Lease}
 use Rattle.object_store.specs.declared.keys.Part.{Part}
-use Rattle.object_store.specs.declared.keys.Part.TheVariants.{Snapshots, Manifests, Txns, Chunks, Branches, Tags}
+use Rattle.object_store.specs.declared.keys.Part.TheVariants.{Snapshots, Manifests, Txns, Chunks, Branches, Tags, Leases}
 use Rattle.object_store.specs.declared.events.Version.{Version}
 use Rattle.object_store.specs.declared.events.Op.{Op}
 use Rattle.object_store.specs.declared.events.Op.TheVariants.{Get, List as ListPart}
@@ -24,7 +24,6 @@ use Rattle.store_api.specs.Plays.{Play, call}
 use Rattle.repo_read.specs.declared.answers.Resolved.{Resolved}
 use Rattle.repo_read.specs.declared.resolving.At.{At}
 use Rattle.repo_read.specs.declared.resolving.Named.{Named}
-use Rattle.repo_read.specs.Answers.{snapshot_told, manifest_told}
 use Rattle.repo_read.specs.Chains.{most_snapshots}
 use Rattle.repo_read.specs.Resolving.{resolve_at_program}
 use Rattle.live_refs.specs.Live.{live}
@@ -37,8 +36,8 @@ use Rattle.refs_admin.specs.Branches.{branch_new_program, branch_reset_program, 
 use Rattle.refs_admin.specs.Tags.{after_tag, put_tag, tag_target_program, tag_new_program, tag_drop_program}
 use Rattle.refs_admin.specs.Logs.{log_program}
 use Rattle.chunk_gc.specs.declared.standing.Collected.{Collected}
-use Rattle.chunk_gc.specs.Told.{first_told, listed_told, ref_got}
-use Rattle.chunk_gc.specs.Programs.{Work, Answer, no_work, get_refs, with_ref, get_files, with_file, leaving_files, with_snapshot, leaving_snapshots, mark_last, mark_next, mark, sweeping, told_doomed, list_chunks, list_manifests, list_logs, list_snapshots, marking, list_tags, mark_program}
+use Rattle.chunk_gc.specs.Told.{first_told, listed_told, ref_got, snapshot_got, manifest_got}
+use Rattle.chunk_gc.specs.Programs.{Work, Answer, no_work, get_refs, with_ref, with_lease, get_files, with_file, leaving_files, with_snapshot, leaving_snapshots, mark_got, mark_last, mark_next, mark, mark_leased, begin_leased, sweeping, told_doomed, list_chunks, list_manifests, list_logs, list_snapshots, marking, list_leases, list_tags, mark_program}
 use Rattle.chunk_gc.specs.Plays.{nothing, counted, after_gone, after_removal, sweep, after_marking, collect_play}
 use Rattle.expiry.specs.declared.terms.Terms.{Terms}
 use Rattle.expiry.specs.declared.look.Decision.{Decision}
@@ -48,11 +47,11 @@ use Rattle.expiry.specs.Verdicts.{is_older, may_drop}
 use Rattle.expiry.specs.declared.look.Seen.{Seen}
 use Rattle.expiry.specs.Looks.{ref_seen, snapshot_seen, next_of, cuts, look_below, most_below, look_head, look_named, look_program}
 use Rattle.expiry.specs.Plays.{drop_op, drop_told, cut_told, decide, after_look, after_case, expire_each, after_listing, listing, all_done, expire_tags, expire_play}
-use Rattle.play_script.specs.declared.scripts.Call.{Call}
-use Rattle.play_script.specs.declared.scripts.Call.TheVariants as calls_of
+use Rattle.script_calls.specs.declared.calls.Call.{Call}
+use Rattle.script_calls.specs.declared.calls.Call.TheVariants as calls_of
 use Rattle.play_script.specs.declared.scripts.Line.{Line}
-use Rattle.play_script.specs.declared.scripts.RefCall.{RefCall}
-use Rattle.play_script.specs.declared.scripts.RefCall.TheVariants as ref
+use Rattle.script_calls.specs.declared.calls.RefCall.{RefCall}
+use Rattle.script_calls.specs.declared.calls.RefCall.TheVariants as ref
 use Rattle.play_outcome.specs.declared.outcome.Outcome.{Outcome}
 use Rattle.play_outcome.specs.declared.outcome.Shown.{Shown}
 use Rattle.play_refs.specs.Playing.{Rest, unseen, logged, ref_play, after_ref, play_ref_line, refs_play}
@@ -173,31 +172,36 @@ refs-once (l ∷ ls) shown = (line-once l.number l.call shown (refs_play ls) (λ
 abbrev Goes : (Work → Answer) → Type 0
 Goes next = (w : Work) → Quiet (next w)
 
-refs-quiet : (keys : List Key) (w : Work) (next : Work → Answer) → Goes next → Quiet (get_refs keys w next)
+refs-quiet : (add : Option Id12 → Work → Work) (keys : List Key) (w : Work) (next : Work → Answer) → Goes next → Quiet (get_refs add keys w next)
 unfolding get_refs
-refs-quiet [] w next g = g w
-refs-quiet (key ∷ keys) w next g = asks-quiet (Get key) (ref_got key) (λ id. get_refs keys (with_ref id w) next) refl (λ id. refs-quiet keys (with_ref id w) next g)
+refs-quiet add [] w next g = g w
+refs-quiet add (key ∷ keys) w next g = asks-quiet (Get key) (ref_got key) (λ id. get_refs add keys (add id w) next) refl (λ id. refs-quiet add keys (add id w) next g)
 
 files-quiet : (ids : List Id12) (w : Work) (next : Work → Answer) → Goes next → Quiet (get_files ids w next)
 unfolding get_files
 files-quiet [] w next g = g w
 files-quiet (id ∷ ids) w next g =
-    asks-quiet (Get (Manifest id)) (manifest_told id) (λ m. get_files ids (with_file m (leaving_files ids w)) next) refl (λ m. files-quiet ids (with_file m (leaving_files ids w)) next g)
+    asks-quiet (Get (Manifest id)) (manifest_got w.passes id) (λ m. get_files ids (with_file m (leaving_files ids w)) next) refl (λ m. files-quiet ids (with_file m (leaving_files ids w)) next g)
 
-next-quiet : (w : Work) (end again : Work → Answer) → Goes end → Goes again → (todo : List Id12) → Quiet (mark_next w end again todo)
-next-quiet w end again g h [] = g w
-next-quiet w end again g h (id ∷ ids) =
-    let known : SnapshotFile → Work = λ s. with_snapshot s (leaving_snapshots ids w) in
-    asks-quiet (Get (Snapshot id)) (snapshot_told id) (λ s. get_files (known s).files.todo (known s) again) refl (λ s. files-quiet (known s).files.todo (known s) again h)
+got-quiet : (id : Id12) (again : Work → Answer) (past : Answer) (w : Work) → Goes again → Quiet past → (o : Option SnapshotFile) → Quiet (mark_got id again past w o)
+got-quiet id again past w h p None = p
+got-quiet id again past w h p (Some s) = files-quiet (with_snapshot id s w).files.todo (with_snapshot id s w) again h
 
-last-quiet : (w : Work) (end : Work → Answer) → Goes end → (todo : List Id12) → Quiet (mark_last w end todo)
-last-quiet w end g [] = g w
-last-quiet w end g (id ∷ ids) = done-quiet _
+next-quiet : (end again : Work → Answer) → Goes end → Goes again → (todo : List Id12) (w : Work) → Quiet (mark_next end again todo w)
+unfolding mark_next
+next-quiet end again g h [] w = g w
+next-quiet end again g h (id ∷ ids) w =
+    let v : Work = leaving_snapshots ids w in
+    asks-quiet (Get (Snapshot id)) (snapshot_got w.passes id) (mark_got id again (mark_next end again ids v) v) refl (got-quiet id again (mark_next end again ids v) v h (next-quiet end again g h ids v))
 
-mark-quiet : (left : ℕ) (w : Work) (end : Work → Answer) → Goes end → Quiet (mark left w end)
+last-quiet : (end : Work → Answer) → Goes end → (todo : List Id12) (w : Work) → Quiet (mark_last end todo w)
+last-quiet end g [] w = g w
+last-quiet end g (id ∷ ids) w = done-quiet _
+
+mark-quiet : (left : ℕ) (end : ℕ → Work → Answer) → ((n : ℕ) → Goes (end n)) → (w : Work) → Quiet (mark left end w)
 unfolding mark
-mark-quiet zero w end g = last-quiet w end g w.snapshots.todo
-mark-quiet (suc left) w end g = next-quiet w end (λ v. mark left v end) g (λ v. mark-quiet left v end g) w.snapshots.todo
+mark-quiet zero end g w = last-quiet (end zero) (g zero) w.snapshots.todo w
+mark-quiet (suc left) end g w = next-quiet (end (suc left)) (λ v. mark left end v) (g (suc left)) (λ v. mark-quiet left end g v) w.snapshots.todo w
 
 objects-quiet : (part : Part) (next : Work → Answer) (w : Work) → Goes next → Quiet (Ask_next (ListPart part) (λ reply. on_answer (λ l. next (sweeping l.entries w)) (listed_told reply)))
 objects-quiet part next w g = asks-quiet (ListPart part) listed_told (λ l. next (sweeping l.entries w)) refl (λ l. g (sweeping l.entries w))
@@ -205,12 +209,23 @@ objects-quiet part next w g = asks-quiet (ListPart part) listed_told (λ l. next
 snapshots-quiet : Goes list_snapshots
 snapshots-quiet w = objects-quiet Snapshots list_logs w (λ u. objects-quiet Txns list_manifests u (λ v. objects-quiet Manifests list_chunks v (λ x. objects-quiet Chunks told_doomed x (λ y. done-quiet (Ok y.doomed)))))
 
+leased-quiet : (left : ℕ) → Goes (mark_leased left)
+leased-quiet left w = mark-quiet left (λ n v. list_snapshots v) (λ n. snapshots-quiet) w
+
+marked-quiet : (passes : Bool) (left : ℕ) → Goes (marking passes left)
+marked-quiet false left w = mark-quiet left (λ n v. mark_leased n (begin_leased v)) (λ n v. leased-quiet n (begin_leased v)) w
+marked-quiet true left w = leased-quiet left w
+
+leases-quiet : (left : ℕ) → Goes (list_leases left)
+leases-quiet left w =
+    asks-quiet (ListPart Leases) listed_told (λ l. get_refs with_lease (live l.entries) w (marking w.passes left)) refl (λ l. refs-quiet with_lease (live l.entries) w (marking w.passes left) (marked-quiet w.passes left))
+
 tags-quiet : (left : ℕ) → Goes (list_tags left)
-tags-quiet left w = asks-quiet (ListPart Tags) listed_told (λ l. get_refs (live l.entries) w (marking left)) refl (λ l. refs-quiet (live l.entries) w (marking left) (λ v. mark-quiet left v list_snapshots snapshots-quiet))
+tags-quiet left w = asks-quiet (ListPart Tags) listed_told (λ l. get_refs with_ref (live l.entries) w (list_leases left)) refl (λ l. refs-quiet with_ref (live l.entries) w (list_leases left) (leases-quiet left))
 
 marking-quiet : (most cutoff : ℕ) → Quiet (mark_program most cutoff)
 marking-quiet most cutoff =
-    asks-quiet (ListPart Branches) (first_told cutoff) (λ l. get_refs (live l.entries) (no_work cutoff) (list_tags most)) refl (λ l. refs-quiet (live l.entries) (no_work cutoff) (list_tags most) (tags-quiet most))
+    asks-quiet (ListPart Branches) (first_told cutoff) (λ l. get_refs with_ref (live l.entries) (no_work cutoff) (list_tags most)) refl (λ l. refs-quiet with_ref (live l.entries) (no_work cutoff) (list_tags most) (tags-quiet most))
 
 gone-once : (key : Key) (next : Removed → Play Collected) → ((r : Removed) → Once (next r)) → (r : Removed) (gone : Gone) → Once (after_gone key next r gone)
 gone-once key next g r (Gone_done now) = g (counted key r)
@@ -269,7 +284,7 @@ drop-none (Snapshot id) version = refl
 drop-none (Manifest id) version = refl
 drop-none (Txn id) version = refl
 drop-none (Chunk id) version = refl
-drop-none (TagGone name) version = refl
+drop-none (Tombstone name) version = refl
 drop-none (Lease id) version = refl
 
 decide-once : (key : Key) (next : Result What Refusal → Play Expired) → ((r : Result What Refusal) → Once (next r)) → (d : Decision) → Once (decide key next d)

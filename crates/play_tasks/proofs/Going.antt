@@ -26,7 +26,7 @@ use Rattle.play_refs.specs.Laws.{RefsTaskLaw}
 use Rattle.play_collect.specs.Laws.{CollectTaskLaw}
 use Rattle.play_expire.specs.Laws.{ExpireTaskLaw}
 use Rattle.play_check.specs.Laws.{CheckTaskLaw}
-use Rattle.play_script.specs.declared.scripts.Access.{Access}
+use Rattle.script_calls.specs.declared.calls.Access.{Access}
 use Rattle.play_script.specs.declared.scripts.Line.{Line}
 use Rattle.play_outcome.specs.declared.outcome.Shown.{Shown}
 use Rattle.play_outcome.specs.declared.outcome.End.{End}

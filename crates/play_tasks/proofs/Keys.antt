@@ -28,7 +28,7 @@ use Rattle.session.specs.declared.chunks.Value.{Value}
 use Rattle.session.specs.Sessions.{SessionState, nodes_seen}
 use Rattle.session.specs.Editing.{Leaves, node_fault, node_added}
 use Rattle.session.specs.Chunks.{get_program}
-use Rattle.play_script.specs.declared.scripts.Access.{Access}
+use Rattle.script_calls.specs.declared.calls.Access.{Access}
 use Rattle.play_script.specs.Well.{IsWellPath}
 use Rattle.play_outcome.specs.declared.outcome.Shown.{Shown}
 use Rattle.play_outcome.specs.declared.outcome.Outcome.{Outcome}

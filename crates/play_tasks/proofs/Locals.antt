@@ -21,7 +21,7 @@ use Rattle.session.specs.Sessions.{SessionState, writes, nodes_seen}
 use Rattle.session.specs.Editing.{Adds, Leaves, refusal_of_edit, node_fault, added, meta_set, node_dropped, if_writes, unless_bad, unless_refused, unless_unfit, drawn_node, prop_added}
 use Rattle.session.specs.Chunks.{chunk_unset}
 use Rattle.zarr_keys.specs.Keys.{session_of}
-use Rattle.play_script.specs.declared.scripts.Access.{Access}
+use Rattle.script_calls.specs.declared.calls.Access.{Access}
 use Rattle.play_script.specs.declared.scripts.Line.{Line}
 use Rattle.play_outcome.specs.declared.outcome.Shown.{Shown}
 use Rattle.play_outcome.specs.declared.outcome.End.TheVariants.{Refused, Done}

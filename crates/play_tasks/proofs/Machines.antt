@@ -23,7 +23,7 @@ use Rattle.object_store.specs.declared.events.Version.{Version}
 use Rattle.commit_path.specs.declared.commit.Tried.{Tried}
 use Rattle.commit_path.specs.Committing.{session_in, message_in, commit_program, commit_rest, IsDrawn, MayRefuseStart as MayRefuseCommit}
 use Rattle.rebase.specs.declared.machine.Rebased.{Rebased}
-use Rattle.rebase.specs.declared.machine.Rebased.TheVariants.{Moved, UpToDate}
+use Rattle.rebase.specs.declared.machine.Rebased.TheVariants.{OnHead, UpToDate}
 use Rattle.rebase.specs.Rebasing.{rebase_program, rebase_rest, MayRefuseStart}
 use Rattle.play_outcome.specs.declared.outcome.Shown.{Shown}
 use Rattle.play_outcome.specs.declared.outcome.End.TheVariants.{Refused}
@@ -130,7 +130,7 @@ lost-refused (suc left) policy line shown message s t old found why task x some 
 
 -- a rebase was answered
 pub rebase-answers : (line : ℕ) (shown : List Shown) (again : SessionState → Play Outcome) (r : Rebased) (s : SessionState) (p : Play Outcome) → s ≡ rebased_session r → Comes (Or (again s) (refused line shown R.NoMemory)) p → Comes (after_rebase line shown again (Ok r)) p
-rebase-answers line shown again (Moved t count) s p is c = subst (λ (x : SessionState). Comes (Or (again x) (refused line shown R.NoMemory)) p) is c
+rebase-answers line shown again (OnHead t count) s p is c = subst (λ (x : SessionState). Comes (Or (again x) (refused line shown R.NoMemory)) p) is c
 rebase-answers line shown again (UpToDate t) s p is c = subst (λ (x : SessionState). Comes (Or (again x) (refused line shown R.NoMemory)) p) is c
 
 -- ---- a call was refused

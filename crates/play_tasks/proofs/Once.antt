@@ -10,7 +10,7 @@ use Rattle.zarr_tree.specs.Touched.{is_untouched}
 use Rattle.zarr_changes.specs.Sets.{changed_arrays}
 use Rattle.snapshot_file.specs.Layout.{snapshot_bytes}
 use Rattle.txn_file.specs.Layout.{log_file}
-use Rattle.changed_snapshot.specs.declared.written.NewList.{NewList}
+use Rattle.changed_snapshot.specs.declared.new_snapshot.NewList.{NewList}
 use Rattle.conflicts.specs.declared.solving.Policy.{Policy}
 use Rattle.object_store.specs.declared.keys.Key.{Key}
 use Rattle.object_store.specs.declared.keys.Key.TheVariants.{Snapshot, Txn}
@@ -45,14 +45,14 @@ use Rattle.commit_path.specs.Committing.{Written, is_long, snap_for, log_for, pu
 use Rattle.commit_path.proofs.Gets.{Gets}
 use Rattle.commit_path.proofs.Opened.{open-gets}
 use Rattle.rebase.specs.declared.machine.Rebased.{Rebased}
-use Rattle.rebase.specs.declared.machine.Rebased.TheVariants.{Moved, UpToDate}
+use Rattle.rebase.specs.declared.machine.Rebased.TheVariants.{OnHead, UpToDate}
 use Rattle.rebase.specs.Rebasing.{after_ref, rebase_program}
 use Rattle.settle.specs.declared.settle.Doubt.{Doubt}
 use Rattle.settle.specs.declared.settle.Settled.{Settled}
 use Rattle.settle.specs.Settling.{settle_program}
-use Rattle.play_script.specs.declared.scripts.Access.{Access}
-use Rattle.play_script.specs.declared.scripts.Head.{Head}
-use Rattle.play_script.specs.declared.scripts.Head.TheVariants.{Session, Refs, Collect, Expire, Check}
+use Rattle.script_calls.specs.declared.calls.Access.{Access}
+use Rattle.script_calls.specs.declared.calls.Head.{Head}
+use Rattle.script_calls.specs.declared.calls.Head.TheVariants.{Session, Refs, Collect, Expire, Check}
 use Rattle.play_script.specs.declared.scripts.Line.{Line}
 use Rattle.play_script.specs.declared.scripts.Task.{Task}
 use Rattle.play_outcome.specs.declared.outcome.Shown.{Shown}
@@ -220,7 +220,7 @@ module _ (line : ℕ) (shown : List Shown) (s : SessionState) (lost : Version �
 module _ (line : ℕ) (shown : List Shown) where
   rebased-once : (again : SessionState → Play Outcome) → ((u : SessionState) → Once (again u)) → (r : Result Rebased Refusal) → Once (after_rebase line shown again r)
   unfolding Once
-  rebased-once again g (Ok (Moved u n)) = (g u, tt)
+  rebased-once again g (Ok (OnHead u n)) = (g u, tt)
   rebased-once again g (Ok (UpToDate u)) = (g u, tt)
   rebased-once again g (Err why) = tt
 
@@ -229,7 +229,7 @@ module _ (line : ℕ) (shown : List Shown) where
 
   tries-once : (tries : ℕ) (policy : Policy) (message : List ℕ) (s : SessionState) → Once (commit_play tries policy line shown message s)
   unfolding commit_play
-  tries-once zero policy message s = commit-once line shown s (λ old found next. refused line shown (R.Conflict old found)) (λ old found next. ends-once line shown (R.Conflict old found)) message
+  tries-once zero policy message s = commit-once line shown s (λ old found next. refused line shown (R.LostRace old found)) (λ old found next. ends-once line shown (R.LostRace old found)) message
   tries-once (suc tries) policy message s =
       commit-once line shown s (λ old found next. call (rebase_program policy (record s { ids = next })) (after_rebase line shown (commit_play tries policy line shown message)))
       (λ old found next. lost-once policy (commit_play tries policy line shown message) (λ u. tries-once tries policy message u) (record s { ids = next })) message

@@ -23,9 +23,9 @@ use Rattle.play_collect.specs.Laws.{CollectOutcomeLaw}
 use Rattle.play_expire.specs.Playing.{terms_of}
 use Rattle.play_expire.specs.Laws.{ExpireOutcomeLaw}
 use Rattle.play_check.specs.Laws.{CheckOutcomeLaw}
-use Rattle.play_script.specs.declared.scripts.Access.{Access}
-use Rattle.play_script.specs.declared.scripts.Head.{Head}
-use Rattle.play_script.specs.declared.scripts.Head.TheVariants.{Session, Refs, Collect, Expire, Check}
+use Rattle.script_calls.specs.declared.calls.Access.{Access}
+use Rattle.script_calls.specs.declared.calls.Head.{Head}
+use Rattle.script_calls.specs.declared.calls.Head.TheVariants.{Session, Refs, Collect, Expire, Check}
 use Rattle.play_script.specs.declared.scripts.Line.{Line}
 use Rattle.play_script.specs.declared.scripts.Task.{Task}
 use Rattle.play_outcome.specs.declared.outcome.End.{End}

@@ -32,12 +32,12 @@ use Rattle.commit_path.specs.Spelled.{IsSpelled}
 use Rattle.commit_path.specs.Laws.{TellsFaults, SessionLaw}
 use Rattle.commit_path.proofs.Sources.{later-same, later-later}
 use Rattle.zarr_keys.specs.Keys.{session_of, meta_value}
-use Rattle.play_script.specs.declared.scripts.Call.{Call}
-use Rattle.play_script.specs.declared.scripts.Call.TheVariants as call
-use Rattle.play_script.specs.declared.scripts.EditCall.{EditCall}
-use Rattle.play_script.specs.declared.scripts.EditCall.TheVariants as edit
-use Rattle.play_script.specs.declared.scripts.ReadCall.{ReadCall}
-use Rattle.play_script.specs.declared.scripts.ReadCall.TheVariants as read
+use Rattle.script_calls.specs.declared.calls.Call.{Call}
+use Rattle.script_calls.specs.declared.calls.Call.TheVariants as call
+use Rattle.script_calls.specs.declared.calls.EditCall.{EditCall}
+use Rattle.script_calls.specs.declared.calls.EditCall.TheVariants as edit
+use Rattle.script_calls.specs.declared.calls.ReadCall.{ReadCall}
+use Rattle.script_calls.specs.declared.calls.ReadCall.TheVariants as read
 use Rattle.play_script.specs.Well.{IsWellPath, IsWellEdit, IsWellCall}
 use Rattle.play_outcome.specs.declared.outcome.Shown.{Shown}
 use Rattle.play_tasks.specs.Lines.{Goes, deed, edit_deed, read_deed, read_by, key_shown, key_set_deed, key_get_deed, silent, still}

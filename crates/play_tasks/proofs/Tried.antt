@@ -12,7 +12,7 @@ use Rattle.commit_path.specs.Single.{HasPutAlike}
 use Rattle.commit_path.specs.Spelled.{IsSpelled}
 use Rattle.rebase.specs.Telling.{HasMoved, WasUpToDate}
 use Rattle.rebase.proofs.Kept.{ref-append, met-append}
-use Rattle.play_script.specs.declared.scripts.Access.{Access}
+use Rattle.script_calls.specs.declared.calls.Access.{Access}
 use Rattle.play_script.specs.declared.scripts.Line.{Line}
 use Rattle.play_tasks.specs.Playing.{tries_of, policy_of}
 use Rattle.play_tasks.specs.Solving.{CameToCommit, WasRebased, WasCarried}

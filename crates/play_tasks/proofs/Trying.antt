@@ -10,7 +10,7 @@ use Rattle.object_store.specs.declared.events.Op.{Op}
 use Rattle.object_store.specs.declared.events.Op.TheVariants.{Get}
 use Rattle.object_store.specs.declared.events.Event.{Event}
 use Rattle.store_api.specs.declared.machines.Refusal.{Refusal}
-use Rattle.store_api.specs.declared.machines.Refusal.TheVariants.{NoMemory, Conflict}
+use Rattle.store_api.specs.declared.machines.Refusal.TheVariants.{NoMemory, LostRace}
 use Rattle.store_api.specs.declared.machines.Refusal.TheVariants as R
 use Rattle.store_api.specs.Journal.{Each, IsGood, IsPolite}
 use Rattle.store_api.specs.Callers.{Caller}
@@ -32,7 +32,7 @@ use Rattle.commit_path.proofs.Singling.{HasPutAlike-same}
 use Rattle.commit_path.proofs.Sources.{later-later}
 use Rattle.rebase.proofs.Alike.{moved-alike, up_to_date-alike}
 use Rattle.rebase.specs.declared.machine.Rebased.{Rebased}
-use Rattle.rebase.specs.declared.machine.Rebased.TheVariants.{Moved, UpToDate}
+use Rattle.rebase.specs.declared.machine.Rebased.TheVariants.{OnHead, UpToDate}
 use Rattle.rebase.specs.Laws.{RebaseLaw, GoesOn, OwnsOn}
 use Rattle.rebase.specs.Rebasing.{rebase_program}
 use Rattle.rebase.specs.Telling.{HasMoved, WasUpToDate, RebaseTells}
@@ -41,7 +41,7 @@ use Rattle.settle.specs.declared.settle.Settled.{Settled}
 use Rattle.settle.specs.Laws.{SettleLaw}
 use Rattle.settle.specs.Settling.{settle_program}
 use Rattle.settle.specs.Telling.{SettleTells}
-use Rattle.play_script.specs.declared.scripts.Access.{Access}
+use Rattle.script_calls.specs.declared.calls.Access.{Access}
 use Rattle.play_script.specs.declared.scripts.Line.{Line}
 use Rattle.play_outcome.specs.declared.outcome.Shown.{Shown}
 use Rattle.play_outcome.specs.declared.outcome.End.{End}
@@ -237,10 +237,10 @@ module _ (L : Laws) (by : Caller) (ids : AnyIds) (access : Access) (body : List 
 
     -- ---- it was lost, and isn't tried again
     spent-well : (count : ℕ) (t : SessionState) → count ≡ tries_of access → (old : Version) (found : Option Version) (next : AnyIds) (h : List Event) → WasMoved by.number t old found next start h → WasCarried by.number policy count s t start h
-        → Well (refused l.number shown (Conflict old found)) h
+        → Well (refused l.number shown (LostRace old found)) h
     spent-well count t spent old found next h moved c =
         let few : count ≤ tries_of access = omega (arith, spent) in
-        tried count t (Refused l.number (Conflict old found)) h few c (inr (inr (inr (inl (record { spent = spent; old = old; found = found; next = next; moved = moved; end_is = refl })))))
+        tried count t (Refused l.number (LostRace old found)) h few c (inr (inr (inr (inl (record { spent = spent; old = old; found = found; next = next; moved = moved; end_is = refl })))))
 
     -- ---- it was lost, and is tried again
     module _ (count : ℕ) (t : SessionState) (less : count < tries_of access) (old : Version) (found : Option Version) (next : AnyIds) (h : List Event) (moved : WasMoved by.number t old found next start h) (c : WasCarried by.number policy count s t start h)
@@ -292,8 +292,8 @@ module _ (L : Laws) (by : Caller) (ids : AnyIds) (access : Access) (body : List 
       rebased : (again : SessionState → Play Outcome) → ((u : SessionState) (journal : List Event) → Stands (suc count) u journal → Well (again u) journal)
           → (answer : Result Rebased Refusal) (journal : List Event) → Rebases answer journal → Well (after_rebase l.number shown again answer) journal
       unfolding PlayKeeps PlayLeads
-      rebased again go (Ok (Moved u n)) journal q =
-          let w = (tells (Ok (Moved u n)) journal q.1.0).0 in
+      rebased again go (Ok (OnHead u n)) journal q =
+          let w = (tells (Ok (OnHead u n)) journal q.1.0).0 in
           let put = moved-alike by.number policy lost u n (start ++ since) journal start journal w (puts journal q.1.0.1) in
           let on = go u journal (stands u journal q.1.0.1 (inl (n, w)) put (ap (λ (x : SessionState). x.ids) w.becomes) q.1.1.0 q.1.1.1 q.0) in
           let off = starved journal (nothing journal q.1.0.1) in
@@ -331,7 +331,7 @@ module _ (L : Laws) (by : Caller) (ids : AnyIds) (access : Access) (body : List 
     unfolding commit_play
     tries-well zero count all t journal x =
         let spent : count ≡ tries_of access = omega (arith, all) in
-        commit-called count t journal x (λ old found next. refused l.number shown (Conflict old found)) (λ old found next h moved c opened came alike owned. spent-well count t spent old found next h moved c)
+        commit-called count t journal x (λ old found next. refused l.number shown (LostRace old found)) (λ old found next h moved c opened came alike owned. spent-well count t spent old found next h moved c)
     tries-well (suc left) count all t journal x =
         let more : suc count + left ≡ tries_of access = omega (arith, all) in
         let less : count < tries_of access = omega (arith, all) in

@@ -14,8 +14,8 @@ use Rattle.session.specs.Chunks.{chunk_unset}
 use Rattle.session.specs.Editing.{group_fault, array_fault, node_fault, added, meta_set, node_dropped}
 use Rattle.commit_path.specs.Laws.{TellsFaults}
 use Rattle.zarr_keys.specs.Keys.{session_of, put_over, erased_at, key_erased}
-use Rattle.play_script.specs.declared.scripts.EditCall.{EditCall}
-use Rattle.play_script.specs.declared.scripts.EditCall.TheVariants as edit
+use Rattle.script_calls.specs.declared.calls.EditCall.{EditCall}
+use Rattle.script_calls.specs.declared.calls.EditCall.TheVariants as edit
 use Rattle.play_script.specs.Well.{IsWellPath, IsWellText, IsWellEdit}
 use Rattle.play_tasks.specs.Lines.{edited}
 

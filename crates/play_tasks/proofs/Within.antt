@@ -33,7 +33,7 @@ use Rattle.snapshot_file.specs.Layout.{snapshot_bytes}
 use Rattle.txn_file.specs.declared.log.TxnFile.{TxnFile}
 use Rattle.txn_file.specs.Layout.{log_file}
 use Rattle.repo_objects.specs.Trees.{nodes_in}
-use Rattle.changed_snapshot.specs.declared.written.NewList.{NewList}
+use Rattle.changed_snapshot.specs.declared.new_snapshot.NewList.{NewList}
 use Rattle.changed_snapshot.specs.Rows.{own_manifests}
 use Rattle.conflicts.specs.declared.solving.Policy.{Policy}
 use Rattle.object_store.specs.declared.keys.Key.{Key}
@@ -55,13 +55,13 @@ use Rattle.repo_read.specs.Answers.{manifest_told, log_told, snapshot_told, obje
 use Rattle.repo_read.specs.Programs.{manifest_program, log_program, snapshot_program, object_program}
 use Rattle.repo_read.specs.Chains.{most_snapshots}
 use Rattle.session.specs.declared.chunks.Value.{Value}
-use Rattle.session.specs.declared.chunks.Value.TheVariants.{Held as Is_held}
+use Rattle.session.specs.declared.chunks.Value.TheVariants.{Bytes}
 use Rattle.session.specs.Sessions.{SessionState, writes, base_nodes, nodes_seen, origin_at, moved_to}
 use Rattle.session.specs.Chunks.{set_program, put_chunk, put_object, after_object, after_draw, with_chunk, unless_fault, most_inline, get_program, read_listed, read_entry, read_place, read_object, read_own, read_at, read_found, found}
 use Rattle.commit_path.specs.declared.commit.Tried.{Tried}
 use Rattle.commit_path.specs.Committing.{Written, manifest_for, is_long, snap_for, after_manifest, with_manifest, put_manifest, write_array, old_program, array_program, arrays_program, put_log, after_log, put_snapshot, after_snapshot, after_branch, after_arrays, log_for, unwritten, commit_program}
 use Rattle.rebase.specs.declared.machine.Rebased.{Rebased}
-use Rattle.rebase.specs.declared.machine.Rebased.TheVariants.{Moved, UpToDate}
+use Rattle.rebase.specs.declared.machine.Rebased.TheVariants.{OnHead, UpToDate}
 use Rattle.rebase.specs.Along.{Link, left_at, solved_at, first_hidden}
 use Rattle.rebase.specs.Rebasing.{Commits, head_of, walk_down, if_solved, solve_link, solve_program, on_head, over_commits, after_ref}
 use Rattle.play_tasks.specs.Bases.{GetsBranch, GetsWalked}
@@ -169,7 +169,7 @@ module _ (may : Op → Type 0) (gets : (key : Key) → is_branch key ≡ false �
 
   part-within : (want : ℕ) (id : Id12) (offset size : ℕ) → WithinOk may Any (read_object want id offset size)
   part-within want id offset size =
-      then-within may (λ (bytes : List ℕ). Unit {0}) Any (object_program want id offset size) (λ bytes. Done (Ok (Is_held bytes))) (asks-within may (Get (Chunk id)) (object_told want id offset size) (gets (Chunk id) refl)) (λ bytes q. done-within may Any (Is_held bytes) tt)
+      then-within may (λ (bytes : List ℕ). Unit {0}) Any (object_program want id offset size) (λ bytes. Done (Ok (Bytes bytes))) (asks-within may (Get (Chunk id)) (object_told want id offset size) (gets (Chunk id) refl)) (λ bytes q. done-within may Any (Bytes bytes) tt)
 
   place-within : (want : ℕ) (manifest : Id12) (place : Place) → WithinOk may Any (read_place want manifest place)
   place-within want manifest (Inline bytes) = found-within _
@@ -311,7 +311,7 @@ commit-within s message =
 -- ---- a rebase behind its get of the branch
 -- the session is on what the branch named
 abbrev pub IsOnHead : SessionState → Resolved → Rebased → Type 0
-IsOnHead s named (Moved t count) = (t.base ≡ named.id) × (t.origin ≡ origin_at named.version.0 s.origin)
+IsOnHead s named (OnHead t count) = (t.base ≡ named.id) × (t.origin ≡ origin_at named.version.0 s.origin)
 IsOnHead s named (UpToDate t) = (t.base ≡ named.id) × (t.origin ≡ origin_at named.version.0 s.origin)
 
 abbrev Came : Commits → Type 0
@@ -360,4 +360,4 @@ ref-within policy s named =
     (λ apart. then-within Climbs Came (IsOnHead s named) (walk_down s.base named.id most_snapshots [] named.id) (over_commits policy s named) (walk-within s.base named.id most_snapshots [] named.id)
     (λ c q. then-within Climbs Solved (IsOnHead s named) (solve_program policy s.held (base_nodes s) (c.oldest ∷ c.later)) (on_head s named (length c.later + 1) (head_of c.oldest c.later)) (solve-within policy s.held (base_nodes s) (c.oldest ∷ c.later))
     (λ held r. either-within Climbs (IsOnHead s named) (nat_lt most_nodes (len (nodes_over held (nodes_in (head_of c.oldest c.later).nodes)))) _ _ (λ many. refused-within Climbs (IsOnHead s named) _)
-    (λ few. done-within Climbs (IsOnHead s named) (Moved (moved_to s named.id named.version.0 (head_of c.oldest c.later) held) (length c.later + 1)) (refl, refl)))))
+    (λ few. done-within Climbs (IsOnHead s named) (OnHead (moved_to s named.id named.version.0 (head_of c.oldest c.later) held) (length c.later + 1)) (refl, refl)))))

@@ -5,7 +5,7 @@ use Rattle.ice_ids.specs.declared.drawing.AnyIds.{AnyIds}
 use Rattle.snapshot_file.specs.declared.snapshot.SnapshotFile.{SnapshotFile}
 use Rattle.repo_objects.specs.Readings.{ref_of, snapshot_by}
 use Rattle.object_store.specs.declared.keys.Key.{Key}
-use Rattle.object_store.specs.declared.keys.Key.TheVariants.{Snapshot, Manifest, Txn, Chunk, Branch, Tag, TagGone, Lease}
+use Rattle.object_store.specs.declared.keys.Key.TheVariants.{Snapshot, Manifest, Txn, Chunk, Branch, Tag, Tombstone, Lease}
 use Rattle.object_store.specs.declared.events.Op.{Op}
 use Rattle.object_store.specs.declared.events.Op.TheVariants.{Get, PutNew, PutOver, Remove, RemoveAt, List as ListPart}
 use Rattle.object_store.specs.declared.events.Reply.{Reply}
@@ -20,8 +20,8 @@ use Rattle.session.specs.declared.origin.Tip.{Tip}
 use Rattle.session.specs.declared.origin.Origin.{Origin}
 use Rattle.session.specs.declared.origin.Origin.TheVariants.{Writes, ReadsBranch, ReadsTag, ReadsId}
 use Rattle.session.specs.Opening.{Asked, of_branch}
-use Rattle.play_script.specs.declared.scripts.Head.{Head}
-use Rattle.play_script.specs.declared.scripts.Head.TheVariants.{Session, Refs, Collect, Expire, Check}
+use Rattle.script_calls.specs.declared.calls.Head.{Head}
+use Rattle.script_calls.specs.declared.calls.Head.TheVariants.{Session, Refs, Collect, Expire, Check}
 use Rattle.play_script.specs.declared.scripts.Task.{Task}
 use Rattle.play_tasks.specs.Playing.{asked_by}
 
@@ -71,7 +71,7 @@ IsWalked (Branch name) = Unit {0}
 IsWalked (Manifest id) = ⊥
 IsWalked (Chunk id) = ⊥
 IsWalked (Tag name) = ⊥
-IsWalked (TagGone name) = ⊥
+IsWalked (Tombstone name) = ⊥
 IsWalked (Lease id) = ⊥
 
 abbrev pub GetsWalked : Op → Type 0

@@ -11,19 +11,19 @@ use Rattle.store_api.specs.declared.machines.Refusal.{Refusal}
 use Rattle.store_api.specs.declared.machines.Refusal.TheVariants.{BadKey}
 use Rattle.session.specs.declared.session.Listing.{Listing}
 use Rattle.session.specs.declared.chunks.Value.{Value}
-use Rattle.session.specs.declared.chunks.Value.TheVariants.{Held, Fill}
+use Rattle.session.specs.declared.chunks.Value.TheVariants.{Bytes as Is_bytes, Fill}
 use Rattle.session.specs.Sessions.{SessionState, nodes_seen}
 use Rattle.session.specs.Chunks.{chunk_unset}
 use Rattle.session.specs.Editing.{group_added, array_added, node_added, meta_set, node_dropped, prop_added, text_at, listed}
 use Rattle.zarr_keys.specs.declared.values.KeyValue.{KeyValue}
 use Rattle.zarr_keys.specs.declared.values.KeyValue.TheVariants.{Bytes, Absent}
 use Rattle.zarr_keys.specs.Keys.{meta_value, chunk_value, session_of, meta_put, key_erased}
-use Rattle.play_script.specs.declared.scripts.Call.{Call}
-use Rattle.play_script.specs.declared.scripts.Call.TheVariants.{Edit, Read, Commit, Ref, Prop}
-use Rattle.play_script.specs.declared.scripts.EditCall.{EditCall}
-use Rattle.play_script.specs.declared.scripts.EditCall.TheVariants.{Group, Array, Make, Meta, Drop, Set, Fill as Fill_call, Unset, Put, KeySet, KeyErase}
-use Rattle.play_script.specs.declared.scripts.ReadCall.{ReadCall}
-use Rattle.play_script.specs.declared.scripts.ReadCall.TheVariants.{List as List_call, Get, Chunk, Cells, KeyGet}
+use Rattle.script_calls.specs.declared.calls.Call.{Call}
+use Rattle.script_calls.specs.declared.calls.Call.TheVariants.{Edit, Read, Commit, Ref, Prop}
+use Rattle.script_calls.specs.declared.calls.EditCall.{EditCall}
+use Rattle.script_calls.specs.declared.calls.EditCall.TheVariants.{Group, Array, Make, Meta, Drop, Set, Fill as Fill_call, Unset, Put, KeySet, KeyErase}
+use Rattle.script_calls.specs.declared.calls.ReadCall.{ReadCall}
+use Rattle.script_calls.specs.declared.calls.ReadCall.TheVariants.{List as List_call, Get, Chunk, Cells, KeyGet}
 use Rattle.play_outcome.specs.declared.outcome.Shown.{Shown}
 use Rattle.play_outcome.specs.declared.outcome.Shown.TheVariants.{Node as Shown_node, Meta as Shown_meta, Chunk as Shown_chunk, Fill as Shown_fill, Cells as Shown_cells, Key as Shown_key}
 
@@ -62,7 +62,7 @@ read_by line _ s = Ok []
 
 -- the chunk that this line of the script asked for
 abbrev pub value_shown : ℕ → Value → Shown
-value_shown line (Held bytes) = Shown_chunk line bytes
+value_shown line (Is_bytes bytes) = Shown_chunk line bytes
 value_shown line Fill = Shown_fill line
 
 -- the numbers of a box of cells that this line of the script asked for

@@ -8,8 +8,8 @@ use Rattle.store_api.specs.Journal.{IsPolite, IsGood}
 use Rattle.store_api.specs.Telling.{ChangedNothing}
 use Rattle.commit_path.specs.Owed.{Owes}
 use Rattle.commit_path.specs.Own.{OwesOwn}
-use Rattle.play_script.specs.declared.scripts.Head.{Head}
-use Rattle.play_script.specs.declared.scripts.Head.TheVariants.{Session, Refs, Collect, Expire, Check}
+use Rattle.script_calls.specs.declared.calls.Head.{Head}
+use Rattle.script_calls.specs.declared.calls.Head.TheVariants.{Session, Refs, Collect, Expire, Check}
 use Rattle.play_script.specs.declared.scripts.Task.{Task}
 use Rattle.play_refs.specs.Telling.{OwesRefs}
 use Rattle.chunk_gc.specs.Exact.{IsOwed}

@@ -4,7 +4,7 @@ use Rattle.std.specs.Prelude.{ℕ, zero, suc, List, [], ◌∷◌, ◌++◌, tru
 use Rattle.ice_ids.specs.declared.Id12.{Id12}
 use Rattle.ice_ids.specs.declared.drawing.AnyIds.{AnyIds}
 use Rattle.store_api.specs.declared.machines.Refusal.{Refusal}
-use Rattle.store_api.specs.declared.machines.Refusal.TheVariants.{NoRef, NoMemory, Conflict}
+use Rattle.store_api.specs.declared.machines.Refusal.TheVariants.{NoRef, NoMemory, LostRace}
 use Rattle.store_api.specs.declared.machines.Refusal.TheVariants as R
 use Rattle.store_api.specs.Plays.{Play, Or, call}
 use Rattle.session.specs.Sessions.{SessionState, branch_of}
@@ -23,13 +23,13 @@ use Rattle.settle.specs.declared.settle.Settled.TheVariants as settled
 use Rattle.settle.specs.declared.settle.Doubt.{Doubt}
 use Rattle.settle.specs.Settling.{settle_program}
 use Rattle.rebase.specs.declared.machine.Rebased.{Rebased}
-use Rattle.rebase.specs.declared.machine.Rebased.TheVariants.{Moved, UpToDate}
+use Rattle.rebase.specs.declared.machine.Rebased.TheVariants.{OnHead, UpToDate}
 use Rattle.rebase.specs.Rebasing.{rebase_program}
 use Rattle.repo_read.specs.declared.resolving.At.{At}
-use Rattle.play_script.specs.declared.scripts.Access.{Access}
-use Rattle.play_script.specs.declared.scripts.Access.TheVariants.{Write, Read}
-use Rattle.play_script.specs.declared.scripts.Head.{Head}
-use Rattle.play_script.specs.declared.scripts.Head.TheVariants.{Session, Refs, Collect, Expire, Check}
+use Rattle.script_calls.specs.declared.calls.Access.{Access}
+use Rattle.script_calls.specs.declared.calls.Access.TheVariants.{Write, Read}
+use Rattle.script_calls.specs.declared.calls.Head.{Head}
+use Rattle.script_calls.specs.declared.calls.Head.TheVariants.{Session, Refs, Collect, Expire, Check}
 use Rattle.play_script.specs.declared.scripts.Line.{Line}
 use Rattle.play_script.specs.declared.scripts.Task.{Task}
 use Rattle.play_refs.specs.Playing.{refs_play}
@@ -83,13 +83,13 @@ after_commit line shown doubted lost (Err why) = refused line shown why
 
 -- the session that was rebased commits again; where there is no memory to begin that, the task ends here
 abbrev pub after_rebase : ℕ → List Shown → (again : SessionState → Play Outcome) → Result Rebased Refusal → Play Outcome
-after_rebase line shown again (Ok (Moved s count)) = Or (again s) (refused line shown NoMemory)
+after_rebase line shown again (Ok (OnHead s count)) = Or (again s) (refused line shown NoMemory)
 after_rebase line shown again (Ok (UpToDate s)) = Or (again s) (refused line shown NoMemory)
 after_rebase line shown again (Err why) = refused line shown why
 
 -- A commit in this line. Where it is in doubt, that is settled; where it was lost, the session is rebased and commits again, as often as it may.
 unfoldable pub commit_play : (tries : ℕ) → Policy → (line : ℕ) → List Shown → (message : List ℕ) → SessionState → Play Outcome
-commit_play zero policy line shown message s = call (commit_program s message) (after_commit line shown (doubt_play shown s) (λ old found next. refused line shown (Conflict old found)))
+commit_play zero policy line shown message s = call (commit_program s message) (after_commit line shown (doubt_play shown s) (λ old found next. refused line shown (LostRace old found)))
 commit_play (suc tries) policy line shown message s =
     call (commit_program s message) (after_commit line shown (doubt_play shown s) (λ old found next. call (rebase_program policy (record s { ids = next })) (after_rebase line shown (commit_play tries policy line shown message))))
 

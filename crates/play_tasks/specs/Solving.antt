@@ -15,8 +15,8 @@ use Rattle.commit_path.specs.Answered.{WasMoved}
 use Rattle.commit_path.specs.Opened.{IsOpened, WasBegun}
 use Rattle.commit_path.specs.Single.{HasPutNone, HasPutAlike}
 use Rattle.rebase.specs.Telling.{HasMoved, WasUpToDate}
-use Rattle.play_script.specs.declared.scripts.Access.{Access}
-use Rattle.play_script.specs.declared.scripts.Head.TheVariants.{Session}
+use Rattle.script_calls.specs.declared.calls.Access.{Access}
+use Rattle.script_calls.specs.declared.calls.Head.TheVariants.{Session}
 use Rattle.play_script.specs.declared.scripts.Line.{Line}
 use Rattle.play_script.specs.declared.scripts.Task.{Task}
 use Rattle.play_outcome.specs.declared.outcome.Shown.{Shown}

@@ -6,7 +6,7 @@ use Rattle.object_store.specs.declared.keys.Key.{Key}
 use Rattle.object_store.specs.declared.keys.Key.TheVariants.{Manifest, Chunk}
 use Rattle.object_store.specs.declared.events.Event.{Event}
 use Rattle.store_api.specs.declared.machines.Refusal.{Refusal}
-use Rattle.store_api.specs.declared.machines.Refusal.TheVariants.{NoMemory, Conflict}
+use Rattle.store_api.specs.declared.machines.Refusal.TheVariants.{NoMemory, LostRace}
 use Rattle.store_api.specs.declared.machines.Refusal.TheVariants as R
 use Rattle.object_store.specs.declared.events.Version.{Version}
 use Rattle.session.specs.Sessions.{SessionState, branch_of}
@@ -27,9 +27,9 @@ use Rattle.region_calls.specs.Told.{RegionTells}
 use Rattle.region_calls.specs.Written.{RegionSetTells}
 use Rattle.play_tasks.specs.Lines.{Deed, Goes, Sets, Reads, Puts, Gathers, Commits, deed}
 use Rattle.rebase.specs.Telling.{RebaseTells}
-use Rattle.play_script.specs.declared.scripts.Access.{Access}
-use Rattle.play_script.specs.declared.scripts.Head.{Head}
-use Rattle.play_script.specs.declared.scripts.Head.TheVariants.{Session, Refs, Collect, Expire, Check}
+use Rattle.script_calls.specs.declared.calls.Access.{Access}
+use Rattle.script_calls.specs.declared.calls.Head.{Head}
+use Rattle.script_calls.specs.declared.calls.Head.TheVariants.{Session, Refs, Collect, Expire, Check}
 use Rattle.play_collect.specs.Telling.{CollectedTells}
 use Rattle.play_expire.specs.Playing.{terms_of}
 use Rattle.play_expire.specs.Telling.{ExpiredTells}
@@ -102,7 +102,7 @@ pub record WasLostAtLast (client : ℕ) (access : Access) (line : ℕ) (count : 
   pub found : Option Version
   pub next : AnyIds
   pub moved : WasMoved client s old found next start journal
-  pub end_is : end ≡ Refused line (Conflict old found)
+  pub end_is : end ≡ Refused line (LostRace old found)
 
 -- It was lost, and the session wasn't rebased, for this reason; the client changed no branch. All snapshots that it has put are of sessions that added
 -- and dropped the same nodes.

@@ -16,7 +16,7 @@ use crate::working::{Step, Working};
 use array_region::{Getting, Numbers, Region, RegionGet, RegionSet, Setting};
 use ice_items::Items;
 use play_outcome::Shown;
-use play_script::CellBox;
+use script_calls::CellBox;
 use session::Session;
 use std::alloc::{AllocError, Global};
 use store_api::Refusal;

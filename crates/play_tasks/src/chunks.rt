@@ -155,7 +155,7 @@ fn value_shown(line: u32, value: Value) -> Shown
     ensures { result ≡ value_shown line value }
 {
     match value {
-        Value::Held(bytes) => Shown::Chunk { line, bytes },
+        Value::Bytes(bytes) => Shown::Chunk { line, bytes },
         Value::Fill => Shown::Fill { line },
     }
 }

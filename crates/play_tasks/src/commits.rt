@@ -19,8 +19,8 @@ use commit_path::{Commit, Tried};
 use conflicts::{Pick, Policy};
 use ice_base::Text;
 use play_outcome::{End, Outcome, Shows};
-use play_script::Access;
 use rebase::{Rebase, Rebased};
+use script_calls::Access;
 use session::Session;
 use std::alloc::Global;
 use store_api::{Next, Refusal, Store, Version};
@@ -106,7 +106,7 @@ fn after_loss(
 {
     if tries.left == 0 {
         drop(commit);
-        return stop(line, shown, Refusal::Conflict { old, found });
+        return stop(line, shown, Refusal::LostRace { old, found });
     }
     let (session, message) = commit.into_parts();
     let policy = tries.policy;
@@ -195,7 +195,7 @@ fn rebased_session(rebased: Rebased) -> Session
     ensures { result ≡ rebased_session rebased }
 {
     match rebased {
-        Rebased::Moved(session, _) => session,
+        Rebased::OnHead(session, _) => session,
         Rebased::UpToDate(session) => session,
     }
 }

@@ -9,7 +9,7 @@ use crate::steps::step_on;
 use crate::working::{SessionTask, Working};
 use ice_ids::AnyIds;
 use play_outcome::{End, Outcome, Shows};
-use play_script::Access;
+use script_calls::Access;
 use session::Open;
 use std::alloc::{AllocError, Global};
 use std::mem;

@@ -9,7 +9,8 @@ use play_collect::CollectWorker;
 use play_expire::ExpireWorker;
 use play_outcome::Outcome;
 use play_refs::RefsWorker;
-use play_script::{Head, Task};
+use play_script::Task;
+use script_calls::Head;
 use std::alloc::{AllocError, Global};
 use store_api::Store;
 

@@ -6,8 +6,9 @@ use conflicts::Policy;
 use ice_base::Text;
 use ice_ids::Id12;
 use play_outcome::{Outcome, Shown, Shows};
-use play_script::{Access, Line};
+use play_script::Line;
 use rebase::Rebase;
+use script_calls::Access;
 use session::{GetChunk, Open, Session, SetChunk};
 use settle::Settle;
 

@@ -8,7 +8,7 @@ use Rattle.snapshot_file.specs.declared.nodes.NodeRow.{NodeRow}
 use Rattle.repo_objects.specs.Readings.{manifest_by}
 use Rattle.repo_objects.specs.Trees.{NamesManifest, manifest_put}
 use Rattle.object_store.specs.declared.keys.Key.{Key}
-use Rattle.object_store.specs.declared.keys.Key.TheVariants.{Snapshot, Manifest, Txn, Chunk, Branch, Tag, TagGone, Lease}
+use Rattle.object_store.specs.declared.keys.Key.TheVariants.{Snapshot, Manifest, Txn, Chunk, Branch, Tag, Tombstone, Lease}
 use Rattle.object_store.specs.declared.events.Event.{Event}
 use Rattle.object_store.specs.Machine.{last_put}
 use Rattle.object_store.proofs.Journals.{Each-back}
@@ -53,7 +53,7 @@ module _ (journal more : List Event) (good : Each IsGood journal more) (once : I
     holds-fore (Snapshot other) h = h
     holds-fore (Branch name) h = h
     holds-fore (Tag name) h = h
-    holds-fore (TagGone name) h = h
+    holds-fore (Tombstone name) h = h
     holds-fore (Lease lease) h = h
 
     pub holds-back : (key : Key) → Holds (journal ++ more) id key → Holds journal id key
@@ -63,5 +63,5 @@ module _ (journal more : List Event) (good : Each IsGood journal more) (once : I
     holds-back (Snapshot other) h = h
     holds-back (Branch name) h = h
     holds-back (Tag name) h = h
-    holds-back (TagGone name) h = h
+    holds-back (Tombstone name) h = h
     holds-back (Lease lease) h = h

@@ -6,7 +6,7 @@ use Rattle.manifest_file.specs.declared.manifest.ManifestFile.{ManifestFile}
 use Rattle.snapshot_file.specs.declared.nodes.NodeRow.{NodeRow}
 use Rattle.repo_objects.specs.Trees.{NamesManifest, NamesChunk, manifest_put}
 use Rattle.object_store.specs.declared.keys.Key.{Key}
-use Rattle.object_store.specs.declared.keys.Key.TheVariants.{Snapshot, Manifest, Txn, Chunk, Branch, Tag, TagGone, Lease}
+use Rattle.object_store.specs.declared.keys.Key.TheVariants.{Snapshot, Manifest, Txn, Chunk, Branch, Tag, Tombstone, Lease}
 use Rattle.object_store.specs.declared.events.Event.{Event}
 use Rattle.store_api.specs.Journal.{puts_of, rows_of}
 use Rattle.reach.specs.Chains.{Chain}
@@ -33,7 +33,7 @@ Holds journal id (Manifest manifest) = HoldsManifest journal id manifest
 Holds journal id (Chunk object) = HoldsChunk journal id object
 Holds journal id (Branch name) = ⊥
 Holds journal id (Tag name) = ⊥
-Holds journal id (TagGone name) = ⊥
+Holds journal id (Tombstone name) = ⊥
 Holds journal id (Lease lease) = ⊥
 
 -- a snapshot down the chain, and what it holds

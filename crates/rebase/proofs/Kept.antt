@@ -5,7 +5,7 @@ use Rattle.std.proofs.lemmas.List.Elements.{All-weaker}
 use Rattle.ice_ids.specs.declared.Id12.{Id12}
 use Rattle.manifest_file.specs.declared.manifest.Place.{Place}
 use Rattle.snapshot_file.specs.declared.snapshot.SnapshotFile.{SnapshotFile}
-use Rattle.repo_objects.specs.declared.bad.Bad.{Bad}
+use Rattle.repo_objects.specs.declared.bad_objects.Bad.{Bad}
 use Rattle.zarr_tree.specs.declared.cases.Conflict.{Conflict}
 use Rattle.zarr_tree.specs.Held.{Held}
 use Rattle.conflicts.specs.declared.solving.Policy.{Policy}
@@ -25,7 +25,7 @@ use Rattle.store_api.specs.Telling.{GetsOf, RefWasBad, WasFailure, WasReadAs, Wa
 use Rattle.store_api.proofs.Happening.{WasGot-append, WasAbsent-append, RefWasBad-append, SnapshotWasBad-append}
 use Rattle.session.specs.Sessions.{SessionState, branch_of}
 use Rattle.rebase.specs.declared.machine.Rebased.{Rebased}
-use Rattle.rebase.specs.declared.machine.Rebased.TheVariants.{Moved, UpToDate}
+use Rattle.rebase.specs.declared.machine.Rebased.TheVariants.{OnHead, UpToDate}
 use Rattle.rebase.specs.Along.{Link}
 use Rattle.rebase.specs.Telling.{CameTo, HasEnded, HasMoved, IsOfRebase, LogIsBad, LogIsMissing, LogWasReadAs, RebaseSays, RebaseTells, SnapshotIsBad, SnapshotIsMissing, WasFull, WasHidden, WasLeft, WasTooDeep, WasUpToDate, WasWalked, WereMet, WereSolved}
 use Rattle.repo_read.proofs.Own.{MadeGets-append, MadeOne-append, others-get, made-more}
@@ -184,7 +184,7 @@ module _ (by : Caller) (policy : Policy) (s : SessionState) (start journal more 
   refusal-kept _ w = absurd w
 
   says-kept : (result : Result Rebased Refusal) → RebaseSays by.number policy s start result journal → RebaseSays by.number policy s start result (journal ++ more)
-  says-kept (Ok (Moved t count)) w = moved-append by.number start journal more policy s t count w
+  says-kept (Ok (OnHead t count)) w = moved-append by.number start journal more policy s t count w
   says-kept (Ok (UpToDate t)) w = same-append by.number start journal more s t w
   says-kept (Err why) w = refusal-kept why w
 

@@ -11,7 +11,7 @@ use Rattle.zarr_path.specs.Paths.{path_cmp}
 use Rattle.manifest_file.specs.declared.manifest.Place.{Place}
 use Rattle.snapshot_file.specs.declared.snapshot.SnapshotFile.{SnapshotFile}
 use Rattle.txn_file.specs.declared.log.TxnFile.{TxnFile}
-use Rattle.repo_objects.specs.declared.bad.Bad.{Bad}
+use Rattle.repo_objects.specs.declared.bad_objects.Bad.{Bad}
 use Rattle.repo_objects.specs.Readings.{read_log}
 use Rattle.repo_objects.specs.Trees.{nodes_in}
 use Rattle.zarr_tree.specs.declared.cases.Conflict.{Conflict}

@@ -15,7 +15,7 @@ use Rattle.session.specs.Sessions.{SessionState, base_nodes}
 use Rattle.commit_path.specs.Own.{OwnsChunks, Owns}
 use Rattle.commit_path.proofs.OwnPuts.{owns-fewer, Owns-gets}
 use Rattle.rebase.specs.declared.machine.Rebased.{Rebased}
-use Rattle.rebase.specs.declared.machine.Rebased.TheVariants.{Moved, UpToDate}
+use Rattle.rebase.specs.declared.machine.Rebased.TheVariants.{OnHead, UpToDate}
 use Rattle.rebase.specs.Along.{Link, along}
 use Rattle.rebase.specs.Laws.{OwnsOn}
 use Rattle.rebase.specs.Rebasing.{rebase_program}
@@ -37,7 +37,7 @@ module _ (ids : AnyIds) (client : ℕ) (start : List Event) where
   up_to_date-owns s t origin journal u o = subst (λ (x : SessionState). Owns ids client x start journal) (sym u.becomes) (record { chunks = o.chunks; drawn = o.drawn })
 
   owns-on : (policy : Policy) (s : SessionState) (journal : List Event) → Owns ids client s start journal → (answer : Result Rebased Refusal) (h : List Event) → RebaseTells client policy s journal answer h → OwnsOn ids client start answer h
-  owns-on policy s journal o (Ok (Moved t count)) h q = moved-owns policy s t count journal h q.0 (Owns-gets ids client s start journal h q.1 o)
+  owns-on policy s journal o (Ok (OnHead t count)) h q = moved-owns policy s t count journal h q.0 (Owns-gets ids client s start journal h q.1 o)
   owns-on policy s journal o (Ok (UpToDate t)) h q = up_to_date-owns s t journal h q.0 (Owns-gets ids client s start journal h q.1 o)
   owns-on policy s journal o (Err why) h q = tt
 

@@ -10,7 +10,7 @@ use Rattle.ice_ids.specs.Text.{same_id12}
 use Rattle.ice_ids.proofs.TextLaws.{same_id12-true}
 use Rattle.manifest_file.specs.declared.manifest.Place.{Place}
 use Rattle.snapshot_file.specs.declared.snapshot.SnapshotFile.{SnapshotFile}
-use Rattle.repo_objects.specs.declared.bad.Bad.{Bad}
+use Rattle.repo_objects.specs.declared.bad_objects.Bad.{Bad}
 use Rattle.repo_objects.specs.Laws.{RefLaw, SnapshotLaw}
 use Rattle.repo_objects.specs.Readings.{read_ref, ref_of}
 use Rattle.repo_objects.specs.Trees.{nodes_in}
@@ -43,7 +43,7 @@ use Rattle.commit_path.specs.Opened.{IsOpened}
 use Rattle.commit_path.specs.Spelled.{IsSpelled}
 use Rattle.commit_path.proofs.Knowing.{IsOpened-append}
 use Rattle.rebase.specs.declared.machine.Rebased.{Rebased}
-use Rattle.rebase.specs.declared.machine.Rebased.TheVariants.{Moved, UpToDate}
+use Rattle.rebase.specs.declared.machine.Rebased.TheVariants.{OnHead, UpToDate}
 use Rattle.rebase.specs.Along.{Link}
 use Rattle.rebase.specs.Laws.{GoesOn}
 use Rattle.rebase.specs.Rebasing.{Commits, head_of, walk_down, solve_program, on_head, over_commits, after_ref, rebase_program}
@@ -61,9 +61,9 @@ use Rattle.rebase.proofs.Moving.{HasNamed, HasNamed-append, way-ends, same-spell
 head-gets : (s : SessionState) (named : Resolved) (count : ℕ) (f : SnapshotFile) (r : Result (Held Place) Refusal) → Gets (on_answer (on_head s named count f) r)
 head-gets s named count f (Ok held) = by_test (nat_lt most_nodes (len (nodes_over held (nodes_in f.nodes))))
   where
-    by_test : (b : Bool) → Gets (cond b (Done (Err (R.Edit E.Full))) (Done (Ok (Moved (moved_to s named.id named.version.0 f held) count))))
+    by_test : (b : Bool) → Gets (cond b (Done (Err (R.Edit E.Full))) (Done (Ok (OnHead (moved_to s named.id named.version.0 f held) count))))
     by_test true = done-gets (Err (R.Edit E.Full))
-    by_test false = done-gets (Ok (Moved (moved_to s named.id named.version.0 f held) count))
+    by_test false = done-gets (Ok (OnHead (moved_to s named.id named.version.0 f held) count))
 head-gets s named count f (Err why) = done-gets (Err why)
 
 commits-gets : (policy : Policy) (s : SessionState) (named : Resolved) (r : Result Commits Refusal) → Gets (on_answer (over_commits policy s named) r)
@@ -142,7 +142,7 @@ module _ (reference : RefLaw) (law : SnapshotLaw) (by : Caller) (policy : Policy
         over : (n : ℕ) → nat_lt most_nodes n ≡ true → most_nodes < n
         over n e = grind (arith, nat_tests)
 
-        by_test : (b : Bool) → nat_lt most_nodes (len (nodes_over held (nodes_in (head_of f fs).nodes))) ≡ b → Leads Ends by (cond b (Done (Err (R.Edit E.Full))) (Done (Ok (Moved (moved_to s named.id named.version.0 (head_of f fs) held) (length fs + 1))))) h
+        by_test : (b : Bool) → nat_lt most_nodes (len (nodes_over held (nodes_in (head_of f fs).nodes))) ≡ b → Leads Ends by (cond b (Done (Err (R.Edit E.Full))) (Done (Ok (OnHead (moved_to s named.id named.version.0 (head_of f fs) held) (length fs + 1))))) h
         by_test true e = (record { head = named.id; version = named.version; count = length fs + 1; snap = head_of f fs; held = held; solved = w; many = over (len (nodes_over held (nodes_in (head_of f fs).nodes))) e }, λ spelled opened. tt)
         by_test false e = (
           record { head = named.id; version = named.version; snap = head_of f fs; held = held; solved = w; few = fits (len (nodes_over held (nodes_in (head_of f fs).nodes))) e; becomes = refl },

@@ -7,7 +7,7 @@ use Rattle.ice_ids.specs.declared.Id12.{Id12}
 use Rattle.ice_ids.specs.Text.{same_id12}
 use Rattle.ice_ids.proofs.TextLaws.{same_id12-true, same_id12-self}
 use Rattle.snapshot_file.specs.declared.snapshot.SnapshotFile.{SnapshotFile}
-use Rattle.repo_objects.specs.declared.bad.Bad.{Bad}
+use Rattle.repo_objects.specs.declared.bad_objects.Bad.{Bad}
 use Rattle.repo_objects.specs.Laws.{IsProper, SnapshotLaw}
 use Rattle.repo_objects.specs.Readings.{read_snapshot}
 use Rattle.object_store.specs.declared.keys.Key.TheVariants.{Snapshot, Branch}

@@ -14,20 +14,20 @@ use Rattle.commit_path.specs.Opened.{IsOpened}
 use Rattle.commit_path.specs.Single.{HasPutNone, HasPutAlike}
 use Rattle.commit_path.specs.Spelled.{IsSpelled}
 use Rattle.rebase.specs.declared.machine.Rebased.{Rebased}
-use Rattle.rebase.specs.declared.machine.Rebased.TheVariants.{Moved, UpToDate}
+use Rattle.rebase.specs.declared.machine.Rebased.TheVariants.{OnHead, UpToDate}
 use Rattle.rebase.specs.Rebasing.{rebase_program}
 use Rattle.rebase.specs.Telling.{RebaseTells}
 
 -- ---- answers
 -- the session that a rebase answers knows its base and can be written
 abbrev pub GoesOn : Result Rebased Refusal → List Event → Type 0
-GoesOn (Ok (Moved t count)) journal = IsSpelled t × IsOpened t journal
+GoesOn (Ok (OnHead t count)) journal = IsSpelled t × IsOpened t journal
 GoesOn (Ok (UpToDate t)) journal = IsSpelled t × IsOpened t journal
 GoesOn (Err why) journal = Unit {0}
 
 -- what a client owned with the session it owns with the one that a rebase answers
 abbrev pub OwnsOn : AnyIds → ℕ → List Event → Result Rebased Refusal → List Event → Type 0
-OwnsOn ids client start (Ok (Moved t count)) journal = Owns ids client t start journal
+OwnsOn ids client start (Ok (OnHead t count)) journal = Owns ids client t start journal
 OwnsOn ids client start (Ok (UpToDate t)) journal = Owns ids client t start journal
 OwnsOn ids client start (Err why) journal = Unit {0}
 

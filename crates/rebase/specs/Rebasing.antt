@@ -9,7 +9,7 @@ use Rattle.ice_ids.specs.Text.{same_id12}
 use Rattle.zarr_path.specs.Paths.{path_cmp}
 use Rattle.manifest_file.specs.declared.manifest.Place.{Place}
 use Rattle.snapshot_file.specs.declared.snapshot.SnapshotFile.{SnapshotFile}
-use Rattle.repo_objects.specs.declared.bad.Bad.TheVariants.{Unlisted}
+use Rattle.repo_objects.specs.declared.bad_objects.Bad.TheVariants.{Unlisted}
 use Rattle.repo_objects.specs.Trees.{nodes_in}
 use Rattle.zarr_tree.specs.declared.cases.Conflict.{Conflict}
 use Rattle.zarr_tree.specs.Nodes.{Node}
@@ -33,7 +33,7 @@ use Rattle.rebase.specs.declared.rebasing.Solving.{Solving}
 use Rattle.rebase.specs.declared.rebasing.Rebasing.{Rebasing}
 use Rattle.rebase.specs.declared.rebasing.Rebasing.TheVariants as state
 use Rattle.rebase.specs.declared.machine.Rebased.{Rebased}
-use Rattle.rebase.specs.declared.machine.Rebased.TheVariants.{Moved, UpToDate}
+use Rattle.rebase.specs.declared.machine.Rebased.TheVariants.{OnHead, UpToDate}
 use Rattle.rebase.specs.declared.machine.Rebase.{Rebase}
 use Rattle.rebase.specs.Along.{Link, left_at, solved_at, first_hidden}
 
@@ -79,7 +79,7 @@ solve_program policy held before (f ∷ fs) =
 -- the session on the branch's snapshot, unless its tree would have more nodes than a tree may have
 abbrev pub on_head : SessionState → Resolved → (count : ℕ) → SnapshotFile → Held Place → Program Rebased
 on_head s named count head held =
-    if nat_lt most_nodes (len (nodes_over held (nodes_in head.nodes))) then Done (Err (Edit Full)) else Done (Ok (Moved (moved_to s named.id named.version.0 head held) count))
+    if nat_lt most_nodes (len (nodes_over held (nodes_in head.nodes))) then Done (Err (Edit Full)) else Done (Ok (OnHead (moved_to s named.id named.version.0 head held) count))
 
 -- over these commits
 abbrev pub over_commits : Policy → SessionState → Resolved → Commits → Program Rebased

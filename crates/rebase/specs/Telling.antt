@@ -8,8 +8,8 @@ use Rattle.ice_ids.specs.declared.Id12.{Id12}
 use Rattle.manifest_file.specs.declared.manifest.Place.{Place}
 use Rattle.snapshot_file.specs.declared.snapshot.SnapshotFile.{SnapshotFile}
 use Rattle.txn_file.specs.declared.log.TxnFile.{TxnFile}
-use Rattle.repo_objects.specs.declared.bad.Bad.{Bad}
-use Rattle.repo_objects.specs.declared.bad.Bad.TheVariants.{Unlisted}
+use Rattle.repo_objects.specs.declared.bad_objects.Bad.{Bad}
+use Rattle.repo_objects.specs.declared.bad_objects.Bad.TheVariants.{Unlisted}
 use Rattle.repo_objects.specs.Readings.{read_log, log_by}
 use Rattle.repo_objects.specs.Trees.{nodes_in}
 use Rattle.zarr_tree.specs.declared.cases.Conflict.{Conflict}
@@ -28,7 +28,7 @@ use Rattle.store_api.specs.Telling.{MadeGets, WasGot, WasAbsent, WasRef, RefWasB
 use Rattle.repo_read.specs.Chains.{most_snapshots}
 use Rattle.session.specs.Sessions.{SessionState, branch_of, writes, origin_at, base_nodes, moved_to}
 use Rattle.rebase.specs.declared.machine.Rebased.{Rebased}
-use Rattle.rebase.specs.declared.machine.Rebased.TheVariants.{Moved, UpToDate}
+use Rattle.rebase.specs.declared.machine.Rebased.TheVariants.{OnHead, UpToDate}
 use Rattle.rebase.specs.Along.{Link, Way, Solves, Stays, Hides, along}
 
 -- ---- the chain
@@ -204,7 +204,7 @@ abbrev pub IsOfRebase : SessionState → Key → Type 0
 IsOfRebase s key = (key ≡ Branch (branch_of s)) ⊎ (((id : Id12) × (key ≡ Snapshot id)) ⊎ ((id : Id12) × (key ≡ Txn id)))
 
 abbrev pub RebaseSays : ℕ → Policy → SessionState → List Event → Result Rebased Refusal → List Event → Type 0
-RebaseSays client policy s start (Ok (Moved t count)) journal = HasMoved client policy s t count start journal
+RebaseSays client policy s start (Ok (OnHead t count)) journal = HasMoved client policy s t count start journal
 RebaseSays client policy s start (Ok (UpToDate t)) journal = WasUpToDate client s t start journal
 RebaseSays client policy s start (Err R.ReadOnly) journal = writes s ≡ false
 RebaseSays client policy s start (Err R.NoRef) journal = WasAbsent client (Branch (branch_of s)) start journal

@@ -13,8 +13,8 @@ ghost use Rattle.rebase.specs.inside.Working.{first_unlisted, keeps_other, kept_
 use ice_ids::Id8;
 use repo_objects::Loaded;
 use std::alloc::{AllocError, Global};
-use zarr_changes::{ChangeSet, IdSet, frozen_change};
-use zarr_tree::{Found, TreeLike};
+use zarr_changes::{ChangeSet, IdSet};
+use zarr_tree::{Found, TreeLike, frozen_change};
 
 /// Whether a node has what stays of its metadata as in the other text that is held for it, if one is.
 fn keeps_other(held: &ChangeSet, node: Found<'_>) -> bool

@@ -28,7 +28,7 @@ use zarr_tree::EditFault;
 #[derive(Drop)]
 pub enum Rebased {
     /// The session is on the branch's snapshot, past so many commits.
-    Moved(Session, u32),
+    OnHead(Session, u32),
     /// The branch names the session's base.
     UpToDate(Session),
 }
@@ -400,7 +400,7 @@ impl Rebase {
         };
         let mut session = writer.into_session();
         session.move_to(named.id, named.version, head, held);
-        Ok(Next::Ready(Rebased::Moved(session, count)))
+        Ok(Next::Ready(Rebased::OnHead(session, count)))
     }
 }
 

@@ -4,7 +4,7 @@ use Rattle.std.specs.Prelude.{Result, Ok, Err}
 use Rattle.std.specs.Result.{result_ok}
 use Rattle.ice_base.specs.Names.{main_name, same_name}
 use Rattle.ice_ids.specs.declared.Id12.{Id12}
-use Rattle.repo_objects.specs.declared.bad.Bad.{Bad}
+use Rattle.repo_objects.specs.declared.bad_objects.Bad.{Bad}
 use Rattle.repo_objects.specs.Readings.{read_ref}
 use Rattle.object_store.specs.declared.keys.Key.TheVariants.{Branch}
 use Rattle.object_store.specs.declared.keys.Why.TheVariants.{Drop}

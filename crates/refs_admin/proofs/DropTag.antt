@@ -3,9 +3,9 @@ use Rattle.std.proofs.Common.{◌≡◌, inl, inr, ℕ, List, [], refl, ap}
 use Rattle.std.specs.Prelude.{Result, Ok, Err}
 use Rattle.std.specs.Result.{result_ok}
 use Rattle.ice_ids.specs.declared.Id12.{Id12}
-use Rattle.repo_objects.specs.declared.bad.Bad.{Bad}
+use Rattle.repo_objects.specs.declared.bad_objects.Bad.{Bad}
 use Rattle.repo_objects.specs.Readings.{read_ref}
-use Rattle.object_store.specs.declared.keys.Key.TheVariants.{Tag, TagGone}
+use Rattle.object_store.specs.declared.keys.Key.TheVariants.{Tag, Tombstone}
 use Rattle.object_store.specs.declared.keys.Why.TheVariants.{Drop}
 use Rattle.object_store.specs.declared.events.Version.{Version}
 use Rattle.object_store.specs.declared.events.Op.TheVariants.{Get}
@@ -29,8 +29,7 @@ use Rattle.refs_admin.specs.Tags.{buried, put_tombstone, tag_drop_program}
 use Rattle.repo_read.specs.Naming.{TagNames}
 use Rattle.refs_admin.specs.TagTelling.{TagWasRead, IsOfBurying, buries, TagDropTells}
 use Rattle.repo_read.proofs.Own.{MadeGets-none, MadeGets-get, one-made}
-use Rattle.repo_read.proofs.Replies.{got-cases, Holds}
-use Rattle.refs_admin.proofs.Replies.{new-cases, new-done}
+use Rattle.repo_read.proofs.Replies.{got-cases, Holds, new-cases, new-done}
 use Rattle.repo_read.proofs.Namings.{got-made, absent-made, failed-made, got-tag, holds-names, names-waits, WasRef-makes}
 
 -- ---- politeness
@@ -67,13 +66,13 @@ module _ (by : Caller) (name : List ℕ) (start : List Event) where
   read-makes reply old new m t = record { version = t.version; id = t.id; read = WasRef-makes by (buries name) reply (Tag name) t.version t.id start old new m t.read }
 
   put-told : (reply : Reply) (old new : List Event) → (t : TagWasRead by.number name start old) → TagNames old name t.id → MadeGets by.number start old → Makes by (buries name) reply old new → Tells (buried reply) new
-  put-told reply old new t k c m = new-cases by old new (λ r. Tells (buried r) new) (TagGone name) [] Drop
+  put-told reply old new t k c m = new-cases by old new (λ r. Tells (buried r) new) (Tombstone name) [] Drop
       (λ version now n.
-      let free = new-done _ n.time (found n.middle (TagGone name)) version now n.answered.answered in
+      let free = new-done _ n.time (found n.middle (Tombstone name)) version now n.answered.answered in
       record { tag = read-makes (New (New_done version now)) old new n t; version = version; now = now; made = one-made by start (buries name) (New (New_done version now)) old new n c; still = names-waits by name t.id old n.middle n.waits k; free = free.0 })
       (λ version now n.
-      let was = new-present _ n.time (found n.middle (TagGone name)) version now n.answered.answered in
-      inr (record { tag = read-makes (New (Present version now)) old new n t; version = version; now = now; made = one-made by start (buries name) (New (Present version now)) old new n c; still = names-waits by name t.id old n.middle n.waits k; there = stands-as n.middle (TagGone name) was.stored version.0 was.stands was.version_is }))
+      let was = new-present _ n.time (found n.middle (Tombstone name)) version now n.answered.answered in
+      inr (record { tag = read-makes (New (Present version now)) old new n t; version = version; now = now; made = one-made by start (buries name) (New (Present version now)) old new n c; still = names-waits by name t.id old n.middle n.waits k; there = stands-as n.middle (Tombstone name) was.stored version.0 was.stands was.version_is }))
       (λ done n. failed-made by start (IsOfBurying by.number name start new) (buries name) done old new (inr (read-makes (Failed done) old new n t, refl)) n c)
       reply m
 

@@ -2,9 +2,9 @@
 use Rattle.std.proofs.Common.{◌⊎◌, inl, inr, ℕ, List, ◌++◌}
 use Rattle.std.specs.Prelude.{Option, Some, None, Result, Ok, Err}
 use Rattle.ice_ids.specs.declared.Id12.{Id12}
-use Rattle.repo_objects.specs.declared.bad.Bad.{Bad}
+use Rattle.repo_objects.specs.declared.bad_objects.Bad.{Bad}
 use Rattle.object_store.specs.declared.keys.Key.{Key}
-use Rattle.object_store.specs.declared.keys.Key.TheVariants.{Snapshot, Branch, Tag, TagGone}
+use Rattle.object_store.specs.declared.keys.Key.TheVariants.{Snapshot, Branch, Tag, Tombstone}
 use Rattle.object_store.specs.declared.events.Version.{Version}
 use Rattle.object_store.specs.declared.events.Op.{Op}
 use Rattle.object_store.specs.declared.events.Op.TheVariants.{Get}
@@ -197,7 +197,7 @@ module _ (by : Caller) (start journal more : List Event) (others : Each (IsOther
 
   tag-fault : (name : List ℕ) (at : At) → WasFailure by.number (IsOfMaking by.number at (tags name) start journal) start journal ⊎ TombstoneWasNotGot by.number name at start journal → WasFailure by.number (IsOfMaking by.number at (tags name) start (journal ++ more)) start (journal ++ more) ⊎ TombstoneWasNotGot by.number name at start (journal ++ more)
   tag-fault name at (inl w) = inl (making-failed at (tags name) w)
-  tag-fault name at (inr w) = inr (record { version = w.version; there = tag-there name at w.version w.there; done = w.done; own = own (Get (TagGone name)) (Failed w.done) w.own })
+  tag-fault name at (inr w) = inr (record { version = w.version; there = tag-there name at w.version w.there; done = w.done; own = own (Get (Tombstone name)) (Failed w.done) w.own })
 
   pub tag_new-kept : (name : List ℕ) (at : At) (result : Result (Unit {0}) Refusal) → TagNewTells by.number name at start result journal → TagNewTells by.number name at start result (journal ++ more)
   tag_new-kept name at (Ok done) t = record {
@@ -210,10 +210,10 @@ module _ (by : Caller) (start journal more : List Event) (others : Each (IsOther
   }
   tag_new-kept name at (Err (R.RefExists version)) t = record {
     there = tag-there name at version t.there;
-    stands = record { now = t.stands.now; own = own (Get (TagGone name)) (Got (Absent t.stands.now)) t.stands.own; nothing = t.stands.nothing };
+    stands = record { now = t.stands.now; own = own (Get (Tombstone name)) (Got (Absent t.stands.now)) t.stands.own; nothing = t.stands.nothing };
     still = t.still;
   }
-  tag_new-kept name at (Err R.TagGone) t = record { version = t.version; there = tag-there name at t.version t.there; gone = present (TagGone name) t.gone }
+  tag_new-kept name at (Err R.TagDropped) t = record { version = t.version; there = tag-there name at t.version t.there; gone = present (Tombstone name) t.gone }
   tag_new-kept name at (Err R.StoreFault) t = tag-fault name at t
   tag_new-kept name at (Err why) t = (making at why t.0, gets t.1)
 

@@ -5,20 +5,18 @@ use Rattle.std.specs.Result.{result_ok}
 use Rattle.std.proofs.lemmas.List.{length-append}
 use Rattle.ice_ids.specs.declared.Id12.{Id12}
 use Rattle.snapshot_file.specs.declared.snapshot.SnapshotFile.{SnapshotFile}
-use Rattle.repo_objects.specs.declared.bad.Bad.{Bad}
+use Rattle.repo_objects.specs.declared.bad_objects.Bad.{Bad}
 use Rattle.repo_objects.specs.Readings.{read_snapshot}
 use Rattle.object_store.specs.declared.keys.Key.TheVariants.{Snapshot}
-use Rattle.object_store.specs.declared.events.Op.{Op}
-use Rattle.object_store.specs.declared.events.Op.TheVariants.{Get, PutNew, PutOver, Remove, RemoveAt, List as ListPart}
+use Rattle.object_store.specs.declared.events.Op.TheVariants.{Get}
 use Rattle.object_store.specs.declared.events.Got.TheVariants.{Found, Absent}
 use Rattle.object_store.specs.declared.events.Reply.{Reply}
 use Rattle.object_store.specs.declared.events.Reply.TheVariants.{Got}
 use Rattle.object_store.specs.declared.events.Event.{Event}
 use Rattle.store_api.specs.declared.machines.Refusal.{Refusal}
 use Rattle.store_api.specs.declared.machines.Refusal.TheVariants as R
-use Rattle.store_api.specs.Journal.{IsPolite}
 use Rattle.store_api.specs.Callers.{Caller, Makes}
-use Rattle.store_api.specs.Program.{Prog, Done, Ask, bind, Leads, Keeps}
+use Rattle.store_api.specs.Program.{Prog, Done, Ask, bind, Leads}
 use Rattle.store_api.specs.Running.{Program, on_answer, StaysPolite, ◌>>=◌}
 use Rattle.store_api.proofs.Programs.{Leads-bind}
 use Rattle.repo_read.specs.declared.answers.Resolved.{Resolved}
@@ -28,8 +26,7 @@ use Rattle.store_api.specs.Telling.{GetsOf, MadeGets, WasGot, WasReadAs}
 use Rattle.repo_read.specs.declared.resolving.At.{At}
 use Rattle.repo_read.specs.declared.resolving.Named.{Named}
 use Rattle.refs_admin.specs.declared.log.LogLine.{LogLine}
-use Rattle.repo_read.specs.Resolving.{alone, tag_told, tombstone_told, tombstone_program, resolve_at_program}
-use Rattle.repo_read.specs.Resolving.{no_ref}
+use Rattle.repo_read.specs.Resolving.{alone, tag_told, tombstone_told, tombstone_program, resolve_at_program, no_ref}
 use Rattle.refs_admin.specs.Logs.{line_of, told_lines, refused_now, refused_first, chain_at, log_program}
 use Rattle.repo_read.specs.Naming.{WasResolved, NamingTells, IsNaming}
 use Rattle.refs_admin.specs.LogTelling.{WasWalked, IsOfLog, LogSays, LogTells}
@@ -37,34 +34,10 @@ use Rattle.repo_read.proofs.Own.{MadeGets-none, MadeGets-get}
 use Rattle.repo_read.proofs.Replies.{got-cases}
 use Rattle.repo_read.proofs.Leading.{leading-makes, leading-next}
 use Rattle.repo_read.proofs.Namings.{got-made, absent-made, failed-made, WasResolved-makes, naming-leads}
+use Rattle.repo_read.proofs.GetsAlone.{Reads, reads-polite, reads-gets, done-reads}
 use Rattle.refs_admin.proofs.NewBranch.{failure-as}
 
 -- ---- gets alone
-abbrev IsRead : Op → Type 0
-IsRead (Get key) = Unit {0}
-IsRead _ = ⊥
-
-unfoldable Reads : {A : Type 0} → Prog A → Type 0
-Reads (Done a) = Unit {0}
-Reads (Ask op k) = IsRead op × ((reply : Reply) → Reads (k reply))
-
-read-polite : (op : Op) (h : List Event) → IsRead op → IsPolite h op
-read-polite (Get key) h r = tt
-read-polite (PutNew key bytes why) h r = absurd r
-read-polite (PutOver key bytes old why) h r = absurd r
-read-polite (Remove key why) h r = absurd r
-read-polite (RemoveAt key old why) h r = absurd r
-read-polite (ListPart part) h r = absurd r
-
-reads-polite : {A : Type 0} (by : Caller) (p : Prog A) (h : List Event) → Reads p → StaysPolite by p h
-unfolding Reads Keeps
-reads-polite by (Done a) h r = tt
-reads-polite by (Ask op k) h r = (read-polite op h r.0, λ reply new m. reads-polite by (k reply) new (r.1 reply))
-
-done-reads : {A : Type 0} (a : A) → Reads (Done a)
-unfolding Reads
-done-reads a = tt
-
 reads-bind : {A B : Type 0} (p : Prog A) (f : A → Prog B) → Reads p → ((a : A) → Reads (f a)) → Reads (bind p f)
 unfolding Reads
 reads-bind (Done a) f r g = g a
@@ -291,15 +264,5 @@ log-says by (At.Tag name) journal =
 log-says by (At.Snapshot id) journal = id-leads by id journal journal (MadeGets-none by.number journal)
 
 -- and it makes gets alone
-reads-gets : {A : Type 0} (Q : A → List Event → Type 0) (by : Caller) (start : List Event) (p : Prog A) (h : List Event) → Reads p → MadeGets by.number start h → Leads Q by p h → Leads (λ a j. Q a j × MadeGets by.number start j) by p h
-unfolding Reads Leads
-reads-gets Q by start (Done a) h r c l = (l, c)
-reads-gets Q by start (Ask (Get key) k) h r c l = λ reply new m. reads-gets Q by start (k reply) new (r.1 reply) (MadeGets-get by start key reply h new m c) (l reply new m)
-reads-gets Q by start (Ask (PutNew key bytes why) k) h r c l = absurd r.0
-reads-gets Q by start (Ask (PutOver key bytes old why) k) h r c l = absurd r.0
-reads-gets Q by start (Ask (Remove key why) k) h r c l = absurd r.0
-reads-gets Q by start (Ask (RemoveAt key old why) k) h r c l = absurd r.0
-reads-gets Q by start (Ask (ListPart part) k) h r c l = absurd r.0
-
 pub log-leads : (by : Caller) (at : At) (journal : List Event) → Leads (LogTells by.number at journal) by (log_program at) journal
 log-leads by at journal = reads-gets (LogSays by.number at journal) by journal (log_program at) journal (log-reads at) (MadeGets-none by.number journal) (log-says by at journal)

@@ -30,7 +30,7 @@ use Rattle.refs_admin.specs.Telling.{IsOfMaking}
 use Rattle.store_api.specs.Telling.{GetsOf, WasFailure}
 use Rattle.refs_admin.specs.BranchTelling.{creates, BranchNewTells}
 use Rattle.repo_read.proofs.Own.{MadeGets-none, one-made}
-use Rattle.refs_admin.proofs.Replies.{new-cases, new-done}
+use Rattle.repo_read.proofs.Replies.{new-cases, new-done}
 use Rattle.repo_read.proofs.Namings.{failed-made, behind-polite, naming-leads}
 use Rattle.refs_admin.proofs.Targets.{Spelled, names-put, target-polite, IsAimed, aimed-makes, target-leads}
 

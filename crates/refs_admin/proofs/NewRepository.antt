@@ -23,7 +23,7 @@ use Rattle.refs_admin.specs.Branches.{created}
 use Rattle.refs_admin.specs.Beginning.{placed, put_main, init_program}
 use Rattle.refs_admin.specs.InitTelling.{HasInitial, puts_initial, puts_main, InitTells}
 use Rattle.repo_read.proofs.Own.{Since, Since-none, Since-makes, own-made}
-use Rattle.refs_admin.proofs.Replies.{new-cases, new-done}
+use Rattle.repo_read.proofs.Replies.{new-cases, new-done}
 use Rattle.refs_admin.proofs.Targets.{Spelled}
 
 -- ---- politeness

@@ -4,7 +4,7 @@ use Rattle.std.specs.Prelude.{Some, Result, Ok, Err}
 use Rattle.ice_ids.specs.declared.Id12.{Id12}
 use Rattle.ice_ids.specs.Text.{IsId12}
 use Rattle.ref_file.specs.Refs.{ref_bytes}
-use Rattle.object_store.specs.declared.keys.Key.TheVariants.{Snapshot, Tag, TagGone}
+use Rattle.object_store.specs.declared.keys.Key.TheVariants.{Snapshot, Tag, Tombstone}
 use Rattle.object_store.specs.declared.keys.Why.TheVariants.{Tag as For_tag}
 use Rattle.object_store.specs.declared.events.Version.{Version}
 use Rattle.object_store.specs.declared.events.Op.{Op}
@@ -32,8 +32,7 @@ use Rattle.refs_admin.specs.Telling.{IsOfMaking}
 use Rattle.store_api.specs.Telling.{GetsOf}
 use Rattle.refs_admin.specs.TagTelling.{tags, TagWasThere, TagNewTells}
 use Rattle.repo_read.proofs.Own.{MadeGets-none, MadeOne-append, Since, Since-gets, Since-makes, got-alone, made-more, own-made, one-made}
-use Rattle.repo_read.proofs.Replies.{got-cases, got-absent}
-use Rattle.refs_admin.proofs.Replies.{new-cases, new-done}
+use Rattle.repo_read.proofs.Replies.{got-cases, got-absent, new-cases, new-done}
 use Rattle.repo_read.proofs.Namings.{failed-made, behind-polite, naming-leads, WasResolved-append}
 use Rattle.refs_admin.proofs.Targets.{Spelled, names-put, target-polite, IsAimed, aimed-makes, target-leads, WasSnapshot-append}
 use Rattle.refs_admin.proofs.NewBranch.{failure-as}
@@ -60,14 +59,14 @@ module _ (laws : Spelled) (by : Caller) (name : List ℕ) where
   tag_new-polite at journal = behind-polite by at (λ (named : Named). tag_target_program name named.id) (λ named h. target-polite laws by named.id (put_tag name named.id) (put-polite named.id) h) journal
 
 -- ---- what is told
-there-makes : (by : Caller) (name : List ℕ) (at : At) (version : Version) (reply : Reply) (start old new : List Event) → Makes by (Get (TagGone name)) reply old new → TagWasThere by.number name at version start old → TagWasThere by.number name at version start new
+there-makes : (by : Caller) (name : List ℕ) (at : At) (version : Version) (reply : Reply) (start old new : List Event) → Makes by (Get (Tombstone name)) reply old new → TagWasThere by.number name at version start old → TagWasThere by.number name at version start new
 there-makes by name at version reply start old new m t =
-    let more : List Event = m.waits.between ++ own_event by (Get (TagGone name)) reply m.time ∷ [] in
-    subst (λ (h : List Event). TagWasThere by.number name at version start h) (sym (made-more by (Get (TagGone name)) reply old new m))
+    let more : List Event = m.waits.between ++ own_event by (Get (Tombstone name)) reply m.time ∷ [] in
+    subst (λ (h : List Event). TagWasThere by.number name at version start h) (sym (made-more by (Get (Tombstone name)) reply old new m))
     (record {
       aim = record { named = t.aim.named; resolved = WasResolved-append by.number at t.aim.named start old more t.aim.resolved; target = WasSnapshot-append by.number t.aim.named.id start old more t.aim.target };
       now = t.now;
-      made = MadeOne-append by.number (tags name t.aim.named.id) (New (Present version t.now)) start old more (got-alone by (TagGone name) reply old new m) t.made;
+      made = MadeOne-append by.number (tags name t.aim.named.id) (New (Present version t.now)) start old more (got-alone by (Tombstone name) reply old new m) t.made;
       there = t.there;
     })
 
@@ -82,13 +81,13 @@ module _ (by : Caller) (name : List ℕ) (at : At) (start : List Event) where
   abbrev TagAt : Version → List Event → Type 0
   TagAt version h = (s : Stored) × (found h (Tag name) ≡ Some s) × (s.version ≡ version.0)
 
-  taken-told : (version : Version) (reply : Reply) (old new : List Event) → Since start old → TagWasThere by.number name at version start old → TagAt version old → Makes by (Get (TagGone name)) reply old new → Tells (Err (taken version reply)) new
+  taken-told : (version : Version) (reply : Reply) (old new : List Event) → Since start old → TagWasThere by.number name at version start old → TagAt version old → Makes by (Get (Tombstone name)) reply old new → Tells (Err (taken version reply)) new
   taken-told version reply old new s t k m =
-      let there : (r : Reply) → Makes by (Get (TagGone name)) r old new → TagWasThere by.number name at version start new = λ r n. there-makes by name at version r start old new n t in
-      got-cases by old new (λ r. Tells (Err (taken version r)) new) (TagGone name)
-      (λ bytes put now n. record { version = version; there = there (Got (Found bytes put now)) n; gone = record { bytes = bytes; version = put.0; got = record { now = now; own = own-made by start (Get (TagGone name)) (Got (Found bytes put now)) old new n s } } })
-      (λ now n. record { there = there (Got (Absent now)) n; stands = record { now = now; own = own-made by start (Get (TagGone name)) (Got (Absent now)) old new n s; nothing = got-absent (found n.middle (TagGone name)) now n.time n.answered.answered }; still = stands-as n.middle (Tag name) k.0 version.0 (tag-waits by name old n.middle k.0 n.waits k.1) k.2 })
-      (λ done n. inr (record { version = version; there = there (Failed done) n; done = done; own = own-made by start (Get (TagGone name)) (Failed done) old new n s }))
+      let there : (r : Reply) → Makes by (Get (Tombstone name)) r old new → TagWasThere by.number name at version start new = λ r n. there-makes by name at version r start old new n t in
+      got-cases by old new (λ r. Tells (Err (taken version r)) new) (Tombstone name)
+      (λ bytes put now n. record { version = version; there = there (Got (Found bytes put now)) n; gone = record { bytes = bytes; version = put.0; got = record { now = now; own = own-made by start (Get (Tombstone name)) (Got (Found bytes put now)) old new n s } } })
+      (λ now n. record { there = there (Got (Absent now)) n; stands = record { now = now; own = own-made by start (Get (Tombstone name)) (Got (Absent now)) old new n s; nothing = got-absent (found n.middle (Tombstone name)) now n.time n.answered.answered }; still = stands-as n.middle (Tag name) k.0 version.0 (tag-waits by name old n.middle k.0 n.waits k.1) k.2 })
+      (λ done n. inr (record { version = version; there = there (Failed done) n; done = done; own = own-made by start (Get (Tombstone name)) (Failed done) old new n s }))
       reply m
 
   put-told : (named : Named) (reply : Reply) (old new : List Event) → IsAimed by.number at named start old → Makes by (tags name named.id) reply old new → Leads Tells by (after_tag name reply) new

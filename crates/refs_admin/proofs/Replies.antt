@@ -4,33 +4,18 @@ use Rattle.std.specs.Prelude.{Option, Some, None, ◌==◌}
 use Rattle.object_store.specs.declared.keys.Key.{Key}
 use Rattle.object_store.specs.declared.keys.Why.{Why}
 use Rattle.object_store.specs.declared.events.Version.{Version}
-use Rattle.object_store.specs.declared.events.Op.TheVariants.{PutNew, PutOver, RemoveAt}
-use Rattle.object_store.specs.declared.events.New.TheVariants.{Done as New_done, Present}
+use Rattle.object_store.specs.declared.events.Op.TheVariants.{PutOver, RemoveAt}
 use Rattle.object_store.specs.declared.events.Over.TheVariants.{Done as Over_done, Moved as Over_moved}
 use Rattle.object_store.specs.declared.events.GoneAt.TheVariants.{Done as Gone_done, Moved as Gone_moved}
 use Rattle.object_store.specs.declared.events.Reply.{Reply}
 use Rattle.object_store.specs.declared.events.Reply.TheVariants.{Got, New, Over, Gone, GoneAt, Listed, Failed}
 use Rattle.object_store.specs.declared.events.Event.{Event}
-use Rattle.object_store.specs.Machine.{Stored, version_at, new_of, gone_at_of}
+use Rattle.object_store.specs.Machine.{Stored, version_at, gone_at_of}
 use Rattle.store_api.specs.Callers.{Caller, Makes}
 use Rattle.store_api.proofs.Happening.{Differs}
 
 -- ---- by kind: a reply of another kind is none of an honest store's
 module _ (by : Caller) (old new : List Event) (P : Reply → Type 0) where
-  pub new-cases : (key : Key) (bytes : List ℕ) (why : Why)
-      → ((version : Version) (now : ℕ) → Makes by (PutNew key bytes why) (New (New_done version now)) old new → P (New (New_done version now)))
-      → ((version : Version) (now : ℕ) → Makes by (PutNew key bytes why) (New (Present version now)) old new → P (New (Present version now)))
-      → ((done : Bool) → Makes by (PutNew key bytes why) (Failed done) old new → P (Failed done))
-      → (reply : Reply) → Makes by (PutNew key bytes why) reply old new → P reply
-  new-cases key bytes why did present failed (New (New_done version now)) m = did version now m
-  new-cases key bytes why did present failed (New (Present version now)) m = present version now m
-  new-cases key bytes why did present failed (Failed done) m = failed done m
-  new-cases key bytes why did present failed (Got x) m = let e = m.answered.answered in absurd (cc)
-  new-cases key bytes why did present failed (Over x) m = let e = m.answered.answered in absurd (cc)
-  new-cases key bytes why did present failed (Gone x) m = let e = m.answered.answered in absurd (cc)
-  new-cases key bytes why did present failed (GoneAt x) m = let e = m.answered.answered in absurd (cc)
-  new-cases key bytes why did present failed (Listed x) m = let e = m.answered.answered in absurd (cc)
-
   pub over-cases : (key : Key) (bytes : List ℕ) (at : Version) (why : Why)
       → ((version : Version) (now : ℕ) → Makes by (PutOver key bytes at why) (Over (Over_done version now)) old new → P (Over (Over_done version now)))
       → ((there : Option Version) (now : ℕ) → Makes by (PutOver key bytes at why) (Over (Over_moved there now)) old new → P (Over (Over_moved there now)))
@@ -60,10 +45,6 @@ module _ (by : Caller) (old new : List Event) (P : Reply → Type 0) where
   gone-cases key at why did moved failed (Listed x) m = let e = m.answered.answered in absurd (cc)
 
 -- ---- what the answers say of what stands
-pub new-done : (n time : ℕ) (at : Option Stored) (version : Version) (now : ℕ) → New (New_done version now) ≡ New (new_of n time at) → (at ≡ None) × (version ≡ version_at n)
-new-done n time None version now e = (refl, cc)
-new-done n time (Some s) version now e = absurd (cc)
-
 -- a removal that was done: this version stood
 pub record StoodSo (old : ℕ) (at : Option Stored) : Type 0 where
   pub stored : Stored

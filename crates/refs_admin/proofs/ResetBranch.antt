@@ -5,7 +5,7 @@ use Rattle.std.specs.Result.{result_ok}
 use Rattle.ice_ids.specs.declared.Id12.{Id12}
 use Rattle.ice_ids.specs.Text.{IsId12}
 use Rattle.ref_file.specs.Refs.{ref_bytes}
-use Rattle.repo_objects.specs.declared.bad.Bad.{Bad}
+use Rattle.repo_objects.specs.declared.bad_objects.Bad.{Bad}
 use Rattle.repo_objects.specs.Readings.{read_ref}
 use Rattle.object_store.specs.declared.keys.Key.TheVariants.{Snapshot, Branch}
 use Rattle.object_store.specs.declared.keys.Why.TheVariants.{Reset}

@@ -6,7 +6,7 @@ use Rattle.ice_ids.specs.declared.Id12.{Id12}
 use Rattle.ice_ids.specs.Text.{IsId12}
 use Rattle.ref_file.specs.Refs.{ref_bytes}
 use Rattle.snapshot_file.specs.declared.snapshot.SnapshotFile.{SnapshotFile}
-use Rattle.repo_objects.specs.declared.bad.Bad.{Bad}
+use Rattle.repo_objects.specs.declared.bad_objects.Bad.{Bad}
 use Rattle.repo_objects.specs.Readings.{read_snapshot, snapshot_by}
 use Rattle.repo_objects.specs.Laws.{SnapshotLaw, RefLaw, InitialLaw}
 use Rattle.object_store.specs.declared.keys.Key.TheVariants.{Snapshot}

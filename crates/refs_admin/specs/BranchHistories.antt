@@ -5,7 +5,7 @@ use Rattle.ice_base.specs.Names.{main_name}
 use Rattle.ice_ids.specs.declared.Id12.{Id12}
 use Rattle.ice_ids.specs.Text.{initial_id}
 use Rattle.zarr_tree.specs.Trees.{Tree}
-use Rattle.repo_objects.specs.declared.bad.Bad.{Bad}
+use Rattle.repo_objects.specs.declared.bad_objects.Bad.{Bad}
 use Rattle.object_store.specs.declared.keys.Key.{Key}
 use Rattle.object_store.specs.declared.keys.Key.TheVariants.{Branch}
 use Rattle.object_store.specs.declared.events.Version.{Version}

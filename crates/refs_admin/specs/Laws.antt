@@ -1,7 +1,7 @@
 -- Laws of refs: tags and `main` stay; and whatever others do, each operation of a call is polite, and the answer tells the journal.
 use Rattle.std.specs.Prelude.{◌≡◌, ℕ, List, ◌++◌, Some}
 use Rattle.ice_base.specs.Names.{main_name}
-use Rattle.object_store.specs.declared.keys.Key.TheVariants.{Branch, Tag, TagGone}
+use Rattle.object_store.specs.declared.keys.Key.TheVariants.{Branch, Tag, Tombstone}
 use Rattle.object_store.specs.declared.events.Event.{Event}
 use Rattle.object_store.specs.Machine.{Stored, found}
 use Rattle.store_api.specs.Journal.{Each, IsGood}
@@ -32,7 +32,7 @@ pub record RefsLaw (by : Caller) : Type 0 where
 -- Whatever good events come, a tag stays as it was put, and so does a tombstone: a tag never moves, and its name isn't used again.
 pub record TagsStay : Type 0 where
   pub tags : (name : List ℕ) (journal more : List Event) (s : Stored) → Each IsGood journal more → found journal (Tag name) ≡ Some s → found (journal ++ more) (Tag name) ≡ Some s
-  pub tombstones : (name : List ℕ) (journal more : List Event) (s : Stored) → Each IsGood journal more → found journal (TagGone name) ≡ Some s → found (journal ++ more) (TagGone name) ≡ Some s
+  pub tombstones : (name : List ℕ) (journal more : List Event) (s : Stored) → Each IsGood journal more → found journal (Tombstone name) ≡ Some s → found (journal ++ more) (Tombstone name) ≡ Some s
 
 -- And where `main` is there, it stays there.
 abbrev pub MainStays : Type 0

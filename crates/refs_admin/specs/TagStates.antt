@@ -3,14 +3,14 @@
 use Rattle.std.specs.Prelude.{◌≡◌, ℕ, List, Option}
 use Rattle.ice_ids.specs.declared.Id12.{Id12}
 use Rattle.zarr_tree.specs.Trees.{Tree}
-use Rattle.repo_objects.specs.declared.bad.Bad.{Bad}
+use Rattle.repo_objects.specs.declared.bad_objects.Bad.{Bad}
 use Rattle.object_store.specs.declared.keys.Key.{Key}
-use Rattle.object_store.specs.declared.keys.Key.TheVariants.{Tag, TagGone as Tombstone}
+use Rattle.object_store.specs.declared.keys.Key.TheVariants.{Tag, Tombstone}
 use Rattle.object_store.specs.declared.events.Version.{Version}
 use Rattle.object_store.specs.declared.events.Event.{Event}
 use Rattle.store_api.specs.Journal.{IsGoodJournal}
 use Rattle.store_api.specs.Telling.{RefWasBad, WasAbsent, WasPresent}
-use Rattle.histories.specs.Tags.{TagCall, Open, Make, Drop, TagAnswer, Opened, Done, NoRef, RefExists, TagGone, tag_answer}
+use Rattle.histories.specs.Tags.{TagCall, Open, Make, Drop, TagAnswer, Opened, Done, NoRef, RefExists, TagDropped, tag_answer}
 use Rattle.histories.specs.TagCalls.{tag_of}
 use Rattle.histories.specs.Formats.{files_by}
 use Rattle.repo_read.specs.declared.resolving.At.{At}
@@ -30,7 +30,7 @@ pub record TagStatesTell (trees : Id12 → Option Tree) (client : ℕ) (tag : Li
   pub gone : (told : WasPresent client (Tombstone tag) start journal) → Gives trees told.got.own.before tag Open NoRef
   pub made : (at : At) (told : WasTagPut client tag at start journal) → Gives trees told.made.own.before tag (Make told.aim.named.id) Done
   pub stands : (at : At) (version : Version) (told : TagStands client tag at version start journal) → Gives trees told.stands.own.before tag (Make told.there.aim.named.id) (RefExists version.0)
-  pub was_gone : (at : At) (told : TagWasGone client tag at start journal) → Gives trees told.gone.got.own.before tag (Make told.there.aim.named.id) TagGone
+  pub was_gone : (at : At) (told : TagWasGone client tag at start journal) → Gives trees told.gone.got.own.before tag (Make told.there.aim.named.id) TagDropped
   pub dropped : (told : WasBuried client tag start journal) → Gives trees told.made.own.before tag Drop Done
   pub buried : (told : HadTombstone client tag start journal) → Gives trees told.made.own.before tag Drop NoRef
   pub readable : (key : Key) (bad : Bad) → RefWasBad client (Tag tag) key bad start journal → ⊥

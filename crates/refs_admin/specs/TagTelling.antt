@@ -2,7 +2,7 @@
 use Rattle.std.specs.Prelude.{◌≡◌, ◌⊎◌, ℕ, Bool, List, [], length, None, Result, Ok, Err}
 use Rattle.ice_ids.specs.declared.Id12.{Id12}
 use Rattle.ref_file.specs.Refs.{ref_bytes}
-use Rattle.object_store.specs.declared.keys.Key.TheVariants.{Tag, TagGone}
+use Rattle.object_store.specs.declared.keys.Key.TheVariants.{Tag, Tombstone}
 use Rattle.object_store.specs.declared.keys.Why.TheVariants as why
 use Rattle.object_store.specs.declared.events.Version.{Version}
 use Rattle.object_store.specs.declared.events.Op.{Op}
@@ -42,12 +42,12 @@ pub record TagWasThere (client : ℕ) (name : List ℕ) (at : At) (version : Ver
 pub record TagWasGone (client : ℕ) (name : List ℕ) (at : At) (start journal : List Event) : Type 0 where
   pub version : Version
   pub there : TagWasThere client name at version start journal
-  pub gone : WasPresent client (TagGone name) start journal
+  pub gone : WasPresent client (Tombstone name) start journal
 
 -- ... or found none, while the tag stood
 pub record TagStands (client : ℕ) (name : List ℕ) (at : At) (version : Version) (start journal : List Event) : Type 0 where
   pub there : TagWasThere client name at version start journal
-  pub stands : WasAbsent client (TagGone name) start journal
+  pub stands : WasAbsent client (Tombstone name) start journal
   pub still : StandsAt stands.own.before (Tag name) version.0
 
 -- The get of the tombstone failed where the tag was there; or another operation did.
@@ -55,19 +55,19 @@ pub record TombstoneWasNotGot (client : ℕ) (name : List ℕ) (at : At) (start 
   pub version : Version
   pub there : TagWasThere client name at version start journal
   pub done : Bool
-  pub own : HasOwn client (Get (TagGone name)) (Failed done) start journal
+  pub own : HasOwn client (Get (Tombstone name)) (Failed done) start journal
 
 -- What the answer to a new tag says.
 abbrev pub TagNewTells : ℕ → (name : List ℕ) → At → List Event → Result (Unit {0}) Refusal → List Event → Type 0
 TagNewTells client name at start (Ok done) journal = WasTagPut client name at start journal
 TagNewTells client name at start (Err (R.RefExists version)) journal = TagStands client name at version start journal
-TagNewTells client name at start (Err R.TagGone) journal = TagWasGone client name at start journal
+TagNewTells client name at start (Err R.TagDropped) journal = TagWasGone client name at start journal
 TagNewTells client name at start (Err R.StoreFault) journal = WasFailure client (IsOfMaking client at (tags name) start journal) start journal ⊎ TombstoneWasNotGot client name at start journal
 TagNewTells client name at start (Err why) journal = MakingRefused client at start why journal × MadeGets client start journal
 
 -- ---- a tag that is dropped
 abbrev pub buries : (name : List ℕ) → Op
-buries name = PutNew (TagGone name) [] why.Drop
+buries name = PutNew (Tombstone name) [] why.Drop
 
 -- the client's own get of the tag was answered with a reference
 pub record TagWasRead (client : ℕ) (name : List ℕ) (start journal : List Event) : Type 0 where
@@ -82,7 +82,7 @@ pub record WasBuried (client : ℕ) (name : List ℕ) (start journal : List Even
   pub now : ℕ
   pub made : MadeOne client (buries name) (Is_new (New_done version now)) start journal
   pub still : TagNames made.own.before name tag.id
-  pub free : found made.own.before (TagGone name) ≡ None
+  pub free : found made.own.before (Tombstone name) ≡ None
 
 -- The client's own put found a tombstone.
 pub record HadTombstone (client : ℕ) (name : List ℕ) (start journal : List Event) : Type 0 where
@@ -91,7 +91,7 @@ pub record HadTombstone (client : ℕ) (name : List ℕ) (start journal : List E
   pub now : ℕ
   pub made : MadeOne client (buries name) (Is_new (Present version now)) start journal
   pub still : TagNames made.own.before name tag.id
-  pub there : StandsAt made.own.before (TagGone name) version.0
+  pub there : StandsAt made.own.before (Tombstone name) version.0
 
 -- an operation of such a call
 abbrev pub IsOfBurying : ℕ → (name : List ℕ) → List Event → List Event → Op → Type 0

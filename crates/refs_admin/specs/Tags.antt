@@ -3,7 +3,7 @@
 use Rattle.std.specs.Prelude.{ℕ, List, [], Result, Ok, Err}
 use Rattle.ice_ids.specs.declared.Id12.{Id12}
 use Rattle.ref_file.specs.Refs.{ref_bytes}
-use Rattle.object_store.specs.declared.keys.Key.TheVariants.{Tag, TagGone}
+use Rattle.object_store.specs.declared.keys.Key.TheVariants.{Tag, Tombstone}
 use Rattle.object_store.specs.declared.keys.Why.TheVariants.{Drop, Tag as For_tag}
 use Rattle.object_store.specs.declared.events.Version.{Version}
 use Rattle.object_store.specs.declared.events.Op.TheVariants.{Get, PutNew}
@@ -12,7 +12,7 @@ use Rattle.object_store.specs.declared.events.New.TheVariants.{Done as New_done,
 use Rattle.object_store.specs.declared.events.Reply.{Reply}
 use Rattle.object_store.specs.declared.events.Reply.TheVariants.{Got, New}
 use Rattle.store_api.specs.declared.machines.Refusal.{Refusal}
-use Rattle.store_api.specs.declared.machines.Refusal.TheVariants.{NoRef, BadFile, NoSnapshot, RefExists, TagGone as Tag_gone, StoreFault, NoMemory}
+use Rattle.store_api.specs.declared.machines.Refusal.TheVariants.{NoRef, BadFile, NoSnapshot, RefExists, TagDropped, StoreFault, NoMemory}
 use Rattle.store_api.specs.Program.{Done, Ask}
 use Rattle.store_api.specs.Running.{Program, ◌>>=◌}
 use Rattle.repo_read.specs.declared.resolving.At.{At}
@@ -22,13 +22,13 @@ use Rattle.refs_admin.specs.Targets.{target_program}
 -- ---- a new tag
 -- why a tag that is there at this version isn't made: by what the get of its tombstone tells
 abbrev pub taken : Version → Reply → Refusal
-taken version (Got (Found bytes at now)) = Tag_gone
+taken version (Got (Found bytes at now)) = TagDropped
 taken version (Got (Absent now)) = RefExists version
 taken version _ = StoreFault
 
 -- gets the tombstone of a tag that is there
 abbrev pub taken_program : (name : List ℕ) → Version → Program (Unit {0})
-taken_program name version = Ask (Get (TagGone name)) (λ reply. Done (Err (taken version reply)))
+taken_program name version = Ask (Get (Tombstone name)) (λ reply. Done (Err (taken version reply)))
 
 abbrev pub after_tag : (name : List ℕ) → Reply → Program (Unit {0})
 after_tag name (New (New_done version now)) = Done (Ok tt)
@@ -58,7 +58,7 @@ buried _ = Err StoreFault
 
 -- puts the tombstone, which has no bytes
 abbrev pub put_tombstone : (name : List ℕ) → Program (Unit {0})
-put_tombstone name = Ask (PutNew (TagGone name) [] Drop) (λ reply. Done (buried reply))
+put_tombstone name = Ask (PutNew (Tombstone name) [] Drop) (λ reply. Done (buried reply))
 
 abbrev pub tag_drop_program : (name : List ℕ) → Program (Unit {0})
 tag_drop_program name = do
@@ -69,7 +69,7 @@ tag_drop_program name = do
 abbrev pub MayRefuseTag : Refusal → Type 0
 MayRefuseTag NoRef = Unit {0}
 MayRefuseTag NoSnapshot = Unit {0}
-MayRefuseTag Tag_gone = Unit {0}
+MayRefuseTag TagDropped = Unit {0}
 MayRefuseTag (RefExists version) = Unit {0}
 MayRefuseTag (BadFile key bad) = Unit {0}
 MayRefuseTag StoreFault = Unit {0}

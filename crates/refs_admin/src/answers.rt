@@ -85,7 +85,7 @@ pub(crate) fn taken(version: Version, reply: Reply) -> Refusal
     ensures { result ≡ taken version reply }
 {
     match reply {
-        Reply::Got(Got::Found { .. }) => Refusal::TagGone,
+        Reply::Got(Got::Found { .. }) => Refusal::TagDropped,
         Reply::Got(Got::Absent { .. }) => Refusal::RefExists(version),
         _ => Refusal::StoreFault,
     }

@@ -16,7 +16,7 @@ use store_api::{Key, Machine, Next, Payload, Refusal, Reply, Request, Store, Why
 
 /// The operation that comes next.
 #[derive(Clone, Copy)]
-pub enum Beginning {
+pub enum InitStep {
     /// The initial snapshot is put.
     Snapshot,
     /// The branch `main` is put.
@@ -30,7 +30,7 @@ pub enum Beginning {
 #[derive(Drop)]
 pub struct Init {
     alloc: Global,
-    state: Beginning,
+    state: InitStep,
 }
 
 /// The file of the initial snapshot.
@@ -54,12 +54,12 @@ impl Machine for Init {
 
     fn request(&self) -> Result<Request<'_>, AllocError> {
         let (key, bytes) = match self.state {
-            Beginning::Snapshot => (Key::Snapshot(Id12::INITIAL), initial_file(self.alloc)?),
-            Beginning::Main => (
+            InitStep::Snapshot => (Key::Snapshot(Id12::INITIAL), initial_file(self.alloc)?),
+            InitStep::Main => (
                 Key::Branch(RefName::main(self.alloc)?),
                 reference(self.alloc, Id12::INITIAL)?,
             ),
-            Beginning::Ended => unreachable!(),
+            InitStep::Ended => unreachable!(),
         };
         Ok(Request::PutNew {
             key,
@@ -70,19 +70,19 @@ impl Machine for Init {
 
     fn answer(&mut self, reply: Reply) -> Result<Next<()>, Refusal> {
         let state = self.state;
-        self.state = Beginning::Ended;
+        self.state = InitStep::Ended;
         match (state, reply) {
-            (Beginning::Snapshot, Reply::New(_)) => {
-                self.state = Beginning::Main;
+            (InitStep::Snapshot, Reply::New(_)) => {
+                self.state = InitStep::Main;
                 Ok(Next::Again)
             }
-            (Beginning::Main, reply) => Ok(Next::Ready(created(reply)?)),
+            (InitStep::Main, reply) => Ok(Next::Ready(created(reply)?)),
             _ => Err(Refusal::StoreFault),
         }
     }
 
     fn stop(&mut self) {
-        self.state = Beginning::Ended;
+        self.state = InitStep::Ended;
     }
 
     ghost may_starve = { tt };
@@ -96,7 +96,7 @@ impl Init {
     {
         Init {
             alloc,
-            state: Beginning::Snapshot,
+            state: InitStep::Snapshot,
         }
     }
 

@@ -51,8 +51,8 @@ impl Machine for TagDrop {
                 key: Key::Tag(name),
             }),
             Burying::Tombstone => Ok(Request::PutNew {
-                key: Key::TagGone(name),
-                bytes: Payload::Held(&[]),
+                key: Key::Tombstone(name),
+                bytes: Payload::Lent(&[]),
                 why: Why::Drop,
             }),
             Burying::Ended => unreachable!(),

@@ -32,7 +32,7 @@ pub enum Tagging {
 
 /// A machine that makes a tag: it resolves what names the snapshot, gets the snapshot, and puts the tag where it is absent.
 /// Where it was there, its tombstone is got, which tells whether the tag stands or was dropped. It may answer `NoRef`,
-/// `NoSnapshot`, `TagGone`, `RefExists`, `BadFile`, `StoreFault` or `NoMemory`.
+/// `NoSnapshot`, `TagDropped`, `RefExists`, `BadFile`, `StoreFault` or `NoMemory`.
 #[derive(Drop)]
 pub struct TagNew {
     alloc: Global,
@@ -63,7 +63,7 @@ impl Machine for TagNew {
                 why: Why::Tag,
             }),
             Tagging::Tombstone(_) => Ok(Request::Get {
-                key: Key::TagGone(self.name.copy(self.alloc)?),
+                key: Key::Tombstone(self.name.copy(self.alloc)?),
             }),
             Tagging::Ended => unreachable!(),
         }

@@ -12,7 +12,7 @@ use Rattle.zarr_meta.specs.Kinds.{size_of}
 use Rattle.zarr_tree.specs.Nodes.{Node, array_in, chunk_length}
 use Rattle.zarr_tree.specs.Trees.{Tree, node_at, IsWellFormed}
 use Rattle.zarr_tree.proofs.ViewLaws.{array_has_grid}
-use Rattle.zarr_changes.proofs.GridParts.{grid_parts}
+use Rattle.zarr_tree.proofs.GridParts.{grid_parts}
 use Rattle.repo_objects.specs.Trees.{Puts}
 use Rattle.changed_snapshot.specs.Laws.{KeepsFrozen}
 use Rattle.object_store.specs.declared.events.Event.{Event}
@@ -24,7 +24,7 @@ use Rattle.store_api.specs.Running.{on_answer}
 use Rattle.store_api.proofs.Programs.{Leads-bind, Leads-weaker}
 use Rattle.repo_read.specs.Programs.{MayRefuseObject}
 use Rattle.session.specs.declared.chunks.Value.{Value}
-use Rattle.session.specs.declared.chunks.Value.TheVariants.{Held, Fill}
+use Rattle.session.specs.declared.chunks.Value.TheVariants.{Bytes, Fill}
 use Rattle.session.specs.Sessions.{SessionState, nodes_seen, overlay}
 use Rattle.session.specs.Arrays.{array_at}
 use Rattle.commit_path.specs.Owed.{IsCareful}
@@ -129,7 +129,7 @@ module _ (B : BoxLaw) (by : Caller) (s : SessionState) (r : Reads) (count : ℕ)
   entered : (puts : Puts) (index : List ℕ) (value : Value) (numbers : List ℤ) → IsWellFormed (overlay puts s) → held puts index ≡ value_of value → length index ≡ length r.array.chunks → length numbers ≡ count_of r.from r.to
       → with_value r index value numbers ≡ with_chunk r.array.kind r.array.big r.from r.to r.array.chunks index (held puts index) numbers
   entered puts index Fill numbers wf e rank long = sym (ap (λ o. with_chunk r.array.kind r.array.big r.from r.to r.array.chunks index o numbers) e)
-  entered puts index (Held bytes) numbers wf e rank long =
+  entered puts index (Bytes bytes) numbers wf e rank long =
       let fit : fits r index bytes numbers ≡ true = ap (λ b. b && length bytes == chunk_length r.array && length numbers == count_of r.from r.to) (eq-eqb _ _ rank)
       ∙ ap (λ b. b && length numbers == count_of r.from r.to) (eq-eqb _ _ (whole_chunk (overlay puts s) r.path index bytes at.node r.array wf at.found at.is e)) ∙ eq-eqb _ _ long in
       ap (λ b. cond b (with_part r.array.kind r.array.big r.from r.to r.array.chunks index bytes numbers) numbers) fit
@@ -137,7 +137,7 @@ module _ (B : BoxLaw) (by : Caller) (s : SessionState) (r : Reads) (count : ℕ)
 
   length_value : (index : List ℕ) (value : Value) (numbers : List ℤ) → length numbers ≡ count_of r.from r.to → length (with_value r index value numbers) ≡ count_of r.from r.to
   length_value index Fill numbers e = e
-  length_value index (Held bytes) numbers e =
+  length_value index (Bytes bytes) numbers e =
       elim (fits r index bytes numbers) as (λ b. length (cond b (with_part r.array.kind r.array.big r.from r.to r.array.chunks index bytes numbers) numbers) ≡ count_of r.from r.to) [
         | true ↦ length-map (zip (box_cells r.from r.to) numbers) _ ∙ length-zip (box_cells r.from r.to) numbers ∙ omega (arith, length-box r.from r.to same_rank, e)
         | false ↦ e

@@ -1,13 +1,11 @@
 -- What the read of a chunk of a box answers, whatever others do.
-use Rattle.std.proofs.Common.{◌≡◌, ℕ, Bool, true, false, cond, List, [], ◌∷◌, length, take, drop, map, refl, ◌∙◌, ap, subst}
+use Rattle.std.proofs.Common.{◌≡◌, ℕ, true, false, cond, List, [], ◌∷◌, length, take, drop, map, refl, ◌∙◌, ap, subst}
 use Rattle.std.specs.Prelude.{◌+◌, ◌==◌, ◌&&◌, nat_le, Option, Some, None, option_and_then, Result, Ok, Err}
 use Rattle.std.specs.Option.{option_or}
 use Rattle.std.specs.Result.{result_ok}
 use Rattle.std.specs.List.{filter}
 use Rattle.ice_ids.specs.declared.Id8.{Id8}
 use Rattle.ice_ids.specs.declared.Id12.{Id12}
-use Rattle.ice_ids.specs.Text.{same_id12}
-use Rattle.ice_ids.proofs.TextLaws.{same_id12-true}
 use Rattle.zarr_tree.specs.Held.{entry_in}
 use Rattle.zarr_changes.specs.declared.chunks.ChunkAt.{ChunkAt}
 use Rattle.manifest_file.specs.declared.manifest.Place.{Place}
@@ -16,8 +14,8 @@ use Rattle.manifest_file.specs.declared.manifest.ManifestFile.{ManifestFile}
 use Rattle.held_manifest.specs.LookUp.{within, entry_of, look_up}
 use Rattle.manifest_index.specs.Merging.{ids_within}
 use Rattle.snapshot_file.specs.declared.nodes.ManifestRef.{ManifestRef}
-use Rattle.repo_objects.specs.declared.bad.Bad.{Bad}
-use Rattle.repo_objects.specs.declared.bad.Bad.TheVariants.{Chunk as BadChunk}
+use Rattle.repo_objects.specs.declared.bad_objects.Bad.{Bad}
+use Rattle.repo_objects.specs.declared.bad_objects.Bad.TheVariants.{Chunk as BadChunk}
 use Rattle.repo_objects.specs.Readings.{manifest_by, read_manifest, read_inline, read_chunk}
 use Rattle.repo_objects.specs.Trees.{Puts, part_of, bytes_at, manifest_put, or_empty, listed}
 use Rattle.changed_snapshot.specs.Rows.{own_manifests}
@@ -43,6 +41,7 @@ use Rattle.chunk_calls.proofs.Growing.{Surely, Surely-makes}
 use Rattle.chunk_calls.proofs.Gets.{held_of}
 use Rattle.chunk_calls.proofs.Seen.{IsThere, listed_chunk, by-entry, by-base}
 use Rattle.array_region.specs.Reading.{Kept, Chunk, keeping, in_file, entry_kept, in_manifest, file_kept, listed_kept, entered_kept, chunk_kept}
+use Rattle.array_region.proofs.Looking.{taken}
 
 -- ---- what is read of bytes
 -- an object's part that reads as a chunk is the one that a place there has
@@ -57,18 +56,6 @@ part_read want offset size bytes part e = elim (nat_le (offset + size) (length b
 
 inline_read : (want : ℕ) (bytes got : List ℕ) → read_inline want bytes ≡ Ok got → bytes ≡ got
 inline_read want bytes got e = elim (length bytes == want) as (λ b. cond b (Ok bytes) (Err (BadChunk want (length bytes))) ≡ Ok got → bytes ≡ got) [ true ↦ λ d. cc | false ↦ λ d. cc ] e
-
--- a manifest that is taken is the one that is kept
-pub taken : (kept : Kept) (id : Id12) (file : ManifestFile) → file_kept kept id ≡ Some file → kept ≡ Some (id, file)
-taken None id file e = cc
-taken (Some kept) id file e = by_test (same_id12 kept.0 id) refl e
-  where
-    by_test : (b : Bool) → same_id12 kept.0 id ≡ b → cond b (Some kept.1) None ≡ Some file → Some kept ≡ Some (id, file)
-    by_test true t d =
-        let same = same_id12-true kept.0 id t in
-        let files : kept.1 ≡ file = cc in
-        λ i. Some (same i, files i)
-    by_test false t d = cc
 
 -- the manifest that is kept was put
 abbrev pub KeptIs : Kept → Puts → Type 0

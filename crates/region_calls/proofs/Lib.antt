@@ -2,7 +2,6 @@ pub mod Gets
 pub mod Chunks
 pub mod Boxes
 pub mod Cells
-pub mod Fills
 pub mod Leading
 pub mod Walking
 pub mod Written

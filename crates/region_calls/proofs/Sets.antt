@@ -16,9 +16,9 @@ use Rattle.zarr_tree.specs.declared.edit.EditFault.TheVariants as E
 use Rattle.zarr_tree.specs.Held.{entry_in}
 use Rattle.zarr_tree.specs.Nodes.{Node, array_in, chunk_length}
 use Rattle.zarr_tree.specs.Trees.{IsWellFormed}
-use Rattle.zarr_tree.proofs.ViewLaws.{array_has_grid}
+use Rattle.zarr_tree.proofs.ViewLaws.{array_has_grid, array_fill}
 use Rattle.zarr_changes.specs.Sets.{set_refusal}
-use Rattle.zarr_changes.proofs.GridParts.{grid_parts}
+use Rattle.zarr_tree.proofs.GridParts.{grid_parts}
 use Rattle.repo_objects.specs.Trees.{Puts, Extends}
 use Rattle.changed_snapshot.specs.Laws.{KeepsFrozen}
 use Rattle.object_store.specs.declared.keys.Key.{Key}
@@ -73,7 +73,6 @@ use Rattle.region_calls.proofs.Gets.{entered_gets}
 use Rattle.region_calls.proofs.Chunks.{KeptIs, Told, chunk_told}
 use Rattle.region_calls.proofs.Boxes.{met_ranked, same_ranks, whole_chunk}
 use Rattle.region_calls.proofs.Cells.{box_numbers, other_numbers}
-use Rattle.region_calls.proofs.Fills.{array_fill}
 use Rattle.region_calls.proofs.Leading.{By, both_lead, gets_lead}
 use Rattle.region_calls.proofs.Walking.{write_leads, write_keeps, write_stays}
 use Rattle.region_calls.proofs.Written.{ValueIs, put_is, bytes_small, taken_length}

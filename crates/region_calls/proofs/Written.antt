@@ -16,7 +16,7 @@ use Rattle.zarr_tree.specs.Edits.{at_node, at_array}
 use Rattle.zarr_tree.proofs.Apply.{both, first, second}
 use Rattle.zarr_changes.specs.Sets.{set_refusal}
 use Rattle.session.specs.declared.chunks.Value.{Value}
-use Rattle.session.specs.declared.chunks.Value.TheVariants.{Held, Fill}
+use Rattle.session.specs.declared.chunks.Value.TheVariants.{Bytes, Fill}
 use Rattle.region_cells.specs.Numbers.{bytes_of, element_at}
 use Rattle.region_cells.specs.Boxes.{count_of, numbers_from}
 use Rattle.region_cells.specs.Parts.{cell_in}
@@ -99,7 +99,7 @@ ValueIs from to chunks index held value = ((is_covered from to chunks index ≡ 
 
 read_is : (array : ArrayView) (held : Option (List ℕ)) (value : Value) → held ≡ value_of value → bytes_read array value ≡ bytes_held array held
 read_is array held Fill e = sym (ap (bytes_held array) e)
-read_is array held (Held bytes) e = sym (ap (bytes_held array) e)
+read_is array held (Bytes bytes) e = sym (ap (bytes_held array) e)
 
 module _ (r : Reads) (index : List ℕ) (numbers : List ℤ) (value : Value) (rank : length index ≡ length r.array.chunks) (count : length numbers ≡ count_of r.from r.to) (some : 1 ≤ chunk_length r.array) (whole : length (bytes_put r index numbers value) ≡ chunk_length r.array) where
   bytes_are : bytes_put r index numbers value ≡ with_numbers r index numbers (bytes_read r.array value)

@@ -3,7 +3,7 @@ use Rattle.std.proofs.Common.{◌≡◌, ◌⊎◌, inl, inr, ℕ, ◌+◌, Bool
 use Rattle.std.specs.Prelude.{◌↔◌, Option, Some, None, Result, Ok, Err, Contains}
 use Rattle.ice_ids.specs.declared.Id12.{Id12}
 use Rattle.object_store.specs.declared.keys.Key.{Key}
-use Rattle.object_store.specs.declared.keys.Key.TheVariants.{Snapshot, Manifest, Txn, Chunk, Branch, Tag, TagGone, Lease}
+use Rattle.object_store.specs.declared.keys.Key.TheVariants.{Snapshot, Manifest, Txn, Chunk, Branch, Tag, Tombstone, Lease}
 use Rattle.object_store.specs.declared.keys.Part.{Part as Part_of_store}
 use Rattle.object_store.specs.declared.keys.Part.TheVariants.{Branches, Tags}
 use Rattle.object_store.specs.declared.events.Reply.{Reply}
@@ -23,7 +23,7 @@ use Rattle.repo_check.specs.Plays.{ends_with}
 use Rattle.repo_check.specs.Findings.{Finding, Makes, Comes_back, made_of, Deed, key_for, fault_by, with_finding, faults_from, faults_of}
 use Rattle.repo_check.specs.Exact.{AreFindings, AreAll, IsRinged, Counts, IsSnapshotNamed, IsObjectNamed, IsSound, IsUnsound, EndsSo}
 use Rattle.repo_check.proofs.Sets.{Has, as-elements, rises-distinct}
-use Rattle.repo_check.proofs.Made.{first-is, later-is, first-or-later, none-in}
+use Rattle.ice_ids.proofs.Elements.{first-is, later-is, first-or-later, none-in}
 use Rattle.repo_check.proofs.Settling.{Settled, settled-ring}
 use Rattle.repo_check.proofs.Keeping.{Keeps, IsObjectMade, reports-now}
 use Rattle.repo_check.proofs.Going.{Goes}
@@ -49,7 +49,7 @@ fault-not-empty (Snapshot id) kind faults e = not-empty faults (record { key = S
 fault-not-empty (Txn id) kind faults e = not-empty faults (record { key = Txn id; kind = kind }) e
 fault-not-empty (Branch name) kind faults e = not-empty faults (record { key = Branch name; kind = kind }) e
 fault-not-empty (Tag name) kind faults e = not-empty faults (record { key = Tag name; kind = kind }) e
-fault-not-empty (TagGone name) kind faults e = not-empty faults (record { key = TagGone name; kind = kind }) e
+fault-not-empty (Tombstone name) kind faults e = not-empty faults (record { key = Tombstone name; kind = kind }) e
 fault-not-empty (Lease id) kind faults e = not-empty faults (record { key = Lease id; kind = kind }) e
 
 -- nothing is wrong with what a finding is

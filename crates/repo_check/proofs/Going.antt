@@ -39,7 +39,8 @@ use Rattle.repo_check.specs.Plays.{Answer, ends_with, starved, asks, on_got, on_
 use Rattle.repo_check.specs.Findings.{Finding, Makes, Comes_back, made_of, Deed, deed_of, fault_by}
 use Rattle.repo_check.specs.Exact.{IsOfObject, IsRead, EndsSo, Reports, one_for_snapshot, snapshot_gets}
 use Rattle.repo_check.proofs.Sets.{Has, kept-with, has-with, only-with}
-use Rattle.repo_check.proofs.Made.{first-is, later-is, first-or-later, none-in, gets-more, Grows, grows-more, told-here, above-grows, above-then}
+use Rattle.repo_check.proofs.Made.{gets-more, Grows, grows-more, told-here, above-grows, above-then}
+use Rattle.ice_ids.proofs.Elements.{first-is, later-is, first-or-later, none-in}
 use Rattle.repo_check.proofs.Settling.{NoParent, Settled, Extends, settled-grows}
 use Rattle.repo_check.proofs.Settling as settling
 use Rattle.repo_check.proofs.Keeping.{Keeps, MayMake, Sets, keeps-skip, keeps-moves, keeps-made, keeps-back, reports-now, reports-behind, sets-other, sets-snapshot, sets-file, sets-part}

@@ -25,15 +25,15 @@ deeds-append (x ∷ own) event = ap (λ (l : List Deed). record { op = x.op; rep
 
 module _ (by : Caller) (start : List Event) where
   -- these are the client's operations behind `start`
-  record IsAt (d : List Deed) (journal : List Event) : Type 0 where
-    more : List Event
-    since : journal ≡ start ++ more
-    deeds : deeds_in (events_of by.number more) ≡ d
+  pub record IsAt (d : List Deed) (journal : List Event) : Type 0 where
+    pub more : List Event
+    pub since : journal ≡ start ++ more
+    pub deeds : deeds_in (events_of by.number more) ≡ d
 
   behind-start : (journal more : List Event) → journal ≡ start ++ more → drop (length start) journal ≡ more
   behind-start journal more e = ap (drop (length start)) e ∙ drop-append_seam start more
 
-  at-begin : IsAt [] start
+  pub at-begin : IsAt [] start
   at-begin = record { more = []; since = sym (append-nil start); deeds = refl }
 
   own-waits : (old between : List Event) → Each (IsOther by) old between → (more : List Event) → events_of by.number (more ++ between) ≡ events_of by.number more
@@ -41,7 +41,7 @@ module _ (by : Caller) (start : List Event) where
       filter-append (λ (e : Event). e.client == by.number) more between
       ∙ (ap (λ (l : List Event). events_of by.number more ++ l) (events_of-others by old between o) ∙ append-nil (events_of by.number more))
 
-  at-step : (d : List Deed) (op : Op) (reply : Reply) (journal new : List Event) → IsAt d journal → Makes by op reply journal new → IsAt (d ++ record { op = op; reply = reply } ∷ []) new
+  pub at-step : (d : List Deed) (op : Op) (reply : Reply) (journal new : List Event) → IsAt d journal → Makes by op reply journal new → IsAt (d ++ record { op = op; reply = reply } ∷ []) new
   at-step d op reply journal new a m =
       let event : Event = own_event by op reply m.time in
       let between = m.waits.between in
@@ -55,7 +55,7 @@ module _ (by : Caller) (start : List Event) where
         deeds = ap deeds_in own ∙ (deeds-append (events_of by.number a.more) event ∙ ap (λ (l : List Deed). l ++ record { op = op; reply = reply } ∷ []) a.deeds);
       }
 
-  deeds-at : (d : List Deed) (journal : List Event) → IsAt d journal → d ≡ deeds_behind by.number start journal
+  pub deeds-at : (d : List Deed) (journal : List Event) → IsAt d journal → d ≡ deeds_behind by.number start journal
   deeds-at d journal a = sym a.deeds ∙ ap (λ (l : List Event). deeds_in (events_of by.number l)) (sym (behind-start journal a.more a.since))
 
   tells-at : (d : List Deed) (report : CheckReport) (journal : List Event) → IsAt d journal → Reports d report → CheckTells by.number start report journal
@@ -77,7 +77,7 @@ module _ (by : Caller) (start : List Event) where
   play-leads d (Or p q) journal g a = (play-leads d p journal g.0 a, play-leads d q journal g.1 a)
 
   -- ---- later
-  deeds-stay : (journal between more : List Event) → journal ≡ start ++ more → Each (IsOther by) journal between → deeds_behind by.number start (journal ++ between) ≡ deeds_behind by.number start journal
+  pub deeds-stay : (journal between more : List Event) → journal ≡ start ++ more → Each (IsOther by) journal between → deeds_behind by.number start (journal ++ between) ≡ deeds_behind by.number start journal
   deeds-stay journal between more e o =
       ap (λ (l : List Event). deeds_in (events_of by.number l)) (behind-start (journal ++ between) (more ++ between) (ap (λ (h : List Event). h ++ between) e ∙ append_assoc start more between))
       ∙ (ap deeds_in (own-waits journal between o more)

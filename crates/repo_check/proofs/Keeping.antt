@@ -21,7 +21,8 @@ use Rattle.repo_check.specs.Works.{Work, with_file, with_part}
 use Rattle.repo_check.specs.Findings.{Finding, Makes, Comes_back, made_of, Deed, deed_of, deeds_of, with_finding, faults_of}
 use Rattle.repo_check.specs.Exact.{IsOfObject, AreOnce, AreFindings, EndsSo, Reports}
 use Rattle.repo_check.proofs.Sets.{Has, HasKey, kept-key, has-key, only-key, file-exact, file-self, part-exact, part-self, kept-with, has-with, only-with, Rises, ascend-with}
-use Rattle.repo_check.proofs.Made.{first-is, later-is, first-or-later, none-in, made-more, made-back, deeds-more, faults-more, Grows, grows-more, told-here, told-cases, made-grows, made-here, made-cases, made-old, named-grows, above-grows, once-more}
+use Rattle.repo_check.proofs.Made.{made-more, made-back, deeds-more, faults-more, Grows, grows-more, told-here, told-cases, made-grows, made-here, made-cases, made-old, named-grows, above-grows, once-more}
+use Rattle.ice_ids.proofs.Elements.{first-is, later-is, first-or-later, none-in}
 
 -- ---- what is named, and what is still to be made of it
 pub record Core (m : List Made) (pending : List Visit) : Type 0 where

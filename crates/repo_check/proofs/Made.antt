@@ -1,8 +1,9 @@
 -- What one more finding changes, and what stays.
-use Rattle.std.proofs.Common.{◌≡◌, ◌⊎◌, inl, inr, ℕ, zero, suc, ◌+◌, List, [], ◌∷◌, ◌++◌, refl, sym, ◌∙◌, ap, subst, arith}
-use Rattle.std.specs.Prelude.{Some, Result, Ok, Err, Contains}
+use Rattle.std.proofs.Common.{◌≡◌, ◌⊎◌, inl, inr, ℕ, ◌+◌, List, [], ◌∷◌, ◌++◌, refl, sym, ◌∙◌, ap, subst, arith}
+use Rattle.std.specs.Prelude.{Some, Result, Ok, Err}
 use Rattle.std.proofs.lemmas.List.Elements.{Contains-append_left, Contains-push, Contains-push_cases}
 use Rattle.ice_ids.specs.declared.Id12.{Id12}
+use Rattle.ice_ids.proofs.Elements.{first-is, later-is, first-or-later, none-in}
 use Rattle.snapshot_file.specs.declared.snapshot.SnapshotFile.{SnapshotFile}
 use Rattle.object_store.specs.declared.events.Got.{Got}
 use Rattle.object_store.specs.declared.events.Reply.{Reply}
@@ -15,20 +16,6 @@ use Rattle.intact.specs.Intact.{Made, IsTold, IsMade, Named, HasParent, IsAbove}
 use Rattle.intact.specs.Intact as intact
 use Rattle.repo_check.specs.Findings.{Finding, Makes, Comes_back, made_of, Deed, deed_of, deeds_of, with_finding, faults_from}
 use Rattle.repo_check.specs.Exact.{IsOfObject, AreOnce, one_for_snapshot, snapshot_gets}
-
--- ---- elements
-pub first-is : {A : Type 0} (x : A) (xs : List A) → Contains (x ∷ xs) x
-first-is x xs = (0, omega arith, refl)
-
-pub later-is : {A : Type 0} (x y : A) (xs : List A) → Contains xs y → Contains (x ∷ xs) y
-later-is x y xs h = (suc h.0, omega (arith, h.1), h.2)
-
-pub first-or-later : {A : Type 0} (x y : A) (xs : List A) → Contains (x ∷ xs) y → (x ≡ y) ⊎ Contains xs y
-first-or-later x y xs (zero, l, e) = inl e
-first-or-later x y xs (suc k, l, e) = inr (k, omega (arith, l), e)
-
-pub none-in : {A : Type 0} (y : A) → Contains [] y → ⊥
-none-in y h = absurd (omega (arith, h.1))
 
 -- ---- lists of findings
 pub made-more : (f : List Finding) (one : Made) → made_of (f ++ Makes one ∷ []) ≡ made_of f ++ one ∷ []

@@ -25,7 +25,7 @@ use Rattle.repo_check.specs.Plays.{Answer, asks, on_got, on_listed, told_ref, ro
 use Rattle.repo_check.specs.Findings.{Finding, Makes, made_of, Deed, fault_by}
 use Rattle.repo_check.specs.Exact.{snapshot_gets}
 use Rattle.repo_check.proofs.Sets.{Has}
-use Rattle.repo_check.proofs.Made.{first-is, later-is, first-or-later, none-in}
+use Rattle.ice_ids.proofs.Elements.{first-is, later-is, first-or-later, none-in}
 use Rattle.repo_check.proofs.Settling.{Settled}
 use Rattle.repo_check.proofs.Keeping.{Core, Keeps, MayMake, Sets, keeps-moves, keeps-made, sets-other}
 use Rattle.repo_check.proofs.Going.{Goes, goes-get, goes-list}
@@ -52,7 +52,7 @@ unfolding walks
 goes-walks [] f m d w k s = goes-verdict f m d w k s
 goes-walks (id ∷ ids) f m d w k s =
     goes-walk (root_visits ids) (walks ids) (goes-walks ids) most_snapshots id f m d (new_walk w)
-    (record { keeps = record { made_is = k.made_is; deeds_are = k.deeds_are; core = k.core; sets = k.sets; faults = k.faults; rings = k.rings }; inwalk = begun f m w.met id s; count = 0; fuel = omega arith; few = omega arith })
+    (record { keeps = record { made_is = k.made_is; deeds_are = k.deeds_are; core = k.core; sets = k.sets; faults = k.faults; rings = k.rings }; inwalk = begun f m w.met id s; count = 0; fuel = omega arith; few = omega arith; line = []; long = refl; read = tt })
 
 -- ---- refs
 abbrev pub ref_visits : List Key → List Visit

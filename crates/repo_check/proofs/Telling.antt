@@ -6,7 +6,7 @@ use Rattle.ice_ids.specs.declared.Id12.{Id12}
 use Rattle.ice_ids.specs.Text.{same_id12}
 use Rattle.ice_ids.specs.Sets.{has_object}
 use Rattle.object_store.specs.declared.keys.Key.{Key}
-use Rattle.object_store.specs.declared.keys.Key.TheVariants.{Snapshot, Manifest, Txn, Chunk, Branch, Tag, TagGone, Lease}
+use Rattle.object_store.specs.declared.keys.Key.TheVariants.{Snapshot, Manifest, Txn, Chunk, Branch, Tag, Tombstone, Lease}
 use Rattle.object_store.specs.Machine.{same_key}
 use Rattle.check_reports.specs.declared.faults.FaultKind.{FaultKind}
 use Rattle.check_reports.specs.declared.faults.CheckFault.{CheckFault}
@@ -115,7 +115,7 @@ other-noted (Snapshot id) files objects a b = λ kind faults t. record { is = re
 other-noted (Txn id) files objects a b = λ kind faults t. record { is = refl; told = told-other files objects faults t kind (Txn id) (λ q. refl) (λ q. refl) }
 other-noted (Branch name) files objects a b = λ kind faults t. record { is = refl; told = told-other files objects faults t kind (Branch name) (λ q. refl) (λ q. refl) }
 other-noted (Tag name) files objects a b = λ kind faults t. record { is = refl; told = told-other files objects faults t kind (Tag name) (λ q. refl) (λ q. refl) }
-other-noted (TagGone name) files objects a b = λ kind faults t. record { is = refl; told = told-other files objects faults t kind (TagGone name) (λ q. refl) (λ q. refl) }
+other-noted (Tombstone name) files objects a b = λ kind faults t. record { is = refl; told = told-other files objects faults t kind (Tombstone name) (λ q. refl) (λ q. refl) }
 other-noted (Lease id) files objects a b = λ kind faults t. record { is = refl; told = told-other files objects faults t kind (Lease id) (λ q. refl) (λ q. refl) }
 
 -- what is pushed then

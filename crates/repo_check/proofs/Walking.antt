@@ -26,9 +26,10 @@ use Rattle.intact.specs.Intact as intact
 use Rattle.repo_check.specs.Works.{Work, meet_snapshot, tell}
 use Rattle.repo_check.specs.Plays.{Answer, ends_with, starved, asks, on_got, told_log, get_files, after_snapshot, meets, onward, read_on, walk}
 use Rattle.repo_check.specs.Findings.{Finding, Makes, Comes_back, made_of, Deed, deed_of, fault_by}
-use Rattle.repo_check.specs.Exact.{snapshot_gets}
+use Rattle.repo_check.specs.Exact.{snapshot_gets, IsLine}
 use Rattle.repo_check.proofs.Sets.{Has, kept-with, has-with, only-with}
-use Rattle.repo_check.proofs.Made.{first-is, gets-more, Grows, grows-more, told-here, made-here, made-cases, above-grows, above-then}
+use Rattle.repo_check.proofs.Made.{gets-more, Grows, grows-more, told-here, made-here, made-cases, parent-grows, above-grows, above-then}
+use Rattle.ice_ids.proofs.Elements.{first-is}
 use Rattle.repo_check.proofs.Settling.{NoParent, Settled, Extends, settled-grows}
 use Rattle.repo_check.proofs.Settling as settling
 use Rattle.repo_check.proofs.Keeping.{Keeps, MayMake, Sets, keeps-skip, keeps-made, keeps-back, reports-now, sets-snapshot}
@@ -129,6 +130,11 @@ snap-may m id got unmade = record { new = λ o h. unmade h; log = λ x e. absurd
     another : (part : Part_of_store) → Snap id ≡ Refs part → ⊥
     another part e = cc
 
+-- ---- the line of a walk
+line-grows : (f g : List Finding) (m n : List Made) (below : Id12) (ids : List Id12) → Extends f m g n → IsLine m below ids → IsLine n below ids
+line-grows f g m n below [] e l = tt
+line-grows f g m n below (id ∷ ids) e l = (parent-grows m n id below e.grows l.0, line-grows f g m n id ids e l.1)
+
 -- ---- the walk
 module _ (pending : List Visit) (next : Work → Answer) (ends : WalkFollows pending next) where
   -- from the snapshot that comes next, of which so many may be got yet
@@ -138,6 +144,9 @@ module _ (pending : List Visit) (next : Work → Answer) (ends : WalkFollows pen
     pub count : ℕ
     pub fuel : left + count ≡ most_snapshots
     pub few : count ≤ snapshot_gets m
+    pub line : List Id12
+    pub long : length line ≡ count
+    pub read : IsLine m id line
 
   abbrev WalkGoes : ℕ → Type 0
   WalkGoes left = (id : Id12) (f : List Finding) (m : List Made) (d : List Deed) (w : Work) → Stands left id f m d w → Goes d (walk left next id w)
@@ -190,13 +199,17 @@ module _ (pending : List Visit) (next : Work → Answer) (ends : WalkFollows pen
     same_sets = sets-snapshot m w.met w.files w.parts w.objects s.keeps.sets one id refl
 
     -- on to the parent
-    parent-goes : (h : List Finding) (o : List Made) (e : List Deed) (v : Work) (parent : Option Id12) → Extends g n h o → snapshot_gets o ≡ snapshot_gets n → InWalk h o v.met v.walk parent → Keeps h o e v (its_parent parent ++ pending) → Goes e (onward (walk left next) parent v next)
-    parent-goes h o e v None x c i k = ends h o e v k (walk-ends h h o o v.met v.walk None i (extends-same h o) tt)
-    parent-goes h o e v (Some p) x c i k =
+    parent-goes : (h : List Finding) (o : List Made) (e : List Deed) (v : Work) (parent : Option Id12) → ((p : Id12) → parent ≡ Some p → HasParent n id p) → Extends g n h o → snapshot_gets o ≡ snapshot_gets n → InWalk h o v.met v.walk parent → Keeps h o e v (its_parent parent ++ pending) → Goes e (onward (walk left next) parent v next)
+    parent-goes h o e v None named x c i k = ends h o e v k (walk-ends h h o o v.met v.walk None i (extends-same h o) tt)
+    parent-goes h o e v (Some p) named x c i k =
         let more = gets-more m one in
         let fuel = s.fuel in
         let few = s.few in
-        again p h o e v (record { keeps = k; inwalk = i; count = s.count + 1; fuel = omega (arith, fuel); few = omega (arith, more, few, c) })
+        let long = s.long in
+        let far : Extends f m h o = extends-then f g h m n o (extends-made f m one) x in
+        let here : HasParent o id p = parent-grows n o id p x.grows (named p refl) in
+        let line : IsLine o p (id ∷ s.line) = (here, line-grows f h m o id s.line far s.read) in
+        again p h o e v (record { keeps = k; inwalk = i; count = s.count + 1; fuel = omega (arith, fuel); few = omega (arith, more, few, c); line = id ∷ s.line; long = omega (arith, long); read = line })
 
     -- its log, its manifests, its parent
     read-goes : (file : SnapshotFile) → found_snapshot id got ≡ Ok file → Goes e1 (read_on (walk left next) id file (meet_snapshot id w) next)
@@ -205,12 +218,13 @@ module _ (pending : List Visit) (next : Work → Answer) (ends : WalkFollows pen
         let k = kept v same_sets (Ok file) e refl in
         let i = next-walk f m w.met w.walk id s.inwalk got file e in
         let here : IsMade n (Snap id) = made-here m one (Snap id) refl in
+        let named : (p : Id12) → file.parent ≡ Some p → HasParent n id p = λ p is. record { got = got; answered = told-here m one; file = file; read = e; is = is } in
         let regroup : behind_snapshot id file ++ pending ≡ its_log id ++ (its_files file ++ (its_parent file.parent ++ pending)) =
         append_assoc (its_log id) (its_files file ++ its_parent file.parent) pending ∙ ap (λ (l : List Visit). its_log id ++ l) (append_assoc (its_files file) (its_parent file.parent) pending) in
         goes-log (its_files file ++ (its_parent file.parent ++ pending)) (λ u. get_files (files_of file.nodes) u (λ t. onward (walk left next) file.parent t next)) id g n e1 v
         (λ h o e u far l.
         goes-files (its_parent file.parent ++ pending) (λ t. onward (walk left next) file.parent t next) (files_of file.nodes) h o e u l
-        (λ h2 o2 e2 t far2 l2. parent-goes h2 o2 e2 t file.parent (extends-then g h h2 n o o2 far.extends far2.extends) (far2.gets ∙ far.gets)
+        (λ h2 o2 e2 t far2 l2. parent-goes h2 o2 e2 t file.parent named (extends-then g h h2 n o o2 far.extends far2.extends) (far2.gets ∙ far.gets)
         (subst (λ (x : List Id12). InWalk h2 o2 t.met x file.parent) (sym (far2.walk ∙ far.walk))
         (subst (λ (x : List Id12). InWalk h2 o2 x (with_object w.walk id) file.parent) (sym (far2.met ∙ far.met))
         (inwalk-grows g h2 n o2 (with_object w.met id) (with_object w.walk id) file.parent (extends-then g h h2 n o o2 far.extends far2.extends) i)))
@@ -236,7 +250,17 @@ module _ (pending : List Visit) (next : Work → Answer) (ends : WalkFollows pen
       let fuel = s.fuel in
       let few = s.few in
       let got : most_snapshots ≤ snapshot_gets m = omega (arith, fuel, few) in
-      reports-now f m d w (Snap id ∷ pending) (Err TooDeep) s.keeps (refl, record { many = subst (λ (l : List Made). most_snapshots ≤ snapshot_gets l) (sym s.keeps.made_is) got })
+      let long = s.long in
+      reports-now f m d w (Snap id ∷ pending) (Err TooDeep) s.keeps (
+        refl,
+        record {
+          many = subst (λ (l : List Made). most_snapshots ≤ snapshot_gets l) (sym s.keeps.made_is) got;
+          next = id;
+          line = s.line;
+          long = omega (arith, fuel, long);
+          read = subst (λ (l : List Made). IsLine l id s.line) (sym s.keeps.made_is) s.read;
+        },
+      )
 
   pub goes-walk : (left : ℕ) → WalkGoes left
   unfolding walk

@@ -13,7 +13,7 @@ use Rattle.check_reports.specs.declared.faults.Checked.{Checked}
 use Rattle.repo_read.specs.Chains.{most_snapshots}
 use Rattle.intact.specs.declared.visits.PartVisit.{PartVisit}
 use Rattle.intact.specs.Visits.{Visit, Refs, Ref, Snap, Log, File, Part}
-use Rattle.intact.specs.Intact.{Made, IsMade, Named, IsAbove, IsIntact}
+use Rattle.intact.specs.Intact.{Made, IsMade, Named, HasParent, IsAbove, IsIntact}
 use Rattle.repo_check.specs.declared.standing.CheckReport.{CheckReport}
 use Rattle.repo_check.specs.Findings.{Finding, Comes_back, Deed, made_of, deeds_of, faults_of}
 
@@ -103,9 +103,18 @@ pub record IsUnsound (findings : List Finding) (n : ℕ) : Type 0 where
   pub broken : IsIntact (made_of findings) → ⊥
   pub count : length (faults_of findings) ≡ n
 
--- a walk has got as many snapshots as it may
+-- these snapshots were read, the lowest first: it names `below` as its parent, and each other one the one before it
+abbrev pub IsLine : List Made → (below : Id12) → List Id12 → Type 0
+IsLine made below [] = Unit {0}
+IsLine made below (id ∷ ids) = HasParent made id below × IsLine made id ids
+
+-- one walk has got as many snapshots as it may, and there is a further one
 pub record IsDeep (findings : List Finding) : Type 0 where
   pub many : most_snapshots ≤ snapshot_gets (made_of findings)
+  pub next : Id12
+  pub line : List Id12
+  pub long : length line ≡ most_snapshots
+  pub read : IsLine (made_of findings) next line
 
 -- how it ended, with these findings, and with a reply that was none of them
 abbrev pub EndsSo : List Finding → List Deed → Result Checked Refusal → Type 0

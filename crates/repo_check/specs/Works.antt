@@ -6,7 +6,7 @@ use Rattle.std.specs.BTreeSet.{insert_key}
 use Rattle.ice_ids.specs.declared.Id12.{Id12}
 use Rattle.ice_ids.specs.Sets.{with_object}
 use Rattle.object_store.specs.declared.keys.Key.{Key}
-use Rattle.object_store.specs.declared.keys.Key.TheVariants.{Snapshot, Manifest, Txn, Chunk, Branch, Tag, TagGone, Lease}
+use Rattle.object_store.specs.declared.keys.Key.TheVariants.{Snapshot, Manifest, Txn, Chunk, Branch, Tag, Tombstone, Lease}
 use Rattle.object_store.specs.Machine.{same_key}
 use Rattle.store_api.specs.declared.machines.Refusal.{Refusal}
 use Rattle.store_api.specs.declared.machines.Refusal.TheVariants.{Unsound}
@@ -36,7 +36,7 @@ with_fault (Snapshot id) kind faults = and_fault (Snapshot id) kind faults
 with_fault (Txn id) kind faults = and_fault (Txn id) kind faults
 with_fault (Branch name) kind faults = and_fault (Branch name) kind faults
 with_fault (Tag name) kind faults = and_fault (Tag name) kind faults
-with_fault (TagGone name) kind faults = and_fault (TagGone name) kind faults
+with_fault (Tombstone name) kind faults = and_fault (Tombstone name) kind faults
 with_fault (Lease id) kind faults = and_fault (Lease id) kind faults
 
 -- ---- sets of visits, each once, in an order of their own

@@ -249,7 +249,7 @@ fn note(files: &mut ObjectIds, objects: &mut ObjectIds, key: &Key) -> Result<boo
         Key::Manifest(id) => files.insert(*id),
         Key::Chunk(id) => objects.insert(*id),
         Key::Snapshot(_) | Key::Txn(_) => Ok(true),
-        Key::Branch(_) | Key::Tag(_) | Key::TagGone(_) | Key::Lease(_) => Ok(true),
+        Key::Branch(_) | Key::Tag(_) | Key::Tombstone(_) | Key::Lease(_) => Ok(true),
     }
 }
 

@@ -24,7 +24,7 @@ use Rattle.manifest_file.specs.declared.manifest.ManifestFile.{ManifestFile}
 use Rattle.manifest_file.specs.Manifests.{manifest_of}
 use Rattle.manifest_file.specs.Layout.{file_bytes}
 use Rattle.manifest_file.specs.Laws as manifest
-use Rattle.repo_objects.specs.declared.bad.Bad.{Bad}
+use Rattle.repo_objects.specs.declared.bad_objects.Bad.{Bad}
 use Rattle.repo_objects.specs.Readings.{◌>>=◌, in_file, under, of_bytes, unless, id_in, id_of_value, first_bad, read_snapshot, read_manifest, read_ref, snapshot_by, manifest_by, log_by, ref_of}
 use Rattle.repo_objects.specs.Laws.{IsProper, SnapshotLaw, IsProperManifest, ManifestLaw, InitialLaw}
 use Rattle.repo_objects.proofs.Steps.{log_same, manifest_same, snapshot_same}

@@ -2,4 +2,5 @@ pub mod Steps
 pub mod Refs
 pub mod Metas
 pub mod Rows
+pub mod Entering
 pub mod Again

@@ -6,9 +6,9 @@ use Rattle.std.proofs.lemmas.Option.{slice_get-get_or, slice_get-map, slice_get_
 use Rattle.zarr_meta.specs.declared.metas.Meta.{Meta}
 use Rattle.snapshot_file.specs.declared.nodes.NodeRow.{NodeRow}
 use Rattle.held_snapshot.proofs.Made.{from_here}
-use Rattle.repo_objects.specs.declared.bad.Unread.{Unread}
-use Rattle.repo_objects.specs.declared.bad.Unread.TheVariants as unread
-use Rattle.repo_objects.specs.declared.bad.Bad.TheVariants.{Node}
+use Rattle.repo_objects.specs.declared.bad_objects.Unread.{Unread}
+use Rattle.repo_objects.specs.declared.bad_objects.Unread.TheVariants as unread
+use Rattle.repo_objects.specs.declared.bad_objects.Bad.TheVariants.{Node}
 use Rattle.repo_objects.specs.Readings.{row_fault, first_bad}
 use Rattle.repo_objects.specs.inside.Metas.{AreMetas, LoadsMeta, LoadsMetas}
 

@@ -5,7 +5,7 @@ use Rattle.zarr_meta.proofs.TextLaws.{json_of_read, json_of_refused}
 use Rattle.ref_file.specs.Refs.{RefersTo, Refuses}
 use Rattle.ref_file.specs.declared.RefFault.{RefFault}
 use Rattle.ref_file.specs.declared.RefFault.TheVariants.{Json, Member, Id, NoMemory}
-use Rattle.repo_objects.specs.declared.bad.Unread.{Unread}
+use Rattle.repo_objects.specs.declared.bad_objects.Unread.{Unread}
 use Rattle.repo_objects.specs.Readings.{id_in, read_ref}
 use Rattle.repo_objects.specs.Loading.{Loads}
 use Rattle.repo_objects.specs.inside.Metas.{unread_ref_of}

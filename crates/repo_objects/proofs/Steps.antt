@@ -12,10 +12,10 @@ use Rattle.manifest_file.specs.declared.manifest.ManifestFile.{ManifestFile}
 use Rattle.manifest_file.specs.Manifests.{manifest_of}
 use Rattle.txn_file.specs.declared.log.TxnFile.{TxnFile}
 use Rattle.txn_file.specs.Logs.{txn_of}
-use Rattle.repo_objects.specs.declared.bad.Bad.{Bad}
-use Rattle.repo_objects.specs.declared.bad.Bad.TheVariants.{File, WrongId}
-use Rattle.repo_objects.specs.declared.bad.Unread.{Unread}
-use Rattle.repo_objects.specs.declared.bad.Unread.TheVariants as unread
+use Rattle.repo_objects.specs.declared.bad_objects.Bad.{Bad}
+use Rattle.repo_objects.specs.declared.bad_objects.Bad.TheVariants.{File, WrongId}
+use Rattle.repo_objects.specs.declared.bad_objects.Unread.{Unread}
+use Rattle.repo_objects.specs.declared.bad_objects.Unread.TheVariants as unread
 use Rattle.repo_objects.specs.Readings.{◌>>=◌, in_file, under, unless, first_bad, read_snapshot, read_manifest, read_log}
 use Rattle.repo_objects.specs.Loading.{Loads}
 use Rattle.repo_objects.specs.inside.Metas.{LoadsMetas}

@@ -27,8 +27,8 @@ use Rattle.txn_file.specs.declared.log.TxnFile.{TxnFile}
 use Rattle.txn_file.specs.Logs.{txn_of}
 use Rattle.ref_file.specs.Refs.{member_name}
 use Rattle.ref_file.specs.declared.RefFault.TheVariants as ref
-use Rattle.repo_objects.specs.declared.bad.Bad.{Bad}
-use Rattle.repo_objects.specs.declared.bad.Bad.TheVariants.{File, Ref, WrongId, Node, Chunk}
+use Rattle.repo_objects.specs.declared.bad_objects.Bad.{Bad}
+use Rattle.repo_objects.specs.declared.bad_objects.Bad.TheVariants.{File, Ref, WrongId, Node, Chunk}
 
 -- a step, and what follows with its value; the first fault is the answer
 infixl 10 ◌>>=◌

@@ -4,7 +4,7 @@ ghost use Rattle.std.specs.Prelude.{◌≡◌, ◌+◌, ◌-◌, ◌≤◌, min,
 ghost use Rattle.repo_objects.specs.Readings.{read_inline, read_chunk};
 ghost use Rattle.repo_objects.specs.Loading.{Loads};
 
-use crate::bad::{Bad, Unread};
+use crate::bad_objects::{Bad, Unread};
 use ice_base::Bytes;
 use std::alloc::Global;
 

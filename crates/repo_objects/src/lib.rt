@@ -4,15 +4,17 @@
 //! a snapshot's nodes are read as metadata with it.
 #![tactic(auto)]
 
-mod bad;
+mod bad_objects;
 mod chunks;
 mod laws;
-mod loaded;
+mod loaded_snapshot;
+mod queue;
 mod readings;
 mod texts;
 
-pub use bad::{Bad, Unread};
+pub use bad_objects::{Bad, Unread};
 pub use chunks::{chunk_read, inline_read};
 pub use laws::{initial_law, log_law, manifest_law, ref_law, snapshot_law};
-pub use loaded::Loaded;
+pub use loaded_snapshot::Loaded;
+pub use queue::Queue;
 pub use readings::{log_hold, manifest_hold, ref_read};

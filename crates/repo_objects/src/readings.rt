@@ -5,9 +5,9 @@ ghost use Rattle.repo_objects.specs.Readings.{read_manifest, read_log, read_ref}
 ghost use Rattle.repo_objects.specs.Loading.{Loads};
 ghost use Rattle.repo_objects.specs.inside.Metas.{unread_ref_of};
 
-use crate::bad::{Bad, Unread};
+use crate::bad_objects::{Bad, Unread};
 use held_log::HeldLog;
-use held_manifest::{Held, hold};
+use held_manifest::{HeldManifest, hold};
 use ice_base::Bytes;
 use ice_ids::Id12;
 use ref_file::RefFault;
@@ -15,7 +15,7 @@ use std::alloc::Global;
 
 /// Holds the file of a manifest, to be read in place, under the id of its key. It takes no memory. (Icechunk specification
 /// version 1, "Manifests".)
-pub fn manifest_hold(id: Id12, file: Bytes) -> Result<Held, Bad>
+pub fn manifest_hold(id: Id12, file: Bytes) -> Result<HeldManifest, Bad>
     ensures { result ≡ read_manifest id file }
 {
     let _bytes = file.as_slice();

@@ -1,6 +1,8 @@
+pub mod Hearing
 pub mod Told
 pub mod Walking
 pub mod Own
+pub mod GetsAlone
 pub mod Replies
 pub mod Stays
 pub mod Namings

@@ -1,9 +1,9 @@
 -- The law of names: each get is polite, the answer tells the journal, and what it tells stays so.
 use Rattle.std.proofs.Common.{inl, inr, ℕ, List, ◌++◌}
 use Rattle.std.specs.Prelude.{Result, Ok, Err}
-use Rattle.repo_objects.specs.declared.bad.Bad.{Bad}
+use Rattle.repo_objects.specs.declared.bad_objects.Bad.{Bad}
 use Rattle.object_store.specs.declared.keys.Key.{Key}
-use Rattle.object_store.specs.declared.keys.Key.TheVariants.{Snapshot, Branch, Tag, TagGone}
+use Rattle.object_store.specs.declared.keys.Key.TheVariants.{Snapshot, Branch, Tag, Tombstone}
 use Rattle.object_store.specs.declared.events.Reply.TheVariants.{Failed}
 use Rattle.object_store.specs.declared.events.Event.{Event}
 use Rattle.object_store.specs.declared.events.Op.{Op}
@@ -27,7 +27,7 @@ WasPresent-append client key start journal more w = record { bytes = w.bytes; ve
 pub WasNothing-append : (client : ℕ) (at : At) (start journal more : List Event) → WasNothing client at start journal → WasNothing client at start (journal ++ more)
 WasNothing-append client (At.Branch name) start journal more w = WasAbsent-append client (Branch name) start journal more w
 WasNothing-append client (At.Tag name) start journal more (inl w) = inl (WasAbsent-append client (Tag name) start journal more w)
-WasNothing-append client (At.Tag name) start journal more (inr w) = inr (WasPresent-append client (TagGone name) start journal more w)
+WasNothing-append client (At.Tag name) start journal more (inr w) = inr (WasPresent-append client (Tombstone name) start journal more w)
 WasNothing-append client (At.Snapshot id) start journal more w = absurd w
 
 pub TargetWasAbsent-append : (client : ℕ) (at : At) (start journal more : List Event) → TargetWasAbsent client at start journal → TargetWasAbsent client at start (journal ++ more)

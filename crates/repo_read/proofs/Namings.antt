@@ -3,10 +3,10 @@ use Rattle.std.proofs.Common.{◌≡◌, inl, inr, ℕ, Bool, List, [], ◌∷�
 use Rattle.std.specs.Prelude.{Some, Result, Ok, Err}
 use Rattle.std.specs.Result.{result_ok}
 use Rattle.ice_ids.specs.declared.Id12.{Id12}
-use Rattle.repo_objects.specs.declared.bad.Bad.{Bad}
+use Rattle.repo_objects.specs.declared.bad_objects.Bad.{Bad}
 use Rattle.repo_objects.specs.Readings.{read_ref, ref_of}
 use Rattle.object_store.specs.declared.keys.Key.{Key}
-use Rattle.object_store.specs.declared.keys.Key.TheVariants.{Branch, Tag, TagGone}
+use Rattle.object_store.specs.declared.keys.Key.TheVariants.{Branch, Tag, Tombstone}
 use Rattle.object_store.specs.declared.events.Version.{Version}
 use Rattle.object_store.specs.declared.events.Op.{Op}
 use Rattle.object_store.specs.declared.events.Op.TheVariants.{Get}
@@ -59,7 +59,7 @@ WasResolved-append client (At.Tag name) named start journal more w = (
   record {
     version = w.1.version;
     read = WasRef-append client (Tag name) w.1.version named.id start journal more w.1.read;
-    stands = record { now = w.1.stands.now; own = HasOwn-append client (Get (TagGone name)) (Got (Absent w.1.stands.now)) start journal more w.1.stands.own; nothing = w.1.stands.nothing };
+    stands = record { now = w.1.stands.now; own = HasOwn-append client (Get (Tombstone name)) (Got (Absent w.1.stands.now)) start journal more w.1.stands.own; nothing = w.1.stands.nothing };
     still = w.1.still;
   },
 )
@@ -109,16 +109,16 @@ module _ (by : Caller) (start : List Event) where
       (λ done n. failed-made by start (GetsOf (IsNaming (At.Branch name))) (Get (Branch name)) done old new (Branch name, refl, refl) n c)
       reply m
 
-  tombstone-told : (name : List ℕ) (version : Version) (id : Id12) (reply : Reply) (old new : List Event) → WasRef by.number (Tag name) version id start old → TagNames old name id → MadeGets by.number start old → Makes by (Get (TagGone name)) reply old new
+  tombstone-told : (name : List ℕ) (version : Version) (id : Id12) (reply : Reply) (old new : List Event) → WasRef by.number (Tag name) version id start old → TagNames old name id → MadeGets by.number start old → Makes by (Get (Tombstone name)) reply old new
       → Leads (Tells (At.Tag name)) by (on_answer (λ (found : Id12). Done (Ok (alone found))) (tombstone_told id reply)) new
   unfolding Leads
-  tombstone-told name version id reply old new w k c m = got-cases by old new (λ r. Leads (Tells (At.Tag name)) by (on_answer (λ (found : Id12). Done (Ok (alone found))) (tombstone_told id r)) new) (TagGone name)
-      (λ bytes at now n. (inr (record { bytes = bytes; version = at.0; got = got-made by start (TagGone name) bytes at now old new n c }), MadeGets-get by start (TagGone name) (Got (Found bytes at now)) old new n c))
+  tombstone-told name version id reply old new w k c m = got-cases by old new (λ r. Leads (Tells (At.Tag name)) by (on_answer (λ (found : Id12). Done (Ok (alone found))) (tombstone_told id r)) new) (Tombstone name)
+      (λ bytes at now n. (inr (record { bytes = bytes; version = at.0; got = got-made by start (Tombstone name) bytes at now old new n c }), MadeGets-get by start (Tombstone name) (Got (Found bytes at now)) old new n c))
       (λ now n. (
-        (refl, record { version = version; read = WasRef-makes by (Get (TagGone name)) (Got (Absent now)) (Tag name) version id start old new n w; stands = absent-made by start (TagGone name) now old new n c; still = names-waits by name id old n.middle n.waits k }),
-        MadeGets-get by start (TagGone name) (Got (Absent now)) old new n c,
+        (refl, record { version = version; read = WasRef-makes by (Get (Tombstone name)) (Got (Absent now)) (Tag name) version id start old new n w; stands = absent-made by start (Tombstone name) now old new n c; still = names-waits by name id old n.middle n.waits k }),
+        MadeGets-get by start (Tombstone name) (Got (Absent now)) old new n c,
       ))
-      (λ done n. failed-made by start (GetsOf (IsNaming (At.Tag name))) (Get (TagGone name)) done old new (TagGone name, inr refl, refl) n c)
+      (λ done n. failed-made by start (GetsOf (IsNaming (At.Tag name))) (Get (Tombstone name)) done old new (Tombstone name, inr refl, refl) n c)
       reply m
 
   tag-read : (name bytes : List ℕ) (version : Version) (journal : List Event) → WasGot by.number (Tag name) bytes version.0 start journal → Holds (found journal (Tag name)) bytes version → MadeGets by.number start journal

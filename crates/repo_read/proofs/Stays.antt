@@ -2,7 +2,7 @@
 use Rattle.std.proofs.Common.{◌≡◌, ℕ, true, List, [], ◌∷◌, ◌++◌, length, sym, ◌∙◌, ap, subst, append_assoc, append-nil}
 use Rattle.std.specs.Prelude.{Option, Some}
 use Rattle.object_store.specs.declared.keys.Key.{Key}
-use Rattle.object_store.specs.declared.keys.Key.TheVariants.{Tag, TagGone}
+use Rattle.object_store.specs.declared.keys.Key.TheVariants.{Tag, Tombstone}
 use Rattle.object_store.specs.declared.keys.Why.{Why}
 use Rattle.object_store.specs.declared.events.Op.{Op}
 use Rattle.object_store.specs.declared.events.Op.TheVariants.{Get, PutNew, PutOver, Remove, RemoveAt, List as ListPart}
@@ -39,8 +39,8 @@ module _ (key : Key) (no_over : (journal : List Event) (bytes : List ℕ) (old :
 pub tag-stays : (name : List ℕ) (journal more : List Event) (s : Stored) → Each IsGood journal more → found journal (Tag name) ≡ Some s → found (journal ++ more) (Tag name) ≡ Some s
 tag-stays name = stays (Tag name) (λ journal bytes old why p. p) (λ why p. p) (λ why p. p)
 
-pub gone-stays : (name : List ℕ) (journal more : List Event) (s : Stored) → Each IsGood journal more → found journal (TagGone name) ≡ Some s → found (journal ++ more) (TagGone name) ≡ Some s
-gone-stays name = stays (TagGone name) (λ journal bytes old why p. p) (λ why p. p) (λ why p. p)
+pub gone-stays : (name : List ℕ) (journal more : List Event) (s : Stored) → Each IsGood journal more → found journal (Tombstone name) ≡ Some s → found (journal ++ more) (Tombstone name) ≡ Some s
+gone-stays name = stays (Tombstone name) (λ journal bytes old why p. p) (λ why p. p) (λ why p. p)
 
 -- ---- behind own events
 -- a tag that stood before an own put of a key that is taken stands behind it

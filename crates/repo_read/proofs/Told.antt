@@ -3,7 +3,7 @@ use Rattle.std.proofs.Common.{◌≡◌, ℕ, List, Bool, true, false, Result, O
 use Rattle.ice_ids.specs.declared.Id12.{Id12}
 use Rattle.snapshot_file.specs.declared.snapshot.SnapshotFile.{SnapshotFile}
 use Rattle.txn_file.specs.declared.log.TxnFile.{TxnFile}
-use Rattle.repo_objects.specs.declared.bad.Bad.{Bad}
+use Rattle.repo_objects.specs.declared.bad_objects.Bad.{Bad}
 use Rattle.repo_objects.specs.Readings.{read_snapshot, read_log, read_ref}
 use Rattle.object_store.specs.declared.keys.Key.{Key}
 use Rattle.object_store.specs.declared.keys.Key.TheVariants.{Snapshot, Txn, Branch}
@@ -14,27 +14,15 @@ use Rattle.object_store.specs.declared.events.Reply.{Reply}
 use Rattle.object_store.specs.declared.events.Reply.TheVariants.{Got, New, Over, Gone, GoneAt, Listed, Failed}
 use Rattle.store_api.specs.declared.machines.Next.{Next}
 use Rattle.store_api.specs.declared.machines.Refusal.{Refusal}
-use Rattle.store_api.specs.declared.machines.Refusal.TheVariants.{NoRef, Missing, BadFile, StoreFault, NoMemory}
+use Rattle.store_api.specs.declared.machines.Refusal.TheVariants.{NoRef, Missing, BadFile, StoreFault}
 use Rattle.store_api.specs.Callers.{Fits}
 use Rattle.store_api.specs.Program.{Ask, IsDone, Lands, IsSure, is_fault, is_no_memory}
 use Rattle.store_api.specs.Running.{Program, on_answer, ◌>>=◌}
-use Rattle.store_api.specs.Driving.{Heard, Excuses, Took, has_failed}
+use Rattle.store_api.specs.Driving.{Heard, Took, has_failed}
 use Rattle.repo_read.specs.declared.answers.Resolved.{Resolved}
 use Rattle.repo_read.specs.Answers.{at_key, resolved_at, ref_told, snapshot_told, log_told, Answers}
 use Rattle.repo_read.specs.Programs.{resolve_program, snapshot_program, log_program}
-
--- a fault is no want of memory
-fault-has-memory : (why : Refusal) → is_fault why ≡ true → is_no_memory why ≡ false
-fault-has-memory NoMemory e = cc
-fault-has-memory _ e = refl
-
--- a refusal that is none of the store's isn't told as one
-no-fault : {A : Type 0} (own why : Refusal) → is_fault own ≡ false → ◌≡◌ {A = Result A Refusal} (Err own) (Err why) → is_fault why ≡ false
-no-fault own why calm e = let is : own ≡ why = cc in sym (ap is_fault is) ∙ calm
-
-excused : {T : Type 0} (reply : Reply) (result : Result T Refusal) → IfErr result (λ refusal. is_fault refusal ≡ false) → Excuses reply result
-excused reply (Ok t) f = tt
-excused reply (Err why) f = λ n. f
+use Rattle.repo_read.proofs.Hearing.{fault-has-memory, no-fault, excused}
 
 -- ---- a get of a key that tells so: a fault exactly where it failed
 module _ {A B : Type 0} (key : Key) (told : Reply → Result A Refusal) (f : A → Program B) (fails : (done : Bool) → told (Failed done) ≡ Err StoreFault) (tells : (got : TheGot) (why : Refusal) → told (Got got) ≡ Err why → is_fault why ≡ false) where

@@ -2,10 +2,10 @@
 -- `start` is the journal at the call. (Icechunk specification version 1, "Reference Files", "Tags".)
 use Rattle.std.specs.Prelude.{◌≡◌, ◌⊎◌, ℕ, List, Some, Result, Ok, Err}
 use Rattle.ice_ids.specs.declared.Id12.{Id12}
-use Rattle.repo_objects.specs.declared.bad.Bad.{Bad}
+use Rattle.repo_objects.specs.declared.bad_objects.Bad.{Bad}
 use Rattle.repo_objects.specs.Readings.{ref_of}
 use Rattle.object_store.specs.declared.keys.Key.{Key}
-use Rattle.object_store.specs.declared.keys.Key.TheVariants.{Snapshot, Branch, Tag, TagGone}
+use Rattle.object_store.specs.declared.keys.Key.TheVariants.{Snapshot, Branch, Tag, Tombstone}
 use Rattle.object_store.specs.declared.events.Version.{Version}
 use Rattle.object_store.specs.declared.events.Event.{Event}
 use Rattle.store_api.specs.declared.machines.Refusal.{Refusal}
@@ -26,7 +26,7 @@ pub record TagNames (journal : List Event) (tag : List ℕ) (id : Id12) : Type 0
 pub record WasTagged (client : ℕ) (tag : List ℕ) (id : Id12) (start journal : List Event) : Type 0 where
   pub version : Version
   pub read : WasRef client (Tag tag) version id start journal
-  pub stands : WasAbsent client (TagGone tag) start journal
+  pub stands : WasAbsent client (Tombstone tag) start journal
   pub still : TagNames stands.own.before tag id
 
 pub record WasBranch (client : ℕ) (branch : List ℕ) (named : Named) (start journal : List Event) : Type 0 where
@@ -43,7 +43,7 @@ WasResolved client (At.Snapshot id) named start journal = named ≡ alone id
 -- nothing was named: the branch was absent, or the tag, or it had a tombstone
 abbrev pub WasNothing : ℕ → At → List Event → List Event → Type 0
 WasNothing client (At.Branch branch) start journal = WasAbsent client (Branch branch) start journal
-WasNothing client (At.Tag tag) start journal = WasAbsent client (Tag tag) start journal ⊎ WasPresent client (TagGone tag) start journal
+WasNothing client (At.Tag tag) start journal = WasAbsent client (Tag tag) start journal ⊎ WasPresent client (Tombstone tag) start journal
 WasNothing client (At.Snapshot id) start journal = ⊥
 
 abbrev pub key_of : At → Key
@@ -70,7 +70,7 @@ pub record TargetWasBad (client : ℕ) (at : At) (key : Key) (bad : Bad) (start 
 -- a get of what names a snapshot: a branch; a tag, or its tombstone
 abbrev pub IsNaming : At → Key → Type 0
 IsNaming (At.Branch branch) key = key ≡ Branch branch
-IsNaming (At.Tag tag) key = (key ≡ Tag tag) ⊎ (key ≡ TagGone tag)
+IsNaming (At.Tag tag) key = (key ≡ Tag tag) ⊎ (key ≡ Tombstone tag)
 IsNaming (At.Snapshot id) key = ⊥
 
 -- What the answer to a name says.

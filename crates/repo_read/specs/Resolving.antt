@@ -3,7 +3,7 @@ use Rattle.std.specs.Prelude.{ℕ, List, Some, None, Result, Ok, Err}
 use Rattle.ice_ids.specs.declared.Id12.{Id12}
 use Rattle.snapshot_file.specs.declared.snapshot.SnapshotFile.{SnapshotFile}
 use Rattle.repo_objects.specs.Readings.{read_ref}
-use Rattle.object_store.specs.declared.keys.Key.TheVariants.{Snapshot, Tag, TagGone}
+use Rattle.object_store.specs.declared.keys.Key.TheVariants.{Snapshot, Tag, Tombstone}
 use Rattle.object_store.specs.declared.events.Op.TheVariants.{Get}
 use Rattle.object_store.specs.declared.events.Got.TheVariants.{Found, Absent}
 use Rattle.object_store.specs.declared.events.Reply.{Reply}
@@ -39,7 +39,7 @@ tag_program tag = Ask (Get (Tag tag)) (λ reply. Done (tag_told tag reply))
 
 -- gets the tombstone of a tag that names this snapshot
 abbrev pub tombstone_program : (tag : List ℕ) → Id12 → Program Id12
-tombstone_program tag id = Ask (Get (TagGone tag)) (λ reply. Done (tombstone_told id reply))
+tombstone_program tag id = Ask (Get (Tombstone tag)) (λ reply. Done (tombstone_told id reply))
 
 -- gets what names a snapshot: a branch, or a tag and then its tombstone; for an id there is nothing to get
 abbrev pub resolve_at_program : At → Program Named

@@ -2,7 +2,7 @@
 use Rattle.std.specs.Prelude.{ℕ, Option, Some, None, Result, Ok, Err}
 use Rattle.ice_ids.specs.declared.Id12.{Id12}
 use Rattle.object_store.specs.declared.keys.Key.{Key}
-use Rattle.object_store.specs.declared.keys.Key.TheVariants.{Branch, Tag, TagGone}
+use Rattle.object_store.specs.declared.keys.Key.TheVariants.{Branch, Tag, Tombstone}
 use Rattle.object_store.specs.declared.events.Reply.{Reply}
 use Rattle.store_api.specs.declared.machines.Refusal.{Refusal}
 use Rattle.store_api.specs.declared.machines.Refusal.TheVariants.{NoMemory}
@@ -30,7 +30,7 @@ resolution_at (At.Snapshot id) = Known (alone id)
 abbrev pub key_got : Resolving → Key
 key_got (Get_of.Branch name) = Branch name
 key_got (Get_of.Tag name) = Tag name
-key_got (Get_of.Tombstone name id) = TagGone name
+key_got (Get_of.Tombstone name id) = Tombstone name
 
 -- with a value of this form
 abbrev pub mapped : {A B : Type 0} → (A → B) → Result A Refusal → Result B Refusal

@@ -5,7 +5,7 @@ ghost use Rattle.repo_read.specs.Answers.{ref_told, snapshot_told, manifest_told
 ghost use Rattle.repo_read.specs.Programs.{MayRefuseRef, MayRefuseObject};
 
 use held_log::HeldLog;
-use held_manifest::Held;
+use held_manifest::HeldManifest;
 use ice_base::{Bytes, RefName};
 use ice_ids::Id12;
 use repo_objects::{Loaded, Unread, chunk_read, log_hold, manifest_hold, ref_read};
@@ -74,7 +74,7 @@ pub fn snapshot_told(alloc: Global, id: Id12, reply: Reply) -> Result<Loaded, Re
 
 /// What a reply to the get of a manifest tells. It takes no memory. Refusals: `Missing` where it was absent, `BadFile` where
 /// its bytes are no manifest of this id, or `StoreFault` where the get failed.
-pub fn manifest_told(id: Id12, reply: Reply) -> Result<Held, Refusal>
+pub fn manifest_told(id: Id12, reply: Reply) -> Result<HeldManifest, Refusal>
     ensures told { result ≡ manifest_told id reply }
     ensures listed { IfErr result MayRefuseObject }
 {

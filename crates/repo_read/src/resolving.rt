@@ -142,7 +142,7 @@ impl Resolving {
         let key = match self {
             Resolving::Branch(name) => Key::Branch(name.copy(alloc)?),
             Resolving::Tag(name) => Key::Tag(name.copy(alloc)?),
-            Resolving::Tombstone(name, _) => Key::TagGone(name.copy(alloc)?),
+            Resolving::Tombstone(name, _) => Key::Tombstone(name.copy(alloc)?),
         };
         Ok(Request::Get { key })
     }

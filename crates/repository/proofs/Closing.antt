@@ -9,7 +9,7 @@ use Rattle.std.proofs.lemmas.Option.{slice_get_within}
 use Rattle.ice_ids.specs.declared.Id12.{Id12}
 use Rattle.repo_objects.specs.Readings.{ref_of}
 use Rattle.object_store.specs.declared.keys.Key.{Key}
-use Rattle.object_store.specs.declared.keys.Key.TheVariants.{Snapshot, Manifest, Txn, Chunk, Branch, Tag, TagGone, Lease}
+use Rattle.object_store.specs.declared.keys.Key.TheVariants.{Snapshot, Manifest, Txn, Chunk, Branch, Tag, Tombstone, Lease}
 use Rattle.object_store.specs.declared.keys.Part.{Part}
 use Rattle.object_store.specs.declared.keys.Part.TheVariants.{Branches, Tags}
 use Rattle.object_store.specs.declared.events.Entry.{Entry}
@@ -166,12 +166,12 @@ branches-lined at (Manifest i) r id = let p = r.part_is in absurd cc
 branches-lined at (Txn i) r id = let p = r.part_is in absurd cc
 branches-lined at (Chunk i) r id = let p = r.part_is in absurd cc
 branches-lined at (Tag name) r id = let p = r.part_is in absurd cc
-branches-lined at (TagGone name) r id = let p = r.part_is in absurd cc
+branches-lined at (Tombstone name) r id = let p = r.part_is in absurd cc
 branches-lined at (Lease i) r id = let p = r.part_is in absurd cc
 
 tags-lined : (at : Key → Option Stored) (key : Key) → IsRefIn at Tags key → (id : Id12) → IsLine key id
 tags-lined at (Tag name) r id = tag-lined name id
-tags-lined at (TagGone name) r id = absurd r.not_gone
+tags-lined at (Tombstone name) r id = absurd r.not_gone
 tags-lined at (Lease i) r id = let p = r.part_is in absurd cc
 tags-lined at (Branch name) r id = let p = r.part_is in absurd cc
 tags-lined at (Snapshot i) r id = let p = r.part_is in absurd cc
@@ -228,7 +228,7 @@ module _ (journal : List Event) (xs ys : List RefLine) (b : TellsPart (found jou
       let w = b.whole (Branch name) (record { stored = s; stands = e; part_is = refl; not_gone = tt }) in
       (w.0, record { place = w.1.place; here = get-left xs ys w.1.place w.0 w.1.here }, w.2)
 
-  tag-whole : (name : List ℕ) (s : Stored) → found journal (Tag name) ≡ Some s → found journal (TagGone name) ≡ None → (line : RefLine) × HasLine (xs ++ ys) line × Told (found journal) (Tag name) line
+  tag-whole : (name : List ℕ) (s : Stored) → found journal (Tag name) ≡ Some s → found journal (Tombstone name) ≡ None → (line : RefLine) × HasLine (xs ++ ys) line × Told (found journal) (Tag name) line
   tag-whole name s e n =
       let w = t.whole (Tag name) (record { stored = s; stands = e; part_is = refl; not_gone = n }) in
       (w.0, line-right xs ys w.0 w.1, w.2)
@@ -239,7 +239,7 @@ module _ (journal : List Event) (xs ys : List RefLine) (b : TellsPart (found jou
       let same : w.0.id ≡ id = same-id w.2.stored n.stored w.0.id id (found journal (Branch name)) w.2.stands n.stands w.2.named n.names in
       line-is (xs ++ ys) w.0 (branch_line name id) (line-of-branch name w.0 w.0.tag refl w.2.is ∙ ap (λ (i : Id12). branch_line name i) same) w.1
 
-  tag-line : (name : List ℕ) (id : Id12) → NamesAt journal (Tag name) id → found journal (TagGone name) ≡ None → HasLine (xs ++ ys) (tag_line name id)
+  tag-line : (name : List ℕ) (id : Id12) → NamesAt journal (Tag name) id → found journal (Tombstone name) ≡ None → HasLine (xs ++ ys) (tag_line name id)
   tag-line name id n gone =
       let w = tag-whole name n.stored n.stands gone in
       let same : w.0.id ≡ id = same-id w.2.stored n.stored w.0.id id (found journal (Tag name)) w.2.stands n.stands w.2.named n.names in
@@ -249,7 +249,7 @@ module _ (journal : List Event) (xs ys : List RefLine) (b : TellsPart (found jou
   names-branch name id h =
       let r = (line-told-by (branch_line name id) h).0 in record { stored = r.stored; stands = r.stands; names = r.named }
 
-  names-tag : (name : List ℕ) (id : Id12) → HasLine (xs ++ ys) (tag_line name id) → NamesAt journal (Tag name) id × (found journal (TagGone name) ≡ None)
+  names-tag : (name : List ℕ) (id : Id12) → HasLine (xs ++ ys) (tag_line name id) → NamesAt journal (Tag name) id × (found journal (Tombstone name) ≡ None)
   names-tag name id h =
       let r = line-told-by (tag_line name id) h in (record { stored = r.0.stored; stands = r.0.stands; names = r.0.named }, r.1)
 

@@ -8,7 +8,7 @@ use Rattle.std.specs.Cmp.Lexicographic.{slice_cmp}
 use Rattle.ice_ids.specs.declared.Id12.{Id12}
 use Rattle.repo_objects.specs.Readings.{ref_of}
 use Rattle.object_store.specs.declared.keys.Key.{Key}
-use Rattle.object_store.specs.declared.keys.Key.TheVariants.{Branch, Tag, TagGone}
+use Rattle.object_store.specs.declared.keys.Key.TheVariants.{Branch, Tag, Tombstone}
 use Rattle.object_store.specs.declared.events.Event.{Event}
 use Rattle.object_store.specs.Machine.{Stored, found}
 use Rattle.store_api.specs.Journal.{Each, IsGood}
@@ -45,9 +45,9 @@ line_cmp a b = ordering_then (bool_cmp a.tag b.tag) (slice_cmp nat_cmp a.name b.
 -- the snapshot that it names; none of them is unreadable, and the lines are in order.
 pub record TellsRefs (journal : List Event) (lines : List RefLine) : Type 0 where
   pub branches : (name : List ℕ) (id : Id12) → (HasLine lines (branch_line name id) ↔ NamesAt journal (Branch name) id)
-  pub tags : (name : List ℕ) (id : Id12) → (HasLine lines (tag_line name id) ↔ (NamesAt journal (Tag name) id × (found journal (TagGone name) ≡ None)))
+  pub tags : (name : List ℕ) (id : Id12) → (HasLine lines (tag_line name id) ↔ (NamesAt journal (Tag name) id × (found journal (Tombstone name) ≡ None)))
   pub named_branches : (name : List ℕ) → IsNamed journal (Branch name)
-  pub named_tags : (name : List ℕ) → found journal (TagGone name) ≡ None → IsNamed journal (Tag name)
+  pub named_tags : (name : List ℕ) → found journal (Tombstone name) ≡ None → IsNamed journal (Tag name)
   pub ascending : (j k : ℕ) (a b : RefLine) → j < k → slice_get lines j ≡ Some a → slice_get lines k ≡ Some b → line_cmp a b ≡ Less
 
 -- The closing reading: where the reader's events are all that came, the lines that it ends with are those of the

@@ -240,6 +240,6 @@ fn line_of(alloc: Global, key: &Key, id: Id12) -> Result<Option<RefLine>, AllocE
             id,
         })),
         Key::Snapshot(_) | Key::Manifest(_) | Key::Txn(_) | Key::Chunk(_) => Ok(None),
-        Key::TagGone(_) | Key::Lease(_) => Ok(None),
+        Key::Tombstone(_) | Key::Lease(_) => Ok(None),
     }
 }

@@ -13,7 +13,7 @@ use Rattle.store_api.specs.Journal.{Each, IsFirst, IsGood, IsGoodJournal, IsMade
 use Rattle.reach.specs.Own.{HasPut, HoldsBesides, IsOwn, OwnLaw}
 use Rattle.history_laws.specs.Refs.{Commits}
 use Rattle.history_laws.specs.Laws.{CommitsChild}
-use Rattle.play_script.specs.declared.scripts.Access.{Access}
+use Rattle.script_calls.specs.declared.calls.Access.{Access}
 use Rattle.play_script.specs.declared.scripts.Task.{Task}
 use Rattle.run_histories.specs.Told.{HasHistories, CommitsEnter}
 use Rattle.run_collections.specs.Beside.{OpensAt}

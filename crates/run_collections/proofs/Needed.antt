@@ -17,7 +17,7 @@ use Rattle.history_laws.specs.Collections as laws
 use Rattle.history_laws.specs.Collections.{Collection, Collects, IsCollected, IsPreceded, OnlyCollects, IsLost, CommitsLater, LeavesLost, NoneMissing, AreCollected}
 use Rattle.history_laws.specs.Refs.{Removes}
 use Rattle.history_laws.specs.Laws.{ClientCollects, CommitsChild, RefsKept, BasesKept, PutsKept, AnchoredReached, ReachedFound, BasesFound, OwnFound, NoneMissed, NothingMissing}
-use Rattle.play_script.specs.declared.scripts.Head.{Head}
+use Rattle.script_calls.specs.declared.calls.Head.{Head}
 use Rattle.play_script.specs.declared.scripts.Task.{Task}
 use Rattle.play_outcome.specs.declared.outcome.Outcome.{Outcome}
 use Rattle.play_collect.specs.Telling.{CollectedTells}

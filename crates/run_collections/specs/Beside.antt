@@ -9,8 +9,8 @@ use Rattle.reach.specs.Holding.{Reaches}
 use Rattle.collecting.specs.Walks.{Walk, Doomed}
 use Rattle.collecting.specs.Runs.{walk_of}
 use Rattle.history_laws.specs.Refs.{Points, Commits}
-use Rattle.play_script.specs.declared.scripts.Access.{Access}
-use Rattle.play_script.specs.declared.scripts.Head.TheVariants.{Session, Collect}
+use Rattle.script_calls.specs.declared.calls.Access.{Access}
+use Rattle.script_calls.specs.declared.calls.Head.TheVariants.{Session, Collect}
 use Rattle.play_script.specs.declared.scripts.Task.{Task}
 
 -- the task at this place collects, with this cutoff

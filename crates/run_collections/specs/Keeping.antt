@@ -12,7 +12,7 @@ use Rattle.collecting.specs.Walks.{IsObject}
 use Rattle.history_laws.specs.Refs.{RefReaches, IsAnchored, Removes}
 use Rattle.history_laws.specs.Collections.{LeavesLost, NoneMissing}
 use Rattle.history_laws.specs.Laws.{Stands}
-use Rattle.play_script.specs.declared.scripts.Access.{Access}
+use Rattle.script_calls.specs.declared.calls.Access.{Access}
 use Rattle.play_script.specs.declared.scripts.Task.{Task}
 use Rattle.play_outcome.specs.declared.outcome.Outcome.{Outcome}
 use Rattle.play_collect.specs.Telling.{CollectedTells}

@@ -10,7 +10,7 @@ use Rattle.ice_ids.specs.Drawing.{IsAmong, DrawsOnce}
 use Rattle.zarr_tree.specs.Changes.{Changes, none}
 use Rattle.repo_objects.specs.Readings.{ref_of}
 use Rattle.object_store.specs.declared.keys.Key.{Key}
-use Rattle.object_store.specs.declared.keys.Key.TheVariants.{Snapshot, Manifest, Txn, Chunk, Branch, Tag, TagGone, Lease}
+use Rattle.object_store.specs.declared.keys.Key.TheVariants.{Snapshot, Manifest, Txn, Chunk, Branch, Tag, Tombstone, Lease}
 use Rattle.object_store.specs.declared.keys.Why.{Why}
 use Rattle.object_store.specs.declared.keys.Why.TheVariants.{Commit}
 use Rattle.object_store.specs.declared.events.Version.{Version}
@@ -30,9 +30,9 @@ use Rattle.collecting.specs.Runs.{walk_of}
 use Rattle.collecting.specs.Walks.{IsObject, MayDo, Walk}
 use Rattle.play_expire.specs.Playing.{terms_of}
 use Rattle.play_refs.specs.Telling.{OwesRefs}
-use Rattle.play_script.specs.declared.scripts.Access.{Access}
-use Rattle.play_script.specs.declared.scripts.Head.{Head}
-use Rattle.play_script.specs.declared.scripts.Head.TheVariants.{Session, Refs, Collect, Expire, Check}
+use Rattle.script_calls.specs.declared.calls.Access.{Access}
+use Rattle.script_calls.specs.declared.calls.Head.{Head}
+use Rattle.script_calls.specs.declared.calls.Head.TheVariants.{Session, Refs, Collect, Expire, Check}
 use Rattle.play_script.specs.declared.scripts.Task.{Task}
 use Rattle.play_script.specs.Well.{IsWellTask}
 use Rattle.commit_path.specs.Own.{IsOwnCommit, OwesOwn, id_of}
@@ -74,7 +74,7 @@ plain-once journal (PutNew (Manifest id) bytes why) p = absurd p
 plain-once journal (PutNew (Txn id) bytes why) p = absurd p
 plain-once journal (PutNew (Chunk id) bytes why) p = absurd p
 plain-once journal (PutNew (Tag name) bytes why) p = tt
-plain-once journal (PutNew (TagGone name) bytes why) p = tt
+plain-once journal (PutNew (Tombstone name) bytes why) p = tt
 plain-once journal (PutNew (Lease id) bytes why) p = tt
 plain-once journal (PutOver key bytes old why) p = tt
 plain-once journal (Remove key why) p = tt
@@ -131,7 +131,7 @@ pub owes-plain : (op : Op) → OwesRefs op → IsPlain op
 owes-plain (Get key) o = tt
 owes-plain (PutNew (Branch name) bytes why) o = tt
 owes-plain (PutNew (Tag name) bytes why) o = tt
-owes-plain (PutNew (TagGone name) bytes why) o = tt
+owes-plain (PutNew (Tombstone name) bytes why) o = tt
 owes-plain (PutNew (Lease id) bytes why) o = absurd o
 owes-plain (PutNew (Snapshot id) bytes why) o = absurd o
 owes-plain (PutNew (Manifest id) bytes why) o = absurd o
@@ -143,7 +143,7 @@ owes-plain (PutOver (Manifest id) bytes old why) o = absurd o
 owes-plain (PutOver (Txn id) bytes old why) o = absurd o
 owes-plain (PutOver (Chunk id) bytes old why) o = absurd o
 owes-plain (PutOver (Tag name) bytes old why) o = absurd o
-owes-plain (PutOver (TagGone name) bytes old why) o = absurd o
+owes-plain (PutOver (Tombstone name) bytes old why) o = absurd o
 owes-plain (PutOver (Lease id) bytes old why) o = absurd o
 owes-plain (Remove key why) o = absurd o
 owes-plain (RemoveAt (Branch name) old why) o = tt
@@ -152,7 +152,7 @@ owes-plain (RemoveAt (Manifest id) old why) o = absurd o
 owes-plain (RemoveAt (Txn id) old why) o = absurd o
 owes-plain (RemoveAt (Chunk id) old why) o = absurd o
 owes-plain (RemoveAt (Tag name) old why) o = absurd o
-owes-plain (RemoveAt (TagGone name) old why) o = absurd o
+owes-plain (RemoveAt (Tombstone name) old why) o = absurd o
 owes-plain (RemoveAt (Lease id) old why) o = absurd o
 owes-plain (ListPart part) o = tt
 
@@ -202,7 +202,7 @@ module _ (draw : Draw) (most : ℕ) (once : DrawsOnce draw most) where
   owes-once ids task client start journal (PutNew (Chunk id) bytes why) among well unused o = unused (Chunk id) bytes why id refl tt refl o
   owes-once ids task client start journal (PutNew (Branch name) bytes why) among well unused o = tt
   owes-once ids task client start journal (PutNew (Tag name) bytes why) among well unused o = tt
-  owes-once ids task client start journal (PutNew (TagGone name) bytes why) among well unused o = tt
+  owes-once ids task client start journal (PutNew (Tombstone name) bytes why) among well unused o = tt
   owes-once ids task client start journal (PutNew (Lease id) bytes why) among well unused o = tt
   owes-once ids task client start journal (PutOver (Snapshot id) bytes old why) among well unused o = absurd o
   owes-once ids task client start journal (PutOver (Txn id) bytes old why) among well unused o = tt
@@ -210,7 +210,7 @@ module _ (draw : Draw) (most : ℕ) (once : DrawsOnce draw most) where
   owes-once ids task client start journal (PutOver (Chunk id) bytes old why) among well unused o = tt
   owes-once ids task client start journal (PutOver (Branch name) bytes old why) among well unused o = tt
   owes-once ids task client start journal (PutOver (Tag name) bytes old why) among well unused o = tt
-  owes-once ids task client start journal (PutOver (TagGone name) bytes old why) among well unused o = tt
+  owes-once ids task client start journal (PutOver (Tombstone name) bytes old why) among well unused o = tt
   owes-once ids task client start journal (PutOver (Lease id) bytes old why) among well unused o = tt
   owes-once ids task client start journal (Remove key why) among well unused o = tt
   owes-once ids task client start journal (RemoveAt key old why) among well unused o = tt
@@ -253,7 +253,7 @@ module _ (draw : Draw) (tasks : List Task) (start : List Event) (client place : 
   op-knows (PutOver (Manifest id) bytes old why) o = absurd o
   op-knows (PutOver (Chunk id) bytes old why) o = absurd o
   op-knows (PutOver (Tag name) bytes old why) o = absurd o
-  op-knows (PutOver (TagGone name) bytes old why) o = absurd o
+  op-knows (PutOver (Tombstone name) bytes old why) o = absurd o
   op-knows (PutOver (Lease id) bytes old why) o = absurd o
   op-knows (Remove key why) o = absurd o
   op-knows (RemoveAt key old why) o = absurd o

@@ -20,7 +20,7 @@ use Rattle.commit_path.specs.Single.{IsAlike, PutsAlike, HasPutAlike}
 use Rattle.commit_path.proofs.Sources.{later-same, later-later, object-later}
 use Rattle.rebase.specs.Along.{Link, Solves, left_at, solved_at, first_hidden, along}
 use Rattle.rebase.proofs.Following.{past-solves}
-use Rattle.play_script.specs.declared.scripts.Access.{Access}
+use Rattle.script_calls.specs.declared.calls.Access.{Access}
 use Rattle.play_script.specs.declared.scripts.Task.{Task}
 use Rattle.play_script.specs.Well.{IsWellLine, IsWellTask}
 use Rattle.play_tasks.specs.Playing.{asked_by, policy_of}

@@ -13,8 +13,8 @@ use Rattle.expiry.specs.Owing.{IsOwed}
 use Rattle.repo_check.specs.Exact.{IsRead}
 use Rattle.play_expire.specs.Playing.{terms_of}
 use Rattle.play_refs.specs.Telling.{OwesRefs}
-use Rattle.play_script.specs.declared.scripts.Head.{Head}
-use Rattle.play_script.specs.declared.scripts.Head.TheVariants.{Session, Refs, Collect, Expire, Check}
+use Rattle.script_calls.specs.declared.calls.Head.{Head}
+use Rattle.script_calls.specs.declared.calls.Head.TheVariants.{Session, Refs, Collect, Expire, Check}
 use Rattle.play_script.specs.declared.scripts.Task.{Task}
 use Rattle.play_tasks.specs.Owing.{OwesBy}
 use Rattle.play_tasks.specs.Solving.{IsOfTask}

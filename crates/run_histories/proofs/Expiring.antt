@@ -1,7 +1,7 @@
 -- The operations that an expiry owes: gets and listings, tombstones, removals of branches, and cuts.
 use Rattle.std.proofs.Common.{inl, inr, ℕ, List}
 use Rattle.object_store.specs.declared.keys.Key.{Key}
-use Rattle.object_store.specs.declared.keys.Key.TheVariants.{Snapshot, Manifest, Txn, Chunk, Branch, Tag, TagGone, Lease}
+use Rattle.object_store.specs.declared.keys.Key.TheVariants.{Snapshot, Manifest, Txn, Chunk, Branch, Tag, Tombstone, Lease}
 use Rattle.object_store.specs.declared.events.Version.{Version}
 use Rattle.object_store.specs.declared.events.Op.{Op}
 use Rattle.object_store.specs.declared.events.Op.TheVariants.{Get, PutNew, PutOver, Remove, RemoveAt, List as ListPart}
@@ -15,7 +15,7 @@ use Rattle.run_histories.proofs.Removals.{IsRemoval, no-object}
 module _ (terms : Terms) (client : ℕ) (start journal : List Event) where
   -- a new key is a tombstone
   new-plain : (bytes : List ℕ) (key : Key) → OwesNew terms client start journal bytes key → IsPlainNew bytes key
-  new-plain bytes (TagGone name) o = tt
+  new-plain bytes (Tombstone name) o = tt
   new-plain bytes (Snapshot id) o = absurd o
   new-plain bytes (Manifest id) o = absurd o
   new-plain bytes (Txn id) o = absurd o
@@ -32,7 +32,7 @@ module _ (terms : Terms) (client : ℕ) (start journal : List Event) where
   over-snapshot bytes old (Chunk id) o = absurd o
   over-snapshot bytes old (Branch name) o = absurd o
   over-snapshot bytes old (Tag name) o = absurd o
-  over-snapshot bytes old (TagGone name) o = absurd o
+  over-snapshot bytes old (Tombstone name) o = absurd o
   over-snapshot bytes old (Lease id) o = absurd o
 
   -- what is removed is a branch
@@ -43,7 +43,7 @@ module _ (terms : Terms) (client : ℕ) (start journal : List Event) where
   gone-branch old (Txn id) o = absurd o
   gone-branch old (Chunk id) o = absurd o
   gone-branch old (Tag name) o = absurd o
-  gone-branch old (TagGone name) o = absurd o
+  gone-branch old (Tombstone name) o = absurd o
   gone-branch old (Lease id) o = absurd o
 
   -- so it is plain, or a cut

@@ -17,8 +17,8 @@ use Rattle.collecting.specs.Walks.{May}
 use Rattle.play_expire.specs.Playing.{terms_of}
 use Rattle.play_script.specs.Collections.{has_collection, is_collection}
 use Rattle.play_script.specs.Well.{IsWellTask}
-use Rattle.play_script.specs.declared.scripts.Head.{Head}
-use Rattle.play_script.specs.declared.scripts.Head.TheVariants.{Session, Refs, Collect, Expire, Check}
+use Rattle.script_calls.specs.declared.calls.Head.{Head}
+use Rattle.script_calls.specs.declared.calls.Head.TheVariants.{Session, Refs, Collect, Expire, Check}
 use Rattle.play_script.specs.declared.scripts.Task.{Task}
 use Rattle.play_tasks.specs.Owing.{OwesBy}
 use Rattle.play_tasks.specs.Solving.{IsOfTask}

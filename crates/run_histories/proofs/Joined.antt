@@ -22,8 +22,8 @@ use Rattle.histories.proofs.Linked.{history-law}
 use Rattle.histories.proofs.TagTrees.{keeps-its-tree}
 use Rattle.histories.proofs.Tagging.{tags-law}
 use Rattle.play_script.specs.Collections.{has_collection}
-use Rattle.play_script.specs.declared.scripts.Head.{Head}
-use Rattle.play_script.specs.declared.scripts.Head.TheVariants.{Session}
+use Rattle.script_calls.specs.declared.calls.Head.{Head}
+use Rattle.script_calls.specs.declared.calls.Head.TheVariants.{Session}
 use Rattle.play_script.specs.declared.scripts.Task.{Task}
 use Rattle.repository.specs.Beginning.{begin_program}
 use Rattle.repository.specs.Refs.{refs_program}

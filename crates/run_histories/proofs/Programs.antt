@@ -4,7 +4,7 @@ use Rattle.std.specs.Prelude.{Result, Ok, Err}
 use Rattle.ice_ids.specs.Text.{initial_id}
 use Rattle.repo_objects.specs.Laws.{initial_bytes}
 use Rattle.object_store.specs.declared.keys.Key.{Key}
-use Rattle.object_store.specs.declared.keys.Key.TheVariants.{Snapshot, Branch, Tag, TagGone}
+use Rattle.object_store.specs.declared.keys.Key.TheVariants.{Snapshot, Branch, Tag, Tombstone}
 use Rattle.object_store.specs.declared.keys.Why.TheVariants.{Reset}
 use Rattle.object_store.specs.declared.keys.Part.{Part}
 use Rattle.object_store.specs.declared.keys.Part.TheVariants.{Branches, Tags}
@@ -34,7 +34,7 @@ abbrev pub IsPlainNew : List ℕ → Key → Type 0
 IsPlainNew bytes (Snapshot id) = (id ≡ initial_id) × (bytes ≡ initial_bytes)
 IsPlainNew bytes (Branch name) = Unit {0}
 IsPlainNew bytes (Tag name) = Unit {0}
-IsPlainNew bytes (TagGone name) = Unit {0}
+IsPlainNew bytes (Tombstone name) = Unit {0}
 IsPlainNew bytes _ = ⊥
 
 -- It puts no object but the initial snapshot, and commits nothing: a get, a listing, a put of a new key, or a branch that is reset or removed.

@@ -5,7 +5,7 @@ use Rattle.ice_ids.specs.declared.Id12.{Id12}
 use Rattle.ice_ids.specs.declared.drawing.AnyIds.{AnyIds}
 use Rattle.ice_ids.specs.declared.drawing.Draw.{Draw}
 use Rattle.object_store.specs.declared.keys.Key.{Key}
-use Rattle.object_store.specs.declared.keys.Key.TheVariants.{Snapshot, Manifest, Txn, Chunk, Branch, Tag, TagGone, Lease}
+use Rattle.object_store.specs.declared.keys.Key.TheVariants.{Snapshot, Manifest, Txn, Chunk, Branch, Tag, Tombstone, Lease}
 use Rattle.object_store.specs.declared.events.Op.{Op}
 use Rattle.object_store.specs.declared.events.Op.TheVariants.{Get, PutNew, PutOver, Remove, RemoveAt, List as ListPart}
 use Rattle.object_store.specs.declared.events.Event.{Event}
@@ -35,7 +35,7 @@ no-object (Manifest id) b o = b
 no-object (Txn id) b o = b
 no-object (Chunk id) b o = b
 no-object (Tag name) b o = b
-no-object (TagGone name) b o = b
+no-object (Tombstone name) b o = b
 no-object (Lease id) b o = b
 
 -- of the opening, the closing reading, or a task on refs
@@ -114,7 +114,7 @@ unused-key journal id u (Txn own) object e = let same : id ≡ own = cc in subst
 unused-key journal id u (Chunk own) object e = let same : id ≡ own = cc in subst (λ (i : Id12). IsUnused journal (Chunk i)) same u.chunk
 unused-key journal id u (Branch name) object e = absurd object
 unused-key journal id u (Tag name) object e = absurd object
-unused-key journal id u (TagGone name) object e = absurd object
+unused-key journal id u (Tombstone name) object e = absurd object
 unused-key journal id u (Lease own) object e = absurd object
 
 -- what was never put has nothing that could have gone

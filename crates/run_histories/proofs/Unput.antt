@@ -9,7 +9,7 @@ use Rattle.ice_ids.specs.declared.drawing.Draw.{Draw}
 use Rattle.ice_ids.specs.Drawing.{DrawsOnce}
 use Rattle.ice_ids.specs.Text.{initial_id}
 use Rattle.object_store.specs.declared.keys.Key.{Key}
-use Rattle.object_store.specs.declared.keys.Key.TheVariants.{Snapshot, Manifest, Txn, Chunk, Branch, Tag, TagGone, Lease}
+use Rattle.object_store.specs.declared.keys.Key.TheVariants.{Snapshot, Manifest, Txn, Chunk, Branch, Tag, Tombstone, Lease}
 use Rattle.object_store.specs.declared.keys.Why.{Why}
 use Rattle.object_store.specs.declared.events.Op.{Op}
 use Rattle.object_store.specs.declared.events.Op.TheVariants.{PutNew}
@@ -41,7 +41,7 @@ unput-key journal id u (Chunk own) e = let same : id ≡ own = cc in subst (λ (
 unput-key journal id u (Lease own) e = let same : id ≡ own = cc in subst (λ (i : Id12). first_put journal (Lease i) ≡ None) same u.lease
 unput-key journal id u (Branch name) e = absurd cc
 unput-key journal id u (Tag name) e = absurd cc
-unput-key journal id u (TagGone name) e = absurd cc
+unput-key journal id u (Tombstone name) e = absurd cc
 
 pub unput-id : (journal : List Event) (id : Id12) → ((key : Key) → id_of key ≡ Some id → first_put journal key ≡ None) → IsUnputId journal id
 unput-id journal id f = record { snapshot = f (Snapshot id) refl; log = f (Txn id) refl; manifest = f (Manifest id) refl; chunk = f (Chunk id) refl; lease = f (Lease id) refl }
@@ -77,7 +77,7 @@ plain-initial op p key bytes why id e is = by_either (subst IsPlainOrCleanup e p
     by_plain (Lease own) f q = absurd q
     by_plain (Branch name) f q = absurd (cc)
     by_plain (Tag name) f q = absurd (cc)
-    by_plain (TagGone name) f q = absurd (cc)
+    by_plain (Tombstone name) f q = absurd (cc)
 
     by_either : IsPlainOrCleanup (PutNew key bytes why) → id ≡ initial_id
     by_either (inl q) = by_plain key is q
@@ -110,7 +110,7 @@ module _ (draw : Draw) (tasks : List Task) (draws : DrawsOnce draw (length tasks
       by_key (Lease own) f o = absurd o
       by_key (Branch name) f o = absurd o
       by_key (Tag name) f o = absurd o
-      by_key (TagGone name) f o = absurd o
+      by_key (Tombstone name) f o = absurd o
 
   -- two clients draw no object id both
   same-place : (place other : ℕ) (id : Id12) → place < length tasks → other < length tasks → MayDrawObject (ids_at draw place) id → MayDrawObject (ids_at draw other) id → place ≡ other

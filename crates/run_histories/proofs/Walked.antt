@@ -7,7 +7,7 @@ use Rattle.ice_ids.specs.declared.Id12.{Id12}
 use Rattle.ice_ids.specs.declared.drawing.AnyIds.{AnyIds}
 use Rattle.snapshot_file.specs.declared.snapshot.SnapshotFile.{SnapshotFile}
 use Rattle.repo_objects.specs.Laws.{InitialLaw}
-use Rattle.repo_objects.specs.declared.bad.Bad.{Bad}
+use Rattle.repo_objects.specs.declared.bad_objects.Bad.{Bad}
 use Rattle.conflicts.specs.declared.solving.Policy.{Policy}
 use Rattle.store_api.specs.Telling.{WasGot, WasReadAs}
 use Rattle.object_store.specs.declared.events.Event.{Event}

@@ -6,7 +6,7 @@ use Rattle.ice_ids.specs.declared.drawing.Draw.{Draw}
 use Rattle.ice_ids.specs.Drawing.{client_of, IsAmong, DrawsOnce}
 use Rattle.zarr_tree.specs.Trees.{Tree}
 use Rattle.zarr_tree.specs.Changes.{Changes, none, IsNormal}
-use Rattle.repo_objects.specs.declared.bad.Bad.{Bad}
+use Rattle.repo_objects.specs.declared.bad_objects.Bad.{Bad}
 use Rattle.repo_objects.specs.Readings.{ref_of}
 use Rattle.object_store.specs.declared.keys.Key.{Key}
 use Rattle.object_store.specs.declared.keys.Key.TheVariants.{Branch, Snapshot}
@@ -46,8 +46,8 @@ use Rattle.expiry.specs.declared.terms.Terms.{Terms}
 use Rattle.expiry.specs.Owing.{IsOwed}
 use Rattle.play_expire.specs.Playing.{terms_of}
 use Rattle.play_script.specs.Collections.{has_collection}
-use Rattle.play_script.specs.declared.scripts.Access.{Access}
-use Rattle.play_script.specs.declared.scripts.Head.TheVariants.{Session, Collect, Expire}
+use Rattle.script_calls.specs.declared.calls.Access.{Access}
+use Rattle.script_calls.specs.declared.calls.Head.TheVariants.{Session, Collect, Expire}
 use Rattle.play_script.specs.declared.scripts.Line.{Line}
 use Rattle.play_script.specs.declared.scripts.Task.{Task}
 use Rattle.play_outcome.specs.declared.outcome.Shown.{Shown}

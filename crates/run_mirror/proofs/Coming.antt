@@ -14,7 +14,7 @@ use Rattle.store_api.proofs.Programs.{alone}
 use Rattle.two_stores.specs.declared.side.Side.{Side}
 use Rattle.two_stores.specs.declared.side.Side.TheVariants.{From, To}
 use Rattle.two_stores.specs.Sides.{Both, pair_of, at_side, other, callers_of, seen_of}
-use Rattle.two_stores.specs.Pairs.{PairProg, Done, Ask, MayAsk, PairSteps, Moved, Starved, KeepsPair, LeadsPair, IsFair, dooms}
+use Rattle.two_stores.specs.Pairs.{PairProg, Done, Ask, MayAsk, PairSteps, Acted, Starved, KeepsPair, LeadsPair, IsFair, dooms}
 use Rattle.two_stores.proofs.PairLaws.{IsKept, KeepsPair-now, KeepsPair-steps, LeadsPair-steps, LeadsPair-ended, IsFair-steps, IsFair-blames}
 use Rattle.mirror_reports.specs.declared.outcome.MirrorEnd.{MirrorEnd}
 use Rattle.mirror.specs.Programs.{Answer, mirror_program}

@@ -26,7 +26,7 @@ use Rattle.session.specs.Opening.{Asked}
 use Rattle.commit_path.specs.Answered.{TookEffect, CommitTells}
 use Rattle.commit_path.specs.Opened.{RefusalTells, IsOfOpening}
 use Rattle.chunk_calls.specs.Told.{SetTells, GetTells, IsOfSet, IsOfGet}
-use Rattle.play_script.specs.declared.scripts.Access.{Access}
+use Rattle.script_calls.specs.declared.calls.Access.{Access}
 use Rattle.play_script.specs.declared.scripts.Line.{Line}
 use Rattle.play_outcome.specs.declared.outcome.End.{End}
 use Rattle.play_outcome.specs.declared.outcome.End.TheVariants.{Refused}
@@ -248,7 +248,7 @@ module _ (trees : Id12 → Option Tree) (client : ℕ) (start journal : List Eve
     | inl c ↦ subst Ends (sym c.end_is) (took-committed trees client t.at_last t.message c.made start journal c.took)
     | inr (inl c) ↦ doubted-ends t.at_last t.message end c
     | inr (inr (inl c)) ↦ refused-ends l.number c.why end c.end_is (commit-none t.at_last t.message c.why c.no_doubt c.tells)
-    | inr (inr (inr (inl c))) ↦ refused-ends l.number (R.Conflict c.old c.found) end c.end_is (nothing c.moved.nothing)
+    | inr (inr (inr (inl c))) ↦ refused-ends l.number (R.LostRace c.old c.found) end c.end_is (nothing c.moved.nothing)
     | inr (inr (inr (inr c))) ↦ refused-ends l.number c.why end c.end_is (nothing c.nothing)
   ]
 

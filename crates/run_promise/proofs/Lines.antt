@@ -36,7 +36,7 @@ use Rattle.store_api.specs.declared.machines.Refusal.{Refusal}
 use Rattle.store_api.specs.declared.machines.Refusal.TheVariants as Refused
 use Rattle.store_api.specs.Journal.{WasPut, IsGoodJournal, IsOnce, puts_of}
 use Rattle.session.specs.declared.chunks.Value.{Value}
-use Rattle.session.specs.declared.chunks.Value.TheVariants.{Held, Fill}
+use Rattle.session.specs.declared.chunks.Value.TheVariants.{Bytes, Fill}
 use Rattle.session.specs.Sessions.{SessionState, nodes_seen, base_tree, changes_in, overlay}
 use Rattle.session.specs.Editing.{group_fault, array_fault, node_fault, added, group_added, array_added, node_added, meta_set, node_dropped, prop_added, with_node, listing, beneath, if_there}
 use Rattle.session.specs.Editing as session
@@ -55,12 +55,12 @@ use Rattle.region_calls.specs.Told.{AreCells}
 use Rattle.region_calls.specs.Written.{AreSet, WasWritten}
 use Rattle.zarr_keys.specs.Keys.{session_of, node_value, meta_value, meta_put, put_over, erased_at, key_erased}
 use Rattle.array_region.specs.Cells.{cells_of}
-use Rattle.play_script.specs.declared.scripts.EditCall.{EditCall}
-use Rattle.play_script.specs.declared.scripts.EditCall.TheVariants as E
-use Rattle.play_script.specs.declared.scripts.ReadCall.{ReadCall}
-use Rattle.play_script.specs.declared.scripts.ReadCall.TheVariants as R
-use Rattle.play_script.specs.declared.scripts.Call.{Call}
-use Rattle.play_script.specs.declared.scripts.Call.TheVariants as C
+use Rattle.script_calls.specs.declared.calls.EditCall.{EditCall}
+use Rattle.script_calls.specs.declared.calls.EditCall.TheVariants as E
+use Rattle.script_calls.specs.declared.calls.ReadCall.{ReadCall}
+use Rattle.script_calls.specs.declared.calls.ReadCall.TheVariants as R
+use Rattle.script_calls.specs.declared.calls.Call.{Call}
+use Rattle.script_calls.specs.declared.calls.Call.TheVariants as C
 use Rattle.play_outcome.specs.declared.outcome.Shown.{Shown}
 use Rattle.play_outcome.specs.declared.outcome.Shown.TheVariants as S
 use Rattle.play_tasks.specs.Lines as line
@@ -326,11 +326,11 @@ module _ (client : ℕ) (start journal : List Event) (good : IsGoodJournal journ
       (ap (λ (q : List Shown × SessionState). Some q.0) same, sym (ap (λ (q : List Shown × SessionState). q.1) same))
 
   chunk-shown : (number : ℕ) (value : Value) (o : Option (List ℕ)) → o ≡ value_of value → chunk_shown number o ≡ line.value_shown number value
-  chunk-shown number (Held bytes) o e = ap (chunk_shown number) e
+  chunk-shown number (Bytes bytes) o e = ap (chunk_shown number) e
   chunk-shown number Fill o e = ap (chunk_shown number) e
 
   chunk_key-shown : (number : ℕ) (value : Value) (o : Option (List ℕ)) → o ≡ value_of value → S.Key number o ≡ line.chunk_key_shown number value
-  chunk_key-shown number (Held bytes) o e = ap (S.Key number) e
+  chunk_key-shown number (Bytes bytes) o e = ap (S.Key number) e
   chunk_key-shown number Fill o e = ap (S.Key number) e
 
   -- the bytes that a read told are those of the tree

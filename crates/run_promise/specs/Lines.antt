@@ -16,13 +16,13 @@ use Rattle.array_region.specs.Cells.{array_of_tree, cells_of}
 use Rattle.array_region.specs.Planning.{box_count}
 use Rattle.array_region.specs.Writing.{cells_refused}
 use Rattle.region_calls.specs.Written.{IsTreeWith}
-use Rattle.play_script.specs.declared.scripts.CellBox.{CellBox}
-use Rattle.play_script.specs.declared.scripts.EditCall.{EditCall}
-use Rattle.play_script.specs.declared.scripts.EditCall.TheVariants as E
-use Rattle.play_script.specs.declared.scripts.ReadCall.{ReadCall}
-use Rattle.play_script.specs.declared.scripts.ReadCall.TheVariants as R
-use Rattle.play_script.specs.declared.scripts.Call.{Call}
-use Rattle.play_script.specs.declared.scripts.Call.TheVariants as C
+use Rattle.script_calls.specs.declared.calls.CellBox.{CellBox}
+use Rattle.script_calls.specs.declared.calls.EditCall.{EditCall}
+use Rattle.script_calls.specs.declared.calls.EditCall.TheVariants as E
+use Rattle.script_calls.specs.declared.calls.ReadCall.{ReadCall}
+use Rattle.script_calls.specs.declared.calls.ReadCall.TheVariants as R
+use Rattle.script_calls.specs.declared.calls.Call.{Call}
+use Rattle.script_calls.specs.declared.calls.Call.TheVariants as C
 use Rattle.play_script.specs.declared.scripts.Line.{Line}
 use Rattle.play_outcome.specs.declared.outcome.Shown.{Shown}
 use Rattle.play_outcome.specs.declared.outcome.Shown.TheVariants as S

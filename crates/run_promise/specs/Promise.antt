@@ -4,7 +4,7 @@ use Rattle.std.specs.Prelude.{◌≡◌, ◌⊎◌, ℕ, ◌+◌, true, List, []
 use Rattle.ice_ids.specs.declared.Id12.{Id12}
 use Rattle.zarr_tree.specs.Trees.{Tree}
 use Rattle.zarr_tree.specs.Changes.{Changes, apply}
-use Rattle.object_store.specs.declared.keys.Key.TheVariants.{Branch, TagGone}
+use Rattle.object_store.specs.declared.keys.Key.TheVariants.{Branch, Tombstone}
 use Rattle.object_store.specs.declared.keys.Why.TheVariants.{Commit}
 use Rattle.object_store.specs.declared.events.Op.TheVariants.{Get, PutOver}
 use Rattle.object_store.specs.declared.events.Event.{Event}
@@ -18,10 +18,10 @@ use Rattle.histories.specs.Formats.{applied}
 use Rattle.histories.specs.Calls.{history_of, IsHistory, BranchesStand}
 use Rattle.histories.specs.Tags.{Stands}
 use Rattle.histories.specs.TagCalls.{tag_of, TagAgrees, StandsByState}
-use Rattle.play_script.specs.declared.scripts.Access.{Access}
-use Rattle.play_script.specs.declared.scripts.Access.TheVariants.{Write, Read}
-use Rattle.play_script.specs.declared.scripts.Call.TheVariants.{Commit as Commit_line}
-use Rattle.play_script.specs.declared.scripts.Head.TheVariants.{Session}
+use Rattle.script_calls.specs.declared.calls.Access.{Access}
+use Rattle.script_calls.specs.declared.calls.Access.TheVariants.{Write, Read}
+use Rattle.script_calls.specs.declared.calls.Call.TheVariants.{Commit as Commit_line}
+use Rattle.script_calls.specs.declared.calls.Head.TheVariants.{Session}
 use Rattle.play_script.specs.declared.scripts.Line.{Line}
 use Rattle.play_script.specs.declared.scripts.Task.{Task}
 use Rattle.play_outcome.specs.declared.outcome.Shown.{Shown}
@@ -63,7 +63,7 @@ pub record FoundTag (files : Files) (client : ℕ) (tag : List ℕ) (base : Id12
   pub since : List Event
   pub before_is : before ≡ start ++ since
   pub own : event.client ≡ client
-  pub get : event.op ≡ Get (TagGone tag)
+  pub get : event.op ≡ Get (Tombstone tag)
   pub entry : Entry
   pub stood : tag_of files before tag ≡ Stands entry
   pub names : entry.id ≡ base

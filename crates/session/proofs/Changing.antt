@@ -28,7 +28,7 @@ use Rattle.zarr_tree.proofs.Apply.{Gone, gone-intro, gone-elim}
 use Rattle.zarr_changes.specs.Edits.{with_id, with_row, with_meta, with_text_at, with_dropped, without_node}
 use Rattle.zarr_changes.specs.Sets.{Enters, text_refusal, drop_refusal}
 use Rattle.zarr_changes.specs.inside.Own.{own_node}
-use Rattle.zarr_changes.proofs.RowLaws.{is_below, first, second}
+use Rattle.zarr_tree.proofs.RowLaws.{is_below, first, second}
 use Rattle.zarr_changes.proofs.Over.{tree, node-over, over-added}
 use Rattle.zarr_changes.proofs.DropLaws.{lists-with}
 use Rattle.manifest_file.specs.declared.manifest.Place.{Place}

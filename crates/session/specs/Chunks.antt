@@ -28,7 +28,7 @@ use Rattle.store_api.specs.Running.{Program, ◌>>=◌}
 use Rattle.repo_read.specs.Answers.{at_key}
 use Rattle.repo_read.specs.Programs.{manifest_program, object_program}
 use Rattle.session.specs.declared.chunks.Value.{Value}
-use Rattle.session.specs.declared.chunks.Value.TheVariants.{Held as Is_held, Fill}
+use Rattle.session.specs.declared.chunks.Value.TheVariants.{Bytes, Fill}
 use Rattle.session.specs.Sessions.{SessionState, base_nodes, nodes_seen, writes}
 use Rattle.session.specs.Editing.{refusal_of_edit, if_writes, unless_refused}
 
@@ -83,12 +83,12 @@ chunk_unset s path index = if_writes (writes s) (unless_refused (unset_refusal (
 -- ---- a chunk that is read
 -- a read found these bytes
 abbrev pub found : Result (List ℕ) Refusal → Program Value
-found (Ok bytes) = Done (Ok (Is_held bytes))
+found (Ok bytes) = Done (Ok (Bytes bytes))
 found (Err why) = Done (Err why)
 
 -- the bytes of an object, of which a chunk is a part
 abbrev pub read_object : (want : ℕ) → Id12 → (offset size : ℕ) → Program Value
-read_object want id offset size = object_program want id offset size >>= λ bytes. Done (Ok (Is_held bytes))
+read_object want id offset size = object_program want id offset size >>= λ bytes. Done (Ok (Bytes bytes))
 
 -- the chunk at a place that a manifest tells
 abbrev pub read_place : (want : ℕ) → (manifest : Id12) → Place → Program Value
@@ -107,7 +107,7 @@ read_listed want node index (manifest ∷ more) = manifest_program manifest >>= 
 
 -- the chunk at a place of the session's own
 abbrev pub read_own : (want : ℕ) → Place → Program Value
-read_own want (Inline bytes) = Done (Ok (Is_held bytes))
+read_own want (Inline bytes) = Done (Ok (Bytes bytes))
 read_own want (Object id offset size) = read_object want id offset size
 
 -- by the session's own entry, else by the base's manifests whose extents contain the index

@@ -6,7 +6,7 @@ use ice_base::Bytes;
 #[derive(Debug, Drop)]
 pub enum Value {
     /// The chunk has these bytes.
-    Held(Bytes),
+    Bytes(Bytes),
     /// No chunk is held: it reads as the array's fill value.
     Fill,
 }

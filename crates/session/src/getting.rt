@@ -55,7 +55,7 @@ fn first_own(alloc: Global, place: &Place) -> Result<First, AllocError>
         → Begins (read_own want place.now) want node index first) }
 {
     match place {
-        Place::Inline(bytes) => Ok(First::Told(Value::Held(bytes.copy(alloc)?))),
+        Place::Inline(bytes) => Ok(First::Told(Value::Bytes(bytes.copy(alloc)?))),
         Place::Object { id, offset, length } => Ok(First::Reads(Reading::Object {
             id: *id,
             offset: *offset,
@@ -274,7 +274,7 @@ impl GetChunk {
             }
         };
         match inline_read(self.alloc, self.want, bytes) {
-            Ok(bytes) => Ok(Next::Ready(Value::Held(bytes))),
+            Ok(bytes) => Ok(Next::Ready(Value::Bytes(bytes))),
             Err(Unread::NoMemory) => Err(Refusal::NoMemory),
             Err(Unread::Bad(bad)) => Err(Refusal::BadFile(Key::Manifest(manifest), bad)),
         }
@@ -315,6 +315,6 @@ impl GetChunk {
         ensures listed { IfErr result MayRefuseObject }
     {
         let bytes = object_told(self.want, id, offset, length, reply)?;
-        Ok(Next::Ready(Value::Held(bytes)))
+        Ok(Next::Ready(Value::Bytes(bytes)))
     }
 }

@@ -176,7 +176,7 @@ impl Machine for SetChunk {
     fn request(&self) -> Result<Request<'_>, AllocError> {
         Ok(Request::PutNew {
             key: Key::Chunk(self.id),
-            bytes: Payload::Held(self.bytes.as_slice()),
+            bytes: Payload::Lent(self.bytes.as_slice()),
             why: Why::Set,
         })
     }

@@ -8,7 +8,7 @@ use Rattle.ice_ids.specs.declared.Id12.{Id12}
 use Rattle.ice_ids.specs.Text.{same_id12}
 use Rattle.ice_ids.proofs.TextLaws.{same_id12-true, same_id12-self}
 use Rattle.snapshot_file.specs.declared.snapshot.SnapshotFile.{SnapshotFile}
-use Rattle.repo_objects.specs.declared.bad.Bad.{Bad}
+use Rattle.repo_objects.specs.declared.bad_objects.Bad.{Bad}
 use Rattle.repo_objects.specs.Laws.{SnapshotLaw}
 use Rattle.repo_objects.specs.Readings.{read_snapshot, read_ref}
 use Rattle.object_store.specs.declared.keys.Key.TheVariants.{Snapshot, Branch}
@@ -35,7 +35,8 @@ use Rattle.settle.specs.declared.settle.Settled.TheVariants.{Committed, NotCommi
 use Rattle.settle.specs.Settling.{met, unless_met, settle_walk, settle_program}
 use Rattle.settle.specs.Telling.{IsNeither, WasFollowed, IsOfSettle, SettleSays, SettleTells}
 use Rattle.settle.specs.inside.Working.{way_behind}
-use Rattle.settle.proofs.Reading.{from_head, reads-gets, settle-reads}
+use Rattle.settle.proofs.Reading.{from_head, settle-reads}
+use Rattle.repo_read.proofs.GetsAlone.{reads-gets}
 
 same_id12-false : (a b : Id12) → same_id12 a b ≡ false → a ≢ b
 same_id12-false a b t same = let here : same_id12 a b ≡ true = subst (λ (id : Id12). same_id12 a id ≡ true) same (same_id12-self a) in cc

@@ -9,10 +9,10 @@
 //! or in which order the clients get the turn.
 #![tactic(auto)]
 
-mod held;
+mod legal_store;
 mod port;
 mod shared;
 
-pub use held::Held;
+pub use legal_store::LegalStore;
 pub use port::Port;
 pub use shared::{Shared, share};

@@ -5,7 +5,7 @@ ghost use Rattle.turn_cell.specs.Owners.{IsOwner};
 ghost use Rattle.turn_cell.specs.Passes.{known, IsPassOf};
 ghost use Rattle.shared_store.specs.Ports.{port_view};
 
-use crate::held::Held;
+use crate::legal_store::LegalStore;
 use std::sync::Wait;
 use store_api::{
     Base, Gone, GoneAt, Got, Key, Listed, New, ObjectStore, Over, Part, Polite, StoreFault,
@@ -20,9 +20,9 @@ use turn_cell::{Pass, TurnCell};
 /// out. The count of faults is the store's as the pass last saw it.
 #[derive(Drop)]
 pub struct Port<'a, S: Base, R> {
-    pub(crate) cell: &'a TurnCell<Held<S>>,
+    pub(crate) cell: &'a TurnCell<LegalStore<S>>,
     pub(crate) rt: &'a R,
-    pub(crate) pass: Pass<Held<S>>,
+    pub(crate) pass: Pass<LegalStore<S>>,
     pub(crate) client: u32,
     ghost of_cell: { IsPassOf cell.now pass },
     ghost idle: { (known pass).has_turn ≡ false },

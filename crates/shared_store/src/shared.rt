@@ -6,7 +6,7 @@ ghost use Rattle.turn_cell.specs.Logs.{Follows, starting, joined};
 ghost use Rattle.turn_cell.specs.Passes.{known, IsPassOf};
 ghost use Rattle.shared_store.specs.Told.{told, client_of};
 
-use crate::held::Held;
+use crate::legal_store::LegalStore;
 use crate::port::Port;
 use std::alloc::{AllocError, Global};
 use std::sync::Wait;
@@ -20,7 +20,7 @@ use turn_cell::{Pass, TurnCell};
 /// of client numbers that no other pass has.
 #[derive(Drop)]
 pub struct Shared<S: Base> {
-    pub(crate) cell: TurnCell<Held<S>>,
+    pub(crate) cell: TurnCell<LegalStore<S>>,
 }
 
 /// Shares a store whose journal, where the store tells it, is legal and polite. The pass has seen the journal and the
@@ -28,14 +28,14 @@ pub struct Shared<S: Base> {
 pub fn share<S: Base>(
     alloc: Global,
     store: S,
-) -> Result<(Shared<S>, Pass<Held<S>>), (S, AllocError)>
+) -> Result<(Shared<S>, Pass<LegalStore<S>>), (S, AllocError)>
     requires good { S.tells ≡ true → IsGoodJournal (S.view store).seen }
     ensures cell { IfOk result (λ made. IsPassOf made.0.cell made.1) }
     ensures pass { IfOk result (λ made. known made.1
         ≡ starting (told S.tells (S.view store).seen) (S.view store).faults) }
     ensures err { IfErr result (λ refused. refused.0 ≡ store) }
 {
-    match TurnCell::new(alloc, Held::new(store)) {
+    match TurnCell::new(alloc, LegalStore::new(store)) {
         Ok((cell, pass)) => Ok((Shared { cell }, pass)),
         Err((held, failed)) => Err((held.into_store(), failed)),
     }
@@ -44,7 +44,7 @@ pub fn share<S: Base>(
 impl<S: Base> Shared<S> {
     /// Cuts the pass's range of client numbers in two. The new pass has the numbers from `at` on, and the old one keeps
     /// those below. Both have seen what the old one had seen.
-    pub fn split(&self, pass: &mut Pass<Held<S>>, at: u32) -> Pass<Held<S>>
+    pub fn split(&self, pass: &mut Pass<LegalStore<S>>, at: u32) -> Pass<LegalStore<S>>
         requires cell { IsPassOf self.now.cell pass.old }
         requires idle { (known pass.old).has_turn ≡ false }
         requires own { IsOwner (known pass.old).owners at }
@@ -60,22 +60,27 @@ impl<S: Base> Shared<S> {
 
     /// Makes one pass of two whose ranges of client numbers lie side by side. It has both ranges, the greater count of
     /// faults and the longer journal, which is what each of the two had seen, and then events of others.
-    pub fn join(&self, pass: &mut Pass<Held<S>>, other: Pass<Held<S>>)
+    pub fn join(&self, pass: &mut Pass<LegalStore<S>>, other: Pass<LegalStore<S>>)
         requires cell { IsPassOf self.now.cell pass.old × IsPassOf self.now.cell other }
         requires idle { ((known pass.old).has_turn ≡ false) × ((known other).has_turn ≡ false) }
         requires side_by_side { Adjoins (known pass.old).owners (known other).owners }
         ensures cell { IsPassOf self.now.cell pass.new }
         ensures both { known pass.new ≡ joined (known pass.old) (known other) }
-        ensures first { Follows client_of (known pass.old).owners (known pass.old).log
-            (known pass.new).log }
-        ensures second { Follows client_of (known other).owners (known other).log
-            (known pass.new).log }
+        ensures first { Follows client_of (known pass.old).owners (known pass.old).journal
+            (known pass.new).journal }
+        ensures second { Follows client_of (known other).owners (known other).journal
+            (known pass.new).journal }
     {
         self.cell.join(pass, other);
     }
 
     /// A port, which makes its operations under this client number.
-    pub fn port<'a, R>(&'a self, rt: &'a R, pass: Pass<Held<S>>, client: u32) -> Port<'a, S, R>
+    pub fn port<'a, R>(
+        &'a self,
+        rt: &'a R,
+        pass: Pass<LegalStore<S>>,
+        client: u32,
+    ) -> Port<'a, S, R>
         requires cell { IsPassOf self.now.cell pass }
         requires idle { (known pass).has_turn ≡ false }
         requires own { IsOwner (known pass).owners client }
@@ -95,14 +100,14 @@ impl<S: Base> Shared<S> {
     ///
     /// That it returns isn't promised, though no other thread can be in the middle of an operation, since the shared
     /// store is given up.
-    pub fn unshare<R: Wait>(self, rt: &R, pass: Pass<Held<S>>) -> S
+    pub fn unshare<R: Wait>(self, rt: &R, pass: Pass<LegalStore<S>>) -> S
         requires cell { IsPassOf self.cell pass }
         requires idle { (known pass).has_turn ≡ false }
         ensures good { S.tells ≡ true → IsGoodJournal (S.view result).seen }
-        ensures log { Follows client_of (known pass).owners (known pass).log
+        ensures journal { Follows client_of (known pass).owners (known pass).journal
             (told S.tells (S.view result).seen) }
         ensures whole { (known pass).owners ≡ all_owners → told S.tells (S.view result).seen
-            ≡ (known pass).log }
+            ≡ (known pass).journal }
         ensures faults { (known pass).count ≤ (S.view result).faults }
     {
         self.cell.close(rt, pass).into_store()
@@ -111,7 +116,7 @@ impl<S: Base> Shared<S> {
 
 impl<'a, S: Base, R> Port<'a, S, R> {
     /// The pass, given back.
-    pub fn into_pass(self) -> Pass<Held<S>>
+    pub fn into_pass(self) -> Pass<LegalStore<S>>
         ensures pass { result ≡ self.entry.pass }
         ensures idle { (known result).has_turn ≡ false }
     {

@@ -8,7 +8,7 @@ use check_reports::{CheckFault, CheckFaults, Checked, FaultKind};
 use play_outcome::End;
 use ref_file::RefFault;
 use repo_objects::Bad;
-use show_trees::{NoAnswer, first_word, number_of, parted, small_number_of};
+use show_files::{NoAnswer, first_word, number_of, parted, small_number_of};
 use std::alloc::Global;
 use store_api::Refusal;
 

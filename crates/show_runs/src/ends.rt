@@ -1,7 +1,7 @@
 //! Ends of byte streams that fail by plan, and lists of bytes.
 
 use ice_base::{ByteSink, ByteSource, Bytes, InputFault, read_input, write_whole};
-use show_trees::{NoAnswer, first_word, number_of, numbers_of, text_of};
+use show_files::{NoAnswer, first_word, number_of, numbers_of, text_of};
 use std::alloc::{AllocError, Global};
 
 /// The most bytes that are told one by one.

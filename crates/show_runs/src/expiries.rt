@@ -5,7 +5,7 @@ use crate::refusals::result_of;
 use crate::store_keys::{id_of, key_of};
 use cleanup_reports::{RefCase, RefCases, What};
 use play_outcome::End;
-use show_trees::{NoAnswer, first_word, parted, small_number_of};
+use show_files::{NoAnswer, first_word, parted, small_number_of};
 use std::alloc::Global;
 
 /// What an expiry made of a ref.

@@ -1,12 +1,12 @@
 //! What refusals are called in a report.
 
+use crate::printed_texts::refusal_text;
 use crate::store_keys::{id_of, key_of};
-use crate::written::refusal_text;
 use flat_tables::Kind;
 use ice_items::Items;
 use ref_file::RefFault;
 use repo_objects::Bad;
-use show_trees::{NoAnswer, first_word, index_of, number_of, path_of};
+use show_files::{NoAnswer, first_word, index_of, number_of, path_of};
 use snapshot_file::PropFault;
 use std::alloc::Global;
 use store_api::{Refusal, RegionFault, Version};
@@ -142,7 +142,7 @@ fn ref_refusal_of(name: &str) -> Result<Refusal, NoAnswer> {
     match name {
         "NoRef" => Ok(Refusal::NoRef),
         "NoSnapshot" => Ok(Refusal::NoSnapshot),
-        "TagGone" => Ok(Refusal::TagGone),
+        "TagGone" => Ok(Refusal::TagDropped),
         "MainKept" => Ok(Refusal::MainKept),
         "Unnamed" => Ok(Refusal::Unnamed),
         "OutOfShape" => Ok(Refusal::Region(RegionFault::OutOfShape)),
@@ -187,7 +187,7 @@ fn pair_refusal_of(name: &str, first: &str, second: &str) -> Result<Refusal, NoA
             want: old,
             got: number_of(second)?,
         })),
-        _ => Ok(Refusal::Conflict {
+        _ => Ok(Refusal::LostRace {
             old: Version(old),
             found: found_of(second)?,
         }),

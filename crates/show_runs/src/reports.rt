@@ -6,14 +6,14 @@
 
 use crate::checks::checked_of;
 use crate::expiries::expired_of;
+use crate::printed_texts::report_text;
 use crate::refusals::{refusal_of, result_of};
 use crate::store_keys::id_of;
-use crate::written::report_text;
 use cleanup_reports::Removed;
 use ice_base::Text;
 use ice_items::Items;
 use play_outcome::{End, How, Outcome, RefLine, RefLines, Shown, Shows};
-use show_trees::{
+use show_files::{
     NoAnswer, first_word, name_of, number_of, parted, path_of, props_of, small_number_of, text_of,
 };
 use std::alloc::{AllocError, Global};

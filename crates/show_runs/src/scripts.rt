@@ -2,11 +2,10 @@
 
 use conflicts::{Pick, Policy};
 use ice_base::RefName;
-use play_script::{
-    Access, Call, CellBox, EditCall, Head, Line, ReadCall, RefCall, Script, ScriptFault, Task, Turn,
-};
+use play_script::{Line, Script, ScriptFault, Task, Turn};
 use repo_read::At;
-use show_trees::{NoAnswer, push_bytes, push_index};
+use script_calls::{Access, Call, CellBox, EditCall, Head, ReadCall, RefCall};
+use show_files::{NoAnswer, push_bytes, push_index};
 use std::alloc::{AllocError, Global};
 use zarr_path::{Index, Path};
 

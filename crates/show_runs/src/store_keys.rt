@@ -2,7 +2,7 @@
 
 use ice_base::RefName;
 use ice_ids::Id12;
-use show_trees::{NoAnswer, first_word, name_of, said};
+use show_files::{NoAnswer, first_word, name_of, said};
 use std::alloc::{AllocError, Global};
 use store_api::Key;
 
@@ -31,7 +31,7 @@ fn name_key_of(kind: &str, name: RefName) -> Key {
     match kind {
         "branch" => Key::Branch(name),
         "tag" => Key::Tag(name),
-        _ => Key::TagGone(name),
+        _ => Key::Tombstone(name),
     }
 }
 

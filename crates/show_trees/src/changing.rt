@@ -2,15 +2,15 @@
 //! the metadata of a group, and `~/x:array` that of an array of 6; `-/a` drops; `+/x@1` sets a chunk of one byte, and `!/x@1`
 //! unsets it. ` ? ` stands before a path that is looked at.
 
-use crate::files::push_lists;
 use crate::loads::node_told;
-use crate::texts::{index_of, path_of};
-use crate::told::fault_told;
-use crate::words::{NoAnswer, or_no_memory, or_words, parted, small_number_of};
 use ice_base::Bytes;
 use ice_ids::{Id8, Id12};
 use manifest_file::Place;
 use repo_objects::Loaded;
+use show_files::{
+    NoAnswer, fault_told, index_of, or_no_memory, or_words, parted, path_of, push_lists,
+    small_number_of,
+};
 use snapshot_file::INITIAL_FILE;
 use std::alloc::{AllocError, Global};
 use zarr_changes::{ChangeSet, Overlay};

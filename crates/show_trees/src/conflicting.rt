@@ -4,7 +4,6 @@
 ghost use Rattle.zarr_tree.specs.Touched.{IsOrdered};
 
 use crate::changing::{changes_of, initial};
-use crate::words::{NoAnswer, first_word};
 use changed_snapshot::{Stamp, write_over};
 use conflicts::{ChunkPlace, Pick, Policy, Solved, detect, keys_at, solve};
 use held_log::{HeldLog, hold};
@@ -13,6 +12,7 @@ use ice_ids::Id12;
 use ice_items::Items;
 use manifest_file::Place;
 use repo_objects::Loaded;
+use show_files::{NoAnswer, first_word};
 use snapshot_file::Props;
 use std::alloc::{AllocError, Global};
 use txn_file::TxnFile;

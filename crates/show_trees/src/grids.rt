@@ -2,8 +2,7 @@
 
 ghost use Rattle.std.specs.Prelude.{◌≤◌, All, IsTrue};
 
-use crate::texts::index_of;
-use crate::words::{NoAnswer, first_word, numbers_of, said, two_words};
+use show_files::{NoAnswer, first_word, index_of, numbers_of, said, two_words};
 use std::alloc::Global;
 use zarr_grid::{grid, in_grid};
 

@@ -1,12 +1,10 @@
 //! Files that are read under the id of the initial snapshot, as the objects that they stand for.
 
-use crate::files::tell_log;
 use crate::metas::meta_fault_told;
-use crate::props::push_props;
-use crate::words::NoAnswer;
 use ice_base::Bytes;
 use ice_ids::{Id8, Id12};
 use repo_objects::{Bad, Loaded, Unread, log_hold, ref_read};
+use show_files::{NoAnswer, push_props, tell_log};
 use std::alloc::{AllocError, Global};
 use zarr_meta::{MetaFault, View};
 use zarr_tree::{Found, TreeLike};

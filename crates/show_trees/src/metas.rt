@@ -1,9 +1,8 @@
 //! JSON texts, and the metadata of Zarr nodes.
 
-use crate::told::{fault_told, push_names};
-use crate::words::{NoAnswer, first_word, numbers_of};
 use json_words::read_value;
 use serde_json::Value;
+use show_files::{NoAnswer, fault_told, first_word, numbers_of, push_names};
 use std::alloc::{AllocError, Global};
 use zarr_meta::{ArrayView, IntKind, Meta, MetaFault, View};
 

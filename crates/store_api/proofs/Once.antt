@@ -10,7 +10,7 @@ use Rattle.repo_objects.specs.Readings.{snapshot_by, manifest_by}
 use Rattle.repo_objects.specs.Trees.{NamesManifest}
 use Rattle.repo_objects.specs.Laws.{initial_bytes}
 use Rattle.object_store.specs.declared.keys.Key.{Key}
-use Rattle.object_store.specs.declared.keys.Key.TheVariants.{Snapshot, Manifest, Txn, Chunk, Branch, Tag, TagGone, Lease}
+use Rattle.object_store.specs.declared.keys.Key.TheVariants.{Snapshot, Manifest, Txn, Chunk, Branch, Tag, Tombstone, Lease}
 use Rattle.object_store.specs.declared.events.Op.{Op}
 use Rattle.object_store.specs.declared.events.Op.TheVariants.{Get, PutNew, PutOver, Remove, RemoveAt, List as ListPart}
 use Rattle.object_store.specs.declared.events.Event.{Event}
@@ -136,7 +136,7 @@ first-law journal (PutNew (Txn id) bytes why) once p f = f
 first-law journal (PutNew (Chunk id) bytes why) once p f = f
 first-law journal (PutNew (Branch name) bytes why) once p f = tt
 first-law journal (PutNew (Tag name) bytes why) once p f = tt
-first-law journal (PutNew (TagGone name) bytes why) once p f = tt
+first-law journal (PutNew (Tombstone name) bytes why) once p f = tt
 first-law journal (PutNew (Lease id) bytes why) once p f = tt
 first-law journal (PutOver (Snapshot id) bytes old why) once p f = (λ e. absurd (p.not_initial e), cut-named journal id old.0 bytes (λ v b. stood-named journal id v b once) p)
 first-law journal (PutOver (Manifest id) bytes old why) once p f = absurd p
@@ -144,7 +144,7 @@ first-law journal (PutOver (Txn id) bytes old why) once p f = tt
 first-law journal (PutOver (Chunk id) bytes old why) once p f = tt
 first-law journal (PutOver (Branch name) bytes old why) once p f = tt
 first-law journal (PutOver (Tag name) bytes old why) once p f = tt
-first-law journal (PutOver (TagGone name) bytes old why) once p f = tt
+first-law journal (PutOver (Tombstone name) bytes old why) once p f = tt
 first-law journal (PutOver (Lease id) bytes old why) once p f = tt
 first-law journal (Remove key why) once p f = tt
 first-law journal (RemoveAt key old why) once p f = tt

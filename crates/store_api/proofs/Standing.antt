@@ -13,7 +13,7 @@ use Rattle.repo_objects.specs.Readings.{snapshot_by, manifest_by, log_by}
 use Rattle.repo_objects.specs.Trees.{Puts, NamesChunk, manifest_put, or_empty, tree_under}
 use Rattle.repo_objects.specs.Laws.{initial_bytes}
 use Rattle.object_store.specs.declared.keys.Key.{Key}
-use Rattle.object_store.specs.declared.keys.Key.TheVariants.{Snapshot, Manifest, Txn, Chunk, Branch, Tag, TagGone, Lease}
+use Rattle.object_store.specs.declared.keys.Key.TheVariants.{Snapshot, Manifest, Txn, Chunk, Branch, Tag, Tombstone, Lease}
 use Rattle.object_store.specs.declared.keys.Why.{Why}
 use Rattle.object_store.specs.declared.events.Op.{Op}
 use Rattle.object_store.specs.declared.events.Op.TheVariants.{Get, PutNew, PutOver, Remove, RemoveAt, List as ListPart}
@@ -220,7 +220,7 @@ IsPolite-append journal more (PutNew (Manifest id) bytes why) g p = ChunksKnown-
 IsPolite-append journal more (PutNew (Chunk id) bytes why) g p = p
 IsPolite-append journal more (PutNew (Branch name) bytes why) g p = (NamesPut-append journal more bytes p.0, p.1)
 IsPolite-append journal more (PutNew (Tag name) bytes why) g p = (NamesPut-append journal more bytes p.0, p.1)
-IsPolite-append journal more (PutNew (TagGone name) bytes why) g p = WasPut-append journal more (Tag name) p
+IsPolite-append journal more (PutNew (Tombstone name) bytes why) g p = WasPut-append journal more (Tag name) p
 IsPolite-append journal more (PutNew (Lease id) bytes why) g p = (NamesPut-append journal more bytes p.0, p.1)
 IsPolite-append journal more (PutOver (Snapshot id) bytes old why) g p = record { before = p.before; stood = StoodAt-append journal more (Snapshot id) old.0 p.before p.stood; snap = p.snap; was = p.was; is = p.is; not_initial = p.not_initial }
 IsPolite-append journal more (PutOver (Txn id) bytes old why) g p = p
@@ -234,7 +234,7 @@ IsPolite-append journal more (PutOver (Branch name) bytes old why) g p = record 
   ];
 }
 IsPolite-append journal more (PutOver (Tag name) bytes old why) g p = p
-IsPolite-append journal more (PutOver (TagGone name) bytes old why) g p = p
+IsPolite-append journal more (PutOver (Tombstone name) bytes old why) g p = p
 IsPolite-append journal more (PutOver (Lease id) bytes old why) g p = p
 IsPolite-append journal more (Remove key why) g p = p
 IsPolite-append journal more (RemoveAt key old why) g p = p

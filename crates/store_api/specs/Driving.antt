@@ -5,7 +5,7 @@ use Rattle.object_store.specs.declared.events.Op.TheVariants.{Get, PutNew, PutOv
 use Rattle.object_store.specs.declared.events.Reply.{Reply}
 use Rattle.object_store.specs.declared.events.Reply.TheVariants.{Failed}
 use Rattle.store_api.specs.declared.driving.Payload.{Payload}
-use Rattle.store_api.specs.declared.driving.Payload.TheVariants.{Made, Held}
+use Rattle.store_api.specs.declared.driving.Payload.TheVariants.{Made, Lent}
 use Rattle.store_api.specs.declared.driving.Request.{Request}
 use Rattle.store_api.specs.declared.driving.Request.TheVariants.{Get as Ask_get, PutNew as Ask_put_new, PutOver as Ask_put_over, Remove as Ask_remove, RemoveAt as Ask_remove_at, List as Ask_list}
 use Rattle.store_api.specs.declared.machines.Next.{Next}
@@ -18,7 +18,7 @@ use Rattle.store_api.specs.Program.{Prog, Done, Ask, Lands, IsSure, moves_branch
 -- the bytes of a put
 abbrev pub bytes_of : Payload → List ℕ
 bytes_of (Made bytes) = bytes
-bytes_of (Held bytes) = bytes.now
+bytes_of (Lent bytes) = bytes.now
 
 -- the operation that is asked for
 abbrev pub op_of : Request → Op

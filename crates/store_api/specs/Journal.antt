@@ -15,7 +15,7 @@ use Rattle.repo_objects.specs.Readings.{snapshot_by, manifest_by, log_by, ref_of
 use Rattle.repo_objects.specs.Trees.{Puts, tree_under, NamesManifest, NamesChunk}
 use Rattle.repo_objects.specs.Laws.{initial_bytes}
 use Rattle.object_store.specs.declared.keys.Key.{Key}
-use Rattle.object_store.specs.declared.keys.Key.TheVariants.{Snapshot, Manifest, Txn, Chunk, Branch, Tag, TagGone, Lease}
+use Rattle.object_store.specs.declared.keys.Key.TheVariants.{Snapshot, Manifest, Txn, Chunk, Branch, Tag, Tombstone, Lease}
 use Rattle.object_store.specs.declared.keys.Why.{Why}
 use Rattle.object_store.specs.declared.keys.Why.TheVariants.{Init, Commit, Create, Reset, Collect, Tag as For_tag, Lease as For_lease}
 use Rattle.object_store.specs.declared.events.Op.{Op}
@@ -83,7 +83,7 @@ PutsFirst journal bytes (Txn id) = IsUnused journal (Txn id)
 PutsFirst journal bytes (Chunk id) = IsUnused journal (Chunk id)
 PutsFirst journal bytes (Branch name) = Unit {0}
 PutsFirst journal bytes (Tag name) = Unit {0}
-PutsFirst journal bytes (TagGone name) = Unit {0}
+PutsFirst journal bytes (Tombstone name) = Unit {0}
 PutsFirst journal bytes (Lease id) = Unit {0}
 
 abbrev pub PutsOver : List Event → List ℕ → Key → Type 0
@@ -93,7 +93,7 @@ PutsOver journal bytes (Txn id) = Unit {0}
 PutsOver journal bytes (Chunk id) = Unit {0}
 PutsOver journal bytes (Branch name) = Unit {0}
 PutsOver journal bytes (Tag name) = Unit {0}
-PutsOver journal bytes (TagGone name) = Unit {0}
+PutsOver journal bytes (Tombstone name) = Unit {0}
 PutsOver journal bytes (Lease id) = Unit {0}
 
 abbrev pub IsFirstOp : List Event → Op → Type 0
@@ -204,7 +204,7 @@ MayPutNew journal bytes why (Manifest id) = ChunksKnown journal (manifest_by id 
 MayPutNew journal bytes why (Chunk id) = Unit {0}
 MayPutNew journal bytes why (Branch name) = NamesPut journal bytes × ((why ≡ Create) ⊎ ((why ≡ Init) × (name ≡ main_name) × (ref_of bytes ≡ Some initial_id)))
 MayPutNew journal bytes why (Tag name) = NamesPut journal bytes × (why ≡ For_tag)
-MayPutNew journal bytes why (TagGone name) = WasPut journal (Tag name)
+MayPutNew journal bytes why (Tombstone name) = WasPut journal (Tag name)
 MayPutNew journal bytes why (Lease id) = NamesPut journal bytes × (why ≡ For_lease)
 
 -- A snapshot but the initial one is put over with only its parent changed, to the initial snapshot.
@@ -228,7 +228,7 @@ MayPutOver journal bytes old why (Manifest id) = ⊥
 MayPutOver journal bytes old why (Chunk id) = ⊥
 MayPutOver journal bytes old why (Branch name) = IsMoved journal name old bytes why
 MayPutOver journal bytes old why (Tag name) = ⊥
-MayPutOver journal bytes old why (TagGone name) = ⊥
+MayPutOver journal bytes old why (Tombstone name) = ⊥
 MayPutOver journal bytes old why (Lease id) = ⊥
 
 -- A collection alone removes snapshots, logs, manifests and chunks; tags and tombstones stay, a branch is removed at a
@@ -240,7 +240,7 @@ MayRemove why (Manifest id) = why ≡ Collect
 MayRemove why (Chunk id) = why ≡ Collect
 MayRemove why (Branch name) = ⊥
 MayRemove why (Tag name) = ⊥
-MayRemove why (TagGone name) = ⊥
+MayRemove why (Tombstone name) = ⊥
 MayRemove why (Lease id) = why ≡ For_lease
 
 -- ... and never `main`
@@ -251,7 +251,7 @@ MayRemoveAt why (Manifest id) = why ≡ Collect
 MayRemoveAt why (Chunk id) = why ≡ Collect
 MayRemoveAt why (Branch name) = name ≢ main_name
 MayRemoveAt why (Tag name) = ⊥
-MayRemoveAt why (TagGone name) = ⊥
+MayRemoveAt why (Tombstone name) = ⊥
 MayRemoveAt why (Lease id) = ⊥
 
 -- an operation after the journal is polite

@@ -6,7 +6,7 @@ use Rattle.repo_objects.specs.Readings.{snapshot_by, manifest_by}
 use Rattle.repo_objects.specs.Trees.{Extends}
 use Rattle.repo_objects.specs.Laws.{initial_bytes}
 use Rattle.object_store.specs.declared.keys.Key.{Key}
-use Rattle.object_store.specs.declared.keys.Key.TheVariants.{Snapshot, Manifest, Txn, Chunk, Branch, Tag, TagGone, Lease}
+use Rattle.object_store.specs.declared.keys.Key.TheVariants.{Snapshot, Manifest, Txn, Chunk, Branch, Tag, Tombstone, Lease}
 use Rattle.object_store.specs.declared.events.Op.{Op}
 use Rattle.object_store.specs.declared.events.Op.TheVariants.{Get, PutNew, PutOver, Remove, RemoveAt, List as ListPart}
 use Rattle.object_store.specs.declared.events.Event.{Event}
@@ -55,7 +55,7 @@ NewOnce journal bytes (Txn id) = IsUnused journal (Txn id)
 NewOnce journal bytes (Chunk id) = IsUnused journal (Chunk id)
 NewOnce journal bytes (Branch name) = Unit {0}
 NewOnce journal bytes (Tag name) = Unit {0}
-NewOnce journal bytes (TagGone name) = Unit {0}
+NewOnce journal bytes (Tombstone name) = Unit {0}
 NewOnce journal bytes (Lease id) = Unit {0}
 
 -- the operation puts no removed object again, and the initial snapshot with its own bytes alone

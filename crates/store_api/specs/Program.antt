@@ -3,7 +3,7 @@ use Rattle.std.specs.Prelude.{◌≡◌, ◌⊎◌, ℕ, ◌≤◌, ◌==◌, Li
 use Rattle.ice_base.specs.Ends.{Rose}
 use Rattle.object_store.specs.declared.events.Op.{Op}
 use Rattle.object_store.specs.declared.keys.Key.{Key}
-use Rattle.object_store.specs.declared.keys.Key.TheVariants.{Snapshot, Manifest, Txn, Chunk, Branch, Tag, TagGone, Lease}
+use Rattle.object_store.specs.declared.keys.Key.TheVariants.{Snapshot, Manifest, Txn, Chunk, Branch, Tag, Tombstone, Lease}
 use Rattle.object_store.specs.declared.events.Op.TheVariants.{Get, PutNew, PutOver, Remove, RemoveAt, List as ListPart}
 use Rattle.object_store.specs.declared.events.Reply.{Reply}
 use Rattle.object_store.specs.declared.events.Event.{Event}
@@ -82,7 +82,7 @@ is_fault (R.IdTaken key) = false
 is_fault R.NoMemory = false
 is_fault R.IdsSpent = false
 is_fault R.BadKey = false
-is_fault (R.Conflict old found) = false
+is_fault (R.LostRace old found) = false
 is_fault R.NothingToCommit = false
 is_fault (R.TooLarge kind) = false
 is_fault (R.InDoubt snapshot) = true
@@ -90,7 +90,7 @@ is_fault (R.Left at conflicts) = false
 is_fault (R.NotAncestor head) = false
 is_fault (R.RefExists version) = false
 is_fault R.NoSnapshot = false
-is_fault R.TagGone = false
+is_fault R.TagDropped = false
 is_fault R.MainKept = false
 is_fault (R.Moved found) = false
 is_fault (R.CutoffAhead now) = false
@@ -115,7 +115,7 @@ is_branch (Txn id) = false
 is_branch (Chunk id) = false
 is_branch (Branch name) = true
 is_branch (Tag name) = false
-is_branch (TagGone name) = false
+is_branch (Tombstone name) = false
 is_branch (Lease id) = false
 
 -- a put over of a branch, as a commit and a reset make it

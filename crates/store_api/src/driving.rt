@@ -13,7 +13,7 @@ use std::alloc::AllocError;
 #[derive(Drop)]
 pub enum Payload<'a> {
     Made(Bytes),
-    Held(&'a [u8]),
+    Lent(&'a [u8]),
 }
 
 impl Payload<'_> {
@@ -25,7 +25,7 @@ impl Payload<'_> {
     {
         match self {
             Payload::Made(bytes) => bytes.as_slice(),
-            Payload::Held(bytes) => bytes,
+            Payload::Lent(bytes) => bytes,
         }
     }
 }

@@ -47,7 +47,7 @@ pub enum Refusal {
     /// The text is no key of a Zarr store.
     BadKey,
     /// The branch didn't stand at the version that was read.
-    Conflict {
+    LostRace {
         /// The version that was read.
         old: Version,
         /// The version at which the branch stood, if it was there.
@@ -79,7 +79,7 @@ pub enum Refusal {
     /// The snapshot that a ref is to name was absent.
     NoSnapshot,
     /// The tag was there, and has a tombstone.
-    TagGone,
+    TagDropped,
     /// The branch `main` isn't dropped.
     MainKept,
     /// The branch had moved on.

@@ -6,10 +6,10 @@ use Rattle.ice_ids.specs.Drawing.{DrawsOnce}
 use Rattle.ice_ids.proofs.Drawn.{count-once}
 use Rattle.zarr_tree.specs.Changes.{none}
 use Rattle.object_store.specs.declared.events.Event.{Event}
-use Rattle.play_script.specs.declared.faults.ScriptKind.TheVariants.{Long}
+use Rattle.script_values.specs.declared.kinds.ScriptKind.TheVariants.{Long}
 use Rattle.play_script.specs.declared.scripts.Script.{Script}
 use Rattle.play_script.specs.Reading.{empty, feeds, script_of, most_bytes, lines_from}
-use Rattle.play_script.specs.Words.{lines_of}
+use Rattle.script_values.specs.Words.{lines_of}
 use Rattle.play_script.specs.Well.{IsWell}
 use Rattle.play_script.proofs.WellRead.{read_well}
 use Rattle.play_tasks.specs.Tasks.{ids_at}

@@ -6,8 +6,8 @@ use Rattle.std.proofs.lemmas.List.{take-append-le, append-nil}
 use Rattle.ice_base.specs.Ends.{InputAt, OutputAt, IsInput, Rose}
 use Rattle.ice_ids.specs.declared.drawing.Draw.{Draw}
 use Rattle.store_api.specs.Callers.{View}
-use Rattle.play_script.specs.declared.faults.ScriptKind.{ScriptKind}
-use Rattle.play_script.specs.declared.faults.ScriptKind.TheVariants.{Long}
+use Rattle.script_values.specs.declared.kinds.ScriptKind.{ScriptKind}
+use Rattle.script_values.specs.declared.kinds.ScriptKind.TheVariants.{Long}
 use Rattle.play_script.specs.declared.scripts.Script.{Script}
 use Rattle.play_script.specs.Reading.{script_of, most_bytes, feeds}
 use Rattle.top_call.specs.declared.statuses.Status.{Status}

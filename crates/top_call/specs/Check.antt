@@ -5,7 +5,7 @@ use Rattle.ice_ids.specs.declared.drawing.Draw.{Draw}
 use Rattle.zarr_tree.specs.Changes.{Changes}
 use Rattle.object_store.specs.declared.events.Event.{Event}
 use Rattle.store_api.specs.Callers.{View}
-use Rattle.play_script.specs.declared.scripts.Head.TheVariants as head
+use Rattle.script_calls.specs.declared.calls.Head.TheVariants as head
 use Rattle.play_script.specs.declared.scripts.Task.{Task}
 use Rattle.play_outcome.specs.declared.outcome.Outcome.{Outcome}
 use Rattle.play_outcome.specs.Ending.{why_ended}

@@ -1,7 +1,7 @@
 -- What the top call reads, does and writes (own).
 use Rattle.std.specs.Prelude.{◌≡◌, ◌⊎◌, ℕ, List, Some, Ok, Err}
 use Rattle.ice_base.specs.Ends.{InputAt, OutputAt, IsInput, Rose, WroteWhole, WroteLess}
-use Rattle.play_script.specs.declared.faults.ScriptKind.{ScriptKind}
+use Rattle.script_values.specs.declared.kinds.ScriptKind.{ScriptKind}
 use Rattle.play_script.specs.declared.scripts.Script.{Script}
 use Rattle.play_script.specs.Reading.{script_of}
 use Rattle.store_api.specs.Callers.{View}

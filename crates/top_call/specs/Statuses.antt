@@ -4,7 +4,7 @@ use Rattle.std.specs.declared.io.ErrorKind.{ErrorKind}
 use Rattle.std.specs.declared.io.ErrorKind.TheVariants as K
 use Rattle.ice_base.specs.declared.ends.InputFault.{InputFault}
 use Rattle.ice_base.specs.declared.ends.InputFault.TheVariants as I
-use Rattle.play_script.specs.Parts.{kind_text}
+use Rattle.script_values.specs.Parts.{kind_text}
 use Rattle.play_script.specs.declared.faults.ScriptFault.{ScriptFault}
 use Rattle.play_script.specs.declared.faults.ScriptFault.TheVariants as F
 use Rattle.command_words.specs.declared.reading.UsageFault.TheVariants as U

@@ -5,7 +5,8 @@ ghost use Rattle.top_call.specs.Statuses.{number_of, is_told, status_of};
 
 use command_words::{UsageFault, WordsFault};
 use ice_base::InputFault;
-use play_script::{ScriptFault, ScriptKind};
+use play_script::ScriptFault;
+use script_values::ScriptKind;
 use std::alloc::AllocError;
 use std::fmt;
 

@@ -24,7 +24,8 @@ use Rattle.zarr_tree.proofs.Apply.{both, first, second}
 use Rattle.tree_model.specs.Models.{tree_with}
 use Rattle.tree_model.specs.inside.Listing.{has_chunks}
 use Rattle.tree_model.specs.inside.Conflicting.{Map, Lists, is_taken, is_orphan, takes_away, has_listed, has_new_beneath, is_twice, at_node, at_path, is_conflict}
-use Rattle.tree_model.proofs.Finding.{any-entry, entry-any, or-true}
+use Rattle.tree_model.proofs.Finding.{any-entry, entry-any}
+use Rattle.zarr_tree.proofs.FoundRows.{or-true}
 
 turned : (b : Bool) → not b ≡ true → b ≡ false
 turned true h = cc

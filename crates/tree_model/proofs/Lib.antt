@@ -1,6 +1,3 @@
-pub mod RowLaws
-pub mod KeptLaws
-pub mod GridParts
 pub mod Writes
 pub mod Walk
 pub mod Refusals

@@ -11,8 +11,8 @@ use Rattle.zarr_tree.proofs.Maps.{same, get-put}
 use Rattle.zarr_tree.proofs.Apply.{node-apply}
 use Rattle.tree_model.specs.Models.{tree_with}
 use Rattle.tree_model.specs.inside.Putting.{put_row, put_kept}
-use Rattle.tree_model.proofs.RowLaws as rows
-use Rattle.tree_model.proofs.Finding.{not_found}
+use Rattle.zarr_tree.proofs.RowLaws as rows
+use Rattle.zarr_tree.proofs.FoundRows.{not_found}
 
 module _ (gone : List ℕ → Bool) (changed : Node → Node) where
   abbrev kept : (q : List ℕ) → Option Node → Option Node

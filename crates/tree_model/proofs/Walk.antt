@@ -4,7 +4,7 @@ use Rattle.std.specs.Prelude.{slice_get, MatchOption}
 use Rattle.std.specs.Borrow.{Bor}
 use Rattle.zarr_tree.specs.declared.nodes.Found.{Found}
 use Rattle.zarr_tree.specs.Held.{Rows}
-use Rattle.tree_model.specs.Rows.{row_found}
+use Rattle.zarr_tree.specs.Rows.{row_found}
 
 step : {A : Type 0} (es : List A) (k : ℕ) (x : A) (rest : List A) → drop k es ≡ x ∷ rest → (slice_get es k ≡ Some x) × (drop (suc k) es ≡ rest)
 step [] zero x rest h = cc

@@ -15,7 +15,7 @@ use Rattle.tree_model.specs.declared.trees.Tree.{Tree as Lists}
 use Rattle.tree_model.specs.declared.trees.Write.{Write}
 use Rattle.tree_model.specs.declared.trees.Write.TheVariants.{Chunk, Gone}
 use Rattle.tree_model.specs.declared.changes.Changes.{Changes as ChangeLists}
-use Rattle.tree_model.specs.declared.under.Under.{Under}
+use Rattle.tree_model.specs.declared.trees_under.Under.{Under}
 
 abbrev pub edit_of : Code → Edit
 edit_of (code.Add p id meta) = Add p id meta.text

@@ -1,4 +1,3 @@
-pub mod Kept
 pub mod Lengths
 pub mod Refusing
 pub mod Putting

@@ -18,7 +18,7 @@ use crate::lists::{contains, push_if, same_index};
 use crate::nodes::Nodes;
 use crate::refusing::refusal;
 use crate::trees::Tree;
-use crate::under::has_id;
+use crate::trees_under::has_id;
 use ice_ids::Id8;
 use ice_items::Items;
 use std::alloc::{AllocError, Global};

@@ -3,7 +3,7 @@
 ghost use Rattle.std.specs.Prelude.{◌≡◌, [], ◌∷◌, ◌<◌, not, slice_get, Some, IfOk, OnOk, OnErr, IfSome, MatchOption, IsTrue};
 ghost use Rattle.std.specs.String.{string_bytes};
 ghost use Rattle.zarr_path.specs.Paths.{is_path, is_within};
-ghost use Rattle.tree_model.specs.Rows.{row_found, IsInOrder};
+ghost use Rattle.zarr_tree.specs.Rows.{row_found, IsInOrder};
 ghost use Rattle.std.specs.Option.{option_copied};
 ghost use Rattle.std.specs.FinMap as map;
 
@@ -25,8 +25,7 @@ impl Model for Nodes {
     ghost use Rattle.zarr_path.specs.Paths.{path_cmp};
     ghost use Rattle.zarr_tree.specs.Codes.{coded_path, coded_node};
     ghost use Rattle.zarr_tree.specs.Nodes.{Node as TheNode};
-    ghost use Rattle.tree_model.specs.Rows.{IsInOrder, ArePaths};
-    ghost use Rattle.tree_model.specs.inside.Kept.{node_rows};
+    ghost use Rattle.zarr_tree.specs.Rows.{IsInOrder, ArePaths, node_rows};
 
     ghost Value = { map.FinMap path_cmp TheNode };
 
@@ -141,8 +140,7 @@ pub struct Rows<'a> {
 
 impl<'a> Model for Rows<'a> {
     ghost use Rattle.zarr_tree.specs.Held.{Rows};
-    ghost use Rattle.tree_model.specs.Rows.{IsInOrder, ArePaths};
-    ghost use Rattle.tree_model.specs.inside.Kept.{node_rows};
+    ghost use Rattle.zarr_tree.specs.Rows.{IsInOrder, ArePaths, node_rows};
 
     ghost Value = { Rows };
 

@@ -8,12 +8,11 @@ ghost use Rattle.tree_model.specs.inside.Refusing.{place_refusal, add_refusal, m
 
 use crate::chunks::chunk_bytes_of;
 use crate::edits::Edit;
-use crate::frozen::frozen_change;
 use crate::kinds::is_group;
 use crate::nodes::Nodes;
 use zarr_meta::Meta;
 use zarr_path::{Index, Path, parent_text};
-use zarr_tree::{EditFault, MOST_NODES};
+use zarr_tree::{EditFault, MOST_NODES, frozen_change};
 
 /// Whether a group stands at a path.
 fn has_group(nodes: &Nodes, path: &str) -> bool

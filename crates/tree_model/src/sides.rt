@@ -16,7 +16,7 @@ use crate::changes::Changes;
 use crate::kinds::{is_array, is_group};
 use crate::lists::{contains, same_index, same_path};
 use crate::nodes::Nodes;
-use crate::under::has_id;
+use crate::trees_under::has_id;
 use ice_ids::Id8;
 use std::alloc::{AllocError, Global};
 use zarr_path::{Index, Path, is_within, parent_text};

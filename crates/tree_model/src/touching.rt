@@ -17,7 +17,7 @@ use crate::kinds::{is_array, is_group};
 use crate::lists::push_if;
 use crate::nodes::Nodes;
 use crate::trees::Tree;
-use crate::under::has_id;
+use crate::trees_under::has_id;
 use ice_ids::Id8;
 use ice_items::Items;
 use std::alloc::{AllocError, Global};

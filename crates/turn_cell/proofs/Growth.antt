@@ -56,19 +56,19 @@ module _ {E : Type 0} (owner : E → ℕ) where
   Foreign owners e = ¬ IsOwner owners (owner e)
 
   -- the same of fewer owners
-  pub narrower : (seen log : List E) (owners within : Owners) → ((n : ℕ) → IsOwner within n → IsOwner owners n) → Follows owner owners seen log → Follows owner within seen log
-  narrower seen log owners within less f = record {
+  pub narrower : (seen journal : List E) (owners within : Owners) → ((n : ℕ) → IsOwner within n → IsOwner owners n) → Follows owner owners seen journal → Follows owner within seen journal
+  narrower seen journal owners within less f = record {
     rest = f.rest;
     is = f.is;
     foreign = All-weaker (Foreign owners) (Foreign within) (λ e h own. h (less (owner e) own)) f.rest f.foreign;
   }
 
-  pub nothing_more : (log : List E) (owners : Owners) → Follows owner owners log log
-  nothing_more log owners = record { rest = []; is = sym (append-nil log); foreign = All-nil (Foreign owners) }
+  pub nothing_more : (journal : List E) (owners : Owners) → Follows owner owners journal journal
+  nothing_more journal owners = record { rest = []; is = sym (append-nil journal); foreign = All-nil (Foreign owners) }
 
   -- what another one adds is foreign
-  pub grown : (seen log new : List E) (owners others : Owners) → AreApart owners others → Follows owner owners seen log → Grows owner others log new → Follows owner owners seen new
-  grown seen log new owners others apart f g = record {
+  pub grown : (seen journal new : List E) (owners others : Owners) → AreApart owners others → Follows owner owners seen journal → Grows owner others journal new → Follows owner owners seen new
+  grown seen journal new owners others apart f g = record {
     rest = f.rest ++ g.rest;
     is = g.is ∙ ap (λ z. z ++ g.rest) f.is ∙ append_assoc seen f.rest g.rest;
     foreign = All-append (Foreign owners) f.rest g.rest f.foreign
@@ -76,13 +76,13 @@ module _ {E : Type 0} (owner : E → ℕ) where
   }
 
   -- where all owners are the pass's own, nothing was added
-  pub whole : (owners : Owners) (seen log : List E) → owners ≡ all_owners → Follows owner owners seen log → log ≡ seen
-  whole owners seen log all f =
+  pub whole : (owners : Owners) (seen journal : List E) → owners ≡ all_owners → Follows owner owners seen journal → journal ≡ seen
+  whole owners seen journal all f =
       let own : (e : E) → IsOwner owners (owner e) = λ e. subst (λ (o : Owners). IsOwner o (owner e)) (sym all) (omega arith, tt) in
       f.is ∙ ap (λ r. seen ++ r) (none_of (λ e. IsOwner owners (owner e)) f.rest own f.foreign) ∙ append-nil seen
 
-  -- two passes of one log, of which the first had seen no more than the second
-  module _ (xs ys log : List E) (a b : Owners) (f : Follows owner a xs log) (g : Follows owner b ys log) (less : length xs ≤ length ys) where
+  -- two passes of one journal, of which the first had seen no more than the second
+  module _ (xs ys journal : List E) (a b : Owners) (f : Follows owner a xs journal) (g : Follows owner b ys journal) (less : length xs ≤ length ys) where
     between : Follows owner a xs ys
     between = let s = shorter xs ys f.rest g.rest (sym f.is ∙ g.is) less in record {
       rest = s.0;
@@ -94,32 +94,32 @@ module _ {E : Type 0} (owner : E → ℕ) where
     past : All (Foreign a) g.rest
     past = let s = shorter xs ys f.rest g.rest (sym f.is ∙ g.is) less in all_right (Foreign a) s.0 g.rest (subst (All (Foreign a)) s.2 f.foreign)
 
-  module _ (v w : Known E) (log : List E) (f : Follows owner v.owners v.log log) (g : Follows owner w.owners w.log log) where
+  module _ (v w : Known E) (journal : List E) (f : Follows owner v.owners v.journal journal) (g : Follows owner w.owners w.journal journal) where
     abbrev One : Bool → List E
-    One b = if b then w.log else v.log
+    One b = if b then w.journal else v.journal
 
-    first_of : (b : Bool) → nat_lt (length v.log) (length w.log) ≡ b → Follows owner v.owners v.log (One b)
-    first_of true is = between v.log w.log log v.owners w.owners f g (grind (arith, nat_tests))
-    first_of false is = nothing_more v.log v.owners
+    first_of : (b : Bool) → nat_lt (length v.journal) (length w.journal) ≡ b → Follows owner v.owners v.journal (One b)
+    first_of true is = between v.journal w.journal journal v.owners w.owners f g (grind (arith, nat_tests))
+    first_of false is = nothing_more v.journal v.owners
 
-    second_of : (b : Bool) → nat_lt (length v.log) (length w.log) ≡ b → Follows owner w.owners w.log (One b)
-    second_of true is = nothing_more w.log w.owners
-    second_of false is = between w.log v.log log w.owners v.owners g f (grind (arith, nat_tests))
+    second_of : (b : Bool) → nat_lt (length v.journal) (length w.journal) ≡ b → Follows owner w.owners w.journal (One b)
+    second_of true is = nothing_more w.journal w.owners
+    second_of false is = between w.journal v.journal journal w.owners v.owners g f (grind (arith, nat_tests))
 
     pub compared : AreJoined owner v w
-    compared = record { first = first_of (nat_lt (length v.log) (length w.log)) refl; second = second_of (nat_lt (length v.log) (length w.log)) refl }
+    compared = record { first = first_of (nat_lt (length v.journal) (length w.journal)) refl; second = second_of (nat_lt (length v.journal) (length w.journal)) refl }
 
-    both_of : (meets : Adjoins v.owners w.owners) (b : Bool) → nat_lt (length v.log) (length w.log) ≡ b → Follows owner (united v.owners w.owners) (One b) log
+    both_of : (meets : Adjoins v.owners w.owners) (b : Bool) → nat_lt (length v.journal) (length w.journal) ≡ b → Follows owner (united v.owners w.owners) (One b) journal
     both_of meets true is =
-        let free = past v.log w.log log v.owners w.owners f g (grind (arith, nat_tests)) in
+        let free = past v.journal w.journal journal v.owners w.owners f g (grind (arith, nat_tests)) in
         record { rest = g.rest; is = g.is; foreign = λ i d near own. ⊎_elim (free i d near) (g.foreign i d near) (one_of v.owners w.owners (owner (get_or g.rest i d)) meets own) }
     both_of meets false is =
-        let free = past w.log v.log log w.owners v.owners g f (grind (arith, nat_tests)) in
+        let free = past w.journal v.journal journal w.owners v.owners g f (grind (arith, nat_tests)) in
         record { rest = f.rest; is = f.is; foreign = λ i d near own. ⊎_elim (f.foreign i d near) (free i d near) (one_of v.owners w.owners (owner (get_or f.rest i d)) meets own) }
 
-    -- the log begins with the longer one, and past it no entry is either's
-    pub both_follow : Adjoins v.owners w.owners → Follows owner (united v.owners w.owners) (longer v.log w.log) log
-    both_follow meets = both_of meets (nat_lt (length v.log) (length w.log)) refl
+    -- the journal begins with the longer one, and past it no entry is either's
+    pub both_follow : Adjoins v.owners w.owners → Follows owner (united v.owners w.owners) (longer v.journal w.journal) journal
+    both_follow meets = both_of meets (nat_lt (length v.journal) (length w.journal)) refl
 
   pub nothing_joined : AreJoined owner nothing nothing
   nothing_joined = record { first = nothing_more [] no_owners; second = nothing_more [] no_owners }

@@ -21,7 +21,7 @@ set_first : (ns : List ℕ) → set ns 0 (get_or ns 0 0) ≡ ns
 set_first [] = refl
 set_first (n ∷ ns) = refl
 
-module _ {T E : Type 0} (log_of : T → List E) (owner : E → ℕ) (count_of : T → ℕ) where
+module _ {T E : Type 0} (journal_of : T → List E) (owner : E → ℕ) (count_of : T → ℕ) where
   abbrev S : Type 0
   S = Option T
 
@@ -29,37 +29,37 @@ module _ {T E : Type 0} (log_of : T → List E) (owner : E → ℕ) (count_of : 
   V = Sight E
 
   abbrev K : State S V → Type 0
-  K = Kept log_of owner count_of
+  K = Kept journal_of owner count_of
 
   -- what a pass knows once it has the turn, and once it has given it back
   abbrev taken : V → T → V
-  taken v value = plain (record v.known { log = log_of value; count = count_of value; has_turn = true })
+  taken v value = plain (record v.known { journal = journal_of value; count = count_of value; has_turn = true })
 
   abbrev given : V → T → V
-  given v value = plain (record v.known { log = log_of value; count = count_of value; has_turn = false })
+  given v value = plain (record v.known { journal = journal_of value; count = count_of value; has_turn = false })
 
-  -- a pass that has seen exactly this log and no greater count
-  agrees_whole : (v : Known E) (log : List E) (count : ℕ) → v.log ≡ log → v.count ≤ count → Agrees owner log count (plain v)
-  agrees_whole v log count is less = record { follows = subst (λ (l : List E). Follows owner v.owners l log) (sym is) (nothing_more owner log v.owners); counted = less; joined = nothing_joined owner }
+  -- a pass that has seen exactly this journal and no greater count
+  agrees_whole : (v : Known E) (journal : List E) (count : ℕ) → v.journal ≡ journal → v.count ≤ count → Agrees owner journal count (plain v)
+  agrees_whole v journal count is less = record { follows = subst (λ (l : List E). Follows owner v.owners l journal) (sym is) (nothing_more owner journal v.owners); counted = less; joined = nothing_joined owner }
 
   -- the turn is taken
 
   abbrev TakesNext : ℕ → State S V → ℕ → V → Type 0
   TakesNext n s id v = (w : V) × (a : Act S) × Valid s.homes [] a × K (stepped s 0 (either (slice_index s.words 0 == 0) 1 (slice_index s.words 0)) id [] w a)
-      × took log_of owner count_of (step n 0 0 1 none) (v, []) (slice_index s.words 0) (w, carried_after [] a)
+      × took journal_of owner count_of (step n 0 0 1 none) (v, []) (slice_index s.words 0) (w, carried_after [] a)
 
-  take_home : (n : ℕ) (s : State S V) (id : ℕ) (v : V) (k : K s) (h : Home log_of owner count_of k.log k.count s.words s.homes s.views) → get_elem? s.views id ≡ some v → TakesNext n s id v
+  take_home : (n : ℕ) (s : State S V) (id : ℕ) (v : V) (k : K s) (h : Home journal_of owner count_of k.journal k.count s.words s.homes s.views) → get_elem? s.views id ≡ some v → TakesNext n s id v
   take_home n s id v k h at =
       let w : V = taken v h.value in (
         w,
         takes 0 (Some h.value),
         ap (λ hs. get_elem? hs 0) h.slot,
         record {
-          log = k.log;
+          journal = k.journal;
           count = k.count;
           apart = apart_set s.views id w (λ j u bt ne. k.apart id j v u at bt (λ e. ne (sym e))) k.apart;
           agree = λ i u bt. ⊎_elim
-              (λ p. subst (Agrees owner k.log k.count) p.1 (agrees_whole w.known k.log k.count h.log_is (let e = h.count_is in omega arith)))
+              (λ p. subst (Agrees owner k.journal k.count) p.1 (agrees_whole w.known k.journal k.count h.journal_is (let e = h.count_is in omega arith)))
               (λ p. k.agree i u p.1)
               (at_set s.views id i w u bt);
           place = inr (record {
@@ -69,7 +69,7 @@ module _ {T E : Type 0} (log_of : T → List E) (owner : E → ℕ) (count_of : 
             view = w;
             at = set_at s.views id v w at;
             on = refl;
-            log_is = h.log_is;
+            journal_is = h.journal_is;
             count_is = h.count_is;
             alone = λ i u bt on. ⊎_elim (λ p. p.0) (λ p. absurd (let off = h.idle i u p.1 in cc)) (at_set s.views id i w u bt);
           });
@@ -79,7 +79,7 @@ module _ {T E : Type 0} (log_of : T → List E) (owner : E → ℕ) (count_of : 
             value = h.value;
             held = refl;
             knows = refl;
-            agrees = subst (λ (n : ℕ). Agrees owner (log_of h.value) n v) (sym h.count_is) (subst (λ (l : List E). Agrees owner l k.count v) (sym h.log_is) (k.agree id v at));
+            agrees = subst (λ (n : ℕ). Agrees owner (journal_of h.value) n v) (sym h.count_is) (subst (λ (l : List E). Agrees owner l k.count v) (sym h.journal_is) (k.agree id v at));
           }),
           (λ not_zero. absurd (not_zero (ap (λ ws. slice_index ws 0) h.word))),
         ),
@@ -87,25 +87,25 @@ module _ {T E : Type 0} (log_of : T → List E) (owner : E → ℕ) (count_of : 
 
   -- the turn is found taken
 
-  take_out : (n : ℕ) (s : State S V) (id : ℕ) (v : V) (k : K s) (o : Out log_of owner count_of k.log k.count s.words s.homes s.views) → get_elem? s.views id ≡ some v → TakesNext n s id v
+  take_out : (n : ℕ) (s : State S V) (id : ℕ) (v : V) (k : K s) (o : Out journal_of owner count_of k.journal k.count s.words s.homes s.views) → get_elem? s.views id ≡ some v → TakesNext n s id v
   take_out n s id v k o at =
       let same : set s.views id v ≡ s.views = set_again s.views id v at in (
         v,
         keeps,
         tt,
         record {
-          log = k.log;
+          journal = k.journal;
           count = k.count;
           apart = subst AllApart (sym same) k.apart;
-          agree = subst (λ vs. (i : ℕ) (u : V) → get_elem? vs i ≡ some u → Agrees owner k.log k.count u) (sym same) k.agree;
-          place = inr (subst (λ vs. Out log_of owner count_of k.log k.count (slice_set s.words 0 (either (slice_index s.words 0 == 0) 1 (slice_index s.words 0))) s.homes vs) (sym same) (record {
+          agree = subst (λ vs. (i : ℕ) (u : V) → get_elem? vs i ≡ some u → Agrees owner k.journal k.count u) (sym same) k.agree;
+          place = inr (subst (λ vs. Out journal_of owner count_of k.journal k.count (slice_set s.words 0 (either (slice_index s.words 0 == 0) 1 (slice_index s.words 0))) s.homes vs) (sym same) (record {
             word = ap (λ ws. slice_set ws 0 (either (slice_index ws 0 == 0) 1 (slice_index ws 0))) o.word;
             slot = o.slot;
             holder = o.holder;
             view = o.view;
             at = o.at;
             on = o.on;
-            log_is = o.log_is;
+            journal_is = o.journal_is;
             count_is = o.count_is;
             alone = o.alone;
           }));
@@ -120,14 +120,14 @@ module _ {T E : Type 0} (log_of : T → List E) (owner : E → ℕ) (count_of : 
   idle_hands me held idle = sym (held ∙ ap (hands {T = T}) idle)
 
   pub takes_turn : (n id : ℕ) (me : Me S V) → me.1 ≡ hands me.0.known.has_turn → me.0.known.has_turn ≡ false
-      → Allows K n id me 0 (λ n. either (n == 0) 1 n) (took log_of owner count_of (step n 0 0 1 none) me)
-  takes_turn n id me held idle = subst (λ (hs : List (ℕ × S)). Allows K n id (me.0, hs) 0 (λ n. either (n == 0) 1 n) (took log_of owner count_of (step n 0 0 1 none) (me.0, hs))) (idle_hands me held idle)
+      → Allows K n id me 0 (λ n. either (n == 0) 1 n) (took journal_of owner count_of (step n 0 0 1 none) me)
+  takes_turn n id me held idle = subst (λ (hs : List (ℕ × S)). Allows K n id (me.0, hs) 0 (λ n. either (n == 0) 1 n) (took journal_of owner count_of (step n 0 0 1 none) (me.0, hs))) (idle_hands me held idle)
       (λ s k long at small. ⊎_elim (λ h. take_home n s id me.0 k h at) (λ o. take_out n s id me.0 k o at) k.place)
 
-  -- the turn is given back: the new value's log begins with the log at the taking, and goes on with entries of the holder's range
+  -- the turn is given back: the new value's journal begins with the journal at the taking, and goes on with entries of the holder's range
 
-  give_back : (n id : ℕ) (v : V) (y : T) → v.known.has_turn ≡ true → Grows owner v.known.owners v.known.log (log_of y) → v.known.count ≤ count_of y
-      → Allows K n id (v, (0, Some y) ∷ []) 0 (λ _. 0) (λ _. gave log_of owner count_of (step n 0 0 0 none) (v, (0, Some y) ∷ []) 0)
+  give_back : (n id : ℕ) (v : V) (y : T) → v.known.has_turn ≡ true → Grows owner v.known.owners v.known.journal (journal_of y) → v.known.count ≤ count_of y
+      → Allows K n id (v, (0, Some y) ∷ []) 0 (λ _. 0) (λ _. gave journal_of owner count_of (step n 0 0 0 none) (v, (0, Some y) ∷ []) 0)
   give_back n id v y on grows more s k long at small =
       let w : V = given v y in (
         w,
@@ -138,16 +138,16 @@ module _ {T E : Type 0} (log_of : T → List E) (owner : E → ℕ) (count_of : 
             (λ o.
             let here : id ≡ o.holder = o.alone id v at on in
             let is : v ≡ o.view = some-injective v o.view (sym at ∙ ap (get_elem? s.views) here ∙ o.at) in
-            let log_is : k.log ≡ v.known.log = sym o.log_is ∙ ap (λ (u : V). u.known.log) (sym is) in
+            let journal_is : k.journal ≡ v.known.journal = sym o.journal_is ∙ ap (λ (u : V). u.known.journal) (sym is) in
             let count_is : k.count ≡ v.known.count = sym o.count_is ∙ ap (λ (u : V). u.known.count) (sym is) in
             record {
-              log = log_of y;
+              journal = journal_of y;
               count = count_of y;
               apart = apart_set s.views id w (λ j u bt ne. k.apart id j v u at bt (λ e. ne (sym e))) k.apart;
               agree = λ i u bt. ⊎_elim
-                  (λ p. subst (Agrees owner (log_of y) (count_of y)) p.1 (agrees_whole w.known (log_of y) (count_of y) refl (omega arith)))
+                  (λ p. subst (Agrees owner (journal_of y) (count_of y)) p.1 (agrees_whole w.known (journal_of y) (count_of y) refl (omega arith)))
                   (λ p. let old = k.agree i u p.1 in record {
-                    follows = grown owner u.known.log v.known.log (log_of y) u.known.owners v.known.owners (k.apart i id u v p.1 at p.0) (subst (Follows owner u.known.owners u.known.log) log_is old.follows) grows;
+                    follows = grown owner u.known.journal v.known.journal (journal_of y) u.known.owners v.known.owners (k.apart i id u v p.1 at p.0) (subst (Follows owner u.known.owners u.known.journal) journal_is old.follows) grows;
                     counted = let c = old.counted in omega arith;
                     joined = old.joined;
                   })
@@ -156,7 +156,7 @@ module _ {T E : Type 0} (log_of : T → List E) (owner : E → ℕ) (count_of : 
                 word = ap (λ ws. slice_set ws 0 0) o.word;
                 value = y;
                 slot = ap (λ hs. slice_set hs 0 (some (Some y))) o.slot;
-                log_is = refl;
+                journal_is = refl;
                 count_is = refl;
                 idle = λ i u bt. ⊎_elim (λ p. ap (λ (z : V). z.known.has_turn) (sym p.1)) (λ p. off u.known.has_turn (λ e. p.0 (o.alone i u p.1 e ∙ sym here))) (at_set s.views id i w u bt);
               });
@@ -165,13 +165,13 @@ module _ {T E : Type 0} (log_of : T → List E) (owner : E → ℕ) (count_of : 
         (λ y' e. let head : ◌≡◌ {A = ℕ × S} (0, Some y) (0, Some y') = cc in let part : Some y ≡ Some y' = ap (λ (p : ℕ × S). p.1) head in let same : y ≡ y' = cc in ap (λ (z : T). (given v z, [])) same),
       )
 
-  pub gives_back : (n id : ℕ) (me : Me S V) (v : V) (y : T) → me ≡ (v, (0, Some y) ∷ []) → v.known.has_turn ≡ true → Grows owner v.known.owners v.known.log (log_of y) → v.known.count ≤ count_of y
-      → Allows K n id me 0 (λ _. 0) (λ _. gave log_of owner count_of (step n 0 0 0 none) me 0)
-  gives_back n id me v y is on grows more = subst (λ (m : Me S V). Allows K n id m 0 (λ _. 0) (λ _. gave log_of owner count_of (step n 0 0 0 none) m 0)) (sym is) (give_back n id v y on grows more)
+  pub gives_back : (n id : ℕ) (me : Me S V) (v : V) (y : T) → me ≡ (v, (0, Some y) ∷ []) → v.known.has_turn ≡ true → Grows owner v.known.owners v.known.journal (journal_of y) → v.known.count ≤ count_of y
+      → Allows K n id me 0 (λ _. 0) (λ _. gave journal_of owner count_of (step n 0 0 0 none) me 0)
+  gives_back n id me v y is on grows more = subst (λ (m : Me S V). Allows K n id m 0 (λ _. 0) (λ _. gave journal_of owner count_of (step n 0 0 0 none) m 0)) (sym is) (give_back n id v y on grows more)
 
   -- a pass is told what the two passes knew of which it was joined
 
-  look : (n id : ℕ) (v : V) → Allows K n id (v, []) 0 (λ n. n) (looked log_of owner count_of (step n 0 0 0 none) (v, []))
+  look : (n id : ℕ) (v : V) → Allows K n id (v, []) 0 (λ n. n) (looked journal_of owner count_of (step n 0 0 0 none) (v, []))
   look n id v s k long at small =
       let same : set s.views id v ≡ s.views = set_again s.views id v at in
       let words : set s.words 0 (get_or s.words 0 0) ≡ s.words = set_first s.words in (
@@ -182,31 +182,31 @@ module _ {T E : Type 0} (log_of : T → List E) (owner : E → ℕ) (count_of : 
         (refl, (k.agree id v at).joined),
       )
 
-  pub looks : (n id : ℕ) (me : Me S V) (v : V) (hs : List (ℕ × S)) → me ≡ (v, hs) → hs ≡ [] → Allows K n id me 0 (λ n. n) (looked log_of owner count_of (step n 0 0 0 none) me)
-  looks n id me v hs is empty = subst (λ (m : Me S V). Allows K n id m 0 (λ n. n) (looked log_of owner count_of (step n 0 0 0 none) m)) (sym (is ∙ ap (λ (l : List (ℕ × S)). (v, l)) empty)) (look n id v)
+  pub looks : (n id : ℕ) (me : Me S V) (v : V) (hs : List (ℕ × S)) → me ≡ (v, hs) → hs ≡ [] → Allows K n id me 0 (λ n. n) (looked journal_of owner count_of (step n 0 0 0 none) me)
+  looks n id me v hs is empty = subst (λ (m : Me S V). Allows K n id m 0 (λ n. n) (looked journal_of owner count_of (step n 0 0 0 none) m)) (sym (is ∙ ap (λ (l : List (ℕ × S)). (v, l)) empty)) (look n id v)
 
   -- the place does not depend on the views without the turn
-  place_stays : (words : List ℕ) (homes : List (maybe.Option S)) (views views' : List V) (log : List E) (count : ℕ)
+  place_stays : (words : List ℕ) (homes : List (maybe.Option S)) (views views' : List V) (journal : List E) (count : ℕ)
       → ((i : ℕ) (u : V) → get_elem? views' i ≡ some u → u.known.has_turn ≡ true → get_elem? views i ≡ some u)
       → ((i : ℕ) (u : V) → get_elem? views i ≡ some u → u.known.has_turn ≡ true → get_elem? views' i ≡ some u)
-      → Home log_of owner count_of log count words homes views ⊎ Out log_of owner count_of log count words homes views
-      → Home log_of owner count_of log count words homes views' ⊎ Out log_of owner count_of log count words homes views'
-  place_stays words homes views views' log count back there (inl h) = inl (record {
+      → Home journal_of owner count_of journal count words homes views ⊎ Out journal_of owner count_of journal count words homes views
+      → Home journal_of owner count_of journal count words homes views' ⊎ Out journal_of owner count_of journal count words homes views'
+  place_stays words homes views views' journal count back there (inl h) = inl (record {
     word = h.word;
     value = h.value;
     slot = h.slot;
-    log_is = h.log_is;
+    journal_is = h.journal_is;
     count_is = h.count_is;
     idle = λ i u at. off u.known.has_turn (λ e. let o = h.idle i u (back i u at e) in cc);
   })
-  place_stays words homes views views' log count back there (inr o) = inr (record {
+  place_stays words homes views views' journal count back there (inr o) = inr (record {
     word = o.word;
     slot = o.slot;
     holder = o.holder;
     view = o.view;
     at = there o.holder o.view o.at o.on;
     on = o.on;
-    log_is = o.log_is;
+    journal_is = o.journal_is;
     count_is = o.count_is;
     alone = λ i u at e. o.alone i u (back i u at e) e;
   })
@@ -225,10 +225,10 @@ module _ {T E : Type 0} (log_of : T → List E) (owner : E → ℕ) (count_of : 
       let right : V = plain (record v.known { owners = upper_part n owners }) in
       let ws : List V = set s.views id left in
       let old = k.agree id v at in
-      let agree_left : Agrees owner k.log k.count left = record { follows = narrower owner v.known.log k.log owners (lower_part n owners) (λ m. in_lower owners n m own) old.follows; counted = old.counted; joined = nothing_joined owner } in
-      let agree_right : Agrees owner k.log k.count right = record { follows = narrower owner v.known.log k.log owners (upper_part n owners) (λ m. in_upper owners n m above) old.follows; counted = old.counted; joined = nothing_joined owner } in
+      let agree_left : Agrees owner k.journal k.count left = record { follows = narrower owner v.known.journal k.journal owners (lower_part n owners) (λ m. in_lower owners n m own) old.follows; counted = old.counted; joined = nothing_joined owner } in
+      let agree_right : Agrees owner k.journal k.count right = record { follows = narrower owner v.known.journal k.journal owners (upper_part n owners) (λ m. in_upper owners n m above) old.follows; counted = old.counted; joined = nothing_joined owner } in
       record {
-        log = k.log;
+        journal = k.journal;
         count = k.count;
         apart = apart_snoc ws right
             (λ j u bt m rm um. ⊎_elim
@@ -237,10 +237,10 @@ module _ {T E : Type 0} (log_of : T → List E) (owner : E → ℕ) (count_of : 
             (at_set s.views id j left u bt))
             (apart_set s.views id left (λ j u bt ne m lm um. k.apart id j v u at bt (λ e. ne (sym e)) m (in_lower owners n m own lm) um) k.apart);
         agree = λ i u bt. ⊎_elim
-            (λ p. ⊎_elim (λ q. subst (Agrees owner k.log k.count) q.1 agree_left) (λ q. k.agree i u q.1) (at_set s.views id i left u p.1))
-            (λ p. subst (Agrees owner k.log k.count) p.1 agree_right)
+            (λ p. ⊎_elim (λ q. subst (Agrees owner k.journal k.count) q.1 agree_left) (λ q. k.agree i u q.1) (at_set s.views id i left u p.1))
+            (λ p. subst (Agrees owner k.journal k.count) p.1 agree_right)
             (snoc_at ws right u i bt);
-        place = place_stays s.words s.homes s.views (ws ++ right ∷ []) k.log k.count
+        place = place_stays s.words s.homes s.views (ws ++ right ∷ []) k.journal k.count
             (λ i u bt on. ⊎_elim
             (λ p. ⊎_elim (λ q. absurd (let e = ap (λ (z : V). z.known.has_turn) q.1 in cc)) (λ q. q.1) (at_set s.views id i left u p.1))
             (λ p. absurd (let e = ap (λ (z : V). z.known.has_turn) p.1 in cc))
@@ -260,14 +260,14 @@ module _ {T E : Type 0} (log_of : T → List E) (owner : E → ℕ) (count_of : 
       let atw : get_elem? s.views other ≡ some w = sym (set_else s.views id other both ne) ∙ bt in
       let one = k.agree id v at in
       let two = k.agree other w atw in
-      let agree_both : Agrees owner k.log k.count both = record {
-        follows = both_follow owner v.known w.known k.log one.follows two.follows meets;
+      let agree_both : Agrees owner k.journal k.count both = record {
+        follows = both_follow owner v.known w.known k.journal one.follows two.follows meets;
         counted = let c = one.counted in let d = two.counted in omega arith;
-        joined = compared owner v.known w.known k.log one.follows two.follows;
+        joined = compared owner v.known w.known k.journal one.follows two.follows;
       } in
-      let agree_spent : Agrees owner k.log k.count spent = record { follows = record { rest = k.log; is = refl; foreign = λ i d near r. omega arith }; counted = omega arith; joined = nothing_joined owner } in
+      let agree_spent : Agrees owner k.journal k.count spent = record { follows = record { rest = k.journal; is = refl; foreign = λ i d near r. omega arith }; counted = omega arith; joined = nothing_joined owner } in
       record {
-        log = k.log;
+        journal = k.journal;
         count = k.count;
         apart = subst AllApart (sym swapped) (apart_set (set s.views other spent) id both
             (λ j u ct nj m rm um. ⊎_elim
@@ -276,10 +276,10 @@ module _ {T E : Type 0} (log_of : T → List E) (owner : E → ℕ) (count_of : 
             (at_set s.views other j spent u ct))
             (apart_set s.views other spent (λ j u ct nj m rm um. absurd (omega arith)) k.apart));
         agree = λ i u ct. ⊎_elim
-            (λ p. subst (Agrees owner k.log k.count) p.1 agree_spent)
-            (λ p. ⊎_elim (λ q. subst (Agrees owner k.log k.count) q.1 agree_both) (λ q. k.agree i u q.1) (at_set s.views id i both u p.1))
+            (λ p. subst (Agrees owner k.journal k.count) p.1 agree_spent)
+            (λ p. ⊎_elim (λ q. subst (Agrees owner k.journal k.count) q.1 agree_both) (λ q. k.agree i u q.1) (at_set s.views id i both u p.1))
             (at_set (set s.views id both) other i spent u ct);
-        place = place_stays s.words s.homes s.views (set (set s.views id both) other spent) k.log k.count
+        place = place_stays s.words s.homes s.views (set (set s.views id both) other spent) k.journal k.count
             (λ i u ct on. ⊎_elim
             (λ p. absurd (let e = ap (λ (z : V). z.known.has_turn) p.1 in cc))
             (λ p. ⊎_elim (λ q. absurd (let e = ap (λ (z : V). z.known.has_turn) q.1 in cc)) (λ q. q.1) (at_set s.views id i both u p.1))
@@ -290,13 +290,13 @@ module _ {T E : Type 0} (log_of : T → List E) (owner : E → ℕ) (count_of : 
 
   -- the table is made
 
-  pub opens : (x : T) → K (opening (0 ∷ []) (Some x ∷ []) (plain (starting (log_of x) (count_of x))))
+  pub opens : (x : T) → K (opening (0 ∷ []) (Some x ∷ []) (plain (starting (journal_of x) (count_of x))))
   opens x = record {
-    log = log_of x;
+    journal = journal_of x;
     count = count_of x;
     apart = λ i j v w at bt ne. absurd (ne (one_only _ i v at ∙ sym (one_only _ j w bt)));
-    agree = λ i v at. subst (Agrees owner (log_of x) (count_of x)) (one_is i v at) (agrees_whole (starting (log_of x) (count_of x)) (log_of x) (count_of x) refl (omega arith));
-    place = inl (record { word = refl; value = x; slot = refl; log_is = refl; count_is = refl; idle = λ i v at. ap (λ (u : V). u.known.has_turn) (sym (one_is i v at)) });
+    agree = λ i v at. subst (Agrees owner (journal_of x) (count_of x)) (one_is i v at) (agrees_whole (starting (journal_of x) (count_of x)) (journal_of x) (count_of x) refl (omega arith));
+    place = inl (record { word = refl; value = x; slot = refl; journal_is = refl; count_is = refl; idle = λ i v at. ap (λ (u : V). u.known.has_turn) (sym (one_is i v at)) });
   }
 
   -- the table is closed
@@ -304,17 +304,17 @@ module _ {T E : Type 0} (log_of : T → List E) (owner : E → ℕ) (count_of : 
   pub record Closes (v : V) (y : S) : Type 0 where
     pub value : T
     pub is : y ≡ Some value
-    pub agrees : Agrees owner (log_of value) (count_of value) v
+    pub agrees : Agrees owner (journal_of value) (count_of value) v
 
   pub closes : (id : ℕ) (v : V) (ws : List ℕ) (xs : List S) (y : S) → Final (Seen K id v) ws xs → get_elem? ws 0 ≡ some 0 → get_elem? xs 0 ≡ some y → Closes v y
   closes id v ws xs y f free at = let k = f.1.0 in ⊎_elim
       (λ h. record {
         value = h.value;
         is = some-injective y (Some h.value) (sym at ∙ f.4 0 (Some h.value) (ap (λ hs. get_elem? hs 0) h.slot));
-        agrees = subst (λ (n : ℕ). Agrees owner (log_of h.value) n v) (sym h.count_is) (subst (λ (l : List E). Agrees owner l k.count v) (sym h.log_is) (k.agree id v f.1.1));
+        agrees = subst (λ (n : ℕ). Agrees owner (journal_of h.value) n v) (sym h.count_is) (subst (λ (l : List E). Agrees owner l k.count v) (sym h.journal_is) (k.agree id v f.1.1));
       })
       (λ o. absurd (let e : 0 ≡ 1 = some-injective 0 1 (sym free ∙ ap (λ l. get_elem? l 0) (sym f.2 ∙ o.word)) in omega arith))
       k.place
 
-  pub closed_agrees : (v : V) (y : S) (x : T) → Closes v y → y ≡ Some x → Agrees owner (log_of x) (count_of x) v
-  closed_agrees v y x k e = let both = k.is in let same : k.value ≡ x = cc in subst (λ (z : T). Agrees owner (log_of z) (count_of z) v) same k.agrees
+  pub closed_agrees : (v : V) (y : S) (x : T) → Closes v y → y ≡ Some x → Agrees owner (journal_of x) (count_of x) v
+  closed_agrees v y x k e = let both = k.is in let same : k.value ≡ x = cc in subst (λ (z : T). Agrees owner (journal_of z) (count_of z) v) same k.agrees

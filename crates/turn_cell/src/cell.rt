@@ -32,11 +32,12 @@ impl<T: Logged> TurnCell<T> {
     ghost use Rattle.turn_cell.specs.Logs.{Follows, Grows, starting, joined};
     ghost use Rattle.turn_cell.specs.Passes.{known, IsPassOf};
 
-    /// A cell with this value. The pass has seen the value's log and count, and it has all owner numbers. Where there
+    /// A cell with this value. The pass has seen the value's journal and count, and it has all owner numbers. Where there
     /// is no memory, the value comes back.
     pub fn new(alloc: Global, value: T) -> Result<(TurnCell<T>, Pass<T>), (T, AllocError)>
         ensures cell { IfOk result (λ made. IsPassOf made.0 made.1) }
-        ensures pass { IfOk result (λ made. known made.1 ≡ starting (T.log value) (T.count value)) }
+        ensures pass { IfOk result (λ made. known made.1 ≡ starting (T.journal value)
+            (T.count value)) }
         ensures err { IfErr result (λ refused. refused.0 ≡ value) }
     {
         let about = Snapshot::of(&value);
@@ -85,7 +86,7 @@ impl<T: Logged> TurnCell<T> {
     }
 
     /// Makes one pass of two whose ranges of owner numbers lie side by side. It has both ranges, the greater count and
-    /// the longer log. The shorter log is a prefix of the longer one, and no entry past it has an owner in the range of
+    /// the longer journal. The shorter journal is a prefix of the longer one, and no entry past it has an owner in the range of
     /// the pass that had the shorter one.
     pub fn join(&self, pass: &mut Pass<T>, other: Pass<T>)
         requires cell { IsPassOf self.now pass.old × IsPassOf self.now other }
@@ -94,11 +95,11 @@ impl<T: Logged> TurnCell<T> {
         ensures cell { IsPassOf self.now pass.new }
         ensures both { known pass.new ≡ joined (known pass.old) (known other) }
 
-        // The joined log is what each of the two had seen, and then entries of others.
-        ensures first { Follows T.owner (known pass.old).owners (known pass.old).log
-            (known pass.new).log }
-        ensures second { Follows T.owner (known other).owners (known other).log
-            (known pass.new).log }
+        // The joined journal is what each of the two had seen, and then entries of others.
+        ensures first { Follows T.owner (known pass.old).owners (known pass.old).journal
+            (known pass.new).journal }
+        ensures second { Follows T.owner (known other).owners (known other).journal
+            (known pass.new).journal }
     {
         let Token { seat } = other;
         self.table.shared.join_seat::<Both>(&mut pass.seat, seat);
@@ -110,11 +111,11 @@ impl<T: Logged> TurnCell<T> {
         requires cell { IsPassOf self.now pass.old }
         requires idle { (known pass.old).has_turn ≡ false }
         ensures cell { IsPassOf self.now pass.new }
-        ensures log { IfSome result
-            (λ value. Follows T.owner (known pass.old).owners (known pass.old).log (T.log value)) }
+        ensures journal { IfSome result
+            (λ value. Follows T.owner (known pass.old).owners (known pass.old).journal (T.journal value)) }
         ensures count { IfSome result (λ value. (known pass.old).count ≤ T.count value) }
         ensures turn { IfSome result (λ value. known pass.new
-            ≡ record (known pass.old) { log = T.log value; count = T.count value; has_turn = true }) }
+            ≡ record (known pass.old) { journal = T.journal value; count = T.count value; has_turn = true }) }
         ensures none { IfNone result (known pass.new ≡ known pass.old) }
     {
         let shared = &self.table.shared;
@@ -127,16 +128,17 @@ impl<T: Logged> TurnCell<T> {
 
     /// Takes the turn and the value. It may wait for the turn, and sleeps as long as another pass has it.
     ///
-    /// The value's log begins with what the pass had seen, and no entry past that has an owner in the pass's range. Its
-    /// count is at least the one that the pass had seen. The pass has seen that log and that count from then on.
+    /// The value's journal begins with what the pass had seen, and no entry past that has an owner in the pass's range. Its
+    /// count is at least the one that the pass had seen. The pass has seen that journal and that count from then on.
     pub fn take<R: Wait>(&self, rt: &R, pass: &mut Pass<T>) -> T
         requires cell { IsPassOf self.now pass.old }
         requires idle { (known pass.old).has_turn ≡ false }
         ensures cell { IsPassOf self.now pass.new }
-        ensures log { Follows T.owner (known pass.old).owners (known pass.old).log (T.log result) }
+        ensures journal { Follows T.owner (known pass.old).owners (known pass.old).journal
+            (T.journal result) }
         ensures count { (known pass.old).count ≤ T.count result }
         ensures turn { known pass.new
-            ≡ record (known pass.old) { log = T.log result; count = T.count result; has_turn = true } }
+            ≡ record (known pass.old) { journal = T.journal result; count = T.count result; has_turn = true } }
     {
         for _ in rt.forever() {
             if let Some(value) = self.try_take(pass) {
@@ -149,16 +151,17 @@ impl<T: Logged> TurnCell<T> {
 
     /// Gives the value and the turn back, and wakes one caller that waits for the turn, if there is one.
     ///
-    /// The value may be another one than was taken. Its log has to begin with the log at the taking and go on with
+    /// The value may be another one than was taken. Its journal has to begin with the journal at the taking and go on with
     /// entries of the pass's own range alone, and its count may not have fallen. The pass has then seen all of it.
     pub fn give(&self, pass: &mut Pass<T>, value: T)
         requires cell { IsPassOf self.now pass.old }
         requires turn { (known pass.old).has_turn ≡ true }
-        requires log { Grows T.owner (known pass.old).owners (known pass.old).log (T.log value) }
+        requires journal { Grows T.owner (known pass.old).owners (known pass.old).journal
+            (T.journal value) }
         requires count { (known pass.old).count ≤ T.count value }
         ensures cell { IsPassOf self.now pass.new }
         ensures seen { known pass.new
-            ≡ record (known pass.old) { log = T.log value; count = T.count value; has_turn = false } }
+            ≡ record (known pass.old) { journal = T.journal value; count = T.count value; has_turn = false } }
     {
         let shared = &self.table.shared;
         let before = shared.exchange(&mut pass.seat, 0, Some(value));
@@ -169,7 +172,7 @@ impl<T: Logged> TurnCell<T> {
         shared.wake_one(0);
     }
 
-    /// Takes the value for good, with the promise of `take`. Where the pass has all owner numbers, the value's log is
+    /// Takes the value for good, with the promise of `take`. Where the pass has all owner numbers, the value's journal is
     /// exactly what the pass had seen.
     ///
     /// No other thread can be in the middle of a turn, since the cell is given up. So it waits only where some other
@@ -177,9 +180,10 @@ impl<T: Logged> TurnCell<T> {
     pub fn close<R: Wait>(self, rt: &R, pass: Pass<T>) -> T
         requires cell { IsPassOf self pass }
         requires idle { (known pass).has_turn ≡ false }
-        ensures log { Follows T.owner (known pass).owners (known pass).log (T.log result) }
+        ensures journal { Follows T.owner (known pass).owners (known pass).journal
+            (T.journal result) }
         ensures count { (known pass).count ≤ T.count result }
-        ensures whole { (known pass).owners ≡ all_owners → T.log result ≡ (known pass).log }
+        ensures whole { (known pass).owners ≡ all_owners → T.journal result ≡ (known pass).journal }
     {
         let TurnCell { table } = self;
         let Token { seat } = pass;

@@ -7,10 +7,10 @@ pub struct Owners {
     pub end: Option<u64>,
 }
 
-/// What a pass knows of the value in its cell: the log and the count that it has seen. It has the owner numbers, and
+/// What a pass knows of the value in its cell: the journal and the count that it has seen. It has the owner numbers, and
 /// between a `take` and its `give` it has the turn.
 pub struct Known<E> {
-    pub log: LinkedList<E>,
+    pub journal: LinkedList<E>,
     pub count: u64,
     pub owners: Owners,
     pub has_turn: bool,

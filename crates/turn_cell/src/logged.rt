@@ -1,16 +1,16 @@
-//! A value with a log.
+//! A value with a journal.
 ghost use Rattle.std.specs.Prelude.{ℕ, List};
 
-/// A value that tells a log and a count. All three members exist in contracts alone.
+/// A value that tells a journal and a count. All three members exist in contracts alone.
 ///
-/// Whether a value tells its log is fixed by its type: a type that doesn't tell it has the empty log, and an `Entry` of
+/// Whether a value tells its journal is fixed by its type: a type that doesn't tell it has the empty journal, and an `Entry` of
 /// any kind.
 pub trait Logged {
-    /// What stands in the log.
+    /// What stands in the journal.
     type Entry;
 
-    // The log, from the first entry to the last.
-    ghost log: { Self → List Self.Entry };
+    // The journal, from the first entry to the last.
+    ghost journal: { Self → List Self.Entry };
 
     // The number of the one that made the entry.
     ghost owner: { Self.Entry → ℕ };

@@ -13,30 +13,30 @@ use std::snapshot::Snapshot;
 pub struct Turns;
 
 impl<T: Logged> TableRule<Option<T>, Sight<T::Entry>, Snapshot<T>> for Turns {
-    ghost holds = { λ _. Kept T.log T.owner T.count };
+    ghost holds = { λ _. Kept T.journal T.owner T.count };
 
-    ghost first = { λ key. plain (starting (T.log key.value) (T.count key.value)) };
+    ghost first = { λ key. plain (starting (T.journal key.value) (T.count key.value)) };
 }
 
 /// The turn was found free and is taken, or it was found taken.
 pub struct Take;
 
 impl<T: Logged> Play<Option<T>, Sight<T::Entry>> for Take {
-    ghost then = { took T.log T.owner T.count };
+    ghost then = { took T.journal T.owner T.count };
 }
 
 /// The turn is given back.
 pub struct Give;
 
 impl<T: Logged> Play<Option<T>, Sight<T::Entry>> for Give {
-    ghost then = { gave T.log T.owner T.count };
+    ghost then = { gave T.journal T.owner T.count };
 }
 
 /// What two passes knew, after they were joined.
 pub struct Look;
 
 impl<T: Logged> Play<Option<T>, Sight<T::Entry>> for Look {
-    ghost then = { looked T.log T.owner T.count };
+    ghost then = { looked T.journal T.owner T.count };
 }
 
 /// Where a range of owner numbers is cut. Each call of `split` picks it.

@@ -2,7 +2,7 @@
 use Rattle.std.specs.Prelude.{◌≡◌, ◌⊎◌, ◌≤◌, List, Bool, true, false, IsTrue, Result}
 use Rattle.ice_base.specs.Ends.{Rose}
 use Rattle.object_store.specs.declared.keys.Key.{Key}
-use Rattle.object_store.specs.declared.keys.Key.TheVariants.{Snapshot, Manifest, Txn, Chunk, Branch, Tag, TagGone, Lease}
+use Rattle.object_store.specs.declared.keys.Key.TheVariants.{Snapshot, Manifest, Txn, Chunk, Branch, Tag, Tombstone, Lease}
 use Rattle.object_store.specs.declared.events.Op.{Op}
 use Rattle.object_store.specs.declared.events.Op.TheVariants.{Get, PutNew, PutOver, Remove, RemoveAt, List as ListPart}
 use Rattle.object_store.specs.declared.events.Reply.{Reply}
@@ -63,7 +63,7 @@ is_ref (Txn id) = false
 is_ref (Chunk id) = false
 is_ref (Branch name) = true
 is_ref (Tag name) = true
-is_ref (TagGone name) = false
+is_ref (Tombstone name) = false
 is_ref (Lease id) = false
 
 -- an operation that changes what a ref names
@@ -91,7 +91,7 @@ Starves (Ask side op starved k) q = q ≡ Done starved
 
 -- ---- steps of machines
 -- A step with an operation: this caller's own event was made on this side, whose faults rose where it failed; the other side stayed.
-pub record Moved {A : Type 0} (old new : Both View) (p q : PairProg A) : Type 0 where
+pub record Acted {A : Type 0} (old new : Both View) (p q : PairProg A) : Type 0 where
   pub side : Side
   pub op : Op
   pub starved : A
@@ -119,7 +119,7 @@ pub record Starved {A : Type 0} (old new : Both View) (p q : PairProg A) : Type 
 pub record PairSteps {A : Type 0} (old new : Both View) (p q : PairProg A) : Type 0 where
   pub same : (side : Side) → (at_side side new).caller ≡ (at_side side old).caller
   pub faults : (side : Side) → (at_side side old).faults ≤ (at_side side new).faults
-  pub went : Moved old new p q ⊎ Starved old new p q
+  pub went : Acted old new p q ⊎ Starved old new p q
 
 -- ---- weakest preconditions, over both journals
 -- One's own step on a side, with this reply, which leaves the other side as it is. Of a store that doesn't tell its journal it is known alone that

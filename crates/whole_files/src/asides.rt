@@ -5,6 +5,7 @@ ghost use Rattle.folder.specs.Files.{SameBut, NoLooser, Leaves, IsKeptBut};
 ghost use Rattle.whole_files.specs.Places.{asides_of};
 ghost use Rattle.whole_files.specs.Whole.{SameFiles, OnlyAside, IsAside, aside_in, LooserAside, IsKeptAside};
 
+use crate::known::Known;
 use crate::places::{Places, make_folder};
 use crate::reading::in_memory;
 use folder::{Call, Cause, FileFault, Folder, Trouble, failed};
@@ -21,7 +22,37 @@ fn aside_of(alloc: Global, asides: &str, number: u32) -> Result<String, AllocErr
 }
 
 /// Makes a draft that wasn't there before, in the folder of files aside.
-fn new_draft<F: Folder>(tree: &mut F, places: &Places, alloc: Global) -> Result<F::Draft, FileFault>
+fn free_draft<F: Folder>(
+    tree: &mut F,
+    places: &Places,
+    alloc: Global,
+) -> Result<F::Draft, FileFault>
+    ensures aside { IsTrue F.tells
+        → IfOk result (λ draft. IsAside (asides_of places.now) (F.aside draft)) }
+    ensures written { IsTrue F.tells → IfOk result (λ draft. F.written draft ≡ []) }
+    ensures files { IsTrue F.tells → OnlyAside (asides_of places.now) (F.files tree.old)
+        (F.files tree.new) }
+    ensures firm { IsTrue F.tells → LooserAside (asides_of places.now) (F.loose tree.old)
+        (F.loose tree.new) }
+    ensures left { IsTrue F.tells → Leaves (IsKeptAside (asides_of places.now) (F.files tree.old))
+        (F.left tree.old) (F.left tree.new) }
+{
+    for number in 0..u32::MAX {
+        let path = in_memory(aside_of(alloc, places.asides(), number))?;
+        if let Some(draft) = tree.create(path)? {
+            return Ok(draft);
+        }
+    }
+    Err(FileFault::from(failed(Call::Open, Cause::Unnamed)))
+}
+
+/// Makes a draft that wasn't there before, and its folder where nothing is.
+fn first_draft<F: Folder>(
+    tree: &mut F,
+    places: &Places,
+    known: &mut Known,
+    alloc: Global,
+) -> Result<F::Draft, FileFault>
     ensures aside { IsTrue F.tells
         → IfOk result (λ draft. IsAside (asides_of places.now) (F.aside draft)) }
     ensures written { IsTrue F.tells → IfOk result (λ draft. F.written draft ≡ []) }
@@ -33,13 +64,41 @@ fn new_draft<F: Folder>(tree: &mut F, places: &Places, alloc: Global) -> Result<
         (F.left tree.old) (F.left tree.new) }
 {
     make_folder(tree, places.root(), places.asides(), Cause::NoAside)?;
-    for number in 0..u32::MAX {
-        let path = in_memory(aside_of(alloc, places.asides(), number))?;
-        if let Some(draft) = tree.create(path)? {
-            return Ok(draft);
-        }
+    known.asides = true;
+    free_draft(tree, places, alloc)
+}
+
+/// Makes a draft that wasn't there before. Its folder is asked for once, and again where it is gone.
+fn new_draft<F: Folder>(
+    tree: &mut F,
+    places: &Places,
+    known: &mut Known,
+    alloc: Global,
+) -> Result<F::Draft, FileFault>
+    ensures aside { IsTrue F.tells
+        → IfOk result (λ draft. IsAside (asides_of places.now) (F.aside draft)) }
+    ensures written { IsTrue F.tells → IfOk result (λ draft. F.written draft ≡ []) }
+    ensures files { IsTrue F.tells → OnlyAside (asides_of places.now) (F.files tree.old)
+        (F.files tree.new) }
+    ensures firm { IsTrue F.tells
+        → OnOk result (LooserAside (asides_of places.now) (F.loose tree.old) (F.loose tree.new)) }
+    ensures left { IsTrue F.tells → Leaves (IsKeptAside (asides_of places.now) (F.files tree.old))
+        (F.left tree.old) (F.left tree.new) }
+{
+    if !known.asides {
+        return first_draft(tree, places, known, alloc);
     }
-    Err(FileFault::from(failed(Call::Open, Cause::Unnamed)))
+    match free_draft(tree, places, alloc) {
+        Err(
+            FileFault::Failed(
+                Trouble {
+                    cause: Cause::Unreached,
+                    ..
+                },
+            ),
+        ) => first_draft(tree, places, known, alloc),
+        made => made,
+    }
 }
 
 /// Writes these bytes to a draft, and flushes it to disk.
@@ -62,6 +121,7 @@ fn write_whole<F: Folder>(tree: &mut F, draft: &mut F::Draft, bytes: &[u8]) -> R
 pub(crate) fn write_aside<F: Folder>(
     tree: &mut F,
     places: &Places,
+    known: &mut Known,
     alloc: Global,
     bytes: &[u8],
 ) -> Result<F::Draft, FileFault>
@@ -76,7 +136,7 @@ pub(crate) fn write_aside<F: Folder>(
     ensures left { IsTrue F.tells → Leaves (IsKeptAside (asides_of places.now) (F.files tree.old))
         (F.left tree.old) (F.left tree.new) }
 {
-    let mut draft = new_draft(tree, places, alloc)?;
+    let mut draft = new_draft(tree, places, known, alloc)?;
     match write_whole(tree, &mut draft, bytes) {
         Ok(()) => Ok(draft),
         Err(trouble) => {

@@ -7,6 +7,7 @@ ghost use Rattle.whole_files.specs.Whole.{SameFiles, OnlyAt, IsOutside, LooserAs
 ghost use Rattle.whole_files.specs.Changes.{Makes, Places as PlacesFile, Replaces, RemovesVersion, IsMoved, IsNew, IsOver, IsGone};
 
 use crate::asides::write_aside;
+use crate::known::Known;
 use crate::places::{Places, flush_folder, make_folders, reached};
 use crate::reading::{file_version, version_seen};
 use crate::versions::Putting;
@@ -35,16 +36,21 @@ fn version_in<F: Folder>(tree: &F, putting: Putting, path: &str) -> Result<Optio
 }
 
 /// The version of the file at a path whose folders are there, if one is there, before another one is made. What is put once has a
-/// path of its own, so nothing is asked then: where a file is there, the move finds it.
-fn version_before<F: Folder>(tree: &F, putting: Putting, path: &str) -> Result<Option<u64>, Trouble>
+/// path of its own, so nothing is asked where nothing stood at the last one: where a file is there, the move finds it.
+fn version_before<F: Folder>(
+    tree: &F,
+    known: &Known,
+    putting: Putting,
+    path: &str,
+) -> Result<Option<u64>, Trouble>
     ensures { IsTrue F.tells
         → IfOk result
         (λ found. IfSome found (λ version. version_at putting (F.files tree.now path.now)
         ≡ Some version)) }
 {
     match putting {
-        Putting::Once => Ok(None),
-        Putting::Over => version_in(tree, putting, path),
+        Putting::Once if !known.stood => Ok(None),
+        Putting::Once | Putting::Over => version_in(tree, putting, path),
     }
 }
 
@@ -86,6 +92,7 @@ fn place_file<F: Folder>(
 pub fn make_file<F: Folder>(
     tree: &mut F,
     places: &Places,
+    known: &mut Known,
     alloc: Global,
     putting: Putting,
     path: &str,
@@ -105,11 +112,13 @@ pub fn make_file<F: Folder>(
 {
     let above = reached(Call::Link, path)?;
     let folder = make_folders(tree, places.root(), path)?;
-    if let Some(version) = version_before(tree, putting, path)? {
+    if let Some(version) = version_before(tree, known, putting, path)? {
         return Ok(Some(version));
     }
-    let draft = write_aside(tree, places, alloc, bytes)?;
-    Ok(place_file(tree, putting, draft, path, above, &folder)?)
+    let draft = write_aside(tree, places, known, alloc, bytes)?;
+    let found = place_file(tree, putting, draft, path, above, &folder)?;
+    known.stood = found.is_some();
+    Ok(found)
 }
 
 /// Moves a draft over the file at a path.
@@ -138,6 +147,7 @@ fn move_over<F: Folder>(
 pub fn replace_file<F: Folder>(
     tree: &mut F,
     places: &Places,
+    known: &mut Known,
     alloc: Global,
     putting: Putting,
     path: &str,
@@ -162,7 +172,7 @@ pub fn replace_file<F: Folder>(
     if found != Some(old) {
         return Ok(Change::Moved(found));
     }
-    let draft = write_aside(tree, places, alloc, bytes)?;
+    let draft = write_aside(tree, places, known, alloc, bytes)?;
     move_over(tree, places.root(), draft, path)?;
     Ok(Change::Made)
 }

@@ -1,7 +1,8 @@
 //! Folders of a directory, in which files lie.
 
-ghost use Rattle.std.specs.Prelude.{◌≡◌, IfOk, IfSome, OnOk, IsTrue, string_bytes};
-ghost use Rattle.folder.specs.Files.{IsIn, NoLooser, Leaves, IsKept};
+ghost use Rattle.std.specs.Prelude.{◌≡◌, IfOk, IfSome, IfNone, OnOk, IsTrue, string_bytes};
+ghost use Rattle.folder.specs.declared.seen.Kind.TheVariants as Kinds;
+ghost use Rattle.folder.specs.Files.{IsIn, NoneLoose, NoLooser, Leaves, IsKept};
 ghost use Rattle.whole_files.specs.Whole.{SameFiles, FirmAt};
 ghost use Rattle.whole_files.specs.Places.{root_of, asides_of};
 
@@ -56,11 +57,18 @@ pub(crate) fn reached(call: Call, path: &str) -> Result<&str, Trouble>
     }
 }
 
-/// The folder that lies at a path, if one does.
-pub fn folder_at<F: Folder>(tree: &F, path: &str) -> Result<Option<Seen>, Trouble> {
+/// The folder that lies at a path, if one does: beneath anything else no name is loose.
+pub fn folder_at<F: Folder>(tree: &F, path: &str) -> Result<Option<Seen>, Trouble>
+    ensures kind { IfOk result (λ found. IfSome found (λ seen. seen.kind ≡ Kinds.Folder)) }
+    ensures none { IsTrue F.tells
+        → IfOk result (λ found. IfNone found (NoneLoose (F.loose tree.now) path.now)) }
+{
     match tree.look(path)? {
-        Some(seen) if seen.kind == Kind::Folder => Ok(Some(seen)),
-        _ => Ok(None),
+        Some(seen) => match seen.kind {
+            Kind::Folder => Ok(Some(seen)),
+            Kind::File | Kind::Other => Ok(None),
+        },
+        None => Ok(None),
     }
 }
 

@@ -52,8 +52,8 @@ fn next_piece<F: Folder>(
     tree.read(file, &mut piece[..room])
 }
 
-/// Want of memory.
-pub(crate) fn in_memory<T>(made: Result<T, AllocError>) -> Result<T, FileFault>
+/// Want of memory, as a fault on files.
+pub fn in_memory<T>(made: Result<T, AllocError>) -> Result<T, FileFault>
     ensures { MatchResult result (λ value. made ≡ Ok value) (λ fault. fault ≡ FileFault.NoMemory) }
 {
     match made {

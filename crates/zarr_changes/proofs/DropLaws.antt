@@ -1,17 +1,13 @@
 -- Dropped nodes.
-use Rattle.std.proofs.Common.{◌≡◌, ℕ, Bool, true, false, cond, not, ◌&&◌, ◌||◌, T, List, [], ◌∷◌, Option, Some, None, is_some, option_map, length, refl, sym, ap, ◌∙◌, arith}
+use Rattle.std.proofs.Common.{◌≡◌, ℕ, Bool, true, false, cond, not, ◌&&◌, ◌||◌, List, [], ◌∷◌, Option, Some, None, is_some, option_map, length, refl, sym, ap, ◌∙◌, arith}
 use Rattle.std.specs.Prelude.{find, option_and_then}
-use Rattle.std.specs.declared.cmp.Ordering.{Ordering}
-use Rattle.std.specs.declared.cmp.Ordering.TheVariants.{Less, Equal, Greater}
-use Rattle.std.specs.Ordering.{eq_by_cmp, is_eq, is_lt}
+use Rattle.std.specs.Ordering.{eq_by_cmp}
 use Rattle.std.specs.Cmp.{both_ways}
-use Rattle.std.specs.List.{list_any, filter}
-use Rattle.std.specs.FinMap as finmap
-use Rattle.std.specs.FinMap.{FinMap, get, insert, retain_keys, keys, entries, entries_sorted, is_sorted, from_entries, contains_key-keys, get-entries, get-insert}
+use Rattle.std.specs.List.{filter}
+use Rattle.std.specs.FinMap.{FinMap, get, insert, retain_keys, keys, entries, entries_sorted, from_entries, contains_key-keys, get-entries, get-insert}
 use Rattle.ice_ids.specs.declared.Id8.{Id8}
 use Rattle.ice_ids.specs.Text.{same_id8, id8_cmp}
-use Rattle.zarr_path.specs.Paths.{path_cmp, same_path, is_within}
-use Rattle.zarr_path.proofs.OrderLaws.{same_path-true, same_path-refl}
+use Rattle.zarr_path.specs.Paths.{path_cmp, is_within}
 use Rattle.zarr_tree.specs.Nodes.{Node, same_numbers}
 use Rattle.zarr_tree.specs.Trees.{Tree}
 use Rattle.zarr_tree.specs.Edits.{at_node}
@@ -20,11 +16,11 @@ use Rattle.zarr_tree.specs.Touched.{lists}
 use Rattle.zarr_tree.specs.Held.{Held, Rows, Entry, meta_in, entry_in, nodes_over}
 use Rattle.zarr_tree.proofs.Apply.{IdWithin, id_within-elim, id_within-intro, id-true, id-refl, both, first, second}
 use Rattle.zarr_tree.proofs.Ordered.{lists-in_order}
+use Rattle.zarr_tree.proofs.FoundRows.{FoundRow, any-row, row-any}
 use Rattle.zarr_changes.specs.Edits.{with_id, with_dropped, without_node}
 use Rattle.zarr_changes.specs.Sets.{drop_refusal}
 use Rattle.zarr_changes.specs.Laws.{DropLaw}
 use Rattle.zarr_changes.specs.inside.Own.{within_rows, texts_left, chunks_left}
-use Rattle.zarr_changes.proofs.RowLaws as rows
 use Rattle.zarr_changes.proofs.IdLaws.{id_total, same_ids, marks, contains_lists}
 
 -- ---- one more id
@@ -69,44 +65,6 @@ pub within-end : (ids : List Id8) (p : List ℕ) (left all : Rows) (id : Id8) �
 within-end ids p left all id e f = sym (or-false (lists ids id)) ∙ ap (λ (rows : Rows). lists ids id || within_rows rows p id) (sym f) ∙ e
 
 -- ---- rows of a map
-record FoundRow (es : Rows) (f : List ℕ → Node → Bool) : Type 0 where
-  path : List ℕ
-  node : Node
-  found : finmap.find path_cmp path es ≡ Some node
-  holds : f path node ≡ true
-
-not_found : (x : List ℕ) (es : Rows) → T (rows.is_below path_cmp x es) → finmap.find path_cmp x es ≡ None
-not_found x [] h = refl
-not_found x (e ∷ es) h =
-    ap (λ b. cond b (Some e.1) (finmap.find path_cmp x es)) (not_eq (path_cmp x e.0) (rows.first (is_lt (path_cmp x e.0)) (rows.is_below path_cmp x es) h))
-    ∙ not_found x es (rows.second (is_lt (path_cmp x e.0)) (rows.is_below path_cmp x es) h)
-  where
-    not_eq : (o : Ordering) → T (is_lt o) → is_eq o ≡ false
-    not_eq Less h = refl
-    not_eq Equal h = absurd h
-    not_eq Greater h = refl
-
-any-row : (es : Rows) (f : List ℕ → Node → Bool) → T (is_sorted path_cmp es) → list_any (λ (e : List ℕ × Node). f e.0 e.1) es ≡ true → FoundRow es f
-any-row [] f h g = cc
-any-row (e ∷ es) f h g = elim (f e.0 e.1) as (λ b. f e.0 e.1 ≡ b → (b || list_any (λ (e : List ℕ × Node). f e.0 e.1) es) ≡ true → FoundRow (e ∷ es) f) [
-  | true ↦ λ k _. record { path = e.0; node = e.1; found = ap (λ b. cond b (Some e.1) (finmap.find path_cmp e.0 es)) (same_path-refl e.0); holds = k }
-  | false ↦ λ k l.
-      let r : FoundRow es f = any-row es f (rows.second (rows.is_below path_cmp e.0 es) (is_sorted path_cmp es) h) l in
-      record { path = r.path; node = r.node; found = other r.path r.node (same_path r.path e.0) refl r.found; holds = r.holds }
-] refl g
-  where
-    other : (q : List ℕ) (x : Node) (b : Bool) → same_path q e.0 ≡ b → finmap.find path_cmp q es ≡ Some x → cond b (Some e.1) (finmap.find path_cmp q es) ≡ Some x
-    other q x false k l = l
-    other q x true k l =
-        let bad : None ≡ Some x = sym (not_found e.0 es (rows.first (rows.is_below path_cmp e.0 es) (is_sorted path_cmp es) h)) ∙ ap (λ y. finmap.find path_cmp y es) (sym (same_path-true q e.0 k)) ∙ l in cc
-
-row-any : (es : Rows) (f : List ℕ → Node → Bool) (q : List ℕ) (x : Node) → finmap.find path_cmp q es ≡ Some x → f q x ≡ true → list_any (λ (e : List ℕ × Node). f e.0 e.1) es ≡ true
-row-any [] f q x h g = cc
-row-any (e ∷ es) f q x h g = elim (same_path q e.0) as (λ b. same_path q e.0 ≡ b → cond b (Some e.1) (finmap.find path_cmp q es) ≡ Some x → (f e.0 e.1 || list_any (λ (e : List ℕ × Node). f e.0 e.1) es) ≡ true) [
-  | true ↦ λ k l. let is : e.1 ≡ x = cc l in ap (λ b. b || list_any (λ (e : List ℕ × Node). f e.0 e.1) es) ((λ i. f (sym (same_path-true q e.0 k) i) (is i)) ∙ g)
-  | false ↦ λ k l. ap (λ b. f e.0 e.1 || b) (row-any es f q x l g) ∙ or-turned (f e.0 e.1) true
-] refl h
-
 -- a tree of these nodes
 abbrev bare : FinMap path_cmp Node → Tree
 bare nodes = record { nodes = nodes; chunk = λ path index. None }

@@ -20,7 +20,7 @@ use Rattle.zarr_changes.specs.Edits.{with_entry, without_entry, lists_key}
 use Rattle.zarr_changes.specs.Sets.{chunks_of, has_chunks}
 use Rattle.zarr_changes.specs.inside.Kept.{ChunkRows, array_rows, tagged, entry_rows}
 use Rattle.zarr_path.proofs.PathLaws.{by_numbers}
-use Rattle.zarr_changes.proofs.RowLaws.{seen-insert, put-last, entries-made}
+use Rattle.zarr_tree.proofs.RowLaws.{seen-insert, put-last, entries-made}
 use Rattle.zarr_changes.proofs.IdLaws.{id_total, id_exact, rows-sorted}
 use Rattle.zarr_changes.proofs.EditLaws.{same-turned}
 use Rattle.zarr_changes.proofs.TouchLaws.{not_zero}

@@ -21,7 +21,7 @@ use Rattle.zarr_tree.specs.Held.{meta_in}
 use Rattle.zarr_tree.proofs.Apply.{id-true, id-refl}
 use Rattle.zarr_changes.specs.Edits.{with_id, with_row}
 use Rattle.zarr_changes.specs.inside.Kept.{text_rows}
-use Rattle.zarr_changes.proofs.RowLaws.{both, T-true, entries-put, entries-insert_last, seen-insert}
+use Rattle.zarr_tree.proofs.RowLaws.{both, T-true, entries-put, entries-insert_last, seen-insert}
 
 pub id_total : IsTotalOrder id8_cmp
 id_total = record {

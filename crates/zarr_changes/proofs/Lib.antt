@@ -1,6 +1,4 @@
-pub mod RowLaws
 pub mod IdLaws
-pub mod KeptLaws
 pub mod Walking
 pub mod Over
 pub mod OwnLaws
@@ -11,6 +9,5 @@ pub mod EditLaws
 pub mod DropLaws
 pub mod EntryLaws
 pub mod EntryKept
-pub mod GridParts
 pub mod ChunkLaws
 pub mod PlacedLaws

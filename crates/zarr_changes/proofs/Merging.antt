@@ -14,8 +14,9 @@ use Rattle.zarr_tree.specs.declared.nodes.Found.{Found}
 use Rattle.zarr_tree.specs.Nodes.{Node}
 use Rattle.zarr_tree.specs.Held.{Rows}
 use Rattle.zarr_tree.proofs.Maps.{same, get-made, find-append}
-use Rattle.zarr_changes.specs.Rows.{IsInOrder, overlay, row_found, rows_from}
-use Rattle.zarr_changes.proofs.RowLaws.{both, first, second, T-true, less, is_below, entries-made}
+use Rattle.zarr_changes.specs.Rows.{overlay, rows_from}
+use Rattle.zarr_tree.specs.Rows.{IsInOrder, row_found}
+use Rattle.zarr_tree.proofs.RowLaws.{both, first, second, T-true, less, is_below, entries-made}
 
 abbrev Row : Type 0
 Row = List ℕ × Node

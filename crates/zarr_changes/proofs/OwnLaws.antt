@@ -12,10 +12,11 @@ use Rattle.zarr_tree.specs.Changes.{is_gone, patched}
 use Rattle.zarr_tree.specs.Touched.{lists}
 use Rattle.zarr_tree.specs.Held.{Held, Rows, meta_in, nodes_over}
 use Rattle.zarr_tree.proofs.Maps.{same, get-made, find-append, find-map}
-use Rattle.zarr_changes.specs.Rows.{own_rows, overlay, IsInOrder}
+use Rattle.zarr_changes.specs.Rows.{own_rows, overlay}
+use Rattle.zarr_tree.specs.Rows.{IsInOrder}
 use Rattle.zarr_changes.specs.inside.Own.{own_node}
 use Rattle.zarr_changes.proofs.Over.{node-over}
-use Rattle.zarr_changes.proofs.RowLaws.{both, first, second, is_below}
+use Rattle.zarr_tree.proofs.RowLaws.{both, first, second, is_below}
 
 drop-row : (es : Rows) (at : ℕ) (row : List ℕ × Node) → slice_get es at ≡ Some row → drop at es ≡ row ∷ drop (suc at) es
 drop-row [] at row e = cc

@@ -23,7 +23,7 @@ use Rattle.zarr_tree.specs.Held.{Held, Rows, meta_in, nodes_over, ids_in_order, 
 use Rattle.zarr_changes.specs.declared.net.Kinds.{Kinds}
 use Rattle.zarr_changes.specs.Edits.{with_id}
 use Rattle.zarr_changes.specs.inside.Touching.{no_kinds, with_kind, with_kinds, IsOf, has_metadata, is_updated, touches_own, chunk_lists}
-use Rattle.zarr_changes.proofs.RowLaws.{entries-made, made_entries}
+use Rattle.zarr_tree.proofs.RowLaws.{entries-made, made_entries}
 use Rattle.zarr_changes.proofs.IdLaws.{id_total, id_exact, marks}
 use Rattle.zarr_changes.proofs.Walking.{nothing_gone}
 

@@ -1,26 +1,15 @@
 -- Rows of paths and nodes, in the order of the paths. (Own.)
-use Rattle.std.specs.Prelude.{ℕ, Bool, true, List, [], ◌∷◌, ◌++◌, map, drop, not, Option, Some, None, T}
+use Rattle.std.specs.Prelude.{ℕ, Bool, true, List, [], ◌∷◌, ◌++◌, map, drop, not, Option, Some, None}
 use Rattle.std.specs.Borrow.{Bor}
-use Rattle.std.specs.List.{filter, list_all}
-use Rattle.std.specs.FinMap.{FinMap, is_sorted, entries, from_entries}
+use Rattle.std.specs.List.{filter}
+use Rattle.std.specs.FinMap.{FinMap, entries, from_entries}
 use Rattle.zarr_path.specs.Paths.{path_cmp, is_path}
 use Rattle.zarr_tree.specs.declared.nodes.Found.{Found}
 use Rattle.zarr_tree.specs.Nodes.{Node}
-use Rattle.zarr_tree.specs.Rows.{node_found}
+use Rattle.zarr_tree.specs.Rows.{row_found}
 use Rattle.zarr_tree.specs.Changes.{is_gone, patched}
 use Rattle.zarr_tree.specs.Touched.{lists}
 use Rattle.zarr_tree.specs.Held.{Held, Rows, meta_in}
-
--- a path that was found, and its node
-abbrev pub row_found : Bor (List ℕ) × Found → List ℕ × Node
-row_found row = (row.0.now, node_found row.1)
-
--- the paths of rows rise, and are paths
-abbrev pub IsInOrder : Rows → Type 0
-IsInOrder rows = T (is_sorted path_cmp rows)
-
-abbrev pub ArePaths : Rows → Type 0
-ArePaths rows = T (list_all (λ row. is_path row.0) rows)
 
 -- the nodes of both lists, by their paths: at a path of both the first one's
 abbrev pub overlay : Rows → Rows → FinMap path_cmp Node

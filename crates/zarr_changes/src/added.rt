@@ -4,12 +4,12 @@ ghost use Rattle.std.specs.Prelude.{◌≡◌, [], ◌∷◌, not, is_some, if�
 ghost use Rattle.std.specs.String.{string_bytes, string_cmp};
 ghost use Rattle.std.specs.BTreeMap as tree;
 ghost use Rattle.zarr_path.specs.Paths.{is_path, is_within};
-ghost use Rattle.zarr_changes.specs.Rows.{row_found, IsInOrder};
+ghost use Rattle.zarr_tree.specs.Rows.{row_found, IsInOrder};
 ghost use Rattle.zarr_changes.specs.inside.Touching.{has_metadata};
 ghost use Rattle.std.specs.Option.{option_copied};
 ghost use Rattle.std.specs.FinMap as map;
 
-use crate::shared::SharedNode;
+use crate::shared_nodes::SharedNode;
 use ice_ids::Id8;
 use std::alloc::{AllocError, Global};
 use std::collections::BTreeMap;
@@ -48,8 +48,7 @@ impl Model for Added {
     ghost use Rattle.zarr_path.specs.Paths.{path_cmp};
     ghost use Rattle.zarr_tree.specs.Codes.{coded_path, coded_node};
     ghost use Rattle.zarr_tree.specs.Nodes.{Node as TheNode};
-    ghost use Rattle.zarr_changes.specs.Rows.{IsInOrder, ArePaths};
-    ghost use Rattle.zarr_changes.specs.inside.Kept.{node_rows};
+    ghost use Rattle.zarr_tree.specs.Rows.{IsInOrder, ArePaths, node_rows};
 
     ghost Value = { map.FinMap path_cmp TheNode };
 
@@ -187,8 +186,7 @@ pub(crate) struct AddedRows<'a> {
 
 impl<'a> Model for AddedRows<'a> {
     ghost use Rattle.zarr_tree.specs.Held.{Rows};
-    ghost use Rattle.zarr_changes.specs.Rows.{IsInOrder, ArePaths};
-    ghost use Rattle.zarr_changes.specs.inside.Kept.{node_rows};
+    ghost use Rattle.zarr_tree.specs.Rows.{IsInOrder, ArePaths, node_rows};
 
     ghost Value = { Rows };
 

@@ -5,12 +5,11 @@ ghost use Rattle.zarr_tree.specs.Held.{nodes_over};
 ghost use Rattle.zarr_changes.specs.Edits.{with_text_at};
 ghost use Rattle.zarr_changes.specs.Sets.{text_refusal, Enters};
 
-use crate::frozen::frozen_change;
 use crate::set::ChangeSet;
 use std::alloc::Global;
 use zarr_meta::SharedMeta;
 use zarr_path::Path;
-use zarr_tree::{EditFault, TreeLike};
+use zarr_tree::{EditFault, TreeLike, frozen_change};
 
 impl ChangeSet {
     /// Gives the overlay's node at a path other metadata, which may not differ in the parts that stay. After a refusal, and

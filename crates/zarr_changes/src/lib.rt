@@ -7,10 +7,10 @@
 mod added;
 mod adding;
 mod changing;
+mod chunk_lists;
 mod chunks;
 mod dropping;
 mod entries;
-mod frozen;
 mod ids;
 mod keys;
 mod kinds;
@@ -22,12 +22,10 @@ mod overlay;
 mod places;
 mod placing;
 mod set;
-mod shared;
+mod shared_nodes;
 mod texts;
-mod written;
 
 pub use chunks::{ChangedArray, ChunkAt};
-pub use frozen::frozen_change;
 pub use ids::IdSet;
 pub use keys::{ChangeKeys, ChunkKey};
 pub use kinds::{is_array, is_group};

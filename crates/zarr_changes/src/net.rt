@@ -9,10 +9,10 @@ ghost use Rattle.zarr_tree.specs.Touched.{is_untouched};
 ghost use Rattle.zarr_changes.specs.inside.Touching.{no_kinds, with_kind, IsOf, AreOf, chunk_lists, is_updated, touches_own};
 
 use crate::added::AddedRows;
+use crate::chunk_lists::chunk_lists;
 use crate::ids::IdSet;
 use crate::kinds::is_group;
 use crate::set::ChangeSet;
-use crate::written::chunk_lists;
 use ice_items::Items;
 use std::alloc::{AllocError, Global};
 use zarr_tree::{ArrayChunks, Found, Ids, Touched, TreeLike};

@@ -3,10 +3,10 @@
 ghost use Rattle.std.specs.Prelude.{◌≡◌, ◌∷◌, ◌+◌, [], nat_le, length, MatchOption, IfSome, IsTrue};
 ghost use Rattle.std.specs.FinMap as map;
 ghost use Rattle.zarr_path.specs.Paths.{is_path};
-ghost use Rattle.zarr_tree.specs.Rows.{node_found};
+ghost use Rattle.zarr_tree.specs.Rows.{node_found, row_found, IsInOrder};
 ghost use Rattle.zarr_tree.specs.Changes.{patched};
 ghost use Rattle.zarr_tree.specs.Held.{meta_in, nodes_over};
-ghost use Rattle.zarr_changes.specs.Rows.{row_found, own_rows, IsInOrder};
+ghost use Rattle.zarr_changes.specs.Rows.{own_rows};
 
 use crate::added::AddedRows;
 use crate::set::ChangeSet;
@@ -78,7 +78,8 @@ impl<'a, B: TreeLike> Model for Overlay<'a, B> {
     ghost use Rattle.std.specs.Prelude.{IsTrue};
     ghost use Rattle.std.specs.FinMap as map;
     ghost use Rattle.zarr_tree.specs.Held.{Rows};
-    ghost use Rattle.zarr_changes.specs.Rows.{IsInOrder, overlay, rows_from, is_named};
+    ghost use Rattle.zarr_changes.specs.Rows.{overlay, rows_from, is_named};
+    ghost use Rattle.zarr_tree.specs.Rows.{IsInOrder};
 
     ghost Value = { Rows };
 

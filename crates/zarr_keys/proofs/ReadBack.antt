@@ -38,7 +38,7 @@ use Rattle.store_api.specs.declared.machines.Refusal.TheVariants as R
 use Rattle.store_api.specs.Program.{Done}
 use Rattle.store_api.specs.Running.{Program, ◌>>=◌}
 use Rattle.session.specs.declared.chunks.Value.{Value}
-use Rattle.session.specs.declared.chunks.Value.TheVariants.{Held as Is_held}
+use Rattle.session.specs.declared.chunks.Value.TheVariants.{Bytes as Is_bytes}
 use Rattle.session.specs.Sessions.{SessionState, writes, base_nodes, nodes_seen}
 use Rattle.session.specs.Editing.{if_writes, unless_bad, unless_refused, node_fault, added, node_added, drawn_node, with_node, meta_set, with_text as session_with_text}
 use Rattle.session.specs.Chunks.{set_program, put_chunk, put_object, unless_fault, with_chunk, most_inline, get_program, read_at, read_found}
@@ -136,7 +136,7 @@ module _ (s t : SessionState) (p i bytes : List ℕ) where
   seen = get (nodes_seen s) p
 
   -- the read of a chunk that has its own entry
-  by_grid : (n : Node) (array : ArrayView) → seen ≡ Some n → array_in n.text ≡ Some array → in_grid array i ≡ true → get_program (record s { held = held_with s.held i (Inline bytes) (Some n) }) p i ≡ Done (Ok (Is_held bytes))
+  by_grid : (n : Node) (array : ArrayView) → seen ≡ Some n → array_in n.text ≡ Some array → in_grid array i ≡ true → get_program (record s { held = held_with s.held i (Inline bytes) (Some n) }) p i ≡ Done (Ok (Is_bytes bytes))
   unfolding get_program
   by_grid n array f a g =
       let u = record s { held = held_with s.held i (Inline bytes) (Some n) } in
@@ -148,7 +148,7 @@ module _ (s t : SessionState) (p i bytes : List ℕ) where
       ∙ ap (λ (b : Bool). read_found u p i (if b then Ok (record { node = n.id; bytes = chunk_length array }) else Err OutOfGrid)) g
       ∙ ap (read_at u p i (record { node = n.id; bytes = chunk_length array })) own
 
-  short_read : set_refusal (nodes_seen s) p i (length bytes) ≡ None → get_program (with_chunk s p i (Inline bytes)) p i ≡ Done (Ok (Is_held bytes))
+  short_read : set_refusal (nodes_seen s) p i (length bytes) ≡ None → get_program (with_chunk s p i (Inline bytes)) p i ≡ Done (Ok (Is_bytes bytes))
   short_read r =
       let there = some_node seen _ r in
       let array = some_array (array_in there.0.text) _ there.2 in

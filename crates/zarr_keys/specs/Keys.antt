@@ -12,7 +12,7 @@ use Rattle.store_api.specs.declared.machines.Refusal.TheVariants.{BadKey}
 use Rattle.store_api.specs.Program.{Done}
 use Rattle.store_api.specs.Running.{Program, ◌>>=◌}
 use Rattle.session.specs.declared.chunks.Value.{Value}
-use Rattle.session.specs.declared.chunks.Value.TheVariants.{Held, Fill}
+use Rattle.session.specs.declared.chunks.Value.TheVariants.{Bytes as Is_bytes, Fill}
 use Rattle.session.specs.Sessions.{SessionState, nodes_seen}
 use Rattle.session.specs.Editing.{node_added, meta_set, node_dropped}
 use Rattle.session.specs.Chunks.{get_program, set_program, chunk_unset}
@@ -30,7 +30,7 @@ meta_value s path = node_value (get (nodes_seen s) path)
 
 -- the key of a chunk has its bytes, or nothing where it reads as the fill value
 abbrev pub chunk_value : Value → KeyValue
-chunk_value (Held bytes) = Bytes bytes
+chunk_value (Is_bytes bytes) = Bytes bytes
 chunk_value Fill = Absent
 
 abbrev pub answered : Value → Program KeyValue

@@ -25,7 +25,7 @@ pub fn key_answer(value: Value) -> KeyValue
     ensures { result ≡ chunk_value value }
 {
     match value {
-        Value::Held(bytes) => KeyValue::Bytes(bytes),
+        Value::Bytes(bytes) => KeyValue::Bytes(bytes),
         Value::Fill => KeyValue::Absent,
     }
 }

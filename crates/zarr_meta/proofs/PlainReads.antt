@@ -84,7 +84,7 @@ array_read name false shape chunks fill num h k e = rw (three_read, numbers_read
 
 -- ---- what the value says
 
-kind_read : (kind : IntKind) → kind_named (name_of kind) ≡ Some kind
+pub kind_read : (kind : IntKind) → kind_named (name_of kind) ≡ Some kind
 unfolding kind_named
 kind_read Int8 = refl
 kind_read Int16 = refl

@@ -11,3 +11,7 @@ pub mod Commute
 pub mod Rebase
 pub mod Ordered
 pub mod Listing
+pub mod RowLaws
+pub mod FoundRows
+pub mod KeptLaws
+pub mod GridParts

@@ -5,13 +5,13 @@ use Rattle.std.proofs.lemmas.Bool.{eqb-true, eq-eqb}
 use Rattle.std.proofs.lemmas.Slice.Eq.{bytes_eq-Decides}
 use Rattle.zarr_path.proofs.OrderLaws.{same_path-true, same_path-refl}
 use Rattle.zarr_meta.specs.declared.kinds.IntKind.{IntKind}
-use Rattle.zarr_meta.specs.declared.kinds.IntKind.TheVariants.{Int8, Int16, Int32, Int64, Uint8, Uint16, Uint32, Uint64}
 use Rattle.zarr_meta.specs.declared.views.ArrayView.{ArrayView}
 use Rattle.zarr_meta.specs.declared.views.View.{View}
 use Rattle.zarr_meta.specs.declared.views.View.TheVariants as view
 use Rattle.zarr_meta.specs.Grids.{chunk_bytes}
 use Rattle.zarr_meta.specs.Kinds.{name_of, size_of, kind_named}
 use Rattle.zarr_meta.specs.Meta.{view_in}
+use Rattle.zarr_meta.proofs.PlainReads.{kind_read}
 use Rattle.zarr_tree.specs.declared.edit.Frozen.{Frozen}
 use Rattle.zarr_tree.specs.declared.edit.Frozen.TheVariants as frozen
 use Rattle.zarr_tree.specs.Nodes.{is_metadata, is_group_view, is_group, array_of_view, is_array, same_numbers, same_kind, same_codecs, array_change, view_change, SameFrozen, Fits}
@@ -34,17 +34,6 @@ tested false f r h = cc
 passes : (b : Bool) (f : Frozen) (r : Option Frozen) → b ≡ true → r ≡ None → cond (not b) (Some f) r ≡ None
 passes true f r e h = h
 passes false f r e h = cc
-
-kind_read : (kind : IntKind) → kind_named (name_of kind) ≡ Some kind
-unfolding kind_named
-kind_read Int8 = refl
-kind_read Int16 = refl
-kind_read Int32 = refl
-kind_read Int64 = refl
-kind_read Uint8 = refl
-kind_read Uint16 = refl
-kind_read Uint32 = refl
-kind_read Uint64 = refl
 
 kinds_same : (k l : IntKind) → name_of k ≡ name_of l → k ≡ l
 kinds_same k l e = some_same k l (sym (kind_read k) ∙ ap kind_named e ∙ kind_read l)

@@ -1,12 +1,12 @@
--- The arrays that texts describe have a grid.
-use Rattle.std.proofs.Common.{◌≡◌, ◌∙◌, ◌<◌, ◌≤◌, ℕ, Bool, true, false, cond, ◌&&◌, List, [], ◌∷◌, length, Option, Some, None, Result, Ok, Err, ok_or, refl, sym, ap, arith}
-use Rattle.std.specs.Prelude.{nat_eq, nat_le, IsTrue, option_and_then}
+-- The arrays that texts describe have a grid, and a fill value of their type.
+use Rattle.std.proofs.Common.{◌≡◌, ◌∙◌, ◌<◌, ◌≤◌, ℕ, ℤ, Bool, true, false, cond, ◌&&◌, List, [], ◌∷◌, length, Option, Some, None, Result, Ok, Err, ok_or, refl, sym, ap, arith}
+use Rattle.std.specs.Prelude.{codes, nat_eq, nat_le, IsTrue, option_and_then}
 use Rattle.std.specs.List.{list_all}
 use Rattle.std.specs.Result.{result_ok}
 use Rattle.std.proofs.lemmas.Bool.{eqb-true, leb-true, lt-ltb, ltb-true}
-use Rattle.json_words.specs.Reading.{whole_numbers}
+use Rattle.json_words.specs.Reading.{integer_number, whole_numbers}
 use Rattle.serde_json.specs.Data.{Data}
-use Rattle.serde_json.specs.Find.{as_object}
+use Rattle.serde_json.specs.Find.{get, as_object}
 use Rattle.zarr_meta.specs.declared.faults.MetaFault.{MetaFault}
 use Rattle.zarr_meta.specs.declared.faults.MetaFault.TheVariants as f
 use Rattle.zarr_meta.specs.declared.kinds.IntKind.{IntKind}
@@ -16,7 +16,7 @@ use Rattle.zarr_meta.specs.declared.views.NodeType.TheVariants as node_type
 use Rattle.zarr_meta.specs.declared.views.View.{View}
 use Rattle.zarr_meta.specs.declared.views.View.TheVariants as view
 use Rattle.zarr_meta.specs.Grids.{grid_of, are_each_below, are_lengths, has_few_chunks, has_small_chunks, has_grid, most_chunks}
-use Rattle.zarr_meta.specs.Kinds.{size_of}
+use Rattle.zarr_meta.specs.Kinds.{size_of, is_in_range}
 use Rattle.zarr_meta.specs.Meta.{◌>>=◌, passes, known_members, array_of, group_of, of_type, view_of, json_of, meta_of, view_in}
 use Rattle.zarr_meta.specs.Parts.{has_format, node_type_of, shape_of, kind_of, chunk_items, chunks_of, has_encoding, fill_of, big_of, has_no_transformers, has_attributes, names_of}
 use Rattle.zarr_grid.proofs.GridEnds.{length-grid_of}
@@ -57,9 +57,25 @@ chunks_grid kind shape chunks value h =
     let t = tested (has_grid (size_of kind) shape numbers.0) numbers.0 chunks numbers.2 in
     ap (has_grid (size_of kind) shape) (sym t.1) ∙ t.0
 
-array_grid : (value : Data) (a : ArrayView) → array_of value ≡ Ok a → has_grid (size_of a.kind) a.shape a.chunks ≡ true
+-- ---- its fill value is one of its type
+tested_number : (b : Bool) (x y : ℤ) → cond b (Some x) None ≡ Some y → (b ≡ true) × (x ≡ y)
+tested_number true x y h = (refl, cc)
+tested_number false x y h = cc
+
+fill_in : (kind : IntKind) (fill : ℤ) (value : Data) → fill_of kind value ≡ Some fill → is_in_range kind fill ≡ true
+unfolding fill_of
+fill_in kind fill value h =
+    let read = taken (option_and_then integer_number (get (codes "fill_value") value)) (λ number. cond (is_in_range kind number) (Some number) None) fill h in
+    let t = tested_number (is_in_range kind read.0) read.0 fill read.2 in
+    ap (is_in_range kind) (sym t.1) ∙ t.0
+
+-- ---- an array that is described
+abbrev IsFit : ArrayView → Type 0
+IsFit a = (has_grid (size_of a.kind) a.shape a.chunks ≡ true) × (is_in_range a.kind a.fill ≡ true)
+
+array_fit : (value : Data) (a : ArrayView) → array_of value ≡ Ok a → IsFit a
 unfolding array_of
-array_grid value a h =
+array_fit value a h =
     let shape = step (ok_or (shape_of value) f.Shape) _ a h in
     let kind = step (ok_or (kind_of value) f.DataType) _ a shape.2 in
     let chunks = step (ok_or (chunks_of kind.0 shape.0 value) f.Grid) _ a kind.2 in
@@ -70,8 +86,10 @@ array_grid value a h =
     let attributes = step (passes (has_attributes value) f.Attributes) _ a transformers.2 in
     let names = step (ok_or (names_of (length shape.0) value) f.Names) _ a attributes.2 in
     let members = step (known_members node_type.Array value) _ a names.2 in
-    let made = ap (given_of a) members.2 in
-    ap (λ (x : ArrayView). has_grid (size_of x.kind) x.shape x.chunks) (sym made) ∙ chunks_grid kind.0 shape.0 chunks.0 value (there _ f.Grid chunks.0 chunks.1)
+    let made = ap (given_of a) members.2 in (
+      ap (λ (x : ArrayView). has_grid (size_of x.kind) x.shape x.chunks) (sym made) ∙ chunks_grid kind.0 shape.0 chunks.0 value (there _ f.Grid chunks.0 chunks.1),
+      ap (λ (x : ArrayView). is_in_range x.kind x.fill) (sym made) ∙ fill_in kind.0 fill.0 value (there _ f.Fill fill.0 fill.1),
+    )
 
 group_never : (value : Data) (a : ArrayView) → group_of value ≡ Ok (view.Array a) → ⊥
 unfolding group_of
@@ -81,27 +99,27 @@ group_never value a h =
     let is : view.Group ≡ view.Array a = ap (given_of (view.Array a)) members.2 in
     cc
 
-node_grid : (kind : NodeType) (value : Data) (a : ArrayView) → of_type kind (group_of value) (array_of value >>= λ array. Ok (view.Array array)) ≡ Ok (view.Array a) → has_grid (size_of a.kind) a.shape a.chunks ≡ true
-node_grid node_type.Group value a h = absurd (group_never value a h)
-node_grid node_type.Array value a h =
+node_fit : (kind : NodeType) (value : Data) (a : ArrayView) → of_type kind (group_of value) (array_of value >>= λ array. Ok (view.Array array)) ≡ Ok (view.Array a) → IsFit a
+node_fit node_type.Group value a h = absurd (group_never value a h)
+node_fit node_type.Array value a h =
     let array = step (array_of value) _ (view.Array a) h in
     let is : view.Array array.0 ≡ view.Array a = ap (given_of (view.Array a)) array.2 in
-    array_grid value a (array.1 ∙ ap Ok (array_same array.0 a is))
+    array_fit value a (array.1 ∙ ap Ok (array_same array.0 a is))
   where
     array_same : (x y : ArrayView) → view.Array x ≡ view.Array y → x ≡ y
     array_same x y e = cc
 
-view_grid : (value : Data) (a : ArrayView) → view_of value ≡ Ok (view.Array a) → has_grid (size_of a.kind) a.shape a.chunks ≡ true
+view_fit : (value : Data) (a : ArrayView) → view_of value ≡ Ok (view.Array a) → IsFit a
 unfolding view_of
-view_grid value a h =
+view_fit value a h =
     let object = step (ok_or (as_object value) f.Json) _ (view.Array a) h in
     let format = step (passes (has_format value) f.Format) _ (view.Array a) object.2 in
     let kind = step (ok_or (node_type_of value) f.NodeType) _ (view.Array a) format.2 in
-    node_grid kind.0 value a kind.2
+    node_fit kind.0 value a kind.2
 
-text_grid : (text : List ℕ) (a : ArrayView) → meta_of text ≡ Ok (view.Array a) → has_grid (size_of a.kind) a.shape a.chunks ≡ true
+text_fit : (text : List ℕ) (a : ArrayView) → meta_of text ≡ Ok (view.Array a) → IsFit a
 unfolding meta_of
-text_grid text a h = let value = step (ok_or (json_of text) f.Json) view_of (view.Array a) h in view_grid value.0 a value.2
+text_fit text a h = let value = step (ok_or (json_of text) f.Json) view_of (view.Array a) h in view_fit value.0 a value.2
 
 array_viewed : (o : Option View) (a : ArrayView) → array_of_view o ≡ Some a → o ≡ Some (view.Array a)
 array_viewed (Some (view.Array x)) a h = ap (λ y. Some (view.Array y)) (some_same x a h)
@@ -111,8 +129,14 @@ array_viewed (Some (view.Array x)) a h = ap (λ y. Some (view.Array y)) (some_sa
 array_viewed (Some view.Group) a h = cc
 array_viewed None a h = cc
 
+array_is_fit : (text : List ℕ) (a : ArrayView) → array_in text ≡ Some a → IsFit a
+array_is_fit text a h = text_fit text a (some_ok (meta_of text) (view.Array a) (array_viewed (view_in text) a h))
+
 pub array_has_grid : (text : List ℕ) (a : ArrayView) → array_in text ≡ Some a → has_grid (size_of a.kind) a.shape a.chunks ≡ true
-array_has_grid text a h = text_grid text a (some_ok (meta_of text) (view.Array a) (array_viewed (view_in text) a h))
+array_has_grid text a h = (array_is_fit text a h).0
+
+pub array_fill : (text : List ℕ) (a : ArrayView) → array_in text ≡ Some a → is_in_range a.kind a.fill ≡ true
+array_fill text a h = (array_is_fit text a h).1
 
 -- ---- an index in the grid
 first : (a b : Bool) → (a && b) ≡ true → a ≡ true

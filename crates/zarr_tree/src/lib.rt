@@ -5,12 +5,14 @@
 
 mod cases;
 mod edit;
+mod frozen;
 mod laws;
 mod lists;
 mod nodes;
 
 pub use cases::{Case, Conflict};
 pub use edit::{EditFault, Frozen, MOST_NODES};
+pub use frozen::frozen_change;
 pub use laws::{
     change_law, commute_law, differs_law, empty_law, grid_law, none_law, normal_law, ordered_law,
     over_law, rebase_law, touched_law,

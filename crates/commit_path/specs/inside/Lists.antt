@@ -2,8 +2,8 @@
 use Rattle.std.specs.Prelude.{◌≡◌, ℕ, List, [], ◌∷◌, ◌++◌, map, Option, None}
 use Rattle.flat_tables.specs.Rows.{Ascends}
 use Rattle.zarr_changes.specs.declared.chunks.ChangedArray.{ChangedArray}
-use Rattle.changed_snapshot.specs.declared.written.NewManifest.{NewManifest}
-use Rattle.changed_snapshot.specs.declared.written.NewList.{NewList}
+use Rattle.changed_snapshot.specs.declared.new_snapshot.NewManifest.{NewManifest}
+use Rattle.changed_snapshot.specs.declared.new_snapshot.NewList.{NewList}
 use Rattle.commit_path.specs.Arrays.{ArraysState}
 
 -- the paths of those that are written and of those that are left strictly ascend

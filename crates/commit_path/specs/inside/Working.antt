@@ -11,7 +11,7 @@ use Rattle.held_manifest.specs.LookUp.{Listed}
 use Rattle.manifest_index.specs.Merging.{merged_array}
 use Rattle.zarr_changes.specs.declared.chunks.ChangedArray.{ChangedArray}
 use Rattle.zarr_changes.specs.Sets.{chunks_of}
-use Rattle.changed_snapshot.specs.declared.written.NewManifest.{NewManifest}
+use Rattle.changed_snapshot.specs.declared.new_snapshot.NewManifest.{NewManifest}
 use Rattle.store_api.specs.declared.machines.Next.{Next}
 use Rattle.store_api.specs.declared.machines.Refusal.{Refusal}
 use Rattle.store_api.specs.declared.machines.Refusal.TheVariants.{IdsSpent, TooLarge, NoMemory}

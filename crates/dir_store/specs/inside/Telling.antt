@@ -22,7 +22,7 @@ use Rattle.object_store.specs.declared.events.GoneAt.{GoneAt}
 use Rattle.object_store.specs.declared.events.GoneAt.TheVariants as A
 use Rattle.object_store.specs.Machine.{version_at as as_version}
 use Rattle.object_store.specs.declared.keys.Key.{Key}
-use Rattle.dir_store.specs.Versions.{version_for}
+use Rattle.object_files.specs.Versions.{version_for}
 
 abbrev pub as_told : {A : Type 0} → Result A FileFault → Result A StoreFault
 as_told (Ok a) = Ok a

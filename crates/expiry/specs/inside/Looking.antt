@@ -1,7 +1,7 @@
 -- What a look at a ref has still to do.
 use Rattle.std.specs.Prelude.{◌≡◌, ℕ, ◌+◌, Bool, true, false, Some, Result, Ok, Err}
 use Rattle.object_store.specs.declared.keys.Key.{Key}
-use Rattle.object_store.specs.declared.keys.Key.TheVariants.{Snapshot, Manifest, Txn, Chunk, Branch, Tag, TagGone, Lease}
+use Rattle.object_store.specs.declared.keys.Key.TheVariants.{Snapshot, Manifest, Txn, Chunk, Branch, Tag, Tombstone, Lease}
 use Rattle.object_store.specs.declared.events.Version.{Version}
 use Rattle.object_store.specs.declared.events.Op.TheVariants.{Get}
 use Rattle.object_store.specs.declared.events.Got.TheVariants.{Found}
@@ -66,7 +66,7 @@ is_ref (Snapshot id) = false
 is_ref (Manifest id) = false
 is_ref (Txn id) = false
 is_ref (Chunk id) = false
-is_ref (TagGone name) = false
+is_ref (Tombstone name) = false
 is_ref (Lease id) = false
 
 -- nothing but a branch or a tag is dropped

@@ -1,4 +1,5 @@
 use Rattle.history_laws.proofs.Found.{reached-found, bases-found, own-found, reached-put, none-missed, nothing-missing}
+use Rattle.history_laws.proofs.Leased.{leases-found}
 use Rattle.history_laws.proofs.base_found.Goals as goal
 
 pub returns-clause-refs : goal.returns-clause-refs
@@ -6,6 +7,9 @@ returns-clause-refs c = reached-found c.initial_law.ensures c.snapshot_law.ensur
 
 pub returns-clause-bases : goal.returns-clause-bases
 returns-clause-bases c = bases-found c.initial_law.ensures c.snapshot_law.ensures c.manifest_law.ensures
+
+pub returns-clause-leases : goal.returns-clause-leases
+returns-clause-leases c = leases-found c.initial_law.ensures c.snapshot_law.ensures c.manifest_law.ensures
 
 pub returns-clause-own : goal.returns-clause-own
 returns-clause-own c = own-found c.initial_law.ensures c.snapshot_law.ensures c.manifest_law.ensures

@@ -1,8 +1,8 @@
 -- What a mirror has still to do, by where it stands.
-use Rattle.std.specs.Prelude.{◌≡◌, ◌⊎◌, ℕ, ◌+◌, ◌-◌, ◌*◌, List, [], ◌∷◌, length, Result, Ok, Err}
+use Rattle.std.specs.Prelude.{◌≡◌, ◌⊎◌, ℕ, ◌+◌, ◌-◌, ◌*◌, Bool, List, [], ◌∷◌, length, Result, Ok, Err}
 use Rattle.ice_ids.specs.declared.Id12.{Id12}
 use Rattle.snapshot_file.specs.declared.snapshot.SnapshotFile.{SnapshotFile}
-use Rattle.repo_objects.specs.declared.bad.Bad.{Bad}
+use Rattle.repo_objects.specs.declared.bad_objects.Bad.{Bad}
 use Rattle.repo_objects.specs.Readings.{read_snapshot, read_manifest, read_log}
 use Rattle.object_store.specs.declared.keys.Key.{Key}
 use Rattle.object_store.specs.declared.keys.Key.TheVariants.{Snapshot, Manifest, Txn, Chunk}
@@ -14,6 +14,7 @@ use Rattle.two_stores.specs.declared.side.Side.TheVariants.{From}
 use Rattle.two_stores.specs.Pairs.{Done}
 use Rattle.mirror_reports.specs.declared.outcome.RefId.{RefId}
 use Rattle.mirror_reports.specs.declared.outcome.MirrorRef.{MirrorRef}
+use Rattle.mirror_reports.specs.declared.outcome.Mirrored.{Mirrored}
 use Rattle.mirror.specs.declared.register.Phase.{Phase}
 use Rattle.mirror.specs.declared.register.Phase.TheVariants.{Branches, Tags}
 use Rattle.mirror.specs.declared.lines.Link.{Link}
@@ -23,7 +24,7 @@ use Rattle.mirror.specs.declared.mirror.Object.TheVariants as object
 use Rattle.mirror.specs.declared.mirror.Stage.{Stage}
 use Rattle.mirror.specs.declared.mirror.Stage.TheVariants as stage
 use Rattle.mirror_reports.specs.Told.{file_under}
-use Rattle.mirror.specs.Programs.{Work, Answer, ends, refused, on_told, asks, take_object, put_object, compare, copy_chunks, copy_manifests, copy_log, put_snapshot, with_manifest, with_snapshot, with_copied, copy_line, down, down_behind, point, copy_ref, make_ref, move_ref, see_tag, copy_refs, copy_part, copy_tags, finish}
+use Rattle.mirror.specs.Programs.{Work, Answer, ends, refused, on_told, asks, fits_there, unless_differs, take_object, put_object, put_behind, compare, copy_chunks, copy_manifests, copy_log, put_snapshot, with_manifest, with_snapshot, with_copied, copy_line, down, down_behind, point, copy_ref, make_ref, move_ref, see_tag, copy_refs, copy_part, copy_tags, finish}
 use Rattle.mirror.specs.inside.Registers.{part_of, many}
 
 -- ---- what it holds
@@ -42,6 +43,13 @@ object_bytes (object.Chunk id) m = m.object
 object_bytes (object.Manifest id) m = m.manifest
 object_bytes object.Log m = m.object
 object_bytes object.Snapshot m = m.snapshot
+
+-- how many objects of this kind were put
+abbrev pub count_of : Object → Mirrored → ℕ
+count_of (object.Chunk id) counts = counts.chunks
+count_of (object.Manifest id) counts = counts.manifests
+count_of object.Log counts = counts.logs
+count_of object.Snapshot counts = counts.snapshots
 
 -- ---- what follows
 abbrev pub behind_refs : Phase → Work → Answer
@@ -78,6 +86,14 @@ behind_object (object.Manifest id) m w = behind_manifest m w
 behind_object object.Log m w = behind_log m w
 behind_object object.Snapshot m w = behind_snapshot m (with_copied m.link.id w)
 
+-- behind its put: where another one was there, that is got
+abbrev pub behind_put : Object → Mirror → Work → (done : Bool) → Answer
+behind_put o m w = put_behind (object_key o m) (object_bytes o m) w (behind_object o m)
+
+-- behind what stands in the target under its key
+abbrev pub behind_same : Object → Mirror → Work → (there : List ℕ) → Answer
+behind_same o m w there = on_told w (unless_differs (object_key o m) w (behind_object o m)) (fits_there (object_key o m) (object_bytes o m) there)
+
 -- behind the bytes of an object of the source
 abbrev pub taken : Object → Mirror → Work → List ℕ → Answer
 taken (object.Chunk id) m w bytes = put_object (Chunk id) bytes w (behind_chunk m)
@@ -110,6 +126,11 @@ HasFirst m = (r : RefId) × (rs : List RefId) × (m.register.names ≡ r ∷ rs)
 -- where memory may be wanting, this follows, or the end
 abbrev pub Lands : List MirrorRef → (next rest : Answer) → Type 0
 Lands refs next rest = (rest ≡ next) ⊎ (rest ≡ Done (record { refs = refs; result = Err NoMemory }))
+
+-- where a reply tells why it is refused, it ends so: that takes no memory
+abbrev pub EndsOutright : {A : Type 0} → Work → Result A Refusal → (rest : Answer) → Type 0
+EndsOutright w (Ok x) rest = Unit {0}
+EndsOutright w (Err reason) rest = rest ≡ refused w reason
 
 -- P holds of what was read
 abbrev pub Entered : {A : Type 0} → Result A Bad → (A → Type 0) → Type 0

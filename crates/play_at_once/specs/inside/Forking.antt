@@ -55,9 +55,9 @@ pub record RanOne (tells : Bool) (place : ℕ) (old new : Known Event) (p : Play
   pub events : List Event
   pub mine : All (IsAt place) events
   pub plays : PlaysTo p events outcome
-  pub kept : (draw : Draw) (tasks : List Task) (start : List Event) → IsTrue tells → Stands draw tasks start tells place p old.log
-      → ((task : Task) → slice_get tasks place ≡ Some task → TellsAt draw place task start outcome new.log)
-      × Tells draw tasks start (IsOwner old.owners) place events old.log new.log
+  pub kept : (draw : Draw) (tasks : List Task) (start : List Event) → IsTrue tells → Stands draw tasks start tells place p old.journal
+      → ((task : Task) → slice_get tasks place ≡ Some task → TellsAt draw place task start outcome new.journal)
+      × Tells draw tasks start (IsOwner old.owners) place events old.journal new.journal
 
 -- the event is of the client of a worker at one of the first places
 pub record IsAmong (count : ℕ) (event : Event) : Type 0 where
@@ -81,5 +81,5 @@ pub record RanAll (tells : Bool) (old new : Known Event) (ps : List (Play Outcom
   pub events : List Event
   pub owned : All (IsAmong (length ps)) events
   pub plays : (place : ℕ) (p : Play Outcome) (outcome : Outcome) → slice_get ps place ≡ Some p → slice_get outcomes place ≡ Some outcome → PlaysTo p (events_of (place + 1) events) outcome
-  pub kept : (draw : Draw) (tasks : List Task) (start : List Event) → IsTrue tells → AllStand draw tasks start tells ps old.log
-      → AllTell draw tasks start (IsOwner old.owners) outcomes events old.log new.log
+  pub kept : (draw : Draw) (tasks : List Task) (start : List Event) → IsTrue tells → AllStand draw tasks start tells ps old.journal
+      → AllTell draw tasks start (IsOwner old.owners) outcomes events old.journal new.journal

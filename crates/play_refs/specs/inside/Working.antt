@@ -6,7 +6,7 @@ use Rattle.store_api.specs.Running.{Program}
 use Rattle.store_api.specs.Plays.{Play, Ended, call}
 use Rattle.refs_admin.specs.declared.log.LogLine.{LogLine}
 use Rattle.refs_admin.specs.inside.Working.{branch_new_rest, branch_new_left, branch_reset_rest, branch_reset_left, branch_drop_rest, branch_drop_left, tag_new_rest, tag_new_left, tag_drop_rest, tag_drop_left, log_rest, log_left}
-use Rattle.play_script.specs.declared.scripts.RefCall.{RefCall}
+use Rattle.script_calls.specs.declared.calls.RefCall.{RefCall}
 use Rattle.play_script.specs.declared.scripts.Line.{Line}
 use Rattle.play_outcome.specs.declared.outcome.Shown.{Shown}
 use Rattle.play_outcome.specs.declared.outcome.Outcome.{Outcome}

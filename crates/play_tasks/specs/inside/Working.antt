@@ -5,7 +5,7 @@ use Rattle.ice_ids.specs.declared.drawing.AnyIds.{AnyIds}
 use Rattle.conflicts.specs.declared.solving.Policy.{Policy}
 use Rattle.object_store.specs.declared.events.Version.{Version}
 use Rattle.store_api.specs.declared.machines.Refusal.{Refusal}
-use Rattle.store_api.specs.declared.machines.Refusal.TheVariants.{NoMemory, Conflict}
+use Rattle.store_api.specs.declared.machines.Refusal.TheVariants.{NoMemory, LostRace}
 use Rattle.store_api.specs.Program.{Done, is_ask, is_fault}
 use Rattle.store_api.specs.Running.{Program}
 use Rattle.store_api.specs.Plays.{Play, Ended, Or, call, Comes}
@@ -20,10 +20,10 @@ use Rattle.session.specs.Getting.{get_rest, get_left, get_session}
 use Rattle.commit_path.specs.Committing.{session_in, message_in, commit_rest, commit_left}
 use Rattle.settle.specs.inside.Working.{settle_rest, settle_left}
 use Rattle.rebase.specs.declared.machine.Rebased.{Rebased}
-use Rattle.rebase.specs.declared.machine.Rebased.TheVariants.{Moved, UpToDate}
+use Rattle.rebase.specs.declared.machine.Rebased.TheVariants.{OnHead, UpToDate}
 use Rattle.rebase.specs.Rebasing.{rebase_program, rebase_rest, rebase_left}
-use Rattle.play_script.specs.declared.scripts.Access.{Access}
-use Rattle.play_script.specs.declared.scripts.CellBox.{CellBox}
+use Rattle.script_calls.specs.declared.calls.Access.{Access}
+use Rattle.script_calls.specs.declared.calls.CellBox.{CellBox}
 use Rattle.play_outcome.specs.declared.outcome.Shown.{Shown}
 use Rattle.play_outcome.specs.declared.outcome.Outcome.{Outcome}
 use Rattle.play_outcome.specs.Ending.{is_failed}
@@ -57,7 +57,7 @@ after_get show line shown s rest answer = after_line line shown (shown_by s show
 
 -- A commit of this session was lost, and may be tried again so often: the session is rebased, with the ids that it draws next.
 abbrev pub after_lost : (left : ℕ) → Policy → (line : ℕ) → List Shown → (message : List ℕ) → SessionState → (old : Version) → (found : Option Version) → (next : AnyIds) → Play Outcome
-after_lost zero policy line shown message s old found next = refused line shown (Conflict old found)
+after_lost zero policy line shown message s old found next = refused line shown (LostRace old found)
 after_lost (suc left) policy line shown message s old found next = call (rebase_program policy (record s { ids = next })) (after_rebase line shown (commit_play left policy line shown message))
 
 -- Where a worker stands whose commit of this session was refused so: at the settling of a doubt, or at the task's end, whatever follows a loss.
@@ -66,7 +66,7 @@ RefusedSo line shown s why p = (lost : Version → Option Version → AnyIds →
 
 -- the session that a rebase answered
 abbrev pub rebased_session : Rebased → SessionState
-rebased_session (Moved s count) = s
+rebased_session (OnHead s count) = s
 rebased_session (UpToDate s) = s
 
 abbrev pub working_rest : SessionTask → Working → Play Outcome

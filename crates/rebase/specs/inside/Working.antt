@@ -8,7 +8,7 @@ use Rattle.std.specs.FinMap.{FinMap}
 use Rattle.zarr_path.specs.Paths.{path_cmp}
 use Rattle.manifest_file.specs.declared.manifest.Place.{Place}
 use Rattle.snapshot_file.specs.declared.snapshot.SnapshotFile.{SnapshotFile}
-use Rattle.repo_objects.specs.declared.bad.Bad.TheVariants.{Unlisted}
+use Rattle.repo_objects.specs.declared.bad_objects.Bad.TheVariants.{Unlisted}
 use Rattle.repo_objects.specs.Trees.{nodes_in}
 use Rattle.zarr_tree.specs.declared.lists.Touched.{Touched}
 use Rattle.zarr_tree.specs.Nodes.{Node, frozen_change}

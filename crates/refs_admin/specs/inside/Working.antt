@@ -19,7 +19,7 @@ use Rattle.refs_admin.specs.declared.tag_new.Tagging.{Tagging}
 use Rattle.refs_admin.specs.declared.tag_new.TagNew.{TagNew}
 use Rattle.refs_admin.specs.declared.tag_drop.Burying.{Burying}
 use Rattle.refs_admin.specs.declared.tag_drop.TagDrop.{TagDrop}
-use Rattle.refs_admin.specs.declared.init.Beginning.{Beginning}
+use Rattle.refs_admin.specs.declared.init.InitStep.{InitStep}
 use Rattle.refs_admin.specs.declared.init.Init.{Init}
 use Rattle.refs_admin.specs.declared.log.Logging.{Logging}
 use Rattle.refs_admin.specs.declared.log.LogLine.{LogLine}
@@ -136,21 +136,21 @@ abbrev pub tag_drop_left : TagDrop → ℕ
 tag_drop_left m = burying_left m.state
 
 -- ---- a repository
-abbrev pub beginning_rest : Beginning → Program (Unit {0})
-beginning_rest Beginning.Snapshot = init_program
-beginning_rest Beginning.Main = put_main
-beginning_rest Beginning.Ended = Done (Err NoMemory)
+abbrev pub init_step_rest : InitStep → Program (Unit {0})
+init_step_rest InitStep.Snapshot = init_program
+init_step_rest InitStep.Main = put_main
+init_step_rest InitStep.Ended = Done (Err NoMemory)
 
 abbrev pub init_rest : Init → Program (Unit {0})
-init_rest m = beginning_rest m.state
+init_rest m = init_step_rest m.state
 
-abbrev pub beginning_left : Beginning → ℕ
-beginning_left Beginning.Snapshot = 2
-beginning_left Beginning.Main = 1
-beginning_left Beginning.Ended = 0
+abbrev pub init_step_left : InitStep → ℕ
+init_step_left InitStep.Snapshot = 2
+init_step_left InitStep.Main = 1
+init_step_left InitStep.Ended = 0
 
 abbrev pub init_left : Init → ℕ
-init_left m = beginning_left m.state
+init_left m = init_step_left m.state
 
 -- ---- a log
 -- The lines of the snapshots from this one along the parents, behind those that were read; no more than so many more are read.

@@ -5,9 +5,9 @@ use Rattle.ref_file.specs.declared.RefFault.TheVariants as ref
 use Rattle.zarr_meta.specs.declared.faults.MetaFault.{MetaFault}
 use Rattle.zarr_meta.specs.declared.metas.Meta.{Meta}
 use Rattle.snapshot_file.specs.declared.nodes.NodeRow.{NodeRow}
-use Rattle.repo_objects.specs.declared.bad.Bad.TheVariants.{Ref, Node}
-use Rattle.repo_objects.specs.declared.bad.Unread.{Unread}
-use Rattle.repo_objects.specs.declared.bad.Unread.TheVariants as unread
+use Rattle.repo_objects.specs.declared.bad_objects.Bad.TheVariants.{Ref, Node}
+use Rattle.repo_objects.specs.declared.bad_objects.Unread.{Unread}
+use Rattle.repo_objects.specs.declared.bad_objects.Unread.TheVariants as unread
 use Rattle.repo_objects.specs.Readings.{row_fault, first_bad}
 
 -- why a reference isn't read whose reader tells this

@@ -1,7 +1,7 @@
 use Rattle.std.proofs.Common.{rules, of_calls, ◌∙◌, Some, Ok, Err, sym, ap}
 use Rattle.std.proofs.lemmas.Fn.{always_returns_same}
 use Rattle.zarr_path.specs.Paths.{path_cmp}
-use Rattle.changed_snapshot.specs.declared.written.NewList.{NewList}
+use Rattle.changed_snapshot.specs.declared.new_snapshot.NewList.{NewList}
 use Rattle.changed_snapshot.specs.Rows.{list_key}
 use Rattle.changed_snapshot.proofs.Halves.{searched}
 use Rattle.changed_snapshot.proofs.rows.list_at.Goals as goal

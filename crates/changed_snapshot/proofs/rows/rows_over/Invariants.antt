@@ -1,7 +1,7 @@
 use Rattle.std.proofs.Common.{◌≡◌, ◌++◌, map, length}
 use Rattle.std.specs.FinMap.{entries}
 use Rattle.zarr_tree.specs.Held.{nodes_over}
-use Rattle.zarr_changes.specs.Rows.{row_found, ArePaths}
+use Rattle.zarr_tree.specs.Rows.{row_found, ArePaths}
 use Rattle.repo_objects.specs.Trees.{nodes_in}
 use Rattle.changed_snapshot.proofs.rows.rows_over.Given as goal
 

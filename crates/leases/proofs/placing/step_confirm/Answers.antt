@@ -1,6 +1,6 @@
 use Rattle.std.proofs.Common.{Err}
 use Rattle.std.specs.Prelude.{Some}
-use Rattle.object_store.specs.declared.keys.Key.TheVariants.{Branch, TagGone}
+use Rattle.object_store.specs.declared.keys.Key.TheVariants.{Branch, Tombstone}
 use Rattle.object_store.specs.declared.events.Got.{Got}
 use Rattle.object_store.specs.declared.events.Op.TheVariants.{Get}
 use Rattle.object_store.specs.declared.events.Reply.TheVariants.{Got as Is_got}
@@ -16,4 +16,4 @@ returns-in-Branch-clause-acts g c =
 
 pub returns-in-Tag-clause-acts : goal.returns-in-Tag-clause-acts
 returns-in-Tag-clause-acts g c =
-    rw c.in-Tag.is (asked-acts tells_fault (λ (got : Got). Is_got got) (Get (TagGone c.in-Tag.tag)) (ends_with (Some c.args.id) (Err NoMemory)) (after_confirm c.args.id has_none) (g.S.Viewed.view c.args.store.now) (g.S.Viewed.view c.get-answer-in-Tag.new.self) (leasing_rest c.args.id c.after_tombstone.result) c.get-answer-in-Tag.result (λ got. tt) (λ done. tt) c.get-answer-in-Tag.ensures c.after_tombstone.ensures.follows c.after_tombstone.ensures.calm)
+    rw c.in-Tag.is (asked-acts tells_fault (λ (got : Got). Is_got got) (Get (Tombstone c.in-Tag.tag)) (ends_with (Some c.args.id) (Err NoMemory)) (after_confirm c.args.id has_none) (g.S.Viewed.view c.args.store.now) (g.S.Viewed.view c.get-answer-in-Tag.new.self) (leasing_rest c.args.id c.after_tombstone.result) c.get-answer-in-Tag.result (λ got. tt) (λ done. tt) c.get-answer-in-Tag.ensures c.after_tombstone.ensures.follows c.after_tombstone.ensures.calm)

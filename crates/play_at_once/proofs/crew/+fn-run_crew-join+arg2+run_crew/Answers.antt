@@ -35,7 +35,7 @@ join-pass-requires-after_bounds g t c κs within =
                   search rules,
                   search rules,
                   search rules,
-                  CanGo-crew c.args.workers.items c.pop.new.self.items c.in-Some.last items g.S.WholeStore.tells (known c.args.pass).log (known c.split-own.new.pass).log (ap (λ (k : Known Event). k.log) lower) c.requires.stand,
+                  CanGo-crew c.args.workers.items c.pop.new.self.items c.in-Some.last items g.S.WholeStore.tells (known c.args.pass).journal (known c.split-own.new.pass).journal (ap (λ (k : Known Event). k.journal) lower) c.requires.stand,
                 ),
                 (search rules, search rules, search rules),
               ),
@@ -50,7 +50,7 @@ join-pass-requires-after_bounds g t c κs within =
         ap (λ (k : Known Event). k.has_turn) upper ∙ c.requires.idle,
         IsOwner-upper (known c.args.pass).owners (known c.split-own.result).owners (vec_len c.args.workers) place (ap (λ (k : Known Event). k.owners) upper) c.requires.places size,
         search rules,
-        CanGoAt-crew c.args.workers.items c.pop.new.self.items c.in-Some.last items g.S.WholeStore.tells place (known c.args.pass).log (known c.split-own.result).log (c.len-place.ensures ∙ c.pop.new.self.ok.0) (ap (λ (k : Known Event). k.log) upper) c.requires.stand,
+        CanGoAt-crew c.args.workers.items c.pop.new.self.items c.in-Some.last items g.S.WholeStore.tells place (known c.args.pass).journal (known c.split-own.result).journal (c.len-place.ensures ∙ c.pop.new.self.ok.0) (ap (λ (k : Known Event). k.journal) upper) c.requires.stand,
       ),
     )
 

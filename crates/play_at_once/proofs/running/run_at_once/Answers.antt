@@ -20,7 +20,7 @@ run_crew-pass-requires-clause-room g c κs within =
 
 pub run_crew-pass-requires-clause-stand : goal.run_crew-pass-requires-clause-stand
 run_crew-pass-requires-clause-stand g c κs within =
-    CanGo-begin c.args.draw c.args.tasks.now (map worker_rest c.in-Ok-workers_for.workers.items) c.in-Ok-workers_for.ensures c.task_law.ensures c.requires.tasks g.S.WholeStore.tells (known c.in-Ok-share.made.1).log
+    CanGo-begin c.args.draw c.args.tasks.now (map worker_rest c.in-Ok-workers_for.workers.items) c.in-Ok-workers_for.ensures c.task_law.ensures c.requires.tasks g.S.WholeStore.tells (known c.in-Ok-share.made.1).journal
 
 pub returns-clause-ran : goal.returns-clause-ran
 returns-clause-ran g c =

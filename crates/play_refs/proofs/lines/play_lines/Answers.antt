@@ -1,5 +1,5 @@
 use Rattle.std.proofs.Common.{◌∙◌, ap, arith, sym}
-use Rattle.play_script.specs.declared.scripts.Call.TheVariants as call
+use Rattle.script_calls.specs.declared.calls.Call.TheVariants as call
 use Rattle.play_outcome.specs.declared.outcome.End.TheVariants.{Done}
 use Rattle.play_outcome.specs.Playing.{ended}
 use Rattle.play_refs.specs.inside.Working.{working_rest}

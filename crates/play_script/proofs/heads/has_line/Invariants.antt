@@ -1,5 +1,5 @@
 use Rattle.std.proofs.Common.{◌≡◌, length}
-use Rattle.play_script.specs.Words.{lines_of}
+use Rattle.script_values.specs.Words.{lines_of}
 use Rattle.play_script.specs.Places.{has_line}
 use Rattle.play_script.proofs.heads.has_line.Given as goal
 

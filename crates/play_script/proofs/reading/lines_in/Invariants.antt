@@ -1,5 +1,5 @@
 use Rattle.std.proofs.Common.{◌≡◌, ◌≤◌, ◌+◌, length}
-use Rattle.play_script.specs.Words.{lines_of}
+use Rattle.script_values.specs.Words.{lines_of}
 use Rattle.play_script.specs.Places.{most_tasks}
 use Rattle.play_script.specs.Reading.{lines_from, empty}
 use Rattle.play_script.specs.SoFar.{task_names}

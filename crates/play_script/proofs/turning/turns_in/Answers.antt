@@ -1,7 +1,7 @@
-use Rattle.play_script.specs.Words.{pieces, seen}
+use Rattle.script_values.specs.Words.{pieces, seen}
 use Rattle.play_script.specs.Places.{turn_of}
-use Rattle.play_script.specs.SoFar.{parts_seen}
-use Rattle.play_script.proofs.Earliest.{one_more_part}
+use Rattle.script_values.specs.SoFar.{parts_seen}
+use Rattle.script_values.proofs.Earliest.{one_more_part}
 use Rattle.play_script.proofs.turning.turns_in.Goals as goal
 
 pub loop-left-preserved : goal.loop-left-preserved

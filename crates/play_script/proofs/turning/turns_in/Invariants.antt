@@ -1,9 +1,9 @@
 use Rattle.std.proofs.Common.{◌≡◌}
-use Rattle.play_script.specs.Words.{pieces, seen}
-use Rattle.play_script.specs.Parts.{each}
+use Rattle.script_values.specs.Words.{pieces, seen}
+use Rattle.script_values.specs.Parts.{each}
 use Rattle.play_script.specs.Places.{turn_of}
-use Rattle.play_script.specs.SoFar.{parts_seen}
-use Rattle.play_script.proofs.Earliest.{joined, left_size}
+use Rattle.script_values.specs.SoFar.{parts_seen}
+use Rattle.script_values.proofs.Earliest.{joined, left_size}
 use Rattle.play_script.proofs.turning.turns_in.Given as goal
 
 abbrev pub invariant-loop-left : goal.invariant-loop-left

@@ -4,7 +4,7 @@ use Rattle.store_api.specs.Plays.{call}
 use Rattle.session.specs.Sessions.{SessionState}
 use Rattle.array_region.specs.declared.plans.Region.{Region}
 use Rattle.array_region.specs.Writing.{region_set_program}
-use Rattle.play_script.specs.declared.scripts.CellBox.{CellBox}
+use Rattle.script_calls.specs.declared.calls.CellBox.{CellBox}
 use Rattle.play_tasks.specs.inside.Working.{after_set, PlayComes, IsBoxOf}
 use Rattle.play_tasks.proofs.boxes.play_put.Goals as goal
 

@@ -6,7 +6,7 @@ use Rattle.zarr_meta.specs.Grids.{chunk_bytes}
 use Rattle.zarr_meta.specs.Kinds.{size_of}
 use Rattle.zarr_tree.specs.Laws.{GridLaw}
 use Rattle.zarr_tree.specs.Nodes.{array_of_view}
-use Rattle.zarr_changes.proofs.GridParts.{IsGrid, grid_parts}
+use Rattle.zarr_tree.proofs.GridParts.{IsGrid, grid_parts}
 use Rattle.play_tasks.proofs.chunks.chunk_len.Goals as goal
 
 grid : GridLaw → (meta : Meta) (array : ArrayView) → meta.view ≡ Array array → IsGrid (size_of array.kind) array.shape array.chunks

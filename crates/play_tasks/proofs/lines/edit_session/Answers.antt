@@ -2,8 +2,8 @@ use Rattle.std.proofs.Common.{sym, subst, ap, ◌∙◌, Result}
 use Rattle.zarr_meta.specs.Plain.{group_text}
 use Rattle.store_api.specs.declared.machines.Refusal.{Refusal}
 use Rattle.session.specs.Editing.{group_fault, array_fault, node_fault, group_added}
-use Rattle.play_script.specs.declared.scripts.EditCall.{EditCall}
-use Rattle.play_script.specs.declared.scripts.EditCall.TheVariants.{Group}
+use Rattle.script_calls.specs.declared.calls.EditCall.{EditCall}
+use Rattle.script_calls.specs.declared.calls.EditCall.TheVariants.{Group}
 use Rattle.play_tasks.specs.Lines.{edited}
 use Rattle.play_tasks.specs.inside.Working.{is_local, Edits}
 use Rattle.play_tasks.proofs.Locals.{added-local, set-local, drop-local, unset-local, adds-edits}

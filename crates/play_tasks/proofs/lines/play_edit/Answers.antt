@@ -1,8 +1,8 @@
 use Rattle.std.proofs.Common.{◌≡◌, ℕ, ℤ, List, inl, inr, refl, sym, ◌∙◌, ap, subst}
 use Rattle.session.specs.Sessions.{SessionState}
-use Rattle.play_script.specs.declared.scripts.CellBox.{CellBox}
-use Rattle.play_script.specs.declared.scripts.EditCall.{EditCall}
-use Rattle.play_script.specs.declared.scripts.EditCall.TheVariants.{Group, Array, Make, Meta, Drop, Set, Fill, Unset, Put, KeySet, KeyErase}
+use Rattle.script_calls.specs.declared.calls.CellBox.{CellBox}
+use Rattle.script_calls.specs.declared.calls.EditCall.{EditCall}
+use Rattle.script_calls.specs.declared.calls.EditCall.TheVariants.{Group, Array, Make, Meta, Drop, Set, Fill, Unset, Put, KeySet, KeyErase}
 use Rattle.play_tasks.specs.Lines.{Deed, Goes, edit_deed, edited, silent}
 use Rattle.play_tasks.specs.inside.Working.{LineComes, CallComes}
 use Rattle.play_tasks.proofs.lines.play_edit.Goals as goal

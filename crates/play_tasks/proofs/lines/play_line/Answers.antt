@@ -1,6 +1,6 @@
 use Rattle.std.proofs.Common.{◌∙◌, ℕ, List, sym, ap, subst}
-use Rattle.play_script.specs.declared.scripts.Call.{Call}
-use Rattle.play_script.specs.declared.scripts.Call.TheVariants.{Prop}
+use Rattle.script_calls.specs.declared.calls.Call.{Call}
+use Rattle.script_calls.specs.declared.calls.Call.TheVariants.{Prop}
 use Rattle.play_tasks.specs.Lines.{deed}
 use Rattle.play_tasks.specs.inside.Working.{LineComes}
 use Rattle.play_tasks.proofs.lines.play_line.Goals as goal

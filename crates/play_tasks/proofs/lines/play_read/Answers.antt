@@ -1,8 +1,8 @@
 use Rattle.std.proofs.Common.{◌≡◌, ℕ, List, inl, inr, refl, sym, ◌∙◌, ap, subst}
 use Rattle.session.specs.Sessions.{SessionState}
-use Rattle.play_script.specs.declared.scripts.CellBox.{CellBox}
-use Rattle.play_script.specs.declared.scripts.ReadCall.{ReadCall}
-use Rattle.play_script.specs.declared.scripts.ReadCall.TheVariants.{List as List_call, Get, Chunk, Cells}
+use Rattle.script_calls.specs.declared.calls.CellBox.{CellBox}
+use Rattle.script_calls.specs.declared.calls.ReadCall.{ReadCall}
+use Rattle.script_calls.specs.declared.calls.ReadCall.TheVariants.{List as List_call, Get, Chunk, Cells}
 use Rattle.play_tasks.specs.Lines.{Deed, Goes, read_deed, read_by, still}
 use Rattle.play_tasks.specs.inside.Working.{CallComes}
 use Rattle.play_tasks.proofs.lines.play_read.Goals as goal

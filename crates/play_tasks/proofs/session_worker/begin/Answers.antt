@@ -5,7 +5,7 @@ use Rattle.repo_read.specs.declared.resolving.At.{At}
 use Rattle.session.specs.declared.open.Open.{Open}
 use Rattle.session.specs.Sessions.{SessionState}
 use Rattle.session.specs.Opening.{open_program, open_rest}
-use Rattle.play_script.specs.declared.scripts.Access.{Access}
+use Rattle.script_calls.specs.declared.calls.Access.{Access}
 use Rattle.play_tasks.specs.Playing.{asked_by}
 use Rattle.play_tasks.proofs.session_worker.begin.Goals as goal
 

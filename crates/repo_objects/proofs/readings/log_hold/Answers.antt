@@ -1,7 +1,7 @@
 use Rattle.std.proofs.Common.{sym, ◌∙◌, ap, Err}
 use Rattle.ice_ids.specs.declared.Id12.{Id12}
 use Rattle.ice_ids.specs.Text.{same_id12}
-use Rattle.repo_objects.specs.declared.bad.Bad.TheVariants.{WrongId}
+use Rattle.repo_objects.specs.declared.bad_objects.Bad.TheVariants.{WrongId}
 use Rattle.repo_objects.proofs.Steps.{log_fault, log_same, log_other}
 use Rattle.repo_objects.proofs.readings.log_hold.Goals as goal
 

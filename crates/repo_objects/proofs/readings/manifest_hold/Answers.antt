@@ -2,7 +2,7 @@ use Rattle.std.proofs.Common.{sym, ◌∙◌, ap, Err}
 use Rattle.ice_ids.specs.declared.Id12.{Id12}
 use Rattle.ice_ids.specs.Text.{same_id12}
 use Rattle.file_fields.proofs.Bytes.{bytes_pass}
-use Rattle.repo_objects.specs.declared.bad.Bad.TheVariants.{WrongId}
+use Rattle.repo_objects.specs.declared.bad_objects.Bad.TheVariants.{WrongId}
 use Rattle.repo_objects.proofs.Steps.{manifest_fault, manifest_same, manifest_other}
 use Rattle.repo_objects.proofs.readings.manifest_hold.Goals as goal
 

@@ -5,8 +5,8 @@ use Rattle.whole_files.specs.Places.{asides_of}
 use Rattle.whole_files.proofs.Left.{aside-left, place-left}
 use Rattle.whole_files.proofs.changing.make_file.Goals as goal
 
-pub returns-in_err-place_file-clause-left : goal.returns-in_err-place_file-clause-left
-returns-in_err-place_file-clause-left g c = λ tells.
+pub returns-in_err-found-clause-left : goal.returns-in_err-found-clause-left
+returns-in_err-found-clause-left g c = λ tells.
     let old : List ℕ → Option Stored = g.F.Folder.files c.args.tree.now in
     let made : List ℕ → Option Stored = g.F.Folder.files c.make_folders.new.tree in
     let written : List ℕ → Option Stored = g.F.Folder.files c.write_aside.new.tree in

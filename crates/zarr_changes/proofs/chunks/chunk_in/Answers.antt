@@ -2,7 +2,7 @@ use Rattle.std.proofs.Common.{◌≡◌, ◌≤◌, ◌∙◌, All, Some, ap, sy
 use Rattle.zarr_meta.specs.Grids.{chunk_bytes}
 use Rattle.zarr_meta.specs.Kinds.{size_of}
 use Rattle.zarr_tree.specs.Nodes.{array_in, array_of_view}
-use Rattle.zarr_changes.proofs.GridParts.{IsGrid, grid_parts}
+use Rattle.zarr_tree.proofs.GridParts.{IsGrid, grid_parts}
 use Rattle.zarr_changes.proofs.chunks.chunk_in.Goals as goal
 use Rattle.zarr_changes.proofs.chunks.chunk_in.Goals.{In-Array}
 

@@ -1,6 +1,7 @@
 use Rattle.std.proofs.Common.{sym}
 use Rattle.object_store.specs.declared.keys.Part.TheVariants.{Branches}
-use Rattle.chunk_gc.proofs.Answering.{refused, went, first-tells}
+use Rattle.chunk_gc.proofs.Answering.{first-tells}
+use Rattle.repo_read.proofs.Hearing.{refused, went}
 use Rattle.chunk_gc.proofs.mark.Mark.on_branches.Goals as goal
 
 pub returns-in-Ok-clause-took : goal.returns-in-Ok-clause-took

@@ -1,4 +1,5 @@
-use Rattle.chunk_gc.proofs.Answering.{refused, went, ref-tells}
+use Rattle.chunk_gc.proofs.Answering.{ref-tells}
+use Rattle.repo_read.proofs.Hearing.{refused, went}
 use Rattle.chunk_gc.proofs.mark.Mark.on_tag.Goals as goal
 
 pub returns-in-Ok-clause-took : goal.returns-in-Ok-clause-took

@@ -1,6 +1,7 @@
 use Rattle.std.proofs.Common.{sym}
 use Rattle.object_store.specs.declared.keys.Part.TheVariants.{Tags}
-use Rattle.chunk_gc.proofs.Answering.{refused, went, listing-tells}
+use Rattle.chunk_gc.proofs.Answering.{listing-tells}
+use Rattle.repo_read.proofs.Hearing.{refused, went}
 use Rattle.chunk_gc.proofs.mark.Mark.on_tags.Goals as goal
 
 pub returns-in-Ok-clause-took : goal.returns-in-Ok-clause-took

@@ -1,7 +1,7 @@
 use Rattle.std.proofs.Common.{List, map, sym, subst}
 use Rattle.std.specs.Prelude.{None}
 use Rattle.flat_tables.specs.Rows.{Ascends}
-use Rattle.changed_snapshot.specs.declared.written.NewList.{NewList as TheList}
+use Rattle.changed_snapshot.specs.declared.new_snapshot.NewList.{NewList as TheList}
 use Rattle.zarr_changes.specs.declared.chunks.ChangedArray.{ChangedArray as TheArray}
 use Rattle.commit_path.proofs.Ascending.{ascends-first}
 use Rattle.commit_path.proofs.arrays.Arrays.news.Goals as goal

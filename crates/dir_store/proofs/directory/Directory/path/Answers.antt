@@ -2,8 +2,8 @@ use Rattle.std.proofs.Common.{rules, ◌≡◌}
 use Rattle.std.specs.Prelude.{MatchResult, string_bytes}
 use Rattle.whole_files.specs.Places.{root_of, asides_of}
 use Rattle.object_store.specs.declared.events.StoreFault.TheVariants.{NoMemory}
-use Rattle.dir_store.specs.Paths.{path_in}
-use Rattle.dir_store.proofs.Apart.{outside-ok}
+use Rattle.object_files.specs.Paths.{path_in}
+use Rattle.object_files.proofs.Apart.{outside-ok}
 use Rattle.dir_store.proofs.directory.Directory.path.Goals as goal
 
 pub returns-clause-outside : goal.returns-clause-outside

@@ -1,4 +1,5 @@
-use Rattle.expiry.proofs.StepsHeard.{refused, went, snapshot-tells}
+use Rattle.expiry.proofs.StepsHeard.{snapshot-tells}
+use Rattle.repo_read.proofs.Hearing.{refused, went}
 use Rattle.expiry.proofs.StepsLook.{state-over}
 use Rattle.expiry.proofs.look.Look.on_head.Goals as goal
 

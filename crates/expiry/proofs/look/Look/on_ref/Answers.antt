@@ -2,7 +2,8 @@ use Rattle.std.proofs.Common.{Ok}
 use Rattle.object_store.specs.declared.events.Op.TheVariants.{Get}
 use Rattle.expiry.specs.Looks.{ref_seen, look_named}
 use Rattle.expiry.specs.inside.Looking.{look_rest}
-use Rattle.expiry.proofs.StepsHeard.{refused, went, ref-tells}
+use Rattle.expiry.proofs.StepsHeard.{ref-tells}
+use Rattle.repo_read.proofs.Hearing.{refused, went}
 use Rattle.expiry.proofs.StepsLook.{state-over}
 use Rattle.expiry.proofs.look.Look.on_ref.Goals as goal
 

@@ -11,5 +11,5 @@ loop-change-preserved c =
     tells-more c.as_slice-change-items.result.now c.loop-change.change-index c.change-item.result c.args.path.now old new (omega arith) (sym c.change-item.is) c.loop-change.invariant
     (subst (λ (path : List ℕ). AddsName path c.args.path.now old new) c.as_str.ensures.value c.in_ok-add_name.ensures)
 
-pub returns : goal.returns
-returns c = λ tells. tells-all c.as_slice-change-items.result.now c.args.self.now.changes.items c.loop-change.change-index c.args.path.now (map string_bytes c.loop-change.names.items) c.as_slice-change-items.ensures.value c.loop-change-test.false c.loop-change.invariant
+pub returns-clause-names : goal.returns-clause-names
+returns-clause-names c = λ tells. tells-all c.as_slice-change-items.result.now c.args.self.now.changes.items c.loop-change.change-index c.args.path.now (map string_bytes c.loop-change.names.items) c.as_slice-change-items.ensures.value c.loop-change-test.false c.loop-change.invariant

@@ -3,7 +3,7 @@ use Rattle.object_store.specs.declared.events.Event.{Event}
 use Rattle.object_store.specs.Machine.{found}
 use Rattle.mem_store.specs.declared.logs.Logged.{Logged}
 use Rattle.mem_store.specs.Logs.{puts_in, told}
-use Rattle.mem_store.proofs.HeldLemmas.{found-none}
+use Rattle.mem_store.proofs.StandingLemmas.{found-none}
 use Rattle.mem_store.proofs.Told.{told-empty}
 use Rattle.mem_store.proofs.journal.Journal.new.Goals as goal
 

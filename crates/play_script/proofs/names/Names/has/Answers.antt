@@ -1,6 +1,6 @@
 use Rattle.std.proofs.Common.{List, ℕ, ap, ◌∙◌}
 use Rattle.std.specs.String.{string_bytes}
-use Rattle.play_script.specs.Values.{◌reads◌}
+use Rattle.script_values.specs.Values.{◌reads◌}
 use Rattle.play_script.specs.SoFar.{is_among}
 use Rattle.play_script.proofs.Naming.{any_mapped}
 use Rattle.play_script.proofs.names.Names.has.Goals as goal

@@ -1,6 +1,6 @@
 use Rattle.std.proofs.Common.{◌∙◌, ap, sym, subst}
 use Rattle.store_api.specs.Plays.{Comes}
-use Rattle.play_script.specs.declared.scripts.Head.{Head}
+use Rattle.script_calls.specs.declared.calls.Head.{Head}
 use Rattle.play_collect.specs.Workers.{collecting_rest}
 use Rattle.play_collect.proofs.Stepping.{task-begun}
 use Rattle.play_expire.specs.Playing.{terms_of}

@@ -5,10 +5,10 @@ use Rattle.shared_store.proofs.Calls.{polite-at, grows-at, called-at}
 use Rattle.shared_store.proofs.port.PortObjectStorePolite.put_over.Goals as goal
 
 pub put_over-result-requires : goal.put_over-result-requires
-put_over-result-requires g c = record { polite = polite-at g.S.WholeStore.tells c.args.self.now.client (cell_of c.args.self.now.pass) (known c.args.self.now.pass).owners c.args.self.now.inside (known c.args.self.now.pass).log (g.S.Viewed.view c.take-held.result) (g.met.S.WholeStore.told c.take-held.result) c.tell.ensures.good c.take-held.ensures.log (PutOver c.args.key.now c.args.bytes.now c.args.old c.args.why) c.requires }
+put_over-result-requires g c = record { polite = polite-at g.S.WholeStore.tells c.args.self.now.client (cell_of c.args.self.now.pass) (known c.args.self.now.pass).owners c.args.self.now.inside (known c.args.self.now.pass).journal (g.S.Viewed.view c.take-held.result) (g.met.S.WholeStore.told c.take-held.result) c.tell.ensures.good c.take-held.ensures.journal (PutOver c.args.key.now c.args.bytes.now c.args.old c.args.why) c.requires }
 
-pub give-requires-clause-log : goal.give-requires-clause-log
-give-requires-clause-log g c = rw c.take-held.ensures.turn (grows-at g.S.WholeStore.tells c.args.self.now.client (cell_of c.args.self.now.pass) (known c.args.self.now.pass).owners c.args.self.now.inside (known c.args.self.now.pass).log (g.S.Viewed.view c.take-held.result) (g.met.S.WholeStore.told c.take-held.result) c.tell.ensures.good c.take-held.ensures.log _ _ c.put_over-result.result (g.S.Viewed.view c.put_over-result.new.self) (g.met.S.WholeStore.alone c.take-held.result) c.put_over-result.ensures)
+pub give-requires-clause-journal : goal.give-requires-clause-journal
+give-requires-clause-journal g c = rw c.take-held.ensures.turn (grows-at g.S.WholeStore.tells c.args.self.now.client (cell_of c.args.self.now.pass) (known c.args.self.now.pass).owners c.args.self.now.inside (known c.args.self.now.pass).journal (g.S.Viewed.view c.take-held.result) (g.met.S.WholeStore.told c.take-held.result) c.tell.ensures.good c.take-held.ensures.journal _ _ c.put_over-result.result (g.S.Viewed.view c.put_over-result.new.self) (g.met.S.WholeStore.alone c.take-held.result) c.put_over-result.ensures)
 
 pub returns : goal.returns
-returns g c = rw (c.give.ensures.cell ∙ sym c.args.self.now.of_cell, c.give.ensures.seen, c.take-held.ensures.turn) (called-at g.S.WholeStore.tells c.args.self.now.client (cell_of c.args.self.now.pass) (known c.args.self.now.pass).owners c.args.self.now.inside (known c.args.self.now.pass).log (g.S.Viewed.view c.take-held.result) (g.met.S.WholeStore.told c.take-held.result) c.tell.ensures.good c.take-held.ensures.log _ _ c.put_over-result.result (g.S.Viewed.view c.put_over-result.new.self) (g.met.S.WholeStore.alone c.take-held.result) c.put_over-result.ensures (known c.args.self.now.pass).count c.take-held.ensures.count)
+returns g c = rw (c.give.ensures.cell ∙ sym c.args.self.now.of_cell, c.give.ensures.seen, c.take-held.ensures.turn) (called-at g.S.WholeStore.tells c.args.self.now.client (cell_of c.args.self.now.pass) (known c.args.self.now.pass).owners c.args.self.now.inside (known c.args.self.now.pass).journal (g.S.Viewed.view c.take-held.result) (g.met.S.WholeStore.told c.take-held.result) c.tell.ensures.good c.take-held.ensures.journal _ _ c.put_over-result.result (g.S.Viewed.view c.put_over-result.new.self) (g.met.S.WholeStore.alone c.take-held.result) c.put_over-result.ensures (known c.args.self.now.pass).count c.take-held.ensures.count)

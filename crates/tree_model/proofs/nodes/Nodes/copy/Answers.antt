@@ -4,9 +4,8 @@ use Rattle.std.specs.FinMap.{entries, insert}
 use Rattle.std.specs.Map.Iter.{deref_pair}
 use Rattle.std.proofs.lemmas.Map.Iter.{rest_more, rest_all}
 use Rattle.zarr_path.specs.Paths.{is_path}
-use Rattle.tree_model.specs.Rows.{ArePaths}
-use Rattle.tree_model.specs.inside.Kept.{node_rows}
-use Rattle.tree_model.proofs.KeptLaws.{kept_entries, copy_start, node_next, row_path, copy_end}
+use Rattle.zarr_tree.specs.Rows.{ArePaths, node_rows}
+use Rattle.zarr_tree.proofs.KeptLaws.{kept_entries, copy_start, node_next, row_path, copy_end}
 use Rattle.tree_model.proofs.nodes.Nodes.copy.Goals as goal
 use Rattle.tree_model.proofs.nodes.Nodes.copy.Goals.{In-Some}
 

@@ -1,6 +1,6 @@
 use Rattle.std.proofs.Common.{ap, ◌∙◌}
 use Rattle.std.specs.FinMap.{get}
-use Rattle.tree_model.proofs.KeptLaws.{found_in}
+use Rattle.zarr_tree.proofs.KeptLaws.{found_in}
 use Rattle.tree_model.proofs.nodes.Nodes.find.Goals as goal
 
 pub returns : goal.returns

@@ -1,6 +1,6 @@
 use Rattle.std.proofs.Common.{ap, ◌∙◌}
 use Rattle.std.specs.FinMap.{len}
-use Rattle.tree_model.proofs.KeptLaws.{counted}
+use Rattle.zarr_tree.proofs.KeptLaws.{counted}
 use Rattle.tree_model.proofs.nodes.Nodes.len.Goals as goal
 
 pub returns : goal.returns

@@ -5,7 +5,7 @@ use Rattle.std.specs.FinMap.{FinMap, retain_keys}
 use Rattle.std.proofs.lemmas.Map.Entries.{filter_from_retain_pairs}
 use Rattle.zarr_path.specs.Paths.{path_cmp, is_within}
 use Rattle.zarr_tree.specs.Nodes.{Node}
-use Rattle.tree_model.proofs.KeptLaws.{kept_in_order, kept_paths, kept_map}
+use Rattle.zarr_tree.proofs.KeptLaws.{kept_in_order, kept_paths, kept_map}
 use Rattle.tree_model.proofs.nodes.Nodes.remove_within.Goals as goal
 use Rattle.tree_model.proofs.nodes.Nodes.remove_within.Goals.{After-retain}
 

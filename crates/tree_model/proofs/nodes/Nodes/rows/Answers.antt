@@ -2,8 +2,8 @@ use Rattle.std.proofs.Common.{ap, sym, ◌∙◌}
 use Rattle.std.specs.FinMap.{entries}
 use Rattle.zarr_path.specs.Paths.{path_cmp}
 use Rattle.zarr_path.proofs.OrderLaws.{total, exact}
-use Rattle.tree_model.specs.inside.Kept.{node_rows}
-use Rattle.tree_model.proofs.RowLaws.{entries-made}
+use Rattle.zarr_tree.specs.Rows.{node_rows}
+use Rattle.zarr_tree.proofs.RowLaws.{entries-made}
 use Rattle.tree_model.proofs.nodes.Nodes.rows.Goals as goal
 
 pub returns : goal.returns

@@ -4,9 +4,8 @@ use Rattle.std.specs.FinMap.{entries, insert}
 use Rattle.std.specs.Map.Iter.{deref_pair}
 use Rattle.std.proofs.lemmas.Map.Iter.{rest_more, rest_all}
 use Rattle.zarr_path.specs.Paths.{is_path}
-use Rattle.zarr_changes.specs.Rows.{ArePaths}
-use Rattle.zarr_changes.specs.inside.Kept.{node_rows}
-use Rattle.zarr_changes.proofs.KeptLaws.{kept_entries, copy_start, node_next, row_path, copy_end}
+use Rattle.zarr_tree.specs.Rows.{ArePaths, node_rows}
+use Rattle.zarr_tree.proofs.KeptLaws.{kept_entries, copy_start, node_next, row_path, copy_end}
 use Rattle.zarr_changes.proofs.added.Added.copy.Goals as goal
 use Rattle.zarr_changes.proofs.added.Added.copy.Goals.{In-Some}
 

@@ -1,6 +1,6 @@
 use Rattle.std.proofs.Common.{◌≡◌, ◌++◌}
 use Rattle.std.specs.FinMap.{entries}
-use Rattle.zarr_changes.specs.inside.Kept.{node_rows}
+use Rattle.zarr_tree.specs.Rows.{node_rows}
 use Rattle.zarr_changes.proofs.added.Added.copy.Given as goal
 
 abbrev pub invariant-loop-text : goal.invariant-loop-text

@@ -2,10 +2,9 @@ use Rattle.std.proofs.Common.{◌≡◌, ap, sym, subst, ◌∙◌}
 use Rattle.std.specs.String.{string_bytes}
 use Rattle.std.specs.FinMap.{insert, from_entries}
 use Rattle.zarr_path.specs.Paths.{path_cmp}
-use Rattle.zarr_changes.specs.Rows.{IsInOrder, ArePaths}
-use Rattle.zarr_changes.specs.inside.Kept.{node_rows}
-use Rattle.zarr_changes.proofs.RowLaws.{T-true}
-use Rattle.zarr_changes.proofs.KeptLaws.{Kept, inserted, inserted_in_order, inserted_paths}
+use Rattle.zarr_tree.specs.Rows.{IsInOrder, ArePaths, node_rows}
+use Rattle.zarr_tree.proofs.RowLaws.{T-true}
+use Rattle.zarr_tree.proofs.KeptLaws.{Kept, inserted, inserted_in_order, inserted_paths}
 use Rattle.zarr_changes.proofs.added.Added.enter.Goals as goal
 
 pub invariant_of-self-2 : goal.invariant_of-self-2

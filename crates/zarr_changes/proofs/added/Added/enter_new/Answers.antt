@@ -2,8 +2,8 @@ use Rattle.std.proofs.Common.{◌≡◌, Bool, not, refl, sym, ap, ◌∙◌}
 use Rattle.std.specs.String.{string_cmp}
 use Rattle.std.specs.BTreeMap.{get}
 use Rattle.std.proofs.lemmas.Result.{IfOk-weaker}
-use Rattle.zarr_changes.proofs.RowLaws.{T-true}
-use Rattle.zarr_changes.proofs.KeptLaws.{there_by, kept_or_new, entered_if_new}
+use Rattle.zarr_tree.proofs.RowLaws.{T-true}
+use Rattle.zarr_tree.proofs.KeptLaws.{there_by, kept_or_new, entered_if_new}
 use Rattle.zarr_changes.proofs.added.Added.enter_new.Goals as goal
 
 pub invariant_of-self : goal.invariant_of-self

@@ -1,6 +1,6 @@
 use Rattle.std.proofs.Common.{ap, ◌∙◌}
 use Rattle.std.specs.FinMap.{get}
-use Rattle.zarr_changes.proofs.KeptLaws.{found_in}
+use Rattle.zarr_tree.proofs.KeptLaws.{found_in}
 use Rattle.zarr_changes.proofs.added.Added.find.Goals as goal
 
 pub returns : goal.returns

@@ -1,6 +1,6 @@
 use Rattle.std.proofs.Common.{ap, ◌∙◌}
 use Rattle.std.specs.FinMap.{len}
-use Rattle.zarr_changes.proofs.KeptLaws.{counted}
+use Rattle.zarr_tree.proofs.KeptLaws.{counted}
 use Rattle.zarr_changes.proofs.added.Added.len.Goals as goal
 
 pub returns : goal.returns

@@ -2,8 +2,8 @@ use Rattle.std.proofs.Common.{ap, sym, ◌∙◌}
 use Rattle.std.specs.FinMap.{entries}
 use Rattle.zarr_path.specs.Paths.{path_cmp}
 use Rattle.zarr_path.proofs.OrderLaws.{total, exact}
-use Rattle.zarr_changes.specs.inside.Kept.{node_rows}
-use Rattle.zarr_changes.proofs.RowLaws.{entries-made}
+use Rattle.zarr_tree.specs.Rows.{node_rows}
+use Rattle.zarr_tree.proofs.RowLaws.{entries-made}
 use Rattle.zarr_changes.proofs.added.Added.rows.Goals as goal
 
 pub returns : goal.returns

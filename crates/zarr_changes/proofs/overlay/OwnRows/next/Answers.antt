@@ -1,5 +1,5 @@
 use Rattle.std.proofs.Common.{subst}
-use Rattle.zarr_changes.specs.Rows.{IsInOrder}
+use Rattle.zarr_tree.specs.Rows.{IsInOrder}
 use Rattle.zarr_changes.proofs.OwnLaws.{own_in_order}
 use Rattle.zarr_changes.proofs.overlay.OwnRows.next.Goals as goal
 

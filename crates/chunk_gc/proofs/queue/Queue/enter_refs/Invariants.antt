@@ -1,6 +1,0 @@
-use Rattle.std.proofs.Common.{◌≡◌, drop}
-use Rattle.chunk_gc.specs.Lines.{enter_refs}
-use Rattle.chunk_gc.proofs.queue.Queue.enter_refs.Given as goal
-
-abbrev pub invariant-loop-at : goal.invariant-loop-at
-invariant-loop-at l = enter_refs (drop l.at l.manifests) l.self ≡ enter_refs l.manifests l.fn.self

@@ -1,6 +1,0 @@
-use Rattle.std.proofs.Common.{◌≡◌, ◌++◌, map}
-use Rattle.dir_store.specs.inside.Finding.{entry_of}
-use Rattle.dir_store.proofs.listing.entries_of.Given as goal
-
-abbrev pub invariant-loop-key : goal.invariant-loop-key
-invariant-loop-key l = map entry_of l.fn.found.entries ≡ l.entries ++ map entry_of l.key-iterator

@@ -1,0 +1,29 @@
+use Rattle.std.proofs.Common.{◌≡◌, ◌∙◌, ℕ, List, length, Ok, Option, ap, rules}
+use Rattle.object_store.specs.declared.events.Op.{Op}
+use Rattle.object_store.specs.declared.events.Op.TheVariants.{PutOver as Asked}
+use Rattle.object_store.specs.declared.events.Over.{Over as Answer}
+use Rattle.object_store.specs.declared.events.Reply.TheVariants.{Over as Told}
+use Rattle.object_store.specs.declared.events.Event.{Event}
+use Rattle.object_store.specs.Machine.{Stored, over_of}
+use Rattle.mem_store.specs.declared.logs.Answer.TheVariants.{Stood}
+use Rattle.mem_store.specs.Logs.{puts_in}
+use Rattle.mem_store.specs.Memory.{journal_of, IsLogged}
+use Rattle.mem_store.proofs.Calls.{Called-exactly, Answers-logged, logged-op}
+use Rattle.mem_store.proofs.memory_store.MemStoreObjectStore.put_over.Goals as goal
+
+pub returns-clause-exact : goal.returns-clause-exact
+returns-clause-exact g c =
+    let asked : Op = Asked c.args.key.now c.args.bytes.now c.args.old c.args.why in
+    let j : List Event = journal_of c.args.self.now in
+    let now : ℕ = c.in_ok-now.now in
+    let log : IsLogged g.C.Clock.gives asked (Stood c.place-at.result) now c.args.self.now c.log.new.self = logged-op g.C.Clock.gives asked (Stood c.place-at.result) now c.args.self.now c.log.new.self c.put_over-op.result c.in_ok-now.ensures.logged c.in_ok-now.ensures.made c.put_over-op.ensures in
+    let told : c.over_answer.result ≡ over_of (length j) now c.args.old.0 (puts_in j c.place-at.result) = c.over_answer.ensures j ∙ ap (λ (n : ℕ). over_of n now c.args.old.0 (puts_in j c.place-at.result)) c.len-place.ensures in
+    Answers-logged g.C.Clock.gives asked (Stood c.place-at.result) (Told c.over_answer.result) now c.args.self.now c.log.new.self log
+    (ap (λ (x : Answer). Told x) told)
+    (ap (λ (x : Answer). Told x) (told ∙ ap (λ (at : Option Stored). over_of (length j) now c.args.old.0 at) c.place-at.ensures))
+
+pub returns-clause-call : goal.returns-clause-call
+returns-clause-call g c = Called-exactly g.R.Rule.may g.C.Clock.gives (λ (x : Answer). Told x) (Asked c.args.key.now c.args.bytes.now c.args.old c.args.why) (Ok c.over_answer.result) c.args.self.now c.log.new.self (returns-clause-exact g c)
+
+pub returns-in_err-now-clause-call : goal.returns-in_err-now-clause-call
+returns-in_err-now-clause-call g c = Called-exactly g.R.Rule.may g.C.Clock.gives (λ (x : Answer). Told x) (Asked c.args.key.now c.args.bytes.now c.args.old c.args.why) c.from_residual.result c.args.self.now c.log.new.self (search rules)

@@ -1,7 +1,0 @@
-use Rattle.std.proofs.Common.{◌≡◌}
-use Rattle.held_manifest.specs.Objects.{objects_of}
-use Rattle.mirror.specs.Lines.{enter_ids}
-use Rattle.mirror.proofs.lines.Queue.enter_objects.Given as goal
-
-abbrev pub invariant-loop-id : goal.invariant-loop-id
-invariant-loop-id l = enter_ids l.id-iterator l.self ≡ enter_ids (objects_of l.held) l.fn.self

@@ -1,6 +1,0 @@
-use Rattle.std.proofs.Common.{◌≡◌, drop}
-use Rattle.mirror.specs.Lines.{enter_rows}
-use Rattle.mirror.proofs.lines.Queue.enter_rows.Given as goal
-
-abbrev pub invariant-loop-at : goal.invariant-loop-at
-invariant-loop-at l = enter_rows (drop l.at l.rows) l.self ≡ enter_rows l.rows l.fn.self

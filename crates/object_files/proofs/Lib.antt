@@ -1,0 +1,4 @@
+pub mod Reading
+pub mod Apart
+pub mod Listed
+pub mod Found

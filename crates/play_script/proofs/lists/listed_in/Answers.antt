@@ -1,9 +1,0 @@
-use Rattle.play_script.specs.Words.{pieces, seen}
-use Rattle.play_script.specs.SoFar.{parts_seen}
-use Rattle.play_script.proofs.Earliest.{one_more_part}
-use Rattle.play_script.proofs.lists.listed_in.Goals as goal
-
-pub loop-left-preserved : goal.loop-left-preserved
-loop-left-preserved g c =
-    one_more_part g.N.Listed.stands_for (parts_seen c.loop-left.numbers) (parts_seen c.in_ok-numbers.numbers) c.read.result c.cut.result.0.now (pieces 44 (seen c.cut.result.1)) (pieces 44 (seen c.loop-left.left)) _
-    c.loop-left.invariant (rw c.in-Some.is c.cut.ensures.parts) c.read.ensures c.in_ok-numbers.ensures

@@ -1,0 +1,12 @@
+pub mod Digits
+pub mod Fills
+pub mod Cutoffs
+pub mod PlainText
+pub mod Earliest
+pub mod Pairs
+pub mod Cuts
+pub mod Utf8
+pub mod Inversions
+pub mod WellCutoffs
+pub mod HexTexts
+pub mod ArrayUtf8

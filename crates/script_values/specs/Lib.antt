@@ -1,0 +1,6 @@
+pub mod Words
+pub mod Parts
+pub mod Values
+pub mod HexText
+pub mod Arrays
+pub mod SoFar
